@@ -1,0 +1,9 @@
+-- What contracts see of a device: the reader or writer in it, and whether a call of it has failed.
+use Rattle.std.specs.Prelude.{Bool}
+use Rattle.tacho_time.specs.declared.device.Device.{Device}
+
+abbrev pub device_inner : {T : Type 0} → Device T → T
+device_inner device = device.inner
+
+abbrev pub device_failed : {T : Type 0} → Device T → Bool
+device_failed device = device.has_failed

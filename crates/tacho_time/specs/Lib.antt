@@ -1,0 +1,5 @@
+pub mod Calendar
+pub mod Text
+pub mod Device
+pub mod Spans
+pub mod Merge

@@ -1,0 +1,123 @@
+ghost use Rattle.std.specs.Prelude.{◌≡◌, ◌++◌, ◌∷◌, [], List, filter, IfOk, OnOk, MatchResult, Ok};
+ghost use Rattle.tacho_time.specs.declared.span.Span.{Span};
+ghost use Rattle.tacho_time.specs.Merge.{merged, Fails, same_mark, is_apart, stretched, IsFirstFault, is_full};
+ghost use Rattle.tacho_time.specs.Spans.{Gives, IsCanonical, IsCanonicalOf, GiveSame, StartsFrom};
+
+use crate::minute::Minute;
+use crate::span::{Mark, Span};
+use std::alloc::{AllocError, Global};
+
+/// Why spans have no canonical list.
+#[derive(Clone, Copy, Debug, PartialEq, Eq)]
+pub enum SpanFault {
+    /// The least minute with two marks.
+    Contradiction(Minute),
+    /// There is no memory for it.
+    Memory,
+}
+
+impl From<AllocError> for SpanFault {
+    ghost use Rattle.std.specs.Prelude.{◌≡◌};
+    ghost use Rattle.tacho_time.specs.declared.canonical.SpanFault.TheVariants.{Memory};
+
+    ghost from_gives = { λ _ e. e ≡ Memory };
+
+    fn from(_: AllocError) -> SpanFault {
+        SpanFault::Memory
+    }
+}
+
+/// The runs of spans in order of their starts.
+fn merge(alloc: Global, spans: &[Span]) -> Result<Vec<Span>, SpanFault>
+    ensures { MatchResult result (λ runs. merged spans.now ≡ Ok runs.items) (λ fault. Fails fault (merged spans.now)) }
+{
+    let mut runs = Vec::new(alloc);
+    let Some((first, others)) = spans.split_first() else {
+        return Ok(runs);
+    };
+    let mut last = *first;
+    for span in others {
+        if starts_anew(&last, span) {
+            add(&mut runs, last)?;
+            last = *span;
+        } else if !is_same(span.mark, last.mark) {
+            return Err(SpanFault::Contradiction(span.start));
+        } else {
+            last = stretch(&last, span);
+        }
+    }
+    add(&mut runs, last)?;
+    Ok(runs)
+}
+
+/// Adds a run.
+fn add(runs: &mut Vec<Span>, run: Span) -> Result<(), AllocError>
+    ensures { OnOk result (runs.new.items ≡ runs.old.items ++ run ∷ []) }
+{
+    runs.push(run)?;
+    Ok(())
+}
+
+/// Whether two marks are the same.
+fn is_same(a: Mark, b: Mark) -> bool
+    ensures { result ≡ same_mark a b }
+{
+    a.activity as u8 == b.activity as u8 && a.crew == b.crew
+}
+
+/// Whether a span begins a run of its own.
+fn starts_anew(last: &Span, span: &Span) -> bool
+    ensures { result ≡ is_apart last.now span.now }
+{
+    last.past < span.start || (last.past == span.start && !is_same(span.mark, last.mark))
+}
+
+/// The run, to the end of a span.
+fn stretch(last: &Span, span: &Span) -> Span
+    ensures { result ≡ stretched last.now span.now }
+{
+    let past = if last.past < span.past {
+        span.past
+    } else {
+        last.past
+    };
+    Span {
+        start: last.start,
+        past,
+        mark: last.mark,
+    }
+}
+
+/// The canonical list of spans, of which none starts before the one before it.
+fn merge_ordered(alloc: Global, spans: &[Span]) -> Result<Vec<Span>, SpanFault>
+    requires { StartsFrom 0 spans.now }
+    ensures { MatchResult result (λ runs. IsCanonical runs.items × GiveSame runs.items spans.now) (IsFirstFault (Gives spans.now)) }
+{
+    merge(alloc, spans)
+}
+
+/// The canonical list of what spans give: in order, disjoint, none empty, and two that touch have
+/// different marks. The spans come in any order, and may overlap or be empty.
+pub fn canonical_spans(alloc: Global, spans: &[Span]) -> Result<Vec<Span>, SpanFault>
+    ensures { MatchResult result (λ runs. IsCanonicalOf (Gives spans.now) runs.items) (IsFirstFault (Gives spans.now)) }
+{
+    let mut full = full_spans(alloc, spans)?;
+    full.sort_unstable_by_key(|span| span.start.number());
+    merge_ordered(alloc, &full)
+}
+
+/// The spans that are not empty.
+fn full_spans(alloc: Global, spans: &[Span]) -> Result<Vec<Span>, AllocError>
+    ensures { IfOk result (λ full. full.items ≡ filter is_full spans.now) }
+{
+    spans
+        .iter()
+        .filter(|span| span.start < span.past)
+        .copied()
+        .collect(alloc)
+}
+
+/// Lists that are canonical and give the same are the same, so a set of pairs has one canonical list.
+pub fn one_canonical_list()
+    ensures { (xs ys : List Span) → IsCanonical xs → IsCanonical ys → GiveSame xs ys → xs ≡ ys }
+{}

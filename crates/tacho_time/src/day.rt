@@ -1,0 +1,37 @@
+ghost use Rattle.std.specs.Prelude.{◌≡◌, ℕ, ◌≤◌};
+
+use std::marker::Model;
+
+/// A day in UTC, by its number from 1970-01-01 (day 0) to 2100-02-08 (day 47,520).
+#[derive(Clone, Copy, Debug, PartialEq, Eq, PartialOrd, Ord)]
+pub struct Day {
+    number: u32,
+}
+
+impl Model for Day {
+    ghost Value = { ℕ };
+
+    ghost view = { λ day. day.number };
+
+    ghost invariant = { λ day. day.number ≤ 47520 };
+
+    ghost inverse = { λ n. record { number = n } };
+}
+
+impl Day {
+    /// The day with that number.
+    pub fn new(number: u32) -> Day
+        requires { number ≤ 47520 }
+        ensures { result ≡ number }
+    {
+        Day { number }
+    }
+
+    /// Its number.
+    pub fn number(self) -> u32
+        ensures value { result ≡ self }
+        ensures bound { result ≤ 47520 }
+    {
+        self.number
+    }
+}

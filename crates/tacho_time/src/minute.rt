@@ -1,0 +1,52 @@
+ghost use Rattle.std.specs.Prelude.{◌≡◌, ℕ, ◌≤◌, ◌/◌, ◌%◌};
+
+use crate::day::Day;
+use std::marker::Model;
+
+/// A whole number of minutes since 1970-01-01 00:00 UTC, to 2100-02-08 00:00 (68,428,800).
+#[derive(Clone, Copy, Debug, PartialEq, Eq, PartialOrd, Ord)]
+pub struct Minute {
+    number: u32,
+}
+
+impl Model for Minute {
+    ghost Value = { ℕ };
+
+    ghost view = { λ minute. minute.number };
+
+    ghost invariant = { λ minute. minute.number ≤ 68428800 };
+
+    ghost inverse = { λ n. record { number = n } };
+}
+
+impl Minute {
+    /// The minute with that number.
+    pub fn new(number: u32) -> Minute
+        requires { number ≤ 68428800 }
+        ensures { result ≡ number }
+    {
+        Minute { number }
+    }
+
+    /// Its number.
+    pub fn number(self) -> u32
+        ensures value { result ≡ self }
+        ensures bound { result ≤ 68428800 }
+    {
+        self.number
+    }
+
+    /// The day that it lies in.
+    pub fn day(self) -> Day
+        ensures { result ≡ self / 1440 }
+    {
+        Day::new(self.number / 1440)
+    }
+
+    /// How many minutes of its day came before it.
+    pub fn of_day(self) -> u32
+        ensures { result ≡ self % 1440 }
+    {
+        self.number % 1440
+    }
+}

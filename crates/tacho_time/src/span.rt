@@ -1,0 +1,57 @@
+ghost use Rattle.std.specs.Prelude.{◌≡◌};
+ghost use Rattle.tacho_time.specs.Text.{activity_name, manning_name};
+
+use crate::minute::Minute;
+
+/// What a driver does (Regulation (EU) 2016/799, Annex IC, Appendix 1, ActivityChangeInfo).
+#[derive(Clone, Copy, Debug, PartialEq, Eq)]
+pub enum Activity {
+    /// Break or rest.
+    Rest,
+    /// Availability.
+    Available,
+    /// Other work.
+    Work,
+    /// Driving.
+    Drive,
+}
+
+impl Activity {
+    /// `rest`, `available`, `work` or `drive`.
+    pub fn name(self) -> &'static str
+        ensures { result.now ≡ activity_name self }
+    {
+        match self {
+            Activity::Rest => "rest",
+            Activity::Available => "available",
+            Activity::Work => "work",
+            Activity::Drive => "drive",
+        }
+    }
+}
+
+/// What is known of a minute.
+#[derive(Clone, Copy, Debug, PartialEq, Eq)]
+pub struct Mark {
+    /// What the driver did.
+    pub activity: Activity,
+    /// Whether there was a second driver (crew), or this one alone (single).
+    pub crew: bool,
+}
+
+impl Mark {
+    /// `single` or `crew`.
+    pub fn manning(self) -> &'static str
+        ensures { result.now ≡ manning_name self.crew }
+    {
+        if self.crew { "crew" } else { "single" }
+    }
+}
+
+/// The minutes from `start` to before `past`, with their mark. It may be empty.
+#[derive(Clone, Copy, Debug, PartialEq, Eq)]
+pub struct Span {
+    pub start: Minute,
+    pub past: Minute,
+    pub mark: Mark,
+}

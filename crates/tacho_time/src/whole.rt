@@ -1,0 +1,68 @@
+ghost use Rattle.std.specs.Prelude.{◌≡◌, ℕ, ◌<◌, ◌≤◌, ◌↔◌, true, length, take, IfOk, IfSome, OnOk, IsErrOf, is_err};
+ghost use Rattle.std.specs.Io.KnownBytes.{Appends, Consumes};
+ghost use Rattle.tacho_time.specs.declared.whole.ReadFault.{ReadFault};
+
+use crate::device::{Failed, Sink, Source};
+use std::alloc::{AllocError, Global};
+
+/// How many bytes are asked for in one call.
+const CHUNK: usize = 4096;
+
+/// Why an input was not read.
+#[derive(Clone, Copy, Debug, PartialEq, Eq)]
+pub enum ReadFault {
+    /// It has more bytes than the limit.
+    TooLarge,
+    /// The source has failed.
+    Failed,
+    /// There is no memory for it.
+    Memory,
+}
+
+/// Reads all that is unread, if that is no more than `limit` bytes.
+pub fn read_all<R: Source>(
+    alloc: Global,
+    reader: &mut R,
+    limit: usize,
+) -> Result<Vec<u8>, ReadFault>
+    // What is read is all that was unread.
+    ensures whole { IfOk result (λ bytes. IfSome (R.unread reader.old) (λ input. bytes.items ≡ input)) }
+    ensures within { IfOk result (λ bytes. length bytes.items ≤ limit) }
+    ensures large { IsErrOf result ReadFault.TooLarge → IfSome (R.unread reader.old) (λ input. limit < length input) }
+    ensures failed { IsErrOf result ReadFault.Failed ↔ (R.has_failed reader.new ≡ true) }
+{
+    if reader.failed() {
+        return Err(ReadFault::Failed);
+    }
+    let mut bytes = Vec::new(alloc);
+    let mut chunk = [0u8; CHUNK];
+    while bytes.len() <= limit {
+        let room = (limit - bytes.len()).min(CHUNK - 1) + 1;
+        match reader.take(&mut chunk[..room]) {
+            Ok(0) => return Ok(bytes),
+            Ok(count) => {
+                if bytes.extend_from_slice(&chunk[..count]).is_err() {
+                    return Err(ReadFault::Memory);
+                }
+            }
+            Err(Failed) => return Err(ReadFault::Failed),
+        }
+    }
+    Err(ReadFault::TooLarge)
+}
+
+/// Writes all the bytes. A sink that fails was given a beginning of them.
+pub fn write_all<W: Sink>(writer: &mut W, bytes: &[u8]) -> Result<(), Failed>
+    ensures all { OnOk result (Appends (W.written writer.old) (W.written writer.new) bytes.now) }
+    ensures beginning { (n : ℕ) × (n ≤ length bytes.now) × Appends (W.written writer.old) (W.written writer.new) (take n bytes.now) }
+    ensures failed { W.has_failed writer.new ≡ is_err result }
+{
+    if writer.failed() {
+        return Err(Failed);
+    }
+    let mut at = 0;
+    while at < bytes.len() {
+        at += writer.give(&bytes[at..])?;
+    }
+    Ok(())
+}
