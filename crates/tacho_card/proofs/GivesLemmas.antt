@@ -1,0 +1,413 @@
+-- What the spans of records give.
+use Rattle.std.proofs.Common.{◌≡◌, ◌≢◌, ℕ, zero, suc, ◌+◌, ◌-◌, ◌*◌, ◌/◌, ◌<◌, ◌≤◌, ◌⊎◌, inl, inr, ◌↔◌, ◌&&◌, ◌==◌, not, nat_le, nat_lt, Bool, true, false, cond, List, [], ◌∷◌, ◌++◌, length, Option, Some, None, Result, Ok, Err, MatchResult, refl, sym, ap, ◌∙◌, subst, arith}
+use Rattle.std.proofs.lemmas.Bool.Decides.{nat_tests}
+use Rattle.std.specs.Result.{IsErr, IsErrAnd}
+use Rattle.tacho_time.specs.declared.span.Span.{Span}
+use Rattle.tacho_time.specs.declared.span.Mark.{Mark}
+use Rattle.tacho_time.specs.Spans.{Gives, SamePairs, IsCanonicalOf, Conflicts, IsFirstConflict}
+use Rattle.tacho_card.specs.declared.fault.CardFault.{CardFault}
+use Rattle.tacho_card.specs.declared.fault.CardFault.TheVariants.{SelfContradiction, Memory}
+use Rattle.tacho_card.specs.ActivityChangeInfo.{time_of, mark_of}
+use Rattle.tacho_card.specs.DriverActivity.{DriverActivity, wrapped}
+use Rattle.tacho_card.specs.DailyRecord.{DailyRecord, is_length, is_read_day, length_at, day_at, word_at, words_fault, fault_or, record_at}
+use Rattle.tacho_card.specs.Chain.{is_empty, followed_by, chain_from, chain, fault_of}
+use Rattle.tacho_card.specs.Reading.{word_minute, RecordGives, ItemsGive, BlocksGive, chains_fault, IsReading, IsFaultOf}
+use Rattle.tacho_card.specs.RawSpans.{marked, closed_mark, word_past, words_spans, record_spans, with_spans, items_spans, block_spans, Fails}
+use Rattle.tacho_card.proofs.RawLemmas.{unless_zero, only_fault}
+
+-- ---- the words of a record
+
+-- a number is not above itself
+le_self : (n : ℕ) → n ≤ n
+le_self n = omega arith
+
+-- what is not below a number is that number or above it
+lt_or_eq : (i j : ℕ) → i ≤ j → (j ≡ i) ⊎ (i < j)
+lt_or_eq i j l = go (nat_lt i j) refl where
+  go : (t : Bool) → nat_lt i j ≡ t → (j ≡ i) ⊎ (i < j)
+  go true h = inr (grind (arith, nat_tests))
+  go false h = inl (grind (arith, nat_tests))
+
+-- two tests that were passed, before what stands behind them
+passed_words : (a b : Bool) (f g : CardFault) (r : Option CardFault) → cond a (Some f) (cond b (Some g) r) ≡ None → (a ≡ false) × (b ≡ false) × (r ≡ None)
+passed_words true b f g r h = cc
+passed_words false true f g r h = cc
+passed_words false false f g r h = (refl, refl, h)
+
+-- a word without a fault, before others without one
+first_sound : (b : List ℕ) (p before i n : ℕ) → words_fault b p before i (suc n) ≡ None → (time_of (word_at b p i) < 1440) × (before ≤ time_of (word_at b p i)) × (words_fault b p (time_of (word_at b p i)) (i + 1) n ≡ None)
+unfolding words_fault
+first_sound b p before i n h =
+    let parts = passed_words _ _ _ _ _ h in
+    (late parts.0, order parts.1, parts.2) where
+      late : nat_le 1440 (time_of (word_at b p i)) ≡ false → time_of (word_at b p i) < 1440
+      late e = grind (arith, nat_tests)
+
+      order : nat_lt (time_of (word_at b p i)) before ≡ false → before ≤ time_of (word_at b p i)
+      order e = grind (arith, nat_tests)
+
+-- words without a fault have minutes of a day, none before the one that they follow
+words_after : (b : List ℕ) (p before i n j : ℕ) → words_fault b p before i n ≡ None → i ≤ j → j < i + n → (before ≤ time_of (word_at b p j)) × (time_of (word_at b p j) < 1440)
+words_after b p before i zero j h l u = absurd (omega arith)
+words_after b p before i (suc n) j h l u =
+    let first = first_sound b p before i n h in
+    go first (words_after b p (time_of (word_at b p i)) (i + 1) n j first.2) (lt_or_eq i j l) where
+      go : (time_of (word_at b p i) < 1440) × (before ≤ time_of (word_at b p i)) × (words_fault b p (time_of (word_at b p i)) (i + 1) n ≡ None) → (i + 1 ≤ j → j < (i + 1) + n → (time_of (word_at b p i) ≤ time_of (word_at b p j)) × (time_of (word_at b p j) < 1440)) → (j ≡ i) ⊎ (i < j) → (before ≤ time_of (word_at b p j)) × (time_of (word_at b p j) < 1440)
+      go first more (inl e) = subst (λ (k : ℕ). (before ≤ time_of (word_at b p k)) × (time_of (word_at b p k) < 1440)) (sym e) (first.1, first.0)
+      go first more (inr k) = let rest = more (omega arith) (omega arith) in (omega (arith, first.1, rest.0), rest.1)
+
+-- the times of words without a fault never go back
+words_rise : (b : List ℕ) (p before s n i j : ℕ) → words_fault b p before s n ≡ None → s ≤ i → i ≤ j → j < s + n → (time_of (word_at b p i) ≤ time_of (word_at b p j)) × (time_of (word_at b p j) < 1440)
+words_rise b p before s zero i j h l o u = absurd (omega arith)
+words_rise b p before s (suc n) i j h l o u =
+    let first = first_sound b p before s n h in
+    go first (words_after b p (time_of (word_at b p s)) (s + 1) n j first.2) (words_rise b p (time_of (word_at b p s)) (s + 1) n i j first.2) (lt_or_eq s i l) (lt_or_eq i j o) where
+      P : ℕ → ℕ → Type 0
+      P x y = (time_of (word_at b p x) ≤ time_of (word_at b p y)) × (time_of (word_at b p y) < 1440)
+
+      go : (time_of (word_at b p s) < 1440) × (before ≤ time_of (word_at b p s)) × (words_fault b p (time_of (word_at b p s)) (s + 1) n ≡ None) → (s + 1 ≤ j → j < (s + 1) + n → P s j) → (s + 1 ≤ i → i ≤ j → j < (s + 1) + n → P i j) → (i ≡ s) ⊎ (s < i) → (j ≡ i) ⊎ (i < j) → P i j
+      go first after more (inr k) e = more (omega arith) o (omega arith)
+      go first after more (inl e) (inr k) = subst (λ (x : ℕ). P x j) (sym e) (after (omega (arith, e, k)) (omega arith))
+      go first after more (inl e) (inl f) = subst (λ (x : ℕ). P i x) (sym f) (subst (λ (x : ℕ). P x x) (sym e) (le_self _, first.0))
+
+-- ---- what spans give
+
+-- what spans give, they give with others behind them
+gives_first : (xs ys : List Span) (m : ℕ) (k : Mark) → Gives xs m k → Gives (xs ++ ys) m k
+gives_first [] ys m k g = absurd g
+gives_first (x ∷ xs) ys m k (inl c) = inl c
+gives_first (x ∷ xs) ys m k (inr g) = inr (gives_first xs ys m k g)
+
+-- what spans give, they give with others before them
+gives_last : (xs ys : List Span) (m : ℕ) (k : Mark) → Gives ys m k → Gives (xs ++ ys) m k
+gives_last [] ys m k g = g
+gives_last (x ∷ xs) ys m k g = inr (gives_last xs ys m k g)
+
+-- what spans and others give, the spans or the others give
+gives_either : (xs ys : List Span) (m : ℕ) (k : Mark) → Gives (xs ++ ys) m k → Gives xs m k ⊎ Gives ys m k
+gives_either [] ys m k g = inr g
+gives_either (x ∷ xs) ys m k (inl c) = inl (inl c)
+gives_either (x ∷ xs) ys m k (inr g) = go (gives_either xs ys m k g) where
+  go : Gives xs m k ⊎ Gives ys m k → Gives (x ∷ xs) m k ⊎ Gives ys m k
+  go (inl h) = inl (inr h)
+  go (inr h) = inr h
+
+-- what the span of a mark gives: the mark, from its start to its end
+from_marked : (a b : ℕ) (o : Option Mark) (m : ℕ) (k : Mark) → Gives (marked a b o) m k → (a ≤ m) × (m < b) × (o ≡ Some k)
+from_marked a b None m k g = absurd g
+from_marked a b (Some j) m k (inl c) = (c.0.0, c.0.1, ap Some c.1)
+from_marked a b (Some j) m k (inr g) = absurd g
+
+-- the span of a mark gives the mark, from its start to its end
+to_marked : (a b : ℕ) (o : Option Mark) (m : ℕ) (k : Mark) → a ≤ m → m < b → o ≡ Some k → Gives (marked a b o) m k
+to_marked a b None m k l h e = cc
+to_marked a b (Some j) m k l h e = let f : j ≡ k = cc in inl ((l, h), f)
+
+-- ---- what the words of a record give
+
+-- the minutes of the words of a record are those of a day, and never go back
+abbrev Rises : DailyRecord → Type 0
+Rises r = (i j : ℕ) → i ≤ j → j < r.count → (time_of (word_at r.buffer r.place i) ≤ time_of (word_at r.buffer r.place j)) × (time_of (word_at r.buffer r.place j) < 1440)
+
+-- the words of a record without faults rise
+sound_rises : (r : DailyRecord) → words_fault r.buffer r.place 0 0 r.count ≡ None → Rises r
+sound_rises r h i j l u = words_rise r.buffer r.place 0 0 r.count i j h (omega arith) l (omega arith)
+
+-- a record gives the minute this mark by a word from the i-th on
+abbrev GivesFrom : ℕ → ℕ → DailyRecord → ℕ → Mark → Type 0
+GivesFrom i newest r m k = (g : RecordGives newest r m k) × (i ≤ g.word)
+
+-- a minute before one of a day is before each later one of that day
+below_later : (d a b m : ℕ) → m < 1440 * d + a → a ≤ b → m < 1440 * d + b
+below_later d a b m h l = omega arith
+
+-- a minute before one of a day is before the end of that day
+within_day : (d a m : ℕ) → m < 1440 * d + a → a < 1440 → m < 1440 * (d + 1)
+within_day d a m h l = omega arith
+
+-- the end of a day, written in two ways
+day_end : (d m : ℕ) → (m < 1440 * d + 1440 → m < 1440 * (d + 1)) × (m < 1440 * (d + 1) → m < 1440 * d + 1440)
+day_end d m = (λ h. omega arith, λ h. omega arith)
+
+-- a word with others behind it ends at the next one
+inner_past : (r : DailyRecord) (i n : ℕ) → word_past r i (suc n) ≡ word_minute r (i + 1)
+inner_past r i n = unless_zero (suc n) _ _ (omega arith)
+
+-- before the end of a word the day goes on, and no later word has begun
+before_past : (r : DailyRecord) (i n m : ℕ) → Rises r → i + suc n ≡ r.count → m < word_past r i n → (m < 1440 * (day_at r.buffer r.place + 1)) × ((later : ℕ) → i < later → later < r.count → m < word_minute r later)
+before_past r i zero m up count h = ((day_end (day_at r.buffer r.place) m).0 h, λ later l u. absurd (omega arith))
+before_past r i (suc n) m up count h =
+    let next : m < word_minute r (i + 1) = subst (λ (x : ℕ). m < x) (inner_past r i n) h in (
+      within_day _ _ m next (up (i + 1) (i + 1) (le_self _) (omega arith)).1,
+      λ later l u. below_later (day_at r.buffer r.place) _ _ m next (up (i + 1) later (omega arith) u).0,
+    )
+
+-- where the day goes on and no later word has begun, a word has not ended
+not_past : (r : DailyRecord) (i n m : ℕ) → i + suc n ≡ r.count → m < 1440 * (day_at r.buffer r.place + 1) → ((later : ℕ) → i < later → later < r.count → m < word_minute r later) → m < word_past r i n
+not_past r i zero m count day later = (day_end (day_at r.buffer r.place) m).1 day
+not_past r i (suc n) m count day later = subst (λ (x : ℕ). m < x) (sym (inner_past r i n)) (later (i + 1) (omega arith) (omega arith))
+
+-- a word whose mark counts has that mark, and is not the newest record's last
+closed_own : (newest : ℕ) (r : DailyRecord) (i n : ℕ) (k : Mark) → closed_mark (r.place == newest) r i n ≡ Some k → (mark_of (word_at r.buffer r.place i) ≡ Some k) × (r.place ≡ newest → n ≢ 0)
+closed_own newest r i n k h = go (r.place == newest) refl (n == 0) refl h where
+  go : (t : Bool) → (r.place == newest) ≡ t → (z : Bool) → (n == 0) ≡ z → cond (t && z) None (mark_of (word_at r.buffer r.place i)) ≡ Some k → (mark_of (word_at r.buffer r.place i) ≡ Some k) × (r.place ≡ newest → n ≢ 0)
+  go true e true f h = cc
+  go true e false f h = (h, λ s d. grind (arith, nat_tests))
+  go false e z f h = (h, λ s d. grind (arith, nat_tests))
+
+-- a word with a mark, that is not the newest record's last, counts with that mark
+own_closed : (newest : ℕ) (r : DailyRecord) (i n : ℕ) (k : Mark) → mark_of (word_at r.buffer r.place i) ≡ Some k → (r.place ≡ newest → n ≢ 0) → closed_mark (r.place == newest) r i n ≡ Some k
+own_closed newest r i n k h inner = go (r.place == newest) refl (n == 0) refl where
+  go : (t : Bool) → (r.place == newest) ≡ t → (z : Bool) → (n == 0) ≡ z → cond (t && z) None (mark_of (word_at r.buffer r.place i)) ≡ Some k
+  go true e true f = absurd (inner (grind (arith, nat_tests)) (grind (arith, nat_tests)))
+  go true e false f = h
+  go false e z f = h
+
+-- what the span of the i-th word gives, the record gives by that word
+own_gives : (newest : ℕ) (r : DailyRecord) (i n m : ℕ) (k : Mark) → Rises r → i + suc n ≡ r.count → Gives (marked (word_minute r i) (word_past r i n) (closed_mark (r.place == newest) r i n)) m k → GivesFrom i newest r m k
+own_gives newest r i n m k up count g =
+    let span = from_marked (word_minute r i) (word_past r i n) (closed_mark (r.place == newest) r i n) m k g in
+    let before = before_past r i n m up count span.1 in
+    let mark = closed_own newest r i n k span.2 in (
+      record {
+        word = i;
+        there = omega arith;
+        holds = span.0;
+        last = before.1;
+        in_day = before.0;
+        marked = mark.0;
+        closed = λ e. mark.1 e.0 (omega (arith, e.1, count));
+      },
+      le_self i,
+    )
+
+-- what a record gives by the i-th word, the span of that word gives
+gives_own : (newest : ℕ) (r : DailyRecord) (i n m : ℕ) (k : Mark) → i + suc n ≡ r.count → (g : RecordGives newest r m k) → g.word ≡ i → Gives (marked (word_minute r i) (word_past r i n) (closed_mark (r.place == newest) r i n)) m k
+gives_own newest r i n m k count g e =
+    let holds : word_minute r i ≤ m = subst (λ (x : ℕ). word_minute r x ≤ m) e g.holds in
+    let mark : mark_of (word_at r.buffer r.place i) ≡ Some k = subst (λ (x : ℕ). mark_of (word_at r.buffer r.place x) ≡ Some k) e g.marked in
+    let past = not_past r i n m count g.in_day (λ later l u. g.last later (omega (arith, e, l)) u) in
+    let closed = own_closed newest r i n k mark (λ same none. g.closed (same, omega (arith, e, count, none))) in
+    to_marked (word_minute r i) (word_past r i n) (closed_mark (r.place == newest) r i n) m k holds past closed
+
+-- the spans of the words from the i-th on give what the record gives by them
+words_give : (newest : ℕ) (r : DailyRecord) (i n m : ℕ) (k : Mark) → Rises r → i + n ≡ r.count → Gives (words_spans (r.place == newest) r i n) m k ↔ GivesFrom i newest r m k
+unfolding words_spans
+words_give newest r i zero m k up count = (λ g. absurd g, λ g. let there = g.0.there in absurd (omega (arith, there, g.1, count)))
+words_give newest r i (suc n) m k up count = (λ g. there (words_give newest r (i + 1) n m k up (omega arith)).0 (gives_either own rest m k g), λ g. back (words_give newest r (i + 1) n m k up (omega arith)).1 g.0 (lt_or_eq i g.0.word g.1)) where
+  own : List Span
+  own = marked (word_minute r i) (word_past r i n) (closed_mark (r.place == newest) r i n)
+
+  rest : List Span
+  rest = words_spans (r.place == newest) r (i + 1) n
+
+  there : (Gives rest m k → GivesFrom (i + 1) newest r m k) → Gives own m k ⊎ Gives rest m k → GivesFrom i newest r m k
+  there more (inl g) = own_gives newest r i n m k up count g
+  there more (inr g) = let from = more g in (from.0, omega (arith, from.1))
+
+  back : (GivesFrom (i + 1) newest r m k → Gives rest m k) → (g : RecordGives newest r m k) → (g.word ≡ i) ⊎ (i < g.word) → Gives (own ++ rest) m k
+  back more g (inl e) = gives_first own rest m k (gives_own newest r i n m k count g e)
+  back more g (inr l) = gives_last own rest m k (more (g, omega arith))
+
+-- the spans of a record without faults give what the record gives
+pub record_gives : (newest : ℕ) (r : DailyRecord) (m : ℕ) (k : Mark) → words_fault r.buffer r.place 0 0 r.count ≡ None → Gives (record_spans (r.place == newest) r) m k ↔ RecordGives newest r m k
+record_gives newest r m k h =
+    let same = words_give newest r 0 r.count m k (sound_rises r h) (omega arith) in
+    (λ g. (same.0 g).0, λ g. same.1 (g, omega arith))
+
+-- ---- the records of a chain
+
+-- no record of the list has a word with a fault
+abbrev AllSound : List (Result DailyRecord CardFault) → Type 0
+AllSound [] = Unit {0}
+AllSound (Err fault ∷ items) = AllSound items
+AllSound (Ok r ∷ items) = (words_fault r.buffer r.place 0 0 r.count ≡ None) × AllSound items
+
+-- a test that is false was passed, where what stands at true is a fault
+passed : (b : Bool) (f : CardFault) (x : Result DailyRecord CardFault) (r : DailyRecord) → cond b (Err f) x ≡ Ok r → x ≡ Ok r
+passed true f x r h = cc
+passed false f x r h = h
+
+-- a record that is read in spite of what may be a fault: there is none
+no_fault : (o : Option CardFault) (q r : DailyRecord) → fault_or o q ≡ Ok r → (o ≡ None) × (q ≡ r)
+no_fault None q r h = let e : q ≡ r = cc in (refl, e)
+no_fault (Some f) q r h = cc
+
+-- a record that is read has no word with a fault
+read_sound : (b : List ℕ) (p l : ℕ) (r : DailyRecord) → record_at b p l ≡ Ok r → words_fault r.buffer r.place 0 0 r.count ≡ None
+unfolding record_at
+read_sound b p l r h =
+    let one = passed (not (is_length (length b) (length_at b p))) _ _ _ h in
+    let two = passed (nat_lt l (length_at b p)) _ _ _ one in
+    let three = passed (not (is_read_day (day_at b p))) _ _ _ two in
+    let read = no_fault (words_fault b p 0 0 ((length_at b p - 12) / 2)) (record { buffer = b; place = p; count = (length_at b p - 12) / 2 }) r three in
+    subst (λ (x : DailyRecord). words_fault x.buffer x.place 0 0 x.count ≡ None) read.1 read.0
+
+-- a record that is read, before records of which none has a word with a fault
+followed_sound : (x : Result DailyRecord CardFault) (rest : List (Result DailyRecord CardFault)) → ((r : DailyRecord) → x ≡ Ok r → words_fault r.buffer r.place 0 0 r.count ≡ None) → AllSound rest → AllSound (followed_by x rest)
+followed_sound (Err f) rest h s = tt
+followed_sound (Ok r) rest h s = (h r refl, s)
+
+-- records that come only where a test is false
+unless_sound : (t : Bool) (rest : List (Result DailyRecord CardFault)) → AllSound rest → AllSound (cond t [] rest)
+unless_sound true rest s = tt
+unless_sound false rest s = s
+
+-- no record of the rest of a chain has a word with a fault
+from_sound : (fuel : ℕ) (b : List ℕ) (n p l : ℕ) → AllSound (chain_from fuel b n p l)
+unfolding chain_from
+from_sound zero b n p l = tt
+from_sound (suc fuel) b n p l = followed_sound (record_at b p l) _ (λ r e. read_sound b p l r e) (unless_sound (p == n) _ (from_sound fuel b n (wrapped b (p + length_at b p)) (l - length_at b p)))
+
+-- no record of a chain has a word with a fault
+chain_sound : (block : DriverActivity) → AllSound (chain block)
+chain_sound block = unless_sound (is_empty block) _ (from_sound (suc (length block.buffer)) block.buffer block.newest block.oldest (length block.buffer))
+
+-- ---- what chains give
+
+-- spans before those of a list of which one is known
+with_ok : (front own : List Span) (x : Result (List Span) CardFault) → with_spans front x ≡ Ok own → (rest : List Span) × (x ≡ Ok rest) × (own ≡ front ++ rest)
+with_ok front own (Ok rest) h = let e : own ≡ front ++ rest = cc in (rest, refl, e)
+with_ok front own (Err f) h = cc
+
+-- a list with spans has no fault, and they give what its records give
+items_give : (newest : ℕ) (items : List (Result DailyRecord CardFault)) (own : List Span) → AllSound items → items_spans newest items ≡ Ok own → (fault_of items ≡ None) × SamePairs (Gives own) (ItemsGive newest items)
+unfolding items_spans
+items_give newest [] own s h = let e : own ≡ [] = cc in (refl, λ m k. (λ g. subst (λ (x : List Span). Gives x m k) e g, λ g. absurd g))
+items_give newest (Err f ∷ items) own s h = cc
+items_give newest (Ok r ∷ items) own s h =
+    let parts = with_ok (record_spans (r.place == newest) r) own (items_spans newest items) h in
+    let more = items_give newest items parts.0 s.1 parts.1 in
+    (more.0, λ m k. (λ g. there m k parts.0 (more.1 m k).0 (gives_either (record_spans (r.place == newest) r) parts.0 m k (subst (λ (x : List Span). Gives x m k) parts.2 g)), λ g. subst (λ (x : List Span). Gives x m k) (sym parts.2) (back m k parts.0 (more.1 m k).1 g))) where
+      there : (m : ℕ) (k : Mark) (rest : List Span) → (Gives rest m k → ItemsGive newest items m k) → Gives (record_spans (r.place == newest) r) m k ⊎ Gives rest m k → ItemsGive newest (Ok r ∷ items) m k
+      there m k rest more (inl g) = inl ((record_gives newest r m k s.0).0 g)
+      there m k rest more (inr g) = inr (more g)
+
+      back : (m : ℕ) (k : Mark) (rest : List Span) → (ItemsGive newest items m k → Gives rest m k) → ItemsGive newest (Ok r ∷ items) m k → Gives (record_spans (r.place == newest) r ++ rest) m k
+      back m k rest more (inl g) = gives_first (record_spans (r.place == newest) r) rest m k ((record_gives newest r m k s.0).1 g)
+      back m k rest more (inr g) = gives_last (record_spans (r.place == newest) r) rest m k (more g)
+
+-- a list without spans has a fault
+items_fault : (newest : ℕ) (items : List (Result DailyRecord CardFault)) (f : CardFault) → items_spans newest items ≡ Err f → fault_of items ≡ Some f
+unfolding items_spans
+items_fault newest [] f h = cc
+items_fault newest (Err g ∷ items) f h = let e : g ≡ f = cc in ap Some e
+items_fault newest (Ok r ∷ items) f h = items_fault newest items f (only_fault (record_spans (r.place == newest) r) (items_spans newest items) f h)
+
+-- data with spans have no fault, and the spans give what their records give
+pub block_gives : (block : DriverActivity) (own : List Span) → block_spans block ≡ Ok own → (fault_of (chain block) ≡ None) × SamePairs (Gives own) (ItemsGive block.newest (chain block))
+block_gives block own h = items_give block.newest (chain block) own (chain_sound block) h
+
+-- data without spans have a fault
+pub block_fault : (block : DriverActivity) (f : CardFault) → block_spans block ≡ Err f → fault_of (chain block) ≡ Some f
+block_fault block f h = items_fault block.newest (chain block) f h
+
+-- ---- what several data give, one after the other
+
+-- data without a fault, and spans that give what they give
+abbrev pub IsRaw : List DriverActivity → List Span → Type 0
+IsRaw blocks raw = (chains_fault blocks ≡ None) × SamePairs (Gives raw) (BlocksGive blocks)
+
+-- no data give nothing
+pub raw_none : IsRaw [] []
+raw_none = (refl, λ m k. (λ g. g, λ g. g))
+
+-- the first fault, where the first data have none
+chain_without : (block : DriverActivity) (more : List DriverActivity) → fault_of (chain block) ≡ None → chains_fault (block ∷ more) ≡ chains_fault more
+chain_without block more h = rw h refl
+
+-- the first fault, where the first data have one
+chain_with : (block : DriverActivity) (more : List DriverActivity) (f : CardFault) → fault_of (chain block) ≡ Some f → chains_fault (block ∷ more) ≡ Some f
+chain_with block more f h = rw h refl
+
+-- the first of data without a fault has none
+first_without : (block : DriverActivity) (more : List DriverActivity) → chains_fault (block ∷ more) ≡ None → fault_of (chain block) ≡ None
+first_without block more h = go (fault_of (chain block)) refl where
+  go : (o : Option CardFault) → fault_of (chain block) ≡ o → fault_of (chain block) ≡ None
+  go None e = e
+  go (Some f) e = let wrong = sym (chain_with block more f e) ∙ h in cc
+
+-- behind data without a fault, the fault is that of the others
+fault_after : (blocks more : List DriverActivity) → chains_fault blocks ≡ None → chains_fault (blocks ++ more) ≡ chains_fault more
+fault_after [] more h = refl
+fault_after (block ∷ blocks) more h =
+    let none = first_without block blocks h in
+    chain_without block (blocks ++ more) none ∙ fault_after blocks more (sym (chain_without block blocks none) ∙ h)
+
+-- what data give, they give with others behind them
+blocks_first : (blocks more : List DriverActivity) (m : ℕ) (k : Mark) → BlocksGive blocks m k → BlocksGive (blocks ++ more) m k
+blocks_first [] more m k g = absurd g
+blocks_first (block ∷ blocks) more m k (inl g) = inl g
+blocks_first (block ∷ blocks) more m k (inr g) = inr (blocks_first blocks more m k g)
+
+-- what data give, they give with others before them
+blocks_last : (blocks more : List DriverActivity) (m : ℕ) (k : Mark) → BlocksGive more m k → BlocksGive (blocks ++ more) m k
+blocks_last [] more m k g = g
+blocks_last (block ∷ blocks) more m k g = inr (blocks_last blocks more m k g)
+
+-- what data and others give, the data or the others give
+blocks_either : (blocks more : List DriverActivity) (m : ℕ) (k : Mark) → BlocksGive (blocks ++ more) m k → BlocksGive blocks m k ⊎ BlocksGive more m k
+blocks_either [] more m k g = inr g
+blocks_either (block ∷ blocks) more m k (inl g) = inl (inl g)
+blocks_either (block ∷ blocks) more m k (inr g) = go (blocks_either blocks more m k g) where
+  go : BlocksGive blocks m k ⊎ BlocksGive more m k → BlocksGive (block ∷ blocks) m k ⊎ BlocksGive more m k
+  go (inl h) = inl (inr h)
+  go (inr h) = inr h
+
+-- with the spans of further data behind them, spans give what all these data give
+pub raw_more : (blocks : List DriverActivity) (block : DriverActivity) (raw new : List Span) → IsRaw blocks raw → with_spans raw (block_spans block) ≡ Ok new → IsRaw (blocks ++ block ∷ []) new
+raw_more blocks block raw new h e =
+    let parts = with_ok raw new (block_spans block) e in
+    let own = block_gives block parts.0 parts.1 in (
+      fault_after blocks (block ∷ []) h.0 ∙ chain_without block [] own.0,
+      λ m k. (
+        λ g. there m k parts.0 (own.1 m k).0 (gives_either raw parts.0 m k (subst (λ (x : List Span). Gives x m k) parts.2 g)),
+        λ g. subst (λ (x : List Span). Gives x m k) (sym parts.2) (back m k parts.0 (own.1 m k).1 (blocks_either blocks (block ∷ []) m k g)),
+      ),
+    ) where
+      there : (m : ℕ) (k : Mark) (own : List Span) → (Gives own m k → ItemsGive block.newest (chain block) m k) → Gives raw m k ⊎ Gives own m k → BlocksGive (blocks ++ block ∷ []) m k
+      there m k own same (inl g) = blocks_first blocks (block ∷ []) m k ((h.1 m k).0 g)
+      there m k own same (inr g) = blocks_last blocks (block ∷ []) m k (inl (same g))
+
+      back : (m : ℕ) (k : Mark) (own : List Span) → (ItemsGive block.newest (chain block) m k → Gives own m k) → BlocksGive blocks m k ⊎ BlocksGive (block ∷ []) m k → Gives (raw ++ own) m k
+      back m k own same (inl g) = gives_first raw own m k ((h.1 m k).1 g)
+      back m k own same (inr (inl g)) = gives_last raw own m k (same g)
+      back m k own same (inr (inr g)) = absurd g
+
+-- a fault of further data, or want of memory, is that of all the data and of those behind them
+pub raw_fault : (blocks : List DriverActivity) (block : DriverActivity) (more : List DriverActivity) (raw : List Span) (f : CardFault) → IsRaw blocks raw → Fails f (block_spans block) → IsFaultOf (blocks ++ block ∷ more) f
+raw_fault blocks block more raw f h (inl e) = inl e
+raw_fault blocks block more raw f h (inr e) = inr (inl (fault_after blocks (block ∷ more) h.0 ∙ chain_with block more f (block_fault block f e)))
+
+-- ---- the reading of data
+
+-- the first minute to which spans give two marks, or want of memory
+abbrev pub IsConflictOf : List Span → CardFault → Type 0
+IsConflictOf spans fault = (fault ≡ Memory) ⊎ ((m : ℕ) × (fault ≡ SelfContradiction m) × IsFirstConflict (Gives spans) m)
+
+-- that two sets have the same pairs can be read from either side
+pairs_sym : (P Q : ℕ → Mark → Type 0) → SamePairs P Q → SamePairs Q P
+pairs_sym P Q f m k = ((f m k).1, (f m k).0)
+
+-- sets with the same pairs as a third one have the same pairs
+pairs_trans : (P Q R : ℕ → Mark → Type 0) → SamePairs P Q → SamePairs Q R → SamePairs P R
+pairs_trans P Q R f g m k = (λ x. (g m k).0 ((f m k).0 x), λ z. (f m k).1 ((g m k).1 z))
+
+-- a minute with two marks has them in each set with the same pairs
+pairs_conflict : (P Q : ℕ → Mark → Type 0) (m : ℕ) → SamePairs P Q → Conflicts P m → Conflicts Q m
+pairs_conflict P Q m f c = (c.0, c.1, (f m c.0).0 c.2, (f m c.1).0 c.3, c.4)
+
+-- the first minute with two marks is that of each set with the same pairs
+pairs_first : (P Q : ℕ → Mark → Type 0) (m : ℕ) → SamePairs P Q → IsFirstConflict P m → IsFirstConflict Q m
+pairs_first P Q m f c = (pairs_conflict P Q m f c.0, λ n l d. c.1 n l (pairs_conflict Q P n (pairs_sym P Q f) d))
+
+-- the canonical list of what data give is their reading
+pub raw_reading : {V : Type 0} (items : V → List Span) (blocks : List DriverActivity) (raw : List Span) (result : Result V CardFault) → IsRaw blocks raw → MatchResult result (λ runs. IsCanonicalOf (Gives raw) (items runs)) (IsConflictOf raw) → MatchResult result (λ runs. IsReading blocks (Ok (items runs))) (IsFaultOf blocks)
+raw_reading items blocks raw (Ok v) h e = (h.0, record { canonical = e.canonical; same = pairs_trans (Gives (items v)) (Gives raw) (BlocksGive blocks) e.same h.1 })
+raw_reading items blocks raw (Err f) h (inl e) = inl e
+raw_reading items blocks raw (Err f) h (inr c) = inr (inr (h.0, (c.0, c.1, pairs_first (Gives raw) (BlocksGive blocks) c.0 h.1 c.2)))
+
+-- a fault of the data that a `?` hands on is that of their reading
+pub raw_failure : {V : Type 0} (items : V → List Span) (blocks : List DriverActivity) (fault : CardFault) (result : Result V CardFault) → IsFaultOf blocks fault → IsErr result × IsErrAnd result (λ found. found ≡ fault) → MatchResult result (λ runs. IsReading blocks (Ok (items runs))) (IsFaultOf blocks)
+raw_failure items blocks fault (Ok v) h e = let wrong = e.0 in cc
+raw_failure items blocks fault (Err f) h e = subst (IsFaultOf blocks) (sym e.1) h

@@ -1,0 +1,9 @@
+use Rattle.std.proofs.Common.{◌∙◌, ap}
+use Rattle.tacho_card.specs.DailyRecord.{DailyRecord, word_at}
+use Rattle.tacho_card.proofs.WrapLemmas.{word_at_reduced}
+use Rattle.tacho_card.proofs.record.Record.word.Goals as goal
+
+pub returns : goal.returns
+returns c =
+    let is = c.self.inside in
+    c.of.ensures ∙ c.number_in.ensures ∙ word_at_reduced is.buffer.now is.place c.args.i ∙ ap (λ (r : DailyRecord). word_at r.buffer r.place c.args.i) c.self.view_is

@@ -1,0 +1,68 @@
+-- The chain of the records of a cyclic buffer, from the oldest to the newest.
+use Rattle.std.specs.Prelude.{◌≡◌, ◌≢◌, ℕ, zero, suc, ◌+◌, ◌-◌, ◌&&◌, ◌==◌, ◌⊎◌, Bool, List, [], ◌∷◌, ◌++◌, length, Option, None, Some, Result, Ok, Err, IsOk, IsErr, IsTrue, if◌then◌else◌}
+use Rattle.tacho_card.specs.declared.fault.CardFault.{CardFault}
+use Rattle.tacho_card.specs.DriverActivity.{DriverActivity, wrapped}
+use Rattle.tacho_card.specs.DailyRecord.{DailyRecord, length_at, record_at}
+
+-- there are no records: both pointers are one, and the length there is 0
+abbrev pub is_empty : DriverActivity → Bool
+is_empty block = (block.oldest == block.newest) && (length_at block.buffer block.oldest == 0)
+
+-- ---- by places
+
+-- the lengths of the records at these places, together
+abbrev pub lengths : List ℕ → List ℕ → ℕ
+lengths buffer [] = 0
+lengths buffer (place ∷ places) = length_at buffer place + lengths buffer places
+
+-- the record at a place that comes after those at the places of a front, or its first fault
+abbrev pub read_after : DriverActivity → List ℕ → ℕ → Result DailyRecord CardFault
+read_after block front place = record_at block.buffer place (length block.buffer - lengths block.buffer front)
+
+-- Places of a front of the chain. The first is that of the oldest record. Where another follows, the record is not
+-- the newest and has no fault, and the next one begins at its place plus its length.
+pub record IsFront (block : DriverActivity) (places : List ℕ) : Type 0 where
+  pub begins : (rest : List ℕ) × (places ≡ block.oldest ∷ rest)
+  pub goes_on : (front rest : List ℕ) (place next : ℕ) → places ≡ front ++ place ∷ next ∷ rest →
+      (place ≢ block.newest) × IsOk (read_after block front place) × (next ≡ wrapped block.buffer (place + length_at block.buffer place))
+
+-- what reading the records at these places gives, after those of a front
+abbrev pub readings : DriverActivity → List ℕ → List ℕ → List (Result DailyRecord CardFault)
+readings block front [] = []
+readings block front (place ∷ places) = read_after block front place ∷ readings block (front ++ place ∷ []) places
+
+-- the readings of a front that ends at the newest record, or at the first one with a fault
+pub record EndsChain (block : DriverActivity) (front : List ℕ) (last : ℕ) (items : List (Result DailyRecord CardFault)) : Type 0 where
+  pub whole : IsFront block (front ++ last ∷ [])
+  pub ends : (last ≡ block.newest) ⊎ IsErr (read_after block front last)
+  pub read : items ≡ readings block [] (front ++ last ∷ [])
+
+-- the records of the chain in order, and then its fault if it has one
+abbrev pub IsChain : DriverActivity → List (Result DailyRecord CardFault) → Type 0
+IsChain block items =
+    (IsTrue (is_empty block) × (items ≡ []))
+    ⊎ ((is_empty block ≢ Bool.true) × ((front : List ℕ) × (last : ℕ) × EndsChain block front last items))
+
+-- ---- by recursion, as an iterator goes over it
+
+-- what a record gives, before what comes after it; nothing comes after a fault
+abbrev pub followed_by : Result DailyRecord CardFault → List (Result DailyRecord CardFault) → List (Result DailyRecord CardFault)
+followed_by (Err fault) rest = Err fault ∷ []
+followed_by (Ok r) rest = Ok r ∷ rest
+
+-- the records from a place on, to the newest or to the first fault; more fuel than bytes are left is enough
+unfoldable pub chain_from : ℕ → List ℕ → ℕ → ℕ → ℕ → List (Result DailyRecord CardFault)
+chain_from zero buffer newest place left = []
+chain_from (suc fuel) buffer newest place left =
+    let len = length_at buffer place in
+    followed_by (record_at buffer place left)
+    (if place == newest then [] else chain_from fuel buffer newest (wrapped buffer (place + len)) (left - len))
+
+abbrev pub chain : DriverActivity → List (Result DailyRecord CardFault)
+chain block = if is_empty block then [] else chain_from (suc (length block.buffer)) block.buffer block.newest block.oldest (length block.buffer)
+
+-- the fault that a chain ends with
+abbrev pub fault_of : List (Result DailyRecord CardFault) → Option CardFault
+fault_of [] = None
+fault_of (Err fault ∷ items) = Some fault
+fault_of (Ok r ∷ items) = fault_of items

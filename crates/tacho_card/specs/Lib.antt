@@ -1,0 +1,6 @@
+pub mod ActivityChangeInfo
+pub mod DriverActivity
+pub mod DailyRecord
+pub mod Chain
+pub mod Reading
+pub mod RawSpans

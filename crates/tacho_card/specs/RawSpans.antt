@@ -1,0 +1,50 @@
+-- The spans of records, word by word, before they are put in order.
+use Rattle.std.specs.Prelude.{◌≡◌, ℕ, zero, suc, ◌+◌, ◌*◌, ◌&&◌, ◌==◌, ◌⊎◌, Bool, List, [], ◌∷◌, ◌++◌, Option, Some, None, Result, Ok, Err, if◌then◌else◌}
+use Rattle.tacho_time.specs.declared.span.Span.{Span}
+use Rattle.tacho_time.specs.declared.span.Mark.{Mark}
+use Rattle.tacho_card.specs.declared.fault.CardFault.{CardFault}
+use Rattle.tacho_card.specs.declared.fault.CardFault.TheVariants.{Memory}
+use Rattle.tacho_card.specs.ActivityChangeInfo.{mark_of}
+use Rattle.tacho_card.specs.DriverActivity.{DriverActivity}
+use Rattle.tacho_card.specs.DailyRecord.{DailyRecord, day_at, word_at}
+use Rattle.tacho_card.specs.Chain.{chain}
+use Rattle.tacho_card.specs.Reading.{word_minute}
+
+-- a span of a mark, if there is one
+abbrev pub marked : ℕ → ℕ → Option Mark → List Span
+marked start past None = []
+marked start past (Some mark) = record { start = start; past = past; mark = mark } ∷ []
+
+-- the mark of the i-th word, where k words come after it: none of the newest record's last word
+abbrev pub closed_mark : Bool → DailyRecord → ℕ → ℕ → Option Mark
+closed_mark newest r i k = if newest && (k == 0) then None else mark_of (word_at r.buffer r.place i)
+
+-- where the i-th word ends, where k words come after it: at the next one, or with the day
+abbrev pub word_past : DailyRecord → ℕ → ℕ → ℕ
+word_past r i k = if k == 0 then 1440 * day_at r.buffer r.place + 1440 else word_minute r (i + 1)
+
+-- the spans of k words from the i-th on
+unfoldable pub words_spans : Bool → DailyRecord → ℕ → ℕ → List Span
+words_spans newest r i zero = []
+words_spans newest r i (suc k) = marked (word_minute r i) (word_past r i k) (closed_mark newest r i k) ++ words_spans newest r (i + 1) k
+
+-- the spans of a record
+abbrev pub record_spans : Bool → DailyRecord → List Span
+record_spans newest r = words_spans newest r 0 r.count
+
+abbrev pub with_spans : List Span → Result (List Span) CardFault → Result (List Span) CardFault
+with_spans front (Ok spans) = Ok (front ++ spans)
+with_spans front (Err fault) = Err fault
+
+-- the spans of all records, or the fault of the chain
+unfoldable pub items_spans : ℕ → List (Result DailyRecord CardFault) → Result (List Span) CardFault
+items_spans newest [] = Ok []
+items_spans newest (Err fault ∷ items) = Err fault
+items_spans newest (Ok r ∷ items) = with_spans (record_spans (r.place == newest) r) (items_spans newest items)
+
+abbrev pub block_spans : DriverActivity → Result (List Span) CardFault
+block_spans block = items_spans block.newest (chain block)
+
+-- the fault of the chain, or want of memory
+abbrev pub Fails : {X : Type 0} → CardFault → Result X CardFault → Type 0
+Fails fault wanted = (fault ≡ Memory) ⊎ (wanted ≡ Err fault)

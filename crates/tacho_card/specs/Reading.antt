@@ -1,0 +1,58 @@
+-- What activity data gives: pairs of a minute and a mark, or the first fault.
+use Rattle.std.specs.Prelude.{◌≡◌, ℕ, ◌+◌, ◌*◌, ◌<◌, ◌≤◌, ◌⊎◌, List, [], ◌∷◌, Option, None, Some, Result, Ok, Err}
+use Rattle.tacho_time.specs.declared.span.Span.{Span}
+use Rattle.tacho_time.specs.declared.span.Mark.{Mark}
+use Rattle.tacho_time.specs.Spans.{IsCanonicalOf, IsFirstConflict}
+use Rattle.tacho_card.specs.declared.fault.CardFault.{CardFault}
+use Rattle.tacho_card.specs.declared.fault.CardFault.TheVariants.{SelfContradiction, Memory}
+use Rattle.tacho_card.specs.ActivityChangeInfo.{time_of, mark_of}
+use Rattle.tacho_card.specs.DriverActivity.{DriverActivity}
+use Rattle.tacho_card.specs.DailyRecord.{DailyRecord, day_at, word_at}
+use Rattle.tacho_card.specs.Chain.{chain, fault_of}
+
+-- the minute from which the i-th word of a record holds
+abbrev pub word_minute : DailyRecord → ℕ → ℕ
+word_minute r i = 1440 * day_at r.buffer r.place + time_of (word_at r.buffer r.place i)
+
+-- A record gives a minute of its day the mark of the last word that holds by then. A word without a mark gives
+-- nothing, and nor does the last word of the newest record: nothing says how long it held.
+pub record RecordGives (newest : ℕ) (r : DailyRecord) (m : ℕ) (mark : Mark) : Type 0 where
+  pub word : ℕ
+  pub there : word < r.count
+  pub holds : word_minute r word ≤ m
+  pub last : (later : ℕ) → word < later → later < r.count → m < word_minute r later
+  pub in_day : m < 1440 * (day_at r.buffer r.place + 1)
+  pub marked : mark_of (word_at r.buffer r.place word) ≡ Some mark
+  pub closed : ¬ ((r.place ≡ newest) × (word + 1 ≡ r.count))
+
+-- some record of a chain gives the minute this mark
+abbrev pub ItemsGive : ℕ → List (Result DailyRecord CardFault) → ℕ → Mark → Type 0
+ItemsGive newest [] m mark = ⊥
+ItemsGive newest (Ok r ∷ items) m mark = RecordGives newest r m mark ⊎ ItemsGive newest items m mark
+ItemsGive newest (Err fault ∷ items) m mark = ItemsGive newest items m mark
+
+-- some record of some of the data gives the minute this mark
+abbrev pub BlocksGive : List DriverActivity → ℕ → Mark → Type 0
+BlocksGive [] m mark = ⊥
+BlocksGive (block ∷ blocks) m mark = ItemsGive block.newest (chain block) m mark ⊎ BlocksGive blocks m mark
+
+-- the first fault of the chains, one after the other
+abbrev pub chains_fault : List DriverActivity → Option CardFault
+chains_fault [] = None
+chains_fault (block ∷ blocks) = fault_before (fault_of (chain block)) (chains_fault blocks)
+  where
+    fault_before : Option CardFault → Option CardFault → Option CardFault
+    fault_before (Some fault) rest = Some fault
+    fault_before None rest = rest
+
+-- The reading of data: the canonical list of what they give, or the first fault. Contradiction within the data, of
+-- which the least minute is named, comes after all faults of records.
+abbrev pub IsReading : List DriverActivity → Result (List Span) CardFault → Type 0
+IsReading blocks (Ok spans) = (chains_fault blocks ≡ None) × IsCanonicalOf (BlocksGive blocks) spans
+IsReading blocks (Err fault) =
+    (chains_fault blocks ≡ Some fault)
+    ⊎ ((chains_fault blocks ≡ None) × ((m : ℕ) × (fault ≡ SelfContradiction m) × IsFirstConflict (BlocksGive blocks) m))
+
+-- a fault is that of the reading, or want of memory
+abbrev pub IsFaultOf : List DriverActivity → CardFault → Type 0
+IsFaultOf blocks fault = (fault ≡ Memory) ⊎ IsReading blocks (Err fault)

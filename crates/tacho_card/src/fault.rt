@@ -1,0 +1,47 @@
+use std::alloc::AllocError;
+use tacho_time::Minute;
+use thiserror::Error;
+
+/// Why a driver card file, or a part of it, is not read. The places are in bytes: of a record or a word
+/// its place in the cyclic buffer.
+#[derive(Clone, Copy, Debug, PartialEq, Eq, Error)]
+pub enum CardFault {
+    /// C7: activity data has fewer than 16 bytes.
+    #[error("activity data has fewer than 16 bytes")]
+    ShortActivity,
+    /// C8: a pointer is not in the cyclic buffer.
+    #[error("a pointer is not in the buffer")]
+    Pointer,
+    /// C9: the length of the record at this place is below 12, odd, or above that of the buffer.
+    #[error("the record at {0} has no possible length")]
+    RecordLength(usize),
+    /// C10: with the record at this place, the lengths come to more than the buffer has.
+    #[error("the records up to the one at {0} are longer than the buffer")]
+    Chain(usize),
+    /// C11: the day of the record at this place is not from 2000-01-03 to 2099-12-31.
+    #[error("the day of the record at {0} is out of range")]
+    DayRange(usize),
+    /// C12: the minute of the word at this place is 1440 or more.
+    #[error("the word at {0} has no minute of a day")]
+    WordMinute(usize),
+    /// C13: the minute of the word at this place is below that of the word before.
+    #[error("the word at {0} goes back in time")]
+    WordOrder(usize),
+    /// C14: the least minute that has two marks.
+    #[error("two marks at {0}")]
+    SelfContradiction(Minute),
+    /// There was no memory.
+    #[error("no memory")]
+    Memory,
+}
+
+impl From<AllocError> for CardFault {
+    ghost use Rattle.std.specs.Prelude.{◌≡◌};
+    ghost use Rattle.tacho_card.specs.declared.fault.CardFault.TheVariants.{Memory};
+
+    ghost from_gives = { λ _ e. e ≡ Memory };
+
+    fn from(_: AllocError) -> CardFault {
+        CardFault::Memory
+    }
+}

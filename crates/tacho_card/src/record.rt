@@ -1,0 +1,196 @@
+ghost use Rattle.std.specs.Prelude.{◌≡◌, ◌+◌, ◌*◌, ◌<◌, ◌≤◌, ◌++◌, length, OnOk};
+ghost use Rattle.tacho_card.specs.ActivityChangeInfo.{time_of};
+ghost use Rattle.tacho_card.specs.RawSpans.{marked};
+ghost use Rattle.tacho_card.specs.DailyRecord.{is_length as length_test, is_read_day as day_test, day_at, words_fault};
+
+use crate::cyclic::number_in;
+use crate::fault::CardFault;
+use crate::word::Word;
+use std::alloc::AllocError;
+use std::marker::Model;
+use tacho_time::{Day, Mark, Minute, Span};
+
+/// CardActivityDailyRecord (Annex IC, Appendix 1), lent from the buffer: the changes of activity of a day.
+#[derive(Drop)]
+pub struct Record<'a> {
+    buffer: &'a [u8],
+    place: usize,
+    count: usize,
+}
+
+impl<'a> Model for Record<'a> {
+    ghost use Rattle.std.specs.Prelude.{◌≡◌, ◌+◌, ◌*◌, ◌<◌, ◌≤◌, length, None, IsTrue};
+    ghost use Rattle.tacho_card.specs.DailyRecord.{DailyRecord, is_read_day, day_at, words_fault};
+
+    ghost Value = { DailyRecord };
+
+    ghost view = { λ r. record { buffer = r.buffer.now; place = r.place; count = r.count } };
+
+    ghost invariant = { λ r.
+        (r.place < length r.buffer.now) × (12 + 2 * r.count ≤ length r.buffer.now) × (length r.buffer.now < 65536)
+        × IsTrue (is_read_day (day_at r.buffer.now r.place)) × (words_fault r.buffer.now r.place 0 0 r.count ≡ None) };
+}
+
+impl<'a> Record<'a> {
+    ghost use Rattle.std.specs.Prelude.{◌≡◌, ◌<◌, ◌≤◌, ◌++◌, length, OnOk, OnErr};
+    ghost use Rattle.tacho_card.specs.DailyRecord.{day_at, word_at, record_at};
+    ghost use Rattle.tacho_card.specs.RawSpans.{record_spans};
+
+    /// Where it begins in the buffer.
+    pub fn place(&self) -> usize
+        ensures { result ≡ self.now.place }
+    {
+        self.place
+    }
+
+    /// The day that it is of.
+    pub fn day(&self) -> Day
+        ensures { result ≡ day_at self.now.buffer self.now.place }
+    {
+        Day::new(day_in(self.buffer, self.place))
+    }
+
+    /// How many words it has.
+    pub fn count(&self) -> usize
+        ensures { result ≡ self.now.count }
+    {
+        self.count
+    }
+
+    /// The i-th word, from 0. From `count` on it is what the buffer has behind the record.
+    pub fn word(&self, i: usize) -> Word
+        ensures { result ≡ word_at self.now.buffer self.now.place i }
+    {
+        let i = i % self.buffer.len();
+        Word::of(number_in(self.buffer, self.place + 12 + 2 * i))
+    }
+
+    /// The record at a place where the records before it leave so many bytes of the buffer, or its first fault.
+    #[tactic(auto, unfolding(crate::specs::DailyRecord::record_at))]
+    pub(crate) fn at(buffer: &'a [u8], place: usize, left: usize) -> Result<Record<'a>, CardFault>
+        requires size { 12 ≤ length buffer.now }
+        requires limit { length buffer.now < 65536 }
+        requires place { place < length buffer.now }
+        ensures { result ≡ record_at buffer.now place left }
+    {
+        let len = number_in(buffer, place + 2) as usize;
+        if !is_length(buffer.len(), len) {
+            return Err(CardFault::RecordLength(place));
+        }
+        if len > left {
+            return Err(CardFault::Chain(place));
+        }
+        if !is_read_day(day_in(buffer, place)) {
+            return Err(CardFault::DayRange(place));
+        }
+        let count = (len - 12) / 2;
+        match fault_of_words(buffer, place, count) {
+            Some(fault) => Err(fault),
+            None => Ok(Record {
+                buffer,
+                place,
+                count,
+            }),
+        }
+    }
+
+    /// Appends what each word gives: from its minute to that of the next word, or to the end of the day.
+    pub(crate) fn append_spans(
+        &self,
+        spans: &mut Vec<Span>,
+        is_newest: bool,
+    ) -> Result<(), AllocError>
+        ensures { OnOk result (spans.new.items ≡ spans.old.items ++ record_spans is_newest self.now) }
+    {
+        let midnight = self.day().number() * 1440;
+        let mut word = self.word(0);
+        for i in 0..self.count {
+            let is_last = i + 1 == self.count;
+            let next = self.word(i + 1);
+            let past = if is_last {
+                Minute::new(midnight + 1440)
+            } else {
+                minute_from(midnight, next)
+            };
+            let mark = if is_newest && is_last {
+                None
+            } else {
+                word.mark()
+            };
+            append_marked(spans, minute_from(midnight, word), past, mark)?;
+            word = next;
+        }
+        Ok(())
+    }
+}
+
+/// The minute from which a word holds on the day that begins at a minute.
+fn minute_from(midnight: u32, word: Word) -> Minute
+    requires { midnight ≤ 1440 * 47481 }
+    ensures { result ≡ midnight + time_of word }
+{
+    Minute::new(midnight + word.minute() as u32)
+}
+
+/// Appends the span of a mark, if there is one.
+fn append_marked(
+    spans: &mut Vec<Span>,
+    start: Minute,
+    past: Minute,
+    mark: Option<Mark>,
+) -> Result<(), AllocError>
+    ensures { OnOk result (spans.new.items ≡ spans.old.items ++ marked start past mark) }
+{
+    if let Some(mark) = mark {
+        spans.push(Span { start, past, mark })?;
+    }
+    Ok(())
+}
+
+/// The day of the record at a place.
+fn day_in(buffer: &[u8], place: usize) -> u32
+    requires size { 12 ≤ length buffer.now }
+    requires limit { length buffer.now < 65536 }
+    requires place { place < length buffer.now }
+    ensures { result ≡ day_at buffer.now place }
+{
+    let seconds = number_in(buffer, place + 4) as u32 * 65536 + number_in(buffer, place + 6) as u32;
+    seconds / 86400
+}
+
+/// Whether a record may have that length.
+fn is_length(size: usize, len: usize) -> bool
+    ensures { result ≡ length_test size len }
+{
+    12 <= len && len % 2 == 0 && len <= size
+}
+
+/// Whether a day may be read.
+fn is_read_day(day: u32) -> bool
+    ensures { result ≡ day_test day }
+{
+    10959 <= day && day <= 47481
+}
+
+/// The first fault of the words of the record at a place.
+fn fault_of_words(buffer: &[u8], place: usize, count: usize) -> Option<CardFault>
+    requires size { 12 ≤ length buffer.now }
+    requires limit { length buffer.now < 65536 }
+    requires place { place < length buffer.now }
+    requires count { count < 65536 }
+    ensures { result ≡ words_fault buffer.now place 0 0 count }
+{
+    let mut before = 0;
+    for i in 0..count {
+        let at = place + 12 + 2 * i;
+        let minute = Word::of(number_in(buffer, at)).minute();
+        if minute >= 1440 {
+            return Some(CardFault::WordMinute(at % buffer.len()));
+        }
+        if minute < before {
+            return Some(CardFault::WordOrder(at % buffer.len()));
+        }
+        before = minute;
+    }
+    None
+}

@@ -1,0 +1,54 @@
+ghost use Rattle.std.specs.Prelude.{◌≡◌, ◌⊎◌, ℕ, [], ◌∷◌, Ok, Err, MatchResult};
+ghost use Rattle.tacho_time.specs.Spans.{Gives, IsCanonicalOf, IsFirstConflict};
+ghost use Rattle.tacho_card.specs.Reading.{IsReading, IsFaultOf};
+ghost use Rattle.tacho_card.specs.RawSpans.{with_spans, block_spans, Fails};
+
+use crate::cyclic::Cyclic;
+use crate::fault::CardFault;
+use std::alloc::Global;
+use tacho_time::{Span, SpanFault, canonical_spans};
+
+/// What activity data gives, as a canonical list of spans, or its first fault: of its records in the order of
+/// the chain (C9 to C13), and then C14.
+pub fn spans_of(alloc: Global, block: &Cyclic) -> Result<Vec<Span>, CardFault>
+    ensures { MatchResult result (λ spans. IsReading (block.now ∷ []) (Ok spans.items)) (IsFaultOf (block.now ∷ [])) }
+{
+    let mut raw = Vec::new(alloc);
+    append_block(&mut raw, block)?;
+    canonical(alloc, &raw)
+}
+
+/// Appends the spans of all records of activity data, in no order.
+fn append_block(spans: &mut Vec<Span>, block: &Cyclic) -> Result<(), CardFault>
+    ensures { MatchResult result (λ _. with_spans spans.old.items (block_spans block.now) ≡ Ok spans.new.items) (λ fault. Fails fault (block_spans block.now)) }
+{
+    let newest = block.newest();
+    for item in block.records() {
+        match item {
+            Err(fault) => return Err(fault),
+            Ok(day) => day.append_spans(spans, day.place() == newest)?,
+        }
+    }
+    Ok(())
+}
+
+/// The canonical list of what spans give, or the least minute to which they give two marks.
+fn canonical(alloc: Global, spans: &[Span]) -> Result<Vec<Span>, CardFault>
+    ensures { MatchResult result (λ runs. IsCanonicalOf (Gives spans.now) runs.items) (λ fault. (fault ≡ CardFault.Memory) ⊎ ((m : ℕ) × (fault ≡ CardFault.SelfContradiction m) × IsFirstConflict (Gives spans.now) m)) }
+{
+    match canonical_spans(alloc, spans) {
+        Ok(runs) => Ok(runs),
+        Err(fault) => Err(card_fault(fault)),
+    }
+}
+
+/// The fault of a card whose spans have that fault.
+fn card_fault(fault: SpanFault) -> CardFault
+    ensures contradiction { (m : ℕ) → fault ≡ SpanFault.Contradiction m → result ≡ CardFault.SelfContradiction m }
+    ensures memory { fault ≡ SpanFault.Memory → result ≡ CardFault.Memory }
+{
+    match fault {
+        SpanFault::Contradiction(minute) => CardFault::SelfContradiction(minute),
+        SpanFault::Memory => CardFault::Memory,
+    }
+}
