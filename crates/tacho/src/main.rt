@@ -1,0 +1,44 @@
+//! The program `tacho`.
+#![tactic(auto)]
+
+use std::env;
+use std::io::{self, ErrorKind};
+use std::process::ExitCode;
+use std::rt::Env;
+use tacho_cli::{Job, Usage};
+use tacho_time::Device;
+
+/// The words of the command line, the program's name the first of them.
+fn words(rt: &(impl Env + AllocGlobal)) -> io::Result<Vec<String>> {
+    Ok(env::args(rt)?.collect(rt.alloc())?)
+}
+
+/// Tells that there was no memory. It takes none.
+fn no_memory(rt: &impl Print) -> ExitCode {
+    let _ = print!(rt; "M1 no memory\n");
+    ExitCode::from(3)
+}
+
+/// Tells how the program is used.
+fn usage(rt: &impl Eprint, text: &str) -> ExitCode {
+    let _ = eprint!(rt; "{text}");
+    ExitCode::from(2)
+}
+
+fn main(rt: HostRuntime) -> ExitCode {
+    let alloc = rt.alloc();
+    let words = match words(&rt) {
+        Ok(words) => words,
+        Err(error) if error.kind() == ErrorKind::OutOfMemory => return no_memory(&rt),
+        Err(_) => return usage(&rt, "the words of the command line are not all UTF-8\n"),
+    };
+    match tacho_cli::parse(alloc, &words) {
+        Ok(Job::Dump) => {
+            let mut reader = Device::new(rt.stdin());
+            let mut writer = Device::new(rt.stdout());
+            ExitCode::from(tacho_cli::dump(alloc, &mut reader, &mut writer))
+        }
+        Err(Usage::Words(text)) => usage(&rt, text.as_str()),
+        Err(Usage::Memory) => no_memory(&rt),
+    }
+}

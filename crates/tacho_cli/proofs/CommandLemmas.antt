@@ -1,0 +1,72 @@
+-- What `dump` leaves, by what its parts answered.
+use Rattle.std.proofs.Common.{◌≡◌, ℕ, ◌+◌, ◌<◌, ◌≤◌, ◌⊎◌, inl, inr, ◌↔◌, Bool, true, false, List, [], Option, Some, None, Ok, Err, length, refl, sym, ap, subst, arith}
+use Rattle.std.proofs.lemmas.List.{length-replicate}
+use Rattle.std.specs.Prelude.{IfSome, replicate}
+use Rattle.tacho_time.specs.declared.whole.ReadFault.{ReadFault}
+use Rattle.tacho_time.specs.declared.whole.ReadFault.TheVariants as read
+use Rattle.tacho_card.specs.declared.fault.CardFault.{CardFault}
+use Rattle.tacho_card.specs.declared.fault.CardFault.TheVariants as card
+use Rattle.tacho_cli.specs.declared.fault.Fault.TheVariants as fault
+use Rattle.tacho_cli.specs.Fault.{read_fault}
+use Rattle.tacho_cli.specs.Dump.{IsDump, IsDumped, ReadsValue}
+use Rattle.tacho_cli.specs.Command.{Reply, fault_reply, card_reply, Replies, Tells, TellsCardFault, Leaves}
+
+-- an input for a reader, whether or not it tells its bytes
+record Input (P : List ℕ → Type 0) (unread : Option (List ℕ)) : Type 0 where
+  input : List ℕ
+  told : IfSome unread (λ all. input ≡ all)
+  holds : P input
+
+some_input : (P : List ℕ → Type 0) (unread : Option (List ℕ)) (other : List ℕ) → IfSome unread P → P other → Input P unread
+some_input P None other h d = record { input = other; told = tt; holds = d }
+some_input P (Some all) other h d = record { input = all; told = refl; holds = h }
+
+any_input : (unread : Option (List ℕ)) → Input (λ _. Unit {0}) unread
+any_input None = record { input = []; told = tt; holds = tt }
+any_input (Some all) = record { input = all; told = refl; holds = tt }
+
+-- what a test that isn't true is
+not_true : (b : Bool) → (b ≡ true → ⊥) → b ≡ false
+not_true true h = absurd (h refl)
+not_true false h = refl
+
+-- what a command leaves after a reply that is wanted, where the reader has not failed
+pub replied : (Wanted : List ℕ → Reply → Type 0) (unread : Option (List ℕ)) (reader writer : Bool) (old new : Option (List ℕ)) (status : ℕ) (input : List ℕ) (reply : Reply)
+    → (reader ≡ true → ⊥) → IfSome unread (λ all. input ≡ all) → Wanted input reply ⊎ (reply ≡ fault_reply fault.Memory) → Tells writer old new reply status
+    → Leaves Wanted unread reader writer old new status
+replied Wanted unread reader writer old new status input reply sound told wanted tells =
+    record { input = input; reply = reply; read = told; replied = subst (λ (b : Bool). Replies (Wanted input) b reply) (sym (not_true reader sound)) wanted; told = tells }
+
+-- what a command leaves where its input was not read
+pub unread_leaves : (Wanted : List ℕ → Reply → Type 0) (limit : ℕ) (unread : Option (List ℕ)) (reader writer : Bool) (old new : Option (List ℕ)) (status : ℕ) (f : ReadFault)
+    → ((input : List ℕ) → limit < length input → Wanted input (fault_reply fault.TooLarge))
+    → (f ≡ read.TooLarge → IfSome unread (λ input. limit < length input))
+    → (f ≡ read.Failed) ↔ (reader ≡ true)
+    → Tells writer old new (fault_reply (read_fault f)) status
+    → Leaves Wanted unread reader writer old new status
+unread_leaves Wanted limit unread reader writer old new status read.TooLarge wanted large failed tells =
+    let i = some_input (λ input. limit < length input) unread (replicate (limit + 1) 0) (large refl) (simp length-replicate (omega arith)) in
+    replied Wanted unread reader writer old new status i.input (fault_reply fault.TooLarge) (λ e. let no = failed.1 e in cc) i.told (inl (wanted i.input i.holds)) tells
+unread_leaves Wanted limit unread reader writer old new status read.Failed wanted large failed tells =
+    let i = any_input unread in
+    record { input = i.input; reply = fault_reply fault.Device; read = i.told; replied = subst (λ (b : Bool). Replies (Wanted i.input) b (fault_reply fault.Device)) (sym (failed.0 refl)) refl; told = tells }
+unread_leaves Wanted limit unread reader writer old new status read.Memory wanted large failed tells =
+    let i = any_input unread in
+    replied Wanted unread reader writer old new status i.input (fault_reply fault.Memory) (λ e. let no = failed.1 e in cc) i.told (inr refl) tells
+
+-- what a command leaves after a card's fault
+pub refused : (Wanted : List ℕ → Reply → Type 0) (unread : Option (List ℕ)) (reader writer : Bool) (old new : Option (List ℕ)) (status : ℕ) (input : List ℕ) (f : CardFault)
+    → (reader ≡ true → ⊥) → IfSome unread (λ all. input ≡ all) → Wanted input (card_reply f) ⊎ (f ≡ card.Memory) → TellsCardFault f writer old new status
+    → Leaves Wanted unread reader writer old new status
+refused Wanted unread reader writer old new status input f sound told (inl wanted) (inl tells) = replied Wanted unread reader writer old new status input (card_reply f) sound told (inl wanted) tells
+refused Wanted unread reader writer old new status input f sound told (inr e) (inl tells) = replied Wanted unread reader writer old new status input (card_reply f) sound told (inr (ap card_reply e)) tells
+refused Wanted unread reader writer old new status input f sound told wanted (inr tells) = replied Wanted unread reader writer old new status input (fault_reply fault.Memory) sound told (inr refl) tells
+
+-- the reply to what a value's bytes give
+pub dumped : (input text : List ℕ) → length input ≤ 65535 → IsDumped input text → IsDump input (record { text = text; status = 0 })
+dumped input text within is = inr (within, (Ok is.0, is.1, ap (λ (t : List ℕ). record { text = t; status = 0 }) is.2))
+
+-- the reply to a fault of a value's bytes
+pub not_dumped : (input : List ℕ) (f : CardFault) → length input ≤ 65535 → ReadsValue input (Err f) ⊎ (f ≡ card.Memory) → IsDump input (card_reply f) ⊎ (f ≡ card.Memory)
+not_dumped input f within (inl reads) = inl (inr (within, (Err f, reads, refl)))
+not_dumped input f within (inr e) = inr e

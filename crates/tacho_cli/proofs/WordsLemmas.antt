@@ -1,0 +1,23 @@
+-- The command is one of which clap gives the matches, and the subcommand that a parse met.
+use Rattle.std.proofs.Common.{◌≡◌, List, Option, Some, None, true, refl}
+use Rattle.std.specs.Prelude.{Box, option_map}
+use Rattle.std.specs.Box.{box_value}
+use Rattle.clap.specs.Words.{Row, Text, is_simple, subcommand_rows, rows_of, found_of}
+use Rattle.clap.specs.declared.parser.matches.ArgMatches.TheViews.{out-SubCommand}
+use Rattle.clap.specs.declared.parser.matches.SubCommand.{SubCommand}
+use Rattle.clap.proofs.OnLiterals.{clap_on_literals}
+use Rattle.tacho_cli.specs.Words.{tacho_app}
+
+pub tacho_is_simple : is_simple tacho_app ≡ true
+unfolding clap_on_literals
+tacho_is_simple = refl
+
+pub told : {Z : Type 0} (o : Option (Box SubCommand Z)) (name : Text) (rows : List Row)
+    → Some name ≡ option_map (λ b. (out-SubCommand (box_value b)).name.now) o
+    → Some rows ≡ option_map (λ p. p.1) (subcommand_rows o)
+    → subcommand_rows o ≡ Some (name, rows)
+told None name rows x y = cc x
+told (Some b) name rows x y =
+    let n : name ≡ (out-SubCommand (box_value b)).name.now = cc in
+    let r : rows ≡ rows_of (found_of (out-SubCommand (box_value b)).matches) = cc in
+    rw (n, r) refl

@@ -1,0 +1,43 @@
+-- What a command that reads an input and writes a reply leaves.
+use Rattle.std.specs.Prelude.{◌≡◌, ℕ, ◌⊎◌, List, Option, Bool, true, false, take, IfSome}
+use Rattle.std.specs.Io.KnownBytes.{Appends}
+use Rattle.tacho_card.specs.declared.fault.CardFault.{CardFault}
+use Rattle.tacho_cli.specs.declared.fault.Fault.{Fault}
+use Rattle.tacho_cli.specs.declared.fault.Fault.TheVariants as fault
+use Rattle.tacho_cli.specs.Fault.{fault_line, fault_status, card_line, card_status}
+
+-- the text that is written, and the status that the program ends with
+pub record Reply : Type 0 where
+  pub text : List ℕ
+  pub status : ℕ
+
+abbrev pub fault_reply : Fault → Reply
+fault_reply f = record { text = fault_line f; status = fault_status f }
+
+abbrev pub card_reply : CardFault → Reply
+card_reply f = record { text = card_line f; status = card_status f }
+
+-- The reply, by whether the reader failed: that of a failed device; or else the one that is wanted, or want of
+-- memory in its place.
+abbrev pub Replies : (Reply → Type 0) → Bool → Reply → Type 0
+Replies Wanted true reply = reply ≡ fault_reply fault.Device
+Replies Wanted false reply = Wanted reply ⊎ (reply ≡ fault_reply fault.Memory)
+
+-- What is written of a reply, by whether the writer failed: a beginning of its text, and then the status is 3; or
+-- else all of it, and the status is its own.
+abbrev pub Tells : Bool → Option (List ℕ) → Option (List ℕ) → Reply → ℕ → Type 0
+Tells true old new reply status = ((n : ℕ) × Appends old new (take n reply.text)) × (status ≡ 3)
+Tells false old new reply status = Appends old new reply.text × (status ≡ reply.status)
+
+-- what is written of the line of a card's fault, or of that of want of memory in its place
+abbrev pub TellsCardFault : CardFault → Bool → Option (List ℕ) → Option (List ℕ) → ℕ → Type 0
+TellsCardFault f failed old new status =
+    Tells failed old new (card_reply f) status ⊎ Tells failed old new (fault_reply fault.Memory) status
+
+-- The input is all that the reader had, where it tells its bytes, and some input where it doesn't.
+pub record Leaves (Wanted : List ℕ → Reply → Type 0) (unread : Option (List ℕ)) (reader_failed writer_failed : Bool) (old new : Option (List ℕ)) (status : ℕ) : Type 0 where
+  pub input : List ℕ
+  pub reply : Reply
+  pub read : IfSome unread (λ all. input ≡ all)
+  pub replied : Replies (Wanted input) reader_failed reply
+  pub told : Tells writer_failed old new reply status

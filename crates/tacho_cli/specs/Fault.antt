@@ -1,0 +1,44 @@
+-- The lines of faults, and the program's status after them.
+use Rattle.std.specs.Prelude.{ℕ, List, ◌++◌, codes, decimal}
+use Rattle.tacho_time.specs.Text.{minute_text}
+use Rattle.tacho_card.specs.declared.fault.CardFault.{CardFault}
+use Rattle.tacho_card.specs.declared.fault.CardFault.TheVariants as card
+use Rattle.tacho_time.specs.declared.whole.ReadFault.{ReadFault}
+use Rattle.tacho_time.specs.declared.whole.ReadFault.TheVariants as read
+use Rattle.tacho_cli.specs.declared.fault.Fault.{Fault}
+use Rattle.tacho_cli.specs.declared.fault.Fault.TheVariants as fault
+
+abbrev pub no_memory_line : List ℕ
+no_memory_line = codes "M1 no memory\n"
+
+abbrev pub card_line : CardFault → List ℕ
+card_line card.ShortActivity = codes "C7 activity data too short\n"
+card_line card.Pointer = codes "C8 pointer out of the buffer\n"
+card_line (card.RecordLength place) = codes "C9 record length at " ++ (decimal place ++ codes "\n")
+card_line (card.Chain place) = codes "C10 chain broken at " ++ (decimal place ++ codes "\n")
+card_line (card.DayRange place) = codes "C11 day out of range at " ++ (decimal place ++ codes "\n")
+card_line (card.WordMinute place) = codes "C12 word minute at " ++ (decimal place ++ codes "\n")
+card_line (card.WordOrder place) = codes "C13 word order at " ++ (decimal place ++ codes "\n")
+card_line (card.SelfContradiction minute) = codes "C14 file contradicts itself at " ++ (minute_text minute ++ codes "\n")
+card_line card.Memory = no_memory_line
+
+abbrev pub fault_line : Fault → List ℕ
+fault_line fault.TooLarge = codes "X1 too large\n"
+fault_line fault.Device = codes "X2 device failed\n"
+fault_line fault.Memory = no_memory_line
+
+-- 1 after a refusal, 3 where memory or a device failed
+abbrev pub card_status : CardFault → ℕ
+card_status card.Memory = 3
+card_status f = 1
+
+abbrev pub fault_status : Fault → ℕ
+fault_status fault.TooLarge = 1
+fault_status fault.Device = 3
+fault_status fault.Memory = 3
+
+-- why an input was not read
+abbrev pub read_fault : ReadFault → Fault
+read_fault read.TooLarge = fault.TooLarge
+read_fault read.Failed = fault.Device
+read_fault read.Memory = fault.Memory

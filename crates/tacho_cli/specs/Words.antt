@@ -1,0 +1,21 @@
+-- The command line, and the job that its words name.
+use Rattle.std.specs.Prelude.{◌≡◌, List, Option, Some, codes, true}
+use Rattle.clap.specs.Words.{App, Row, Text, new_app, with_subcommand}
+use Rattle.tacho_cli.specs.declared.words.Job.{Job}
+use Rattle.tacho_cli.specs.declared.words.Job.TheVariants as job
+
+-- the command with one of its subcommands required
+abbrev pub needs_subcommand : App → App
+needs_subcommand app = record app { top = record app.top { subcommand_required = true } }
+
+-- `tacho` with its subcommands, of which one has to be named
+abbrev pub tacho_app : App
+tacho_app = with_subcommand (needs_subcommand (new_app (codes "tacho"))) (new_app (codes "dump")).top
+
+-- the job of a subcommand's name
+abbrev pub IsNamed : Text → Job → Type 0
+IsNamed name job.Dump = name ≡ codes "dump"
+
+-- the job of the subcommand that the words name
+abbrev pub IsJob : Option (Text × List Row) → Job → Type 0
+IsJob sub j = (name : Text) × (rows : List Row) × (sub ≡ Some (name, rows)) × IsNamed name j

@@ -1,0 +1,53 @@
+ghost use Rattle.std.specs.Prelude.{◌≡◌, ◌≤◌, ◌⊎◌, Err, length, false, flat_map, IfOk, MatchResult, string_bytes};
+ghost use Rattle.tacho_time.specs.Text.{span_line};
+ghost use Rattle.tacho_card.specs.declared.fault.CardFault.TheVariants.{Memory};
+ghost use Rattle.tacho_cli.specs.Command.{Leaves};
+ghost use Rattle.tacho_cli.specs.Dump.{IsDump, IsDumped, ReadsValue};
+
+use crate::fault::Fault;
+use crate::reply::{tell, tell_card_fault, tell_fault};
+use std::alloc::{AllocError, Global};
+use tacho_card::{CardFault, Cyclic, spans_of};
+use tacho_time::{Sink, Source, Span, read_all, write_span};
+
+/// How many bytes an EF Driver_Activity_Data has at the most.
+const ACTIVITY_LIMIT: usize = 65_535;
+
+/// `tacho dump`: reads one value of EF Driver_Activity_Data, of at most 65,535 bytes, and writes the spans that it
+/// gives, a line each, or the line of its first fault. Answers the program's status: 0 done, 1 refused, 3 where memory
+/// or a device failed.
+pub fn dump<R: Source, W: Sink>(alloc: Global, reader: &mut R, writer: &mut W) -> u8
+    requires reader { R.has_failed reader.old ≡ false }
+    requires writer { W.has_failed writer.old ≡ false }
+    ensures { Leaves IsDump (R.unread reader.old) (R.has_failed reader.new) (W.has_failed writer.new) (W.written writer.old) (W.written writer.new) result }
+{
+    let input = match read_all(alloc, reader, ACTIVITY_LIMIT) {
+        Ok(input) => input,
+        Err(fault) => return tell_fault(writer, Fault::from(fault)),
+    };
+    match dump_text(alloc, &input) {
+        Ok(text) => tell(writer, text.as_bytes(), 0),
+        Err(fault) => tell_card_fault(alloc, writer, fault),
+    }
+}
+
+/// The lines of what a value's bytes give.
+fn dump_text(alloc: Global, bytes: &[u8]) -> Result<String, CardFault>
+    requires { length bytes.now ≤ 65535 }
+    ensures { MatchResult result (λ text. IsDumped bytes.now (string_bytes text)) (λ fault. ReadsValue bytes.now (Err fault) ⊎ (fault ≡ Memory)) }
+{
+    let block = Cyclic::read(bytes)?;
+    let spans = spans_of(alloc, &block)?;
+    Ok(span_lines(alloc, &spans)?)
+}
+
+/// The lines of spans.
+fn span_lines(alloc: Global, spans: &[Span]) -> Result<String, AllocError>
+    ensures { IfOk result (λ text. string_bytes text ≡ flat_map span_line spans.now) }
+{
+    let mut text = String::new(alloc);
+    for span in spans {
+        write_span(&mut text, span)?;
+    }
+    Ok(text)
+}

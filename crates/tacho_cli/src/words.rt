@@ -1,0 +1,79 @@
+ghost use Rattle.std.specs.Prelude.{◌≡◌, IfOk, IfSome, map, codes, false, string_bytes};
+ghost use Rattle.clap.specs.Words.{app_of, new_app, subcommand_of};
+ghost use Rattle.clap.specs.declared.builder.command.Command.TheViews.{out-Command as fields_of};
+ghost use Rattle.tacho_cli.specs.Words.{tacho_app, IsNamed, IsJob};
+
+use clap::Command;
+use std::alloc::{AllocError, Global};
+
+/// What a command line asks for.
+#[derive(Clone, Copy, Debug, PartialEq, Eq)]
+pub enum Job {
+    /// The spans of a value of EF Driver_Activity_Data.
+    Dump,
+}
+
+/// Why a command line asks for nothing.
+#[derive(Debug, Drop)]
+pub enum Usage {
+    /// The words name no job: how they are used.
+    Words(String),
+    /// There was no memory.
+    Memory,
+}
+
+impl From<AllocError> for Usage {
+    fn from(_: AllocError) -> Usage {
+        Usage::Memory
+    }
+}
+
+/// The command `dump`.
+fn dump<'a>(alloc: Global) -> Command<'a>
+    ensures app { app_of result ≡ new_app (codes "dump") }
+    ensures local { (fields_of result).has_globals ≡ false }
+{
+    Command::new(alloc, "dump").about(
+        "Reads an EF Driver_Activity_Data (0504) and writes its spans, a line each",
+    )
+}
+
+/// The command line of the program.
+fn tacho<'a>(alloc: Global) -> Result<Command<'a>, AllocError>
+    ensures { IfOk result (λ command. app_of command ≡ tacho_app) }
+{
+    let dump = dump(alloc);
+    let command = Command::new(alloc, "tacho")
+        .about("Keeps the driving and rest times that driver cards tell")
+        .subcommand_required(true)
+        .subcommand(dump)?;
+    Ok(command)
+}
+
+/// The job of a subcommand's name.
+fn job_of(name: &str) -> Option<Job>
+    ensures { IfSome result (IsNamed name.now) }
+{
+    if name == "dump" {
+        return Some(Job::Dump);
+    }
+    None
+}
+
+/// The job that the words of a command line name, the program's name the first of them, or how they are used.
+pub fn parse<'a>(alloc: Global, words: &'a [String]) -> Result<Job, Usage>
+    ensures { IfOk result (IsJob (subcommand_of tacho_app (map string_bytes words.entry.now))) }
+{
+    let command = tacho(alloc)?;
+    let matches = match command.try_get_matches_from(words) {
+        Ok(matches) => matches,
+        Err(error) => return Err(Usage::Words(error.to_string(alloc)?)),
+    };
+    let Some((name, _)) = matches.subcommand() else {
+        return Err(Usage::Words(String::new(alloc)));
+    };
+    match job_of(name) {
+        Some(job) => Ok(job),
+        None => Err(Usage::Words(String::new(alloc))),
+    }
+}
