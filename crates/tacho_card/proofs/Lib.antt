@@ -1,7 +1,12 @@
+mod BlockLaw
+mod BlockLemmas
 mod ChainLaw
 mod ChainLemmas
+mod ChosenLemmas
+mod FileLemmas
 mod GivesLemmas
 mod RawLemmas
 mod ReadingLaw
+mod SingleLemmas
 mod WordLemmas
 mod WrapLemmas

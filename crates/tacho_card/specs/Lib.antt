@@ -2,5 +2,7 @@ pub mod ActivityChangeInfo
 pub mod DriverActivity
 pub mod DailyRecord
 pub mod Chain
+pub mod CardFile
 pub mod Reading
 pub mod RawSpans
+pub mod Singles

@@ -6,6 +6,24 @@ use thiserror::Error;
 /// its place in the cyclic buffer.
 #[derive(Clone, Copy, Debug, PartialEq, Eq, Error)]
 pub enum CardFault {
+    /// C1: the head or the value of the block at this offset goes past the file's end.
+    #[error("the block at {0} goes past the end of the file")]
+    Truncated(usize),
+    /// C2: a second block of EF Driver_Activity_Data or EF Identification, of kind 00 or 02: its identifier and kind.
+    #[error("a second block {0:04x} of kind {1:02x}")]
+    Twice(u16, u8),
+    /// C3: no EF Identification of kind 00 or 02.
+    #[error("no identification")]
+    NoIdentification,
+    /// C4: an EF Identification has fewer than 17 bytes.
+    #[error("an identification has fewer than 17 bytes")]
+    ShortIdentification,
+    /// C5: the identifications of the two generations name two holders.
+    #[error("two holders")]
+    TwoCards,
+    /// C6: the file has no EF Driver_Activity_Data of the part that was asked for.
+    #[error("no activity data")]
+    NoActivity,
     /// C7: activity data has fewer than 16 bytes.
     #[error("activity data has fewer than 16 bytes")]
     ShortActivity,

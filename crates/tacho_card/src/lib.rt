@@ -1,21 +1,27 @@
-//! Driver cards: words, the cyclic buffer of daily records, and what they give.
+//! Driver cards: the file's blocks, words, the cyclic buffer of daily records, and what they give.
 #![tactic(auto)]
 
+mod blocks;
 mod cyclic;
 mod fault;
+mod file;
 mod laws;
+mod reading;
 mod record;
 mod records;
-mod spans;
 mod word;
 
+pub use blocks::{Block, Blocks};
 pub use cyclic::Cyclic;
 pub use fault::CardFault;
-pub use laws::{chain_is_by_places, one_reading};
+pub use file::{CardFile, Part};
+pub use laws::{blocks_are_laid, chain_is_by_places, one_block_list, one_reading, truncated_at};
+pub use reading::{spans, spans_of};
 pub use record::Record;
 pub use records::Records;
-pub use spans::spans_of;
 pub use word::Word;
 
+#[cfg(test)]
+mod file_tests;
 #[cfg(test)]
 mod tests;

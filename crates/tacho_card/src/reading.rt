@@ -1,10 +1,12 @@
 ghost use Rattle.std.specs.Prelude.{◌≡◌, ◌⊎◌, ℕ, [], ◌∷◌, Ok, Err, MatchResult};
 ghost use Rattle.tacho_time.specs.Spans.{Gives, IsCanonicalOf, IsFirstConflict};
 ghost use Rattle.tacho_card.specs.Reading.{IsReading, IsFaultOf};
+ghost use Rattle.tacho_card.specs.CardFile.{those_there, ReadsFile};
 ghost use Rattle.tacho_card.specs.RawSpans.{with_spans, block_spans, Fails};
 
 use crate::cyclic::Cyclic;
 use crate::fault::CardFault;
+use crate::file::{CardFile, Part};
 use std::alloc::Global;
 use tacho_time::{Span, SpanFault, canonical_spans};
 
@@ -15,6 +17,28 @@ pub fn spans_of(alloc: Global, block: &Cyclic) -> Result<Vec<Span>, CardFault>
 {
     let mut raw = Vec::new(alloc);
     append_block(&mut raw, block)?;
+    canonical(alloc, &raw)
+}
+
+/// What a part of a card file gives, as a canonical list of spans, or the first fault in reading order: C6; C7 and C8
+/// of each generation's data; C9 to C13 of its records, all of the first generation's data first; and then C14.
+pub fn spans(alloc: Global, file: &CardFile, part: Part) -> Result<Vec<Span>, CardFault>
+    ensures { MatchResult result (λ spans. ReadsFile part file.now (Ok spans.items)) (λ fault. (fault ≡ CardFault.Memory) ⊎ ReadsFile part file.now (Err fault)) }
+{
+    let chosen = file.activity(part)?;
+    spans_of_chosen(alloc, &chosen)
+}
+
+/// What the data that are there give together, or their first fault.
+fn spans_of_chosen(alloc: Global, chosen: &[Option<Cyclic>]) -> Result<Vec<Span>, CardFault>
+    ensures { MatchResult result (λ spans. IsReading (those_there chosen.now) (Ok spans.items)) (IsFaultOf (those_there chosen.now)) }
+{
+    let mut raw = Vec::new(alloc);
+    for block in chosen {
+        if let Some(found) = block {
+            append_block(&mut raw, found)?;
+        }
+    }
     canonical(alloc, &raw)
 }
 

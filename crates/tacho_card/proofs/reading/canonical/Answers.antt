@@ -7,7 +7,7 @@ use Rattle.tacho_time.specs.Merge.{IsFirstFault}
 use Rattle.tacho_card.specs.declared.fault.CardFault.{CardFault}
 use Rattle.tacho_card.specs.declared.fault.CardFault.TheVariants.{SelfContradiction, Memory}
 use Rattle.tacho_card.proofs.GivesLemmas.{IsConflictOf}
-use Rattle.tacho_card.proofs.spans.canonical.Goals as goal
+use Rattle.tacho_card.proofs.reading.canonical.Goals as goal
 
 -- the fault of spans, as that of a card
 conflict_of : (spans : List Span) (fault : SpanFault) (found : CardFault) → ((m : ℕ) → fault ≡ Contradiction m → found ≡ SelfContradiction m) → (fault ≡ NoMemory → found ≡ Memory) → IsFirstFault (Gives spans) fault → IsConflictOf spans found

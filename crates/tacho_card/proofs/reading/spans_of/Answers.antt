@@ -3,7 +3,7 @@ use Rattle.tacho_time.specs.declared.span.Span.{Span}
 use Rattle.tacho_time.specs.Spans.{Gives, IsCanonicalOf}
 use Rattle.tacho_card.specs.RawSpans.{with_spans, block_spans}
 use Rattle.tacho_card.proofs.GivesLemmas.{IsConflictOf, raw_none, raw_more, raw_fault, raw_failure, raw_reading}
-use Rattle.tacho_card.proofs.spans.spans_of.Goals as goal
+use Rattle.tacho_card.proofs.reading.spans_of.Goals as goal
 
 pub returns-in_err-append_block : goal.returns-in_err-append_block
 returns-in_err-append_block c =

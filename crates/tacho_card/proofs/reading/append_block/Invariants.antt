@@ -1,6 +1,6 @@
 use Rattle.std.proofs.Common.{◌≡◌}
 use Rattle.tacho_card.specs.RawSpans.{with_spans, items_spans, block_spans}
-use Rattle.tacho_card.proofs.spans.append_block.Given as goal
+use Rattle.tacho_card.proofs.reading.append_block.Given as goal
 
 -- the spans so far, before those of what is left
 abbrev pub invariant-loop-item : goal.invariant-loop-item
