@@ -32,12 +32,11 @@ fn main(rt: HostRuntime) -> ExitCode {
         Err(error) if error.kind() == ErrorKind::OutOfMemory => return no_memory(&rt),
         Err(_) => return usage(&rt, "the words of the command line are not all UTF-8\n"),
     };
+    let mut reader = Device::new(rt.stdin());
+    let mut writer = Device::new(rt.stdout());
     match tacho_cli::parse(alloc, &words) {
-        Ok(Job::Dump) => {
-            let mut reader = Device::new(rt.stdin());
-            let mut writer = Device::new(rt.stdout());
-            ExitCode::from(tacho_cli::dump(alloc, &mut reader, &mut writer))
-        }
+        Ok(Job::Dump) => ExitCode::from(tacho_cli::dump(alloc, &mut reader, &mut writer)),
+        Ok(Job::Holder) => ExitCode::from(tacho_cli::holder(alloc, &mut reader, &mut writer)),
         Err(Usage::Words(text)) => usage(&rt, text.as_str()),
         Err(Usage::Memory) => no_memory(&rt),
     }

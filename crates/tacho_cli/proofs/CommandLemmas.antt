@@ -9,6 +9,7 @@ use Rattle.tacho_card.specs.declared.fault.CardFault.TheVariants as card
 use Rattle.tacho_cli.specs.declared.fault.Fault.TheVariants as fault
 use Rattle.tacho_cli.specs.Fault.{read_fault}
 use Rattle.tacho_cli.specs.Dump.{IsDump, IsDumped, ReadsValue}
+use Rattle.tacho_cli.specs.Holder.{IsHolder, card_holder, holder_reply}
 use Rattle.tacho_cli.specs.Command.{Reply, fault_reply, card_reply, Replies, Tells, TellsCardFault, Leaves}
 
 -- an input for a reader, whether or not it tells its bytes
@@ -70,3 +71,8 @@ dumped input text within is = inr (within, (Ok is.0, is.1, ap (λ (t : List ℕ)
 pub not_dumped : (input : List ℕ) (f : CardFault) → length input ≤ 65535 → ReadsValue input (Err f) ⊎ (f ≡ card.Memory) → IsDump input (card_reply f) ⊎ (f ≡ card.Memory)
 not_dumped input f within (inl reads) = inl (inr (within, (Err f, reads, refl)))
 not_dumped input f within (inr e) = inr e
+
+-- the reply to a card file that has no holder
+pub not_held : (input : List ℕ) (f : CardFault) → length input ≤ 262144 → (card_holder input ≡ Err f) ⊎ (f ≡ card.Memory) → IsHolder input (card_reply f) ⊎ (f ≡ card.Memory)
+not_held input f within (inl reads) = inl (inr (within, ap holder_reply (sym reads)))
+not_held input f within (inr e) = inr e

@@ -1,5 +1,5 @@
 -- The lines of faults, and the program's status after them.
-use Rattle.std.specs.Prelude.{ℕ, List, ◌++◌, codes, decimal}
+use Rattle.std.specs.Prelude.{ℕ, ◌+◌, ◌/◌, ◌%◌, nat_lt, List, [], ◌∷◌, ◌++◌, codes, decimal, if◌then◌else◌}
 use Rattle.tacho_time.specs.Text.{minute_text}
 use Rattle.tacho_card.specs.declared.fault.CardFault.{CardFault}
 use Rattle.tacho_card.specs.declared.fault.CardFault.TheVariants as card
@@ -11,7 +11,24 @@ use Rattle.tacho_cli.specs.declared.fault.Fault.TheVariants as fault
 abbrev pub no_memory_line : List ℕ
 no_memory_line = codes "M1 no memory\n"
 
+-- a number below sixteen as a lower-case hexadecimal digit
+abbrev pub hexadecimal_digit : ℕ → ℕ
+hexadecimal_digit n = if nat_lt n 10 then 48 + n else 87 + n
+
+-- a byte in two digits, and a number of two bytes in four
+abbrev pub byte_digits : ℕ → List ℕ
+byte_digits byte = hexadecimal_digit (byte / 16) ∷ hexadecimal_digit (byte % 16) ∷ []
+
+abbrev pub identifier_digits : ℕ → List ℕ
+identifier_digits n = byte_digits (n / 256) ++ byte_digits (n % 256)
+
 abbrev pub card_line : CardFault → List ℕ
+card_line (card.Truncated offset) = codes "C1 truncated block at " ++ (decimal offset ++ codes "\n")
+card_line (card.Twice identifier kind) = codes "C2 block " ++ identifier_digits identifier ++ codes " " ++ byte_digits kind ++ codes " twice\n"
+card_line card.NoIdentification = codes "C3 no identification\n"
+card_line card.ShortIdentification = codes "C4 identification too short\n"
+card_line card.TwoCards = codes "C5 two cards\n"
+card_line card.NoActivity = codes "C6 no activity data\n"
 card_line card.ShortActivity = codes "C7 activity data too short\n"
 card_line card.Pointer = codes "C8 pointer out of the buffer\n"
 card_line (card.RecordLength place) = codes "C9 record length at " ++ (decimal place ++ codes "\n")

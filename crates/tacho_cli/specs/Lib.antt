@@ -1,4 +1,5 @@
 pub mod Fault
 pub mod Command
 pub mod Dump
+pub mod Holder
 pub mod Words

@@ -10,11 +10,12 @@ needs_subcommand app = record app { top = record app.top { subcommand_required =
 
 -- `tacho` with its subcommands, of which one has to be named
 abbrev pub tacho_app : App
-tacho_app = with_subcommand (needs_subcommand (new_app (codes "tacho"))) (new_app (codes "dump")).top
+tacho_app = with_subcommand (with_subcommand (needs_subcommand (new_app (codes "tacho"))) (new_app (codes "dump")).top) (new_app (codes "holder")).top
 
 -- the job of a subcommand's name
 abbrev pub IsNamed : Text → Job → Type 0
 IsNamed name job.Dump = name ≡ codes "dump"
+IsNamed name job.Holder = name ≡ codes "holder"
 
 -- the job of the subcommand that the words name
 abbrev pub IsJob : Option (Text × List Row) → Job → Type 0

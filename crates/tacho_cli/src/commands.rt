@@ -3,11 +3,12 @@ ghost use Rattle.tacho_time.specs.Text.{span_line};
 ghost use Rattle.tacho_card.specs.declared.fault.CardFault.TheVariants.{Memory};
 ghost use Rattle.tacho_cli.specs.Command.{Leaves};
 ghost use Rattle.tacho_cli.specs.Dump.{IsDump, IsDumped, ReadsValue};
+ghost use Rattle.tacho_cli.specs.Holder.{IsHolder, IsHeld, card_holder, holder_line};
 
-use crate::fault::Fault;
+use crate::fault::{Fault, push_byte};
 use crate::reply::{tell, tell_card_fault, tell_fault};
 use std::alloc::{AllocError, Global};
-use tacho_card::{CardFault, Cyclic, spans_of};
+use tacho_card::{CardFault, CardFile, Cyclic, spans_of};
 use tacho_time::{Sink, Source, Span, read_all, write_span};
 
 /// How many bytes an EF Driver_Activity_Data has at the most.
@@ -50,4 +51,45 @@ fn span_lines(alloc: Global, spans: &[Span]) -> Result<String, AllocError>
         write_span(&mut text, span)?;
     }
     Ok(text)
+}
+
+/// How many bytes a card file has at the most.
+const FILE_LIMIT: usize = 262_144;
+
+/// `tacho holder`: reads one card download file, of at most 262,144 bytes, and writes its holder in 30 hexadecimal
+/// digits, or the line of the first of C1 to C5. Answers the program's status: 0 done, 1 refused, 3 where memory or a
+/// device failed.
+pub fn holder<R: Source, W: Sink>(alloc: Global, reader: &mut R, writer: &mut W) -> u8
+    requires reader { R.has_failed reader.old ≡ false }
+    requires writer { W.has_failed writer.old ≡ false }
+    ensures { Leaves IsHolder (R.unread reader.old) (R.has_failed reader.new) (W.has_failed writer.new) (W.written writer.old) (W.written writer.new) result }
+{
+    let input = match read_all(alloc, reader, FILE_LIMIT) {
+        Ok(input) => input,
+        Err(fault) => return tell_fault(writer, Fault::from(fault)),
+    };
+    match holder_text(alloc, &input) {
+        Ok(text) => tell(writer, text.as_bytes(), 0),
+        Err(fault) => tell_card_fault(alloc, writer, fault),
+    }
+}
+
+/// The line of a card file's holder.
+fn holder_text(alloc: Global, bytes: &[u8]) -> Result<String, CardFault>
+    ensures { MatchResult result (λ text. IsHeld bytes.now (string_bytes text)) (λ fault. (card_holder bytes.now ≡ Err fault) ⊎ (fault ≡ Memory)) }
+{
+    let file = CardFile::read(bytes)?;
+    Ok(line_of_holder(alloc, &file.holder())?)
+}
+
+/// The line of a holder.
+fn line_of_holder(alloc: Global, holder: &[u8]) -> Result<String, AllocError>
+    ensures { IfOk result (λ text. string_bytes text ≡ holder_line holder.now) }
+{
+    let mut line = String::new(alloc);
+    for byte in holder {
+        push_byte(&mut line, *byte)?;
+    }
+    line.push_str("\n")?;
+    Ok(line)
 }

@@ -6,7 +6,7 @@ mod fault;
 mod reply;
 mod words;
 
-pub use commands::dump;
+pub use commands::{dump, holder};
 pub use words::{Job, Usage, parse};
 
 #[cfg(test)]

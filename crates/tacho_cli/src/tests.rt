@@ -1,4 +1,4 @@
-use crate::{Job, Usage, dump, parse};
+use crate::{Job, Usage, dump, holder, parse};
 use std::alloc::Global;
 use std::process::Abort;
 use std::test::Fail;
@@ -139,6 +139,83 @@ fn inputs_have_a_limit(rt: HostRuntime) -> Result<(), Fail> {
     let (text, status) = dumped(rt.alloc(), &input);
     assert_eq!(rt; text.as_slice(), b"X1 too large\n".as_slice());
     assert_eq!(rt; status, 1);
+
+    let mut file = bytes_of(&rt, rt.alloc(), IDENTIFICATION);
+    file.resize(262_144, 0)?;
+    let (text, status) = held(rt.alloc(), &file);
+    assert_eq!(rt;
+        text.as_slice(),
+        b"C1 truncated block at 262142\n".as_slice()
+    );
+    assert_eq!(rt; status, 1);
+    file.push(0)?;
+    let (text, status) = held(rt.alloc(), &file);
+    assert_eq!(rt; text.as_slice(), b"X1 too large\n".as_slice());
+    assert_eq!(rt; status, 1);
+    Ok(())
+}
+
+/// The identification of a card, in its block: `D1234567890123`, and two indices.
+const IDENTIFICATION: &str = "05200000110d44313233343536373839303132333030";
+
+const HOLDER_LINE: &str = "0d4431323334353637383930313233\n";
+
+/// What `holder` writes of an input over memory, and its status.
+fn held(alloc: Global, input: &[u8]) -> (Vec<u8>, u8) {
+    let mut reader = Device::new(input);
+    let mut writer = Device::new(Vec::new(alloc));
+    let status = holder(alloc, &mut reader, &mut writer);
+    (writer.into_inner(), status)
+}
+
+#[test]
+fn holders_are_told(rt: HostRuntime) -> Result<(), Fail> {
+    let rows = [
+        // The identification, and two days of activity; the identification alone; and twice.
+        (
+            "0504000028 00000014 0000001465e50f0000010064000011e019fe23fc 0014001065e6608000020000000011e0",
+            HOLDER_LINE,
+            0,
+        ),
+        ("", HOLDER_LINE, 0),
+        (IDENTIFICATION, "C2 block 0520 00 twice\n", 1),
+        // The same holder in the second generation, and another one.
+        (
+            "0520020011 0d44313233343536373839303132333131",
+            HOLDER_LINE,
+            0,
+        ),
+        (
+            "0520020011 0d44313233343536373839303132343030",
+            "C5 two cards\n",
+            1,
+        ),
+        (
+            "0520020010 0d443132333435363738393031323330",
+            "C4 identification too short\n",
+            1,
+        ),
+        // A signature is no data, and may come twice; a block whose value passes the end.
+        ("0520010001ff 0520010001ff", HOLDER_LINE, 0),
+        ("05040100", "C1 truncated block at 22\n", 1),
+        // A truncated block is told before a block that comes twice, and that before a short one.
+        (
+            "05200000110d44313233343536373839303132333030 05",
+            "C1 truncated block at 44\n",
+            1,
+        ),
+        ("0520000001ff", "C2 block 0520 00 twice\n", 1),
+    ];
+    for (digits, lines, status) in rows {
+        let mut input = bytes_of(&rt, rt.alloc(), IDENTIFICATION);
+        input.extend_from_slice(&bytes_of(&rt, rt.alloc(), digits))?;
+        let (text, answered) = held(rt.alloc(), &input);
+        assert_eq!(rt; text.as_slice(), lines.as_bytes(), "of {digits}");
+        assert_eq!(rt; answered, status, "of {digits}");
+    }
+    let (text, status) = held(rt.alloc(), b"");
+    assert_eq!(rt; text.as_slice(), b"C3 no identification\n".as_slice());
+    assert_eq!(rt; status, 1);
     Ok(())
 }
 
@@ -238,6 +315,24 @@ fn readers_fail_at_each_call(rt: HostRuntime) -> Result<(), Fail> {
         );
         assert_eq!(rt; status, wanted, "of {calls} calls");
     }
+    let input = bytes_of(&rt, rt.alloc(), IDENTIFICATION);
+    // Twenty-two bytes in pieces of seven take four calls, and one more for the end.
+    for calls in 0..7 {
+        let mut reader = Faulty::new(rt.alloc(), &input, 7, calls);
+        let mut writer = Device::new(Vec::new(rt.alloc()));
+        let status = holder(rt.alloc(), &mut reader, &mut writer);
+        let (lines, wanted) = if calls < 5 {
+            ("X2 device failed\n", 3)
+        } else {
+            (HOLDER_LINE, 0)
+        };
+        assert_eq!(rt;
+            writer.into_inner().as_slice(),
+            lines.as_bytes(),
+            "of {calls} calls"
+        );
+        assert_eq!(rt; status, wanted, "of {calls} calls");
+    }
     Ok(())
 }
 
@@ -270,5 +365,8 @@ fn words_are_parsed(rt: HostRuntime) -> Result<(), Fail> {
     assert!(rt; matches!(parse(rt.alloc(), &words), Ok(Job::Dump)));
     words.push(String::from_str(rt.alloc(), "more")?)?;
     assert!(rt; matches!(parse(rt.alloc(), &words), Err(Usage::Words(_))));
+    words.truncate(1);
+    words.push(String::from_str(rt.alloc(), "holder")?)?;
+    assert!(rt; matches!(parse(rt.alloc(), &words), Ok(Job::Holder)));
     Ok(())
 }

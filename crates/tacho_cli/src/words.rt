@@ -11,6 +11,8 @@ use std::alloc::{AllocError, Global};
 pub enum Job {
     /// The spans of a value of EF Driver_Activity_Data.
     Dump,
+    /// The holder of a card file.
+    Holder,
 }
 
 /// Why a command line asks for nothing.
@@ -28,25 +30,33 @@ impl From<AllocError> for Usage {
     }
 }
 
-/// The command `dump`.
-fn dump<'a>(alloc: Global) -> Command<'a>
-    ensures app { app_of result ≡ new_app (codes "dump") }
+/// A command without words of its own.
+fn leaf<'a>(alloc: Global, name: &'a str, about: &'a str) -> Command<'a>
+    ensures app { app_of result ≡ new_app name.entry.now }
     ensures local { (fields_of result).has_globals ≡ false }
 {
-    Command::new(alloc, "dump").about(
-        "Reads an EF Driver_Activity_Data (0504) and writes its spans, a line each",
-    )
+    Command::new(alloc, name).about(about)
 }
 
 /// The command line of the program.
 fn tacho<'a>(alloc: Global) -> Result<Command<'a>, AllocError>
     ensures { IfOk result (λ command. app_of command ≡ tacho_app) }
 {
-    let dump = dump(alloc);
+    let dump = leaf(
+        alloc,
+        "dump",
+        "Reads an EF Driver_Activity_Data (0504) and writes its spans, a line each",
+    );
+    let holder = leaf(
+        alloc,
+        "holder",
+        "Reads a card download file and writes its holder in hexadecimal digits",
+    );
     let command = Command::new(alloc, "tacho")
         .about("Keeps the driving and rest times that driver cards tell")
         .subcommand_required(true)
-        .subcommand(dump)?;
+        .subcommand(dump)?
+        .subcommand(holder)?;
     Ok(command)
 }
 
@@ -56,6 +66,9 @@ fn job_of(name: &str) -> Option<Job>
 {
     if name == "dump" {
         return Some(Job::Dump);
+    }
+    if name == "holder" {
+        return Some(Job::Holder);
     }
     None
 }
