@@ -47,13 +47,19 @@ def record_of(buffer, place, lengths_before):
     return length, day, words
 
 
-def pairs_of_value(value):
-    """The pairs of a minute and a mark that activity data gives, as a set."""
+def pointers_of(value):
+    """The two pointers of activity data, and its buffer."""
     if len(value) < 16:
         raise Fault("C7 activity data too short")
     oldest, newest, buffer = value[0] * 256 + value[1], value[2] * 256 + value[3], value[4:]
     if oldest >= len(buffer) or newest >= len(buffer):
         raise Fault("C8 pointer out of the buffer")
+    return oldest, newest, buffer
+
+
+def pairs_of_value(value):
+    """The pairs of a minute and a mark that activity data gives, as a set."""
+    oldest, newest, buffer = pointers_of(value)
     pairs = set()
     if oldest == newest and number(buffer, oldest + 2) == 0:
         return pairs
@@ -71,6 +77,58 @@ def pairs_of_value(value):
         place, taken = (place + length) % len(buffer), taken + length
 
 
+def blocks_of(file):
+    """The blocks of a file: identifier, kind and value."""
+    blocks, offset = [], 0
+    while offset < len(file):
+        value = offset + 5
+        length = file[offset + 3] * 256 + file[offset + 4] if value <= len(file) else 0
+        if value + length > len(file):
+            raise Fault(f"C1 truncated block at {offset}")
+        blocks.append((file[offset] * 256 + file[offset + 1], file[offset + 2], file[value : value + length]))
+        offset = value + length
+    return blocks
+
+
+def data_of(blocks, identifier):
+    """The values of the two generations' data of an elementary file."""
+    found = {kind: value for name, kind, value in reversed(blocks) if name == identifier}
+    return [found.get(kind) for kind in (0, 2)]
+
+
+def card_file(file):
+    """The blocks of a file and its holder, or the first of C1 to C5."""
+    blocks = blocks_of(file)
+    seen = set()
+    for identifier, kind, _ in blocks:
+        if identifier in (0x0504, 0x0520) and kind in (0, 2):
+            if (identifier, kind) in seen:
+                raise Fault(f"C2 block {identifier:04x} {kind:02x} twice")
+            seen.add((identifier, kind))
+    identifications = [value for value in data_of(blocks, 0x0520) if value is not None]
+    if not identifications:
+        raise Fault("C3 no identification")
+    if any(len(value) < 17 for value in identifications):
+        raise Fault("C4 identification too short")
+    holders = {value[:15] for value in identifications}
+    if len(holders) == 2:
+        raise Fault("C5 two cards")
+    return blocks, holders.pop()
+
+
+def pairs_of_file(file, part):
+    """The pairs of all records of the data that a part chooses."""
+    blocks, _ = card_file(file)
+    first, second = data_of(blocks, 0x0504)
+    chosen = {"first": [first], "second": [second], "both": [first, second]}[part]
+    chosen = [value for value in chosen if value is not None]
+    if not chosen:
+        raise Fault("C6 no activity data")
+    for value in chosen:
+        pointers_of(value)
+    return [pair for value in chosen for pair in pairs_of_value(value)]
+
+
 def minute_text(minute):
     moment = datetime.datetime(1970, 1, 1) + datetime.timedelta(minutes=minute)
     return moment.strftime("%Y-%m-%d %H:%M")
@@ -79,12 +137,11 @@ def minute_text(minute):
 def lines_of_pairs(pairs):
     """The lines of the maximal runs of minutes of one mark, or the least minute with two marks."""
     lines, run = [], None
-    previous = None
-    for minute, mark in sorted(pairs):
-        if previous == minute:
+    pairs = sorted(set(pairs))
+    for (minute, _), (following, _) in zip(pairs, pairs[1:]):
+        if minute == following:
             raise Fault(f"C14 file contradicts itself at {minute_text(minute)}")
-        previous = minute
-    for minute, mark in sorted(pairs):
+    for minute, mark in pairs:
         if run and run[1] == minute and run[2] == mark:
             run[1] = minute + 1
         else:
@@ -106,9 +163,27 @@ def dump(value):
         return f"{fault}\n", 1
 
 
+def holder(file):
+    """What `tacho holder` prints, and its status."""
+    if len(file) > 262_144:
+        return "X1 too large\n", 1
+    try:
+        return card_file(file)[1].hex() + "\n", 0
+    except Fault as fault:
+        return f"{fault}\n", 1
+
+
+def spans(file, part):
+    """What a part of a card file gives, or the line of its first fault."""
+    try:
+        return lines_of_pairs(pairs_of_file(file, part))
+    except Fault as fault:
+        return f"{fault}\n"
+
+
 if __name__ == "__main__":
     import sys
 
-    text, status = dump(sys.stdin.buffer.read())
+    text, status = {"dump": dump, "holder": holder}[sys.argv[1]](sys.stdin.buffer.read())
     sys.stdout.write(text)
     sys.exit(status)
