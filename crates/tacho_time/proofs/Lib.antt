@@ -1,2 +1,6 @@
 pub mod CanonicalLemmas
 mod CivilLemmas
+mod ReadLemmas
+mod MonthLemmas
+mod DigitLemmas
+mod ReadBackLemmas

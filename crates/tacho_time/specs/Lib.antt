@@ -1,5 +1,6 @@
 pub mod Calendar
 pub mod Text
 pub mod Device
+pub mod Reading
 pub mod Spans
 pub mod Merge

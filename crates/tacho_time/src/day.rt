@@ -1,5 +1,8 @@
 ghost use Rattle.std.specs.Prelude.{◌≡◌, ℕ, ◌≤◌};
+ghost use Rattle.tacho_time.specs.Reading.{day_at};
 
+use crate::fault::TimeFault;
+use crate::read;
 use std::marker::Model;
 
 /// A day in UTC, by its number from 1970-01-01 (day 0) to 2100-02-08 (day 47,520).
@@ -33,5 +36,15 @@ impl Day {
         ensures bound { result ≤ 47520 }
     {
         self.number
+    }
+
+    /// Reads ten bytes `YYYY-MM-DD`, from 2000-01-03 to 2099-12-31.
+    pub fn read(text: &[u8]) -> Result<Day, TimeFault>
+        ensures { result ≡ day_at text.now }
+    {
+        let Some(date) = read::date_parts(text) else {
+            return Err(TimeFault::Shape);
+        };
+        read::day_of_date(date)
     }
 }

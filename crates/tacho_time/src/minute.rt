@@ -1,6 +1,9 @@
 ghost use Rattle.std.specs.Prelude.{◌≡◌, ℕ, ◌≤◌, ◌/◌, ◌%◌};
+ghost use Rattle.tacho_time.specs.Reading.{minute_at};
 
 use crate::day::Day;
+use crate::fault::TimeFault;
+use crate::read;
 use std::marker::Model;
 
 /// A whole number of minutes since 1970-01-01 00:00 UTC, to 2100-02-08 00:00 (68,428,800).
@@ -48,5 +51,24 @@ impl Minute {
         ensures { result ≡ self % 1440 }
     {
         self.number % 1440
+    }
+
+    /// Reads sixteen bytes `YYYY-MM-DD HH:MM`, from 2000-01-03 00:00 to 2099-12-31 23:59 UTC.
+    pub fn read(text: &[u8]) -> Result<Minute, TimeFault>
+        ensures { result ≡ minute_at text.now }
+    {
+        if text.len() != 16 || text[10] != b' ' || text[13] != b':' {
+            return Err(TimeFault::Shape);
+        }
+        let Some(date) = read::date_parts(&text[..10]) else {
+            return Err(TimeFault::Shape);
+        };
+        let Some(hour) = read::digits(&text[11..13]) else {
+            return Err(TimeFault::Shape);
+        };
+        let Some(minute) = read::digits(&text[14..]) else {
+            return Err(TimeFault::Shape);
+        };
+        read::minute_of_parts(date, hour, minute)
     }
 }
