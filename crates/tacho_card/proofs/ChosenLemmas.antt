@@ -1,5 +1,5 @@
 -- The data that are there, one place after the other.
-use Rattle.std.proofs.Common.{◌≡◌, ℕ, zero, suc, ◌<◌, List, [], ◌∷◌, ◌++◌, length, take, drop, get_or, Option, Some, None, refl, sym, ap, ◌∙◌, arith}
+use Rattle.std.proofs.Common.{◌≡◌, ℕ, zero, suc, ◌<◌, List, [], ◌∷◌, ◌++◌, length, take, drop, get_or, Option, Some, None, refl, ap, arith}
 use Rattle.tacho_card.specs.DriverActivity.{DriverActivity}
 use Rattle.tacho_card.specs.CardFile.{those_there}
 

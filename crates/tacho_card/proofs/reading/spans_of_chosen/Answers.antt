@@ -1,4 +1,4 @@
-use Rattle.std.proofs.Common.{◌≡◌, ◌<◌, ◌≤◌, ◌+◌, ◌++◌, ◌∷◌, suc, length, take, drop, get_or, List, Option, Some, None, sym, ap, ◌∙◌, subst, MatchResult, add-one, arith}
+use Rattle.std.proofs.Common.{◌≡◌, ◌<◌, suc, length, take, drop, get_or, List, Option, Some, None, sym, ap, ◌∙◌, subst, MatchResult, add-one, arith}
 use Rattle.std.proofs.Math.Seq.{take-length}
 use Rattle.tacho_time.specs.declared.span.Span.{Span}
 use Rattle.tacho_time.specs.Spans.{Gives, IsCanonicalOf}
