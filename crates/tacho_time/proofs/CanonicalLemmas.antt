@@ -51,7 +51,7 @@ bool_self : (a : Bool) → same_bool a a ≡ true
 bool_self true = refl
 bool_self false = refl
 
-both_true : (a b : Bool) → a && b ≡ true → (a ≡ true) × (b ≡ true)
+pub both_true : (a b : Bool) → a && b ≡ true → (a ≡ true) × (b ≡ true)
 both_true true b h = (refl, h)
 both_true false b h = cc
 
@@ -85,17 +85,17 @@ later n [] m k h g = absurd g
 later n (s ∷ ss) m k h (inl c) = omega (arith, h.0, c.0.0)
 later n (s ∷ ss) m k h (inr g) = let l = later s.start ss m k h.2 g in omega (arith, h.0, l)
 
-starts_lower : (n k : ℕ) (xs : List Span) → n ≤ k → StartsFrom k xs → StartsFrom n xs
+pub starts_lower : (n k : ℕ) (xs : List Span) → n ≤ k → StartsFrom k xs → StartsFrom n xs
 starts_lower n k [] l h = tt
 starts_lower n k (s ∷ ss) l h = (omega (arith, h.0, l), h.1, h.2)
 
-same_trans : (xs ys zs : List Span) → GiveSame xs ys → GiveSame ys zs → GiveSame xs zs
+pub same_trans : (xs ys zs : List Span) → GiveSame xs ys → GiveSame ys zs → GiveSame xs zs
 same_trans xs ys zs f g m k = (λ x. (g m k).0 ((f m k).0 x), λ z. (f m k).1 ((g m k).1 z))
 
 same_sym : (xs ys : List Span) → GiveSame xs ys → GiveSame ys xs
 same_sym xs ys f m k = ((f m k).1, (f m k).0)
 
-same_behind : (s : Span) (xs ys : List Span) → GiveSame xs ys → GiveSame (s ∷ xs) (s ∷ ys)
+pub same_behind : (s : Span) (xs ys : List Span) → GiveSame xs ys → GiveSame (s ∷ xs) (s ∷ ys)
 same_behind s xs ys f m k = (go (f m k).0, go (f m k).1) where
   go : {P Q R : Type 0} → (P → Q) → R ⊎ P → R ⊎ Q
   go h (inl r) = inl r
@@ -254,7 +254,7 @@ merge_fault spans r h m e = subst (IsMerged spans) e h
 -- ---- one canonical list
 
 -- the mark of the first minute
-first_given : (s : Span) (ss : List Span) → s.start < s.past → Gives (s ∷ ss) s.start s.mark
+pub first_given : (s : Span) (ss : List Span) → s.start < s.past → Gives (s ∷ ss) s.start s.mark
 first_given s ss h = inl ((le_self s.start, h), refl)
 
 pub canonical_starts : (s : Span) (ss : List Span) → IsCanonical (s ∷ ss) → StartsFrom s.past ss
@@ -340,7 +340,7 @@ behind_start s ss k h (inl c) = c.1
 behind_start s ss k h (inr g) = let l = later s.past ss s.start k (canonical_starts s ss h) g in absurd (omega (arith, l, h.0))
 
 -- the minute at a run's end does not have its mark
-ends_there : (s : Span) (ss : List Span) → IsCanonical (s ∷ ss) → Gives (s ∷ ss) s.past s.mark → ⊥
+pub ends_there : (s : Span) (ss : List Span) → IsCanonical (s ∷ ss) → Gives (s ∷ ss) s.past s.mark → ⊥
 ends_there s ss h (inl c) = absurd (omega (arith, c.0.1))
 ends_there s [] h (inr g) = g
 ends_there s (t ∷ ts) h (inr g) =

@@ -62,7 +62,7 @@ fn add(runs: &mut Vec<Span>, run: Span) -> Result<(), AllocError>
 fn is_same(a: Mark, b: Mark) -> bool
     ensures { result ≡ same_mark a b }
 {
-    a.activity as u8 == b.activity as u8 && a.crew == b.crew
+    a == b
 }
 
 /// Whether a span begins a run of its own.
