@@ -1,0 +1,7 @@
+mod SearchLemmas
+mod LineLemmas
+mod HorizonLemmas
+mod RangeLemmas
+mod MergeLemmas
+mod AddLemmas
+mod GainLemmas

@@ -1,0 +1,42 @@
+-- What spans give that a line lacks.
+use Rattle.std.specs.Prelude.{◌≡◌, ℕ, ◌⊎◌, nat_lt, List, [], ◌∷◌, ◌++◌, Option, Some, None, if◌then◌else◌}
+use Rattle.tacho_time.specs.declared.span.Span.{Span}
+use Rattle.tacho_time.specs.declared.span.Mark.{Mark}
+use Rattle.tacho_time.specs.Spans.{IsFirstConflict}
+use Rattle.tacho_time.specs.Merge.{same_mark}
+use Rattle.tacho_line.specs.declared.line.LineFault.{LineFault}
+use Rattle.tacho_line.specs.declared.line.LineFault.TheVariants.{Contradiction, Memory}
+use Rattle.tacho_line.specs.Search.{overlap}
+use Rattle.tacho_line.specs.Walk.{later_of}
+
+-- the first minute of a run at which spans that overlap it have another mark
+abbrev pub conflict_in : Span → List Span → Option ℕ
+conflict_in r [] = None
+conflict_in r (s ∷ ss) = if same_mark s.mark r.mark then conflict_in r ss else Some (later_of s.start r.start)
+
+abbrev pub first_of : Option ℕ → Option ℕ → Option ℕ
+first_of (Some m) rest = Some m
+first_of None rest = rest
+
+-- the first minute at which a line and runs have two marks
+abbrev pub conflict_of : List Span → List Span → Option ℕ
+conflict_of line [] = None
+conflict_of line (r ∷ runs) = first_of (conflict_in r (overlap line r.start r.past)) (conflict_of line runs)
+
+-- the span between two minutes, if it is not empty
+abbrev pub span_between : Mark → ℕ → ℕ → List Span
+span_between mark start past = if nat_lt start past then record { start = start; past = past; mark = mark } ∷ [] else []
+
+-- what held spans lack from a minute to another one, with a mark
+abbrev pub new_from : Mark → ℕ → ℕ → List Span → List Span
+new_from mark m past [] = span_between mark m past
+new_from mark m past (s ∷ ss) = span_between mark m s.start ++ new_from mark s.past past ss
+
+-- what held spans lack of runs
+abbrev pub lacking_of : List Span → List Span → List Span
+lacking_of held [] = []
+lacking_of held (r ∷ runs) = new_from r.mark r.start r.past (overlap held r.start r.past) ++ lacking_of held runs
+
+-- a fault is the first minute with two marks, or want of memory
+abbrev pub IsConflictOf : (ℕ → Mark → Type 0) → LineFault → Type 0
+IsConflictOf P fault = (fault ≡ Memory) ⊎ ((m : ℕ) × (fault ≡ Contradiction m) × IsFirstConflict P m)

@@ -1,0 +1,61 @@
+-- Two lists of spans made into one.
+use Rattle.std.specs.Prelude.{ℕ, ◌&&◌, ◌==◌, ◌<◌, ◌≤◌, ◌⊎◌, nat_lt, nat_le, Bool, List, [], ◌∷◌, ◌++◌, if◌then◌else◌}
+use Rattle.tacho_time.specs.declared.span.Span.{Span}
+use Rattle.tacho_time.specs.declared.span.Mark.{Mark}
+use Rattle.tacho_time.specs.Spans.{Gives}
+use Rattle.tacho_time.specs.Merge.{same_mark}
+use Rattle.tacho_line.specs.Search.{front_of, rest_of, before}
+
+-- no minute is given by both lists
+abbrev pub ShareNone : List Span → List Span → Type 0
+ShareNone xs ys = (m : ℕ) (j k : Mark) → Gives xs m j → Gives ys m k → ⊥
+
+-- what either list gives
+abbrev pub EitherGives : List Span → List Span → ℕ → Mark → Type 0
+EitherGives xs ys m k = Gives xs m k ⊎ Gives ys m k
+
+-- in order, disjoint and none empty; two that touch may have one mark
+abbrev pub StartsBehind : Span → List Span → Type 0
+StartsBehind s [] = Unit {0}
+StartsBehind s (t ∷ ts) = s.past ≤ t.start
+
+abbrev pub AreInOrder : List Span → Type 0
+AreInOrder [] = Unit {0}
+AreInOrder (s ∷ ss) = (s.start < s.past) × StartsBehind s ss × AreInOrder ss
+
+-- the spans that start from a minute on
+abbrev pub starting_from : ℕ → List Span → List Span
+starting_from m spans = rest_of (λ s. nat_lt s.start m) spans
+
+-- the spans of both lists in the order of their starts
+abbrev pub in_order : List Span → List Span → List Span
+in_order held [] = held
+in_order held (s ∷ ss) = before s.start held ++ s ∷ in_order (starting_from s.start held) ss
+
+-- a span goes on where another ends, with its mark
+abbrev pub touches : Span → Span → Bool
+touches last s = (last.past == s.start) && same_mark s.mark last.mark
+
+-- spans, of which those that touch with one mark are made one
+abbrev pub joined_from : Span → List Span → List Span
+joined_from last [] = last ∷ []
+joined_from last (s ∷ ss) = if touches last s then joined_from (record last { past = s.past }) ss else last ∷ joined_from s ss
+
+abbrev pub joined : List Span → List Span
+joined [] = []
+joined (s ∷ ss) = joined_from s ss
+
+-- ---- around what is added
+
+-- the spans that end before a minute, those behind them that start by another, and the rest
+abbrev pub ending_before : ℕ → List Span → List Span
+ending_before start spans = front_of (λ s. nat_lt s.past start) spans
+
+abbrev pub ending_from : ℕ → List Span → List Span
+ending_from start spans = rest_of (λ s. nat_lt s.past start) spans
+
+abbrev pub starting_by : ℕ → List Span → List Span
+starting_by past spans = front_of (λ s. nat_le s.start past) spans
+
+abbrev pub starting_behind : ℕ → List Span → List Span
+starting_behind past spans = rest_of (λ s. nat_le s.start past) spans

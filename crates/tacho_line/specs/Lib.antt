@@ -1,0 +1,5 @@
+pub mod Line
+pub mod Search
+pub mod Walk
+pub mod Join
+pub mod Gains

@@ -1,0 +1,19 @@
+//! Timelines: which minutes of a driver are held, and with which mark.
+#![tactic(auto)]
+
+mod gains;
+mod gap;
+mod horizon;
+mod laws;
+mod line;
+mod merge;
+mod search;
+mod slice;
+
+pub use gap::Gap;
+pub use horizon::{Cause, Horizon};
+pub use laws::line_is_a_map;
+pub use line::{Line, LineFault};
+
+#[cfg(test)]
+mod tests;

@@ -1,0 +1,113 @@
+ghost use Rattle.std.specs.Prelude.{◌≡◌, ◌++◌, ◌∷◌, [], ◌≤◌, length, slice_range, take, drop, IfOk, OnOk, OnErr};
+ghost use Rattle.tacho_time.specs.Spans.{IsCanonical, IsCanonicalOf, SamePairs};
+ghost use Rattle.tacho_time.specs.Merge.{same_mark};
+ghost use Rattle.tacho_line.specs.Line.{Holds, Together, AreNotHeld};
+ghost use Rattle.tacho_line.specs.Search.{before};
+ghost use Rattle.tacho_line.specs.Join.{ShareNone, EitherGives, ending_before, ending_from, starting_by, starting_behind, in_order as in_order_of, starting_from, touches as touches_with, joined as joined_of};
+
+use std::alloc::{AllocError, Global};
+use tacho_time::{Mark, Minute, Span};
+
+/// Adds canonical spans to a canonical list that holds none of their minutes.
+pub(crate) fn add_to(line: &mut Vec<Span>, spans: &[Span]) -> Result<(), AllocError>
+    requires line { IsCanonical line.old.items }
+    requires canonical { IsCanonical spans.now }
+    requires new { AreNotHeld line.old.items spans.now }
+    ensures held { OnOk result (SamePairs (Holds line.new.items) (Together line.old.items spans.now)) }
+    ensures canonical { IsCanonical line.new.items }
+    ensures err { OnErr result (line.new.items ≡ line.old.items) }
+{
+    let (Some(first), Some(last)) = (spans.first(), spans.last()) else {
+        return Ok(());
+    };
+    let (start, past) = places_around(line, first.start, last.past);
+    let merged = merge(*line.allocator(), &line[start..past], spans)?;
+    line.splice(start..past, merged)?;
+    Ok(())
+}
+
+/// Between which places of a list the spans stand that overlap or touch a range.
+fn places_around(line: &[Span], start: Minute, past: Minute) -> (usize, usize)
+    requires { IsCanonical line.now }
+    ensures within { (result.0 ≤ result.1) × (result.1 ≤ length line.now) }
+    ensures front { take result.0 line.now ≡ ending_before start line.now }
+    ensures middle { slice_range line.now result.0 result.1 ≡ starting_by past (ending_from start line.now) }
+    ensures back { drop result.1 line.now ≡ starting_behind past (ending_from start line.now) }
+{
+    let first = line.partition_point(|span| span.past < start);
+    let count = line[first..].partition_point(|span| span.start <= past);
+    (first, first + count)
+}
+
+/// The canonical list of what two canonical lists give, which share no minute.
+fn merge(alloc: Global, held: &[Span], spans: &[Span]) -> Result<Vec<Span>, AllocError>
+    requires held { IsCanonical held.now }
+    requires spans { IsCanonical spans.now }
+    requires apart { ShareNone held.now spans.now }
+    ensures { IfOk result (λ merged. IsCanonicalOf (EitherGives held.now spans.now) merged.items) }
+{
+    let ordered = in_order(alloc, held, spans)?;
+    joined(alloc, &ordered)
+}
+
+/// The spans of both lists in the order of their starts.
+fn in_order(alloc: Global, held: &[Span], spans: &[Span]) -> Result<Vec<Span>, AllocError>
+    requires { IsCanonical held.now }
+    ensures { IfOk result (λ ordered. ordered.items ≡ in_order_of held.now spans.now) }
+{
+    let mut ordered = Vec::new(alloc);
+    let mut left = held;
+    for span in spans {
+        let (earlier, later) = split_at_start(left, span.start);
+        ordered.extend_from_slice(earlier)?;
+        ordered.push(*span)?;
+        left = later;
+    }
+    ordered.extend_from_slice(left)?;
+    Ok(ordered)
+}
+
+/// The spans that start before a minute, and the others.
+fn split_at_start(spans: &[Span], minute: Minute) -> (&[Span], &[Span])
+    requires { IsCanonical spans.now }
+    ensures earlier { result.0.now ≡ before minute spans.now }
+    ensures later { result.1.now ≡ starting_from minute spans.now }
+    ensures canonical { IsCanonical result.1.now }
+{
+    spans.split_at(spans.partition_point(|span| span.start < minute))
+}
+
+/// Spans in order, of which those that touch with one mark are made one.
+fn joined(alloc: Global, spans: &[Span]) -> Result<Vec<Span>, AllocError>
+    ensures { IfOk result (λ runs. runs.items ≡ joined_of spans.now) }
+{
+    let mut runs = Vec::new(alloc);
+    let Some((first, others)) = spans.split_first() else {
+        return Ok(runs);
+    };
+    let mut last = *first;
+    for span in others {
+        if touches(&last, span) {
+            last.past = span.past;
+        } else {
+            runs.push(last)?;
+            last = *span;
+        }
+    }
+    runs.push(last)?;
+    Ok(runs)
+}
+
+/// Whether a span goes on where another ends, with its mark.
+fn touches(last: &Span, span: &Span) -> bool
+    ensures { result ≡ touches_with last.now span.now }
+{
+    last.past == span.start && is_same(span.mark, last.mark)
+}
+
+/// Whether two marks are the same.
+pub(crate) fn is_same(a: Mark, b: Mark) -> bool
+    ensures { result ≡ same_mark a b }
+{
+    a == b
+}

@@ -1,0 +1,47 @@
+ghost use Rattle.std.specs.Prelude.{◌≡◌};
+ghost use Rattle.tacho_time.specs.Spans.{IsCanonical};
+ghost use Rattle.tacho_line.specs.Line.{mark_at as mark_of};
+ghost use Rattle.tacho_line.specs.Search.{behind as behind_of, before as before_of, overlap as overlap_of};
+
+use tacho_time::{Mark, Minute, Span};
+
+/// The spans that end behind a minute.
+pub(crate) fn behind(spans: &[Span], minute: Minute) -> &[Span]
+    requires { IsCanonical spans.now }
+    ensures { result.now ≡ behind_of minute spans.now }
+{
+    let first = spans.partition_point(|span| span.past <= minute);
+    &spans[first..]
+}
+
+/// The spans that start before a minute.
+pub(crate) fn before(spans: &[Span], minute: Minute) -> &[Span]
+    requires { IsCanonical spans.now }
+    ensures { result.now ≡ before_of minute spans.now }
+{
+    let past = spans.partition_point(|span| span.start < minute);
+    &spans[..past]
+}
+
+/// The spans that have a minute from a start to before a past.
+pub(crate) fn overlap(spans: &[Span], start: Minute, past: Minute) -> &[Span]
+    requires { IsCanonical spans.now }
+    ensures { result.now ≡ overlap_of spans.now start past }
+{
+    before(behind(spans, start), past)
+}
+
+/// The mark that spans in order give a minute.
+pub(crate) fn mark_at(spans: &[Span], minute: Minute) -> Option<Mark>
+    requires { IsCanonical spans.now }
+    ensures { result ≡ mark_of spans.now minute }
+{
+    let [span, ..] = behind(spans, minute) else {
+        return None;
+    };
+    if span.start <= minute {
+        Some(span.mark)
+    } else {
+        None
+    }
+}
