@@ -22,31 +22,37 @@ RUNS = [
 ]
 
 
-def answer(program, words, given, refuser=None, number=0):
-    environment = dict(os.environ)
-    if refuser:
-        environment.update(LD_PRELOAD=refuser, REFUSED_ALLOCATION=str(number))
-    run = subprocess.run([program, *words], input=given, capture_output=True, env=environment)
-    return (run.stdout, run.returncode), b"refused\n" in run.stderr
+def built(compiler, folder):
+    """The library that refuses an allocation."""
+    refuser = os.path.join(folder, "refuse_allocation.so")
+    source = os.path.join(os.path.dirname(os.path.abspath(__file__)), "refuse_allocation.c")
+    subprocess.run([compiler, "-O1", "-fPIC", "-shared", "-nostdlib", "-fuse-ld=lld", "-o", refuser, source], check=True)
+    return refuser
+
+
+def answers(compiler, words, given):
+    """What a program answers with each of its allocations refused in turn: standard output and status."""
+    with tempfile.TemporaryDirectory() as folder:
+        refuser = built(compiler, folder)
+        for number in range(1, 1_000_000):
+            environment = dict(os.environ, LD_PRELOAD=refuser, REFUSED_ALLOCATION=str(number))
+            run = subprocess.run(words, input=given, capture_output=True, env=environment)
+            if b"refused\n" not in run.stderr:
+                return
+            yield number, (run.stdout, run.returncode)
 
 
 def main(program, compiler):
     passed = failed = 0
-    with tempfile.TemporaryDirectory() as folder:
-        refuser = os.path.join(folder, "refuse_allocation.so")
-        source = os.path.join(os.path.dirname(os.path.abspath(__file__)), "refuse_allocation.c")
-        subprocess.run([compiler, "-O1", "-fPIC", "-shared", "-nostdlib", "-fuse-ld=lld", "-o", refuser, source], check=True)
-        for words, given in RUNS:
-            undisturbed, _ = answer(program, words, given)
-            for number in range(1, 100_000):
-                told, was_refused = answer(program, words, given, refuser, number)
-                if not was_refused:
-                    break
-                if told in (NO_MEMORY, NO_JOB, undisturbed):
-                    passed += 1
-                else:
-                    failed += 1
-                    print(f"{words} with allocation {number} refused: {told}, and not {undisturbed}")
+    for words, given in RUNS:
+        run = subprocess.run([program, *words], input=given, capture_output=True)
+        undisturbed = (run.stdout, run.returncode)
+        for number, told in answers(compiler, [program, *words], given):
+            if told in (NO_MEMORY, NO_JOB, undisturbed):
+                passed += 1
+            else:
+                failed += 1
+                print(f"{words} with allocation {number} refused: {told}, and not {undisturbed}")
     print(f"{passed} passed, {failed} failed")
     return failed != 0 or passed == 0
 

@@ -1,42 +1,52 @@
-//! Prints what a part of a card file gives, or its first fault, for checks beside a slow reader: the file on standard
-//! input, and `both`, `first` or `second` as the one word.
+//! Prints answers of the libraries, for checks beside slow programs of another language. The one word says which.
 #![tactic(auto)]
+
+mod card;
+mod timeline;
 
 use std::alloc::Global;
 use std::rt::Env;
 use std::{env, io};
-use tacho_card::{CardFault, CardFile, Part, spans};
-use tacho_time::{Device, read_all, write_span};
+use tacho_card::Part;
+use tacho_time::{Device, read_all};
 
-/// The part that the word of the command line names, or both.
-fn part_of(rt: &(impl Env + Alloc)) -> io::Result<Part> {
+/// How many bytes an input has at the most.
+const LIMIT: usize = 262_144;
+
+/// What is asked.
+#[derive(Clone, Copy)]
+enum Question {
+    /// The spans of a part of a card file.
+    Card(Part),
+    /// The answers of a timeline to commands, a line each.
+    Timeline,
+}
+
+/// The question that the word of the command line names.
+fn asked(rt: &(impl Env + Alloc)) -> io::Result<Question> {
     for word in env::args(rt)? {
         match word.as_str() {
-            "first" => return Ok(Part::First),
-            "second" => return Ok(Part::Second),
+            "both" => return Ok(Question::Card(Part::Both)),
+            "first" => return Ok(Question::Card(Part::First)),
+            "second" => return Ok(Question::Card(Part::Second)),
             _ => (),
         }
     }
-    Ok(Part::Both)
+    Ok(Question::Timeline)
 }
 
-/// The lines of what a part of a file gives, or its fault.
-fn lines_of(alloc: Global, bytes: &[u8], part: Part) -> Result<String, CardFault> {
-    let file = CardFile::read(bytes)?;
-    let mut lines = String::new(alloc);
-    for span in &spans(alloc, &file, part)? {
-        write_span(&mut lines, span)?;
+/// Answers a question about an input.
+fn answer(rt: &impl Print, alloc: Global, question: Question, bytes: &[u8]) -> io::Result<()> {
+    match question {
+        Question::Card(part) => card::answer(rt, alloc, bytes, part),
+        Question::Timeline => timeline::answer(rt, alloc, bytes),
     }
-    Ok(lines)
 }
 
 fn main(rt: HostRuntime) -> io::Result<()> {
-    let part = part_of(&rt)?;
-    let Ok(bytes) = read_all(rt.alloc(), &mut Device::new(rt.stdin()), 262_144) else {
-        return println!(rt; "not read");
-    };
-    match lines_of(rt.alloc(), &bytes, part) {
-        Ok(lines) => print!(rt; "{lines}"),
-        Err(fault) => println!(rt; "{fault:?}"),
+    let question = asked(&rt)?;
+    match read_all(rt.alloc(), &mut Device::new(rt.stdin()), LIMIT) {
+        Ok(bytes) => answer(&rt, rt.alloc(), question, &bytes),
+        Err(_) => println!(rt; "not read"),
     }
 }

@@ -1,0 +1,126 @@
+#!/usr/bin/env python3
+"""Gives a timeline random commands, and compares its answers with a map from minutes to marks.
+
+The words are the program `tacho_rows` and, where memory is to be refused in turn, the compiler of C. The last line is
+'N passed, M failed'."""
+import random
+import subprocess
+import sys
+
+import failing_memory
+
+LAST = 68_428_800
+
+
+def runs(pairs):
+    """The maximal runs of minutes with one value, as start, past and value."""
+    found = []
+    for minute, value in sorted(pairs):
+        if found and found[-1][1] == minute and found[-1][2] == value:
+            found[-1][1] = minute + 1
+        else:
+            found.append([minute, minute + 1, value])
+    return found
+
+
+class Timeline:
+    """What a timeline has to answer, by a map from minutes to marks."""
+
+    def __init__(self):
+        self.held = {}
+
+    def gain(self, spans):
+        for place, (start, past, _) in enumerate(spans):
+            if start >= past:
+                return f"EmptySpan({place})"
+        given = {}
+        for start, past, mark in spans:
+            for minute in range(start, past):
+                given.setdefault(minute, set()).add(mark)
+        for minute in sorted(given):
+            if len(given[minute] | {self.held.get(minute, mark) for mark in given[minute]}) > 1:
+                return f"Contradiction(Minute {{ number: {minute} }})"
+        new = {minute: marks.pop() for minute, marks in given.items() if minute not in self.held}
+        self.held.update(new)
+        return self.spans("gains", new.items())
+
+    def spans(self, name, pairs):
+        return " ".join([name] + [f"{start} {past} {mark}" for start, past, mark in runs(pairs)])
+
+    def range(self, start, past):
+        within = range(start, past)
+        yield self.spans("slice", [(minute, self.held[minute]) for minute in within if minute in self.held])
+        lacking = runs([(minute, None) for minute in within if minute not in self.held])
+        yield " ".join(["gaps"] + [f"{a} {b}" for a, b, _ in lacking])
+        horizon = start
+        while self.held.get(horizon, 4) < 4:
+            horizon += 1
+        yield f"horizon {horizon} {'Crew' if horizon in self.held else 'Unknown'}"
+        yield f"at {self.held.get(start, 'nothing')}"
+
+
+def commands(seed):
+    """Spans that touch, overlap, are equal or empty, and ranges, near a minute that may be the first or the last."""
+    chance = random.Random(seed)
+    near = chance.choice([0, 0, 28_491_840, LAST - 60])
+    minute = lambda: min(LAST, near + chance.randrange(61))
+    for _ in range(12):
+        if chance.random() < 0.4:
+            yield [minute(), minute()]
+        else:
+            spans = []
+            for _ in range(chance.randrange(1, 4)):
+                start = minute()
+                length = chance.choice([0, 1, 1, 2, 5, 9]) if chance.random() < 0.9 else 30
+                spans += [start, min(LAST, start + length), chance.choice([0, 0, 0, 2, 3, 4, 7])]
+            yield spans
+
+
+def wanted(given, told=None):
+    """What has to be told; a command for which there was no memory, as `told` says, has no effect."""
+    line, lines = Timeline(), []
+
+    def is_told(text):
+        return told is not None and told[len(lines) : len(lines) + 1] == [text]
+
+    for numbers in given:
+        if is_told("not read"):
+            lines.append("not read")
+        elif len(numbers) == 2:
+            for answer in line.range(*numbers):
+                lines.append("Memory" if is_told("Memory") else answer)
+        elif is_told("Memory"):
+            lines.append("Memory")
+        else:
+            spans = [tuple(numbers[i : i + 3]) for i in range(0, len(numbers), 3)]
+            lines.append(line.gain(spans))
+    lines.append(line.spans("line", line.held.items()))
+    return lines
+
+
+def main(program, compiler=None):
+    passed = failed = 0
+    for seed in range(400):
+        given = list(commands(seed))
+        text = "".join(" ".join(map(str, numbers)) + "\n" for numbers in given).encode()
+        run = subprocess.run([program, "timeline"], input=text, capture_output=True)
+        told = [line.strip() for line in run.stdout.decode().splitlines()]
+        tellings = [(told, wanted(given))]
+        if compiler and seed % 40 == 0:
+            for _, (refused, _) in failing_memory.answers(compiler, [program, "timeline"], text):
+                told = [line.strip() for line in refused.decode().splitlines()]
+                if len(told) > 1:
+                    tellings.append((told, wanted(given, told)))
+        for told, expected in tellings:
+            if told == expected:
+                passed += 1
+            else:
+                failed += 1
+                place = next((i for i, pair in enumerate(zip(told, expected)) if pair[0] != pair[1]), -1)
+                print(f"seed {seed}: {told[place]!r}, and not {expected[place]!r}")
+    print(f"{passed} passed, {failed} failed")
+    return failed != 0
+
+
+if __name__ == "__main__":
+    sys.exit(main(*sys.argv[1:]))
