@@ -38,6 +38,7 @@ fn main(rt: HostRuntime) -> ExitCode {
         Ok(Job::Dump) => ExitCode::from(tacho_cli::dump(alloc, &mut reader, &mut writer)),
         Ok(Job::Holder) => ExitCode::from(tacho_cli::holder(alloc, &mut reader, &mut writer)),
         Err(Usage::Words(text)) => usage(&rt, text.as_str()),
+        Err(Usage::Parser) => usage(&rt, "no memory to read the words of the command line\n"),
         Err(Usage::Memory) => no_memory(&rt),
     }
 }

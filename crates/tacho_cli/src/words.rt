@@ -1,9 +1,10 @@
-ghost use Rattle.std.specs.Prelude.{◌≡◌, IfOk, IfSome, map, codes, false, string_bytes};
-ghost use Rattle.clap.specs.Words.{app_of, new_app, subcommand_of};
+ghost use Rattle.std.specs.Prelude.{◌≡◌, IfOk, IfErr, IfSome, map, codes, false, string_bytes};
+ghost use Rattle.clap.specs.Words.{app_of, kind_of, new_app, subcommand_of, takes};
 ghost use Rattle.clap.specs.declared.builder.command.Command.TheViews.{out-Command as fields_of};
-ghost use Rattle.tacho_cli.specs.Words.{tacho_app, IsNamed, IsJob};
+ghost use Rattle.tacho_cli.specs.Words.{tacho_app, IsNamed, IsJob, IsRefusal, IsUsage};
 
-use clap::Command;
+use clap::error::ErrorKind;
+use clap::{Command, Error};
 use std::alloc::{AllocError, Global};
 
 /// What a command line asks for.
@@ -20,11 +21,18 @@ pub enum Job {
 pub enum Usage {
     /// The words name no job: how they are used.
     Words(String),
+    /// The parser of words gave no answer, since it had no memory.
+    Parser,
     /// There was no memory.
     Memory,
 }
 
 impl From<AllocError> for Usage {
+    ghost use Rattle.std.specs.Prelude.{◌≡◌};
+    ghost use Rattle.tacho_cli.specs.declared.words.Usage.TheVariants.{Memory};
+
+    ghost from_gives = { λ _ e. e ≡ Memory };
+
     fn from(_: AllocError) -> Usage {
         Usage::Memory
     }
@@ -73,20 +81,34 @@ fn job_of(name: &str) -> Option<Job>
     None
 }
 
+/// What an error of the parser says: how the words are used, unless it had no memory.
+fn refusal(alloc: Global, error: &Error) -> Usage
+    ensures { IsRefusal (kind_of error.now) result }
+{
+    if matches!(error.kind(), ErrorKind::OutOfMemory) {
+        return Usage::Parser;
+    }
+    match error.to_string(alloc) {
+        Ok(text) => Usage::Words(text),
+        Err(_) => Usage::Memory,
+    }
+}
+
 /// The job that the words of a command line name, the program's name the first of them, or how they are used.
 pub fn parse<'a>(alloc: Global, words: &'a [String]) -> Result<Job, Usage>
-    ensures { IfOk result (IsJob (subcommand_of tacho_app (map string_bytes words.entry.now))) }
+    ensures job { IfOk result (IsJob (subcommand_of tacho_app (map string_bytes words.entry.now))) }
+    ensures usage { IfErr result (IsUsage (takes tacho_app (map string_bytes words.entry.now))) }
 {
     let command = tacho(alloc)?;
     let matches = match command.try_get_matches_from(words) {
         Ok(matches) => matches,
-        Err(error) => return Err(Usage::Words(error.to_string(alloc)?)),
+        Err(error) => return Err(refusal(alloc, &error)),
     };
     let Some((name, _)) = matches.subcommand() else {
-        return Err(Usage::Words(String::new(alloc)));
+        return Err(Usage::Parser);
     };
     match job_of(name) {
         Some(job) => Ok(job),
-        None => Err(Usage::Words(String::new(alloc))),
+        None => Err(Usage::Parser),
     }
 }
