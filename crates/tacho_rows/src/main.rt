@@ -2,6 +2,7 @@
 #![tactic(auto)]
 
 mod card;
+mod rules;
 mod timeline;
 
 use std::alloc::Global;
@@ -20,6 +21,8 @@ enum Question {
     Card(Part),
     /// The answers of a timeline to commands, a line each.
     Timeline,
+    /// The breaches in examined lines, a line of words each.
+    Rules,
 }
 
 /// The question that the word of the command line names.
@@ -29,6 +32,7 @@ fn asked(rt: &(impl Env + Alloc)) -> io::Result<Question> {
             "both" => return Ok(Question::Card(Part::Both)),
             "first" => return Ok(Question::Card(Part::First)),
             "second" => return Ok(Question::Card(Part::Second)),
+            "rules" => return Ok(Question::Rules),
             _ => (),
         }
     }
@@ -40,6 +44,7 @@ fn answer(rt: &impl Print, alloc: Global, question: Question, bytes: &[u8]) -> i
     match question {
         Question::Card(part) => card::answer(rt, alloc, bytes, part),
         Question::Timeline => timeline::answer(rt, alloc, bytes),
+        Question::Rules => rules::answer(rt, alloc, bytes),
     }
 }
 

@@ -34,7 +34,7 @@ fn minute_of(number: u32) -> Minute {
 }
 
 /// The numbers of a line of words, the first word aside.
-fn numbers_of(alloc: Global, line: &str) -> Result<Vec<u32>, AllocError> {
+pub(crate) fn numbers_of(alloc: Global, line: &str) -> Result<Vec<u32>, AllocError> {
     let mut numbers = Vec::new(alloc);
     for word in line.split_whitespace() {
         if let Ok(number) = word.parse::<u32>() {
@@ -45,7 +45,7 @@ fn numbers_of(alloc: Global, line: &str) -> Result<Vec<u32>, AllocError> {
 }
 
 /// The spans of numbers: start, past and mark of each.
-fn spans_of(alloc: Global, numbers: &[u32]) -> Result<Vec<Span>, AllocError> {
+pub(crate) fn spans_of(alloc: Global, numbers: &[u32]) -> Result<Vec<Span>, AllocError> {
     let mut spans = Vec::new(alloc);
     for chunk in numbers.chunks(3) {
         if let [start, past, mark] = chunk {

@@ -1,0 +1,252 @@
+"""Worked rows: what is done, and what is expected of it. Run it; it ends in 'N passed, M failed'.
+
+A moment is a day of March 2024 and a time, in UTC; the 32nd is 1 April and the 39th is 8 April. All rows are entered
+from Monday, 4 March 2024, 00:00, which is minute 28491840 and the start of week 2826. What isn't listed is rest.
+"""
+
+import sys
+from collections import namedtuple
+
+import slow_rules
+
+BASE = 28491840
+WEEK_4 = 2826  # from Monday, 4 March
+WEEK_11 = 2827  # from Monday, 11 March
+
+Row = namedtuple("Row", "name horizon busy breaches debts")
+
+
+def at(day, time):
+    """The minute of a time on a day of March 2024."""
+    hour, minute = time.split(":")
+    return BASE + (day - 4) * 1440 + int(hour) * 60 + int(minute)
+
+
+def on(activity, days, *times):
+    """The same times of one activity on several days: `on("work", [4, 5], "06:00-07:00")`."""
+    busy = []
+    for day in days:
+        for span in times:
+            start, past = span.split("-")
+            busy.append((at(day, start), at(day, past), activity))
+    return busy
+
+
+def work(days, *times):
+    """Work at these times of these days."""
+    return on("work", days, *times)
+
+
+def drive(days, *times):
+    """Driving at these times of these days."""
+    return on("drive", days, *times)
+
+
+def joined(busy, base, past):
+    """The spans in order, with rest between them, from the base to the horizon."""
+    spans = []
+    place = base
+    for start, end, activity in sorted(busy):
+        if place < start:
+            spans.append((place, start, "rest"))
+        spans.append((start, end, activity))
+        place = end
+    if place < past:
+        spans.append((place, past, "rest"))
+    return spans
+
+
+NONE = []
+ONE_MINUTE_OVER = [(1, at(4, "10:30"), at(4, "06:00"), 1)]
+
+BREAKS = [
+    Row("breaks, 45 minutes", at(5, "00:00"), drive([4], "06:00-10:30", "11:15-15:45"), NONE, NONE),
+    Row("breaks, a minute over", at(5, "00:00"), drive([4], "06:00-10:31"), ONE_MINUTE_OVER, NONE),
+    Row("breaks, 15 and then 30", at(5, "00:00"), drive([4], "06:00-08:00", "08:15-10:45", "11:15-15:45"), NONE, NONE),
+    Row("breaks, 30 and then 15", at(5, "00:00"), drive([4], "06:00-08:00", "08:30-11:00", "11:15-15:45"),
+        [(1, at(4, "11:15"), at(4, "06:00"), 270)], NONE),
+    Row("breaks, one of two parts serves once", at(5, "00:00"), drive([4], "06:00-08:00", "08:15-09:15", "09:45-11:45", "12:15-15:15"),
+        [(1, at(4, "14:45"), at(4, "09:45"), 30)], NONE),
+]
+
+SHORT_NIGHTS = [
+    Row("a rest of 11 hours", at(5, "07:00"), work([4], "06:00-19:00") + work([5], "06:00-07:00"), NONE, NONE),
+    Row("a rest of a minute less than 11 hours", at(5, "07:00"), work([4], "06:00-19:01") + work([5], "06:00-07:00"), NONE, NONE),
+    Row("a rest of 9 hours", at(5, "07:00"), work([4], "06:00-21:00") + work([5], "06:00-07:00"), NONE, NONE),
+    Row("a rest of 3 and of 9 hours", at(5, "07:00"),
+        work([4], "06:00-12:00", "15:00-21:00") + work([5], "06:00-07:00"), NONE, NONE),
+    Row("a rest of a minute less than 9 hours", at(5, "07:00"), work([4], "06:00-21:01") + work([5], "06:01-07:00"),
+        [(2, at(4, "21:00"), at(4, "06:00"), 1)], NONE),
+]
+
+DAYS = [
+    Row("a fourth reduced rest", at(9, "00:00"), work([4, 5, 6, 7], "06:00-21:00") + work([8], "06:00-12:00"),
+        [(3, at(7, "21:00"), at(4, "06:00"), 1)], NONE),
+    Row("a fourth rest, but three reduced", at(9, "00:00"),
+        work([4, 5, 7], "06:00-21:00") + work([6], "06:00-12:00", "15:00-21:00") + work([8], "06:00-12:00"), NONE, NONE),
+    Row("a third day of more than 9 hours, and one of more than 10", at(7, "00:00"),
+        drive([4, 5], "06:00-10:30", "11:15-15:45", "16:30-16:31")
+        + drive([6], "06:00-10:30", "11:15-15:45", "16:30-17:31"),
+        [(5, at(6, "16:30"), at(6, "06:00"), 61), (4, at(6, "17:30"), at(6, "06:00"), 1)], NONE),
+]
+
+SIX_DAYS_OF_DRIVING = drive([4, 5, 6, 7, 8, 9], "06:00-10:00", "10:45-14:45")
+OWES_345 = [(WEEK_4, 345, at(32, "00:00"), at(11, "13:45"))]
+
+WEEKS = [
+    Row("six days between weekly rests", at(12, "00:00"), work(range(4, 10), "06:00-18:00") + work([10], "05:00-06:00"), NONE, NONE),
+    Row("six days and a minute between weekly rests", at(12, "00:00"), work(range(4, 10), "06:00-18:00") + work([10], "05:00-06:01"),
+        [(8, at(10, "06:00"), at(4, "06:00"), 1)], NONE),
+    Row("56 hours in a week", at(12, "00:00"), SIX_DAYS_OF_DRIVING + drive([10], "06:00-10:00", "10:45-14:45"),
+        [(8, at(10, "06:00"), at(4, "06:00"), 525)], NONE),
+    Row("56 hours and a minute in a week", at(12, "00:00"), SIX_DAYS_OF_DRIVING + drive([10], "06:00-10:00", "10:45-14:46"),
+        [(8, at(10, "06:00"), at(4, "06:00"), 526), (6, at(10, "14:45"), at(4, "00:00"), 1)], NONE),
+    Row("90 hours in two weeks", at(18, "00:00"), SIX_DAYS_OF_DRIVING + drive(range(11, 17), "06:00-10:00", "10:45-13:45"),
+        NONE, OWES_345),
+    Row("90 hours and a minute in two weeks", at(18, "00:00"),
+        SIX_DAYS_OF_DRIVING + drive(range(11, 16), "06:00-10:00", "10:45-13:45")
+        + drive([16], "06:00-10:00", "10:45-13:46"),
+        [(7, at(16, "13:45"), at(4, "00:00"), 1)], OWES_345),
+]
+
+SHORT_WEEK = work(range(4, 10), "06:00-07:00") + work([10], "07:00-08:00")
+THREE_WEEKS = (
+    SHORT_WEEK
+    + work([11, 12, 13, 14, 15, 18, 19, 20, 21, 22, 25, 26, 27, 28, 29], "06:00-07:00")
+    + work([17, 24, 31], "04:00-05:00")
+)
+
+DEBTS = [
+    Row("a main rest pays", at(18, "02:00"), SHORT_WEEK + work(range(11, 16), "06:00-07:00") + work([18], "01:00-02:00"),
+        NONE, [(WEEK_4, 1260, at(32, "00:00"), at(15, "07:00"))]),
+    Row("a main rest is a minute too short to pay", at(18, "02:00"), SHORT_WEEK + work(range(11, 16), "06:00-07:00") + work([18], "00:59-02:00"),
+        NONE, [(WEEK_4, 1260, at(32, "00:00"), None)]),
+    Row("a daily rest pays", at(18, "07:00"),
+        SHORT_WEEK + work([11, 12, 14, 15], "06:00-07:00") + work([13], "13:00-14:00") + work([17], "04:00-05:00")
+        + work([18], "06:00-07:00"),
+        NONE, [(WEEK_4, 1260, at(32, "00:00"), at(12, "07:00"))]),
+    Row("a debt is overdue", at(32, "00:00"), THREE_WEEKS + work([31], "23:00-24:00"),
+        [(10, at(32, "00:00"), at(4, "00:00"), 1260)], [(WEEK_4, 1260, at(32, "00:00"), None)]),
+    Row("a debt is due in a minute", at(31, "23:59"), THREE_WEEKS + work([31], "23:00-23:59"),
+        NONE, [(WEEK_4, 1260, at(32, "00:00"), None)]),
+]
+
+HORIZONS = [
+    Row("a break that is only assumed", at(4, "10:31"), drive([4], "06:00-10:31"), ONE_MINUTE_OVER, NONE),
+    Row("a day that isn't over at the horizon", at(4, "21:01"), work([4], "06:00-21:01"), [(2, at(4, "21:00"), at(4, "06:00"), 1)], NONE),
+    Row("a day that may still end in time", at(4, "21:00"), work([4], "06:00-21:00"), NONE, NONE),
+    Row("available is no rest", at(4, "21:01"), on("available", [4], "06:00-21:01"),
+        [(2, at(4, "21:00"), at(4, "06:00"), 1)], NONE),
+] + [
+    Row(f"rest alone for {minutes} minutes", BASE + minutes, NONE, NONE, NONE)
+    for minutes in [0, 1, 539, 540, 1439, 1440, 2700, 10079, 10080, 20160, 50400, 60480]
+]
+
+TWO_WEEKS = work([4], "00:00-01:00") + work(range(4, 18), "06:00-07:00")
+TWO_SHORT_RESTS = (
+    work([4], "00:00-01:00")
+    + work([4, 5, 6, 7, 8, 9, 11, 12, 13, 14, 15, 16], "06:00-07:00")
+    + work([10, 17], "07:00-08:00")
+    + work([17], "23:00-24:00")
+)
+
+WEEKLY_RESTS = [
+    Row("two weeks without weekly rests", at(18, "00:00"), TWO_WEEKS + work([17], "23:00-24:00"),
+        [(8, at(10, "00:00"), at(4, "00:00"), 11520), (9, at(18, "00:00"), at(4, "00:00"), 0)], NONE),
+    Row("two weeks without weekly rests, not yet over", at(17, "23:59"), TWO_WEEKS + work([17], "23:00-23:59"),
+        [(8, at(10, "00:00"), at(4, "00:00"), 11519)], NONE),
+    Row("two weeks with short weekly rests", at(18, "00:00"), TWO_SHORT_RESTS, [(9, at(18, "00:00"), at(4, "00:00"), 0)],
+        [(WEEK_4, 1260, at(32, "00:00"), None), (WEEK_11, 1260, at(39, "00:00"), None)]),
+]
+
+EDGES = [
+    Row("a week of driving is in two pairs", BASE + 5401, [(BASE, BASE + 5401, "drive")],
+        [
+            (1, BASE + 270, BASE, 5131),
+            (4, BASE + 600, BASE, 4801),
+            (2, BASE + 900, BASE, 4501),
+            (6, BASE + 3360, BASE, 2041),
+            (7, BASE + 5400, BASE - 10080, 1),
+            (7, BASE + 5400, BASE, 1),
+        ], NONE),
+    Row("the last rest has no end", at(7, "21:01"), work([4, 5, 6, 7], "06:00-21:00"), NONE, NONE),
+    Row("a rest of the same week pays", at(11, "07:00"),
+        work([4], "00:00-01:00") + work([5], "10:20-11:20") + work([6], "19:00-20:00") + work(range(7, 12), "06:00-07:00"),
+        NONE, [(WEEK_4, 700, at(32, "00:00"), at(5, "11:20"))]),
+]
+
+ROWS = BREAKS + SHORT_NIGHTS + DAYS + WEEKS + DEBTS + HORIZONS + WEEKLY_RESTS + EDGES
+
+# What the rows say of a day's rest: the row, the portion, and whether it is regular or reduced.
+DAILY_RESTS = [
+    ("a rest of 11 hours", 660, "regular"),
+    ("a rest of a minute less than 11 hours", 659, "reduced"),
+    ("a rest of 9 hours", 540, "reduced"),
+    ("a rest of 3 and of 9 hours", 540, "regular"),
+    ("a rest of a minute less than 9 hours", 539, "neither"),
+]
+
+# What the rows say of a rest's minutes: the row, its start, its known minutes, and whether it is its week's main rest.
+RESTS = [
+    ("90 hours in two weeks", at(11, "13:45"), 975, "other"),
+    ("a main rest pays", at(9, "07:00"), 1440, "main"),
+    ("a main rest pays", at(15, "07:00"), 3960, "main"),
+    ("a main rest is a minute too short to pay", at(15, "07:00"), 3959, "main"),
+    ("a daily rest pays", at(12, "07:00"), 1800, "other"),
+]
+
+
+def row_of(name):
+    """The row with this name."""
+    return next(row for row in ROWS if row.name == name)
+
+
+def runs_of(row):
+    """The rest runs of a row."""
+    return slow_rules.rest_runs(slow_rules.line_of(joined(row.busy, BASE, row.horizon)))
+
+
+def examined(row):
+    """The breaches and debts found in a row, against those expected."""
+    found = slow_rules.examine(joined(row.busy, BASE, row.horizon), BASE, row.horizon)
+    return found, (row.breaches, row.debts)
+
+
+def daily_rest(name, expected_portion, expected_kind):
+    """The portion and kind of a row's first daily rest, against those expected."""
+    runs = runs_of(row_of(name))
+    day = slow_rules.duty_days(runs)[0]
+    kind = "neither"
+    if slow_rules.is_regular(runs, day):
+        kind = "regular"
+    if slow_rules.is_reduced(runs, day):
+        kind = "reduced"
+    return (slow_rules.portion(day), kind), (expected_portion, expected_kind)
+
+
+def rest(name, start, minutes, place):
+    """The known minutes of a row's rest and whether it is its week's main rest, against those expected."""
+    row = row_of(name)
+    runs = runs_of(row)
+    run = next(run for run in runs if run.start == start)
+    main = slow_rules.main_rest(runs, row.horizon, slow_rules.week_of(start))
+    return (slow_rules.minutes_before(row.horizon, run), "main" if main == run else "other"), (minutes, place)
+
+
+def main():
+    """Run every row and count."""
+    results = [(f"row {row.name}", *examined(row)) for row in ROWS]
+    results += [(f"daily rest of {case[0]}", *daily_rest(*case)) for case in DAILY_RESTS]
+    results += [(f"rest at {case[1]} of {case[0]}", *rest(*case)) for case in RESTS]
+    failed = 0
+    for name, found, expected in results:
+        print(f"{'ok    ' if found == expected else 'FAILED'} {name}")
+        if found != expected:
+            failed += 1
+            print(f"       found    {found}\n       expected {expected}")
+    print(f"{len(results) - failed} passed, {failed} failed")
+    return 1 if failed else 0
+
+
+if __name__ == "__main__":
+    sys.exit(main())

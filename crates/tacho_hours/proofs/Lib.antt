@@ -1,0 +1,4 @@
+pub mod Running
+pub mod Counting
+pub mod Breaking
+pub mod Unique

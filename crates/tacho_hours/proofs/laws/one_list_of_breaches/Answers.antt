@@ -1,0 +1,5 @@
+use Rattle.tacho_hours.proofs.Unique.{one_breaches}
+use Rattle.tacho_hours.proofs.laws.one_list_of_breaches.Goals as goal
+
+pub returns : goal.returns
+returns c = one_breaches

@@ -1,0 +1,24 @@
+-- Article 7: a break of 45 minutes, or one of 15 and then one of 30.
+use Rattle.std.specs.Prelude.{ℕ, ◌-◌, ◌≤◌, ◌⊎◌, ◌↔◌, List, Contains, AllPairs}
+use Rattle.tacho_hours.specs.declared.run.Run.{Run}
+use Rattle.tacho_hours.specs.Line.{Before}
+
+abbrev pub minutes_of : Run → ℕ
+minutes_of run = run.past - run.start
+
+-- a run of at least 15 minutes before the run, and after the last complete break before it
+pub record HasFirstPart (runs breaks : List Run) (run : Run) : Type 0 where
+  pub part : Run
+  pub among : Contains runs part
+  pub enough : 15 ≤ minutes_of part
+  pub before : Before part run
+  pub after : (b : Run) → Contains breaks b → Before b run → Before b part
+
+-- 45 minutes; or 30 with a first part of 15
+abbrev pub Completes : List Run → List Run → Run → Type 0
+Completes runs breaks run = (45 ≤ minutes_of run) ⊎ ((30 ≤ minutes_of run) × HasFirstPart runs breaks run)
+
+-- the complete breaks among the rest runs, in order: there is one such list
+pub record AreCompleteBreaks (runs breaks : List Run) : Type 0 where
+  pub each : (run : Run) → Contains breaks run ↔ (Contains runs run × Completes runs breaks run)
+  pub in_order : AllPairs Before breaks

@@ -1,0 +1,55 @@
+use Rattle.std.specs.Prelude.{◌≡◌, ℕ, ◌+◌, ◌<◌, ◌≤◌, ◌⊎◌, ◌↔◌, List, Contains, AllPairs, length, min}
+use Rattle.tacho_time.specs.declared.span.Activity.{Activity}
+use Rattle.tacho_hours.specs.declared.run.Run.{Run}
+use Rattle.tacho_hours.specs.Line.{IsRestRun, Before}
+use Rattle.tacho_hours.specs.Breaks.{minutes_of}
+
+-- a line says what is done at each minute
+abbrev pub Line : Type 0
+Line = ℕ → Activity
+
+-- a rest run of so many minutes or more
+pub record IsRestOf (line : Line) (least : ℕ) (run : Run) : Type 0 where
+  pub rests : IsRestRun line run
+  pub enough : least ≤ minutes_of run
+
+-- two rest runs of so many minutes or more, and no other such run between them
+pub record AreNeighbours (line : Line) (least : ℕ) (a b : Run) : Type 0 where
+  pub first : IsRestOf line least a
+  pub second : IsRestOf line least b
+  pub before : Before a b
+  pub between : (c : Run) → IsRestOf line least c → Before a c → Before c b → ⊥
+
+-- from the end of one rest of 540 or more to the start of the next, which is its daily rest
+pub record Duty : Type 0 where
+  pub start : ℕ
+  pub past : ℕ
+  pub rest : Run
+
+pub record IsDuty (line : Line) (day : Duty) : Type 0 where
+  pub last : Run
+  pub neighbours : AreNeighbours line 540 last day.rest
+  pub start : day.start ≡ last.past
+  pub past : day.past ≡ day.rest.start
+
+-- the daily rest has so many minutes within 24 hours of the day's start
+abbrev pub HasPortion : Duty → ℕ → Type 0
+HasPortion day n = day.past + n ≤ min day.rest.past (day.start + 1440)
+
+-- 660 minutes; or 540, and a run of 180 within the day
+abbrev pub IsRegular : Line → Duty → Type 0
+IsRegular line day = HasPortion day 660 ⊎ (HasPortion day 540 × ((part : Run) × IsRestOf line 180 part × (day.start ≤ part.start) × (part.past ≤ day.past)))
+
+-- 540 minutes, not regular, and no weekly rest
+pub record IsReduced (line : Line) (day : Duty) : Type 0 where
+  pub duty : IsDuty line day
+  pub portion : HasPortion day 540
+  pub irregular : ¬ (IsRegular line day)
+  pub short : minutes_of day.rest < 1440
+
+-- there are n runs of the kind
+pub record AreSoMany (P : Run → Type 0) (n : ℕ) : Type 0 where
+  pub runs : List Run
+  pub each : (run : Run) → Contains runs run ↔ P run
+  pub in_order : AllPairs Before runs
+  pub count : length runs ≡ n

@@ -1,0 +1,82 @@
+use Rattle.std.specs.Prelude.{◌≡◌, ℕ, ◌+◌, ◌-◌, ◌<◌, ◌≤◌, ◌↔◌, List, Contains, AllPairs, min, sum_by, take, Some, slice_get, MatchOption, if◌then◌else◌, nat_eq}
+use Rattle.std.specs.Option.{option_map_or}
+use Rattle.tacho_hours.specs.declared.run.Run.{Run}
+use Rattle.tacho_hours.specs.declared.run.TheConstants.{FAR}
+use Rattle.tacho_hours.specs.Line.{IsRestRun, Before}
+use Rattle.tacho_hours.specs.Breaks.{minutes_of}
+use Rattle.tacho_hours.specs.declared.report.Debt.{Debt}
+use Rattle.tacho_hours.specs.Days.{Line}
+use Rattle.tacho_hours.specs.Weeks.{week_start, IsInWeek}
+
+-- the minutes of a run before a minute
+abbrev pub minutes_before : ℕ → Run → ℕ
+minutes_before end run = min run.past end - run.start
+
+-- a run that starts in the week, with 1440 minutes or more before the horizon
+pub record IsCandidate (line : Line) (horizon w : ℕ) (run : Run) : Type 0 where
+  pub rests : IsRestRun line run
+  pub week : IsInWeek w run.start
+  pub enough : 1440 ≤ minutes_before horizon run
+
+-- the longest of these, and the earliest of the longest
+pub record IsMainRest (line : Line) (horizon w : ℕ) (run : Run) : Type 0 where
+  pub candidate : IsCandidate line horizon w run
+  pub best : (other : Run) → IsCandidate line horizon w other → other.start < run.start → minutes_before horizon other < minutes_before horizon run
+  pub first : (other : Run) → IsCandidate line horizon w other → run.start < other.start → minutes_before horizon other ≤ minutes_before horizon run
+
+-- a week owes what its main rest lacks of 2700, once the last run starts in a later week
+pub record Owes (line : Line) (horizon w amount : ℕ) : Type 0 where
+  pub main : Run
+  pub last : Run
+  pub is : IsMainRest line horizon w main
+  pub some : 0 < amount
+  pub lacks : minutes_of main + amount ≡ 2700
+  pub last_run : IsRestRun line last
+  pub no_end : last.past ≡ FAR
+  pub ended : week_start (w + 1) ≤ last.start
+
+-- what a run keeps for itself: 2700 as a main rest, else 540
+pub record Keeps (line : Line) (horizon : ℕ) (run : Run) (kept : ℕ) : Type 0 where
+  pub main : (w : ℕ) → IsMainRest line horizon w run → kept ≡ 2700
+  pub other : ((w : ℕ) → IsMainRest line horizon w run → ⊥) → kept ≡ 540
+
+-- what a run pays of debts
+abbrev pub paid_from : Run → List Debt → ℕ
+paid_from run debts = sum_by (λ debt. option_map_or (λ start. if nat_eq start run.start then debt.amount else 0) debt.paid_by 0) debts
+
+-- before the deadline a run has the debt, beside what it keeps and pays of earlier debts
+pub record HasRoom (line : Line) (horizon : ℕ) (earlier : List Debt) (debt : Debt) (run : Run) : Type 0 where
+  pub kept : ℕ
+  pub keeps : Keeps line horizon run kept
+  pub room : kept + paid_from run earlier + debt.amount ≤ minutes_before (min horizon debt.deadline) run
+
+-- a run after the debt's main rest that has room for it
+pub record CanPay (line : Line) (horizon : ℕ) (earlier : List Debt) (debt : Debt) (run : Run) : Type 0 where
+  pub main : Run
+  pub is : IsMainRest line horizon debt.week main
+  pub rests : IsRestRun line run
+  pub after : Before main run
+  pub room : HasRoom line horizon earlier debt run
+
+-- the first such run pays
+pub record Pays (line : Line) (horizon : ℕ) (earlier : List Debt) (debt : Debt) (start : ℕ) : Type 0 where
+  pub payer : Run
+  pub is : payer.start ≡ start
+  pub can : CanPay line horizon earlier debt payer
+  pub first : (run : Run) → Before run payer → CanPay line horizon earlier debt run → ⊥
+
+-- a debt's payer, given the earlier debts with theirs
+abbrev pub IsSettled : Line → ℕ → List Debt → Debt → Type 0
+IsSettled line horizon earlier debt = MatchOption debt.paid_by
+    ((run : Run) → CanPay line horizon earlier debt run → ⊥)
+    (λ start. Pays line horizon earlier debt start)
+
+abbrev pub EarlierWeek : Debt → Debt → Type 0
+EarlierWeek a b = a.week < b.week
+
+-- the debts by week, with payers: there is one such list
+pub record AreDebts (line : Line) (horizon : ℕ) (debts : List Debt) : Type 0 where
+  pub owed : (w amount : ℕ) → Owes line horizon w amount ↔ ((debt : Debt) × Contains debts debt × (debt.week ≡ w) × (debt.amount ≡ amount))
+  pub deadlines : (debt : Debt) → Contains debts debt → debt.deadline ≡ week_start (debt.week + 4)
+  pub in_order : AllPairs EarlierWeek debts
+  pub settled : (i : ℕ) (debt : Debt) → slice_get debts i ≡ Some debt → IsSettled line horizon (take i debts) debt

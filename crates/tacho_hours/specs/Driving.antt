@@ -1,0 +1,22 @@
+use Rattle.std.specs.Prelude.{◌≡◌, ℕ, ◌+◌, ◌<◌, ◌≤◌, ◌&&◌, Bool, true, false, nat_le, if◌then◌else◌}
+use Rattle.std.proofs.Common.{zero, suc}
+use Rattle.tacho_time.specs.declared.span.Activity.{Activity}
+use Rattle.tacho_time.specs.declared.span.Activity.TheVariants.{Rest, Available, Work, Drive}
+
+abbrev pub is_drive : Activity → Bool
+is_drive Drive = true
+is_drive Rest = false
+is_drive Available = false
+is_drive Work = false
+
+-- how many minutes from one minute up to another are driving
+unfoldable pub driving : (ℕ → Activity) → ℕ → ℕ → ℕ
+driving line from zero = 0
+driving line from (suc m) = driving line from m + (if nat_le from m && is_drive (line m) then 1 else 0)
+
+-- m is the k-th driving minute from one minute up to another
+pub record IsDrivingMinute (line : ℕ → Activity) (from to k m : ℕ) : Type 0 where
+  pub above : from ≤ m
+  pub below : m < to
+  pub drives : line m ≡ Drive
+  pub earlier : driving line from m + 1 ≡ k

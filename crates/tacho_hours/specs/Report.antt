@@ -1,0 +1,182 @@
+use Rattle.std.specs.Prelude.{◌≡◌, ℕ, ◌+◌, ◌<◌, ◌≤◌, ◌⊎◌, ◌↔◌, List, Contains, AllPairs, min, None}
+use Rattle.tacho_hours.specs.declared.run.Run.{Run}
+use Rattle.tacho_hours.specs.Line.{AreRestRuns, Before}
+use Rattle.tacho_hours.specs.Driving.{driving, IsDrivingMinute}
+use Rattle.tacho_hours.specs.Breaks.{AreCompleteBreaks}
+use Rattle.tacho_hours.specs.declared.report.Kind.{Kind}
+use Rattle.tacho_hours.specs.declared.report.Kind.TheVariants.{B1, B2, B3, B4, B5, B6, B7, B8, B9, B10}
+use Rattle.tacho_hours.specs.declared.report.Breach.{Breach}
+use Rattle.tacho_hours.specs.declared.report.Debt.{Debt}
+use Rattle.tacho_hours.specs.Days.{Line, AreNeighbours, Duty, IsDuty, HasPortion, IsReduced, AreSoMany}
+use Rattle.tacho_hours.specs.Weeks.{week_start, IsInWeek, IsWhollyAtRest, IsWeeklyRest, HasTwoRests}
+use Rattle.tacho_hours.specs.Debts.{AreDebts}
+
+-- more driving than allowed from one minute up to another: the moment is the first driving minute above the limit
+pub record IsOver (line : Line) (limit from to : ℕ) (breach : Breach) : Type 0 where
+  pub moment : IsDrivingMinute line from to (limit + 1) breach.moment
+  pub amount : breach.amount + limit ≡ driving line from to
+
+-- driving between neighbouring complete breaks
+pub record IsB1 (line : Line) (breaks : List Run) (breach : Breach) : Type 0 where
+  pub a : Run
+  pub b : Run
+  pub first : Contains breaks a
+  pub second : Contains breaks b
+  pub before : Before a b
+  pub between : (c : Run) → Contains breaks c → Before a c → Before c b → ⊥
+  pub over : IsOver line 270 a.past b.start breach
+  pub since : IsDrivingMinute line a.past b.start 1 breach.since
+
+-- a daily rest with fewer than 540 minutes in its 24 hours
+pub record IsB2 (line : Line) (breach : Breach) : Type 0 where
+  pub day : Duty
+  pub duty : IsDuty line day
+  pub short : ¬ (HasPortion day 540)
+  pub moment : breach.moment ≡ day.start + 900
+  pub since : breach.since ≡ day.start
+  pub amount : breach.amount + min day.rest.past (day.start + 1440) ≡ 540 + day.past
+
+-- a fourth or later reduced rest since the last weekly rest
+pub record IsB3 (line : Line) (breach : Breach) : Type 0 where
+  pub day : Duty
+  pub weekly : Run
+  pub ordinal : ℕ
+  pub reduced : IsReduced line day
+  pub rest : IsWeeklyRest line weekly
+  pub before : Before weekly day.rest
+  pub last : (run : Run) → IsWeeklyRest line run → Before weekly run → Before run day.rest → ⊥
+  pub so_many : AreSoMany (λ run. (other : Duty) × IsReduced line other × (other.rest ≡ run) × Before weekly run × (run.start ≤ day.rest.start)) ordinal
+  pub many : 3 < ordinal
+  pub moment : breach.moment ≡ day.rest.start
+  pub since : breach.since ≡ weekly.past
+  pub amount : breach.amount + 3 ≡ ordinal
+
+-- more than 600 driving minutes in a duty day
+pub record IsB4 (line : Line) (breach : Breach) : Type 0 where
+  pub day : Duty
+  pub duty : IsDuty line day
+  pub over : IsOver line 600 day.start day.past breach
+  pub since : breach.since ≡ day.start
+
+-- a duty day of the week with more than 540 driving minutes
+pub record IsExtended (line : Line) (w : ℕ) (day : Duty) : Type 0 where
+  pub duty : IsDuty line day
+  pub week : IsInWeek w day.start
+  pub over : 540 < driving line day.start day.past
+
+-- a third or later one
+pub record IsB5 (line : Line) (breach : Breach) : Type 0 where
+  pub day : Duty
+  pub week : ℕ
+  pub ordinal : ℕ
+  pub extended : IsExtended line week day
+  pub so_many : AreSoMany (λ run. (other : Duty) × IsExtended line week other × (other.rest ≡ run) × (other.start ≤ day.start)) ordinal
+  pub many : 2 < ordinal
+  pub over : IsOver line 540 day.start day.past breach
+  pub since : breach.since ≡ day.start
+
+pub record IsB6 (line : Line) (breach : Breach) : Type 0 where
+  pub week : ℕ
+  pub over : IsOver line 3360 (week_start week) (week_start (week + 1)) breach
+  pub since : breach.since ≡ week_start week
+
+pub record IsB7 (line : Line) (breach : Breach) : Type 0 where
+  pub week : ℕ
+  pub over : IsOver line 5400 (week_start week) (week_start (week + 2)) breach
+  pub since : breach.since ≡ week_start week
+
+-- the next weekly rest starts more than six days after the last
+pub record IsB8 (line : Line) (breach : Breach) : Type 0 where
+  pub a : Run
+  pub b : Run
+  pub neighbours : AreNeighbours line 1440 a b
+  pub moment : breach.moment ≡ a.past + 8640
+  pub since : breach.since ≡ a.past
+  pub late : 0 < breach.amount
+  pub amount : breach.moment + breach.amount ≡ b.start
+
+-- two neighbouring weeks without two weekly rests, one of them of 2700 minutes
+pub record IsB9 (line : Line) (base horizon : ℕ) (breach : Breach) : Type 0 where
+  pub week : ℕ
+  pub from : base ≤ week_start week
+  pub ended : week_start (week + 2) ≤ horizon
+  pub first : ¬ (IsWhollyAtRest line week)
+  pub second : ¬ (IsWhollyAtRest line (week + 1))
+  pub lacks : ¬ (HasTwoRests line week)
+  pub moment : breach.moment ≡ week_start (week + 2)
+  pub since : breach.since ≡ week_start week
+  pub amount : breach.amount ≡ 0
+
+-- a debt that nothing pays, and whose deadline has come
+pub record IsB10 (horizon : ℕ) (debts : List Debt) (breach : Breach) : Type 0 where
+  pub debt : Debt
+  pub owed : Contains debts debt
+  pub unpaid : debt.paid_by ≡ None
+  pub due : debt.deadline ≤ horizon
+  pub moment : breach.moment ≡ debt.deadline
+  pub since : breach.since ≡ week_start debt.week
+  pub amount : breach.amount ≡ debt.amount
+
+-- a breach of this kind; the passes have the kinds between them
+abbrev pub IsBreakBreach : Line → List Run → Kind → Breach → Type 0
+IsBreakBreach line breaks B1 breach = IsB1 line breaks breach
+IsBreakBreach line breaks kind breach = ⊥
+
+abbrev pub IsDayBreach : Line → Kind → Breach → Type 0
+IsDayBreach line B2 breach = IsB2 line breach
+IsDayBreach line B3 breach = IsB3 line breach
+IsDayBreach line B4 breach = IsB4 line breach
+IsDayBreach line B5 breach = IsB5 line breach
+IsDayBreach line kind breach = ⊥
+
+abbrev pub IsWeekBreach : Line → Kind → Breach → Type 0
+IsWeekBreach line B6 breach = IsB6 line breach
+IsWeekBreach line B7 breach = IsB7 line breach
+IsWeekBreach line kind breach = ⊥
+
+abbrev pub IsRestBreach : Line → ℕ → ℕ → List Debt → Kind → Breach → Type 0
+IsRestBreach line base horizon debts B8 breach = IsB8 line breach
+IsRestBreach line base horizon debts B9 breach = IsB9 line base horizon breach
+IsRestBreach line base horizon debts B10 breach = IsB10 horizon debts breach
+IsRestBreach line base horizon debts kind breach = ⊥
+
+abbrev pub place_of_kind : Kind → ℕ
+place_of_kind B1 = 1
+place_of_kind B2 = 2
+place_of_kind B3 = 3
+place_of_kind B4 = 4
+place_of_kind B5 = 5
+place_of_kind B6 = 6
+place_of_kind B7 = 7
+place_of_kind B8 = 8
+place_of_kind B9 = 9
+place_of_kind B10 = 10
+
+-- by moment, then kind, then since
+abbrev pub Earlier : Breach → Breach → Type 0
+Earlier a b = (a.moment < b.moment) ⊎ ((a.moment ≡ b.moment) × ((place_of_kind a.kind < place_of_kind b.kind) ⊎ ((place_of_kind a.kind ≡ place_of_kind b.kind) × (a.since < b.since))))
+
+-- these breaches and no others, each once, in order
+pub record AreExactly (P : Breach → Type 0) (found : List Breach) : Type 0 where
+  pub each : (breach : Breach) → Contains found breach ↔ P breach
+  pub in_order : AllPairs Earlier found
+
+-- the breaches of the rule on breaks
+pub record AreBreakBreaches (line : Line) (found : List Breach) : Type 0 where
+  pub runs : List Run
+  pub breaks : List Run
+  pub are_runs : AreRestRuns line runs
+  pub are_breaks : AreCompleteBreaks runs breaks
+  pub exactly : AreExactly (λ breach. IsBreakBreach line breaks breach.kind breach) found
+
+-- those of the rules on days, and on weeks
+abbrev pub AreDayBreaches : Line → List Breach → Type 0
+AreDayBreaches line found = AreExactly (λ breach. IsDayBreach line breach.kind breach) found
+
+abbrev pub AreWeekBreaches : Line → List Breach → Type 0
+AreWeekBreaches line found = AreExactly (λ breach. IsWeekBreach line breach.kind breach) found
+
+-- those of the rules on weekly rests, with the debts
+pub record AreRestBreaches (line : Line) (base horizon : ℕ) (found : List Breach) (debts : List Debt) : Type 0 where
+  pub are_debts : AreDebts line horizon debts
+  pub exactly : AreExactly (λ breach. IsRestBreach line base horizon debts breach.kind breach) found

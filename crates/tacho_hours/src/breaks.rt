@@ -1,0 +1,34 @@
+ghost use Rattle.std.specs.Prelude.{◌≤◌, ◌<◌, ◌↔◌, ◌⊎◌, All, AllPairs, IfOk, IsTrue};
+ghost use Rattle.tacho_hours.specs.Line.{Before};
+ghost use Rattle.tacho_hours.specs.Breaks.{AreCompleteBreaks};
+
+use crate::run::Run;
+use std::alloc::{AllocError, Global};
+
+/// Whether a run of so many minutes completes a break, after a first part or without one.
+fn completes(minutes: u32, has_first_part: bool) -> bool
+    ensures { IsTrue result ↔ ((45 ≤ minutes) ⊎ ((30 ≤ minutes) × IsTrue has_first_part)) }
+{
+    minutes >= 45 || (minutes >= 30 && has_first_part)
+}
+
+/// The complete breaks among rest runs, in order of time: 45 minutes, or 15 and then 30
+/// (Article 7 of Regulation (EC) 561/2006).
+pub fn complete_breaks(alloc: Global, runs: &[Run]) -> Result<Vec<Run>, AllocError>
+    requires some { All (λ run. run.start < run.past) runs.now }
+    requires in_order { AllPairs Before runs.now }
+    ensures { IfOk result (λ breaks. AreCompleteBreaks runs.now breaks.items) }
+{
+    let mut breaks = Vec::new(alloc);
+    let mut has_first_part = false;
+    for run in runs {
+        let minutes = run.past - run.start;
+        if completes(minutes, has_first_part) {
+            breaks.push(*run)?;
+            has_first_part = false;
+        } else if minutes >= 15 {
+            has_first_part = true;
+        }
+    }
+    Ok(breaks)
+}

@@ -1,0 +1,39 @@
+ghost use Rattle.std.specs.Prelude.{◌≡◌, ℕ, ◌<◌, ◌↔◌, List, All, AllPairs, Contains};
+ghost use Rattle.tacho_time.specs.declared.span.Activity.{Activity as ActivityValue};
+ghost use Rattle.tacho_hours.specs.declared.run.Run.{Run as RunValue};
+ghost use Rattle.tacho_hours.specs.declared.report.Breach.{Breach as BreachValue};
+ghost use Rattle.tacho_hours.specs.Line.{AreRestRuns};
+ghost use Rattle.tacho_hours.specs.Breaks.{AreCompleteBreaks};
+ghost use Rattle.tacho_hours.specs.Report.{Earlier, AreBreakBreaches, AreDayBreaches, AreWeekBreaches};
+
+/// A line has one list of rest runs.
+pub fn one_list_of_rest_runs()
+    ensures { (line : ℕ → ActivityValue) (runs others : List RunValue) → AreRestRuns line runs → AreRestRuns line others → runs ≡ others }
+{}
+
+/// Runs, each of a minute or more, have one list of complete breaks.
+pub fn one_list_of_complete_breaks()
+    ensures { (runs breaks others : List RunValue) → All (λ run. run.start < run.past) runs
+        → AreCompleteBreaks runs breaks → AreCompleteBreaks runs others → breaks ≡ others }
+{}
+
+/// Lists of breaches in order that have the same breaches are the same.
+pub fn one_list_of_breaches()
+    ensures { (found others : List BreachValue) → AllPairs Earlier found → AllPairs Earlier others
+        → ((breach : BreachValue) → Contains found breach ↔ Contains others breach) → found ≡ others }
+{}
+
+/// A line has one list of breaches of the rule on breaks.
+pub fn one_list_of_break_breaches()
+    ensures { (line : ℕ → ActivityValue) (found others : List BreachValue) → AreBreakBreaches line found → AreBreakBreaches line others → found ≡ others }
+{}
+
+/// A line has one list of breaches of the rules on days.
+pub fn one_list_of_day_breaches()
+    ensures { (line : ℕ → ActivityValue) (found others : List BreachValue) → AreDayBreaches line found → AreDayBreaches line others → found ≡ others }
+{}
+
+/// A line has one list of breaches of the rules on weeks.
+pub fn one_list_of_week_breaches()
+    ensures { (line : ℕ → ActivityValue) (found others : List BreachValue) → AreWeekBreaches line found → AreWeekBreaches line others → found ≡ others }
+{}

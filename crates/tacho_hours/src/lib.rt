@@ -1,0 +1,21 @@
+//! The words of the rules on driving and rest hours: rest runs, driving minutes, breaks, duty days, weekly rests,
+//! debts and breaches over an examined line, and the functions that find them.
+#![tactic(auto)]
+
+mod breaks;
+mod driving;
+mod laws;
+mod line;
+mod report;
+mod run;
+mod runs;
+
+pub use breaks::complete_breaks;
+pub use driving::{driving_minute, driving_minutes};
+pub use laws::{
+    one_list_of_breaches, one_list_of_break_breaches, one_list_of_complete_breaks,
+    one_list_of_day_breaches, one_list_of_rest_runs, one_list_of_week_breaches,
+};
+pub use report::{Breach, Debt, Kind};
+pub use run::{FAR, Run};
+pub use runs::rest_runs;

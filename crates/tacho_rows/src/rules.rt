@@ -1,0 +1,94 @@
+ghost use Rattle.std.specs.Prelude.{◌≡◌, All, IsTrue, false};
+ghost use Rattle.tacho_hours.specs.Line.{Joined, IsExamined};
+
+use crate::timeline::{numbers_of, spans_of};
+use std::alloc::{AllocError, Global};
+use std::{io, str};
+use tacho_rules::{Breach, plain};
+use tacho_time::{Minute, Span, first_minute, week_of};
+
+/// 2000-01-03 00:00, the first Monday that is a base.
+const FIRST: u32 = 15_780_960;
+
+/// 2100-01-01 00:00, where the last day ends that is read.
+const LAST: u32 = 68_374_080;
+
+/// Whether none of the spans is as crew.
+fn are_single(spans: &[Span]) -> bool
+    ensures { IsTrue result → All (λ span. span.mark.crew ≡ false) spans.now }
+{
+    spans.iter().all(|span| !span.mark.crew)
+}
+
+/// Whether spans follow one another from one minute to another, none of them empty.
+fn are_joined(spans: &[Span], from: Minute, to: Minute) -> bool
+    ensures { IsTrue result → Joined spans.now from to }
+{
+    let mut place = from;
+    for span in spans {
+        if span.start != place || span.past <= place {
+            return false;
+        }
+        place = span.past;
+    }
+    place == to
+}
+
+/// Prints the breaches that were found.
+fn print_breaches(
+    rt: &impl Print,
+    name: &str,
+    found: Result<Vec<Breach>, AllocError>,
+) -> io::Result<()> {
+    let Ok(breaches) = found else {
+        return println!(rt; "Memory");
+    };
+    print!(rt; "{name}")?;
+    for breach in &breaches {
+        let (moment, since) = (breach.moment.number(), breach.since.number());
+        print!(rt; " {:?} {moment} {since} {}", breach.kind, breach.amount)?;
+    }
+    println!(rt; "")
+}
+
+/// Whether these are the spans of an examined line from a base to before a minute.
+fn are_examined(spans: &[Span], base: Minute, past: Minute) -> bool
+    ensures { IsTrue result → IsExamined spans.now base past }
+{
+    if base.number() < FIRST || past.number() > LAST || first_minute(week_of(base)) != base {
+        return false;
+    }
+    are_single(spans) && are_joined(spans, base, past)
+}
+
+/// Prints the breaches that each pass finds in spans from a base to before a minute.
+fn tell_breaches(
+    rt: &impl Print,
+    alloc: Global,
+    spans: &[Span],
+    base: Minute,
+    past: Minute,
+) -> io::Result<()> {
+    if !are_examined(spans, base, past) {
+        return println!(rt; "no examined line");
+    }
+    print_breaches(rt, "breaks", plain::breaks(alloc, spans, base, past))
+}
+
+/// Answers lines, each the spans of an examined line: three numbers a span.
+pub(crate) fn answer(rt: &impl Print, alloc: Global, bytes: &[u8]) -> io::Result<()> {
+    let Ok(text) = str::from_utf8(bytes) else {
+        return println!(rt; "no text");
+    };
+    for words in text.lines() {
+        let Ok(spans) = numbers_of(alloc, words).and_then(|numbers| spans_of(alloc, &numbers))
+        else {
+            println!(rt; "not read")?;
+            continue;
+        };
+        let base = spans.first().map_or(Minute::new(FIRST), |span| span.start);
+        let past = spans.last().map_or(base, |span| span.past);
+        tell_breaches(rt, alloc, &spans, base, past)?;
+    }
+    Ok(())
+}

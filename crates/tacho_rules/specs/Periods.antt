@@ -1,0 +1,12 @@
+use Rattle.std.specs.Prelude.{◌≡◌, ℕ}
+use Rattle.tacho_hours.specs.declared.report.Breach.{Breach}
+use Rattle.tacho_hours.specs.declared.report.Kind.TheVariants.{B1}
+use Rattle.tacho_hours.specs.Days.{Line}
+use Rattle.tacho_hours.specs.Driving.{IsDrivingMinute}
+use Rattle.tacho_hours.specs.Report.{IsOver}
+
+-- more than 270 driving minutes from one minute up to another
+pub record IsLongPeriod (line : Line) (from to : ℕ) (breach : Breach) : Type 0 where
+  pub kind : breach.kind ≡ B1
+  pub over : IsOver line 270 from to breach
+  pub since : IsDrivingMinute line from to 1 breach.since
