@@ -13,23 +13,23 @@ use Rattle.tacho_hours.proofs.Breaking.{breaks_last}
 -- of a relation that never holds both ways
 module _ {A : Type 0} (R : A → A → Type 0) (never : (x y : A) → R x y → R y x → ⊥) where
   -- the tail is in order
-  tail_order : (x : A) (xs : List A) → AllPairs R (x ∷ xs) → AllPairs R xs
+  pub tail_order : (x : A) (xs : List A) → AllPairs R (x ∷ xs) → AllPairs R xs
   tail_order x xs h i j d below within = h (suc i) (suc j) d (omega arith) (omega arith)
 
   -- the head is before each of the tail
-  head_first : (x : A) (xs : List A) (y : A) → AllPairs R (x ∷ xs) → Contains xs y → R x y
+  pub head_first : (x : A) (xs : List A) (y : A) → AllPairs R (x ∷ xs) → Contains xs y → R x y
   head_first x xs y h (k, within, is) = subst (λ (z : A). R x z) is (h 0 (suc k) y (omega arith) (omega arith))
 
   -- a list contains its head
-  contains_head : (x : A) (xs : List A) → Contains (x ∷ xs) x
+  pub contains_head : (x : A) (xs : List A) → Contains (x ∷ xs) x
   contains_head x xs = (0, omega arith, refl)
 
   -- and what its tail contains
-  contains_tail : (x : A) (xs : List A) (y : A) → Contains xs y → Contains (x ∷ xs) y
+  pub contains_tail : (x : A) (xs : List A) (y : A) → Contains xs y → Contains (x ∷ xs) y
   contains_tail x xs y (k, within, is) = (suc k, omega arith, is)
 
   -- and nothing else
-  contains_cases : (x : A) (xs : List A) (y : A) → Contains (x ∷ xs) y → (x ≡ y) ⊎ Contains xs y
+  pub contains_cases : (x : A) (xs : List A) (y : A) → Contains (x ∷ xs) y → (x ≡ y) ⊎ Contains xs y
   contains_cases x xs y (zero, within, is) = inl is
   contains_cases x xs y (suc k, within, is) = inr (k, omega arith, is)
 

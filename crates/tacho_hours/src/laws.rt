@@ -2,9 +2,11 @@ ghost use Rattle.std.specs.Prelude.{◌≡◌, ℕ, ◌<◌, ◌↔◌, List, Al
 ghost use Rattle.tacho_time.specs.declared.span.Activity.{Activity as ActivityValue};
 ghost use Rattle.tacho_hours.specs.declared.run.Run.{Run as RunValue};
 ghost use Rattle.tacho_hours.specs.declared.report.Breach.{Breach as BreachValue};
+ghost use Rattle.tacho_hours.specs.declared.report.Debt.{Debt as DebtValue};
 ghost use Rattle.tacho_hours.specs.Line.{AreRestRuns};
 ghost use Rattle.tacho_hours.specs.Breaks.{AreCompleteBreaks};
-ghost use Rattle.tacho_hours.specs.Report.{Earlier, AreBreakBreaches, AreDayBreaches, AreWeekBreaches};
+ghost use Rattle.tacho_hours.specs.Debts.{AreDebts};
+ghost use Rattle.tacho_hours.specs.Report.{Earlier, AreBreakBreaches, AreDayBreaches, AreWeekBreaches, AreRestBreaches};
 
 /// A line has one list of rest runs.
 pub fn one_list_of_rest_runs()
@@ -36,4 +38,16 @@ pub fn one_list_of_day_breaches()
 /// A line has one list of breaches of the rules on weeks.
 pub fn one_list_of_week_breaches()
     ensures { (line : ℕ → ActivityValue) (found others : List BreachValue) → AreWeekBreaches line found → AreWeekBreaches line others → found ≡ others }
+{}
+
+/// A line has one list of debts, each with its payer.
+pub fn one_list_of_debts()
+    ensures { (line : ℕ → ActivityValue) (horizon : ℕ) (debts others : List DebtValue)
+        → AreDebts line horizon debts → AreDebts line horizon others → debts ≡ others }
+{}
+
+/// A line has one list of breaches of the rules on weekly rests.
+pub fn one_list_of_rest_breaches()
+    ensures { (line : ℕ → ActivityValue) (base horizon : ℕ) (found others : List BreachValue) (debts owed : List DebtValue)
+        → AreRestBreaches line base horizon found debts → AreRestBreaches line base horizon others owed → found ≡ others }
 {}

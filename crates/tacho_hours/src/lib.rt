@@ -14,7 +14,8 @@ pub use breaks::complete_breaks;
 pub use driving::{driving_minute, driving_minutes};
 pub use laws::{
     one_list_of_breaches, one_list_of_break_breaches, one_list_of_complete_breaks,
-    one_list_of_day_breaches, one_list_of_rest_runs, one_list_of_week_breaches,
+    one_list_of_day_breaches, one_list_of_debts, one_list_of_rest_breaches, one_list_of_rest_runs,
+    one_list_of_week_breaches,
 };
 pub use report::{Breach, Debt, Kind};
 pub use run::{FAR, Run};
