@@ -11,8 +11,8 @@ import hard_timelines
 import slow_rules
 
 NUMBERS = {"rest": 0, "available": 1, "work": 2, "drive": 3}
-PASSES = {"breaks": {1}}
-LINES = 3000
+PASSES = {"breaks": {1}, "weeks": {6, 7}}
+LINES = 2000
 REFUSED_LINES = 5
 INPUT_LIMIT = 262_144
 

@@ -2,4 +2,5 @@ pub mod Running
 pub mod Counting
 pub mod Breaking
 pub mod Unique
+pub mod Ordering
 mod Owing

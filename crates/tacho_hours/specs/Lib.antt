@@ -5,3 +5,4 @@ pub mod Days
 pub mod Weeks
 pub mod Debts
 pub mod Report
+pub mod Order

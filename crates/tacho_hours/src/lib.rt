@@ -6,6 +6,7 @@ mod breaks;
 mod driving;
 mod laws;
 mod line;
+mod order;
 mod report;
 mod run;
 mod runs;
@@ -17,6 +18,7 @@ pub use laws::{
     one_list_of_day_breaches, one_list_of_debts, one_list_of_rest_breaches, one_list_of_rest_runs,
     one_list_of_week_breaches,
 };
+pub use order::put_in_order;
 pub use report::{Breach, Debt, Kind};
 pub use run::{FAR, Run};
 pub use runs::rest_runs;

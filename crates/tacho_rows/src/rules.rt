@@ -72,7 +72,8 @@ fn tell_breaches(
     if !are_examined(spans, base, past) {
         return println!(rt; "no examined line");
     }
-    print_breaches(rt, "breaks", plain::breaks(alloc, spans, base, past))
+    print_breaches(rt, "breaks", plain::breaks(alloc, spans, base, past))?;
+    print_breaches(rt, "weeks", plain::weeks(alloc, spans, base, past))
 }
 
 /// Answers lines, each the spans of an examined line: three numbers a span.

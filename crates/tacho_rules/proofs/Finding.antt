@@ -233,7 +233,7 @@ module _ (line : ℕ → Activity) (breaks : List Run) (each : All (λ (x : Run)
   }
 
 -- behind the spans the line is at rest
-line_behind : (spans : List Span) (base past m : ℕ) → Joined spans base past → past ≤ m → line_of spans m ≡ Rest
+pub line_behind : (spans : List Span) (base past m : ℕ) → Joined spans base past → past ≤ m → line_of spans m ≡ Rest
 line_behind [] base past m j late = refl
 line_behind (s ∷ spans) base past m j late =
     let le : s.past ≤ past = joined_le spans s.past past j.2 in

@@ -1,5 +1,7 @@
 //! Each rule by itself, over all spans and rest runs.
 
 mod driving_periods;
+mod weekly_driving;
 
 pub use driving_periods::breaks;
+pub use weekly_driving::weeks;

@@ -1,7 +1,7 @@
-ghost use Rattle.std.specs.Prelude.{◌≡◌, ◌+◌, ◌≤◌, All, false};
+ghost use Rattle.std.specs.Prelude.{◌≡◌, ◌+◌, ◌*◌, ◌<◌, ◌≤◌, All, IfOk, false, length};
 ghost use Rattle.tacho_hours.specs.Line.{Joined};
 
-use crate::plain::breaks;
+use crate::plain::{breaks, weeks};
 use crate::{Breach, Kind};
 use std::alloc::{AllocError, Global};
 use std::test::Fail;
@@ -15,8 +15,8 @@ const HORIZON: u32 = 28_493_280;
 
 /// What a driver who is alone does, in minutes from the base.
 fn single(start: u32, past: u32, activity: Activity) -> Span
-    requires start { start ≤ 1440 }
-    requires past { past ≤ 1440 }
+    requires start { start ≤ 20160 }
+    requires past { past ≤ 20160 }
     ensures { result ≡ record { start = 28491840 + start; past = 28491840 + past; mark = record { activity = activity; crew = false } } }
 {
     Span {
@@ -31,8 +31,8 @@ fn single(start: u32, past: u32, activity: Activity) -> Span
 
 /// Rest, in minutes from the base.
 fn rest(start: u32, past: u32) -> Span
-    requires start { start ≤ 1440 }
-    requires past { past ≤ 1440 }
+    requires start { start ≤ 20160 }
+    requires past { past ≤ 20160 }
     ensures { result ≡ record { start = 28491840 + start; past = 28491840 + past; mark = record { activity = Activity.Rest; crew = false } } }
 {
     single(start, past, Activity::Rest)
@@ -40,8 +40,8 @@ fn rest(start: u32, past: u32) -> Span
 
 /// Driving, in minutes from the base.
 fn drive(start: u32, past: u32) -> Span
-    requires start { start ≤ 1440 }
-    requires past { past ≤ 1440 }
+    requires start { start ≤ 20160 }
+    requires past { past ≤ 20160 }
     ensures { result ≡ record { start = 28491840 + start; past = 28491840 + past; mark = record { activity = Activity.Drive; crew = false } } }
 {
     single(start, past, Activity::Drive)
@@ -137,5 +137,120 @@ fn a_first_part_serves_once(rt: HostRuntime) -> Result<(), Fail> {
     ];
     let found = breaks_of_day(rt.alloc(), &spans)?;
     assert_eq!(rt; found.as_slice(), [no_break(885, 585, 30)].as_slice());
+    Ok(())
+}
+
+/// Rest, and driving from 06:00 to 10:00 and from 10:45 to a later minute of the day that begins at `midnight`.
+fn add_day(spans: &mut Vec<Span>, at: u32, midnight: u32, end: u32) -> Result<(), AllocError>
+    requires before { at ≤ midnight }
+    requires some { 645 < end }
+    requires within { midnight + end ≤ 20160 }
+    requires joined { Joined spans.old.items 28491840 (28491840 + at) }
+    requires single { All (λ span. span.mark.crew ≡ false) spans.old.items }
+    ensures joined { IfOk result (λ done. Joined spans.new.items 28491840 (28491840 + (midnight + end))) }
+    ensures single { IfOk result (λ done. All (λ span. span.mark.crew ≡ false) spans.new.items) }
+{
+    spans.push(rest(at, midnight + 360))?;
+    spans.push(drive(midnight + 360, midnight + 600))?;
+    spans.push(rest(midnight + 600, midnight + 645))?;
+    spans.push(drive(midnight + 645, midnight + end))?;
+    Ok(())
+}
+
+/// The line from the base to `past`, with driving on each day up to its minute in `ends`, and none where that is
+/// before 10:46.
+fn driven(alloc: Global, ends: &[u32], past: u32) -> Result<Vec<Span>, AllocError>
+    requires days { 1440 * length ends.now < past }
+    requires within { past ≤ 20160 }
+    ensures joined { IfOk result (λ spans. Joined spans.items 28491840 (28491840 + past)) }
+    ensures single { IfOk result (λ spans. All (λ span. span.mark.crew ≡ false) spans.items) }
+{
+    let mut spans = Vec::new(alloc);
+    let mut at = 0;
+    let mut midnight = 0;
+    for end in ends {
+        if 645 < *end && *end < 1440 {
+            add_day(&mut spans, at, midnight, *end)?;
+            at = midnight + *end;
+        }
+        midnight += 1440;
+    }
+    spans.push(rest(at, past))?;
+    Ok(spans)
+}
+
+/// The breaches of the rules on weeks in that line.
+fn breaches_of_weeks(alloc: Global, ends: &[u32], past: u32) -> Result<Vec<Breach>, AllocError>
+    requires days { 1440 * length ends.now < past }
+    requires within { past ≤ 20160 }
+{
+    let spans = driven(alloc, ends, past)?;
+    weeks(alloc, &spans, Minute::new(BASE), Minute::new(BASE + past))
+}
+
+/// The breach at that minute from the base.
+fn too_much(kind: Kind, moment: u32, since: Minute, amount: u32) -> Breach
+    requires { moment ≤ 20160 }
+{
+    Breach {
+        kind,
+        moment: Minute::new(BASE + moment),
+        since,
+        amount,
+    }
+}
+
+#[test]
+fn a_week_of_56_hours(rt: HostRuntime) -> Result<(), Fail> {
+    let found = breaches_of_weeks(rt.alloc(), &[885, 885, 885, 885, 885, 885, 885], 11_520)?;
+    assert_eq!(rt; found.len(), 0);
+    Ok(())
+}
+
+#[test]
+fn a_week_of_a_minute_more(rt: HostRuntime) -> Result<(), Fail> {
+    let found = breaches_of_weeks(rt.alloc(), &[885, 885, 885, 885, 885, 885, 886], 11_520)?;
+    // 2024-03-10 14:45.
+    let wanted = too_much(Kind::B6, 9525, Minute::new(BASE), 1);
+    assert_eq!(rt; found.as_slice(), [wanted].as_slice());
+    Ok(())
+}
+
+#[test]
+fn two_weeks_of_90_hours(rt: HostRuntime) -> Result<(), Fail> {
+    let ends = [
+        885, 885, 885, 885, 885, 885, 0, 825, 825, 825, 825, 825, 825,
+    ];
+    let found = breaches_of_weeks(rt.alloc(), &ends, 20_160)?;
+    assert_eq!(rt; found.len(), 0);
+    Ok(())
+}
+
+#[test]
+fn two_weeks_of_a_minute_more(rt: HostRuntime) -> Result<(), Fail> {
+    let ends = [
+        885, 885, 885, 885, 885, 885, 0, 825, 825, 825, 825, 825, 826,
+    ];
+    let found = breaches_of_weeks(rt.alloc(), &ends, 20_160)?;
+    // 2024-03-16 13:45.
+    let wanted = too_much(Kind::B7, 18_105, Minute::new(BASE), 1);
+    assert_eq!(rt; found.as_slice(), [wanted].as_slice());
+    Ok(())
+}
+
+#[test]
+fn a_week_of_91_hours_counts_with_both_its_neighbours(rt: HostRuntime) -> Result<(), Fail> {
+    let found = breaches_of_weeks(
+        rt.alloc(),
+        &[1185, 1185, 1185, 1185, 1185, 1185, 1185],
+        11_520,
+    )?;
+    // 2024-03-08 10:45, and 2024-03-10 18:45.
+    let wanted = [
+        too_much(Kind::B6, 6405, Minute::new(BASE), 2100),
+        too_much(Kind::B7, 9765, Minute::new(BASE - 10_080), 60),
+        too_much(Kind::B7, 9765, Minute::new(BASE), 60),
+    ];
+    assert_eq!(rt; found.as_slice(), wanted.as_slice());
     Ok(())
 }

@@ -1,0 +1,38 @@
+use Rattle.std.specs.Prelude.{◌≡◌, ℕ, ◌+◌, ◌<◌, ◌≤◌, ◌⊎◌, ◌↔◌, List, Contains}
+use Rattle.tacho_hours.specs.declared.report.Breach.{Breach}
+use Rattle.tacho_hours.specs.declared.report.Kind.{Kind}
+use Rattle.tacho_hours.specs.declared.report.Kind.TheVariants.{B6, B7}
+use Rattle.tacho_hours.specs.Days.{Line}
+use Rattle.tacho_hours.specs.Weeks.{week_start}
+use Rattle.tacho_hours.specs.Order.{AreApart}
+use Rattle.tacho_hours.specs.Report.{IsOver}
+
+-- more driving minutes than allowed from one minute up to another, which is judged from its start
+pub record IsTooMuch (line : Line) (kind : Kind) (limit from to : ℕ) (breach : Breach) : Type 0 where
+  pub kind_is : breach.kind ≡ kind
+  pub over : IsOver line limit from to breach
+  pub since : breach.since ≡ from
+
+-- more than 3360 in a week
+abbrev pub IsLongWeek : Line → ℕ → Breach → Type 0
+IsLongWeek line w breach = IsTooMuch line B6 3360 (week_start w) (week_start (w + 1)) breach
+
+-- more than 5400 in a week and the next
+abbrev pub IsLongPair : Line → ℕ → Breach → Type 0
+IsLongPair line w breach = IsTooMuch line B7 5400 (week_start w) (week_start (w + 2)) breach
+
+-- a breach of a week from one number up to another
+pub record IsOfWeeks (line : Line) (first end : ℕ) (breach : Breach) : Type 0 where
+  pub week : ℕ
+  pub from : first ≤ week
+  pub before : week < end
+  pub is : IsLongWeek line week breach ⊎ IsLongPair line week breach
+
+-- these breaches and no others, each once
+pub record AreThose (P : Breach → Type 0) (found : List Breach) : Type 0 where
+  pub each : (breach : Breach) → Contains found breach ↔ P breach
+  pub apart : AreApart found
+
+-- the breaches of the weeks from one number up to another
+abbrev pub AreOfWeeks : Line → ℕ → ℕ → List Breach → Type 0
+AreOfWeeks line first end found = AreThose (λ breach. IsOfWeeks line first end breach) found
