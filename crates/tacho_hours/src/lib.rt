@@ -22,3 +22,6 @@ pub use order::put_in_order;
 pub use report::{Breach, Debt, Kind};
 pub use run::{FAR, Run};
 pub use runs::rest_runs;
+
+#[cfg(test)]
+mod tests;
