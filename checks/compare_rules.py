@@ -1,5 +1,6 @@
 #!/usr/bin/env python3
-"""Compares the breaches that the passes find with those of a slow reading of the rules, on lines near the limits.
+"""Compares the breaches that the passes find with those of a slow reading of the rules, on lines near the limits, and
+with those that are written beside the worked examples.
 
 The words are the program `tacho_rows` and, where memory is to be refused in turn, the compiler of C. The last line is
 'N passed, M failed'."""
@@ -8,10 +9,11 @@ import sys
 
 import failing_memory
 import hard_timelines
+import rule_examples
 import slow_rules
 
 NUMBERS = {"rest": 0, "available": 1, "work": 2, "drive": 3}
-PASSES = {"breaks": {1}, "weeks": {6, 7}}
+PASSES = {"breaks": {1}, "days": {2, 3, 4, 5}, "weeks": {6, 7}}
 LINES = 2000
 REFUSED_LINES = 5
 INPUT_LIMIT = 262_144
@@ -22,13 +24,27 @@ def given(spans):
     return " ".join(f"{start} {past} {NUMBERS[activity]}" for start, past, activity in spans) + "\n"
 
 
-def wanted(spans, base, past):
-    """What has to be told of spans, a line each pass."""
-    breaches, _ = slow_rules.examine(spans, base, past)
+def lines_of(breaches):
+    """What has to be told of breaches, a line each pass."""
     return [
         " ".join([name] + [f"B{kind} {moment} {since} {amount}" for kind, moment, since, amount in breaches if kind in kinds])
         for name, kinds in PASSES.items()
     ]
+
+
+def wanted(spans, base, past):
+    """What has to be told of spans."""
+    breaches, _ = slow_rules.examine(spans, base, past)
+    return lines_of(breaches)
+
+
+def examples():
+    """The worked examples whose line isn't empty, and what has to be told of each."""
+    base = rule_examples.BASE
+    for row in rule_examples.ROWS:
+        spans = rule_examples.joined(row.busy, base, row.horizon)
+        if spans:
+            yield (spans, base, row.horizon), lines_of(row.breaches)
 
 
 def is_answer_without_memory(answer, expected):
@@ -68,6 +84,9 @@ def main(program, compiler=None):
     lines = [hard_timelines.timeline(seed, 1 + seed % 6) for seed in range(LINES)]
     lines = [line for line in lines if line[0]]
     tellings = [(answer, wanted(*line), False) for line, answer in answers(program, lines)]
+    for line, expected in examples():
+        [(_, answer)] = answers(program, [line])
+        tellings.append((answer, expected, False))
     for line in lines[:REFUSED_LINES] if compiler else []:
         expected = wanted(*line)
         for _, (refused, _) in failing_memory.answers(compiler, [program, "rules"], given(line[0]).encode()):

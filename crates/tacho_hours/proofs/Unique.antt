@@ -72,7 +72,7 @@ unfolding InTime
 in_time runs some order i j d below within = (some i d (omega arith), order i j d below within, some j d within)
 
 -- runs in order are known by their members
-same_runs : (xs ys : List Run) → All (λ (run : Run). run.start < run.past) xs → All (λ (run : Run). run.start < run.past) ys → AllPairs Before xs → AllPairs Before ys → ((run : Run) → Contains xs run → Contains ys run) → ((run : Run) → Contains ys run → Contains xs run) → xs ≡ ys
+pub same_runs : (xs ys : List Run) → All (λ (run : Run). run.start < run.past) xs → All (λ (run : Run). run.start < run.past) ys → AllPairs Before xs → AllPairs Before ys → ((run : Run) → Contains xs run → Contains ys run) → ((run : Run) → Contains ys run → Contains xs run) → xs ≡ ys
 same_runs xs ys some some' order order' f g = same_list InTime one_way xs ys (in_time xs some order) (in_time ys some' order') f g
 
 -- the rest runs of a line

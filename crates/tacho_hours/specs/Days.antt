@@ -1,6 +1,7 @@
 use Rattle.std.specs.Prelude.{◌≡◌, ℕ, ◌+◌, ◌<◌, ◌≤◌, ◌⊎◌, ◌↔◌, List, Contains, AllPairs, length, min}
 use Rattle.tacho_time.specs.declared.span.Activity.{Activity}
 use Rattle.tacho_hours.specs.declared.run.Run.{Run}
+use Rattle.tacho_hours.specs.declared.days.DutyDay.{DutyDay}
 use Rattle.tacho_hours.specs.Line.{IsRestRun, Before}
 use Rattle.tacho_hours.specs.Breaks.{minutes_of}
 
@@ -20,28 +21,37 @@ pub record AreNeighbours (line : Line) (least : ℕ) (a b : Run) : Type 0 where
   pub before : Before a b
   pub between : (c : Run) → IsRestOf line least c → Before a c → Before c b → ⊥
 
--- from the end of one rest of 540 or more to the start of the next, which is its daily rest
-pub record Duty : Type 0 where
-  pub start : ℕ
-  pub past : ℕ
-  pub rest : Run
+-- the rest runs of so many minutes or more, in order of time
+pub record AreRestsOf (line : Line) (least : ℕ) (rests : List Run) : Type 0 where
+  pub each : (run : Run) → Contains rests run ↔ IsRestOf line least run
+  pub in_order : AllPairs Before rests
 
-pub record IsDuty (line : Line) (day : Duty) : Type 0 where
+-- from the end of one rest of 540 or more to the start of the next, which is its daily rest
+pub record IsDuty (line : Line) (day : DutyDay) : Type 0 where
   pub last : Run
   pub neighbours : AreNeighbours line 540 last day.rest
   pub start : day.start ≡ last.past
   pub past : day.past ≡ day.rest.start
 
+-- one day's rest ends by the start of the other
+abbrev pub EarlierDay : DutyDay → DutyDay → Type 0
+EarlierDay a b = a.rest.past ≤ b.start
+
+-- the duty days of a line, in order of time
+pub record AreDutyDays (line : Line) (days : List DutyDay) : Type 0 where
+  pub each : (day : DutyDay) → Contains days day ↔ IsDuty line day
+  pub in_order : AllPairs EarlierDay days
+
 -- the daily rest has so many minutes within 24 hours of the day's start
-abbrev pub HasPortion : Duty → ℕ → Type 0
+abbrev pub HasPortion : DutyDay → ℕ → Type 0
 HasPortion day n = day.past + n ≤ min day.rest.past (day.start + 1440)
 
 -- 660 minutes; or 540, and a run of 180 within the day
-abbrev pub IsRegular : Line → Duty → Type 0
+abbrev pub IsRegular : Line → DutyDay → Type 0
 IsRegular line day = HasPortion day 660 ⊎ (HasPortion day 540 × ((part : Run) × IsRestOf line 180 part × (day.start ≤ part.start) × (part.past ≤ day.past)))
 
 -- 540 minutes, not regular, and no weekly rest
-pub record IsReduced (line : Line) (day : Duty) : Type 0 where
+pub record IsReduced (line : Line) (day : DutyDay) : Type 0 where
   pub duty : IsDuty line day
   pub portion : HasPortion day 540
   pub irregular : ¬ (IsRegular line day)

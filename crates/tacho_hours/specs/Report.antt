@@ -7,7 +7,8 @@ use Rattle.tacho_hours.specs.declared.report.Kind.{Kind}
 use Rattle.tacho_hours.specs.declared.report.Kind.TheVariants.{B1, B2, B3, B4, B5, B6, B7, B8, B9, B10}
 use Rattle.tacho_hours.specs.declared.report.Breach.{Breach}
 use Rattle.tacho_hours.specs.declared.report.Debt.{Debt}
-use Rattle.tacho_hours.specs.Days.{Line, AreNeighbours, Duty, IsDuty, HasPortion, IsReduced, AreSoMany}
+use Rattle.tacho_hours.specs.declared.days.DutyDay.{DutyDay}
+use Rattle.tacho_hours.specs.Days.{Line, AreNeighbours, IsDuty, HasPortion, IsReduced, AreSoMany}
 use Rattle.tacho_hours.specs.Weeks.{week_start, IsInWeek, IsWhollyAtRest, IsWeeklyRest, HasTwoRests}
 use Rattle.tacho_hours.specs.Debts.{AreDebts}
 
@@ -29,7 +30,7 @@ pub record IsB1 (line : Line) (breaks : List Run) (breach : Breach) : Type 0 whe
 
 -- a daily rest with fewer than 540 minutes in its 24 hours
 pub record IsB2 (line : Line) (breach : Breach) : Type 0 where
-  pub day : Duty
+  pub day : DutyDay
   pub duty : IsDuty line day
   pub short : ¬ (HasPortion day 540)
   pub moment : breach.moment ≡ day.start + 900
@@ -38,14 +39,14 @@ pub record IsB2 (line : Line) (breach : Breach) : Type 0 where
 
 -- a fourth or later reduced rest since the last weekly rest
 pub record IsB3 (line : Line) (breach : Breach) : Type 0 where
-  pub day : Duty
+  pub day : DutyDay
   pub weekly : Run
   pub ordinal : ℕ
   pub reduced : IsReduced line day
   pub rest : IsWeeklyRest line weekly
   pub before : Before weekly day.rest
   pub last : (run : Run) → IsWeeklyRest line run → Before weekly run → Before run day.rest → ⊥
-  pub so_many : AreSoMany (λ run. (other : Duty) × IsReduced line other × (other.rest ≡ run) × Before weekly run × (run.start ≤ day.rest.start)) ordinal
+  pub so_many : AreSoMany (λ run. (other : DutyDay) × IsReduced line other × (other.rest ≡ run) × Before weekly run × (run.start ≤ day.rest.start)) ordinal
   pub many : 3 < ordinal
   pub moment : breach.moment ≡ day.rest.start
   pub since : breach.since ≡ weekly.past
@@ -53,24 +54,24 @@ pub record IsB3 (line : Line) (breach : Breach) : Type 0 where
 
 -- more than 600 driving minutes in a duty day
 pub record IsB4 (line : Line) (breach : Breach) : Type 0 where
-  pub day : Duty
+  pub day : DutyDay
   pub duty : IsDuty line day
   pub over : IsOver line 600 day.start day.past breach
   pub since : breach.since ≡ day.start
 
 -- a duty day of the week with more than 540 driving minutes
-pub record IsExtended (line : Line) (w : ℕ) (day : Duty) : Type 0 where
+pub record IsExtended (line : Line) (w : ℕ) (day : DutyDay) : Type 0 where
   pub duty : IsDuty line day
   pub week : IsInWeek w day.start
   pub over : 540 < driving line day.start day.past
 
 -- a third or later one
 pub record IsB5 (line : Line) (breach : Breach) : Type 0 where
-  pub day : Duty
+  pub day : DutyDay
   pub week : ℕ
   pub ordinal : ℕ
   pub extended : IsExtended line week day
-  pub so_many : AreSoMany (λ run. (other : Duty) × IsExtended line week other × (other.rest ≡ run) × (other.start ≤ day.start)) ordinal
+  pub so_many : AreSoMany (λ run. (other : DutyDay) × IsExtended line week other × (other.rest ≡ run) × (other.start ≤ day.start)) ordinal
   pub many : 2 < ordinal
   pub over : IsOver line 540 day.start day.past breach
   pub since : breach.since ≡ day.start

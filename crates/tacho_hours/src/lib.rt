@@ -3,15 +3,18 @@
 #![tactic(auto)]
 
 mod breaks;
+mod days;
 mod driving;
 mod laws;
 mod line;
 mod order;
+mod portions;
 mod report;
 mod run;
 mod runs;
 
 pub use breaks::complete_breaks;
+pub use days::{DutyDay, duty_days, long_rests};
 pub use driving::{driving_minute, driving_minutes};
 pub use laws::{
     one_list_of_breaches, one_list_of_break_breaches, one_list_of_complete_breaks,
@@ -19,6 +22,7 @@ pub use laws::{
     one_list_of_week_breaches,
 };
 pub use order::put_in_order;
+pub use portions::{has_portion, is_reduced, is_regular};
 pub use report::{Breach, Debt, Kind};
 pub use run::{FAR, Run};
 pub use runs::rest_runs;

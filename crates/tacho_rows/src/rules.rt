@@ -73,6 +73,7 @@ fn tell_breaches(
         return println!(rt; "no examined line");
     }
     print_breaches(rt, "breaks", plain::breaks(alloc, spans, base, past))?;
+    print_breaches(rt, "days", plain::days(alloc, spans, base, past))?;
     print_breaches(rt, "weeks", plain::weeks(alloc, spans, base, past))
 }
 

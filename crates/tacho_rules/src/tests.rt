@@ -1,7 +1,7 @@
 ghost use Rattle.std.specs.Prelude.{◌≡◌, ◌+◌, ◌*◌, ◌<◌, ◌≤◌, All, IfOk, false, length};
 ghost use Rattle.tacho_hours.specs.Line.{Joined};
 
-use crate::plain::{breaks, weeks};
+use crate::plain::{breaks, days, weeks};
 use crate::{Breach, Kind};
 use std::alloc::{AllocError, Global};
 use std::test::Fail;
@@ -66,6 +66,53 @@ fn breaks_of_day(alloc: Global, spans: &[Span]) -> Result<Vec<Breach>, AllocErro
     requires single { All (λ span. span.mark.crew ≡ false) spans.now }
 {
     breaks(alloc, spans, Minute::new(BASE), Minute::new(HORIZON))
+}
+
+/// The breach of a rule on days with these minutes from the base.
+fn of_day(kind: Kind, moment: u32, since: u32, amount: u32) -> Breach
+    requires moment { moment ≤ 1440 }
+    requires since { since ≤ 1440 }
+{
+    Breach {
+        kind,
+        moment: Minute::new(BASE + moment),
+        since: Minute::new(BASE + since),
+        amount,
+    }
+}
+
+/// The breaches of the rules on days of the day's spans.
+fn days_of_day(alloc: Global, spans: &[Span]) -> Result<Vec<Breach>, AllocError>
+    requires joined { Joined spans.now 28491840 28493280 }
+    requires single { All (λ span. span.mark.crew ≡ false) spans.now }
+{
+    days(alloc, spans, Minute::new(BASE), Minute::new(HORIZON))
+}
+
+#[test]
+fn a_day_of_601_driving_minutes(rt: HostRuntime) -> Result<(), Fail> {
+    let spans = [rest(0, 360), drive(360, 961), rest(961, 1440)];
+    let found = days_of_day(rt.alloc(), &spans)?;
+    assert_eq!(rt;
+        found.as_slice(),
+        [of_day(Kind::B4, 960, 360, 1)].as_slice()
+    );
+    Ok(())
+}
+
+#[test]
+fn a_rest_of_530_minutes_within_24_hours(rt: HostRuntime) -> Result<(), Fail> {
+    let spans = [
+        rest(0, 10),
+        single(10, 920, Activity::Work),
+        rest(920, 1440),
+    ];
+    let found = days_of_day(rt.alloc(), &spans)?;
+    assert_eq!(rt;
+        found.as_slice(),
+        [of_day(Kind::B2, 910, 10, 10)].as_slice()
+    );
+    Ok(())
 }
 
 #[test]
