@@ -14,7 +14,7 @@ import slow_rules
 
 NUMBERS = {"rest": 0, "available": 1, "work": 2, "drive": 3}
 PASSES = {"breaks": {1}, "days": {2, 3, 4, 5}, "weeks": {6, 7}}
-LINES = 2000
+LINES = 4000
 REFUSED_LINES = 5
 INPUT_LIMIT = 262_144
 

@@ -1,9 +1,9 @@
-ghost use Rattle.std.specs.Prelude.{◌≡◌, ◌+◌, ◌≤◌, ◌<◌, All, false};
-ghost use Rattle.tacho_hours.specs.Line.{Joined};
+ghost use Rattle.std.specs.Prelude.{◌≡◌, ◌+◌, ◌≤◌, ◌<◌, All, AllPairs, false};
+ghost use Rattle.tacho_hours.specs.Line.{Joined, Before};
 
 use crate::{
-    Breach, FAR, Kind, Run, complete_breaks, driving_minute, driving_minutes, put_in_order,
-    rest_runs,
+    Breach, DutyDay, FAR, Kind, Run, complete_breaks, driving_minute, driving_minutes, duty_days,
+    has_portion, is_reduced, is_regular, long_rests, put_in_order, rest_runs,
 };
 use std::alloc::{AllocError, Global};
 use std::test::Fail;
@@ -145,6 +145,92 @@ fn breaks_have_45_minutes_or_15_and_then_30(rt: HostRuntime) -> Result<(), Fail>
     let expected = [runs[0], runs[2], runs[5]];
     assert_eq!(rt; breaks.as_slice(), expected.as_slice());
     Ok(())
+}
+
+/// The runs of two duty days, the first with a rest of three hours in it.
+fn two_days() -> [Run; 4]
+    ensures some { All (λ run. run.start < run.past) result }
+    ensures in_order { AllPairs Before result }
+{
+    [
+        Run {
+            start: 0,
+            past: 600,
+        },
+        Run {
+            start: 840,
+            past: 1020,
+        },
+        Run {
+            start: 1500,
+            past: 2040,
+        },
+        Run {
+            start: 2100,
+            past: FAR,
+        },
+    ]
+}
+
+#[test]
+fn duty_days_lie_between_rests_of_nine_hours(rt: HostRuntime) -> Result<(), Fail> {
+    let runs = two_days();
+    let days = duty_days(rt.alloc(), &runs)?;
+    let expected = [
+        DutyDay {
+            start: 600,
+            past: 1500,
+            rest: runs[2],
+        },
+        DutyDay {
+            start: 2040,
+            past: 2100,
+            rest: runs[3],
+        },
+    ];
+    assert_eq!(rt; days.as_slice(), expected.as_slice());
+    Ok(())
+}
+
+#[test]
+fn long_rests_have_so_many_minutes(rt: HostRuntime) -> Result<(), Fail> {
+    let runs = two_days();
+    assert_eq!(rt;
+        long_rests(rt.alloc(), &runs, 180)?.as_slice(),
+        runs.as_slice()
+    );
+    let expected = [runs[0], runs[2], runs[3]];
+    assert_eq!(rt;
+        long_rests(rt.alloc(), &runs, 181)?.as_slice(),
+        expected.as_slice()
+    );
+    Ok(())
+}
+
+#[test]
+fn a_rest_of_three_and_of_nine_hours_is_regular(rt: HostRuntime) {
+    let day = DutyDay {
+        start: 360,
+        past: 1260,
+        rest: Run {
+            start: 1260,
+            past: 1801,
+        },
+    };
+    assert!(rt; has_portion(day, 540));
+    assert!(rt; !has_portion(day, 541));
+    let within = [Run {
+        start: 600,
+        past: 780,
+    }];
+    assert!(rt; is_regular(day, &within));
+    assert!(rt; !is_reduced(day, &within));
+    let before = [Run {
+        start: 180,
+        past: 360,
+    }];
+    assert!(rt; !is_regular(day, &before));
+    assert!(rt; is_reduced(day, &before));
 }
 
 /// A breach of a kind with these minutes.
