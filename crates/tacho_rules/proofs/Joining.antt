@@ -17,7 +17,8 @@ use Rattle.tacho_hours.specs.Days.{Line, AreRestsOf, IsDuty, AreDutyDays}
 use Rattle.tacho_hours.specs.Order.{Agree}
 use Rattle.tacho_hours.specs.Report.{Earlier, AreExactly, AreDayBreaches, IsDayBreach, IsB2, IsB3, IsB4, IsB5, place_of_kind}
 use Rattle.tacho_hours.proofs.Running.{line_before}
-use Rattle.tacho_rules.specs.Duties.{IsInTime, AreTheDays, AreAll, IsRestKind, IsDriveKind}
+use Rattle.tacho_rules.specs.Duties.{IsInTime, AreTheDays, IsRestKind, IsDriveKind}
+use Rattle.tacho_rules.specs.Collected.{AreThose}
 use Rattle.tacho_rules.proofs.Finding.{line_behind}
 
 -- an earlier breach has another place
@@ -35,10 +36,10 @@ apart_if a b h g =
     ]
 
 -- breaches in order have different places
-pub all_of : (P : Breach → Type 0) (found : List Breach) → AreExactly P found → AreAll P found
+pub all_of : (P : Breach → Type 0) (found : List Breach) → AreExactly P found → AreThose P found
 all_of P found h = record { each = h.each; apart = λ i j d below within. apart_if (get_or found i d) (get_or found j d) (h.in_order i j d below within) }
 
-module _ (P Q : Breach → Type 0) (xs ys : List Breach) (p : AreAll P xs) (q : AreAll Q ys) (differ : (a b : Breach) → P a → Q b → Agree a b → ⊥) where
+module _ (P Q : Breach → Type 0) (xs ys : List Breach) (p : AreThose P xs) (q : AreThose Q ys) (differ : (a b : Breach) → P a → Q b → Agree a b → ⊥) where
   -- two of the joined lists have different places
   join_apart : (i j : ℕ) (d : Breach) → i < j → j < length (xs ++ ys) → Agree (get_or (xs ++ ys) i d) (get_or (xs ++ ys) j d) → ⊥
   join_apart i j d below within g =
@@ -64,7 +65,7 @@ module _ (P Q : Breach → Type 0) (xs ys : List Breach) (p : AreAll P xs) (q : 
       ]
 
   -- two lists joined
-  pub all_join : AreAll (λ b. P b ⊎ Q b) (xs ++ ys)
+  pub all_join : AreThose (λ b. P b ⊎ Q b) (xs ++ ys)
   all_join = record {
     each = λ b. (
       λ h. elim (Contains-append_cases xs ys b h) [ inl left ↦ inl ((p.each b).0 left) | inr right ↦ inr ((q.each b).0 right) ],
@@ -74,12 +75,12 @@ module _ (P Q : Breach → Type 0) (xs ys : List Breach) (p : AreAll P xs) (q : 
   }
 
 -- the rules on daily rests
-pub rests_join : (line : Line) (xs ys : List Breach) → AreExactly (λ b. (b.kind ≡ B2) × IsB2 line b) xs → AreExactly (λ b. (b.kind ≡ B3) × IsB3 line b) ys → AreAll (IsRestKind line) (xs ++ ys)
+pub rests_join : (line : Line) (xs ys : List Breach) → AreExactly (λ b. (b.kind ≡ B2) × IsB2 line b) xs → AreExactly (λ b. (b.kind ≡ B3) × IsB3 line b) ys → AreThose (IsRestKind line) (xs ++ ys)
 rests_join line xs ys p q = all_join (λ b. (b.kind ≡ B2) × IsB2 line b) (λ b. (b.kind ≡ B3) × IsB3 line b) xs ys (all_of (λ b. (b.kind ≡ B2) × IsB2 line b) xs p) (all_of (λ b. (b.kind ≡ B3) × IsB3 line b) ys q)
     (λ a b (k, h) (k', h') g. (let e : B2 ≡ B3 = sym k ∙ (g.kind ∙ k') in cc))
 
 -- the rules on a day's driving
-pub drives_join : (line : Line) (xs ys : List Breach) → AreExactly (λ b. (b.kind ≡ B4) × IsB4 line b) xs → AreExactly (λ b. (b.kind ≡ B5) × IsB5 line b) ys → AreAll (IsDriveKind line) (xs ++ ys)
+pub drives_join : (line : Line) (xs ys : List Breach) → AreExactly (λ b. (b.kind ≡ B4) × IsB4 line b) xs → AreExactly (λ b. (b.kind ≡ B5) × IsB5 line b) ys → AreThose (IsDriveKind line) (xs ++ ys)
 drives_join line xs ys p q = all_join (λ b. (b.kind ≡ B4) × IsB4 line b) (λ b. (b.kind ≡ B5) × IsB5 line b) xs ys (all_of (λ b. (b.kind ≡ B4) × IsB4 line b) xs p) (all_of (λ b. (b.kind ≡ B5) × IsB5 line b) ys q)
     (λ a b (k, h) (k', h') g. (let e : B4 ≡ B5 = sym k ∙ (g.kind ∙ k') in cc))
 
@@ -97,7 +98,7 @@ kinds_differ line a b p q g = elim p [
 ]
 
 -- both
-pub days_join : (line : Line) (xs ys : List Breach) → AreAll (IsRestKind line) xs → AreAll (IsDriveKind line) ys → AreAll (λ b. IsRestKind line b ⊎ IsDriveKind line b) (xs ++ ys)
+pub days_join : (line : Line) (xs ys : List Breach) → AreThose (IsRestKind line) xs → AreThose (IsDriveKind line) ys → AreThose (λ b. IsRestKind line b ⊎ IsDriveKind line b) (xs ++ ys)
 days_join line xs ys p q = all_join (IsRestKind line) (IsDriveKind line) xs ys p q (kinds_differ line)
 
 -- a breach of the rules on days is of one of the kinds
@@ -127,7 +128,7 @@ from_kind line b h = elim h [
 ]
 
 -- the same breaches in order are those of the rules on days
-pub days_exactly : (line : Line) (xs ys : List Breach) → AreAll (λ b. IsRestKind line b ⊎ IsDriveKind line b) xs → ((b : Breach) → Contains ys b ↔ Contains xs b) → AllPairs Earlier ys → AreDayBreaches line ys
+pub days_exactly : (line : Line) (xs ys : List Breach) → AreThose (λ b. IsRestKind line b ⊎ IsDriveKind line b) xs → ((b : Breach) → Contains ys b ↔ Contains xs b) → AllPairs Earlier ys → AreDayBreaches line ys
 days_exactly line xs ys all same order = record {
   each = λ b. (
     λ h. from_kind line b ((all.each b).0 ((same b).0 h)),

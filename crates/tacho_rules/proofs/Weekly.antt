@@ -16,7 +16,8 @@ use Rattle.tacho_hours.specs.Order.{Agree}
 use Rattle.tacho_hours.specs.Report.{Earlier, IsB6, IsB7, IsWeekBreach, AreWeekBreaches}
 use Rattle.tacho_hours.proofs.Counting.{driving_minute_only, driving_reaches}
 use Rattle.tacho_hours.proofs.Running.{line_before}
-use Rattle.tacho_rules.specs.Weekly.{IsTooMuch, IsLongWeek, IsLongPair, IsOfWeeks, AreThose, AreOfWeeks}
+use Rattle.tacho_rules.specs.Weekly.{IsTooMuch, IsLongWeek, IsLongPair, IsOfWeeks, AreOfWeeks}
+use Rattle.tacho_rules.specs.Collected.{AreThose}
 use Rattle.tacho_rules.proofs.Finding.{same_breach, line_behind}
 
 -- from one minute up to another there is one breach of a kind at most

@@ -7,7 +7,6 @@ use Rattle.tacho_hours.specs.declared.report.Kind.TheVariants.{B2, B3, B4, B5}
 use Rattle.tacho_hours.specs.Days.{Line, HasPortion, IsDuty, EarlierDay}
 use Rattle.tacho_hours.specs.Driving.{driving}
 use Rattle.tacho_hours.specs.Report.{IsOver, IsB2, IsB3, IsB4, IsB5}
-use Rattle.tacho_hours.specs.Order.{AreApart}
 
 -- a day after week 0's start and before 2100, with a daily rest of 540 minutes or more
 pub record IsInTime (day : DutyDay) : Type 0 where
@@ -48,11 +47,6 @@ pub record IsLastEnd (runs : List Run) (minute ended : ℕ) : Type 0 where
   pub is : run.past ≡ ended
   pub by : ended ≤ minute
   pub last : (other : Run) → Contains runs other → other.past ≤ minute → other.past ≤ ended
-
--- these breaches and no others, and no two of them have one place in the order
-pub record AreAll (P : Breach → Type 0) (found : List Breach) : Type 0 where
-  pub each : (breach : Breach) → Contains found breach ↔ P breach
-  pub apart : AreApart found
 
 -- a breach of the rules on daily rests
 abbrev pub IsRestKind : Line → Breach → Type 0

@@ -1,3 +1,4 @@
 pub mod Periods
+pub mod Collected
 pub mod Duties
 pub mod Weekly

@@ -1,11 +1,11 @@
-use Rattle.std.specs.Prelude.{◌≡◌, ℕ, ◌+◌, ◌<◌, ◌≤◌, ◌⊎◌, ◌↔◌, List, Contains}
+use Rattle.std.specs.Prelude.{◌≡◌, ℕ, ◌+◌, ◌<◌, ◌≤◌, ◌⊎◌, List}
 use Rattle.tacho_hours.specs.declared.report.Breach.{Breach}
 use Rattle.tacho_hours.specs.declared.report.Kind.{Kind}
 use Rattle.tacho_hours.specs.declared.report.Kind.TheVariants.{B6, B7}
 use Rattle.tacho_hours.specs.Days.{Line}
 use Rattle.tacho_hours.specs.Weeks.{week_start}
-use Rattle.tacho_hours.specs.Order.{AreApart}
 use Rattle.tacho_hours.specs.Report.{IsOver}
+use Rattle.tacho_rules.specs.Collected.{AreThose}
 
 -- more driving minutes than allowed from one minute up to another, which is judged from its start
 pub record IsTooMuch (line : Line) (kind : Kind) (limit from to : ℕ) (breach : Breach) : Type 0 where
@@ -27,11 +27,6 @@ pub record IsOfWeeks (line : Line) (first end : ℕ) (breach : Breach) : Type 0 
   pub from : first ≤ week
   pub before : week < end
   pub is : IsLongWeek line week breach ⊎ IsLongPair line week breach
-
--- these breaches and no others, each once
-pub record AreThose (P : Breach → Type 0) (found : List Breach) : Type 0 where
-  pub each : (breach : Breach) → Contains found breach ↔ P breach
-  pub apart : AreApart found
 
 -- the breaches of the weeks from one number up to another
 abbrev pub AreOfWeeks : Line → ℕ → ℕ → List Breach → Type 0

@@ -4,7 +4,8 @@ ghost use Rattle.tacho_hours.specs.Line.{line_of, IsExamined, AreRestRuns, Befor
 ghost use Rattle.tacho_hours.specs.Driving.{driving};
 ghost use Rattle.tacho_hours.specs.Days.{Line, HasPortion, IsReduced, EarlierDay, AreDutyDays, AreRestsOf};
 ghost use Rattle.tacho_hours.specs.Report.{AreExactly, AreDayBreaches, IsB2, IsB3, IsB4, IsB5};
-ghost use Rattle.tacho_rules.specs.Duties.{IsInTime, IsShortRest, IsLongDay, IsLongDuty, AreTheDays, IsLastEnd, AreAll, IsRestKind, IsDriveKind};
+ghost use Rattle.tacho_rules.specs.Collected.{AreThose};
+ghost use Rattle.tacho_rules.specs.Duties.{IsInTime, IsShortRest, IsLongDay, IsLongDuty, AreTheDays, IsLastEnd, IsRestKind, IsDriveKind};
 
 use std::alloc::{AllocError, Global};
 use tacho_hours::{
@@ -256,7 +257,7 @@ fn of_rests(alloc: Global, runs: &[Run], days: &[DutyDay]) -> Result<Vec<Breach>
     requires in_time { All (λ day. IsInTime day) days.now }
     requires line { (line : Line) × AreRestRuns line runs.now × AreDutyDays line days.now }
     ensures { IfOk result (λ found. (line : Line) → AreRestRuns line runs.now → AreDutyDays line days.now
-        → AreAll (IsRestKind line) found.items) }
+        → AreThose (IsRestKind line) found.items) }
 {
     let parts = long_rests(alloc, runs, FIRST_PART)?;
     let weekly = long_rests(alloc, runs, WEEKLY_REST)?;
@@ -278,7 +279,7 @@ fn of_driving(
     requires examined { IsExamined spans.now base past }
     requires in_time { All (λ day. IsInTime day) days.now }
     requires are { AreDutyDays (line_of spans.now) days.now }
-    ensures { IfOk result (λ found. AreAll (IsDriveKind (line_of spans.now)) found.items) }
+    ensures { IfOk result (λ found. AreThose (IsDriveKind (line_of spans.now)) found.items) }
 {
     let extended = extended_days(alloc, spans, base, past, days)?;
     let mut found = long_days(alloc, spans, base, past, days)?;
