@@ -5,4 +5,5 @@ pub mod Unique
 pub mod Keeping
 pub mod Daily
 pub mod Ordering
-mod Owing
+pub mod Owing
+pub mod ByRuns

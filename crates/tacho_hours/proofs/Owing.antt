@@ -14,16 +14,16 @@ use Rattle.tacho_hours.specs.Report.{IsRestBreach, AreRestBreaches, AreExactly}
 use Rattle.tacho_hours.proofs.Unique.{contains_head, contains_tail, contains_cases, head_first, tail_order, one_exactly}
 
 -- debts that agree in all but who pays them
-record Alike (a b : Debt) : Type 0 where
-  week : a.week ≡ b.week
-  amount : a.amount ≡ b.amount
-  deadline : a.deadline ≡ b.deadline
+pub record Alike (a b : Debt) : Type 0 where
+  pub week : a.week ≡ b.week
+  pub amount : a.amount ≡ b.amount
+  pub deadline : a.deadline ≡ b.deadline
 
 alike_back : (a b : Debt) → Alike a b → Alike b a
 alike_back a b e = record { week = sym e.week; amount = sym e.amount; deadline = sym e.deadline }
 
 -- a rest run that starts earlier has ended before
-separate : (line : Line) (a b : Run) → IsRestRun line a → IsRestRun line b → a.start < b.start → Before a b
+pub separate : (line : Line) (a b : Run) → IsRestRun line a → IsRestRun line b → a.start < b.start → Before a b
 separate line a b r s earlier = elim (cases_lt a.past b.start) [
   | inl before ↦ before
   | inr behind ↦ elim s.from [
@@ -33,7 +33,7 @@ separate line a b r s earlier = elim (cases_lt a.past b.start) [
 ]
 
 -- who can pay a debt can pay one that is alike
-can_alike : (line : Line) (horizon : ℕ) (earlier : List Debt) (a b : Debt) (run : Run) → Alike a b → CanPay line horizon earlier a run → CanPay line horizon earlier b run
+pub can_alike : (line : Line) (horizon : ℕ) (earlier : List Debt) (a b : Debt) (run : Run) → Alike a b → CanPay line horizon earlier a run → CanPay line horizon earlier b run
 can_alike line horizon earlier a b run e c = record {
   main = c.main;
   is = subst (λ (w : ℕ). IsMainRest line horizon w c.main) e.week c.is;
@@ -65,14 +65,14 @@ same_payer line horizon earlier a b (Some start) (Some other) e s t =
     ]
 
 -- debts are settled, given those before them
-Settled : Line → ℕ → List Debt → List Debt → Type 0
+pub Settled : Line → ℕ → List Debt → List Debt → Type 0
 Settled line horizon before debts = (i : ℕ) (debt : Debt) → slice_get debts i ≡ Some debt → IsSettled line horizon (before ++ take i debts) debt
 
-settled_head : (line : Line) (horizon : ℕ) (before : List Debt) (x : Debt) (xs : List Debt) → Settled line horizon before (x ∷ xs) → IsSettled line horizon before x
+pub settled_head : (line : Line) (horizon : ℕ) (before : List Debt) (x : Debt) (xs : List Debt) → Settled line horizon before (x ∷ xs) → IsSettled line horizon before x
 unfolding Settled
 settled_head line horizon before x xs s = subst (λ (ds : List Debt). IsSettled line horizon ds x) (append-nil before) (s 0 x refl)
 
-settled_tail : (line : Line) (horizon : ℕ) (before : List Debt) (x : Debt) (xs : List Debt) → Settled line horizon before (x ∷ xs) → Settled line horizon (before ++ x ∷ []) xs
+pub settled_tail : (line : Line) (horizon : ℕ) (before : List Debt) (x : Debt) (xs : List Debt) → Settled line horizon before (x ∷ xs) → Settled line horizon (before ++ x ∷ []) xs
 unfolding Settled
 settled_tail line horizon before x xs s i debt is =
     subst (λ (ds : List Debt). IsSettled line horizon ds debt) (sym (append_assoc before (x ∷ []) (take i xs))) (s (suc i) debt is)
@@ -148,19 +148,19 @@ debts_match : (line : Line) (horizon : ℕ) (debts others : List Debt) → AreDe
 unfolding Matches
 debts_match line horizon debts others a b debt in' =
     let m : (other : Debt) × Contains others other × (other.week ≡ debt.week) × (other.amount ≡ debt.amount) =
-    (b.owed debt.week debt.amount).0 ((a.owed debt.week debt.amount).1 (debt, in', refl, refl)) in
+    (b.are_owed.owed debt.week debt.amount).0 ((a.are_owed.owed debt.week debt.amount).1 (debt, in', refl, refl)) in
     let deadline : debt.deadline ≡ m.0.deadline =
-    a.deadlines debt in' ∙ ap (λ (w : ℕ). week_start (w + 4)) (sym m.2) ∙ sym (b.deadlines m.0 m.1) in
+    a.are_owed.deadlines debt in' ∙ ap (λ (w : ℕ). week_start (w + 4)) (sym m.2) ∙ sym (b.are_owed.deadlines m.0 m.1) in
     (m.0, m.1, record { week = sym m.2; amount = sym m.3; deadline = deadline })
 
-settled : (line : Line) (horizon : ℕ) (debts : List Debt) → AreDebts line horizon debts → Settled line horizon [] debts
+pub settled : (line : Line) (horizon : ℕ) (debts : List Debt) → AreDebts line horizon debts → Settled line horizon [] debts
 unfolding Settled
 settled line horizon debts a = a.settled
 
 -- a line has one list of debts
 pub one_debts : (line : Line) (horizon : ℕ) (debts others : List Debt) → AreDebts line horizon debts → AreDebts line horizon others → debts ≡ others
 one_debts line horizon debts others a b =
-    one_after line horizon [] debts others a.in_order b.in_order (debts_match line horizon debts others a b) (debts_match line horizon others debts b a)
+    one_after line horizon [] debts others a.are_owed.in_order b.are_owed.in_order (debts_match line horizon debts others a b) (debts_match line horizon others debts b a)
     (settled line horizon debts a) (settled line horizon others b)
 
 -- and one list of breaches of the rules on weekly rests

@@ -74,9 +74,13 @@ IsSettled line horizon earlier debt = MatchOption debt.paid_by
 abbrev pub EarlierWeek : Debt → Debt → Type 0
 EarlierWeek a b = a.week < b.week
 
--- the debts by week, with payers: there is one such list
-pub record AreDebts (line : Line) (horizon : ℕ) (debts : List Debt) : Type 0 where
+-- the debts by week, whoever pays them
+pub record AreOwed (line : Line) (horizon : ℕ) (debts : List Debt) : Type 0 where
   pub owed : (w amount : ℕ) → Owes line horizon w amount ↔ ((debt : Debt) × Contains debts debt × (debt.week ≡ w) × (debt.amount ≡ amount))
   pub deadlines : (debt : Debt) → Contains debts debt → debt.deadline ≡ week_start (debt.week + 4)
   pub in_order : AllPairs EarlierWeek debts
+
+-- the debts by week, with payers: there is one such list
+pub record AreDebts (line : Line) (horizon : ℕ) (debts : List Debt) : Type 0 where
+  pub are_owed : AreOwed line horizon debts
   pub settled : (i : ℕ) (debt : Debt) → slice_get debts i ≡ Some debt → IsSettled line horizon (take i debts) debt

@@ -6,3 +6,4 @@ pub mod Weeks
 pub mod Debts
 pub mod Report
 pub mod Order
+pub mod ByRuns

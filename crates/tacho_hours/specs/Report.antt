@@ -141,6 +141,19 @@ IsRestBreach line base horizon debts B9 breach = IsB9 line base horizon breach
 IsRestBreach line base horizon debts B10 breach = IsB10 horizon debts breach
 IsRestBreach line base horizon debts kind breach = ⊥
 
+-- a breach of any kind
+abbrev pub IsBreach : Line → ℕ → ℕ → List Run → List Debt → Kind → Breach → Type 0
+IsBreach line base horizon breaks debts B1 breach = IsB1 line breaks breach
+IsBreach line base horizon breaks debts B2 breach = IsB2 line breach
+IsBreach line base horizon breaks debts B3 breach = IsB3 line breach
+IsBreach line base horizon breaks debts B4 breach = IsB4 line breach
+IsBreach line base horizon breaks debts B5 breach = IsB5 line breach
+IsBreach line base horizon breaks debts B6 breach = IsB6 line breach
+IsBreach line base horizon breaks debts B7 breach = IsB7 line breach
+IsBreach line base horizon breaks debts B8 breach = IsB8 line breach
+IsBreach line base horizon breaks debts B9 breach = IsB9 line base horizon breach
+IsBreach line base horizon breaks debts B10 breach = IsB10 horizon debts breach
+
 abbrev pub place_of_kind : Kind → ℕ
 place_of_kind B1 = 1
 place_of_kind B2 = 2

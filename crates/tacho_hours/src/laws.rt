@@ -6,6 +6,7 @@ ghost use Rattle.tacho_hours.specs.declared.report.Debt.{Debt as DebtValue};
 ghost use Rattle.tacho_hours.specs.Line.{AreRestRuns};
 ghost use Rattle.tacho_hours.specs.Breaks.{AreCompleteBreaks};
 ghost use Rattle.tacho_hours.specs.Debts.{AreDebts};
+ghost use Rattle.tacho_hours.specs.ByRuns.{ArePaidByRuns};
 ghost use Rattle.tacho_hours.specs.Report.{Earlier, AreBreakBreaches, AreDayBreaches, AreWeekBreaches, AreRestBreaches};
 
 /// A line has one list of rest runs.
@@ -50,4 +51,11 @@ pub fn one_list_of_debts()
 pub fn one_list_of_rest_breaches()
     ensures { (line : ℕ → ActivityValue) (base horizon : ℕ) (found others : List BreachValue) (debts owed : List DebtValue)
         → AreRestBreaches line base horizon found debts → AreRestBreaches line base horizon others owed → found ≡ others }
+{}
+
+/// Debts that the rest runs pay in order of time, each run the unpaid ones from the oldest where it has room, have the
+/// payers of the definition, which goes debt by debt; and no others have.
+pub fn paid_by_runs()
+    ensures { (line : ℕ → ActivityValue) (horizon : ℕ) (runs : List RunValue) (debts : List DebtValue)
+        → AreRestRuns line runs → (ArePaidByRuns line horizon runs debts ↔ AreDebts line horizon debts) }
 {}

@@ -1,0 +1,38 @@
+-- Debts paid run by run, in order of time: another way to the payers of the definition.
+use Rattle.std.specs.Prelude.{◌≡◌, ℕ, ◌⊎◌, List, [], ◌∷◌, ◌++◌, All, None, Some}
+use Rattle.tacho_hours.specs.declared.run.Run.{Run}
+use Rattle.tacho_hours.specs.declared.report.Debt.{Debt}
+use Rattle.tacho_hours.specs.Days.{Line}
+use Rattle.tacho_hours.specs.Debts.{CanPay, AreOwed}
+
+-- nothing pays a debt yet, and a run has room for it beside what it pays of earlier ones
+pub record CanTake (line : Line) (horizon : ℕ) (run : Run) (earlier : List Debt) (debt : Debt) : Type 0 where
+  pub unpaid : debt.paid_by ≡ None
+  pub can : CanPay line horizon earlier debt run
+
+-- a debt before and after a run's turn: the run pays it where it can, and else it stays as it is
+abbrev pub IsTurn : Line → ℕ → Run → List Debt → Debt → Debt → Type 0
+IsTurn line horizon run earlier before after =
+    (CanTake line horizon run earlier before × (after ≡ record before { paid_by = Some run.start }))
+    ⊎ ((CanTake line horizon run earlier before → ⊥) × (after ≡ before))
+
+-- debts before and after a run's turn, from the oldest on
+abbrev pub AfterRun : Line → ℕ → Run → List Debt → List Debt → List Debt → Type 0
+AfterRun line horizon run earlier [] [] = Unit {0}
+AfterRun line horizon run earlier [] (after ∷ others) = ⊥
+AfterRun line horizon run earlier (before ∷ debts) [] = ⊥
+AfterRun line horizon run earlier (before ∷ debts) (after ∷ others) =
+    IsTurn line horizon run earlier before after × AfterRun line horizon run (earlier ++ after ∷ []) debts others
+
+-- debts before and after the turns of runs
+abbrev pub AfterRuns : Line → ℕ → List Run → List Debt → List Debt → Type 0
+AfterRuns line horizon [] before after = before ≡ after
+AfterRuns line horizon (run ∷ runs) before after =
+    (between : List Debt) × AfterRun line horizon run [] before between × AfterRuns line horizon runs between after
+
+-- the debts that a line owes, after the turns of the runs
+pub record ArePaidByRuns (line : Line) (horizon : ℕ) (runs : List Run) (debts : List Debt) : Type 0 where
+  pub owed : List Debt
+  pub are_owed : AreOwed line horizon owed
+  pub unpaid : All (λ debt. debt.paid_by ≡ None) owed
+  pub paid : AfterRuns line horizon runs owed debts
