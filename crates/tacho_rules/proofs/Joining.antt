@@ -156,7 +156,7 @@ module _ (spans : List Span) (base past : ℕ) (x : IsExamined spans base past) 
   ]
 
   -- before the horizon
-  before_past : (m : ℕ) → line_of spans m ≢ Rest → m < 68374080
+  pub before_past : (m : ℕ) → line_of spans m ≢ Rest → m < 68374080
   before_past m busy = elim (cases_lt m past) [
     | inl lt ↦ let b : past ≤ 68374080 = x.within in omega arith
     | inr ge ↦ absurd (busy (line_behind spans base past m x.joined ge))

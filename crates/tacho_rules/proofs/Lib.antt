@@ -4,4 +4,16 @@ pub mod Tallying
 pub mod Ordinals
 pub mod Joining
 pub mod Weekly
+pub mod Touching
+pub mod Covering
+pub mod Lateness
+pub mod RestWeeks
+pub mod Lacking
+pub mod MainRests
+pub mod Compensation
+pub mod Overdue
+pub mod RestJoining
+pub mod Slicing
+pub mod Gathering
+pub mod Reporting
 pub mod Laying

@@ -34,28 +34,28 @@ too_little line kind limit from to breach few p =
     let m : limit + 1 ≤ driving line from to = driving_reaches line from to (limit + 1) breach.moment p.over.moment in omega arith
 
 -- no breaches
-those_none : AreThose (λ breach. ⊥) []
+pub those_none : AreThose (λ breach. ⊥) []
 those_none = record {
   each = λ breach. (λ h. let k : h.0 < 0 = h.1 in omega arith, λ h. absurd h);
   apart = λ i j d below within. absurd (omega arith);
 }
 
 -- the same, said otherwise
-those_as : (P Q : Breach → Type 0) (found : List Breach) → ((breach : Breach) → P breach ↔ Q breach) → AreThose P found → AreThose Q found
+pub those_as : (P Q : Breach → Type 0) (found : List Breach) → ((breach : Breach) → P breach ↔ Q breach) → AreThose P found → AreThose Q found
 those_as P Q found same r = record {
   each = λ breach. (λ h. (same breach).0 ((r.each breach).0 h), λ h. (r.each breach).1 ((same breach).1 h));
   apart = r.apart;
 }
 
 -- nothing more
-those_skip : (P Q : Breach → Type 0) (found : List Breach) → AreThose P found → ((breach : Breach) → Q breach → ⊥) → AreThose (λ breach. P breach ⊎ Q breach) found
+pub those_skip : (P Q : Breach → Type 0) (found : List Breach) → AreThose P found → ((breach : Breach) → Q breach → ⊥) → AreThose (λ breach. P breach ⊎ Q breach) found
 those_skip P Q found r never = record {
   each = λ breach. (λ h. inl ((r.each breach).0 h), λ h. elim h [ inl old ↦ (r.each breach).1 old | inr new ↦ absurd (never breach new) ]);
   apart = r.apart;
 }
 
 -- one more
-those_add : (P Q : Breach → Type 0) (found : List Breach) (new : Breach) → AreThose P found → Q new → ((breach : Breach) → Q breach → new ≡ breach) → ((breach : Breach) → P breach → ¬ (Agree breach new)) → AreThose (λ breach. P breach ⊎ Q breach) (found ++ new ∷ [])
+pub those_add : (P Q : Breach → Type 0) (found : List Breach) (new : Breach) → AreThose P found → Q new → ((breach : Breach) → Q breach → new ≡ breach) → ((breach : Breach) → P breach → ¬ (Agree breach new)) → AreThose (λ breach. P breach ⊎ Q breach) (found ++ new ∷ [])
 those_add P Q found new r is one differ = record {
   each = λ breach. (
     λ h. elim (Contains-push_cases found new breach h) [

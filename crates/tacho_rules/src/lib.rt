@@ -1,9 +1,18 @@
-//! The breaches of the rules on driving and rest hours in an examined line.
+//! The breaches of the rules on driving and rest hours, and the rests that are owed.
 #![tactic(auto)]
 
+mod examination;
+mod found;
+mod laws;
 pub mod plain;
 
+pub use examination::examine;
+pub use found::{Found, Report};
+pub use laws::{one_report, rest_alone_is_no_breach};
 pub use tacho_hours::{Breach, Debt, Kind};
+pub use tacho_line::{Cause, Horizon};
 
+#[cfg(test)]
+mod report_tests;
 #[cfg(test)]
 mod tests;

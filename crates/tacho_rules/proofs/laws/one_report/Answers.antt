@@ -1,0 +1,5 @@
+use Rattle.tacho_rules.proofs.Reporting.{one_report}
+use Rattle.tacho_rules.proofs.laws.one_report.Goals as goal
+
+pub returns : goal.returns
+returns c = one_report

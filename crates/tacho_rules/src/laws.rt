@@ -1,0 +1,21 @@
+ghost use Rattle.std.specs.Prelude.{◌≡◌, ℕ, List, []};
+ghost use Rattle.tacho_time.specs.declared.span.Activity.TheVariants.{Rest};
+ghost use Rattle.tacho_time.specs.declared.span.Span.{Span as Stretch};
+ghost use Rattle.tacho_line.specs.declared.horizon.Horizon.{Horizon as HorizonValue};
+ghost use Rattle.tacho_hours.specs.declared.report.Breach.{Breach as BreachValue};
+ghost use Rattle.tacho_hours.specs.declared.report.Debt.{Debt as DebtValue};
+ghost use Rattle.tacho_rules.specs.Report.{IsReport, examined};
+
+/// What is held has one report from a base.
+pub fn one_report()
+    ensures { (held : List Stretch) (base : ℕ) (horizon other : HorizonValue) (found others : List BreachValue) (debts owed : List DebtValue)
+        → IsReport held base horizon found debts → IsReport held base other others owed
+        → (horizon ≡ other) × (found ≡ others) × (debts ≡ owed) }
+{}
+
+/// Where nothing but rest is examined, the report has neither a breach nor a debt.
+pub fn rest_alone_is_no_breach()
+    ensures { (held : List Stretch) (base : ℕ) (horizon : HorizonValue) (found : List BreachValue) (debts : List DebtValue)
+        → IsReport held base horizon found debts → ((m : ℕ) → examined held base horizon.minute m ≡ Rest)
+        → (found ≡ []) × (debts ≡ []) }
+{}

@@ -1,0 +1,93 @@
+ghost use Rattle.std.specs.Prelude.{◌≡◌, ◌≢◌, ◌<◌, ◌≤◌, ◌⊎◌, ◌↔◌, ℕ, AllPairs, Contains, IsTrue};
+ghost use Rattle.tacho_hours.specs.declared.run.Run.{Run as RunValue};
+ghost use Rattle.tacho_hours.specs.Line.{IsRestRun, Before};
+ghost use Rattle.tacho_hours.specs.Days.{Line, AreRestsOf};
+ghost use Rattle.tacho_hours.specs.Weeks.{IsInWeek};
+ghost use Rattle.tacho_hours.specs.Debts.{minutes_before, IsMainRest};
+ghost use Rattle.tacho_rules.specs.Resting.{AreInTime, IsBetter, IsKept};
+
+use tacho_hours::Run;
+use tacho_time::{Minute, Week, first_minute, week_of};
+
+/// The least weekly rest (Article 4(h) of Regulation (EC) 561/2006).
+pub(super) const WEEKLY_REST: u32 = 1440;
+
+/// The least regular weekly rest (Article 4(h)).
+pub(super) const REGULAR_REST: u32 = 2700;
+
+/// The least rest that a compensation is attached to (Article 8(6b)).
+const DAILY_REST: u32 = 540;
+
+/// The first minute of the first week.
+const FIRST_WEEK: u32 = 5760;
+
+/// The rests that have a minute from `from` to before `to`.
+pub(super) fn touching(rests: &[Run], from: u32, to: u32) -> &[Run]
+    requires in_time { AreInTime rests.now }
+    requires range { from ≤ to }
+    ensures each { (run : RunValue) → Contains result.now run ↔ (Contains rests.now run × (run.start < to) × (from < run.past)) }
+    ensures in_order { AllPairs Before result.now }
+{
+    let first = rests.partition_point(|rest| rest.past <= from);
+    let past = rests.partition_point(|rest| rest.start < to);
+    &rests[first..past]
+}
+
+/// The minutes of a rest before a minute.
+pub(super) fn known_minutes(rest: Run, end: u32) -> u32
+    ensures { result ≡ minutes_before end rest }
+{
+    rest.past.min(end).saturating_sub(rest.start)
+}
+
+/// Whether a rest has more minutes before the horizon than another one, or as many and starts earlier.
+fn is_better(rest: Run, other: Run, horizon: u32) -> bool
+    ensures { IsTrue result ↔ IsBetter horizon rest other }
+{
+    let minutes = known_minutes(rest, horizon);
+    let least = known_minutes(other, horizon);
+    least < minutes || (least == minutes && rest.start < other.start)
+}
+
+/// Whether one of the weekly rests that start in a week is better than a rest.
+fn is_outdone(weekly: &[Run], horizon: u32, week: Week, rest: Run) -> bool
+    requires in_time { AreInTime weekly.now }
+    requires early { week ≤ 6787 }
+    ensures { IsTrue result ↔ ((other : RunValue) × Contains weekly.now other × IsInWeek week other.start × IsBetter horizon other rest) }
+{
+    let start = first_minute(week).number();
+    let end = first_minute(Week::new(week.number() + 1)).number();
+    for other in touching(weekly, start, end) {
+        if start <= other.start && is_better(*other, rest, horizon) {
+            return true;
+        }
+    }
+    false
+}
+
+/// Whether a rest is the main rest of the week in which it starts, where `weekly` are the weekly rests: of those with
+/// 24 hours before the horizon the one with the most minutes there, and of equals the earliest (Article 8(6)).
+pub(super) fn is_main(weekly: &[Run], horizon: u32, rest: Run) -> bool
+    requires in_time { AreInTime weekly.now }
+    requires early { rest.start ≤ 68374080 }
+    ensures week { IsTrue result → 5760 ≤ rest.start }
+    ensures main { (line : Line) → AreRestsOf line 1440 weekly.now → IsRestRun line rest → (IsTrue result ↔ ((w : ℕ) × IsMainRest line horizon w rest)) }
+{
+    if rest.start < FIRST_WEEK || known_minutes(rest, horizon) < WEEKLY_REST {
+        return false;
+    }
+    !is_outdone(weekly, horizon, week_of(Minute::new(rest.start)), rest)
+}
+
+/// What a rest keeps of its minutes: 45 hours as the main rest of its week, and else 9 hours (Article 8(6b)).
+pub(super) fn kept_minutes(weekly: &[Run], horizon: u32, rest: Run) -> u32
+    requires in_time { AreInTime weekly.now }
+    requires early { rest.start ≤ 68374080 }
+    ensures { (line : Line) → AreRestsOf line 1440 weekly.now → IsRestRun line rest → IsKept line horizon rest result }
+{
+    if is_main(weekly, horizon, rest) {
+        REGULAR_REST
+    } else {
+        DAILY_REST
+    }
+}
