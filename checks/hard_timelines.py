@@ -1,8 +1,10 @@
 """Timelines that sit at the limits of the rules on driving and rest hours, from a seed.
 
 `timeline(seed, weeks)` returns (spans, base, past): spans joined from the first minute of a Monday to the horizon, as
-`slow_rules.examine` takes them. The same seed and weeks give the same timeline. Run as a command with a seed and a
-number of weeks, it prints what `slow_rules.py` reads.
+`slow_rules.examine` takes them. The same seed and weeks give the same timeline. `weekly_timeline(seed)` is the same with
+up to ten weeks at the limits of the rules on weekly rests and debts, and `held_timeline(seed)` returns (spans, base) as
+`slow_rules.report` takes them: spans of a card with crew and gaps. Run as a command with a seed and a number of weeks, it
+prints what `slow_rules.py` reads.
 """
 
 import random
@@ -20,6 +22,7 @@ DAILY_RESTS = [539, 540, 541, 659, 660, 661]
 WEEKLY_RESTS = [1439, 1440, 1441, 2699, 2700, 2701]
 DRIVES = [1, 89, 90, 91, 135, 136, 180, 270, 271]
 DAY_DRIVES = [269, 270, 271, 539, 540, 541, 542, 599, 600, 601, 602]
+REDUCTIONS = [1, 1, 60, 345, 700, 1079, 1080, 1081, 1259, 1260]
 WEEK_DRIVES = [3359, 3360, 3361, 3362]
 PAIR_DRIVES = [5399, 5400, 5401, 5402]
 
@@ -45,6 +48,11 @@ class Writer:
         if minutes > 0:
             self.pieces.append((self.place, self.place + minutes, activity))
             self.place += minutes
+
+    def end(self, past):
+        """Make this the horizon, or where the pieces end, if that is earlier: nothing is laid from it on."""
+        self.past = max(self.base, min(past, self.place))
+        self.pieces = [(start, min(end, self.past), activity) for start, end, activity in self.pieces if start < self.past]
 
     def rest(self, minutes):
         """Lay a rest."""
@@ -225,6 +233,178 @@ def paying(writer):
     days(writer)
 
 
+# Weeks by their rests
+
+
+def rest_from(writer, minute, minutes):
+    """Work and short rests up to a minute, one minute of work where that has passed, and then a rest."""
+    work_until(writer, max(minute, writer.place + 1))
+    writer.marks.append(writer.place + minutes)
+    writer.rest(minutes)
+
+
+def place_in(chance, week, minutes):
+    """A minute of the week at which a rest of so many minutes starts: any, or one with which it starts or ends near the week's end."""
+    latest = week + WEEK - minutes
+    near_end = chance.choice([latest, latest - 1, latest + 1, week + WEEK - 1, week + WEEK - 1440])
+    return chance.choice([week + chance.choice([0, 1, 600]), chance.randint(week, max(week, latest)), near_end])
+
+
+def owing_week(writer, week, owed):
+    """A week whose longest rest is too short, maybe with others that are as long or pay for it, at its end or before."""
+    chance = writer.chance
+    amount = chance.choice(REDUCTIONS)
+    minutes = 2700 - amount
+    others = chance.choice([[], [], [minutes], [minutes, near(chance, minutes)], [540 + amount], [541 + amount], [539 + amount]])
+    if others:
+        rest_from(writer, week + chance.choice([0, 1, 60, 900]), minutes)
+        for other in others:
+            rest_from(writer, writer.place + chance.choice([1, 60, 600]), near(chance, other))
+    else:
+        rest_from(writer, place_in(chance, week, minutes), minutes)
+    owed.append((amount, week + 4 * WEEK))
+
+
+def paying_week(writer, week, owed):
+    """A rest with room for some debts, or a minute less or more: as the week's longest rest, beside it, or at a deadline."""
+    chance = writer.chance
+    if not owed:
+        return owing_week(writer, week, owed)
+    paid = chance.choice([owed[:1], owed[-1:], owed[:2], owed[-2:], owed])
+    total = sum(amount for amount, _ in paid)
+    start = writer.place + chance.choice([1, 60, 900, 2880])
+    if chance.random() < 0.5:
+        minutes = near(chance, 2700 + total)
+        beyond = 0
+    else:
+        minutes = near(chance, 540 + total)
+        beyond = chance.choice([0, 0, 0, 1, 300])
+        if minutes + beyond >= 1440:
+            rest_from(writer, start, max(2700, minutes + beyond + chance.choice([-1, 0, 1, 1440])))
+            start = writer.place + chance.choice([1, 600])
+    if chance.random() < 0.4:
+        start = paid[0][1] - minutes + chance.choice([-1, 0, 0, 1])
+        beyond = chance.choice([0, 1, 700])
+    rest_from(writer, min(start, week + 2 * WEEK), minutes + beyond)
+    if chance.random() < 0.8:
+        owed[:] = [debt for debt in owed if debt not in paid]
+
+
+def ended_weekly_rests(writer):
+    """Where weekly rests have ended: the first of all, which has no start, and those of 24 hours."""
+    firsts = [start for start, _, activity in writer.pieces if activity != "rest"][:1]
+    return firsts + [past for start, past, activity in writer.pieces if activity == "rest" and past - start >= 1440]
+
+
+def six_days_later(writer, week, owed):
+    """A weekly rest six days after the last, or a minute less or more."""
+    chance = writer.chance
+    ended = max(ended_weekly_rests(writer), default=writer.place)
+    rest_from(writer, ended + 8640 + chance.choice([-1, 0, 1]), chance.choice(WEEKLY_RESTS))
+
+
+def two_rests(writer, week, owed):
+    """Two rests of all limits for weekly rests."""
+    chance = writer.chance
+    for start in [week + chance.choice([0, 1, 900]), week + WEEK // 2]:
+        rest_from(writer, start, chance.choice(WEEKLY_RESTS))
+
+
+def no_rest(writer, week, owed):
+    """A week without a weekly rest."""
+    work_until(writer, week + WEEK + writer.chance.choice([0, 0, -1, 1, 600]))
+
+
+def rest_alone(writer, week, owed):
+    """A rest from about the week's start to about its end."""
+    chance = writer.chance
+    rest_from(writer, week + chance.choice([-1, 0, 0, 1]), WEEK + chance.choice([-1, 0, 0, 1, 600]))
+    work_until(writer, writer.place + 1)
+
+
+def rest_across(writer, week, owed):
+    """A rest of a limit across the week's end."""
+    chance = writer.chance
+    minutes = chance.choice(WEEKLY_RESTS)
+    rest_from(writer, week + WEEK - chance.choice([1, 2, minutes // 2, minutes - 1, minutes, minutes + 1]), minutes)
+
+
+def rested_weeks(writer):
+    """Weeks that owe, pay, lack rests or are at rest, in any order."""
+    chance = writer.chance
+    kinds = [owing_week, paying_week, six_days_later, two_rests, no_rest, rest_alone, rest_across]
+    weights = chance.choice([(6, 6, 2, 1, 1, 1, 1), (8, 1, 1, 1, 1, 1, 0), (1, 1, 1, 4, 5, 2, 3), (1, 0, 8, 2, 1, 1, 1)])
+    owed = []
+    while not writer.is_full():
+        week = writer.place - (writer.place - writer.base) % WEEK
+        if chance.random() < 0.5:
+            week += WEEK
+        chance.choices(kinds, weights)[0](writer, week, owed)
+
+
+def due_weeks(writer):
+    """Weeks that owe, and then nothing that pays up to a deadline, or one rest with room before that or the horizon, or a
+    minute less."""
+    chance = writer.chance
+    owed = []
+    for _ in range(chance.choice([1, 2, 2, 3, 3])):
+        week = writer.place - (writer.place - writer.base) % WEEK
+        amount = chance.choice([1, 60, 345, 400, 700, 1260])
+        rest_from(writer, place_in(chance, week, 2700 - amount), 2700 - amount)
+        owed.append((amount, week + 4 * WEEK))
+        work_until(writer, week + WEEK + chance.choice([0, 1, 600]))
+    paid = chance.choice([owed[:1], owed[-1:], owed[:2], owed])
+    deadline = chance.choice([paid[0], paid[0], paid[0], paid[-1]])[1]
+    end = chance.choice([deadline, deadline, deadline, deadline - chance.randint(1, WEEK)])
+    own = chance.choice([0, 540, 540, 2700])
+    minutes = own + sum(amount for amount, _ in paid) + chance.choice([-1, -1, 0, 0, 1]) if own else 0
+    while writer.place + 2 * WEEK < min(end - minutes, writer.past):
+        next_week = writer.place + to_week_end(writer.place, writer.base)
+        rest_from(writer, next_week + chance.choice([0, 600, 6000, WEEK - 2700, WEEK - 1]), 2700)
+    if own:
+        beyond = chance.choice([0, 1, 700, 700])
+        if own == 540 and minutes + beyond >= 1440:
+            rest_from(writer, end - minutes - 2710, max(2700, minutes + beyond))
+        rest_from(writer, end - minutes, minutes + beyond)
+    work_until(writer, end + chance.choice([0, 1, 600, 6000]))
+    writer.end(chance.choice([end, end, end + 1, end - 1, deadline, deadline + 1, writer.place, writer.place]))
+
+
+def laid(chance, writer):
+    """The pieces and the horizon as they are."""
+    return writer.pieces, writer.past
+
+
+def closed(chance, writer):
+    """The pieces up to near the start of a week, a minute of work there, and a rest to the horizon."""
+    start = writer.base + chance.randint(1, max(1, (writer.past - writer.base) // WEEK)) * WEEK + chance.choice([-1, 0, 0, 1])
+    start -= chance.choice([0, 0, 0, WEEK // 2])
+    past = min(LAST_PAST, start + chance.choice([0, 1, 540, 1439, 1440, 2700, 4000, 3 * WEEK - 1, 3 * WEEK]))
+    pieces = [(one, min(end, start - 1), activity) for one, end, activity in writer.pieces if one < start - 1]
+    place = pieces[-1][1] if pieces else writer.base
+    ends = [(place, start, "work"), (start, past, "rest")]
+    return pieces + [piece for piece in ends if piece[0] < piece[1]], max(start, past)
+
+
+def weekly_timeline(seed):
+    """The spans from a Monday's first minute to a horizon, ten weeks at most and a last rest, the Monday, and the horizon."""
+    chance = random.Random(f"weekly {seed}")
+    length = chance.choice([2, 3, 4, 5, 6, 7, 8, 9, 10])
+    base = chance.choice([USUAL_BASE] * 8 + [FIRST_BASE, LAST_BASE - (length - 1) * WEEK])
+    kind = chance.choice([rested_weeks, due_weeks])
+    length = max(length, 5) if kind == due_weeks else length
+    past = min(LAST_PAST, base + length * WEEK + chance.choice([-1, 0, 0, 1, 1, 1441, 4000]))
+    writer = Writer(chance, base, past)
+    if chance.random() < 0.2:
+        writer.rest(chance.choice([1, 360, 1439, 1440, 2700, WEEK - 1, WEEK, WEEK + 1]))
+    kind(writer)
+    pieces, past = chance.choices([laid, closed, ended], [4, 1, 2])[0](chance, writer)
+    spans = merged(pieces)
+    if chance.random() < 0.2:
+        spans = merged(moved(chance, spans, chance.randint(1, 3)))
+    return spans, base, past
+
+
 # A whole timeline
 
 
@@ -309,6 +489,70 @@ def timeline(seed, weeks_long):
     if spans and chance.random() < 0.4:
         spans = cut(chance, spans, chance.randint(1, 20), chance.choice([None, 1440, WEEK]), base)
     return spans, base, past
+
+
+# Spans of a card
+
+
+def as_crew(chance, spans):
+    """The same minutes; none, some or all of them are as crew."""
+    share = chance.choice([0, 0.3, 1])
+    return [(*span, chance.random() < share) for span in spans]
+
+
+def span_of(chance, start, past):
+    """A span from one minute to another with any activity, or none where the minutes are out of order."""
+    activity = chance.choice(["rest", "available", "work", "drive"])
+    return [(start, min(past, LAST_PAST), activity)] if start < min(past, LAST_PAST) else []
+
+
+def before(chance, base):
+    """What is held before the base: nothing, or up to the base, or to some minutes before it."""
+    past = base - chance.choice([0, 0, 1, 600])
+    return as_crew(chance, span_of(chance, past - chance.choice([0, 1, 5000]), past))
+
+
+def behind(chance, horizon, spans):
+    """What is held from the horizon on: it begins as crew, or it begins later, or there is nothing."""
+    gap = chance.choice([1, 1, 60, 3000])
+    last = horizon + chance.choice([1, 45, 600, 20000])
+    kind = chance.choice(["crew", "crew", "gap", "gap", "end"])
+    if kind == "end":
+        return []
+    if kind == "gap":
+        kept = [(max(start, horizon + gap), past, activity) for start, past, activity in spans if horizon + gap < past]
+        return as_crew(chance, kept or span_of(chance, horizon + gap, last + gap))
+    kept = [(max(start, horizon), past, activity) for start, past, activity in spans if horizon < past]
+    first, *others = kept or span_of(chance, horizon, last) or [None]
+    return [(*first, True)] + as_crew(chance, others) if first else []
+
+
+def repeated(chance, spans, count):
+    """Some spans, and parts of them, given once more."""
+    again = []
+    for start, past, activity, crew in chance.choices(spans, k=count if spans else 0):
+        again.append((chance.randint(start, past - 1), past, activity, crew))
+    return spans + again
+
+
+def held_timeline(seed):
+    """Spans as a card would hold them, in any order, and a Monday. What is known from it on ends anywhere."""
+    chance = random.Random(f"held {seed}")
+    spans, base, past = weekly_timeline(seed) if chance.random() < 0.6 else timeline(seed, 1 + seed % 6)
+    ends = [end for _, end, _ in spans] or [past]
+    horizon = chance.choice([past] * 4 + [base, chance.randint(base, past)] + chance.choices(ends, k=2))
+    known = [(start, min(end, horizon), activity) for start, end, activity in spans if start < horizon]
+    if known and chance.random() < 0.5:
+        known = cut(chance, known, chance.randint(1, 30), chance.choice([None, 1440]), base)
+    later = behind(chance, horizon, spans)
+    held = before(chance, base) + [(*span, False) for span in known] + later
+    if chance.random() < 0.3:
+        held = repeated(chance, held, chance.randint(1, 5))
+    if chance.random() < 0.7:
+        chance.shuffle(held)
+    if chance.random() < 0.15:
+        base = min(base + chance.choice([1, 2, 3]) * WEEK, LAST_BASE)
+    return held, base
 
 
 def main():

@@ -159,6 +159,21 @@ WEEKLY_RESTS = [
         [(WEEK_4, 1260, at(32, "00:00"), None), (WEEK_11, 1260, at(39, "00:00"), None)]),
 ]
 
+MONTH = (
+    work([4, 5, 6, 7, 8, 12, 13, 14, 15, 18, 19, 20, 21, 22, 25, 29], "06:00-18:00")
+    + work([9, 23, 26], "06:00-12:00")
+    + work([10], "18:00-22:00")
+    + work([11, 28], "08:00-18:00")
+    + work([24], "14:00-16:00")
+    + work([27], "16:00-22:00")
+    + work([31], "15:00-17:00")
+)
+
+MONTHS = [
+    Row("a month with two reduced weekly rests", at(32, "00:00"), MONTH, NONE,
+        [(WEEK_4, 900, at(32, "00:00"), at(15, "18:00")), (WEEK_4 + 2, 1140, at(46, "00:00"), at(26, "12:00"))]),
+]
+
 EDGES = [
     Row("a week of driving is in two pairs", BASE + 5401, [(BASE, BASE + 5401, "drive")],
         [
@@ -175,7 +190,7 @@ EDGES = [
         NONE, [(WEEK_4, 700, at(32, "00:00"), at(5, "11:20"))]),
 ]
 
-ROWS = BREAKS + SHORT_NIGHTS + DAYS + WEEKS + DEBTS + HORIZONS + WEEKLY_RESTS + EDGES
+ROWS = BREAKS + SHORT_NIGHTS + DAYS + WEEKS + DEBTS + HORIZONS + WEEKLY_RESTS + MONTHS + EDGES
 
 # What the rows say of a day's rest: the row, the portion, and whether it is regular or reduced.
 DAILY_RESTS = [

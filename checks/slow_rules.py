@@ -8,7 +8,9 @@ As a command it reads `base past` and then lines `start past activity` from stan
 """
 
 import sys
+from bisect import bisect_left
 from collections import namedtuple
+from itertools import groupby
 
 REST, AVAILABLE, WORK, DRIVE = "rest", "available", "work", "drive"
 
@@ -16,6 +18,8 @@ FAR = 4294967295  # where the last rest run ends: later than any minute
 FIRST_BASE = 15780960  # 2000-01-03 00:00, a Monday
 LAST_PAST = 68374080  # 2100-01-01 00:00
 
+Line = namedtuple("Line", "busy drive")  # the minutes that aren't at rest, and those at drive, both in order
+Mark = namedtuple("Mark", "activity crew")
 Run = namedtuple("Run", "start past")
 Duty = namedtuple("Duty", "start past rest")
 Breach = namedtuple("Breach", "kind moment since amount")
@@ -40,30 +44,30 @@ def check_examined(spans, base, past):
         raise ValueError(f"no Monday, or out of range: {base} {past}")
 
 
+def minutes_at(spans, activities):
+    """The minutes of the spans with one of the activities, in order."""
+    return sorted(minute for start, past, activity in spans if activity in activities for minute in range(start, past))
+
+
 def line_of(spans):
-    """The activity of each minute of a span (Article 4(d) to (f), (j)); `at` gives rest for all others."""
-    line = {}
-    for start, past, activity in spans:
-        for minute in range(start, past):
-            line[minute] = activity
-    return line
+    """What is done at each minute (Article 4(d) to (f), (j)): one that no span has is at rest."""
+    return Line(minutes_at(spans, (AVAILABLE, WORK, DRIVE)), minutes_at(spans, (DRIVE,)))
 
 
-def at(line, minute):
-    """What is done at a minute: a minute that no span has is at rest."""
-    return line.get(minute, REST)
+def between(minutes, start, past):
+    """Those of some minutes in order that lie from one minute to before another."""
+    return minutes[bisect_left(minutes, start) : bisect_left(minutes, past)]
 
 
 def rest_runs(line):
     """The maximal sets of consecutive minutes at rest, in order (Article 4(f)): the first starts at 0, the last ends FAR."""
-    busy = [minute for minute in sorted(line) if at(line, minute) != REST]
-    if not busy:
+    if not line.busy:
         return [Run(0, FAR)]
-    runs = [Run(0, busy[0])]
-    for one, next_one in zip(busy, busy[1:]):
+    runs = [Run(0, line.busy[0])]
+    for one, next_one in zip(line.busy, line.busy[1:]):
         if one + 1 < next_one:
             runs.append(Run(one + 1, next_one))
-    runs.append(Run(busy[-1] + 1, FAR))
+    runs.append(Run(line.busy[-1] + 1, FAR))
     return runs
 
 
@@ -97,7 +101,7 @@ def rests_of(runs, least):
 
 def driving_minutes(line, start, past):
     """The minutes at drive from one minute up to another (Article 4(j))."""
-    return [minute for minute in range(start, past) if at(line, minute) == DRIVE]
+    return between(line.drive, start, past)
 
 
 def over(line, limit, start, past):
@@ -186,7 +190,7 @@ def weeks_around(base, past):
 
 def is_wholly_at_rest(line, week):
     """Each minute of the week is at rest."""
-    return all(at(line, minute) == REST for minute in range(week_start(week), week_start(week + 1)))
+    return not between(line.busy, week_start(week), week_start(week + 1))
 
 
 def touches(run, week):
@@ -215,7 +219,7 @@ def minutes_before(end, run):
 
 def main_rest(runs, horizon, week):
     """Of the rests that start in the week with 24 known hours the longest, the earliest of equals (Article 8(6))."""
-    candidates = [run for run in runs if is_in_week(week, run.start) and minutes_before(horizon, run) >= 1440]
+    candidates = [run for run in weekly_rests(runs) if is_in_week(week, run.start) and minutes_before(horizon, run) >= 1440]
     for run in candidates:
         known = minutes_before(horizon, run)
         earlier = [other for other in candidates if other.start < run.start]
@@ -248,13 +252,15 @@ def paid_from(run, debts):
     return sum(debt.amount for debt in debts if debt.paid_by == run.start)
 
 
+def room(runs, horizon, earlier, debt, run):
+    """The minutes of a run before a debt's deadline, less what it keeps and what it pays of earlier debts (Article 8(6b))."""
+    return minutes_before(min(horizon, debt.deadline), run) - kept(runs, horizon, run) - paid_from(run, earlier)
+
+
 def can_pay(runs, horizon, earlier, debt, run):
-    """A run after the debt's main rest has room for all of it before the deadline, beside what it keeps (Article 8(6b))."""
-    needed = kept(runs, horizon, run) + paid_from(run, earlier) + debt.amount
-    return (
-        is_before(main_rest(runs, horizon, debt.week), run)
-        and needed <= minutes_before(min(horizon, debt.deadline), run)
-    )
+    """A run after the debt's main rest has room for all of it (Article 8(6b))."""
+    main = main_rest(runs, horizon, debt.week)
+    return is_before(main, run) and debt.amount <= room(runs, horizon, earlier, debt, run)
 
 
 def debts_of(runs, base, horizon):
@@ -402,6 +408,42 @@ def examine(spans, base, past):
     )
     breaches.sort(key=lambda breach: (breach.moment, breach.kind, breach.since))
     return [tuple(breach) for breach in breaches], [tuple(debt) for debt in debts]
+
+
+# The report of what is held
+
+
+def held_minutes(spans):
+    """The mark of each minute of the spans, which are in any order and may have minutes in common."""
+    held = {}
+    for start, past, activity, crew in spans:
+        held.update(dict.fromkeys(range(start, past), Mark(activity, crew)))
+    return held
+
+
+def horizon_of(held, base):
+    """The first minute from the base on that isn't held, or is held as crew, where other rules hold; and which of the two."""
+    minute = base
+    while minute in held and not held[minute].crew:
+        minute += 1
+    return minute, "Crew" if minute in held else "Unknown"
+
+
+def examined_spans(held, base, horizon):
+    """What was done from the base to before the horizon, as spans that follow one another."""
+    spans = []
+    for activity, minutes in groupby(range(base, horizon), lambda minute: held[minute].activity):
+        minutes = list(minutes)
+        spans.append((minutes[0], minutes[-1] + 1, activity))
+    return spans
+
+
+def report(held_spans, base):
+    """The horizon of what is held, its cause, and the breaches and debts of what was done from the base to before it."""
+    held = held_minutes(held_spans)
+    horizon, cause = horizon_of(held, base)
+    breaches, debts = examine(examined_spans(held, base, horizon), base, horizon)
+    return horizon, cause, breaches, debts
 
 
 # The command

@@ -1,14 +1,18 @@
-//! Work on timelines, to be measured: makes a line of so many spans, and then adds so many days to it, one at a time.
+//! Work on timelines, to be measured. Two numbers make a line of so many spans, and then add so many days to it, one at
+//! a time. The word `examine` and three numbers make a line of so many working days with shifts of so many pieces, and
+//! examine it so many times.
 #![tactic(auto)]
 
+mod years;
+
 use std::alloc::Global;
-use std::env;
 use std::rt::Env;
+use std::{env, io};
 use tacho_line::{Line, LineFault};
 use tacho_time::{Activity, Mark, Minute, Span};
 
 /// The first minute of 3 January 2000.
-const START: u32 = 15_780_960;
+pub(crate) const START: u32 = 15_780_960;
 
 /// The span of an hour, from so many hours after the start on. Two that touch have different marks.
 fn hour(number: u32) -> Span {
@@ -30,7 +34,7 @@ fn hour(number: u32) -> Span {
 }
 
 /// Adds what the line lacks of some spans.
-fn add(alloc: Global, line: &mut Line, spans: &[Span]) -> Result<(), LineFault> {
+pub(crate) fn add(alloc: Global, line: &mut Line, spans: &[Span]) -> Result<(), LineFault> {
     let gains = line.gains(alloc, spans)?;
     if line.add(&gains).is_err() {
         return Err(LineFault::Memory);
@@ -89,9 +93,44 @@ fn number(rt: &(impl Env + Alloc), place: usize) -> u32 {
     24
 }
 
-fn main(rt: HostRuntime) -> std::io::Result<()> {
-    match measured(rt.alloc(), number(&rt, 1), number(&rt, 2)) {
+/// Whether the first word of the command line is `examine`.
+fn is_to_examine(rt: &(impl Env + Alloc)) -> bool {
+    let Ok(words) = env::args(rt) else {
+        return false;
+    };
+    for (i, word) in words.enumerate() {
+        if i == 1 {
+            return word.as_str() == "examine";
+        }
+    }
+    false
+}
+
+/// Adds days to a line, and prints how many spans it has then.
+fn tell_added(rt: &(impl Env + Alloc + Print), alloc: Global) -> io::Result<()> {
+    match measured(alloc, number(rt, 1), number(rt, 2)) {
         Ok(line) => println!(rt; "{} spans", line.spans().len()),
         Err(fault) => println!(rt; "{fault}"),
+    }
+}
+
+/// Examines a line, and prints what it has and what was found.
+fn tell_examined(rt: &(impl Env + Alloc + Print), alloc: Global) -> io::Result<()> {
+    match years::examined(alloc, number(rt, 2), number(rt, 3), number(rt, 4)) {
+        Ok(count) => {
+            println!(rt;
+                "{} spans, {} breaches, {} debts",
+                count.spans, count.breaches, count.debts
+            )
+        }
+        Err(fault) => println!(rt; "{fault}"),
+    }
+}
+
+fn main(rt: HostRuntime) -> io::Result<()> {
+    if is_to_examine(&rt) {
+        tell_examined(&rt, rt.alloc())
+    } else {
+        tell_added(&rt, rt.alloc())
     }
 }

@@ -2,6 +2,7 @@
 #![tactic(auto)]
 
 mod card;
+mod reports;
 mod rules;
 mod timeline;
 
@@ -23,6 +24,8 @@ enum Question {
     Timeline,
     /// The breaches in examined lines, a line of words each.
     Rules,
+    /// The reports of timelines, a line of words each.
+    Reports,
 }
 
 /// The question that the word of the command line names.
@@ -33,6 +36,7 @@ fn asked(rt: &(impl Env + Alloc)) -> io::Result<Question> {
             "first" => return Ok(Question::Card(Part::First)),
             "second" => return Ok(Question::Card(Part::Second)),
             "rules" => return Ok(Question::Rules),
+            "reports" => return Ok(Question::Reports),
             _ => (),
         }
     }
@@ -45,6 +49,7 @@ fn answer(rt: &impl Print, alloc: Global, question: Question, bytes: &[u8]) -> i
         Question::Card(part) => card::answer(rt, alloc, bytes, part),
         Question::Timeline => timeline::answer(rt, alloc, bytes),
         Question::Rules => rules::answer(rt, alloc, bytes),
+        Question::Reports => reports::answer(rt, alloc, bytes),
     }
 }
 

@@ -1,17 +1,17 @@
 ghost use Rattle.std.specs.Prelude.{◌≡◌, All, IsTrue, false};
-ghost use Rattle.tacho_hours.specs.Line.{Joined, IsExamined};
+ghost use Rattle.tacho_hours.specs.Line.{Joined, IsBase, IsExamined};
 
 use crate::timeline::{numbers_of, spans_of};
 use std::alloc::{AllocError, Global};
 use std::{io, str};
-use tacho_rules::{Breach, plain};
+use tacho_rules::{Breach, Debt, Found, plain};
 use tacho_time::{Minute, Span, first_minute, week_of};
 
 /// 2000-01-03 00:00, the first Monday that is a base.
 const FIRST: u32 = 15_780_960;
 
 /// 2100-01-01 00:00, where the last day ends that is read.
-const LAST: u32 = 68_374_080;
+pub(crate) const LAST: u32 = 68_374_080;
 
 /// Whether none of the spans is as crew.
 fn are_single(spans: &[Span]) -> bool
@@ -34,34 +34,71 @@ fn are_joined(spans: &[Span], from: Minute, to: Minute) -> bool
     place == to
 }
 
-/// Prints the breaches that were found.
-fn print_breaches(
-    rt: &impl Print,
-    name: &str,
-    found: Result<Vec<Breach>, AllocError>,
-) -> io::Result<()> {
-    let Ok(breaches) = found else {
-        return println!(rt; "Memory");
-    };
-    print!(rt; "{name}")?;
-    for breach in &breaches {
-        let (moment, since) = (breach.moment.number(), breach.since.number());
-        print!(rt; " {:?} {moment} {since} {}", breach.kind, breach.amount)?;
-    }
-    println!(rt; "")
+/// Whether a minute is the first one of a Monday from that on.
+pub(crate) fn is_base(minute: Minute) -> bool
+    ensures { IsTrue result → IsBase minute }
+{
+    minute.number() >= FIRST && first_minute(week_of(minute)) == minute
 }
 
 /// Whether these are the spans of an examined line from a base to before a minute.
 fn are_examined(spans: &[Span], base: Minute, past: Minute) -> bool
     ensures { IsTrue result → IsExamined spans.now base past }
 {
-    if base.number() < FIRST || past.number() > LAST || first_minute(week_of(base)) != base {
+    if !is_base(base) || past.number() > LAST {
         return false;
     }
     are_single(spans) && are_joined(spans, base, past)
 }
 
-/// Prints the breaches that each pass finds in spans from a base to before a minute.
+/// Prints breaches.
+pub(crate) fn print_breaches(rt: &impl Print, name: &str, breaches: &[Breach]) -> io::Result<()> {
+    print!(rt; "{name}")?;
+    for breach in breaches {
+        let (moment, since) = (breach.moment.number(), breach.since.number());
+        print!(rt; " {:?} {moment} {since} {}", breach.kind, breach.amount)?;
+    }
+    println!(rt; "")
+}
+
+/// Prints debts.
+pub(crate) fn print_debts(rt: &impl Print, debts: &[Debt]) -> io::Result<()> {
+    print!(rt; "debts")?;
+    for debt in debts {
+        let (week, deadline) = (debt.week.number(), debt.deadline.number());
+        print!(rt; " {week} {} {deadline}", debt.amount)?;
+        match debt.paid_by {
+            Some(payer) => print!(rt; " {}", payer.number())?,
+            None => print!(rt; " -")?,
+        }
+    }
+    println!(rt; "")
+}
+
+/// Prints the breaches that a pass found.
+fn print_pass(
+    rt: &impl Print,
+    name: &str,
+    found: Result<Vec<Breach>, AllocError>,
+) -> io::Result<()> {
+    match found {
+        Ok(breaches) => print_breaches(rt, name, &breaches),
+        Err(_) => println!(rt; "Memory"),
+    }
+}
+
+/// Prints the breaches and the debts that the pass on weekly rests found, a line each.
+fn print_rests(rt: &impl Print, found: Result<Found, AllocError>) -> io::Result<()> {
+    match found {
+        Ok(found) => {
+            print_breaches(rt, "rests", &found.breaches)?;
+            print_debts(rt, &found.debts)
+        }
+        Err(_) => println!(rt; "Memory\nMemory"),
+    }
+}
+
+/// Prints the breaches that each pass finds in spans from a base to before a minute, and the debts.
 fn tell_breaches(
     rt: &impl Print,
     alloc: Global,
@@ -72,9 +109,10 @@ fn tell_breaches(
     if !are_examined(spans, base, past) {
         return println!(rt; "no examined line");
     }
-    print_breaches(rt, "breaks", plain::breaks(alloc, spans, base, past))?;
-    print_breaches(rt, "days", plain::days(alloc, spans, base, past))?;
-    print_breaches(rt, "weeks", plain::weeks(alloc, spans, base, past))
+    print_pass(rt, "breaks", plain::breaks(alloc, spans, base, past))?;
+    print_pass(rt, "days", plain::days(alloc, spans, base, past))?;
+    print_pass(rt, "weeks", plain::weeks(alloc, spans, base, past))?;
+    print_rests(rt, plain::rests(alloc, spans, base, past))
 }
 
 /// Answers lines, each the spans of an examined line: three numbers a span.

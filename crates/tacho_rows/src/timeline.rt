@@ -29,7 +29,7 @@ fn number_of(mark: Mark) -> u32 {
 }
 
 /// A minute, as far as there are any.
-fn minute_of(number: u32) -> Minute {
+pub(crate) fn minute_of(number: u32) -> Minute {
     Minute::new(number.min(68_428_800))
 }
 
@@ -74,7 +74,11 @@ fn print_spans(rt: &impl Print, name: &str, spans: &[Span]) -> io::Result<()> {
 }
 
 /// The gains of spans, which are added.
-fn gain(alloc: Global, line: &mut Line, numbers: &[u32]) -> Result<Vec<Span>, LineFault> {
+pub(crate) fn gain(
+    alloc: Global,
+    line: &mut Line,
+    numbers: &[u32],
+) -> Result<Vec<Span>, LineFault> {
     let Ok(spans) = spans_of(alloc, numbers) else {
         return Err(LineFault::Memory);
     };

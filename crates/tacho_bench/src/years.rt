@@ -1,0 +1,143 @@
+ghost use Rattle.std.specs.Prelude.{◌≤◌, All, IsTrue};
+ghost use Rattle.tacho_hours.specs.Line.{IsBase};
+
+use crate::{START, add};
+use std::alloc::{AllocError, Global};
+use tacho_line::{Line, LineFault};
+use tacho_rules::examine;
+use tacho_time::{Activity, Mark, Minute, Span, first_minute, week_of};
+
+/// 2100-01-01 00:00, where the last day ends that is examined.
+const LAST: u32 = 68_374_080;
+
+/// The minutes of a shift.
+const SHIFT: u32 = 360;
+
+/// What was found in a line, in all the times that it was examined.
+#[derive(Drop)]
+pub(crate) struct Count {
+    pub(crate) spans: usize,
+    pub(crate) breaches: usize,
+    pub(crate) debts: usize,
+}
+
+/// So many minutes after the start.
+fn minute(number: u32) -> Minute {
+    Minute::new(START.wrapping_add(number).min(LAST))
+}
+
+/// What a driver who is alone does, in minutes after the start.
+fn single(start: u32, past: u32, activity: Activity) -> Span {
+    Span {
+        start: minute(start),
+        past: minute(past),
+        mark: Mark {
+            activity,
+            crew: false,
+        },
+    }
+}
+
+/// What is done in a piece of a shift, by its number: half of them are driving.
+fn activity_of(number: u32) -> Activity {
+    match number % 4 {
+        1 => Activity::Rest,
+        3 => Activity::Work,
+        _ => Activity::Drive,
+    }
+}
+
+/// Adds a shift of six hours in so many pieces.
+fn add_shift(spans: &mut Vec<Span>, from: u32, pieces: u32) -> Result<(), AllocError> {
+    let end = |number: u32| from.wrapping_add(SHIFT.wrapping_mul(number) / pieces.max(1));
+    for i in 0..pieces {
+        spans.push(single(end(i), end(i + 1), activity_of(i)))?;
+    }
+    Ok(())
+}
+
+/// Where the second shift of a day starts, by the day's number from a Monday: at 13:00; on Tuesdays and Thursdays at
+/// 14:30, so that the rest has nine and a half hours; and on one day in four weeks at 15:30, so that it is too short.
+fn second_shift(day: u32) -> u32 {
+    match day % 28 {
+        9 => 930,
+        number if number % 7 == 1 || number % 7 == 3 => 870,
+        _ => 780,
+    }
+}
+
+/// Adds a day of two shifts, the first from 06:00 to 12:00.
+fn add_day(spans: &mut Vec<Span>, day: u32, pieces: u32) -> Result<(), AllocError> {
+    let at = |minutes: u32| day.wrapping_mul(1440).wrapping_add(minutes);
+    let second = second_shift(day);
+    let past = second.wrapping_add(SHIFT);
+    spans.push(single(at(0), at(360), Activity::Rest))?;
+    add_shift(spans, at(360), pieces)?;
+    spans.push(single(at(720), at(second), Activity::Rest))?;
+    add_shift(spans, at(second), pieces)?;
+    spans.push(single(at(past), at(1440), Activity::Rest))?;
+    Ok(())
+}
+
+/// Adds a day of rest.
+fn add_free_day(spans: &mut Vec<Span>, day: u32) -> Result<(), AllocError> {
+    let midnight = day.wrapping_mul(1440);
+    let past = midnight.wrapping_add(1440);
+    spans.push(single(midnight, past, Activity::Rest))?;
+    Ok(())
+}
+
+/// Whether there is no work on a day, by its number from a Monday: on Sundays, and on each second Saturday, so that one
+/// weekly rest of two has 35 hours and the other 59.
+fn is_free(day: u32) -> bool {
+    day % 7 == 6 || day % 14 == 5
+}
+
+/// The line of so many days, with shifts of so many pieces.
+fn line_of(alloc: Global, days: u32, pieces: u32) -> Result<Line, LineFault> {
+    let mut spans = Vec::new(alloc);
+    for day in 0..days {
+        if is_free(day) {
+            add_free_day(&mut spans, day)?;
+        } else {
+            add_day(&mut spans, day, pieces)?;
+        }
+    }
+    let mut line = Line::empty(alloc);
+    add(alloc, &mut line, &spans)?;
+    Ok(line)
+}
+
+/// Whether a line can be examined from a base on.
+fn can_be_examined(line: &Line, base: Minute) -> bool
+    ensures base { IsTrue result → IsBase base }
+    ensures within { IsTrue result → All (λ span. span.past ≤ 68374080) line.now }
+{
+    base.number() >= START
+        && first_minute(week_of(base)) == base
+        && line.spans().iter().all(|span| span.past.number() <= LAST)
+}
+
+/// What is found in the line of so many days when it is examined so many times.
+pub(crate) fn examined(
+    alloc: Global,
+    days: u32,
+    pieces: u32,
+    times: u32,
+) -> Result<Count, LineFault> {
+    let line = line_of(alloc, days, pieces)?;
+    let base = Minute::new(START);
+    let mut count = Count {
+        spans: line.spans().len(),
+        breaches: 0,
+        debts: 0,
+    };
+    if can_be_examined(&line, base) {
+        for _ in 0..times {
+            let report = examine(alloc, &line, base)?;
+            count.breaches = count.breaches.wrapping_add(report.breaches.len());
+            count.debts = count.debts.wrapping_add(report.debts.len());
+        }
+    }
+    Ok(count)
+}

@@ -1,0 +1,67 @@
+ghost use Rattle.std.specs.Prelude.{◌≤◌, All, IsTrue};
+
+use crate::rules::{LAST, is_base, print_breaches, print_debts};
+use crate::timeline::{gain, minute_of, numbers_of};
+use std::alloc::Global;
+use std::{io, str};
+use tacho_line::{Line, LineFault};
+use tacho_rules::{Report, examine};
+use tacho_time::{Minute, Span};
+
+/// Whether all of the spans end by 2100.
+fn are_early(spans: &[Span]) -> bool
+    ensures { IsTrue result → All (λ span. span.past ≤ 68374080) spans.now }
+{
+    spans.iter().all(|span| span.past.number() <= LAST)
+}
+
+/// A line that holds the spans of numbers, three a span.
+fn line_of(alloc: Global, numbers: &[u32]) -> Result<Line, LineFault> {
+    let mut line = Line::empty(alloc);
+    gain(alloc, &mut line, numbers)?;
+    Ok(line)
+}
+
+/// Prints a report: its horizon, its breaches and its debts, a line each.
+fn print_report(rt: &impl Print, report: &Report) -> io::Result<()> {
+    let horizon = report.horizon;
+    println!(rt; "horizon {} {:?}", horizon.minute.number(), horizon.cause)?;
+    print_breaches(rt, "breaches", &report.breaches)?;
+    print_debts(rt, &report.debts)
+}
+
+/// Prints the report of a line from a base on.
+fn tell_report(rt: &impl Print, alloc: Global, line: &Line, base: Minute) -> io::Result<()> {
+    if !is_base(base) || base.number() > LAST || !are_early(line.spans()) {
+        return println!(rt; "no examined line");
+    }
+    match examine(alloc, line, base) {
+        Ok(report) => print_report(rt, &report),
+        Err(_) => println!(rt; "Memory"),
+    }
+}
+
+/// Prints the report of the line of numbers: the base, and then three a span.
+fn tell_line(rt: &impl Print, alloc: Global, numbers: &[u32]) -> io::Result<()> {
+    let Some((base, others)) = numbers.split_first() else {
+        return println!(rt; "no base");
+    };
+    match line_of(alloc, others) {
+        Ok(line) => tell_report(rt, alloc, &line, minute_of(*base)),
+        Err(fault) => println!(rt; "{fault:?}"),
+    }
+}
+
+/// Answers lines, each the base and the spans of a timeline: three numbers a span.
+pub(crate) fn answer(rt: &impl Print, alloc: Global, bytes: &[u8]) -> io::Result<()> {
+    let Ok(text) = str::from_utf8(bytes) else {
+        return println!(rt; "no text");
+    };
+    for words in text.lines() {
+        match numbers_of(alloc, words) {
+            Ok(numbers) => tell_line(rt, alloc, &numbers)?,
+            Err(_) => println!(rt; "not read")?,
+        }
+    }
+    Ok(())
+}
