@@ -77,6 +77,9 @@ fn has_room(weekly: &[Run], horizon: u32, earlier: &[Debt], debt: &Debt, rest: R
 {
     let minutes = known_minutes(rest, horizon.min(debt.deadline.number()));
     let room = minutes.saturating_sub(kept_minutes(weekly, horizon, rest));
+    if room < debt.amount {
+        return false;
+    }
     debt.amount <= left_of(room, rest, earlier)
 }
 

@@ -1,4 +1,4 @@
-use Rattle.std.proofs.Common.{◌≡◌, ◌≤◌, ◌<◌, ◌+◌, ◌-◌, ℕ, ◌∙◌, ap, arith, min}
+use Rattle.std.proofs.Common.{◌≡◌, ◌≤◌, ◌<◌, ◌+◌, ◌-◌, ℕ, ◌∙◌, ap, arith, min, true, false}
 use Rattle.std.proofs.lemmas.Bool.{leb-true, le-leb}
 use Rattle.tacho_hours.specs.declared.report.Debt.{Debt}
 use Rattle.tacho_hours.specs.declared.run.Run.{Run}
@@ -6,6 +6,22 @@ use Rattle.tacho_hours.specs.Debts.{minutes_before, paid_from}
 use Rattle.tacho_rules.specs.Resting.{IsKept}
 use Rattle.tacho_rules.proofs.Compensation.{keeps_is, kept_only, room_yes, room_no}
 use Rattle.tacho_rules.proofs.plain.compensation.has_room.Goals as goal
+
+pub returns-then-room-debt : goal.returns-then-room-debt
+returns-then-room-debt c = λ line are is.
+    let rest : Run = c.args.rest in
+    let debt : Debt = c.args.debt.now in
+    let kept : ℕ = c.kept_minutes.result in
+    let end : c.min.result ≡ min c.args.horizon debt.deadline = omega arith in
+    let known : c.known_minutes-minutes.result ≡ minutes_before (min c.args.horizon debt.deadline) rest = c.known_minutes-minutes.ensures ∙ ap (λ (m : ℕ). minutes_before m rest) end in
+    let small : c.saturating_sub-room.result < debt.amount = c.if-room-debt.true in
+    let is_room : c.saturating_sub-room.result ≡ c.known_minutes-minutes.result - kept = c.saturating_sub-room.ensures in (
+      λ h. absurd (let e : false ≡ true = h in cc),
+      λ h. absurd
+          (let same : kept ≡ h.kept = kept_only line c.args.horizon rest kept h.kept (c.kept_minutes.ensures line are is) h.keeps in
+          let room : h.kept + paid_from rest c.args.earlier.now + debt.amount ≤ minutes_before (min c.args.horizon debt.deadline) rest = h.room in
+          omega arith),
+    )
 
 pub returns : goal.returns
 returns c = λ line are is.
