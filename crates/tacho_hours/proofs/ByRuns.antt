@@ -1,7 +1,6 @@
-use Rattle.std.proofs.Common.{◌≡◌, ℕ, zero, suc, ◌+◌, ◌<◌, ◌≤◌, ◌⊎◌, ◌↔◌, inl, inr, nat_eq, nat_lt, if◌then◌else◌, Option, None, Some, List, [], ◌∷◌, ◌++◌, map, length, get_or, take, refl, sym, ap, ap₂, subst, ◌∙◌, arith}
+use Rattle.std.proofs.Common.{◌≡◌, ℕ, zero, suc, ◌+◌, ◌<◌, ◌≤◌, ◌⊎◌, ◌↔◌, inl, inr, nat_lt, if◌then◌else◌, Option, None, Some, List, [], ◌∷◌, ◌++◌, map, length, get_or, take, refl, sym, ap, ap₂, subst, ◌∙◌, arith}
 use Rattle.std.specs.Prelude.{slice_get, MatchOption}
 use Rattle.std.specs.List.{All, AllPairs, Contains}
-use Rattle.std.specs.Option.{option_map_or}
 use Rattle.std.proofs.Math.ListN.{get_or-map}
 use Rattle.std.proofs.lemmas.Bool.{cases_lt}
 use Rattle.std.proofs.lemmas.Bool.Decides.{nat_tests}
@@ -13,7 +12,7 @@ use Rattle.tacho_hours.specs.declared.report.Debt.{Debt}
 use Rattle.tacho_hours.specs.Line.{IsRestRun, AreRestRuns}
 use Rattle.tacho_hours.specs.Days.{Line}
 use Rattle.tacho_hours.specs.Weeks.{week_start}
-use Rattle.tacho_hours.specs.Debts.{paid_from, CanPay, Pays, IsSettled, AreOwed, AreDebts}
+use Rattle.tacho_hours.specs.Debts.{share, paid_from, CanPay, Pays, IsSettled, AreOwed, AreDebts}
 use Rattle.tacho_hours.specs.ByRuns.{CanTake, IsTurn, AfterRun, AfterRuns, ArePaidByRuns}
 use Rattle.tacho_hours.proofs.Unique.{contains_head, contains_tail, contains_cases, head_first, tail_order}
 use Rattle.tacho_hours.proofs.Owing.{Alike, separate, can_alike, Settled, settled_head, settled_tail, settled}
@@ -78,10 +77,6 @@ Sooner a b = a.start < b.start
 never_sooner : (a b : Run) → Sooner a b → Sooner b a → ⊥
 unfolding Sooner
 never_sooner a b e f = omega arith
-
--- what a run pays of a debt
-abbrev share : Run → Debt → ℕ
-share run debt = option_map_or (λ start. if nat_eq start run.start then debt.amount else 0) debt.paid_by 0
 
 -- of a debt that a later run pays, nothing
 other_share : (run : Run) (debt : Debt) (s : ℕ) → run.start < s → share run (record debt { paid_by = Some s }) ≡ 0

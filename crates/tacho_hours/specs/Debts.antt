@@ -40,9 +40,13 @@ pub record Keeps (line : Line) (horizon : ℕ) (run : Run) (kept : ℕ) : Type 0
   pub main : (w : ℕ) → IsMainRest line horizon w run → kept ≡ 2700
   pub other : ((w : ℕ) → IsMainRest line horizon w run → ⊥) → kept ≡ 540
 
--- what a run pays of debts
+-- what a run pays of a debt
+abbrev pub share : Run → Debt → ℕ
+share run debt = option_map_or (λ start. if nat_eq start run.start then debt.amount else 0) debt.paid_by 0
+
+-- and of all of some debts
 abbrev pub paid_from : Run → List Debt → ℕ
-paid_from run debts = sum_by (λ debt. option_map_or (λ start. if nat_eq start run.start then debt.amount else 0) debt.paid_by 0) debts
+paid_from run debts = sum_by (share run) debts
 
 -- before the deadline a run has the debt, beside what it keeps and pays of earlier debts
 pub record HasRoom (line : Line) (horizon : ℕ) (earlier : List Debt) (debt : Debt) (run : Run) : Type 0 where

@@ -1,11 +1,10 @@
-ghost use Rattle.std.specs.Prelude.{◌≡◌, ◌-◌, ◌+◌, ◌<◌, ◌≤◌, ◌↔◌, ℕ, AllPairs, Contains, IfOk, IsTrue, MatchOption, if◌then◌else◌, nat_eq};
-ghost use Rattle.std.specs.Option.{option_map_or};
+ghost use Rattle.std.specs.Prelude.{◌≡◌, ◌-◌, ◌+◌, ◌<◌, ◌≤◌, ◌↔◌, ℕ, AllPairs, Contains, IfOk, IsTrue, MatchOption};
 ghost use Rattle.std.specs.Prelude.{None as NoPayer};
 ghost use Rattle.tacho_hours.specs.declared.run.Run.{Run as RunValue};
 ghost use Rattle.tacho_hours.specs.declared.report.Debt.{Debt as DebtValue};
 ghost use Rattle.tacho_hours.specs.Line.{IsRestRun};
 ghost use Rattle.tacho_hours.specs.Days.{Line, AreRestsOf};
-ghost use Rattle.tacho_hours.specs.Debts.{paid_from, CanPay, HasRoom, IsMainRest, Owes, Pays, AreDebts};
+ghost use Rattle.tacho_hours.specs.Debts.{share, paid_from, CanPay, HasRoom, IsMainRest, Owes, Pays, AreDebts};
 ghost use Rattle.tacho_hours.specs.Weeks.{week_start};
 ghost use Rattle.tacho_rules.specs.Collected.{AreThose};
 ghost use Rattle.tacho_rules.specs.Resting.{AreInTime, IsLastRun, IsDebtOf, IsOverdue};
@@ -49,7 +48,7 @@ fn debt_of(weekly: &[Run], horizon: u32, last: Run, rest: Run) -> Option<Debt>
 
 /// What a rest pays of a debt.
 fn share_of(rest: Run, debt: &Debt) -> u32
-    ensures { result ≡ option_map_or (λ start. if nat_eq start rest.start then debt.now.amount else 0) debt.now.paid_by 0 }
+    ensures { result ≡ share rest debt.now }
 {
     match debt.paid_by {
         Some(start) if start.number() == rest.start => debt.amount,

@@ -15,8 +15,8 @@ pub(super) const WEEKLY_REST: u32 = 1440;
 /// The least regular weekly rest (Article 4(h)).
 pub(super) const REGULAR_REST: u32 = 2700;
 
-/// The least rest that a compensation is attached to (Article 8(6b)).
-const DAILY_REST: u32 = 540;
+/// The least daily rest (Article 4(g)), to which a compensation may be attached (Article 8(6b)).
+pub(super) const DAILY_REST: u32 = 540;
 
 /// The first minute of the first week.
 const FIRST_WEEK: u32 = 5760;

@@ -8,7 +8,7 @@ ghost use Rattle.tacho_rules.specs.Resting.{AreInTime, LacksRests, IsLate, IsLac
 
 use crate::found::Found;
 use crate::plain::compensation::{debts_of, overdue};
-use crate::plain::main_rests::{REGULAR_REST, WEEKLY_REST, touching};
+use crate::plain::main_rests::{DAILY_REST, REGULAR_REST, WEEKLY_REST, touching};
 use std::alloc::{AllocError, Global};
 use tacho_hours::{Breach, Kind, Run, long_rests, put_in_order, rest_runs};
 use tacho_time::{Minute, Span, Week, first_minute, week_of};
@@ -16,9 +16,6 @@ use tacho_time::{Minute, Span, Week, first_minute, week_of};
 /// How many minutes after the end of a weekly rest the next one starts at the latest (Article 8(6) of Regulation (EC)
 /// 561/2006): six days.
 const SIX_DAYS: u32 = 8640;
-
-/// The least daily rest (Article 4(g)).
-const DAILY_REST: u32 = 540;
 
 /// The breaches of weekly rests that start too late (Article 8(6)), in order of time.
 fn late_rests(alloc: Global, weekly: &[Run]) -> Result<Vec<Breach>, AllocError>
