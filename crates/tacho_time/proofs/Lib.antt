@@ -4,3 +4,4 @@ mod ReadLemmas
 mod MonthLemmas
 mod DigitLemmas
 mod ReadBackLemmas
+mod PageFacts

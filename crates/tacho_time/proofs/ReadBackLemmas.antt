@@ -1,5 +1,5 @@
--- Written days and minutes are read back, and nothing else is read.
-use Rattle.std.proofs.Common.{◌≡◌, ℕ, ◌+◌, ◌*◌, ◌/◌, ◌%◌, ◌<◌, ◌≤◌, ◌↔◌, ◌&&◌, ◌==◌, nat_le, Bool, true, false, cond, List, ◌∷◌, ◌++◌, length, take, drop, slice_index, codes, Option, None, Some, Result, Ok, Err, ℤ, pos, negsuc, refl, sym, ap, ◌∙◌, arith}
+-- Written days, minutes and months are read back, and nothing else is read.
+use Rattle.std.proofs.Common.{◌≡◌, ℕ, ◌+◌, ◌-◌, ◌*◌, ◌/◌, ◌%◌, ◌<◌, ◌≤◌, ◌↔◌, ◌&&◌, ◌==◌, nat_le, Bool, true, false, cond, List, ◌∷◌, ◌++◌, length, take, drop, slice_index, codes, Option, None, Some, Result, Ok, Err, ℤ, pos, negsuc, refl, sym, ap, ◌∙◌, arith}
 use Rattle.std.proofs.lemmas.Bool.Decides.{nat_tests}
 use Rattle.std.proofs.lemmas.List.{take-append-drop, drop-drop, drop_more, length-take-le, length-drop}
 use Rattle.std.specs.Int.{IsInRange}
@@ -9,11 +9,11 @@ use Rattle.jiff_core.specs.Calendar.{days_from_civil, days_in_month, IsCivilDate
 use Rattle.jiff_core.proofs.CalendarLemmas.{days_in_month_bounds}
 use Rattle.jiff_core.proofs.DateLemmas.{epoch_day_injective}
 use Rattle.tacho_time.specs.Calendar.{civil}
-use Rattle.tacho_time.specs.Text.{two_digits, day_text, minute_text}
+use Rattle.tacho_time.specs.Text.{two_digits, day_text, minute_text, month_text}
 use Rattle.tacho_time.specs.declared.fault.TimeFault.{TimeFault}
 use Rattle.tacho_time.specs.declared.fault.TimeFault.TheVariants.{Shape, OutOfRange, NoSuchDate}
 use Rattle.tacho_time.specs.declared.read.DateParts.{DateParts}
-use Rattle.tacho_time.specs.Reading.{digits_at, date_at, date_parts, is_date, is_time, read_day, day_of_date, day_of_parts, day_at, minute_of_day, minute_of_parts, minute_at}
+use Rattle.tacho_time.specs.Reading.{digits_at, date_at, date_parts, is_date, is_time, read_day, day_of_date, day_of_parts, day_at, minute_of_day, minute_of_parts, minute_at, is_month, month_number, month_of_parts, month_at}
 use Rattle.tacho_time.proofs.CivilLemmas.{civil_number}
 use Rattle.tacho_time.proofs.DigitLemmas.{pair_spelled, four_spelled, pair_read, four_read}
 use Rattle.tacho_time.proofs.ReadLemmas.{date_test, same_number}
@@ -312,3 +312,83 @@ minute_texts text n = (there, back) where
 
   back : (15780960 ≤ n) × (n ≤ 68374079) × (text ≡ minute_text n) → minute_at text ≡ Ok n
   back h = ap minute_at h.2 ∙ minute_written n h.0 h.1
+
+-- ---- months
+
+-- the year and the month that a month was read from
+record HasMonth (years months : Option ℕ) (n : ℕ) : Type 0 where
+  year : ℕ
+  month : ℕ
+  year_is : years ≡ Some year
+  month_is : months ≡ Some month
+  low : 2000 ≤ year
+  high : year ≤ 2099
+  first : 1 ≤ month
+  last : month ≤ 12
+  number : 12 * year + (month - 1) ≡ n
+
+-- a number between two others passes the test, and no other does
+between : (low n high : ℕ) → nat_le low n && nat_le n high ≡ true → (low ≤ n) × (n ≤ high)
+between low n high t = (grind (arith, nat_tests), grind (arith, nat_tests))
+
+between_test : (low n high : ℕ) → low ≤ n → n ≤ high → nat_le low n && nat_le n high ≡ true
+between_test low n high l h = grind (arith, nat_tests)
+
+-- a month comes of a year and a month of the year
+has_month : (years months : Option ℕ) (n : ℕ) → month_of_parts years months ≡ Ok n → HasMonth years months n
+has_month (Some year) (Some month) n h =
+    let dated = ok_if (is_month month) (cond (nat_le 2000 year && nat_le year 2099) (Ok (month_number year month)) (Err OutOfRange)) NoSuchDate n h in
+    let ranged = ok_if (nat_le 2000 year && nat_le year 2099) (Ok (month_number year month)) OutOfRange n dated.1 in
+    let of_year = between 1 month 12 dated.0 in
+    let years = between 2000 year 2099 ranged.0 in
+    record { year = year; month = month; year_is = refl; month_is = refl; low = years.0; high = years.1; first = of_year.0; last = of_year.1; number = same_ok (month_number year month) n ranged.1 }
+has_month (Some year) None n h = cc
+has_month None months n h = cc
+
+-- a text that is read as a month is the text of that month
+month_back : (text : List ℕ) (n : ℕ) → length text ≡ 7 → slice_index text 4 ≡ 45 → HasMonth (digits_at (take 4 text)) (digits_at (drop 5 text)) n → (24000 ≤ n) × (n < 25200) × (text ≡ month_text n)
+month_back text n len sign t =
+    let behind = length-drop 5 text in
+    let year = four_spelled (take 4 text) t.year (length-take-le 4 text (omega arith)) t.year_is in
+    let month = pair_spelled (drop 5 text) t.month (omega arith) t.month_is in
+    let low = t.low in
+    let high = t.high in
+    let first = t.first in
+    let last = t.last in
+    let number = t.number in
+    let years : t.year ≡ n / 12 = omega arith in
+    let months : t.month ≡ n % 12 + 1 = omega arith in (
+      omega arith,
+      omega arith,
+      piece text 0 4 45 (omega arith) sign
+          ∙ ap (λ l. l ++ 45 ∷ drop 5 text) (year.0 ∙ ap (λ (y : ℕ). two_digits (y / 100) ++ two_digits (y % 100)) years)
+          ∙ ap (λ l. (two_digits (n / 12 / 100) ++ two_digits (n / 12 % 100)) ++ 45 ∷ l) (month.0 ∙ ap two_digits months),
+    )
+
+-- the text of a month in range is read as it
+month_written : (n : ℕ) → 24000 ≤ n → n < 25200 → month_at (month_text n) ≡ Ok n
+month_written n low high =
+    let year = n / 12 in
+    let month = n % 12 + 1 in
+    let number : month_number year month ≡ n = omega arith in
+    ap (λ (o : Option ℕ). month_of_parts o (digits_at (two_digits month))) (four_read year (omega arith))
+    ∙ ap (λ (o : Option ℕ). month_of_parts (Some year) o) (pair_read month (omega arith))
+    ∙ ap (λ b. cond b (cond (nat_le 2000 year && nat_le year 2099) (Ok (month_number year month)) (Err OutOfRange)) (Err NoSuchDate)) (between_test 1 month 12 (omega arith) (omega arith))
+    ∙ ap (λ b. cond b (Ok (month_number year month)) (Err OutOfRange)) (between_test 2000 year 2099 (omega arith) (omega arith))
+    ∙ ap (λ (k : ℕ). Ok k) number
+
+-- a length and a sign that pass the test
+month_shape : (len size a x : ℕ) → (len == size) && (a == x) ≡ true → (len ≡ size) × (a ≡ x)
+month_shape len size a x t = (grind (arith, nat_tests), grind (arith, nat_tests))
+
+-- a month is read from its text, and from no other
+pub month_texts : (text : List ℕ) (n : ℕ) → (month_at text ≡ Ok n) ↔ ((24000 ≤ n) × (n < 25200) × (text ≡ month_text n))
+month_texts text n = (there, back) where
+  there : month_at text ≡ Ok n → (24000 ≤ n) × (n < 25200) × (text ≡ month_text n)
+  there h =
+      let test = ok_if _ (month_of_parts (digits_at (take 4 text)) (digits_at (drop 5 text))) Shape n h in
+      let shape = month_shape (length text) 7 (slice_index text 4) 45 test.0 in
+      month_back text n shape.0 shape.1 (has_month (digits_at (take 4 text)) (digits_at (drop 5 text)) n test.1)
+
+  back : (24000 ≤ n) × (n < 25200) × (text ≡ month_text n) → month_at text ≡ Ok n
+  back h = ap month_at h.2 ∙ month_written n h.0 h.1

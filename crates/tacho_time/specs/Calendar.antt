@@ -2,6 +2,7 @@
 use Rattle.std.specs.Prelude.{◌≡◌, ℕ, zero, suc, ◌+◌, ◌-◌, nat_lt, pos, if◌then◌else◌}
 use Rattle.jiff_core.specs.Calendar.{days_in_year, days_in_month, days_from_civil, IsCivilDate}
 
+-- a date: its year, its month from 1 and its day from 1
 pub record Civil : Type 0 where
   pub year : ℕ
   pub month : ℕ

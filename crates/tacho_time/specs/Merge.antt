@@ -8,16 +8,19 @@ use Rattle.tacho_time.specs.declared.span.Activity.TheVariants.{Rest, Available,
 use Rattle.tacho_time.specs.declared.canonical.SpanFault.{SpanFault}
 use Rattle.tacho_time.specs.declared.canonical.SpanFault.TheVariants.{Contradiction, Memory}
 
+-- a number for each activity
 abbrev pub activity_code : Activity → ℕ
 activity_code Rest = 0
 activity_code Available = 1
 activity_code Work = 2
 activity_code Drive = 3
 
+-- two tests have one answer
 abbrev pub same_bool : Bool → Bool → Bool
 same_bool true b = b
 same_bool false b = not b
 
+-- two marks are the same
 abbrev pub same_mark : Mark → Mark → Bool
 same_mark a b = (activity_code a.activity == activity_code b.activity) && same_bool a.crew b.crew
 
@@ -42,6 +45,7 @@ merged_from last (s ∷ ss) =
     else (if not (same_mark s.mark last.mark) then Err s.start
     else merged_from (stretched last s) ss)
 
+-- the runs of spans, or the first minute with two marks
 abbrev pub merged : List Span → Result (List Span) ℕ
 merged [] = Ok []
 merged (s ∷ ss) = merged_from s ss

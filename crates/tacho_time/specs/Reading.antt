@@ -19,9 +19,11 @@ digits_at text = digits_from 0 text
 abbrev pub is_month : ℕ → Bool
 is_month month = nat_le 1 month && nat_le month 12
 
+-- the calendar has this date
 abbrev pub is_date : ℕ → ℕ → ℕ → Bool
 is_date year month day = is_month month && nat_le 1 day && nat_le day (days_in_month (pos year) month)
 
+-- a day has this hour and this minute
 abbrev pub is_time : ℕ → ℕ → Bool
 is_time hour minute = nat_lt hour 24 && nat_lt minute 60
 
@@ -54,6 +56,7 @@ date_at text =
     then date_parts (digits_at (take 4 text)) (digits_at (take 2 (drop 5 text))) (digits_at (drop 8 text))
     else None
 
+-- the day of a date's parts, or Z1 where there are none
 abbrev pub day_of_parts : Option DateParts → Result ℕ TimeFault
 day_of_parts None = Err Shape
 day_of_parts (Some d) = day_of_date d.year d.month d.day
@@ -62,10 +65,12 @@ day_of_parts (Some d) = day_of_date d.year d.month d.day
 abbrev pub day_at : List ℕ → Result ℕ TimeFault
 day_at text = day_of_parts (date_at text)
 
+-- a minute of a day, or the fault in its place
 abbrev pub minute_of_day : Result ℕ TimeFault → ℕ → ℕ → Result ℕ TimeFault
 minute_of_day (Ok day) hour minute = Ok (1440 * day + 60 * hour + minute)
 minute_of_day (Err fault) hour minute = Err fault
 
+-- the minute of a date's parts and a time, or the first of Z1, Z2 and Z3
 abbrev pub minute_of_parts : Option DateParts → Option ℕ → Option ℕ → Result ℕ TimeFault
 minute_of_parts (Some d) (Some hour) (Some minute) =
     if is_date d.year d.month d.day && is_time hour minute then minute_of_day (day_of_date d.year d.month d.day) hour minute
@@ -85,6 +90,7 @@ minute_at text =
 abbrev pub month_number : ℕ → ℕ → ℕ
 month_number year month = 12 * year + (month - 1)
 
+-- the month of a year and a month of the year, or the first of Z1, Z2 and Z3
 abbrev pub month_of_parts : Option ℕ → Option ℕ → Result ℕ TimeFault
 month_of_parts (Some year) (Some month) =
     if is_month month then (if nat_le 2000 year && nat_le year 2099 then Ok (month_number year month) else Err OutOfRange)

@@ -1,4 +1,4 @@
--- The texts of days, minutes and spans, as bytes.
+-- The texts of days, minutes, months and spans, as bytes.
 use Rattle.std.specs.Prelude.{ℕ, ◌+◌, ◌/◌, ◌%◌, Bool, true, false, List, [], ◌∷◌, ◌++◌, codes}
 use Rattle.tacho_time.specs.declared.span.Activity.{Activity}
 use Rattle.tacho_time.specs.declared.span.Activity.TheVariants.{Rest, Available, Work, Drive}
@@ -19,12 +19,18 @@ day_text n =
 abbrev pub minute_text : ℕ → List ℕ
 minute_text n = day_text (n / 1440) ++ codes " " ++ two_digits (n % 1440 / 60) ++ codes ":" ++ two_digits (n % 60)
 
+-- `YYYY-MM`, of a month by its number: twelve times its year, and how many months of the year come before it
+abbrev pub month_text : ℕ → List ℕ
+month_text n = two_digits (n / 12 / 100) ++ two_digits (n / 12 % 100) ++ codes "-" ++ two_digits (n % 12 + 1)
+
+-- the word of an activity
 abbrev pub activity_name : Activity → List ℕ
 activity_name Rest = codes "rest"
 activity_name Available = codes "available"
 activity_name Work = codes "work"
 activity_name Drive = codes "drive"
 
+-- the word of a second driver, or of none
 abbrev pub manning_name : Bool → List ℕ
 manning_name true = codes "crew"
 manning_name false = codes "single"

@@ -1,5 +1,4 @@
-ghost use Rattle.std.specs.Prelude.{◌≡◌, ◌++◌, ◌∷◌, [], List, filter, IfOk, OnOk, MatchResult, Ok};
-ghost use Rattle.tacho_time.specs.declared.span.Span.{Span};
+ghost use Rattle.std.specs.Prelude.{◌≡◌, ◌++◌, ◌∷◌, [], filter, IfOk, OnOk, MatchResult, Ok};
 ghost use Rattle.tacho_time.specs.Merge.{merged, Fails, same_mark, is_apart, stretched, IsFirstFault, is_full};
 ghost use Rattle.tacho_time.specs.Spans.{Gives, IsCanonical, IsCanonicalOf, GiveSame, StartsFrom};
 
@@ -116,8 +115,3 @@ fn full_spans(alloc: Global, spans: &[Span]) -> Result<Vec<Span>, AllocError>
         .copied()
         .collect(alloc)
 }
-
-/// Lists that are canonical and give the same are the same, so a set of pairs has one canonical list.
-pub fn one_canonical_list()
-    ensures { (xs ys : List Span) → IsCanonical xs → IsCanonical ys → GiveSame xs ys → xs ≡ ys }
-{}

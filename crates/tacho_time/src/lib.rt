@@ -5,6 +5,7 @@ mod canonical;
 mod day;
 mod device;
 mod fault;
+pub mod laws;
 mod minute;
 mod month;
 mod read;
@@ -13,18 +14,19 @@ mod text;
 mod week;
 mod whole;
 
-pub use canonical::{SpanFault, canonical_spans, one_canonical_list};
+pub use canonical::{SpanFault, canonical_spans};
 pub use day::Day;
 pub use device::{Device, Failed, Sink, Source};
 pub use fault::TimeFault;
 pub use jiff_core::civil::Weekday;
 pub use minute::Minute;
 pub use month::{Month, month_range};
-pub use read::{day_is_read_back, minute_is_read_back};
 pub use span::{Activity, Mark, Span};
-pub use text::{civil_dates, write_day, write_minute, write_span};
+pub use text::{write_day, write_minute, write_span};
 pub use week::{Week, first_minute, next_week, week_of, weekday};
 pub use whole::{ReadFault, read_all, write_all};
 
+#[cfg(test)]
+mod device_tests;
 #[cfg(test)]
 mod tests;

@@ -1,6 +1,5 @@
-ghost use Rattle.std.specs.Prelude.{◌≡◌, ℕ, ◌<◌, ◌≤◌, ◌^◌, ◌↔◌, List, length, IfSome, Ok};
-ghost use Rattle.tacho_time.specs.Reading.{digits_at, date_at, day_at, day_of_date as date_day, minute_at, minute_of_parts as parts_minute, AreWritten};
-ghost use Rattle.tacho_time.specs.Text.{day_text, minute_text};
+ghost use Rattle.std.specs.Prelude.{◌≡◌, ◌<◌, ◌≤◌, ◌^◌, length, IfSome};
+ghost use Rattle.tacho_time.specs.Reading.{digits_at, date_at, day_of_date as date_day, minute_of_parts as parts_minute, AreWritten};
 
 use crate::day::Day;
 use crate::fault::TimeFault;
@@ -72,13 +71,3 @@ pub(crate) fn minute_of_parts(date: DateParts, hour: u16, minute: u16) -> Result
     let day = day_of_date(date)?;
     Ok(Minute::new(1440 * day.number() + 60 * hour as u32 + minute as u32))
 }
-
-/// A day is read from its written form, and from no other text.
-pub fn day_is_read_back()
-    ensures { (text : List ℕ) (n : ℕ) → (day_at text ≡ Ok n) ↔ ((10959 ≤ n) × (n ≤ 47481) × (text ≡ day_text n)) }
-{}
-
-/// A minute of these days is read from its written form, and from no other text.
-pub fn minute_is_read_back()
-    ensures { (text : List ℕ) (n : ℕ) → (minute_at text ≡ Ok n) ↔ ((15780960 ≤ n) × (n ≤ 68374079) × (text ≡ minute_text n)) }
-{}

@@ -117,3 +117,16 @@ fn a_week_begins_on_monday(rt: HostRuntime) -> Result<(), Fail> {
     assert_eq!(rt; weekday(Day::new(0)), Weekday::Thursday);
     Ok(())
 }
+
+#[test]
+fn a_minute_is_written_alike_in_each_style(rt: HostRuntime) -> Result<(), Fail> {
+    let minute = Minute::new(28_491_840);
+    for text in [
+        format!(in rt.alloc(); "{minute}")?,
+        format!(in rt.alloc(); "{minute:20}")?,
+        format!(in rt.alloc(); "{minute:>20}")?,
+    ] {
+        assert_eq!(rt; text.as_str(), "2024-03-04 00:00");
+    }
+    Ok(())
+}

@@ -1,6 +1,5 @@
-ghost use Rattle.std.specs.Prelude.{◌≡◌, ℕ, ◌+◌, ◌<◌, ◌≤◌, ◌++◌, OnOk, OnErr, string_bytes};
+ghost use Rattle.std.specs.Prelude.{◌≡◌, ◌+◌, ◌<◌, ◌≤◌, ◌++◌, OnOk, OnErr, string_bytes};
 ghost use Rattle.arrayvec.specs.ArrayString.{array_string_len};
-ghost use Rattle.tacho_time.specs.Calendar.{civil, HasNumber};
 ghost use Rattle.tacho_time.specs.Text.{two_digits, day_text, minute_text, span_line};
 
 use crate::day::Day;
@@ -97,14 +96,11 @@ impl fmt::Display for Minute {
 
     ghost output = { λ minute. Some (minute_text minute) };
 
+    ghost styled_output = { λ minute spec. Some (minute_text minute) };
+
     fn fmt<W: fmt::Write>(&self, f: &mut fmt::Formatter<W>) -> fmt::Result {
         let mut line = Line::new();
         push_minute(&mut line, *self);
         f.write_str(line.as_str())
     }
 }
-
-/// The date that is written of a day is the one that the calendar has at its number.
-pub fn civil_dates()
-    ensures { (n : ℕ) → n ≤ 47520 → HasNumber (civil n) n }
-{}

@@ -1,4 +1,4 @@
-ghost use Rattle.std.specs.Prelude.{◌≡◌, ℕ, ◌<◌, ◌≤◌, ◌↔◌, true, length, take, IfOk, IfSome, OnOk, IsErrOf, is_err};
+ghost use Rattle.std.specs.Prelude.{◌≡◌, ℕ, ◌+◌, ◌<◌, ◌≤◌, ◌↔◌, List, true, length, take, IfOk, IfSome, OnOk, IsErrOf, is_err};
 ghost use Rattle.std.specs.Io.KnownBytes.{Appends, Consumes};
 ghost use Rattle.tacho_time.specs.declared.whole.ReadFault.{ReadFault};
 
@@ -29,6 +29,8 @@ pub fn read_all<R: Source>(
     ensures whole { IfOk result (λ bytes. IfSome (R.unread reader.old) (λ input. bytes.items ≡ input)) }
     ensures within { IfOk result (λ bytes. length bytes.items ≤ limit) }
     ensures large { IsErrOf result ReadFault.TooLarge → IfSome (R.unread reader.old) (λ input. limit < length input) }
+    // Of a larger input, one byte more than the limit was taken.
+    ensures over { IsErrOf result ReadFault.TooLarge → (taken : List ℕ) × (length taken ≡ limit + 1) × Consumes (R.unread reader.old) (R.unread reader.new) taken }
     ensures failed { IsErrOf result ReadFault.Failed ↔ (R.has_failed reader.new ≡ true) }
 {
     if reader.failed() {

@@ -1,5 +1,5 @@
 use Rattle.tacho_time.proofs.CivilLemmas.{civil_number}
-use Rattle.tacho_time.proofs.text.civil_dates.Goals as goal
+use Rattle.tacho_time.proofs.laws.civil_dates.Goals as goal
 
 pub returns : goal.returns
 returns c = civil_number

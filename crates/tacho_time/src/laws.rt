@@ -1,0 +1,33 @@
+//! Laws about time and spans. A law is a function without a body: what it ensures is proved, and holds for all that it names.
+
+ghost use Rattle.std.specs.Prelude.{◌≡◌, ◌⊎◌, ℕ, ◌<◌, ◌≤◌, ◌↔◌, List, Ok};
+ghost use Rattle.tacho_time.specs.declared.span.Span.{Span};
+ghost use Rattle.tacho_time.specs.Calendar.{civil, HasNumber};
+ghost use Rattle.tacho_time.specs.Reading.{day_at, minute_at, month_at};
+ghost use Rattle.tacho_time.specs.Spans.{Gives, IsCanonical, IsCanonicalOf, GiveSame, IsFirstConflict};
+ghost use Rattle.tacho_time.specs.Text.{day_text, minute_text, month_text};
+
+/// The date that is written of a day is the one that the calendar has at that number.
+pub fn civil_dates()
+    ensures { (n : ℕ) → n ≤ 47520 → HasNumber (civil n) n }
+{}
+
+/// A day is read from its written form, and from no other text.
+pub fn day_is_read_back()
+    ensures { (text : List ℕ) (n : ℕ) → (day_at text ≡ Ok n) ↔ ((10959 ≤ n) × (n ≤ 47481) × (text ≡ day_text n)) }
+{}
+
+/// A minute of these days is read from its written form, and from no other text.
+pub fn minute_is_read_back()
+    ensures { (text : List ℕ) (n : ℕ) → (minute_at text ≡ Ok n) ↔ ((15780960 ≤ n) × (n ≤ 68374079) × (text ≡ minute_text n)) }
+{}
+
+/// A month of the years 2000 to 2099 is read from its written form, and from no other text.
+pub fn month_is_read_back()
+    ensures { (text : List ℕ) (n : ℕ) → (month_at text ≡ Ok n) ↔ ((24000 ≤ n) × (n < 25200) × (text ≡ month_text n)) }
+{}
+
+/// Lists that are canonical and give the same are the same, so a set of pairs has one canonical list.
+pub fn one_canonical_list()
+    ensures { (xs ys : List Span) → IsCanonical xs → IsCanonical ys → GiveSame xs ys → xs ≡ ys }
+{}
