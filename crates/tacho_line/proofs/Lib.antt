@@ -5,3 +5,4 @@ mod RangeLemmas
 mod MergeLemmas
 mod AddLemmas
 mod GainLemmas
+mod GapLaw

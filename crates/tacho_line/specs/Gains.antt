@@ -14,6 +14,7 @@ abbrev pub conflict_in : Span → List Span → Option ℕ
 conflict_in r [] = None
 conflict_in r (s ∷ ss) = if same_mark s.mark r.mark then conflict_in r ss else Some (later_of s.start r.start)
 
+-- a minute, or where there is none, another
 abbrev pub first_of : Option ℕ → Option ℕ → Option ℕ
 first_of (Some m) rest = Some m
 first_of None rest = rest

@@ -19,6 +19,7 @@ abbrev pub StartsBehind : Span → List Span → Type 0
 StartsBehind s [] = Unit {0}
 StartsBehind s (t ∷ ts) = s.past ≤ t.start
 
+-- the same of a whole list
 abbrev pub AreInOrder : List Span → Type 0
 AreInOrder [] = Unit {0}
 AreInOrder (s ∷ ss) = (s.start < s.past) × StartsBehind s ss × AreInOrder ss
@@ -41,21 +42,25 @@ abbrev pub joined_from : Span → List Span → List Span
 joined_from last [] = last ∷ []
 joined_from last (s ∷ ss) = if touches last s then joined_from (record last { past = s.past }) ss else last ∷ joined_from s ss
 
+-- the same of a whole list
 abbrev pub joined : List Span → List Span
 joined [] = []
 joined (s ∷ ss) = joined_from s ss
 
 -- ---- around what is added
 
--- the spans that end before a minute, those behind them that start by another, and the rest
+-- the spans that end before a minute
 abbrev pub ending_before : ℕ → List Span → List Span
 ending_before start spans = front_of (λ s. nat_lt s.past start) spans
 
+-- the others
 abbrev pub ending_from : ℕ → List Span → List Span
 ending_from start spans = rest_of (λ s. nat_lt s.past start) spans
 
+-- the spans that start by a minute
 abbrev pub starting_by : ℕ → List Span → List Span
 starting_by past spans = front_of (λ s. nat_le s.start past) spans
 
+-- the others
 abbrev pub starting_behind : ℕ → List Span → List Span
 starting_behind past spans = rest_of (λ s. nat_le s.start past) spans

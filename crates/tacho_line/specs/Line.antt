@@ -10,6 +10,7 @@ use Rattle.tacho_line.specs.declared.horizon.Cause.{Cause}
 use Rattle.tacho_line.specs.declared.horizon.Cause.TheVariants.{Unknown, Crew}
 use Rattle.tacho_line.specs.declared.horizon.Horizon.{Horizon}
 
+-- a minute lies in a span
 abbrev pub covers : Span → ℕ → Bool
 covers s m = nat_le s.start m && nat_lt m s.past
 
@@ -28,6 +29,7 @@ IsWithin start past m = (start ≤ m) × (m < past)
 
 -- ---- gains
 
+-- a span has no minute
 abbrev pub is_empty : Span → Bool
 is_empty s = nat_le s.past s.start
 
@@ -36,6 +38,7 @@ abbrev pub empty_from : ℕ → List Span → Option ℕ
 empty_from place [] = None
 empty_from place (s ∷ spans) = if is_empty s then Some place else empty_from (place + 1) spans
 
+-- L2: the place of the first empty span, counted from 0
 abbrev pub first_empty : List Span → Option ℕ
 first_empty spans = empty_from 0 spans
 
@@ -65,6 +68,7 @@ AreNotHeld line spans = (m : ℕ) (mark : Mark) → Gives spans m mark → mark_
 
 -- ---- gaps and slices
 
+-- a minute lies in one of the gaps
 abbrev pub InGaps : List Gap → ℕ → Type 0
 InGaps [] m = ⊥
 InGaps (g ∷ gaps) m = IsWithin g.start g.past m ⊎ InGaps gaps m
@@ -90,14 +94,17 @@ HoldsWithin line start past m mark = IsWithin start past m × Holds line m mark
 
 -- ---- horizon
 
+-- a minute is held, without a second driver
 abbrev pub IsSingle : Option Mark → Type 0
 IsSingle None = ⊥
 IsSingle (Some mark) = mark.crew ≡ false
 
+-- a minute is held, with a second driver
 abbrev pub IsCrew : Option Mark → Type 0
 IsCrew None = ⊥
 IsCrew (Some mark) = mark.crew ≡ true
 
+-- why the horizon is at a minute of this mark
 abbrev pub IsCause : Option Mark → Cause → Type 0
 IsCause mark Unknown = mark ≡ None
 IsCause mark Crew = IsCrew mark

@@ -22,9 +22,11 @@ abbrev pub gaps_from : ℕ → ℕ → List Span → List Gap
 gaps_from m past [] = gap_between m past
 gaps_from m past (s ∷ ss) = gap_between m s.start ++ gaps_from s.past past ss
 
+-- the later of two minutes
 abbrev pub later_of : ℕ → ℕ → ℕ
 later_of a b = if nat_lt a b then b else a
 
+-- the earlier of two minutes
 abbrev pub earlier_of : ℕ → ℕ → ℕ
 earlier_of a b = if nat_lt a b then a else b
 

@@ -4,7 +4,7 @@
 mod gains;
 mod gap;
 mod horizon;
-mod laws;
+pub mod laws;
 mod line;
 mod merge;
 mod search;
@@ -12,7 +12,6 @@ mod slice;
 
 pub use gap::Gap;
 pub use horizon::{Cause, Horizon};
-pub use laws::line_is_a_map;
 pub use line::{Line, LineFault};
 
 #[cfg(test)]
