@@ -2,7 +2,7 @@
 use Rattle.std.proofs.Common.{◌≡◌, List, Option, Some, None, Bool, true, false, refl}
 use Rattle.std.specs.Prelude.{Box, option_map}
 use Rattle.std.specs.Box.{box_value}
-use Rattle.clap.specs.Words.{Row, Text, is_simple, subcommand_rows, rows_of, found_of}
+use Rattle.clap.specs.Words.{Row, Text, is_simple, is_simple_and_free, subcommand_rows, rows_of, found_of}
 use Rattle.clap.specs.declared.parser.matches.ArgMatches.TheViews.{out-SubCommand}
 use Rattle.clap.specs.declared.parser.matches.SubCommand.{SubCommand}
 use Rattle.clap.proofs.OnLiterals.{clap_on_literals}
@@ -15,6 +15,10 @@ use Rattle.tacho_cli.specs.Words.{tacho_app, IsRefusal, IsUsage}
 pub tacho_is_simple : is_simple tacho_app ≡ true
 unfolding clap_on_literals
 tacho_is_simple = refl
+
+pub tacho_is_simple_and_free : is_simple_and_free tacho_app ≡ true
+unfolding clap_on_literals
+tacho_is_simple_and_free = refl
 
 pub told : {Z : Type 0} (o : Option (Box SubCommand Z)) (name : Text) (rows : List Row)
     → Some name ≡ option_map (λ b. (out-SubCommand (box_value b)).name.now) o

@@ -11,9 +11,11 @@ pub record Reply : Type 0 where
   pub text : List ℕ
   pub status : ℕ
 
+-- the reply of a fault of the command
 abbrev pub fault_reply : Fault → Reply
 fault_reply f = record { text = fault_line f; status = fault_status f }
 
+-- the reply of a card's fault
 abbrev pub card_reply : CardFault → Reply
 card_reply f = record { text = card_line f; status = card_status f }
 

@@ -8,6 +8,7 @@ use Rattle.tacho_time.specs.declared.whole.ReadFault.TheVariants as read
 use Rattle.tacho_cli.specs.declared.fault.Fault.{Fault}
 use Rattle.tacho_cli.specs.declared.fault.Fault.TheVariants as fault
 
+-- the line of want of memory
 abbrev pub no_memory_line : List ℕ
 no_memory_line = codes "M1 no memory\n"
 
@@ -19,9 +20,11 @@ hexadecimal_digit n = if nat_lt n 10 then 48 + n else 87 + n
 abbrev pub byte_digits : ℕ → List ℕ
 byte_digits byte = hexadecimal_digit (byte / 16) ∷ hexadecimal_digit (byte % 16) ∷ []
 
+-- a number of two bytes in four digits
 abbrev pub identifier_digits : ℕ → List ℕ
 identifier_digits n = byte_digits (n / 256) ++ byte_digits (n % 256)
 
+-- the line of a card's fault
 abbrev pub card_line : CardFault → List ℕ
 card_line (card.Truncated offset) = codes "C1 truncated block at " ++ (decimal offset ++ codes "\n")
 card_line (card.Twice identifier kind) = codes "C2 block " ++ identifier_digits identifier ++ codes " " ++ byte_digits kind ++ codes " twice\n"
@@ -39,6 +42,7 @@ card_line (card.WordOrder place) = codes "C13 word order at " ++ (decimal place 
 card_line (card.SelfContradiction minute) = codes "C14 file contradicts itself at " ++ (minute_text minute ++ codes "\n")
 card_line card.Memory = no_memory_line
 
+-- the line of a command's fault
 abbrev pub fault_line : Fault → List ℕ
 fault_line fault.TooLarge = codes "X1 too large\n"
 fault_line fault.Device = codes "X2 device failed\n"
@@ -49,6 +53,7 @@ abbrev pub card_status : CardFault → ℕ
 card_status card.Memory = 3
 card_status f = 1
 
+-- the same of a command's fault
 abbrev pub fault_status : Fault → ℕ
 fault_status fault.TooLarge = 1
 fault_status fault.Device = 3

@@ -10,6 +10,7 @@ use Rattle.tacho_cli.specs.Command.{Reply, fault_reply, card_reply}
 abbrev pub holder_line : List ℕ → List ℕ
 holder_line holder = flat_map byte_digits holder ++ codes "\n"
 
+-- the holder that blocks name, or the fault in their place
 abbrev pub blocks_holder : Result (List FileBlock) CardFault → Result (List ℕ) CardFault
 blocks_holder (Ok blocks) = file_holder blocks
 blocks_holder (Err f) = Err f

@@ -25,10 +25,14 @@ IsNamed name job.Holder = name ≡ codes "holder"
 abbrev pub IsJob : Option (Text × List Row) → Job → Type 0
 IsJob sub j = (name : Text) × (rows : List Row) × (sub ≡ Some (name, rows)) × IsNamed name j
 
--- how words are used is told where the parser refused them for another cause than memory
+-- no job has the name
+abbrev pub NamesNoJob : Text → Type 0
+NamesNoJob name = (name ≢ codes "dump") × (name ≢ codes "holder")
+
+-- how words are used is told where the parser refused them for another cause than memory, and no more where it had none
 abbrev pub IsRefusal : ErrorKind → Usage → Type 0
 IsRefusal kind (usage.Words text) = kind ≢ OutOfMemory
-IsRefusal kind usage.Parser = Unit {0}
+IsRefusal kind usage.Parser = kind ≡ OutOfMemory
 IsRefusal kind usage.Memory = Unit {0}
 
 -- it is told only where the command line doesn't take the words

@@ -1,5 +1,5 @@
 use crate::{Job, Usage, dump, holder, parse};
-use std::alloc::Global;
+use std::alloc::{AllocError, Global};
 use std::process::Abort;
 use std::test::Fail;
 use tacho_time::{Device, Failed, Sink, Source};
@@ -356,17 +356,104 @@ fn writers_fail_at_each_call(rt: HostRuntime) -> Result<(), Fail> {
     Ok(())
 }
 
+/// What a command line of these words asks for. The first is the name of the program.
+fn parsed(alloc: Global, words: &[&str]) -> Result<Result<Job, Usage>, AllocError> {
+    let mut given = Vec::new(alloc);
+    for word in words {
+        given.push(String::from_str(alloc, *word)?)?;
+    }
+    Ok(parse(alloc, &given))
+}
+
 #[test]
-fn words_are_parsed(rt: HostRuntime) -> Result<(), Fail> {
-    let mut words = Vec::new(rt.alloc());
-    words.push(String::from_str(rt.alloc(), "tacho")?)?;
-    assert!(rt; matches!(parse(rt.alloc(), &words), Err(Usage::Words(_))));
-    words.push(String::from_str(rt.alloc(), "dump")?)?;
-    assert!(rt; matches!(parse(rt.alloc(), &words), Ok(Job::Dump)));
-    words.push(String::from_str(rt.alloc(), "more")?)?;
-    assert!(rt; matches!(parse(rt.alloc(), &words), Err(Usage::Words(_))));
-    words.truncate(1);
-    words.push(String::from_str(rt.alloc(), "holder")?)?;
-    assert!(rt; matches!(parse(rt.alloc(), &words), Ok(Job::Holder)));
+fn words_name_jobs(rt: HostRuntime) -> Result<(), Fail> {
+    let alloc = rt.alloc();
+    assert!(rt; matches!(parsed(alloc, &["tacho", "dump"])?, Ok(Job::Dump)));
+    assert!(rt; matches!(parsed(alloc, &["tacho", "holder"])?, Ok(Job::Holder)));
+    Ok(())
+}
+
+const HELP: &str = "\
+Keeps the driving and rest times that driver cards tell
+
+Usage: tacho <COMMAND>
+
+Commands:
+  dump    Prints the spans of the value of an EF Driver_Activity_Data (0504), a line each: tacho dump < FILE
+  holder  Prints the holder of a whole card download file in hexadecimal digits: tacho holder < FILE
+  help    Print this message or the help of the given subcommand(s)
+
+Options:
+  -h, --help  Print help
+";
+
+const HELP_OF_DUMP: &str = "\
+Prints the spans of the value of an EF Driver_Activity_Data (0504), a line each: tacho dump < FILE
+
+Usage: tacho dump
+
+Options:
+  -h, --help  Print help
+";
+
+const HELP_OF_HOLDER: &str = "\
+Prints the holder of a whole card download file in hexadecimal digits: tacho holder < FILE
+
+Usage: tacho holder
+
+Options:
+  -h, --help  Print help
+";
+
+const NO_COMMAND: &str = "\
+error: 'tacho' requires a subcommand but one was not provided
+  [subcommands: dump, holder, help]
+
+Usage: tacho <COMMAND>
+
+For more information, try '--help'.
+";
+
+const OTHER_COMMAND: &str = "\
+error: unrecognized subcommand 'export'
+
+Usage: tacho <COMMAND>
+
+For more information, try '--help'.
+";
+
+const ONE_WORD_MORE: &str = "\
+error: unexpected argument 'more' found
+
+Usage: tacho dump
+
+For more information, try '--help'.
+";
+
+/// What is told of words that name no job.
+fn told(rt: &impl Abort, alloc: Global, words: &[&str]) -> Result<String, AllocError> {
+    match parsed(alloc, words)? {
+        Err(Usage::Words(text)) => Ok(text),
+        _ => panic!(rt; "words that name a job"),
+    }
+}
+
+#[test]
+fn other_words_tell_how_they_are_used(rt: HostRuntime) -> Result<(), Fail> {
+    let alloc = rt.alloc();
+    let help = told(&rt, alloc, &["tacho", "--help"])?;
+    assert_eq!(rt; help.as_str(), HELP);
+    let help = told(&rt, alloc, &["tacho", "help"])?;
+    assert_eq!(rt; help.as_str(), HELP);
+    let help_of_dump = told(&rt, alloc, &["tacho", "dump", "--help"])?;
+    assert_eq!(rt; help_of_dump.as_str(), HELP_OF_DUMP);
+    let help_of_holder = told(&rt, alloc, &["tacho", "help", "holder"])?;
+    assert_eq!(rt; help_of_holder.as_str(), HELP_OF_HOLDER);
+    let no_command = told(&rt, alloc, &["tacho"])?;
+    assert_eq!(rt; no_command.as_str(), NO_COMMAND);
+    let other_command = told(&rt, alloc, &["tacho", "export"])?;
+    assert_eq!(rt; other_command.as_str(), OTHER_COMMAND);
+    let one_word_more = told(&rt, alloc, &["tacho", "dump", "more"])?;
+    assert_eq!(rt; one_word_more.as_str(), ONE_WORD_MORE);
     Ok(())
 }

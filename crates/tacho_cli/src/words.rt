@@ -1,7 +1,7 @@
-ghost use Rattle.std.specs.Prelude.{◌≡◌, IfOk, IfErr, IfSome, map, codes, false, string_bytes};
-ghost use Rattle.clap.specs.Words.{app_of, kind_of, new_app, subcommand_of, takes};
+ghost use Rattle.std.specs.Prelude.{◌≡◌, IfOk, IfErr, MatchOption, [], map, codes, false, string_bytes};
+ghost use Rattle.clap.specs.Words.{app_of, fault_of, kind_of, new_app, subcommand_of, takes};
 ghost use Rattle.clap.specs.declared.builder.command.Command.TheViews.{out-Command as fields_of};
-ghost use Rattle.tacho_cli.specs.Words.{tacho_app, IsNamed, IsJob, IsRefusal, IsUsage};
+ghost use Rattle.tacho_cli.specs.Words.{tacho_app, IsNamed, NamesNoJob, IsJob, IsRefusal, IsUsage};
 
 use clap::error::ErrorKind;
 use clap::{Command, Error};
@@ -53,12 +53,12 @@ fn tacho<'a>(alloc: Global) -> Result<Command<'a>, AllocError>
     let dump = leaf(
         alloc,
         "dump",
-        "Reads an EF Driver_Activity_Data (0504) and writes its spans, a line each",
+        "Prints the spans of the value of an EF Driver_Activity_Data (0504), a line each: tacho dump < FILE",
     );
     let holder = leaf(
         alloc,
         "holder",
-        "Reads a card download file and writes its holder in hexadecimal digits",
+        "Prints the holder of a whole card download file in hexadecimal digits: tacho holder < FILE",
     );
     let command = Command::new(alloc, "tacho")
         .about("Keeps the driving and rest times that driver cards tell")
@@ -70,7 +70,7 @@ fn tacho<'a>(alloc: Global) -> Result<Command<'a>, AllocError>
 
 /// The job of a subcommand's name.
 fn job_of(name: &str) -> Option<Job>
-    ensures { IfSome result (IsNamed name.now) }
+    ensures { MatchOption result (NamesNoJob name.now) (IsNamed name.now) }
 {
     if name == "dump" {
         return Some(Job::Dump);
@@ -96,6 +96,7 @@ fn refusal(alloc: Global, error: &Error) -> Usage
 
 /// The job that the words of a command line name, the program's name the first of them, or how they are used.
 pub fn parse<'a>(alloc: Global, words: &'a [String]) -> Result<Job, Usage>
+    ensures taken { IfOk result (λ _. fault_of tacho_app (map string_bytes words.entry.now) ≡ []) }
     ensures job { IfOk result (IsJob (subcommand_of tacho_app (map string_bytes words.entry.now))) }
     ensures usage { IfErr result (IsUsage (takes tacho_app (map string_bytes words.entry.now))) }
 {

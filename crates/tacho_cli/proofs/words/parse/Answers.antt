@@ -1,9 +1,15 @@
 use Rattle.std.proofs.Common.{◌∙◌, ap, sym, map, string_bytes}
-use Rattle.clap.specs.Words.{App, is_simple, kind_of, subcommand_of, rows_of, found_of, takes}
+use Rattle.clap.specs.Words.{App, fault_of, is_simple, is_simple_and_free, kind_of, subcommand_of, rows_of, found_of, takes}
 use Rattle.clap.specs.declared.parser.matches.ArgMatches.TheViews.{out-ArgMatches}
 use Rattle.tacho_cli.specs.Words.{tacho_app}
-use Rattle.tacho_cli.proofs.WordsLemmas.{tacho_is_simple, told, usage_of}
+use Rattle.tacho_cli.proofs.WordsLemmas.{tacho_is_simple, tacho_is_simple_and_free, told, usage_of}
 use Rattle.tacho_cli.proofs.words.parse.Goals as goal
+
+pub returns-in-Some-job_of-clause-taken : goal.returns-in-Some-job_of-clause-taken
+returns-in-Some-job_of-clause-taken c =
+    let words = map string_bytes c.args.words.now in
+    let built = c.in_ok-command.ensures in
+    ap (λ (a : App). fault_of a words) (sym built) ∙ c.in-Ok.ensures.kinds (ap is_simple_and_free built ∙ tacho_is_simple_and_free)
 
 pub returns-in-Some-job_of-clause-job : goal.returns-in-Some-job_of-clause-job
 returns-in-Some-job_of-clause-job c =
