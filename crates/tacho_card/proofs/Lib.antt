@@ -10,3 +10,4 @@ mod ReadingLaw
 mod SingleLemmas
 mod WordLemmas
 mod WrapLemmas
+mod PageFacts

@@ -55,6 +55,7 @@ pub record IsTruncatedAt (bytes : List ℕ) (offset : ℕ) : Type 0 where
 
 -- ---- the blocks of a file by recursion, as an iterator goes over them
 
+-- the block at the front, as its head says
 abbrev pub front_block : List ℕ → FileBlock
 front_block bytes = record {
   identifier = slice_index bytes 0 * 256 + slice_index bytes 1;
@@ -62,10 +63,12 @@ front_block bytes = record {
   value = take (slice_index bytes 3 * 256 + slice_index bytes 4) (drop 5 bytes);
 }
 
+-- a block before what is read of the rest
 abbrev pub block_before : FileBlock → Result (List FileBlock) CardFault → Result (List FileBlock) CardFault
 block_before b (Ok blocks) = Ok (b ∷ blocks)
 block_before b (Err fault) = Err fault
 
+-- there are no bytes
 abbrev pub is_nothing : List ℕ → Bool
 is_nothing [] = true
 is_nothing (byte ∷ bytes) = false
@@ -78,6 +81,7 @@ blocks_from (suc fuel) offset bytes =
     else (if is_cut bytes then Err (Truncated offset)
     else block_before (front_block bytes) (blocks_from fuel (offset + front_length bytes) (drop (front_length bytes) bytes)))
 
+-- the blocks of a file's bytes, or C1
 abbrev pub blocks_of : List ℕ → Result (List FileBlock) CardFault
 blocks_of bytes = blocks_from (length bytes) 0 bytes
 
@@ -92,9 +96,11 @@ blocks_or_none (Err fault) = []
 abbrev pub activity_data : ℕ
 activity_data = 0x0504
 
+-- EF Identification
 abbrev pub identification : ℕ
 identification = 0x0520
 
+-- a block has this identifier and this kind
 abbrev pub is_block : ℕ → ℕ → FileBlock → Bool
 is_block identifier kind b = (b.identifier == identifier) && (b.kind == kind)
 
@@ -107,6 +113,7 @@ value_of identifier kind (b ∷ blocks) = if is_block identifier kind b then Som
 abbrev pub is_single : FileBlock → Bool
 is_single b = ((b.identifier == activity_data) || (b.identifier == identification)) && ((b.kind == 0) || (b.kind == 2))
 
+-- one of the blocks has the identifier and the kind of this one
 abbrev pub has : FileBlock → List FileBlock → Bool
 has b [] = false
 has b (first ∷ blocks) = is_block b.identifier b.kind first || has b blocks
@@ -116,6 +123,7 @@ abbrev pub repeated : List FileBlock → List FileBlock → Option FileBlock
 repeated seen [] = None
 repeated seen (b ∷ blocks) = if is_single b && has b seen then Some b else repeated (seen ++ b ∷ []) blocks
 
+-- C2, or the blocks
 abbrev pub no_repetition : Option FileBlock → List FileBlock → Result (List FileBlock) CardFault
 no_repetition (Some b) blocks = Err (Twice b.identifier b.kind)
 no_repetition None blocks = Ok blocks
@@ -124,6 +132,7 @@ no_repetition None blocks = Ok blocks
 abbrev pub holder_in : List ℕ → List ℕ
 holder_in value = take 15 value
 
+-- C4: an identification has fewer than 17 bytes
 abbrev pub is_short : Option (List ℕ) → Bool
 is_short None = false
 is_short (Some value) = nat_lt (length value) 17
@@ -137,17 +146,21 @@ holder_of (Some first) (Some second) =
     if is_short (Some first) || is_short (Some second) then Err ShortIdentification
     else (if bytes_eq (holder_in first) (holder_in second) then Ok (holder_in first) else Err TwoCards)
 
+-- the holder that a file's blocks name, or the first of C3, C4 and C5
 abbrev pub file_holder : List FileBlock → Result (List ℕ) CardFault
 file_holder blocks = holder_of (value_of identification 0 blocks) (value_of identification 2 blocks)
 
+-- the blocks, where they name a holder
 abbrev pub with_holder : List FileBlock → Result (List ℕ) CardFault → Result (List FileBlock) CardFault
 with_holder blocks (Ok holder) = Ok blocks
 with_holder blocks (Err fault) = Err fault
 
+-- blocks, or the first of C3 to C5
 abbrev pub then_held : Result (List FileBlock) CardFault → Result (List FileBlock) CardFault
 then_held (Ok blocks) = with_holder blocks (file_holder blocks)
 then_held (Err fault) = Err fault
 
+-- blocks, or C2
 abbrev pub then_single : Result (List FileBlock) CardFault → Result (List FileBlock) CardFault
 then_single (Ok blocks) = no_repetition (repeated [] blocks) blocks
 then_single (Err fault) = Err fault
@@ -167,11 +180,13 @@ read_value (Some bytes) = read_some (driver_activity bytes)
     read_some (Ok block) = Ok (Some block)
     read_some (Err fault) = Err fault
 
+-- what is read of both values, or the first fault
 abbrev pub both_read : Result (Option DriverActivity) CardFault → Result (Option DriverActivity) CardFault → Result (List (Option DriverActivity)) CardFault
 both_read (Err fault) second = Err fault
 both_read (Ok first) (Err fault) = Err fault
 both_read (Ok first) (Ok second) = Ok (first ∷ second ∷ [])
 
+-- what is read of the chosen values, or C6 where there are none
 abbrev pub some_chosen : Option (List ℕ) → Option (List ℕ) → Result (List (Option DriverActivity)) CardFault
 some_chosen None None = Err NoActivity
 some_chosen (Some first) second = both_read (read_value (Some first)) (read_value second)
@@ -189,6 +204,7 @@ those_there [] = []
 those_there (None ∷ chosen) = those_there chosen
 those_there (Some block ∷ chosen) = block ∷ those_there chosen
 
+-- the reading of chosen data, or their fault
 abbrev pub ReadsChosen : Result (List (Option DriverActivity)) CardFault → Result (List Span) CardFault → Type 0
 ReadsChosen (Ok chosen) reading = IsReading (those_there chosen) reading
 ReadsChosen (Err fault) reading = reading ≡ Err fault

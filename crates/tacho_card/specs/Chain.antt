@@ -58,6 +58,7 @@ chain_from (suc fuel) buffer newest place left =
     followed_by (record_at buffer place left)
     (if place == newest then [] else chain_from fuel buffer newest (wrapped buffer (place + len)) (left - len))
 
+-- the records of the chain, and then its fault if it has one
 abbrev pub chain : DriverActivity → List (Result DailyRecord CardFault)
 chain block = if is_empty block then [] else chain_from (suc (length block.buffer)) block.buffer block.newest block.oldest (length block.buffer)
 

@@ -11,19 +11,23 @@ pub record DailyRecord : Type 0 where
   pub place : ℕ
   pub count : ℕ
 
--- activityRecordLength, activityRecordDate (a TimeReal: seconds since 1970) and its day, and the i-th word
+-- activityRecordLength
 abbrev pub length_at : List ℕ → ℕ → ℕ
 length_at buffer place = number_at buffer (place + 2)
 
+-- activityRecordDate, a TimeReal: seconds since 1970-01-01 00:00 UTC
 abbrev pub seconds_at : List ℕ → ℕ → ℕ
 seconds_at buffer place = number_at buffer (place + 4) * 65536 + number_at buffer (place + 6)
 
+-- the day of that time
 abbrev pub day_at : List ℕ → ℕ → ℕ
 day_at buffer place = seconds_at buffer place / 86400
 
+-- where the i-th word of the record at a place begins
 abbrev pub word_place : ℕ → ℕ → ℕ
 word_place place i = place + 12 + 2 * i
 
+-- the i-th word of the record at a place
 abbrev pub word_at : List ℕ → ℕ → ℕ → ℕ
 word_at buffer place i = number_at buffer (word_place place i)
 
@@ -44,6 +48,7 @@ words_fault buffer place before i (suc k) =
     else (if nat_lt minute before then Some (WordOrder (wrapped buffer (word_place place i)))
     else words_fault buffer place minute (i + 1) k)
 
+-- the fault, or the record where there is none
 abbrev pub fault_or : Option CardFault → DailyRecord → Result DailyRecord CardFault
 fault_or (Some fault) r = Err fault
 fault_or None r = Ok r

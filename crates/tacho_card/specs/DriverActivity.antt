@@ -13,6 +13,7 @@ pub record DriverActivity : Type 0 where
 abbrev pub wrapped : List ℕ → ℕ → ℕ
 wrapped buffer i = i % length buffer
 
+-- the byte at such a place
 abbrev pub byte_at : List ℕ → ℕ → ℕ
 byte_at buffer i = slice_index buffer (wrapped buffer i)
 

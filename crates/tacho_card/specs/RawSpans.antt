@@ -32,6 +32,7 @@ words_spans newest r i (suc k) = marked (word_minute r i) (word_past r i k) (clo
 abbrev pub record_spans : Bool → DailyRecord → List Span
 record_spans newest r = words_spans newest r 0 r.count
 
+-- spans before what is read of the rest
 abbrev pub with_spans : List Span → Result (List Span) CardFault → Result (List Span) CardFault
 with_spans front (Ok spans) = Ok (front ++ spans)
 with_spans front (Err fault) = Err fault
@@ -42,6 +43,7 @@ items_spans newest [] = Ok []
 items_spans newest (Err fault ∷ items) = Err fault
 items_spans newest (Ok r ∷ items) = with_spans (record_spans (r.place == newest) r) (items_spans newest items)
 
+-- the spans of data, or the fault of their chain
 abbrev pub block_spans : DriverActivity → Result (List Span) CardFault
 block_spans block = items_spans block.newest (chain block)
 
