@@ -1,12 +1,15 @@
--- Article 7: a break of 45 minutes, or one of 15 and then one of 30.
+-- Breaks (Regulation (EC) 561/2006, Articles 4(d) and 7): after a driving period of four and a half hours an uninterrupted
+-- break of 45 minutes, or one of 15 and then one of 30.
 use Rattle.std.specs.Prelude.{ℕ, ◌-◌, ◌≤◌, ◌⊎◌, ◌↔◌, List, Contains, AllPairs}
 use Rattle.tacho_hours.specs.declared.run.Run.{Run}
 use Rattle.tacho_hours.specs.Line.{Before}
 
+-- how long a run is
 abbrev pub minutes_of : Run → ℕ
 minutes_of run = run.past - run.start
 
--- a run of at least 15 minutes before the run, and after the last complete break before it
+-- the first part of a break in two (Article 7, second paragraph): a run of at least 15 minutes before the run, and after the
+-- last complete break before it
 pub record HasFirstPart (runs breaks : List Run) (run : Run) : Type 0 where
   pub part : Run
   pub among : Contains runs part
@@ -14,7 +17,7 @@ pub record HasFirstPart (runs breaks : List Run) (run : Run) : Type 0 where
   pub before : Before part run
   pub after : (b : Run) → Contains breaks b → Before b run → Before b part
 
--- 45 minutes; or 30 with a first part of 15
+-- Article 7: 45 minutes; or 30 with a first part of 15
 abbrev pub Completes : List Run → List Run → Run → Type 0
 Completes runs breaks run = (45 ≤ minutes_of run) ⊎ ((30 ≤ minutes_of run) × HasFirstPart runs breaks run)
 

@@ -1,3 +1,4 @@
+-- Duty days and their daily rests (Regulation (EC) 561/2006, Articles 4(g), 4(k), 8(2) and 8(4)).
 use Rattle.std.specs.Prelude.{◌≡◌, ℕ, ◌+◌, ◌<◌, ◌≤◌, ◌⊎◌, ◌↔◌, List, Contains, AllPairs, length, min}
 use Rattle.tacho_time.specs.declared.span.Activity.{Activity}
 use Rattle.tacho_hours.specs.declared.run.Run.{Run}
@@ -26,7 +27,8 @@ pub record AreRestsOf (line : Line) (least : ℕ) (rests : List Run) : Type 0 wh
   pub each : (run : Run) → Contains rests run ↔ IsRestOf line least run
   pub in_order : AllPairs Before rests
 
--- from the end of one rest of 540 or more to the start of the next, which is its daily rest
+-- Article 4(k), the time between two daily rests: from the end of one rest of 540 minutes or more (Article 4(g): nine hours)
+-- to the start of the next, which is its daily rest
 pub record IsDuty (line : Line) (day : DutyDay) : Type 0 where
   pub last : Run
   pub neighbours : AreNeighbours line 540 last day.rest
@@ -42,22 +44,24 @@ pub record AreDutyDays (line : Line) (days : List DutyDay) : Type 0 where
   pub each : (day : DutyDay) → Contains days day ↔ IsDuty line day
   pub in_order : AllPairs EarlierDay days
 
--- the daily rest has so many minutes within 24 hours of the day's start
+-- Article 8(2): the daily rest has so many minutes within 24 hours of the day's start, which is the end of the rest before it
 abbrev pub HasPortion : DutyDay → ℕ → Type 0
 HasPortion day n = day.past + n ≤ min day.rest.past (day.start + 1440)
 
--- 660 minutes; or 540, and a run of 180 within the day
+-- Article 4(g), a regular daily rest: eleven hours (660 minutes); or in two parts, three hours (180) within the day and then
+-- nine (540)
 abbrev pub IsRegular : Line → DutyDay → Type 0
 IsRegular line day = HasPortion day 660 ⊎ (HasPortion day 540 × ((part : Run) × IsRestOf line 180 part × (day.start ≤ part.start) × (part.past ≤ day.past)))
 
--- 540 minutes, not regular, and no weekly rest
+-- Articles 4(g) and 8(2), a reduced daily rest: nine hours (540 minutes) within the 24, and not regular; a rest of 24 hours is
+-- a weekly one, to which Article 8(4) counts
 pub record IsReduced (line : Line) (day : DutyDay) : Type 0 where
   pub duty : IsDuty line day
   pub portion : HasPortion day 540
   pub irregular : ¬ (IsRegular line day)
   pub short : minutes_of day.rest < 1440
 
--- there are n runs of the kind
+-- how many runs are of a kind: a list has them all in order of time, and is so long
 pub record AreSoMany (P : Run → Type 0) (n : ℕ) : Type 0 where
   pub runs : List Run
   pub each : (run : Run) → Contains runs run ↔ P run

@@ -1,8 +1,10 @@
+-- Driving time (Regulation (EC) 561/2006, Articles 4(j) and 4(l)), counted in minutes.
 use Rattle.std.specs.Prelude.{◌≡◌, ℕ, ◌+◌, ◌<◌, ◌≤◌, ◌&&◌, Bool, true, false, nat_le, if◌then◌else◌}
 use Rattle.std.proofs.Common.{zero, suc}
 use Rattle.tacho_time.specs.declared.span.Activity.{Activity}
 use Rattle.tacho_time.specs.declared.span.Activity.TheVariants.{Rest, Available, Work, Drive}
 
+-- an activity is driving: other work, availability and rest aren't
 abbrev pub is_drive : Activity → Bool
 is_drive Drive = true
 is_drive Rest = false
@@ -14,7 +16,7 @@ unfoldable pub driving : (ℕ → Activity) → ℕ → ℕ → ℕ
 driving line from zero = 0
 driving line from (suc m) = driving line from m + (if nat_le from m && is_drive (line m) then 1 else 0)
 
--- m is the k-th driving minute from one minute up to another
+-- m is the k-th driving minute from one minute up to another, counted from 1
 pub record IsDrivingMinute (line : ℕ → Activity) (from to k m : ℕ) : Type 0 where
   pub above : from ≤ m
   pub below : m < to

@@ -1,3 +1,4 @@
+-- What is examined: an activity for each minute, and the runs of rest (Regulation (EC) 561/2006, Articles 4(d), 4(f) and 4(i)).
 use Rattle.std.specs.Prelude.{◌≡◌, ◌≢◌, ℕ, ◌+◌, ◌*◌, ◌<◌, ◌≤◌, ◌⊎◌, ◌&&◌, List, [], ◌∷◌, nat_lt, nat_le, if◌then◌else◌, Contains, All, AllPairs, false}
 use Rattle.tacho_time.specs.declared.span.Activity.{Activity}
 use Rattle.tacho_time.specs.declared.span.Activity.TheVariants.{Rest}
@@ -15,7 +16,7 @@ abbrev pub Joined : List Span → ℕ → ℕ → Type 0
 Joined [] base past = base ≡ past
 Joined (s ∷ spans) base past = (s.start ≡ base) × (base < s.past) × Joined spans s.past past
 
--- a maximal run of minutes at rest; the first one has no start, which 0 stands for, and the last one no end, which FAR stands for
+-- an uninterrupted break or rest (Articles 4(d) and 4(f)): a maximal run of minutes at rest; the first one has no start, which 0 stands for, and the last one no end, which FAR stands for
 pub record IsRestRun (line : ℕ → Activity) (run : Run) : Type 0 where
   pub some : run.start < run.past
   pub rest : (m : ℕ) → run.start ≤ m → m < run.past → line m ≡ Rest
@@ -32,7 +33,7 @@ pub record AreRestRuns (line : ℕ → Activity) (runs : List Run) : Type 0 wher
   pub all : (run : Run) → IsRestRun line run → Contains runs run
   pub in_order : AllPairs Before runs
 
--- the first minute of a Monday from 2000-01-03 on
+-- Article 4(i), a week's beginning: the first minute of a Monday, from 2000-01-03 on
 pub record IsBase (base : ℕ) : Type 0 where
   pub week : ℕ
   pub monday : base ≡ 5760 + 10080 * week

@@ -1,3 +1,4 @@
+-- Breaches that have different places in the order of a report. No Article rules it.
 use Rattle.std.specs.Prelude.{◌≡◌, List, AllPairs}
 use Rattle.tacho_hours.specs.declared.report.Breach.{Breach}
 

@@ -1,3 +1,5 @@
+-- The breaches of Regulation (EC) 561/2006, Articles 6, 7 and 8 (8(6) and 8(6b) as amended by (EU) 2020/1054), one definition for
+-- each kind, and the order in which a report has them.
 use Rattle.std.specs.Prelude.{◌≡◌, ℕ, ◌+◌, ◌<◌, ◌≤◌, ◌⊎◌, ◌↔◌, List, Contains, AllPairs, min, None}
 use Rattle.tacho_hours.specs.declared.run.Run.{Run}
 use Rattle.tacho_hours.specs.Line.{AreRestRuns, Before}
@@ -17,7 +19,7 @@ pub record IsOver (line : Line) (limit from to : ℕ) (breach : Breach) : Type 0
   pub moment : IsDrivingMinute line from to (limit + 1) breach.moment
   pub amount : breach.amount + limit ≡ driving line from to
 
--- driving between neighbouring complete breaks
+-- Article 7: more than four and a half hours (270 minutes) of driving between neighbouring complete breaks (Article 4(q))
 pub record IsB1 (line : Line) (breaks : List Run) (breach : Breach) : Type 0 where
   pub a : Run
   pub b : Run
@@ -28,7 +30,7 @@ pub record IsB1 (line : Line) (breaks : List Run) (breach : Breach) : Type 0 whe
   pub over : IsOver line 270 a.past b.start breach
   pub since : IsDrivingMinute line a.past b.start 1 breach.since
 
--- a daily rest with fewer than 540 minutes in its 24 hours
+-- Article 8(2): a daily rest with fewer than nine hours (540 minutes) within the 24 from the day's start
 pub record IsB2 (line : Line) (breach : Breach) : Type 0 where
   pub day : DutyDay
   pub duty : IsDuty line day
@@ -37,7 +39,7 @@ pub record IsB2 (line : Line) (breach : Breach) : Type 0 where
   pub since : breach.since ≡ day.start
   pub amount : breach.amount + min day.rest.past (day.start + 1440) ≡ 540 + day.past
 
--- a fourth or later reduced rest since the last weekly rest
+-- Article 8(4): a fourth or later reduced daily rest since the last weekly rest
 pub record IsB3 (line : Line) (breach : Breach) : Type 0 where
   pub day : DutyDay
   pub weekly : Run
@@ -52,20 +54,20 @@ pub record IsB3 (line : Line) (breach : Breach) : Type 0 where
   pub since : breach.since ≡ weekly.past
   pub amount : breach.amount + 3 ≡ ordinal
 
--- more than 600 driving minutes in a duty day
+-- Article 6(1), second subparagraph: more than ten hours (600 minutes) of driving in a duty day
 pub record IsB4 (line : Line) (breach : Breach) : Type 0 where
   pub day : DutyDay
   pub duty : IsDuty line day
   pub over : IsOver line 600 day.start day.past breach
   pub since : breach.since ≡ day.start
 
--- a duty day of the week with more than 540 driving minutes
+-- Article 6(1), an extended day: a duty day of the week with more than nine hours (540 minutes) of driving
 pub record IsExtended (line : Line) (w : ℕ) (day : DutyDay) : Type 0 where
   pub duty : IsDuty line day
   pub week : IsInWeek w day.start
   pub over : 540 < driving line day.start day.past
 
--- a third or later one
+-- Article 6(1), second subparagraph: a third or later extended day of the week
 pub record IsB5 (line : Line) (breach : Breach) : Type 0 where
   pub day : DutyDay
   pub week : ℕ
@@ -76,17 +78,19 @@ pub record IsB5 (line : Line) (breach : Breach) : Type 0 where
   pub over : IsOver line 540 day.start day.past breach
   pub since : breach.since ≡ day.start
 
+-- Article 6(2): more than 56 hours (3360 minutes) of driving in a week
 pub record IsB6 (line : Line) (breach : Breach) : Type 0 where
   pub week : ℕ
   pub over : IsOver line 3360 (week_start week) (week_start (week + 1)) breach
   pub since : breach.since ≡ week_start week
 
+-- Article 6(3): more than 90 hours (5400 minutes) of driving in two neighbouring weeks
 pub record IsB7 (line : Line) (breach : Breach) : Type 0 where
   pub week : ℕ
   pub over : IsOver line 5400 (week_start week) (week_start (week + 2)) breach
   pub since : breach.since ≡ week_start week
 
--- the next weekly rest starts more than six days after the last
+-- Article 8(6), second subparagraph: the next weekly rest starts later than six days (8640 minutes) after the end of the last
 pub record IsB8 (line : Line) (breach : Breach) : Type 0 where
   pub a : Run
   pub b : Run
@@ -96,7 +100,7 @@ pub record IsB8 (line : Line) (breach : Breach) : Type 0 where
   pub late : 0 < breach.amount
   pub amount : breach.moment + breach.amount ≡ b.start
 
--- two neighbouring weeks without two weekly rests, one of them of 2700 minutes
+-- Article 8(6), first subparagraph: two neighbouring weeks without two weekly rests of which one is regular
 pub record IsB9 (line : Line) (base horizon : ℕ) (breach : Breach) : Type 0 where
   pub week : ℕ
   pub from : base ≤ week_start week
@@ -108,7 +112,7 @@ pub record IsB9 (line : Line) (base horizon : ℕ) (breach : Breach) : Type 0 wh
   pub since : breach.since ≡ week_start week
   pub amount : breach.amount ≡ 0
 
--- a debt that nothing pays, and whose deadline has come
+-- Article 8(6b): a reduction that nothing compensates, and whose deadline has come
 pub record IsB10 (horizon : ℕ) (debts : List Debt) (breach : Breach) : Type 0 where
   pub debt : Debt
   pub owed : Contains debts debt
@@ -118,11 +122,12 @@ pub record IsB10 (horizon : ℕ) (debts : List Debt) (breach : Breach) : Type 0 
   pub since : breach.since ≡ week_start debt.week
   pub amount : breach.amount ≡ debt.amount
 
--- a breach of this kind; the passes have the kinds between them
+-- a breach of one group of kinds: those of breaks
 abbrev pub IsBreakBreach : Line → List Run → Kind → Breach → Type 0
 IsBreakBreach line breaks B1 breach = IsB1 line breaks breach
 IsBreakBreach line breaks kind breach = ⊥
 
+-- those of daily rests and of a day's driving
 abbrev pub IsDayBreach : Line → Kind → Breach → Type 0
 IsDayBreach line B2 breach = IsB2 line breach
 IsDayBreach line B3 breach = IsB3 line breach
@@ -130,11 +135,13 @@ IsDayBreach line B4 breach = IsB4 line breach
 IsDayBreach line B5 breach = IsB5 line breach
 IsDayBreach line kind breach = ⊥
 
+-- those of driving in a week and in two
 abbrev pub IsWeekBreach : Line → Kind → Breach → Type 0
 IsWeekBreach line B6 breach = IsB6 line breach
 IsWeekBreach line B7 breach = IsB7 line breach
 IsWeekBreach line kind breach = ⊥
 
+-- those of weekly rests
 abbrev pub IsRestBreach : Line → ℕ → ℕ → List Debt → Kind → Breach → Type 0
 IsRestBreach line base horizon debts B8 breach = IsB8 line breach
 IsRestBreach line base horizon debts B9 breach = IsB9 line base horizon breach
@@ -154,6 +161,7 @@ IsBreach line base horizon breaks debts B8 breach = IsB8 line breach
 IsBreach line base horizon breaks debts B9 breach = IsB9 line base horizon breach
 IsBreach line base horizon breaks debts B10 breach = IsB10 horizon debts breach
 
+-- a kind's place among the kinds
 abbrev pub place_of_kind : Kind → ℕ
 place_of_kind B1 = 1
 place_of_kind B2 = 2
@@ -183,10 +191,11 @@ pub record AreBreakBreaches (line : Line) (found : List Breach) : Type 0 where
   pub are_breaks : AreCompleteBreaks runs breaks
   pub exactly : AreExactly (λ breach. IsBreakBreach line breaks breach.kind breach) found
 
--- those of the rules on days, and on weeks
+-- those of the rules on days
 abbrev pub AreDayBreaches : Line → List Breach → Type 0
 AreDayBreaches line found = AreExactly (λ breach. IsDayBreach line breach.kind breach) found
 
+-- and on weeks
 abbrev pub AreWeekBreaches : Line → List Breach → Type 0
 AreWeekBreaches line found = AreExactly (λ breach. IsWeekBreach line breach.kind breach) found
 

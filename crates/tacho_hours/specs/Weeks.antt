@@ -1,12 +1,14 @@
+-- Weeks and their weekly rests (Regulation (EC) 561/2006, Articles 4(h), 4(i) and 8(6), 8(6) as amended by (EU) 2020/1054).
 use Rattle.std.specs.Prelude.{◌≡◌, ◌≢◌, ℕ, ◌+◌, ◌*◌, ◌<◌, ◌≤◌, ◌⊎◌}
 use Rattle.tacho_time.specs.declared.span.Activity.TheVariants.{Rest}
 use Rattle.tacho_hours.specs.declared.run.Run.{Run}
 use Rattle.tacho_hours.specs.Days.{Line, IsRestOf}
 
--- the first minute of a week, a Monday
+-- Article 4(i): the first minute of a week, on a Monday at 00:00; week 0 is that of 1970-01-05
 abbrev pub week_start : ℕ → ℕ
 week_start w = 5760 + 10080 * w
 
+-- from that minute to before the next week's
 abbrev pub IsInWeek : ℕ → ℕ → Type 0
 IsInWeek w m = (week_start w ≤ m) × (m < week_start (w + 1))
 
@@ -18,10 +20,13 @@ Touches run w = (run.start < week_start (w + 1)) × (week_start w < run.past)
 abbrev pub IsWhollyAtRest : Line → ℕ → Type 0
 IsWhollyAtRest line w = (m : ℕ) → IsInWeek w m → line m ≡ Rest
 
+-- Article 4(h): 24 hours (1440 minutes) or more
 abbrev pub IsWeeklyRest : Line → Run → Type 0
 IsWeeklyRest line run = IsRestOf line 1440 run
 
--- two different weekly rests have a minute in the week or the next, one of them of 2700 minutes
+-- Article 8(6), first subparagraph, of the week and the next: two different weekly rests have a minute in them, and one is
+-- regular, of 45 hours (2700 minutes). A rest that lies in two weeks is counted for each pair of weeks by itself, where Article
+-- 8(9) counts it in one week only.
 pub record HasTwoRests (line : Line) (w : ℕ) : Type 0 where
   pub long : Run
   pub other : Run

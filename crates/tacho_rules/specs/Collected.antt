@@ -1,4 +1,4 @@
--- Breaches as a pass collects them, before they are put in order.
+-- Breaches as a pass collects them, before they are put in order. No Article rules it.
 use Rattle.std.specs.Prelude.{◌↔◌, List, Contains}
 use Rattle.tacho_hours.specs.declared.report.Breach.{Breach}
 use Rattle.tacho_hours.specs.Order.{AreApart}

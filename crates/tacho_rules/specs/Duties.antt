@@ -1,3 +1,5 @@
+-- Words of the pass over duty days: breaches of daily rests (Regulation (EC) 561/2006, Articles 8(2) and 8(4)) and of a day's
+-- driving (Article 6(1)).
 use Rattle.std.specs.Prelude.{◌≡◌, ℕ, ◌+◌, ◌<◌, ◌≤◌, ◌⊎◌, ◌↔◌, List, Contains, AllPairs, min}
 use Rattle.tacho_hours.specs.declared.run.Run.{Run}
 use Rattle.tacho_hours.specs.declared.days.DutyDay.{DutyDay}
@@ -16,7 +18,7 @@ pub record IsInTime (day : DutyDay) : Type 0 where
   pub rests : day.past ≡ day.rest.start
   pub enough : day.past + 540 ≤ day.rest.past
 
--- fewer than 540 minutes of rest in the 24 hours from the day's start
+-- B2, of one day: fewer than nine hours of rest in the 24 from the day's start (Article 8(2))
 pub record IsShortRest (day : DutyDay) (breach : Breach) : Type 0 where
   pub kind : breach.kind ≡ B2
   pub short : ¬ (HasPortion day 540)
@@ -24,7 +26,7 @@ pub record IsShortRest (day : DutyDay) (breach : Breach) : Type 0 where
   pub since : breach.since ≡ day.start
   pub amount : breach.amount + min day.rest.past (day.start + 1440) ≡ 540 + day.past
 
--- more driving minutes in a day than allowed
+-- B4 and B5, of one day: more driving minutes in it than allowed (Article 6(1))
 pub record IsLongDay (line : Line) (kind : Kind) (limit : ℕ) (day : DutyDay) (breach : Breach) : Type 0 where
   pub is : breach.kind ≡ kind
   pub over : IsOver line limit day.start day.past breach
@@ -35,7 +37,7 @@ pub record AreTheDays (P : DutyDay → Type 0) (days : List DutyDay) : Type 0 wh
   pub each : (day : DutyDay) → Contains days day ↔ P day
   pub in_order : AllPairs EarlierDay days
 
--- a duty day with more than 540 driving minutes
+-- a duty day with more than nine hours of driving (Article 6(1))
 pub record IsLongDuty (line : Line) (day : DutyDay) : Type 0 where
   pub duty : IsDuty line day
   pub over : 540 < driving line day.start day.past

@@ -1,3 +1,4 @@
+-- Words of the pass over driving periods (Regulation (EC) 561/2006, Articles 4(q) and 7).
 use Rattle.std.specs.Prelude.{◌≡◌, ℕ}
 use Rattle.tacho_hours.specs.declared.report.Breach.{Breach}
 use Rattle.tacho_hours.specs.declared.report.Kind.TheVariants.{B1}
@@ -5,7 +6,7 @@ use Rattle.tacho_hours.specs.Days.{Line}
 use Rattle.tacho_hours.specs.Driving.{IsDrivingMinute}
 use Rattle.tacho_hours.specs.Report.{IsOver}
 
--- more than 270 driving minutes from one minute up to another
+-- B1, of one driving period: more than four and a half hours of driving from one minute up to another (Article 7)
 pub record IsLongPeriod (line : Line) (from to : ℕ) (breach : Breach) : Type 0 where
   pub kind : breach.kind ≡ B1
   pub over : IsOver line 270 from to breach

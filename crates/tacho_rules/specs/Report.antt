@@ -1,4 +1,5 @@
--- The report of what is held, from a base on.
+-- The report of what is held, from a base on: what Regulation (EC) 561/2006 says of it in Articles 6, 7 and 8, and where the
+-- examination ends.
 use Rattle.std.specs.Prelude.{ℕ, ◌&&◌, nat_le, nat_lt, if◌then◌else◌, List}
 use Rattle.std.specs.Option.{option_map_or}
 use Rattle.tacho_time.specs.declared.span.Activity.TheVariants.{Rest}

@@ -1,3 +1,4 @@
+-- Words of the pass over weeks: driving in a week and in two neighbouring weeks (Regulation (EC) 561/2006, Articles 6(2) and 6(3)).
 use Rattle.std.specs.Prelude.{◌≡◌, ℕ, ◌+◌, ◌<◌, ◌≤◌, ◌⊎◌, List}
 use Rattle.tacho_hours.specs.declared.report.Breach.{Breach}
 use Rattle.tacho_hours.specs.declared.report.Kind.{Kind}
@@ -13,11 +14,11 @@ pub record IsTooMuch (line : Line) (kind : Kind) (limit from to : ℕ) (breach :
   pub over : IsOver line limit from to breach
   pub since : breach.since ≡ from
 
--- more than 3360 in a week
+-- more than 56 hours (3360 minutes) in a week (Article 6(2))
 abbrev pub IsLongWeek : Line → ℕ → Breach → Type 0
 IsLongWeek line w breach = IsTooMuch line B6 3360 (week_start w) (week_start (w + 1)) breach
 
--- more than 5400 in a week and the next
+-- more than 90 hours (5400 minutes) in a week and the next (Article 6(3))
 abbrev pub IsLongPair : Line → ℕ → Breach → Type 0
 IsLongPair line w breach = IsTooMuch line B7 5400 (week_start w) (week_start (w + 2)) breach
 

@@ -15,7 +15,7 @@ pub(super) const WEEKLY_REST: u32 = 1440;
 /// The least regular weekly rest (Article 4(h)).
 pub(super) const REGULAR_REST: u32 = 2700;
 
-/// The least daily rest (Article 4(g)), to which a compensation may be attached (Article 8(6b)).
+/// The least daily rest (Article 4(g)), to which a compensation may be attached (Article 8(7)).
 pub(super) const DAILY_REST: u32 = 540;
 
 /// The first minute of the first week.
@@ -79,7 +79,7 @@ pub(super) fn is_main(weekly: &[Run], horizon: u32, rest: Run) -> bool
     !is_outdone(weekly, horizon, week_of(Minute::new(rest.start)), rest)
 }
 
-/// What a rest keeps of its minutes: 45 hours as the main rest of its week, and else 9 hours (Article 8(6b)).
+/// What a rest keeps of its minutes: 45 hours as the main rest of its week, and else 9 hours (Article 8(7)).
 pub(super) fn kept_minutes(weekly: &[Run], horizon: u32, rest: Run) -> u32
     requires in_time { AreInTime weekly.now }
     requires early { rest.start ≤ 68374080 }
