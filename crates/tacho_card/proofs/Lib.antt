@@ -7,6 +7,7 @@ mod FileLemmas
 mod GivesLemmas
 mod RawLemmas
 mod ReadingLaw
+mod RecordLaw
 mod SingleLemmas
 mod WordLemmas
 mod WrapLemmas
