@@ -4,6 +4,7 @@ mod ChainLaw
 mod ChainLemmas
 mod ChosenLemmas
 mod FileLemmas
+mod FirstLemmas
 mod GivesLemmas
 mod RawLemmas
 mod ReadingLaw

@@ -8,15 +8,13 @@ use Rattle.tacho_card.specs.DriverActivity.{DriverActivity, wrapped}
 use Rattle.tacho_card.specs.DailyRecord.{DailyRecord, length_at, day_at, word_place, word_at, is_length, is_read_day, words_fault, fault_or, record_at}
 use Rattle.tacho_card.specs.Chain.{lengths, read_after}
 use Rattle.tacho_card.specs.Faults.{HasWords, IsTooLong, IsReadDay, IsWordFault, IsFirstWordFault, HaveNoWordFault, IsRecordFault, IsSound, IsRecordReading}
+use Rattle.tacho_card.proofs.FirstLemmas.{FirstFrom, first_here, first_behind, none_there, finds_none, finds_first}
 
--- ---- the words by recursion, from the i-th on
+-- ---- the words
 
--- no word has a fault, or this is that of the first one that has one
-abbrev Found : List ℕ → ℕ → ℕ → ℕ → Option CardFault → Type 0
-Found b p i n None = (word : ℕ) (fault : CardFault) → i ≤ word → word < i + n → ¬ (IsWordFault b p word fault)
-Found b p i n (Some fault) =
-    (word : ℕ) × (i ≤ word) × (word < i + n) × IsWordFault b p word fault
-    × ((earlier : ℕ) (other : CardFault) → i ≤ earlier → earlier < word → ¬ (IsWordFault b p earlier other))
+-- the fault of one of so many words
+abbrev Fault : List ℕ → ℕ → ℕ → ℕ → CardFault → Type 0
+Fault b p n word fault = (word < n) × IsWordFault b p word fault
 
 -- the minute before the i-th word: 0 before the first one, and that of the word before any other
 abbrev IsBefore : List ℕ → ℕ → ℕ → ℕ → Type 0
@@ -36,31 +34,6 @@ has_none b p minute i (inr h) day order fault (inr f) =
     let time = ap (λ x. time_of (word_at b p x)) same in
     absurd (omega (arith, f.0.2, h.2, order, time))
 
--- a number that is not below another is that number or above it
-above : (i j : ℕ) → i ≤ j → (i ≡ j) ⊎ (i + 1 ≤ j)
-above i j l = go (nat_lt i j) refl where
-  go : (t : Bool) → nat_lt i j ≡ t → (i ≡ j) ⊎ (i + 1 ≤ j)
-  go true h = inr (grind (arith, nat_tests))
-  go false h = inl (grind (arith, nat_tests))
-
--- where the i-th word has no fault, none from it on has one that none behind it has
-none_from : (b : List ℕ) (p i word : ℕ) (fault : CardFault) → ((other : CardFault) → ¬ (IsWordFault b p i other)) → i ≤ word → (i + 1 ≤ word → ¬ (IsWordFault b p word fault)) → ¬ (IsWordFault b p word fault)
-none_from b p i word fault none l behind f = go (above i word l) where
-  go : (i ≡ word) ⊎ (i + 1 ≤ word) → ⊥
-  go (inl e) = none fault (subst (λ (x : ℕ). IsWordFault b p x fault) (sym e) f)
-  go (inr k) = behind k f
-
--- a word without a fault, before others
-found_behind : (b : List ℕ) (p i n : ℕ) (o : Option CardFault) → ((other : CardFault) → ¬ (IsWordFault b p i other)) → Found b p (i + 1) n o → Found b p i (suc n) o
-found_behind b p i n None none rest = λ word fault l u. none_from b p i word fault none l (λ k. rest word fault k (omega (arith, u)))
-found_behind b p i n (Some fault) none rest = (
-  rest.0,
-  omega (arith, rest.1),
-  omega (arith, rest.2),
-  rest.3,
-  λ earlier other l u. none_from b p i earlier other none l (λ k. rest.4 earlier other k u),
-)
-
 -- a minute by the test of C12
 late_test : (minute : ℕ) → nat_le 1440 minute ≡ true → 1440 ≤ minute
 late_test minute h = grind (arith, nat_tests)
@@ -68,42 +41,47 @@ late_test minute h = grind (arith, nat_tests)
 in_day_test : (minute : ℕ) → nat_le 1440 minute ≡ false → minute < 1440
 in_day_test minute h = grind (arith, nat_tests)
 
--- two numbers by the test of C13
+-- two minutes by the test of C13
 below_test : (a b : ℕ) → nat_lt a b ≡ true → a < b
 below_test a b h = grind (arith, nat_tests)
 
 not_below_test : (a b : ℕ) → nat_lt a b ≡ false → b ≤ a
 not_below_test a b h = grind (arith, nat_tests)
 
--- the words by recursion: the first fault is found
-words_found : (b : List ℕ) (p minute i n : ℕ) → IsBefore b p minute i → Found b p i n (words_fault b p minute i n)
+-- of k words from the i-th on the recursion finds the first fault
+finds_from : (b : List ℕ) (p n minute i k : ℕ) → i + k ≡ n → IsBefore b p minute i → FirstFrom (Fault b p n) i (words_fault b p minute i k)
 unfolding words_fault
-words_found b p minute i zero h = λ word fault l u. absurd (omega arith)
-words_found b p minute i (suc n) h = go (nat_le 1440 time) refl (nat_lt time minute) refl (words_found b p time (i + 1) n (inr (i, refl, refl))) where
+finds_from b p n minute i zero e h = λ word fault l f. absurd (omega (arith, f.0))
+finds_from b p n minute i (suc k) e h = go (nat_le 1440 time) refl (nat_lt time minute) refl (finds_from b p n time (i + 1) k (omega arith) (inr (i, refl, refl))) where
   time : ℕ
   time = time_of (word_at b p i)
 
-  go : (late : Bool) → nat_le 1440 time ≡ late → (back : Bool) → nat_lt time minute ≡ back → Found b p (i + 1) n (words_fault b p time (i + 1) n) → Found b p i (suc n) (cond late (Some (WordMinute (wrapped b (word_place p i)))) (cond back (Some (WordOrder (wrapped b (word_place p i)))) (words_fault b p time (i + 1) n)))
-  go true e back f rest = (i, omega arith, omega arith, inl (late_test time e, refl), λ earlier other l u. absurd (omega arith))
-  go false e true f rest = (i, omega arith, omega arith, inr (goes_back b p minute i h (below_test time minute f), refl), λ earlier other l u. absurd (omega arith))
-  go false e false f rest = found_behind b p i n _ (has_none b p minute i h (in_day_test time e) (not_below_test time minute f)) rest
+  go : (late : Bool) → nat_le 1440 time ≡ late → (back : Bool) → nat_lt time minute ≡ back → FirstFrom (Fault b p n) (i + 1) (words_fault b p time (i + 1) k) → FirstFrom (Fault b p n) i (cond late (Some (WordMinute (wrapped b (word_place p i)))) (cond back (Some (WordOrder (wrapped b (word_place p i)))) (words_fault b p time (i + 1) k)))
+  go true l back u rest = first_here (Fault b p n) i _ (omega arith, inl (late_test time l, refl))
+  go false l true u rest = first_here (Fault b p n) i _ (omega arith, inr (goes_back b p minute i h (below_test time minute u), refl))
+  go false l false u rest = first_behind (Fault b p n) i _ (λ other f. has_none b p minute i h (in_day_test time l) (not_below_test time minute u) other f.1) rest
 
--- ---- the words by places
+-- and so of all words
+finds : (b : List ℕ) (p n : ℕ) → FirstFrom (Fault b p n) 0 (words_fault b p 0 0 n)
+finds b p n = finds_from b p n 0 0 n (omega arith) (inl (refl, refl))
 
--- words without a fault by recursion have none
+-- words without a fault by recursion have none by places
 none_found : (b : List ℕ) (p n : ℕ) → words_fault b p 0 0 n ≡ None → HaveNoWordFault b p n
-none_found b p n h word fault l =
-    subst (Found b p 0 n) h (words_found b p 0 0 n (inl (refl, refl))) word fault (omega arith) (omega arith)
+none_found b p n e word fault l h = none_there (Fault b p n) _ (finds b p n) e word fault (l, h)
 
--- the fault of words by recursion is that of the first one that has one
+-- words without a fault by places have none by recursion
+no_fault : (b : List ℕ) (p n : ℕ) → HaveNoWordFault b p n → words_fault b p 0 0 n ≡ None
+no_fault b p n h = finds_none (Fault b p n) _ (finds b p n) (λ word fault f. h word fault f.0 f.1)
+
+-- the fault by recursion is that of the first word that has one
 first_found : (b : List ℕ) (p n : ℕ) (fault : CardFault) → words_fault b p 0 0 n ≡ Some fault → IsFirstWordFault b p n fault
-first_found b p n fault h =
-    let found = subst (Found b p 0 n) h (words_found b p 0 0 n (inl (refl, refl))) in
+first_found b p n fault e =
+    let found = subst (FirstFrom (Fault b p n) 0) e (finds b p n) in
     record {
       word = found.0;
-      among = omega (arith, found.2);
-      is = found.3;
-      first = λ earlier other l. found.4 earlier other (omega arith) l;
+      among = found.2.0;
+      is = found.2.1;
+      first = λ earlier other l f. found.3 earlier other (omega arith) l (omega (arith, l, found.2.0), f);
     }
 
 -- a word has one fault at most, where no earlier word has one
@@ -113,34 +91,11 @@ one_fault b p word f g first (inl h) (inr k) = absurd (first k.0.0 _ (omega (ari
 one_fault b p word f g first (inr h) (inl k) = absurd (first h.0.0 _ (omega (arith, h.0.1)) (inl (omega (arith, k.0, h.0.2), refl)))
 one_fault b p word f g first (inr h) (inr k) = h.1 ∙ sym k.1
 
--- no word with a fault is before the first one
-not_before : (b : List ℕ) (p n : ℕ) (f g : CardFault) (h : IsFirstWordFault b p n f) (k : IsFirstWordFault b p n g) → h.word ≤ k.word
-not_before b p n f g h k = go (nat_lt k.word h.word) refl where
-  go : (t : Bool) → nat_lt k.word h.word ≡ t → h.word ≤ k.word
-  go true e = absurd (h.first k.word g (below_test k.word h.word e) k.is)
-  go false e = not_below_test k.word h.word e
-
--- words have one first fault at most
-one_first : (b : List ℕ) (p n : ℕ) (f g : CardFault) → IsFirstWordFault b p n f → IsFirstWordFault b p n g → f ≡ g
-one_first b p n f g h k =
-    let one = not_before b p n f g h k in
-    let other = not_before b p n g f k h in
-    let same : k.word ≡ h.word = omega (arith, one, other) in
-    one_fault b p h.word f g h.first h.is (subst (λ (x : ℕ). IsWordFault b p x g) same k.is)
-
--- words without a fault have none by recursion
-finds_none : (b : List ℕ) (p n : ℕ) → HaveNoWordFault b p n → words_fault b p 0 0 n ≡ None
-finds_none b p n h = go (words_fault b p 0 0 n) refl where
-  go : (o : Option CardFault) → words_fault b p 0 0 n ≡ o → words_fault b p 0 0 n ≡ None
-  go None e = e
-  go (Some f) e = let first = first_found b p n f e in absurd (h first.word f first.among first.is)
-
--- the first fault of words is the one by recursion
-finds_first : (b : List ℕ) (p n : ℕ) (fault : CardFault) → IsFirstWordFault b p n fault → words_fault b p 0 0 n ≡ Some fault
-finds_first b p n fault h = go (words_fault b p 0 0 n) refl where
-  go : (o : Option CardFault) → words_fault b p 0 0 n ≡ o → words_fault b p 0 0 n ≡ Some fault
-  go None e = absurd (none_found b p n e h.word fault h.among h.is)
-  go (Some f) e = e ∙ ap Some (one_first b p n f fault (first_found b p n f e) h)
+-- the fault of the first word that has one is the fault by recursion
+first_fault : (b : List ℕ) (p n : ℕ) (fault : CardFault) → IsFirstWordFault b p n fault → words_fault b p 0 0 n ≡ Some fault
+first_fault b p n fault h =
+    finds_first (Fault b p n) _ (finds b p n) h.word fault (h.among, h.is) (λ earlier other l f. h.first earlier other l f.1)
+    (λ other f. one_fault b p h.word other fault h.first f.1 h.is)
 
 -- ---- the tests of a record
 
@@ -277,7 +232,7 @@ sound_read block front r h =
     let long = has_length block r.place r.count h.words in
     let room = room_passes (length block.buffer) (lengths block.buffer front) (length_at block.buffer r.place) h.room in
     let count = words_count (length_at block.buffer r.place) r.count h.words.0 in
-    let words = ap (words_fault block.buffer r.place 0 0) count ∙ finds_none block.buffer r.place r.count h.in_order in
+    let words = ap (words_fault block.buffer r.place 0 0) count ∙ no_fault block.buffer r.place r.count h.in_order in
     tests_read block.buffer r.place (left block front) true false true None long.0 room (day_passes _ h.day.0 h.day.1) words
     ∙ ap₂ (λ x n. Ok (record { buffer = x; place = r.place; count = n })) (sym h.buffer) count
 
@@ -286,7 +241,7 @@ word_fault_read : (block : DriverActivity) (front : List ℕ) (place : ℕ) (fau
 word_fault_read block front place fault h =
     let long = has_length block place h.0 h.1 in
     let room = room_passes (length block.buffer) (lengths block.buffer front) (length_at block.buffer place) h.2 in
-    let words = ap (words_fault block.buffer place 0 0) (words_count (length_at block.buffer place) h.0 h.1.0) ∙ finds_first block.buffer place h.0 fault h.4 in
+    let words = ap (words_fault block.buffer place 0 0) (words_count (length_at block.buffer place) h.0 h.1.0) ∙ first_fault block.buffer place h.0 fault h.4 in
     tests_read block.buffer place (left block front) true false true (Some fault) long.0 room (day_passes _ h.3.0 h.3.1) words
 
 -- a reading by places and words is what is read at the place
