@@ -3,6 +3,7 @@ mod BlockLemmas
 mod ChainLaw
 mod ChainLemmas
 mod ChosenLemmas
+mod FileLaw
 mod FileLemmas
 mod FirstLemmas
 mod GivesLemmas
