@@ -1,7 +1,7 @@
 -- The faults of a file's blocks by places are those by recursion.
 use Rattle.std.proofs.Common.{◌≡◌, ℕ, zero, suc, ◌+◌, ◌<◌, ◌⊎◌, inl, inr, ◌↔◌, ◌&&◌, ◌||◌, nat_lt, Bool, true, false, cond, List, [], ◌∷◌, ◌++◌, length, get_or, slice_get, bytes_eq, Decides, HoldsAt, Option, None, Some, Result, Ok, Err, refl, sym, ap, ap₂, ◌∙◌, subst, append_assoc, length-append, arith}
 use Rattle.std.proofs.Math.Seq.{get_or-append_seam}
-use Rattle.std.proofs.lemmas.Bool.Decides.{nat_tests, not_from_Decides, Decides-eqb, Decides-and, Decides-or, Decides-by_or}
+use Rattle.std.proofs.lemmas.Bool.Decides.{nat_tests, not_from_Decides, Decides-eqb, Decides-and, Decides-or, Decides-ltb, Decides-by_or}
 use Rattle.std.proofs.lemmas.List.{get_or_append_left}
 use Rattle.std.proofs.lemmas.Option.{same_Some, slice_get_within, slice_get-get_or, slice_get_read, get_or_from_slice_get}
 use Rattle.std.proofs.lemmas.Slice.Eq.{bytes_eq-Decides}
@@ -81,12 +81,16 @@ finds_from seen (b ∷ blocks) = go (is_single b && has b seen) refl (finds_from
   longer : length (seen ++ b ∷ []) ≡ length seen + 1
   longer = length-append seen (b ∷ [])
 
-  go : (t : Bool) → (is_single b && has b seen) ≡ t → FirstFrom (IsRepetition ((seen ++ b ∷ []) ++ blocks)) (length (seen ++ b ∷ [])) (repeated (seen ++ b ∷ []) blocks) → FirstFrom (IsRepetition all) (length seen) (cond t (Some b) (repeated (seen ++ b ∷ []) blocks))
+  found : Option FileBlock
+  found = repeated (seen ++ b ∷ []) blocks
+
+  go : (t : Bool) → (is_single b && has b seen) ≡ t → FirstFrom (IsRepetition ((seen ++ b ∷ []) ++ blocks)) (length (seen ++ b ∷ [])) found →
+      FirstFrom (IsRepetition all) (length seen) (cond t (Some b) found)
   go true e rest = first_here (IsRepetition all) (length seen) b (next_repeats seen blocks b e)
   go false e rest =
-      let behind = subst (λ (xs : List FileBlock). FirstFrom (IsRepetition xs) (length (seen ++ b ∷ [])) (repeated (seen ++ b ∷ []) blocks)) (append_assoc seen (b ∷ []) blocks) rest in
+      let behind = subst (λ (xs : List FileBlock). FirstFrom (IsRepetition xs) (length (seen ++ b ∷ [])) found) (append_assoc seen (b ∷ []) blocks) rest in
       first_behind (IsRepetition all) (length seen) _ (λ other. next_is_new seen blocks b other e)
-      (subst (λ (n : ℕ). FirstFrom (IsRepetition all) n (repeated (seen ++ b ∷ []) blocks)) longer behind)
+      (subst (λ (n : ℕ). FirstFrom (IsRepetition all) n found) longer behind)
 
 -- blocks in which none is found have no repetition
 none_found : (blocks : List FileBlock) → repeated [] blocks ≡ None → HaveNoRepetition blocks
@@ -114,11 +118,16 @@ first_fault blocks b h =
 
 -- ---- the values of the identifications
 
--- the value of an identifier and a kind is that of a block
-value_at : (i k : ℕ) (blocks : List FileBlock) (v : List ℕ) → value_of i k blocks ≡ Some v → (place : ℕ) × (b : FileBlock) × (slice_get blocks place ≡ Some b) × (b.identifier ≡ i) × (b.kind ≡ k) × (b.value ≡ v)
+-- at some place stands a block with this identifier, kind and value
+abbrev HasValue : ℕ → ℕ → List FileBlock → List ℕ → Type 0
+HasValue i k blocks v =
+    (place : ℕ) × (b : FileBlock) × (slice_get blocks place ≡ Some b) × (b.identifier ≡ i) × (b.kind ≡ k) × (b.value ≡ v)
+
+-- the value of an identifier and a kind is that of such a block
+value_at : (i k : ℕ) (blocks : List FileBlock) (v : List ℕ) → value_of i k blocks ≡ Some v → HasValue i k blocks v
 value_at i k [] v h = cc
 value_at i k (x ∷ xs) v h = go (is_block i k x) refl h (value_at i k xs v) where
-  go : (t : Bool) → is_block i k x ≡ t → cond t (Some x.value) (value_of i k xs) ≡ Some v → (value_of i k xs ≡ Some v → (place : ℕ) × (b : FileBlock) × (slice_get xs place ≡ Some b) × (b.identifier ≡ i) × (b.kind ≡ k) × (b.value ≡ v)) → (place : ℕ) × (b : FileBlock) × (slice_get (x ∷ xs) place ≡ Some b) × (b.identifier ≡ i) × (b.kind ≡ k) × (b.value ≡ v)
+  go : (t : Bool) → is_block i k x ≡ t → cond t (Some x.value) (value_of i k xs) ≡ Some v → (value_of i k xs ≡ Some v → HasValue i k xs v) → HasValue i k (x ∷ xs) v
   go true e h more = let like = (block_decides i k x).0 e in (0, x, refl, like.0, like.1, same_Some x.value v h)
   go false e h more = let rest = more h in (suc rest.0, rest.1, rest.2, rest.3, rest.4, rest.5)
 
@@ -128,19 +137,27 @@ not_passed true v rest h = cc
 not_passed false v rest h = (refl, h)
 
 -- no block has an identifier and a kind without a value
-no_value : (i k : ℕ) (blocks : List FileBlock) (place : ℕ) (b : FileBlock) → value_of i k blocks ≡ None → slice_get blocks place ≡ Some b → ¬ ((b.identifier ≡ i) × (b.kind ≡ k))
+no_value : (i k : ℕ) (blocks : List FileBlock) (place : ℕ) (b : FileBlock) → value_of i k blocks ≡ None → slice_get blocks place ≡ Some b →
+    ¬ ((b.identifier ≡ i) × (b.kind ≡ k))
 no_value i k [] place b h there like = cc
 no_value i k (x ∷ xs) zero b h there like =
     let passed = not_passed (is_block i k x) x.value (value_of i k xs) h in
     not_from_Decides _ (block_decides i k x) passed.0 (subst (λ (y : FileBlock). (y.identifier ≡ i) × (y.kind ≡ k)) (sym (same_Some x b there)) like)
 no_value i k (x ∷ xs) (suc n) b h there like = no_value i k xs n b (not_passed (is_block i k x) x.value (value_of i k xs) h).1 there like
 
--- without a repetition at most one block of those that may stand once has an identifier and a kind
-one_block : (blocks : List FileBlock) (i j : ℕ) (a b : FileBlock) → HaveNoRepetition blocks → slice_get blocks i ≡ Some a → slice_get blocks j ≡ Some b → a.identifier ≡ b.identifier → a.kind ≡ b.kind → MayStandOnce a → MayStandOnce b → a ≡ b
-one_block blocks i j a b none at there identifier kind once other = go (nat_lt i j) refl (nat_lt j i) refl where
+-- a block that may stand once, behind one with its identifier and its kind, repeats it
+repeats : (blocks : List FileBlock) (i j : ℕ) (a b : FileBlock) → i < j → slice_get blocks i ≡ Some a → slice_get blocks j ≡ Some b →
+    IsLike b a → MayStandOnce b → IsRepetition blocks j b
+repeats blocks i j a b l at there like once =
+    record { there = there; once = once; earlier = i; before = l; other = a; stood = at; identifier = like.0; kind = like.1 }
+
+-- so without a repetition at most one such block has an identifier and a kind
+one_block : (blocks : List FileBlock) (i j : ℕ) (a b : FileBlock) → HaveNoRepetition blocks → slice_get blocks i ≡ Some a → slice_get blocks j ≡ Some b →
+    IsLike b a → MayStandOnce a → MayStandOnce b → a ≡ b
+one_block blocks i j a b none at there like once other = go (nat_lt i j) refl (nat_lt j i) refl where
   go : (t : Bool) → nat_lt i j ≡ t → (u : Bool) → nat_lt j i ≡ u → a ≡ b
-  go true e u f = absurd (none j b (record { there = there; once = other; earlier = i; before = grind (arith, nat_tests); other = a; stood = at; identifier = identifier; kind = kind }))
-  go false e true f = absurd (none i a (record { there = at; once = once; earlier = j; before = grind (arith, nat_tests); other = b; stood = there; identifier = sym identifier; kind = sym kind }))
+  go true e u f = absurd (none j b (repeats blocks i j a b (grind (arith, nat_tests)) at there like other))
+  go false e true f = absurd (none i a (repeats blocks j i b a (grind (arith, nat_tests)) there at (sym like.0, sym like.1) once))
   go false e false f = let same : i ≡ j = grind (arith, nat_tests) in same_Some a b (sym at ∙ ap (slice_get blocks) same ∙ there)
 
 -- an identification may stand once
@@ -156,8 +173,8 @@ abbrev IsNamed : List FileBlock → List ℕ → Type 0
 IsNamed blocks value = (b : FileBlock) × IsIdentification blocks b × (b.value ≡ value)
 
 -- the value of either kind is that of an identification
-value_named : (blocks : List FileBlock) (k : ℕ) (v : List ℕ) → (k ≡ 0) ⊎ (k ≡ 2) → value_of identification k blocks ≡ Some v → IsNamed blocks v
-value_named blocks k v either e =
+value_named : (blocks : List FileBlock) (k : ℕ) → (k ≡ 0) ⊎ (k ≡ 2) → (v : List ℕ) → value_of identification k blocks ≡ Some v → IsNamed blocks v
+value_named blocks k either v e =
     let h = value_at identification k blocks v e in (
       h.1,
       record {
@@ -169,7 +186,8 @@ value_named blocks k v either e =
     )
 
 -- without a repetition that of an identification is the value of its kind
-named_value : (blocks : List FileBlock) (k : ℕ) (b : FileBlock) → HaveNoRepetition blocks → IsIdentification blocks b → b.kind ≡ k → value_of identification k blocks ≡ Some b.value
+named_value : (blocks : List FileBlock) (k : ℕ) (b : FileBlock) → HaveNoRepetition blocks → IsIdentification blocks b → b.kind ≡ k →
+    value_of identification k blocks ≡ Some b.value
 named_value blocks k b none h kind = go (value_of identification k blocks) refl where
   place : (place : ℕ) × (slice_get blocks place ≡ Some b)
   place = stands blocks b h
@@ -179,7 +197,7 @@ named_value blocks k b none h kind = go (value_of identification k blocks) refl 
   go (Some v) e =
       let at = value_at identification k blocks v e in
       let once : MayStandOnce at.1 = (inr at.3, subst (λ (n : ℕ). (n ≡ 0) ⊎ (n ≡ 2)) (kind ∙ sym at.4) h.kind) in
-      let same : at.1 ≡ b = one_block blocks at.0 place.0 at.1 b none at.2 place.1 (at.3 ∙ sym h.identifier) (at.4 ∙ sym kind) once (may_stand blocks b h) in
+      let same : at.1 ≡ b = one_block blocks at.0 place.0 at.1 b none at.2 place.1 (at.3 ∙ sym h.identifier, at.4 ∙ sym kind) once (may_stand blocks b h) in
       e ∙ ap Some (sym at.5 ∙ ap (λ (x : FileBlock). x.value) same)
 
 -- ---- the holder
@@ -192,42 +210,42 @@ Names blocks (Err ShortIdentification) = HaveShortIdentification blocks
 Names blocks (Err TwoCards) = ¬ (HaveShortIdentification blocks) × HaveTwoHolders blocks
 Names blocks (Err fault) = ⊥
 
--- a value by the test of its length
-short_test : (value : List ℕ) → nat_lt (length value) 17 ≡ true → length value < 17
-short_test value h = grind (arith, nat_tests)
-
-long_test : (value : List ℕ) → nat_lt (length value) 17 ≡ false → ¬ (length value < 17)
-long_test value h = grind (arith, nat_tests)
+-- the test of a value that is short
+short_decides : (value : List ℕ) → Decides (is_short (Some value)) (length value < 17)
+short_decides value = Decides-ltb (length value) 17
 
 -- an identification with a short value is short
-named_short : (blocks : List FileBlock) (x : List ℕ) → IsNamed blocks x → nat_lt (length x) 17 ≡ true → HaveShortIdentification blocks
-named_short blocks x h e = (h.0, h.1, subst (λ (v : List ℕ). length v < 17) (sym h.2) (short_test x e))
+named_short : (blocks : List FileBlock) (x : List ℕ) → IsNamed blocks x → is_short (Some x) ≡ true → HaveShortIdentification blocks
+named_short blocks x h e = (h.0, h.1, subst (λ (v : List ℕ). length v < 17) (sym h.2) ((short_decides x).0 e))
 
 -- where all have this value, it decides
-one_names : (blocks : List FileBlock) (x : List ℕ) → IsNamed blocks x → ((b : FileBlock) → IsIdentification blocks b → b.value ≡ x) → Names blocks (cond (is_short (Some x)) (Err ShortIdentification) (Ok (holder_in x)))
+one_names : (blocks : List FileBlock) (x : List ℕ) → IsNamed blocks x → ((b : FileBlock) → IsIdentification blocks b → b.value ≡ x) →
+    Names blocks (cond (is_short (Some x)) (Err ShortIdentification) (Ok (holder_in x)))
 one_names blocks x named each = go (is_short (Some x)) refl where
   go : (t : Bool) → is_short (Some x) ≡ t → Names blocks (cond t (Err ShortIdentification) (Ok (holder_in x)))
   go true e = named_short blocks x named e
   go false e = record {
     some = (named.0, named.1);
-    long = λ s. long_test x e (subst (λ (v : List ℕ). length v < 17) (each s.0 s.1) s.2);
+    long = λ s. not_from_Decides _ (short_decides x) e (subst (λ (v : List ℕ). length v < 17) (each s.0 s.1) s.2);
     each = λ b h. ap holder_in (each b h);
   }
 
 -- where all have one of these two values, they decide
-two_names : (blocks : List FileBlock) (x y : List ℕ) → IsNamed blocks x → IsNamed blocks y → ((b : FileBlock) → IsIdentification blocks b → (b.value ≡ x) ⊎ (b.value ≡ y)) → Names blocks (holder_of (Some x) (Some y))
+two_names : (blocks : List FileBlock) (x y : List ℕ) → IsNamed blocks x → IsNamed blocks y →
+    ((b : FileBlock) → IsIdentification blocks b → (b.value ≡ x) ⊎ (b.value ≡ y)) → Names blocks (holder_of (Some x) (Some y))
 two_names blocks x y one other each = go (is_short (Some x)) refl (is_short (Some y)) refl (bytes_eq (holder_in x) (holder_in y)) refl where
   long : is_short (Some x) ≡ false → is_short (Some y) ≡ false → ¬ (HaveShortIdentification blocks)
   long e f s = pick (each s.0 s.1) where
     pick : (s.0.value ≡ x) ⊎ (s.0.value ≡ y) → ⊥
-    pick (inl h) = long_test x e (subst (λ (v : List ℕ). length v < 17) h s.2)
-    pick (inr h) = long_test y f (subst (λ (v : List ℕ). length v < 17) h s.2)
+    pick (inl h) = not_from_Decides _ (short_decides x) e (subst (λ (v : List ℕ). length v < 17) h s.2)
+    pick (inr h) = not_from_Decides _ (short_decides y) f (subst (λ (v : List ℕ). length v < 17) h s.2)
 
   all : holder_in x ≡ holder_in y → (b : FileBlock) → (b.value ≡ x) ⊎ (b.value ≡ y) → holder_in b.value ≡ holder_in x
   all same b (inl h) = ap holder_in h
   all same b (inr h) = ap holder_in h ∙ sym same
 
-  go : (t : Bool) → is_short (Some x) ≡ t → (u : Bool) → is_short (Some y) ≡ u → (s : Bool) → bytes_eq (holder_in x) (holder_in y) ≡ s → Names blocks (cond (t || u) (Err ShortIdentification) (cond s (Ok (holder_in x)) (Err TwoCards)))
+  go : (t : Bool) → is_short (Some x) ≡ t → (u : Bool) → is_short (Some y) ≡ u → (s : Bool) → bytes_eq (holder_in x) (holder_in y) ≡ s →
+      Names blocks (cond (t || u) (Err ShortIdentification) (cond s (Ok (holder_in x)) (Err TwoCards)))
   go true e u f s g = named_short blocks x one e
   go false e true f s g = named_short blocks y other f
   go false e false f true g = record {
@@ -241,7 +259,8 @@ two_names blocks x y one other each = go (is_short (Some x)) refl (is_short (Som
   )
 
 -- the values of both kinds decide
-values_name : (blocks : List FileBlock) (v w : Option (List ℕ)) → ((x : List ℕ) → v ≡ Some x → IsNamed blocks x) → ((x : List ℕ) → w ≡ Some x → IsNamed blocks x) → ((b : FileBlock) → IsIdentification blocks b → (v ≡ Some b.value) ⊎ (w ≡ Some b.value)) → Names blocks (holder_of v w)
+values_name : (blocks : List FileBlock) (v w : Option (List ℕ)) → ((x : List ℕ) → v ≡ Some x → IsNamed blocks x) → ((x : List ℕ) → w ≡ Some x → IsNamed blocks x) →
+    ((b : FileBlock) → IsIdentification blocks b → (v ≡ Some b.value) ⊎ (w ≡ Some b.value)) → Names blocks (holder_of v w)
 values_name blocks None None first second each = λ b h. go (each b h) where
   go : {x : List ℕ} → (None ≡ Some x) ⊎ (None ≡ Some x) → ⊥
   go (inl e) = cc
@@ -259,13 +278,17 @@ values_name blocks (Some x) (Some y) first second each = two_names blocks x y (f
   go b (inl e) = inl (sym (same_Some x b.value e))
   go b (inr e) = inr (sym (same_Some y b.value e))
 
+-- without a repetition each identification has the value of one of the kinds
+either_value : (blocks : List FileBlock) (b : FileBlock) → HaveNoRepetition blocks → IsIdentification blocks b → (b.kind ≡ 0) ⊎ (b.kind ≡ 2) →
+    (value_of identification 0 blocks ≡ Some b.value) ⊎ (value_of identification 2 blocks ≡ Some b.value)
+either_value blocks b none h (inl kind) = inl (named_value blocks 0 b none h kind)
+either_value blocks b none h (inr kind) = inr (named_value blocks 2 b none h kind)
+
 -- the holder of blocks without a repetition, or its fault, is what their identifications say
 holder_names : (blocks : List FileBlock) → HaveNoRepetition blocks → Names blocks (file_holder blocks)
 holder_names blocks none =
-    values_name blocks (value_of identification 0 blocks) (value_of identification 2 blocks) (λ x e. value_named blocks 0 x (inl refl) e) (λ x e. value_named blocks 2 x (inr refl) e) (λ b h. go b h h.kind) where
-      go : (b : FileBlock) → IsIdentification blocks b → (b.kind ≡ 0) ⊎ (b.kind ≡ 2) → (value_of identification 0 blocks ≡ Some b.value) ⊎ (value_of identification 2 blocks ≡ Some b.value)
-      go b h (inl kind) = inl (named_value blocks 0 b none h kind)
-      go b h (inr kind) = inr (named_value blocks 2 b none h kind)
+    values_name blocks (value_of identification 0 blocks) (value_of identification 2 blocks) (value_named blocks 0 (inl refl)) (value_named blocks 2 (inr refl))
+    (λ b h. either_value blocks b none h h.kind)
 
 -- two holders are not both the one
 no_two : (blocks : List FileBlock) (holder : List ℕ) → IsHolder blocks holder → ¬ (HaveTwoHolders blocks)

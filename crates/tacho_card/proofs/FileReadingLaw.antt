@@ -36,7 +36,9 @@ raw_has blocks raw h = go (list_or_conflict raw) where
 has_from : (front rest : List DriverActivity) (raw : List Span) → IsRaw front raw → HaveReading (front ++ rest)
 has_from front [] raw h = subst HaveReading (sym (append-nil front)) (raw_has front raw h)
 has_from front (block ∷ rest) raw h = go (with_spans raw (block_spans block)) refl (λ new e. has_from (front ++ block ∷ []) rest new (raw_more front block raw new h e)) where
-  go : (r : Result (List Span) CardFault) → with_spans raw (block_spans block) ≡ r → ((new : List Span) → with_spans raw (block_spans block) ≡ Ok new → HaveReading ((front ++ block ∷ []) ++ rest)) → HaveReading (front ++ block ∷ rest)
+  go : (r : Result (List Span) CardFault) → with_spans raw (block_spans block) ≡ r →
+      ((new : List Span) → with_spans raw (block_spans block) ≡ Ok new → HaveReading ((front ++ block ∷ []) ++ rest)) →
+      HaveReading (front ++ block ∷ rest)
   go (Ok new) e more = subst HaveReading (append_assoc front (block ∷ []) rest) (more new e)
   go (Err f) e more = (Err f, inl (fault_after front (block ∷ rest) h.0 ∙ chain_with block rest f (block_fault block f (only_fault raw (block_spans block) f e))))
 

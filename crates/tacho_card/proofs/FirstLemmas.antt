@@ -53,7 +53,8 @@ not_before P i j x first h = go (nat_lt j i) refl where
   go false e = grind (arith, nat_tests)
 
 -- what the first place has is found, where it has no other thing
-pub finds_first : {X : Type 0} (P : ℕ → X → Type 0) (o : Option X) → FirstFrom P 0 o → (place : ℕ) (x : X) → P place x → ((earlier : ℕ) (other : X) → earlier < place → ¬ (P earlier other)) → ((other : X) → P place other → other ≡ x) → o ≡ Some x
+pub finds_first : {X : Type 0} (P : ℕ → X → Type 0) (o : Option X) → FirstFrom P 0 o → (place : ℕ) (x : X) → P place x →
+    ((earlier : ℕ) (other : X) → earlier < place → ¬ (P earlier other)) → ((other : X) → P place other → other ≡ x) → o ≡ Some x
 finds_first P None h place x there first one = absurd (h place x (omega arith) there)
 finds_first P (Some y) h place x there first one =
     let a = not_before P h.0 place x (λ earlier other l. h.3 earlier other (omega arith) l) there in
