@@ -317,7 +317,7 @@ chain_without : (block : DriverActivity) (more : List DriverActivity) → fault_
 chain_without block more h = rw h refl
 
 -- the first fault, where the first data have one
-chain_with : (block : DriverActivity) (more : List DriverActivity) (f : CardFault) → fault_of (chain block) ≡ Some f → chains_fault (block ∷ more) ≡ Some f
+pub chain_with : (block : DriverActivity) (more : List DriverActivity) (f : CardFault) → fault_of (chain block) ≡ Some f → chains_fault (block ∷ more) ≡ Some f
 chain_with block more f h = rw h refl
 
 -- the first of data without a fault has none
@@ -328,7 +328,7 @@ first_without block more h = go (fault_of (chain block)) refl where
   go (Some f) e = let wrong = sym (chain_with block more f e) ∙ h in cc
 
 -- behind data without a fault, the fault is that of the others
-fault_after : (blocks more : List DriverActivity) → chains_fault blocks ≡ None → chains_fault (blocks ++ more) ≡ chains_fault more
+pub fault_after : (blocks more : List DriverActivity) → chains_fault blocks ≡ None → chains_fault (blocks ++ more) ≡ chains_fault more
 fault_after [] more h = refl
 fault_after (block ∷ blocks) more h =
     let none = first_without block blocks h in

@@ -3,10 +3,14 @@ mod BlockLemmas
 mod ChainLaw
 mod ChainLemmas
 mod ChosenLemmas
+mod FileLaw
 mod FileLemmas
+mod FileReadingLaw
+mod FirstLemmas
 mod GivesLemmas
 mod RawLemmas
 mod ReadingLaw
+mod RecordLaw
 mod SingleLemmas
 mod WordLemmas
 mod WrapLemmas

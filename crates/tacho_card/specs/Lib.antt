@@ -6,3 +6,4 @@ pub mod CardFile
 pub mod Reading
 pub mod RawSpans
 pub mod Singles
+pub mod Faults

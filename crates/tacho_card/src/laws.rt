@@ -1,12 +1,16 @@
+//! Laws about driver cards. A law is a function without a body: what it ensures is proved, and holds for all that it names.
+
 ghost use Rattle.std.specs.Prelude.{◌≡◌, ◌↔◌, ℕ, ◌<◌, List, Result, Ok, Err, slice_index};
 ghost use Rattle.tacho_time.specs.declared.span.Span.{Span};
 ghost use Rattle.tacho_card.specs.declared.fault.CardFault.{CardFault};
 ghost use Rattle.tacho_card.specs.declared.fault.CardFault.TheVariants.{Truncated};
 ghost use Rattle.tacho_card.specs.DriverActivity.{DriverActivity};
 ghost use Rattle.tacho_card.specs.DailyRecord.{DailyRecord};
-ghost use Rattle.tacho_card.specs.Chain.{IsChain, chain};
+ghost use Rattle.tacho_card.specs.declared.file.Part.{Part as PartValue};
+ghost use Rattle.tacho_card.specs.Chain.{IsChain, chain, read_after};
 ghost use Rattle.tacho_card.specs.Reading.{IsReading};
-ghost use Rattle.tacho_card.specs.CardFile.{FileBlock, IsLaidEndToEnd, IsTruncatedAt, blocks_of};
+ghost use Rattle.tacho_card.specs.CardFile.{FileBlock, IsLaidEndToEnd, IsTruncatedAt, blocks_of, card_file, file_holder, ReadsFile};
+ghost use Rattle.tacho_card.specs.Faults.{IsFileFault, HaveNoRepetition, IsHolder, IsRecordReading};
 
 /// The records that are read are those of the chain: the places from the oldest to the newest, each at
 /// the end of the one before, or up to the first fault.
@@ -32,4 +36,27 @@ pub fn one_block_list()
 /// Where there is none, some block goes past the end: the offset of its first byte is named.
 pub fn truncated_at()
     ensures { (bytes : List ℕ) (offset : ℕ) → ((i : ℕ) → slice_index bytes i < 256) → IsTruncatedAt bytes offset ↔ (blocks_of bytes ≡ Err (Truncated offset)) }
+{}
+
+/// Blocks that are laid end to end are refused with the first of C2 to C5: the first repetition by places; no
+/// identification; some identification that is short; two that name two holders.
+pub fn file_faults()
+    ensures { (bytes : List ℕ) (blocks : List FileBlock) (fault : CardFault) → IsLaidEndToEnd bytes blocks → IsFileFault blocks fault ↔ (card_file bytes ≡ Err fault) }
+{}
+
+/// The holder of blocks without a repetition is the one that each identification names.
+pub fn holder_is_named()
+    ensures { (blocks : List FileBlock) (holder : List ℕ) → HaveNoRepetition blocks → IsHolder blocks holder ↔ (file_holder blocks ≡ Ok holder) }
+{}
+
+/// A record after those of a front is read, or refused with the first of C9 to C13, its words by places: the least one whose
+/// minute is none of a day (C12) or is below that of the word before (C13).
+pub fn record_faults()
+    ensures { (block : DriverActivity) (front : List ℕ) (place : ℕ) (reading : Result DailyRecord CardFault) → IsRecordReading block front place reading ↔ (read_after block front place ≡ reading) }
+{}
+
+/// A file has a reading by each part, and no second one.
+pub fn file_reading()
+    ensures some { (part : PartValue) (blocks : List FileBlock) → (reading : Result (List Span) CardFault) × ReadsFile part blocks reading }
+    ensures one { (part : PartValue) (blocks : List FileBlock) (a b : Result (List Span) CardFault) → ReadsFile part blocks a → ReadsFile part blocks b → a ≡ b }
 {}

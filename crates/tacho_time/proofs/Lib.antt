@@ -1,4 +1,5 @@
 pub mod CanonicalLemmas
+pub mod ExistenceLemmas
 mod CivilLemmas
 mod ReadLemmas
 mod MonthLemmas

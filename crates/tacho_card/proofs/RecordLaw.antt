@@ -1,0 +1,249 @@
+-- What is read of a record by places and words is what is read by recursion.
+use Rattle.std.proofs.Common.{◌≡◌, ℕ, zero, suc, ◌+◌, ◌-◌, ◌*◌, ◌/◌, ◌<◌, ◌≤◌, ◌⊎◌, inl, inr, ◌↔◌, not, nat_le, nat_lt, Bool, true, false, cond, List, length, Decides, Option, Some, None, Result, Ok, Err, refl, sym, ap, ap₂, ◌∙◌, subst, arith}
+use Rattle.std.proofs.lemmas.Bool.Decides.{nat_tests, not_from_Decides, Decides-ltb}
+use Rattle.tacho_card.specs.declared.fault.CardFault.{CardFault}
+use Rattle.tacho_card.specs.declared.fault.CardFault.TheVariants.{RecordLength, Chain, DayRange, WordMinute, WordOrder}
+use Rattle.tacho_card.specs.ActivityChangeInfo.{time_of}
+use Rattle.tacho_card.specs.DriverActivity.{DriverActivity, wrapped}
+use Rattle.tacho_card.specs.DailyRecord.{DailyRecord, length_at, day_at, word_place, word_at, is_length, is_read_day, words_fault, fault_or, record_at}
+use Rattle.tacho_card.specs.Chain.{lengths, read_after}
+use Rattle.tacho_card.specs.Faults.{HasWords, IsTooLong, IsReadDay, IsWordFault, IsFirstWordFault, HaveNoWordFault, IsRecordFault, IsRecordReading}
+use Rattle.tacho_card.proofs.FirstLemmas.{FirstFrom, first_here, first_behind, none_there, finds_none, finds_first}
+
+-- ---- the words
+
+-- the fault of one of so many words
+abbrev Fault : List ℕ → ℕ → ℕ → ℕ → CardFault → Type 0
+Fault b p n word fault = (word < n) × IsWordFault b p word fault
+
+-- the minute before the i-th word: 0 before the first one, and that of the word before any other
+abbrev IsBefore : List ℕ → ℕ → ℕ → ℕ → Type 0
+IsBefore b p minute i = ((i ≡ 0) × (minute ≡ 0)) ⊎ ((word : ℕ) × (word + 1 ≡ i) × (minute ≡ time_of (word_at b p word)))
+
+-- a word below the minute before is below the time of the word before
+goes_back : (b : List ℕ) (p minute i : ℕ) → IsBefore b p minute i → time_of (word_at b p i) < minute →
+    (before : ℕ) × (before + 1 ≡ i) × (time_of (word_at b p i) < time_of (word_at b p before))
+goes_back b p minute i (inl h) l = absurd (omega (arith, h.1, l))
+goes_back b p minute i (inr h) l = (h.0, h.1, omega (arith, h.2, l))
+
+-- a word with a minute of a day that is not below the one before has no fault
+has_none : (b : List ℕ) (p minute i : ℕ) → IsBefore b p minute i → ¬ (1440 ≤ time_of (word_at b p i)) → ¬ (time_of (word_at b p i) < minute) →
+    (fault : CardFault) → ¬ (IsWordFault b p i fault)
+has_none b p minute i h day order fault (inl f) = day f.0
+has_none b p minute i (inl h) day order fault (inr f) = absurd (omega (arith, h.0, f.0.1))
+has_none b p minute i (inr h) day order fault (inr f) =
+    let same : f.0.0 ≡ h.0 = omega (arith, f.0.1, h.1) in
+    let time = ap (λ x. time_of (word_at b p x)) same in
+    order (omega (arith, f.0.2, h.2, time))
+
+-- the test of a minute that is none of a day
+late_decides : (minute : ℕ) → Decides (nat_le 1440 minute) (1440 ≤ minute)
+late_decides minute = (λ h. grind (arith, nat_tests), λ h. grind (arith, nat_tests))
+
+-- of k words from the i-th on the recursion finds the first fault
+finds_from : (b : List ℕ) (p n minute i k : ℕ) → i + k ≡ n → IsBefore b p minute i → FirstFrom (Fault b p n) i (words_fault b p minute i k)
+unfolding words_fault
+finds_from b p n minute i zero e h = λ word fault l f. absurd (omega (arith, f.0))
+finds_from b p n minute i (suc k) e h = go (nat_le 1440 time) refl (nat_lt time minute) refl (finds_from b p n time (i + 1) k (omega arith) (inr (i, refl, refl))) where
+  time : ℕ
+  time = time_of (word_at b p i)
+
+  place : ℕ
+  place = wrapped b (word_place p i)
+
+  others : Option CardFault
+  others = words_fault b p time (i + 1) k
+
+  go : (late : Bool) → nat_le 1440 time ≡ late → (back : Bool) → nat_lt time minute ≡ back → FirstFrom (Fault b p n) (i + 1) others →
+      FirstFrom (Fault b p n) i (cond late (Some (WordMinute place)) (cond back (Some (WordOrder place)) others))
+  go true l back u rest = first_here (Fault b p n) i _ (omega arith, inl ((late_decides time).0 l, refl))
+  go false l true u rest = first_here (Fault b p n) i _ (omega arith, inr (goes_back b p minute i h ((Decides-ltb time minute).0 u), refl))
+  go false l false u rest =
+      let day = not_from_Decides _ (late_decides time) l in
+      let order = not_from_Decides _ (Decides-ltb time minute) u in
+      first_behind (Fault b p n) i _ (λ other f. has_none b p minute i h day order other f.1) rest
+
+-- and so of all words
+finds : (b : List ℕ) (p n : ℕ) → FirstFrom (Fault b p n) 0 (words_fault b p 0 0 n)
+finds b p n = finds_from b p n 0 0 n (omega arith) (inl (refl, refl))
+
+-- words without a fault by recursion have none by places
+none_found : (b : List ℕ) (p n : ℕ) → words_fault b p 0 0 n ≡ None → HaveNoWordFault b p n
+none_found b p n e word fault l h = none_there (Fault b p n) _ (finds b p n) e word fault (l, h)
+
+-- words without a fault by places have none by recursion
+no_fault : (b : List ℕ) (p n : ℕ) → HaveNoWordFault b p n → words_fault b p 0 0 n ≡ None
+no_fault b p n h = finds_none (Fault b p n) _ (finds b p n) (λ word fault f. h word fault f.0 f.1)
+
+-- the fault by recursion is that of the first word that has one
+first_found : (b : List ℕ) (p n : ℕ) (fault : CardFault) → words_fault b p 0 0 n ≡ Some fault → IsFirstWordFault b p n fault
+first_found b p n fault e =
+    let found = subst (FirstFrom (Fault b p n) 0) e (finds b p n) in
+    record {
+      word = found.0;
+      among = found.2.0;
+      is = found.2.1;
+      first = λ earlier other l f. found.3 earlier other (omega arith) l (omega (arith, l, found.2.0), f);
+    }
+
+-- a word has one fault at most, where no earlier word has one
+one_fault : (b : List ℕ) (p word : ℕ) (f g : CardFault) → ((earlier : ℕ) (other : CardFault) → earlier < word → ¬ (IsWordFault b p earlier other)) →
+    IsWordFault b p word f → IsWordFault b p word g → f ≡ g
+one_fault b p word f g first (inl h) (inl k) = h.1 ∙ sym k.1
+one_fault b p word f g first (inl h) (inr k) = absurd (first k.0.0 _ (omega (arith, k.0.1)) (inl (omega (arith, h.0, k.0.2), refl)))
+one_fault b p word f g first (inr h) (inl k) = absurd (first h.0.0 _ (omega (arith, h.0.1)) (inl (omega (arith, k.0, h.0.2), refl)))
+one_fault b p word f g first (inr h) (inr k) = h.1 ∙ sym k.1
+
+-- the fault of the first word that has one is the fault by recursion
+first_fault : (b : List ℕ) (p n : ℕ) (fault : CardFault) → IsFirstWordFault b p n fault → words_fault b p 0 0 n ≡ Some fault
+first_fault b p n fault h =
+    finds_first (Fault b p n) _ (finds b p n) h.word fault (h.among, h.is) (λ earlier other l f. h.first earlier other l f.1)
+    (λ other f. one_fault b p h.word other fault h.first f.1 h.is)
+
+-- ---- the tests of a record
+
+-- a test fails where what it decides does not hold
+fails : {P : Type 0} (r : Bool) → Decides r P → ¬ P → r ≡ false
+fails true h none = absurd (none (h.0 refl))
+fails false h none = refl
+
+-- a record of some words, no longer than the buffer, has a length that a record may have
+words_pass : (size len n : ℕ) → len ≡ 12 + 2 * n → len ≤ size → is_length size len ≡ true
+words_pass size len n h l = grind (arith, nat_tests)
+
+-- and such a length is that of some words
+pass_words : (size len : ℕ) → is_length size len ≡ true → (len ≡ 12 + 2 * ((len - 12) / 2)) × (len ≤ size)
+pass_words size len h = grind (arith, nat_tests)
+
+-- the number of words of a length
+words_count : (len n : ℕ) → len ≡ 12 + 2 * n → (len - 12) / 2 ≡ n
+words_count len n h = omega arith
+
+-- the test of C9
+length_decides : (block : DriverActivity) (place : ℕ) → Decides (is_length (length block.buffer) (length_at block.buffer place)) ((count : ℕ) × HasWords block place count)
+length_decides block place = (λ e. ((length_at block.buffer place - 12) / 2, pass_words _ _ e), λ h. words_pass _ _ h.0 h.1.0 h.1.1)
+
+-- a length of 12 or more is above what is left where all lengths come to more than there is
+room_decides : (size before len : ℕ) → 12 ≤ len → Decides (nat_lt (size - before) len) (size < before + len)
+room_decides size before len l = (λ h. grind (arith, nat_tests), λ h. grind (arith, nat_tests))
+
+-- the bytes that the records of a front leave
+abbrev left : DriverActivity → List ℕ → ℕ
+left block front = length block.buffer - lengths block.buffer front
+
+-- the test of C10, of a record of some words
+long_decides : (block : DriverActivity) (front : List ℕ) (place count : ℕ) → HasWords block place count →
+    Decides (nat_lt (left block front) (length_at block.buffer place)) (IsTooLong block front place)
+long_decides block front place count h = room_decides (length block.buffer) (lengths block.buffer front) (length_at block.buffer place) (omega (arith, h.0))
+
+-- the test of C11
+day_decides : (day : ℕ) → Decides (is_read_day day) ((10959 ≤ day) × (day ≤ 47481))
+day_decides day = (λ h. grind (arith, nat_tests), λ h. grind (arith, nat_tests))
+
+-- what is read at a place, by what the tests give
+abbrev by_tests : List ℕ → ℕ → Bool → Bool → Bool → Option CardFault → Result DailyRecord CardFault
+by_tests b p length_passes too_long day_passes fault =
+    cond (not length_passes) (Err (RecordLength p))
+    (cond too_long (Err (Chain p))
+    (cond (not day_passes) (Err (DayRange p))
+    (fault_or fault (record { buffer = b; place = p; count = (length_at b p - 12) / 2 }))))
+
+-- it is what the recursion reads, where the tests give this
+tests_read : (b : List ℕ) (p left : ℕ) (t u v : Bool) (o : Option CardFault) → is_length (length b) (length_at b p) ≡ t → nat_lt left (length_at b p) ≡ u →
+    is_read_day (day_at b p) ≡ v → words_fault b p 0 0 ((length_at b p - 12) / 2) ≡ o → record_at b p left ≡ by_tests b p t u v o
+unfolding record_at
+tests_read b p left t u v o e f g h =
+    ap (λ x. by_tests b p x (nat_lt left (length_at b p)) (is_read_day (day_at b p)) (words_fault b p 0 0 ((length_at b p - 12) / 2))) e
+    ∙ ap (λ x. by_tests b p t x (is_read_day (day_at b p)) (words_fault b p 0 0 ((length_at b p - 12) / 2))) f
+    ∙ ap₂ (λ x y. by_tests b p t u x y) g h
+
+-- ---- the law
+
+-- what is said of a record with a fault of its words
+abbrev HasWordFault : DriverActivity → List ℕ → ℕ → CardFault → Type 0
+HasWordFault block front place fault =
+    (count : ℕ) × HasWords block place count × ¬ (IsTooLong block front place) × IsReadDay block place × IsFirstWordFault block.buffer place count fault
+
+-- a fault of words is one of a record
+word_fault_is : (block : DriverActivity) (front : List ℕ) (place : ℕ) (fault : CardFault) → HasWordFault block front place fault → IsRecordFault block front place fault
+word_fault_is block front place fault h = go h.4.is where
+  back : (other : CardFault) → fault ≡ other → (HasWordFault block front place other → IsRecordFault block front place other) → IsRecordFault block front place fault
+  back other e same = subst (IsRecordFault block front place) (sym e) (same (subst (HasWordFault block front place) e h))
+
+  go : IsWordFault block.buffer place h.4.word fault → IsRecordFault block front place fault
+  go (inl k) = back _ k.1 (λ w. w)
+  go (inr k) = back _ k.1 (λ w. w)
+
+-- what is read at a place is a reading by places and words
+read_is : (block : DriverActivity) (front : List ℕ) (place : ℕ) → IsRecordReading block front place (read_after block front place)
+read_is block front place =
+    subst (IsRecordReading block front place) (sym (tests_read b place (left block front) _ _ _ _ refl refl refl refl))
+    (go (is_length (length b) len) refl (nat_lt (left block front) len) refl (is_read_day (day_at b place)) refl (words_fault b place 0 0 count) refl) where
+      b : List ℕ
+      b = block.buffer
+
+      len : ℕ
+      len = length_at b place
+
+      count : ℕ
+      count = (len - 12) / 2
+
+      words : is_length (length b) len ≡ true → HasWords block place count
+      words e = pass_words (length b) len e
+
+      room : is_length (length b) len ≡ true → nat_lt (left block front) len ≡ false → ¬ (IsTooLong block front place)
+      room e f = not_from_Decides _ (long_decides block front place count (words e)) f
+
+      go : (t : Bool) → is_length (length b) len ≡ t → (u : Bool) → nat_lt (left block front) len ≡ u →
+          (v : Bool) → is_read_day (day_at b place) ≡ v → (o : Option CardFault) → words_fault b place 0 0 count ≡ o →
+          IsRecordReading block front place (by_tests b place t u v o)
+      go false e u f v g o h = (refl, λ n some. not_from_Decides _ (length_decides block place) e (n, some))
+      go true e true f v g o h = (refl, (count, words e), (long_decides block front place count (words e)).0 f)
+      go true e false f false g o h = (refl, (count, words e), room e f, not_from_Decides _ (day_decides (day_at b place)) g)
+      go true e false f true g None h = (
+        refl,
+        record {
+          buffer = refl;
+          words = words e;
+          room = room e f;
+          day = (day_decides (day_at b place)).0 g;
+          in_order = none_found b place count h;
+        },
+      )
+      go true e false f true g (Some fault) h =
+          word_fault_is block front place fault (count, words e, room e f, (day_decides (day_at b place)).0 g, first_found b place count fault h)
+
+-- a record that passes the tests is read, or refused with the fault of its words
+words_read : (block : DriverActivity) (front : List ℕ) (place count : ℕ) (o : Option CardFault) → HasWords block place count → ¬ (IsTooLong block front place) →
+    IsReadDay block place → words_fault block.buffer place 0 0 count ≡ o →
+    read_after block front place ≡ fault_or o (record { buffer = block.buffer; place = place; count = count })
+words_read block front place count o h room day e =
+    let same = words_count (length_at block.buffer place) count h.0 in
+    tests_read block.buffer place (left block front) true false true o ((length_decides block place).1 (count, h))
+    (fails _ (long_decides block front place count h) room) ((day_decides _).1 day) (ap (words_fault block.buffer place 0 0) same ∙ e)
+    ∙ ap (λ n. fault_or o (record { buffer = block.buffer; place = place; count = n })) same
+
+-- a reading by places and words is what is read at the place
+is_read : (block : DriverActivity) (front : List ℕ) (place : ℕ) (reading : Result DailyRecord CardFault) →
+    IsRecordReading block front place reading → read_after block front place ≡ reading
+is_read block front place (Ok r) h =
+    let none = no_fault block.buffer r.place r.count h.1.in_order in
+    ap (read_after block front) (sym h.0) ∙ words_read block front r.place r.count None h.1.words h.1.room h.1.day none
+    ∙ ap (λ x. Ok (record { buffer = x; place = r.place; count = r.count })) (sym h.1.buffer)
+is_read block front place (Err (RecordLength p)) h =
+    let none = fails _ (length_decides block place) (λ some. h.1 some.0 some.1) in
+    tests_read block.buffer place (left block front) false _ _ _ none refl refl refl ∙ ap (λ x. Err (RecordLength x)) (sym h.0)
+is_read block front place (Err (Chain p)) h =
+    let long = (long_decides block front place h.1.0 h.1.1).1 h.2 in
+    tests_read block.buffer place (left block front) true true _ _ ((length_decides block place).1 h.1) long refl refl ∙ ap (λ x. Err (Chain x)) (sym h.0)
+is_read block front place (Err (DayRange p)) h =
+    let room = fails _ (long_decides block front place h.1.0 h.1.1) h.2 in
+    let day = fails _ (day_decides (day_at block.buffer place)) h.3 in
+    tests_read block.buffer place (left block front) true false false _ ((length_decides block place).1 h.1) room day refl ∙ ap (λ x. Err (DayRange x)) (sym h.0)
+is_read block front place (Err fault) h =
+    words_read block front place h.0 (Some fault) h.1 h.2 h.3 (first_fault block.buffer place h.0 fault h.4)
+
+-- what is read of a record by places and words is what is read at its place
+pub record_reading : (block : DriverActivity) (front : List ℕ) (place : ℕ) (reading : Result DailyRecord CardFault) →
+    IsRecordReading block front place reading ↔ (read_after block front place ≡ reading)
+record_reading block front place reading = (is_read block front place reading, λ e. subst (IsRecordReading block front place) e (read_is block front place))

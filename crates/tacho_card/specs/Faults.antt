@@ -1,0 +1,122 @@
+-- The faults of a card file and of its records (Annex IC, Appendices 1 and 7), by blocks, places and words, and not by
+-- the order in which a program goes over them. C1 is IsTruncatedAt of CardFile, and C14 stands in Reading.
+use Rattle.std.specs.Prelude.{◌≡◌, ◌≢◌, ℕ, ◌+◌, ◌*◌, ◌<◌, ◌≤◌, ◌⊎◌, List, length, Contains, slice_get, Some, Result, Ok, Err}
+use Rattle.tacho_card.specs.declared.fault.CardFault.{CardFault}
+use Rattle.tacho_card.specs.declared.fault.CardFault.TheVariants.{Twice, NoIdentification, ShortIdentification, TwoCards, RecordLength, Chain, DayRange, WordMinute, WordOrder}
+use Rattle.tacho_card.specs.ActivityChangeInfo.{time_of}
+use Rattle.tacho_card.specs.DriverActivity.{DriverActivity, wrapped}
+use Rattle.tacho_card.specs.DailyRecord.{DailyRecord, length_at, day_at, word_place, word_at}
+use Rattle.tacho_card.specs.Chain.{lengths}
+use Rattle.tacho_card.specs.CardFile.{FileBlock, activity_data, identification, holder_in}
+
+-- ---- C2 to C5: the blocks of a file
+
+-- data of EF Driver_Activity_Data or of EF Identification, of the first or of the second generation
+abbrev pub MayStandOnce : FileBlock → Type 0
+MayStandOnce b = ((b.identifier ≡ activity_data) ⊎ (b.identifier ≡ identification)) × ((b.kind ≡ 0) ⊎ (b.kind ≡ 2))
+
+-- the block at a place may stand once, and one before it has the same identifier and the same kind
+pub record IsRepetition (blocks : List FileBlock) (place : ℕ) (b : FileBlock) : Type 0 where
+  pub there : slice_get blocks place ≡ Some b
+  pub once : MayStandOnce b
+  pub earlier : ℕ
+  pub before : earlier < place
+  pub other : FileBlock
+  pub stood : slice_get blocks earlier ≡ Some other
+  pub identifier : other.identifier ≡ b.identifier
+  pub kind : other.kind ≡ b.kind
+
+-- C2: the first repetition
+pub record IsFirstRepetition (blocks : List FileBlock) (b : FileBlock) : Type 0 where
+  pub place : ℕ
+  pub repeats : IsRepetition blocks place b
+  pub first : (earlier : ℕ) (other : FileBlock) → earlier < place → ¬ (IsRepetition blocks earlier other)
+
+abbrev pub HaveNoRepetition : List FileBlock → Type 0
+HaveNoRepetition blocks = (place : ℕ) (b : FileBlock) → ¬ (IsRepetition blocks place b)
+
+-- an identification among the blocks, of the first or of the second generation
+pub record IsIdentification (blocks : List FileBlock) (b : FileBlock) : Type 0 where
+  pub among : Contains blocks b
+  pub identifier : b.identifier ≡ identification
+  pub kind : (b.kind ≡ 0) ⊎ (b.kind ≡ 2)
+
+-- C3: there is none
+abbrev pub HaveNoIdentification : List FileBlock → Type 0
+HaveNoIdentification blocks = (b : FileBlock) → ¬ (IsIdentification blocks b)
+
+-- C4: there is one with fewer than 17 bytes
+abbrev pub HaveShortIdentification : List FileBlock → Type 0
+HaveShortIdentification blocks = (b : FileBlock) × IsIdentification blocks b × (length b.value < 17)
+
+-- C5: there are two with two holders
+abbrev pub HaveTwoHolders : List FileBlock → Type 0
+HaveTwoHolders blocks =
+    (a : FileBlock) × (b : FileBlock) × IsIdentification blocks a × IsIdentification blocks b × (holder_in a.value ≢ holder_in b.value)
+
+-- the fault of a file's blocks: the first of C2 to C5
+abbrev pub IsFileFault : List FileBlock → CardFault → Type 0
+IsFileFault blocks (Twice identifier kind) = (b : FileBlock) × IsFirstRepetition blocks b × (b.identifier ≡ identifier) × (b.kind ≡ kind)
+IsFileFault blocks NoIdentification = HaveNoRepetition blocks × HaveNoIdentification blocks
+IsFileFault blocks ShortIdentification = HaveNoRepetition blocks × HaveShortIdentification blocks
+IsFileFault blocks TwoCards = HaveNoRepetition blocks × ¬ (HaveShortIdentification blocks) × HaveTwoHolders blocks
+IsFileFault blocks fault = ⊥
+
+-- there is an identification, each has 17 bytes, and each names the holder
+pub record IsHolder (blocks : List FileBlock) (holder : List ℕ) : Type 0 where
+  pub some : (b : FileBlock) × IsIdentification blocks b
+  pub long : ¬ (HaveShortIdentification blocks)
+  pub each : (b : FileBlock) → IsIdentification blocks b → holder_in b.value ≡ holder
+
+-- ---- C9 to C13: a record, after those at the places of a front
+
+-- the record at a place is as long as a record of so many words, and no longer than the buffer; C9: of no number of words
+abbrev pub HasWords : DriverActivity → ℕ → ℕ → Type 0
+HasWords block place count = (length_at block.buffer place ≡ 12 + 2 * count) × (length_at block.buffer place ≤ length block.buffer)
+
+-- C10: with it the lengths come to more than the buffer has
+abbrev pub IsTooLong : DriverActivity → List ℕ → ℕ → Type 0
+IsTooLong block front place = length block.buffer < lengths block.buffer front + length_at block.buffer place
+
+-- its day is from 2000-01-03 to 2099-12-31; C11: it isn't
+abbrev pub IsReadDay : DriverActivity → ℕ → Type 0
+IsReadDay block place = (10959 ≤ day_at block.buffer place) × (day_at block.buffer place ≤ 47481)
+
+-- C12: the minute of a word is none of a day; C13: it is below that of the word before
+abbrev pub IsWordFault : List ℕ → ℕ → ℕ → CardFault → Type 0
+IsWordFault buffer place word fault =
+    ((1440 ≤ time_of (word_at buffer place word)) × (fault ≡ WordMinute (wrapped buffer (word_place place word))))
+    ⊎ (((before : ℕ) × (before + 1 ≡ word) × (time_of (word_at buffer place word) < time_of (word_at buffer place before)))
+    × (fault ≡ WordOrder (wrapped buffer (word_place place word))))
+
+-- the fault of the first of so many words that has one
+pub record IsFirstWordFault (buffer : List ℕ) (place count : ℕ) (fault : CardFault) : Type 0 where
+  pub word : ℕ
+  pub among : word < count
+  pub is : IsWordFault buffer place word fault
+  pub first : (earlier : ℕ) (other : CardFault) → earlier < word → ¬ (IsWordFault buffer place earlier other)
+
+abbrev pub HaveNoWordFault : List ℕ → ℕ → ℕ → Type 0
+HaveNoWordFault buffer place count = (word : ℕ) (fault : CardFault) → word < count → ¬ (IsWordFault buffer place word fault)
+
+-- the first fault of a record, in the order of C9 to C11 and then of its words
+abbrev pub IsRecordFault : DriverActivity → List ℕ → ℕ → CardFault → Type 0
+IsRecordFault block front place (RecordLength p) = (p ≡ place) × ((count : ℕ) → ¬ (HasWords block place count))
+IsRecordFault block front place (Chain p) = (p ≡ place) × ((count : ℕ) × HasWords block place count) × IsTooLong block front place
+IsRecordFault block front place (DayRange p) =
+    (p ≡ place) × ((count : ℕ) × HasWords block place count) × ¬ (IsTooLong block front place) × ¬ (IsReadDay block place)
+IsRecordFault block front place fault =
+    (count : ℕ) × HasWords block place count × ¬ (IsTooLong block front place) × IsReadDay block place × IsFirstWordFault block.buffer place count fault
+
+-- a record without a fault
+pub record IsSound (block : DriverActivity) (front : List ℕ) (r : DailyRecord) : Type 0 where
+  pub buffer : r.buffer ≡ block.buffer
+  pub words : HasWords block r.place r.count
+  pub room : ¬ (IsTooLong block front r.place)
+  pub day : IsReadDay block r.place
+  pub in_order : HaveNoWordFault block.buffer r.place r.count
+
+-- what is read at a place: a record without a fault, or its first fault
+abbrev pub IsRecordReading : DriverActivity → List ℕ → ℕ → Result DailyRecord CardFault → Type 0
+IsRecordReading block front place (Ok r) = (r.place ≡ place) × IsSound block front r
+IsRecordReading block front place (Err fault) = IsRecordFault block front place fault
