@@ -373,3 +373,25 @@ pub file_fault : (bytes : List ℕ) (blocks : List FileBlock) (fault : CardFault
 file_fault bytes blocks fault h =
     let read = ap (λ r. then_held (then_single r)) (laid_read bytes blocks h) in
     (λ f. read ∙ fault_read blocks fault f, λ e. read_fault blocks fault (sym read ∙ e))
+
+-- blocks without a repetition that name a holder are read
+blocks_read : (blocks : List FileBlock) → HaveNoRepetition blocks × ((holder : List ℕ) × IsHolder blocks holder) → read_blocks blocks (repeated [] blocks) ≡ Ok blocks
+blocks_read blocks h =
+    ap (read_blocks blocks) (no_fault blocks h.0) ∙ ap (with_holder blocks) ((says blocks (Ok h.1.0) h.0).0 h.1.1)
+
+-- blocks that are read have no repetition, and name a holder
+read_holder : (blocks : List FileBlock) → read_blocks blocks (repeated [] blocks) ≡ Ok blocks → HaveNoRepetition blocks × ((holder : List ℕ) × IsHolder blocks holder)
+read_holder blocks h = go (repeated [] blocks) refl h where
+  named : HaveNoRepetition blocks → (r : Result (List ℕ) CardFault) → file_holder blocks ≡ r → with_holder blocks r ≡ Ok blocks → (holder : List ℕ) × IsHolder blocks holder
+  named none (Ok holder) e same = (holder, (says blocks (Ok holder) none).1 e)
+  named none (Err f) e same = cc
+
+  go : (o : Option FileBlock) → repeated [] blocks ≡ o → read_blocks blocks o ≡ Ok blocks → HaveNoRepetition blocks × ((holder : List ℕ) × IsHolder blocks holder)
+  go None e same = let none = none_found blocks e in (none, named none (file_holder blocks) refl same)
+  go (Some b) e same = cc
+
+-- blocks that are laid end to end are read where they have no repetition and name a holder
+pub file_read : (bytes : List ℕ) (blocks : List FileBlock) → IsLaidEndToEnd bytes blocks → (HaveNoRepetition blocks × ((holder : List ℕ) × IsHolder blocks holder)) ↔ (card_file bytes ≡ Ok blocks)
+file_read bytes blocks h =
+    let read = ap (λ r. then_held (then_single r)) (laid_read bytes blocks h) in
+    (λ named. read ∙ blocks_read blocks named, λ e. read_holder blocks (sym read ∙ e))

@@ -39,9 +39,11 @@ pub fn truncated_at()
 {}
 
 /// Blocks that are laid end to end are refused with the first of C2 to C5: the first repetition by places; no
-/// identification; some identification that is short; two that name two holders.
+/// identification; some identification that is short; two that name two holders. They are accepted where none repeats another
+/// and all identifications name one holder.
 pub fn file_faults()
-    ensures { (bytes : List ℕ) (blocks : List FileBlock) (fault : CardFault) → IsLaidEndToEnd bytes blocks → IsFileFault blocks fault ↔ (card_file bytes ≡ Err fault) }
+    ensures refused { (bytes : List ℕ) (blocks : List FileBlock) (fault : CardFault) → IsLaidEndToEnd bytes blocks → IsFileFault blocks fault ↔ (card_file bytes ≡ Err fault) }
+    ensures accepted { (bytes : List ℕ) (blocks : List FileBlock) → IsLaidEndToEnd bytes blocks → (HaveNoRepetition blocks × ((holder : List ℕ) × IsHolder blocks holder)) ↔ (card_file bytes ≡ Ok blocks) }
 {}
 
 /// The holder of blocks without a repetition is the one that each identification names.

@@ -31,3 +31,8 @@ pub fn month_is_read_back()
 pub fn one_canonical_list()
     ensures { (xs ys : List Span) → IsCanonical xs → IsCanonical ys → GiveSame xs ys → xs ≡ ys }
 {}
+
+/// What spans give has a canonical list, or a least minute with two marks.
+pub fn list_or_conflict()
+    ensures { (spans : List Span) → ((runs : List Span) × IsCanonicalOf (Gives spans) runs) ⊎ ((m : ℕ) × IsFirstConflict (Gives spans) m) }
+{}
