@@ -6,3 +6,4 @@ mod MergeLemmas
 mod AddLemmas
 mod GainLemmas
 mod GapLaw
+mod PageFacts
