@@ -7,3 +7,4 @@ mod AddLemmas
 mod GainLemmas
 mod GapLaw
 mod PageFacts
+mod LocalLaw

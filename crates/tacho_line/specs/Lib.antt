@@ -3,3 +3,4 @@ pub mod Search
 pub mod Walk
 pub mod Join
 pub mod Gains
+pub mod Local

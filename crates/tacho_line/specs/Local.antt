@@ -1,0 +1,7 @@
+-- What is said of a line near some minutes alone.
+use Rattle.std.specs.Prelude.{ℕ, ◌≤◌, List, All}
+use Rattle.tacho_time.specs.declared.span.Span.{Span}
+
+-- no span reaches out of the range
+abbrev pub AreWithin : ℕ → ℕ → List Span → Type 0
+AreWithin start past spans = All (λ s. (start ≤ s.start) × (s.past ≤ past)) spans
