@@ -8,3 +8,4 @@ pub mod Ordering
 pub mod Owing
 pub mod ByRuns
 pub mod Parts
+pub mod PageFacts
