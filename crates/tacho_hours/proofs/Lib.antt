@@ -7,3 +7,5 @@ pub mod Daily
 pub mod Ordering
 pub mod Owing
 pub mod ByRuns
+pub mod Parts
+pub mod PageFacts

@@ -61,6 +61,16 @@ pub record IsReduced (line : Line) (day : DutyDay) : Type 0 where
   pub irregular : ¬ (IsRegular line day)
   pub short : minutes_of day.rest < 1440
 
+-- the same, told by the rests of three hours (180 minutes) or more: a regular rest
+abbrev pub HasRegularRest : List Run → DutyDay → Type 0
+HasRegularRest parts day = HasPortion day 660 ⊎ (HasPortion day 540 × ((part : Run) × Contains parts part × (day.start ≤ part.start) × (part.past ≤ day.past)))
+
+-- and a reduced one, whose premise that the day is a duty day stands apart
+pub record HasReducedRest (parts : List Run) (day : DutyDay) : Type 0 where
+  pub portion : HasPortion day 540
+  pub irregular : ¬ (HasRegularRest parts day)
+  pub short : minutes_of day.rest < 1440
+
 -- how many runs are of a kind: a list has them all in order of time, and is so long
 pub record AreSoMany (P : Run → Type 0) (n : ℕ) : Type 0 where
   pub runs : List Run

@@ -1,10 +1,15 @@
+//! Laws about the rules on driving and rest hours. A law is a function without a body: what it ensures is proved, and
+//! holds for all that it names.
+
 ghost use Rattle.std.specs.Prelude.{◌≡◌, ℕ, ◌<◌, ◌↔◌, List, All, AllPairs, Contains};
 ghost use Rattle.tacho_time.specs.declared.span.Activity.{Activity as ActivityValue};
 ghost use Rattle.tacho_hours.specs.declared.run.Run.{Run as RunValue};
 ghost use Rattle.tacho_hours.specs.declared.report.Breach.{Breach as BreachValue};
 ghost use Rattle.tacho_hours.specs.declared.report.Debt.{Debt as DebtValue};
 ghost use Rattle.tacho_hours.specs.Line.{AreRestRuns};
+ghost use Rattle.tacho_hours.specs.declared.days.DutyDay.{DutyDay as DutyDayValue};
 ghost use Rattle.tacho_hours.specs.Breaks.{AreCompleteBreaks};
+ghost use Rattle.tacho_hours.specs.Days.{AreRestsOf, IsDuty, HasRegularRest, HasReducedRest, IsRegular, IsReduced};
 ghost use Rattle.tacho_hours.specs.Debts.{AreDebts};
 ghost use Rattle.tacho_hours.specs.ByRuns.{ArePaidByRuns};
 ghost use Rattle.tacho_hours.specs.Report.{Earlier, AreBreakBreaches, AreDayBreaches, AreWeekBreaches, AreRestBreaches};
@@ -58,4 +63,12 @@ pub fn one_list_of_rest_breaches()
 pub fn paid_by_runs()
     ensures { (line : ℕ → ActivityValue) (horizon : ℕ) (runs : List RunValue) (debts : List DebtValue)
         → AreRestRuns line runs → (ArePaidByRuns line horizon runs debts ↔ AreDebts line horizon debts) }
+{}
+
+/// Whether a day's rest is regular or reduced is told by the rests of three hours or more alone.
+pub fn rest_by_parts()
+    ensures regular { (line : ℕ → ActivityValue) (parts : List RunValue) (day : DutyDayValue)
+        → AreRestsOf line 180 parts → (HasRegularRest parts day ↔ IsRegular line day) }
+    ensures reduced { (line : ℕ → ActivityValue) (parts : List RunValue) (day : DutyDayValue)
+        → AreRestsOf line 180 parts → IsDuty line day → (HasReducedRest parts day ↔ IsReduced line day) }
 {}

@@ -5,7 +5,7 @@
 mod breaks;
 mod days;
 mod driving;
-mod laws;
+pub mod laws;
 mod line;
 mod order;
 mod portions;
@@ -16,11 +16,6 @@ mod runs;
 pub use breaks::complete_breaks;
 pub use days::{DutyDay, duty_days, long_rests};
 pub use driving::{driving_minute, driving_minutes};
-pub use laws::{
-    one_list_of_breaches, one_list_of_break_breaches, one_list_of_complete_breaks,
-    one_list_of_day_breaches, one_list_of_debts, one_list_of_rest_breaches, one_list_of_rest_runs,
-    one_list_of_week_breaches, paid_by_runs,
-};
 pub use order::put_in_order;
 pub use portions::{has_portion, is_reduced, is_regular};
 pub use report::{Breach, Debt, Kind};

@@ -1,7 +1,7 @@
 ghost use Rattle.std.specs.Prelude.{◌<◌, ◌≤◌, ◌↔◌, All, AllPairs, Contains, IsTrue};
 ghost use Rattle.tacho_hours.specs.declared.run.Run.{Run as RunValue};
 ghost use Rattle.tacho_hours.specs.Line.{Before};
-ghost use Rattle.tacho_hours.specs.Days.{Line, HasPortion, IsRegular, IsReduced, IsDuty, AreRestsOf};
+ghost use Rattle.tacho_hours.specs.Days.{HasPortion, HasRegularRest, HasReducedRest};
 
 use crate::days::DutyDay;
 use crate::run::Run;
@@ -46,7 +46,7 @@ pub fn is_regular(day: DutyDay, parts: &[Run]) -> bool
     requires ended { day.past ≤ 68428800 }
     requires some { All (λ run. run.start < run.past) parts.now }
     requires in_order { AllPairs Before parts.now }
-    ensures { (line : Line) → AreRestsOf line 180 parts.now → (IsTrue result ↔ IsRegular line day) }
+    ensures { IsTrue result ↔ HasRegularRest parts.now day }
 {
     has_portion(day, REGULAR_REST)
         || (has_portion(day, REDUCED_REST) && has_run_between(parts, day.start, day.past))
@@ -60,7 +60,7 @@ pub fn is_reduced(day: DutyDay, parts: &[Run]) -> bool
     requires rests { day.rest.start < day.rest.past }
     requires some { All (λ run. run.start < run.past) parts.now }
     requires in_order { AllPairs Before parts.now }
-    ensures { (line : Line) → AreRestsOf line 180 parts.now → IsDuty line day → (IsTrue result ↔ IsReduced line day) }
+    ensures { IsTrue result ↔ HasReducedRest parts.now day }
 {
     if is_regular(day, parts) {
         return false;

@@ -17,3 +17,4 @@ pub mod Slicing
 pub mod Gathering
 pub mod Reporting
 pub mod Laying
+pub mod PageFacts

@@ -1,3 +1,5 @@
+//! Laws about reports. A law is a function without a body: what it ensures is proved, and holds for all that it names.
+
 ghost use Rattle.std.specs.Prelude.{◌≡◌, ℕ, List, []};
 ghost use Rattle.tacho_time.specs.declared.span.Activity.TheVariants.{Rest};
 ghost use Rattle.tacho_time.specs.declared.span.Span.{Span as Stretch};
@@ -5,6 +7,8 @@ ghost use Rattle.tacho_line.specs.declared.horizon.Horizon.{Horizon as HorizonVa
 ghost use Rattle.tacho_hours.specs.declared.report.Breach.{Breach as BreachValue};
 ghost use Rattle.tacho_hours.specs.declared.report.Debt.{Debt as DebtValue};
 ghost use Rattle.tacho_rules.specs.Report.{IsReport, examined};
+
+pub use tacho_hours::laws::paid_by_runs;
 
 /// What is held has one report from a base.
 pub fn one_report()

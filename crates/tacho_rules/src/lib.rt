@@ -3,12 +3,11 @@
 
 mod examination;
 mod found;
-mod laws;
+pub mod laws;
 pub mod plain;
 
 pub use examination::examine;
 pub use found::{Found, Report};
-pub use laws::{one_report, rest_alone_is_no_breach};
 pub use tacho_hours::{Breach, Debt, Kind};
 pub use tacho_line::{Cause, Horizon};
 

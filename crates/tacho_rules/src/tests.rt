@@ -1,11 +1,11 @@
 ghost use Rattle.std.specs.Prelude.{◌≡◌, ◌+◌, ◌*◌, ◌<◌, ◌≤◌, All, IfOk, false, length};
 ghost use Rattle.tacho_hours.specs.Line.{Joined};
 
-use crate::plain::{breaks, days, weeks};
-use crate::{Breach, Kind};
+use crate::plain::{breaks, days, rests, weeks};
+use crate::{Breach, Debt, Found, Kind};
 use std::alloc::{AllocError, Global};
 use std::test::Fail;
-use tacho_time::{Activity, Mark, Minute, Span};
+use tacho_time::{Activity, Mark, Minute, Span, Week};
 
 /// 2024-03-04 00:00, a Monday's first minute.
 const BASE: u32 = 28_491_840;
@@ -299,5 +299,37 @@ fn a_week_of_91_hours_counts_with_both_its_neighbours(rt: HostRuntime) -> Result
         too_much(Kind::B7, 9765, Minute::new(BASE), 60),
     ];
     assert_eq!(rt; found.as_slice(), wanted.as_slice());
+    Ok(())
+}
+
+/// What the rules on weekly rests find in that line.
+fn found_of_rests(alloc: Global, ends: &[u32], past: u32) -> Result<Found, AllocError>
+    requires days { 1440 * length ends.now < past }
+    requires within { past ≤ 20160 }
+{
+    let spans = driven(alloc, ends, past)?;
+    rests(alloc, &spans, Minute::new(BASE), Minute::new(BASE + past))
+}
+
+#[test]
+fn a_late_and_short_weekly_rest_that_a_night_pays(rt: HostRuntime) -> Result<(), Fail> {
+    let ends = [
+        885, 885, 885, 885, 885, 885, 885, 0, 916, 915, 885, 885, 885,
+    ];
+    let found = found_of_rests(rt.alloc(), &ends, 20_160)?;
+    // The weekly rest before the first work ends on the 4th at 06:00, so the next has to start by the 10th at 06:00. It
+    // starts there at 14:45, 525 minutes later. The last starts on the 16th, in time. The two weeks have weekly rests enough.
+    let late = too_much(Kind::B8, 9000, Minute::new(BASE + 360), 525);
+    assert_eq!(rt; found.breaches.as_slice(), [late].as_slice());
+    // That rest is the main one of its week. It goes to the 12th at 06:00 and has 555 + 1,440 + 360 minutes, 345 fewer than
+    // 2,700. The night from the 12th at 15:16 has 884 minutes: beside nine hours 344, one too few. The night from the 13th
+    // at 15:15 has 885 and pays. The deadline is 1 April at 00:00.
+    let owed = Debt {
+        week: Week::new(2826),
+        amount: 345,
+        deadline: Minute::new(BASE + 40_320),
+        paid_by: Some(Minute::new(BASE + 13_875)),
+    };
+    assert_eq!(rt; found.debts.as_slice(), [owed].as_slice());
     Ok(())
 }

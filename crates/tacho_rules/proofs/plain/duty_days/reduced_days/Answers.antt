@@ -1,9 +1,11 @@
 use Rattle.std.proofs.Common.{◌≡◌, ℕ, List, get_or, take, subst}
+use Rattle.std.specs.Prelude.{◌↔◌}
 use Rattle.std.proofs.lemmas.List.{take_all}
 use Rattle.std.proofs.lemmas.List.Elements.{Contains-get_or}
 use Rattle.tacho_hours.specs.declared.days.DutyDay.{DutyDay}
-use Rattle.tacho_hours.specs.Days.{EarlierDay, IsReduced, IsDuty}
+use Rattle.tacho_hours.specs.Days.{EarlierDay, HasReducedRest, IsReduced, IsDuty}
 use Rattle.tacho_hours.proofs.Keeping.{Kept, kept_none, kept_add_at, kept_skip_at}
+use Rattle.tacho_hours.proofs.Parts.{reduced_by_parts}
 use Rattle.tacho_rules.proofs.DayFinding.{no_day}
 use Rattle.tacho_rules.proofs.plain.duty_days.reduced_days.Goals as goal
 use Rattle.tacho_rules.proofs.plain.duty_days.reduced_days.Goals.{then-is_reduced+in_ok-push, else-is_reduced}
@@ -16,14 +18,15 @@ loop-day-preserved c = λ line are parts.
     let xs : List DutyDay = c.args.days.now in
     let i : ℕ = c.loop-day.day-index in
     let duty : IsDuty line (get_or xs i no_day) = (are.each (get_or xs i no_day)).0 (Contains-get_or xs i no_day c.loop-day-test.true) in
+    let same : HasReducedRest c.args.parts.now (get_or xs i no_day) ↔ IsReduced line (get_or xs i no_day) = reduced_by_parts line c.args.parts.now (get_or xs i no_day) parts duty in
     elim c.if-is_reduced.branch [
       | then-is_reduced+in_ok-push w ↦
           rw (w.reduced-is, w.in_ok-push.ensures.items)
-          (kept_add_at DutyDay EarlierDay (IsReduced line) xs i no_day c.loop-day-test.true are.in_order c.loop-day.reduced.items (c.loop-day.invariant line are parts) ((c.is_reduced.ensures line parts duty).0 w.if-is_reduced.true))
+          (kept_add_at DutyDay EarlierDay (IsReduced line) xs i no_day c.loop-day-test.true are.in_order c.loop-day.reduced.items (c.loop-day.invariant line are parts) (same.0 (c.is_reduced.ensures.0 w.if-is_reduced.true)))
       | else-is_reduced w ↦
           rw w.reduced-is
           (kept_skip_at DutyDay EarlierDay (IsReduced line) xs i no_day c.loop-day-test.true are.in_order c.loop-day.reduced.items (c.loop-day.invariant line are parts)
-          (λ h. let t = (c.is_reduced.ensures line parts duty).1 h in let f = w.if-is_reduced.false in cc))
+          (λ h. let t = c.is_reduced.ensures.1 (same.1 h) in let f = w.if-is_reduced.false in cc))
     ]
 
 pub returns : goal.returns

@@ -1,0 +1,26 @@
+use Rattle.std.proofs.Common.{inl, inr, List}
+use Rattle.std.specs.Prelude.{◌↔◌}
+use Rattle.tacho_hours.specs.declared.run.Run.{Run}
+use Rattle.tacho_hours.specs.declared.days.DutyDay.{DutyDay}
+use Rattle.tacho_hours.specs.Days.{Line, AreRestsOf, IsDuty, HasRegularRest, HasReducedRest, IsRegular, IsReduced}
+
+-- a day's rest is regular by the rests of three hours where it is so by the line
+pub regular_by_parts : (line : Line) (parts : List Run) (day : DutyDay) → AreRestsOf line 180 parts → HasRegularRest parts day ↔ IsRegular line day
+regular_by_parts line parts day are = (
+  λ h. elim h [
+    | inl long ↦ inl long
+    | inr two ↦ let (part, in', low, high) = two.1 in inr (two.0, (part, (are.each part).0 in', low, high))
+  ],
+  λ h. elim h [
+    | inl long ↦ inl long
+    | inr two ↦ let (part, is, low, high) = two.1 in inr (two.0, (part, (are.each part).1 is, low, high))
+  ],
+)
+
+-- and so for a reduced rest of a duty day
+pub reduced_by_parts : (line : Line) (parts : List Run) (day : DutyDay) → AreRestsOf line 180 parts → IsDuty line day → HasReducedRest parts day ↔ IsReduced line day
+reduced_by_parts line parts day are duty =
+    let same : HasRegularRest parts day ↔ IsRegular line day = regular_by_parts line parts day are in (
+      λ h. record { duty = duty; portion = h.portion; irregular = λ regular. h.irregular (same.1 regular); short = h.short },
+      λ h. record { portion = h.portion; irregular = λ regular. h.irregular (same.0 regular); short = h.short },
+    )

@@ -1,0 +1,75 @@
+-- What docs/RULES.md says of its examples, held against the definitions: with another value here this file is refused.
+use Rattle.std.proofs.Common.{◌≡◌, ◌-◌, ◌+◌, inl, inr, List, [], ◌∷◌, None, true, false, refl, ap, arith}
+use Rattle.tacho_time.specs.declared.span.Activity.TheVariants.{Rest, Work, Drive}
+use Rattle.tacho_time.specs.declared.span.Span.{Span}
+use Rattle.tacho_hours.specs.declared.report.Breach.{Breach}
+use Rattle.tacho_hours.specs.declared.report.Debt.{Debt}
+use Rattle.tacho_hours.specs.declared.report.Kind.TheVariants.{B2, B10}
+use Rattle.tacho_hours.specs.Debts.{minutes_before}
+use Rattle.tacho_hours.proofs.PageFacts.{at, rest_between, one_member, day_to}
+use Rattle.tacho_rules.specs.Duties.{IsShortRest}
+use Rattle.tacho_rules.specs.Resting.{IsBetter, IsOverdue}
+use Rattle.tacho_rules.specs.Report.{examined}
+
+-- ---- what is examined
+
+-- work up to the base, rest, driving from 06:00 to 10:31, and then driving as crew
+abbrev pub held : List Span
+held = record { start = at 4 0 - 60; past = at 4 0; mark = record { activity = Work; crew = false } }
+    ∷ record { start = at 4 0; past = at 4 360; mark = record { activity = Rest; crew = false } }
+    ∷ record { start = at 4 360; past = at 4 631; mark = record { activity = Drive; crew = false } }
+    ∷ record { start = at 4 631; past = at 4 720; mark = record { activity = Drive; crew = true } }
+    ∷ []
+
+-- the last minute before the base is at rest, though it is held as work
+pub rest_before_the_base : examined held (at 4 0) (at 4 631) (at 4 0 - 1) ≡ Rest
+rest_before_the_base = refl
+
+-- from the base to the horizon each minute is what is held
+pub drives_at_six : examined held (at 4 0) (at 4 631) (at 4 360) ≡ Drive
+drives_at_six = refl
+
+pub drives_to_the_horizon : examined held (at 4 0) (at 4 631) (at 4 630) ≡ Drive
+drives_to_the_horizon = refl
+
+-- the horizon is at rest, though it is held as driving
+pub rest_from_the_horizon : examined held (at 4 0) (at 4 631) (at 4 631) ≡ Rest
+rest_from_the_horizon = refl
+
+-- and so is what isn't held
+pub rest_where_nothing_is_held : examined held (at 4 0) (at 5 0) (at 4 720) ≡ Rest
+rest_where_nothing_is_held = refl
+
+-- ---- days
+
+-- B2: work from 06:00 to 21:01 and on from 06:01 is a breach at 21:00 since 06:00, of 1
+pub short_rest_from_21_01 : IsShortRest (day_to 1261 361) (record { kind = B2; moment = at 4 1260; since = at 4 360; amount = 1 })
+short_rest_from_21_01 = record { kind = refl; short = λ portion. omega arith; moment = refl; since = refl; amount = refl }
+
+-- ---- weekly rests
+
+-- the month: the rest from 29 March 18:00 is longer than that from the 26th 12:00, and so the main one of its week
+pub longer_rest_is_better : IsBetter (at 32 0) (rest_between (at 29 1080) (at 31 900)) (rest_between (at 26 720) (at 27 960))
+longer_rest_is_better = inl (omega arith)
+
+-- of two with as many minutes the first is
+pub earlier_rest_is_better : IsBetter (at 32 0) (rest_between (at 23 720) (at 24 720)) (rest_between (at 24 1080) (at 25 1080))
+earlier_rest_is_better = inr (refl, omega arith)
+
+-- the rest from the 26th keeps 540, and has room for the debt of 1,140 of the third week
+pub room_for_1140 : 540 + 1140 ≡ minutes_before (at 32 0) (rest_between (at 26 720) (at 27 960))
+room_for_1140 = refl
+
+-- B10: a debt of 1,260 that nothing pays
+abbrev pub unpaid : Debt
+unpaid = record { week = 2826; amount = 1260; deadline = at 32 0; paid_by = None }
+
+-- is a breach on 1 April at 00:00 since the 4th at 00:00, of 1,260
+pub unpaid_is_overdue : IsOverdue (at 32 0) (unpaid ∷ []) (record { kind = B10; moment = at 32 0; since = at 4 0; amount = 1260 })
+unpaid_is_overdue = (refl, record { debt = unpaid; owed = (0, omega arith, refl); unpaid = refl; due = omega arith; moment = refl; since = refl; amount = refl })
+
+-- and none a minute before
+pub unpaid_is_not_yet : (breach : Breach) → ¬ (IsOverdue (at 31 1439) (unpaid ∷ []) breach)
+unpaid_is_not_yet breach (kind, is) =
+    let e : at 32 0 ≡ is.debt.deadline = ap (λ (debt : Debt). debt.deadline) (one_member unpaid is.debt is.owed) in
+    omega arith
