@@ -65,7 +65,7 @@ pub record IsReduced (line : Line) (day : DutyDay) : Type 0 where
 abbrev pub HasRegularRest : List Run → DutyDay → Type 0
 HasRegularRest parts day = HasPortion day 660 ⊎ (HasPortion day 540 × ((part : Run) × Contains parts part × (day.start ≤ part.start) × (part.past ≤ day.past)))
 
--- and a reduced one, whose premise that the day is a duty day stands apart
+-- and a reduced one, of a duty day
 pub record HasReducedRest (parts : List Run) (day : DutyDay) : Type 0 where
   pub portion : HasPortion day 540
   pub irregular : ¬ (HasRegularRest parts day)
