@@ -1,12 +1,13 @@
 #!/usr/bin/env python3
-"""Runs the program and the card's spans on every cut and every single-byte change of a small card file of both
-generations, and compares them with the slow reader.
+"""Runs `tacho holder` and the card's spans on a small card file of both generations, on every cut of it, and on it with each
+byte changed to a few other values, and compares them with the slow reader.
 
 The words are the programs `tacho` and `tacho_rows`. The last line is 'N passed, M failed'."""
 import re
-import subprocess
 import sys
 
+import counting
+import programs
 import slow_reader
 
 IDENTIFICATION = "0520000011" "0d44313233343536373839303132333030"
@@ -14,6 +15,9 @@ FIRST = "0504000028" "00000014" "0000001465e50f0000010064000011e019fe23fc" "0014
 SIGNATURE = "0504010001" "ff"
 SECOND = "0504020016" "00000000" "0000001265eba68000010000600071e06258"
 FILE = bytes.fromhex(IDENTIFICATION + FIRST + SIGNATURE + SECOND)
+
+# What a byte is changed to: limits of the fields, and parts of identifiers and lengths.
+VALUES = [0x00, 0x01, 0x02, 0x04, 0x05, 0x0C, 0x14, 0x20, 0x7F, 0x80, 0xFF]
 
 CODES = {
     "Truncated": "C1 truncated block at {}",
@@ -43,32 +47,26 @@ def line_of(told):
     return told
 
 
+def changes(byte):
+    """The values that a byte is changed to: those above, the next one, and the one with another bit."""
+    return sorted({*VALUES, (byte + 1) % 256, byte ^ 0x40} - {byte})
+
+
 def files():
     for length in range(len(FILE) + 1):
         yield f"cut to {length}", FILE[:length]
-    for place in range(len(FILE)):
-        # All values of the bytes that lengths, pointers and identifiers stand in; a few of each other byte.
-        for byte in {0, 1, 2, 4, 5, 0x0C, 0x14, 0x20, 0x7F, 0x80, 0xFF, (FILE[place] + 1) % 256, FILE[place] ^ 0x40} - {FILE[place]}:
-            yield f"byte {place} changed to {byte:02x}", FILE[:place] + bytes([byte]) + FILE[place + 1 :]
+    for place, byte in enumerate(FILE):
+        for value in changes(byte):
+            yield f"byte {place} changed to {value:02x}", FILE[:place] + bytes([value]) + FILE[place + 1 :]
 
 
-def main(tacho, rows):
-    passed = failed = 0
+def comparisons(tacho, rows):
     for name, file in files():
-        run = subprocess.run([tacho, "holder"], input=file, capture_output=True)
-        pairs = [((run.stdout.decode(), run.returncode), slow_reader.holder(file))]
+        yield f"{name}: holder", programs.answer([tacho, "holder"], file), slow_reader.holder(file)
         for part in ("both", "first", "second"):
-            run = subprocess.run([rows, part], input=file, capture_output=True)
-            pairs.append((line_of(run.stdout.decode()), slow_reader.spans(file, part)))
-        for told, wanted in pairs:
-            if told == wanted:
-                passed += 1
-            else:
-                failed += 1
-                print(f"{name}: {told!r}, and not {wanted!r}")
-    print(f"{passed} passed, {failed} failed")
-    return failed != 0
+            told, status = programs.answer([rows, part], file)
+            yield f"{name}: {part}", (line_of(told), status), (slow_reader.spans(file, part), 0)
 
 
 if __name__ == "__main__":
-    sys.exit(main(*sys.argv[1:]))
+    sys.exit(counting.count(comparisons(*sys.argv[1:])))

@@ -4,23 +4,15 @@
 The words are the program `tacho_rows` and, where memory is to be refused in turn, the compiler of C. The last line is
 'N passed, M failed'."""
 import random
-import subprocess
 import sys
 
-import failing_memory
+import counting
+import programs
+from slow_reader import runs
 
+SEEDS = 400
+REFUSED_SEEDS = 40  # one in so many is also run with its allocations refused
 LAST = 68_428_800
-
-
-def runs(pairs):
-    """The maximal runs of minutes with one value, as start, past and value."""
-    found = []
-    for minute, value in sorted(pairs):
-        if found and found[-1][1] == minute and found[-1][2] == value:
-            found[-1][1] = minute + 1
-        else:
-            found.append([minute, minute + 1, value])
-    return found
 
 
 class Timeline:
@@ -98,29 +90,26 @@ def wanted(given, told=None):
     return lines
 
 
-def main(program, compiler=None):
-    passed = failed = 0
-    for seed in range(400):
+def wanted_without_memory(given, told):
+    """What has to be told where an allocation was refused. There may have been no memory for the words or for the input."""
+    return told if told in ([], ["not read"]) else wanted(given, told)
+
+
+def lines_of(text):
+    return [line.strip() for line in text.splitlines()]
+
+
+def comparisons(program, compiler=None):
+    for seed in range(SEEDS):
         given = list(commands(seed))
         text = "".join(" ".join(map(str, numbers)) + "\n" for numbers in given).encode()
-        run = subprocess.run([program, "timeline"], input=text, capture_output=True)
-        told = [line.strip() for line in run.stdout.decode().splitlines()]
-        tellings = [(told, wanted(given))]
-        if compiler and seed % 40 == 0:
-            for _, (refused, _) in failing_memory.answers(compiler, [program, "timeline"], text):
-                told = [line.strip() for line in refused.decode().splitlines()]
-                if len(told) > 1:
-                    tellings.append((told, wanted(given, told)))
-        for told, expected in tellings:
-            if told == expected:
-                passed += 1
-            else:
-                failed += 1
-                place = next((i for i, pair in enumerate(zip(told, expected)) if pair[0] != pair[1]), -1)
-                print(f"seed {seed}: {told[place]!r}, and not {expected[place]!r}")
-    print(f"{passed} passed, {failed} failed")
-    return failed != 0
+        told, status = programs.answer([program, "timeline"], text)
+        yield f"seed {seed}", lines_of(told) + [f"status {status}"], wanted(given) + ["status 0"]
+        if compiler and seed % REFUSED_SEEDS == 0:
+            for number, (told, _) in programs.answers_without_memory(compiler, [program, "timeline"], text):
+                told = lines_of(told)
+                yield f"seed {seed}, allocation {number} refused", told, wanted_without_memory(given, told)
 
 
 if __name__ == "__main__":
-    sys.exit(main(*sys.argv[1:]))
+    sys.exit(counting.count(comparisons(*sys.argv[1:])))

@@ -6,11 +6,11 @@ slow reading.
 The words are the program `tacho_rows` and, where memory is to be refused in turn, the compiler of C. The last line is
 'N passed, M failed'."""
 import multiprocessing
-import subprocess
 import sys
 
-import failing_memory
+import counting
 import hard_timelines
+import programs
 import rule_examples
 import slow_rules
 
@@ -129,11 +129,12 @@ def batches(questions):
 
 
 def answers(program, questions):
-    """What the program tells of each of the questions, as many lines as have to be told."""
+    """What the program tells of each of the questions: as many lines as have to be told, and of the last that it takes at
+    once all that are left, and its status where that isn't 0."""
     for batch in batches(questions):
-        text = "".join(given for _, given, _ in batch).encode()
-        run = subprocess.run([program, batch[0][0]], input=text, capture_output=True)
-        told = run.stdout.decode().splitlines()
+        given = "".join(given for _, given, _ in batch).encode()
+        text, status = programs.answer([program, batch[0][0]], given)
+        told = text.splitlines() + ([f"status {status}"] if status else [])
         place = 0
         for question in batch:
             count = len(question[2])
@@ -151,33 +152,21 @@ def is_answer_without_memory(word, answer, expected):
     return len(answer) == len(expected) and all(line in (other, "Memory") for line, other in zip(answer, expected))
 
 
-def refused_answers(program, compiler, question):
-    """What the program tells of a question with each of its allocations refused in turn."""
-    word, given, _ = question
-    for _, (refused, _) in failing_memory.answers(compiler, [program, word], given.encode()):
-        yield refused.decode().splitlines()
-
-
-def main(program, compiler=None):
-    passed = failed = 0
+def comparisons(program, compiler=None):
     with multiprocessing.Pool(PROCESSES) as pool:
         lines = of_seeds(pool, near_limits, LINES)
         weekly_lines = of_seeds(pool, near_weekly_limits, WEEKLY_LINES)
         held_lines = of_seeds(pool, near_horizons, HELD_LINES)
     questions = lines + weekly_lines + held_lines + list(examples())
-    tellings = [(question, answer, False) for question, answer in answers(program, questions)]
+    for (word, given, expected), answer in answers(program, questions):
+        yield f"{word} of {given.strip()}", answer, expected
     some = lines[:REFUSED_LINES] + weekly_lines[:REFUSED_LINES] + held_lines[:REFUSED_LINES]
-    for question in some if compiler else []:
-        tellings += [(question, answer, True) for answer in refused_answers(program, compiler, question)]
-    for (word, _, expected), answer, is_refused in tellings:
-        if answer == expected or (is_refused and is_answer_without_memory(word, answer, expected)):
-            passed += 1
-        else:
-            failed += 1
-            print(f"{answer}, and not {expected}")
-    print(f"{passed} passed, {failed} failed")
-    return failed != 0 or passed == 0
+    for word, given, expected in some if compiler else []:
+        for number, (text, _) in programs.answers_without_memory(compiler, [program, word], given.encode()):
+            answer = text.splitlines()
+            wanted = answer if is_answer_without_memory(word, answer, expected) else expected
+            yield f"{word} of {given.strip()}, allocation {number} refused", answer, wanted
 
 
 if __name__ == "__main__":
-    sys.exit(main(*sys.argv[1:]))
+    sys.exit(counting.count(comparisons(*sys.argv[1:])))

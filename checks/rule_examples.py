@@ -7,6 +7,7 @@ from Monday, 4 March 2024, 00:00, which is minute 28491840 and the start of week
 import sys
 from collections import namedtuple
 
+import counting
 import slow_rules
 
 BASE = 28491840
@@ -248,20 +249,15 @@ def rest(name, start, minutes, place):
     return (slow_rules.minutes_before(row.horizon, run), "main" if main == run else "other"), (minutes, place)
 
 
-def main():
-    """Run every row and count."""
-    results = [(f"row {row.name}", *examined(row)) for row in ROWS]
-    results += [(f"daily rest of {case[0]}", *daily_rest(*case)) for case in DAILY_RESTS]
-    results += [(f"rest at {case[1]} of {case[0]}", *rest(*case)) for case in RESTS]
-    failed = 0
-    for name, found, expected in results:
-        print(f"{'ok    ' if found == expected else 'FAILED'} {name}")
-        if found != expected:
-            failed += 1
-            print(f"       found    {found}\n       expected {expected}")
-    print(f"{len(results) - failed} passed, {failed} failed")
-    return 1 if failed else 0
+def comparisons():
+    """What is found in each row, and what is expected of it."""
+    for row in ROWS:
+        yield f"row {row.name}", *examined(row)
+    for case in DAILY_RESTS:
+        yield f"daily rest of {case[0]}", *daily_rest(*case)
+    for case in RESTS:
+        yield f"rest at {case[1]} of {case[0]}", *rest(*case)
 
 
 if __name__ == "__main__":
-    sys.exit(main())
+    sys.exit(counting.count(comparisons()))

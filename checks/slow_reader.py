@@ -134,56 +134,51 @@ def minute_text(minute):
     return moment.strftime("%Y-%m-%d %H:%M")
 
 
+def runs(pairs):
+    """The maximal runs of minutes with one value, as start, past and value."""
+    found = []
+    for minute, value in sorted(pairs):
+        if found and found[-1][1] == minute and found[-1][2] == value:
+            found[-1][1] = minute + 1
+        else:
+            found.append([minute, minute + 1, value])
+    return found
+
+
 def lines_of_pairs(pairs):
     """The lines of the maximal runs of minutes of one mark, or the least minute with two marks."""
-    lines, run = [], None
     pairs = sorted(set(pairs))
     for (minute, _), (following, _) in zip(pairs, pairs[1:]):
         if minute == following:
             raise Fault(f"C14 file contradicts itself at {minute_text(minute)}")
-    for minute, mark in pairs:
-        if run and run[1] == minute and run[2] == mark:
-            run[1] = minute + 1
-        else:
-            if run:
-                lines.append(run)
-            run = [minute, minute + 1, mark]
-    if run:
-        lines.append(run)
-    return "".join(f"{minute_text(a)} {minute_text(b)} {m[0]} {m[1]}\n" for a, b, m in lines)
+    return "".join(f"{minute_text(a)} {minute_text(b)} {m[0]} {m[1]}\n" for a, b, m in runs(pairs))
+
+
+def within(given, limit):
+    """What is given, if it has no more bytes than the limit."""
+    if len(given) > limit:
+        raise Fault("X1 too large")
+    return given
+
+
+def answer(lines):
+    """The lines that a call gives, or that of its first fault, and the status."""
+    try:
+        return lines(), 0
+    except Fault as fault:
+        return f"{fault}\n", 1
 
 
 def dump(value):
     """What `tacho dump` prints, and its status."""
-    if len(value) > 65_535:
-        return "X1 too large\n", 1
-    try:
-        return lines_of_pairs(pairs_of_value(value)), 0
-    except Fault as fault:
-        return f"{fault}\n", 1
+    return answer(lambda: lines_of_pairs(pairs_of_value(within(value, 65_535))))
 
 
 def holder(file):
     """What `tacho holder` prints, and its status."""
-    if len(file) > 262_144:
-        return "X1 too large\n", 1
-    try:
-        return card_file(file)[1].hex() + "\n", 0
-    except Fault as fault:
-        return f"{fault}\n", 1
+    return answer(lambda: card_file(within(file, 262_144))[1].hex() + "\n")
 
 
 def spans(file, part):
     """What a part of a card file gives, or the line of its first fault."""
-    try:
-        return lines_of_pairs(pairs_of_file(file, part))
-    except Fault as fault:
-        return f"{fault}\n"
-
-
-if __name__ == "__main__":
-    import sys
-
-    text, status = {"dump": dump, "holder": holder}[sys.argv[1]](sys.stdin.buffer.read())
-    sys.stdout.write(text)
-    sys.exit(status)
+    return answer(lambda: lines_of_pairs(pairs_of_file(file, part)))[0]

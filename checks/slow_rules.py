@@ -335,26 +335,25 @@ def breaches_5(line, runs):
     return found
 
 
-def breaches_6(line, base, past):
-    """Article 6(2): more than 56 hours of driving in a week."""
+def weeks_over(line, base, past, kind, limit, count):
+    """A breach for each week that has, with those after it up to so many, more minutes of driving than the limit."""
     found = []
     for week in weeks_around(base, past):
-        above = over(line, 3360, week_start(week), week_start(week + 1))
+        above = over(line, limit, week_start(week), week_start(week + count))
         if above:
             moment, amount = above
-            found.append(Breach(6, moment, week_start(week), amount))
+            found.append(Breach(kind, moment, week_start(week), amount))
     return found
+
+
+def breaches_6(line, base, past):
+    """Article 6(2): more than 56 hours of driving in a week."""
+    return weeks_over(line, base, past, 6, 3360, 1)
 
 
 def breaches_7(line, base, past):
     """Article 6(3): more than 90 hours of driving in a week and the next, also where one of them is all rest."""
-    found = []
-    for week in weeks_around(base, past):
-        above = over(line, 5400, week_start(week), week_start(week + 2))
-        if above:
-            moment, amount = above
-            found.append(Breach(7, moment, week_start(week), amount))
-    return found
+    return weeks_over(line, base, past, 7, 5400, 2)
 
 
 def breaches_8(runs):

@@ -1,0 +1,39 @@
+#!/usr/bin/env python3
+"""Runs the program on the examples, and compares what it prints with the slow reader, and with the files that lie beside
+them.
+
+The words are the program and the folder of the examples. The last line is 'N passed, M failed'."""
+import os
+import sys
+
+import counting
+import programs
+import slow_reader
+
+# By the ending of an example: what is asked of it, the slow reading, and the ending of what has to be printed.
+QUESTIONS = {".0504": ("dump", slow_reader.dump, ".spans"), ".ddd": ("holder", slow_reader.holder, ".holder")}
+
+# What is printed of it is long, and doesn't lie beside it.
+ALONE = ["largest.0504"]
+
+
+def read(folder, name):
+    with open(os.path.join(folder, name), "rb") as file:
+        return file.read()
+
+
+def comparisons(program, folder):
+    for name in sorted(os.listdir(folder)):
+        stem, ending = os.path.splitext(name)
+        if ending not in QUESTIONS:
+            continue
+        word, slow, beside = QUESTIONS[ending]
+        given = read(folder, name)
+        told = programs.answer([program, word], given)
+        yield f"{word} of {name}", told, slow(given)
+        if name not in ALONE:
+            yield f"{word} of {name}, and {stem}{beside}", told, (read(folder, stem + beside).decode(), 0)
+
+
+if __name__ == "__main__":
+    sys.exit(counting.count(comparisons(*sys.argv[1:])))
