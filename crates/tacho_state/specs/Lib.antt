@@ -1,0 +1,4 @@
+pub mod State
+pub mod Least
+pub mod Disjoint
+pub mod Steps
