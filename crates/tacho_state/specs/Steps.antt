@@ -6,6 +6,8 @@ use Rattle.tacho_time.specs.declared.span.Mark.{Mark}
 use Rattle.tacho_card.specs.declared.fault.CardFault.{CardFault}
 use Rattle.tacho_state.specs.declared.fault.StoreFault.{StoreFault}
 use Rattle.tacho_state.specs.declared.fault.StoreFault.TheVariants.{DriverTaken, KeyTaken, HolderTaken, UnknownDriver, NotYourCard, Contradiction, UnknownEntry, AlreadyWithdrawn, NotMonday, UnknownDownload, Card, Full}
+use Rattle.tacho_state.specs.declared.imported.Imported.{Imported}
+use Rattle.tacho_state.specs.declared.imported.Imported.TheVariants.{Added, Repeated}
 use Rattle.tacho_state.specs.State.{Download, Entry, Driver, State, given_spans, entered_spans, held_spans, held_mark, driver_of, keyed, holding, put, download_from, entry_from, with_download, with_batch, with_marked, with_base}
 use Rattle.tacho_state.specs.Least.{least_conflict, is_within}
 
@@ -57,29 +59,24 @@ pub record Content : Type 0 where
   pub holder : List ℕ
   pub spans : List Span
 
--- what an import did: nothing, since downloads gave all before, or it is the driver's download with this number
-pub data Kept : Type 0 where
-  repeated : ℕ → Kept
-  added : ℕ → ℕ → Kept
-
 -- the file goes in, by the least minute that it contradicts: S6, S14
-abbrev pub kept_by : ℕ → List ℕ → List Span → Driver → Option ℕ → Result (Kept × Driver) StoreFault
+abbrev pub kept_by : ℕ → List ℕ → List Span → Driver → Option ℕ → Result (Imported × Driver) StoreFault
 kept_by part file spans d (Some m) = Err (Contradiction m)
 kept_by part file spans d None =
-    if nat_lt (length d.downloads) most then Ok (added d.number (1 + length d.downloads), with_download part file spans d) else Err Full
+    if nat_lt (length d.downloads) most then Ok (Added d.number (1 + length d.downloads), with_download part file spans d) else Err Full
 
 -- a file whose pairs downloads give already, all of them, is repeated; entries don't count for that
-abbrev pub import_own : ℕ → List ℕ → List Span → Own Kept
+abbrev pub import_own : ℕ → List ℕ → List Span → Own Imported
 import_own part file spans d =
-    if is_within spans (given_spans d.downloads) then Ok (repeated d.number, d)
+    if is_within spans (given_spans d.downloads) then Ok (Repeated d.number, d)
     else kept_by part file spans d (least_conflict (held_spans d ++ spans))
 
 -- a driver's own import: S5 where the card is another's
-abbrev pub import_his : ℕ → List ℕ → Content → Own Kept
+abbrev pub import_his : ℕ → List ℕ → Content → Own Imported
 import_his part file content d = if bytes_eq d.holder content.holder then import_own part file content.spans d else Err NotYourCard
 
 -- an import by the office (no number), which looks for the holder, or by a driver; the file's fault comes first
-abbrev pub imported : Option ℕ → ℕ → List ℕ → Result Content CardFault → State → Turn Kept
+abbrev pub imported : Option ℕ → ℕ → List ℕ → Result Content CardFault → State → Turn Imported
 imported caller part file (Err fault) s = refused (Card fault) s
 imported None part file (Ok content) s = own_turn (import_own part file content.spans) s (holding content.holder s)
 imported (Some n) part file (Ok content) s = own_turn (import_his part file content) s (driver_of n s)

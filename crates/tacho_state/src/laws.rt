@@ -11,7 +11,7 @@ ghost use Rattle.tacho_state.specs.Disjoint.{Keeps, near, replaced, AreInRange, 
 ghost use Rattle.tacho_state.specs.Least.{least_conflict, is_within};
 ghost use Rattle.tacho_state.specs.State.{Driver, Entry, State, Given, Held, held_mark, driver_of, entered_spans, entry_from, marked_from, put, with_marked, with_download, with_batch};
 ghost use Rattle.tacho_state.specs.Steps.{most, import_own, enter_own, withdrawn};
-ghost use Rattle.tacho_state.specs.Steps.Kept.TheVariants.{repeated, added};
+ghost use Rattle.tacho_state.specs.declared.imported.Imported.TheVariants.{Added, Repeated};
 
 /// A withdrawal by range: where the spans that don't overlap the entry stay, with the parts of the others outside it
 /// and what card spans and other entries near it give inside it, they keep what the driver holds then.
@@ -68,14 +68,14 @@ pub fn searches()
 /// holds there.
 pub fn import_answers()
     ensures repeated { (d : Driver) (part : ℕ) (file : List ℕ) (cards card_line spans : List Span) (start past : ℕ) → Keeps cards (Given d)
-        → IsCanonicalOf (Gives (near start past cards)) card_line → AreGains card_line spans [] → import_own part file spans d ≡ Ok (repeated d.number, d) }
+        → IsCanonicalOf (Gives (near start past cards)) card_line → AreGains card_line spans [] → import_own part file spans d ≡ Ok (Repeated d.number, d) }
     ensures contradicted { (d : Driver) (part : ℕ) (file : List ℕ) (cards helds card_line line spans : List Span) (start past m : ℕ) → Keeps cards (Given d) → Keeps helds (Held d)
         → AreInRange start past spans → IsCanonicalOf (Gives (near start past cards)) card_line → IsCanonicalOf (Gives (near start past helds)) line
         → IsNew card_line spans → IsFirstConflict (Together line spans) m → import_own part file spans d ≡ Err (Contradiction m) }
     ensures added { (d : Driver) (part : ℕ) (file : List ℕ) (cards helds card_line line spans gains : List Span) (start past : ℕ) → Keeps cards (Given d) → Keeps helds (Held d)
         → AreInRange start past spans → IsCanonicalOf (Gives (near start past cards)) card_line → IsCanonicalOf (Gives (near start past helds)) line
         → IsNew card_line spans → AreGains line spans gains → length d.downloads < most
-        → import_own part file spans d ≡ Ok (added d.number (1 + length d.downloads), with_download part file spans d) }
+        → import_own part file spans d ≡ Ok (Added d.number (1 + length d.downloads), with_download part file spans d) }
     ensures full { (d : Driver) (part : ℕ) (file : List ℕ) (cards helds card_line line spans gains : List Span) (start past : ℕ) → Keeps cards (Given d) → Keeps helds (Held d)
         → AreInRange start past spans → IsCanonicalOf (Gives (near start past cards)) card_line → IsCanonicalOf (Gives (near start past helds)) line
         → IsNew card_line spans → AreGains line spans gains → most ≤ length d.downloads → import_own part file spans d ≡ Err Full }

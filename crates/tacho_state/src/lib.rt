@@ -2,8 +2,10 @@
 #![tactic(auto)]
 
 mod fault;
+mod imported;
 pub mod laws;
 mod parts;
 
 pub use fault::StoreFault;
+pub use imported::Imported;
 pub use parts::{inside_of, line_of, outside_of};
