@@ -1,0 +1,9 @@
+mod DisjointLemmas
+mod NearLemmas
+mod OrderLemmas
+mod GainLemmas
+mod WithdrawLemmas
+mod LeastLemmas
+mod StepLemmas
+mod MapLemmas
+mod PartLemmas
