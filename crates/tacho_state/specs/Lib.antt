@@ -2,3 +2,5 @@ pub mod State
 pub mod Least
 pub mod Disjoint
 pub mod Steps
+pub mod Limits
+pub mod Registration
