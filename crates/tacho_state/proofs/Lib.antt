@@ -7,3 +7,4 @@ mod LeastLemmas
 mod StepLemmas
 mod MapLemmas
 mod PartLemmas
+mod ContentLemmas

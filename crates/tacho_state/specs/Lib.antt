@@ -4,3 +4,5 @@ pub mod Disjoint
 pub mod Steps
 pub mod Limits
 pub mod Registration
+pub mod Content
+pub mod Acts

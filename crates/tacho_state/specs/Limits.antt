@@ -1,5 +1,5 @@
 -- What a driver's number, key and name may be, and how many numbers are given out.
-use Rattle.std.specs.Prelude.{◌≡◌, ◌≢◌, ℕ, ◌+◌, ◌<◌, ◌≤◌, ◌⊎◌, List, length, All, Option, Some, None, if◌then◌else◌, nat_le, nat_lt, IsTrue}
+use Rattle.std.specs.Prelude.{◌≡◌, ◌≢◌, ℕ, ◌+◌, ◌≤◌, ◌⊎◌, List, length, All, Option, Some, None, if◌then◌else◌, nat_le, IsTrue}
 use Rattle.std.specs.Char.{is_ascii_alphanumeric}
 
 -- a letter, a digit or a hyphen

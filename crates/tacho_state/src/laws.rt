@@ -1,7 +1,7 @@
 //! Laws about what a driver holds. A law is a function without a body: what it ensures is proved, and holds for all that it
 //! names. A range stands for the minutes near a command: rows near it are read, each whole, and no others.
 
-ghost use Rattle.std.specs.Prelude.{◌≡◌, ℕ, ◌+◌, ◌<◌, ◌≤◌, ◌⊎◌, ◌++◌, List, [], ◌∷◌, Some, None, Ok, Err, length, ◌↔◌, true, false};
+ghost use Rattle.std.specs.Prelude.{◌≡◌, ℕ, ◌+◌, ◌<◌, ◌≤◌, ◌⊎◌, ◌++◌, List, [], ◌∷◌, Some, None, Result, Ok, Err, length, ◌↔◌, true, false};
 ghost use Rattle.tacho_time.specs.Spans.{Gives, IsCanonicalOf, Conflicts, IsFirstConflict};
 ghost use Rattle.tacho_time.specs.declared.span.Mark.{Mark};
 ghost use Rattle.tacho_time.specs.declared.span.Span.{Span};
@@ -10,7 +10,10 @@ ghost use Rattle.tacho_state.specs.declared.fault.StoreFault.TheVariants.{Contra
 ghost use Rattle.tacho_state.specs.Disjoint.{Keeps, near, replaced, AreInRange, AllWithin, With, IsNew};
 ghost use Rattle.tacho_state.specs.Least.{least_conflict, is_within};
 ghost use Rattle.tacho_state.specs.State.{Driver, Entry, State, Given, Held, held_mark, driver_of, entered_spans, entry_from, marked_from, put, with_marked, with_download, with_batch};
-ghost use Rattle.tacho_state.specs.Steps.{most, import_own, enter_own, withdrawn};
+ghost use Rattle.tacho_card.specs.declared.fault.CardFault.{CardFault};
+ghost use Rattle.tacho_card.specs.declared.file.Part.{Part as PartValue};
+ghost use Rattle.tacho_state.specs.Content.{Tells};
+ghost use Rattle.tacho_state.specs.Steps.{Content, most, import_own, enter_own, withdrawn};
 ghost use Rattle.tacho_state.specs.declared.imported.Imported.TheVariants.{Added, Repeated};
 
 /// A withdrawal by range: where the spans that don't overlap the entry stay, with the parts of the others outside it
@@ -103,4 +106,10 @@ pub fn withdrawal_answers()
 /// Where spans keep what a driver holds, he holds each minute with one mark: the one that `held_mark` names.
 pub fn held_is_a_map()
     ensures { (d : Driver) (helds : List Span) (m : ℕ) (mark : Mark) → Keeps helds (Held d) → Held d m mark ↔ (held_mark d m ≡ Some mark) }
+{}
+
+/// A card file tells one content by each part, or has one first fault.
+pub fn one_content()
+    ensures some { (part : PartValue) (bytes : List ℕ) → (content : Result Content CardFault) × Tells part bytes content }
+    ensures one { (part : PartValue) (bytes : List ℕ) (a b : Result Content CardFault) → Tells part bytes a → Tells part bytes b → a ≡ b }
 {}
