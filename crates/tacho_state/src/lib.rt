@@ -17,3 +17,6 @@ pub use imported::Imported;
 pub use keeper::Keeper;
 pub use limits::{first_number, is_key, is_name};
 pub use parts::{inside_of, line_of, outside_of};
+
+#[cfg(test)]
+mod tests;

@@ -1,5 +1,6 @@
 ghost use Rattle.std.specs.Prelude.{◌≡◌, ℕ, ◌++◌, IfOk, OnOk, MatchResult};
-ghost use Rattle.tacho_time.specs.Spans.{Gives, IsCanonicalOf, Conflicts};
+ghost use Rattle.tacho_time.specs.Spans.{Gives, IsCanonicalOf};
+ghost use Rattle.tacho_time.specs.Merge.{IsFirstFault};
 ghost use Rattle.tacho_line.specs.Gains.{span_between};
 ghost use Rattle.tacho_line.specs.Line.{IsWithin, Holds};
 ghost use Rattle.tacho_state.specs.Disjoint.{AreDisjoint, outside};
@@ -8,16 +9,13 @@ use std::alloc::{AllocError, Global};
 use tacho_line::Line;
 use tacho_time::{Mark, Minute, Span, SpanFault, canonical_spans};
 
-/// The line of what spans give, in any order, of which no minute has two marks.
-pub fn line_of(alloc: Global, spans: &[Span]) -> Result<Line, AllocError>
-    requires { (m : ℕ) → Conflicts (Gives spans.now) m → ⊥ }
-    ensures { IfOk result (λ line. IsCanonicalOf (Gives spans.now) line) }
+/// The line of what spans give, in any order; or the least minute to which they give two marks.
+pub fn line_of(alloc: Global, spans: &[Span]) -> Result<Line, SpanFault>
+    ensures { MatchResult result (λ line. IsCanonicalOf (Gives spans.now) line) (IsFirstFault (Gives spans.now)) }
 {
+    let runs = canonical_spans(alloc, spans)?;
     let mut line = Line::empty(alloc);
-    match canonical_spans(alloc, spans) {
-        Ok(runs) => line.add(&runs)?,
-        Err(_) => return Err(AllocError),
-    }
+    line.add(&runs)?;
     Ok(line)
 }
 
@@ -53,20 +51,20 @@ fn add_span(
     Ok(())
 }
 
-/// What card spans and entries give in a range.
+/// What card spans and entries give in a range; or the least minute to which they give two marks.
 pub fn inside_of(
     alloc: Global,
     cards: &[Span],
     entries: &[Span],
     start: Minute,
     past: Minute,
-) -> Result<Vec<Span>, AllocError>
-    requires { (m : ℕ) → Conflicts (Gives (cards.now ++ entries.now)) m → ⊥ }
-    ensures { IfOk result (λ inside. IsCanonicalOf (λ m k. IsWithin start past m × Gives (cards.now ++ entries.now) m k) inside.items) }
+) -> Result<Vec<Span>, SpanFault>
+    ensures { MatchResult result (λ inside. IsCanonicalOf (λ m k. IsWithin start past m × Gives (cards.now ++ entries.now) m k) inside.items)
+        (IsFirstFault (Gives (cards.now ++ entries.now))) }
 {
     let mut all = Vec::new(alloc);
     all.extend_from_slice(cards)?;
     all.extend_from_slice(entries)?;
     let line = line_of(alloc, &all)?;
-    line.slice(alloc, start, past)
+    Ok(line.slice(alloc, start, past)?)
 }
