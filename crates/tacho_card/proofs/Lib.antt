@@ -5,7 +5,7 @@ mod ChainLemmas
 mod ChosenLemmas
 mod FileLaw
 mod FileLemmas
-mod FileReadingLaw
+pub mod FileReadingLaw
 mod FirstLemmas
 mod GivesLemmas
 mod RawLemmas

@@ -1,8 +1,8 @@
 mod SearchLemmas
-mod LineLemmas
+pub mod LineLemmas
 mod HorizonLemmas
-mod RangeLemmas
-mod MergeLemmas
+pub mod RangeLemmas
+pub mod MergeLemmas
 mod AddLemmas
 mod GainLemmas
 mod GapLaw

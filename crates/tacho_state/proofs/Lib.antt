@@ -1,0 +1,10 @@
+mod DisjointLemmas
+mod NearLemmas
+mod OrderLemmas
+mod GainLemmas
+mod WithdrawLemmas
+mod LeastLemmas
+mod StepLemmas
+mod MapLemmas
+mod PartLemmas
+mod ContentLemmas

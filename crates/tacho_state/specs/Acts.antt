@@ -1,0 +1,45 @@
+-- What a call of an archive does to it, in terms of states.
+use Rattle.std.specs.Prelude.{◌≡◌, ℕ, List, [], ◌∷◌, Option, None, Some, Result, Ok, Err, OnOk}
+use Rattle.tacho_state.specs.declared.fault.StoreFault.{StoreFault}
+use Rattle.tacho_state.specs.declared.fault.StoreFault.TheVariants.{Memory, Store}
+use Rattle.tacho_state.specs.declared.caller.Caller.{Caller}
+use Rattle.tacho_state.specs.declared.caller.Caller.TheVariants.{Office, Driver}
+use Rattle.tacho_state.specs.State.{State}
+use Rattle.tacho_state.specs.Steps.{Turn}
+
+-- who calls: a driver by his number, or the office
+abbrev pub caller_number : Caller → Option ℕ
+caller_number Office = None
+caller_number (Driver n) = Some n
+
+-- the call answered as the step does, or it gave up for want of memory or because the store failed
+abbrev pub Answers : {A B : Type 0} → (A → B) → Result A StoreFault → Result B StoreFault → Type 0
+Answers view (Ok x) told = told ≡ Ok (view x)
+Answers view (Err Memory) told = Unit {0}
+Answers view (Err Store) told = Unit {0}
+Answers view (Err fault) told = told ≡ Err fault
+
+-- the state after a call: one that gave up, or was refused, has left the one before
+abbrev pub left : {A : Type 0} → Result A StoreFault → State → State → State
+left (Ok x) before after = after
+left (Err fault) before after = before
+
+-- A call answers by a step and leaves its state, or it gives up and leaves the one before. At each moment a stop leaves a state
+-- that could be left before the call, or the step's; after an Ok the step's alone.
+pub record Acts {K A B : Type 0} (stands : K → State → Type 0) (is_clean is_live : K → Type 0) (leaves : K → List State → Type 0)
+    (view : A → B) (old new : K) (result : Result A StoreFault) (step : State → Turn B) : Type 0 where
+  pub clean : is_clean new → is_clean old
+  pub answer : is_clean new → (s : State) → stands old s → Answers view result (step s).answer
+  pub state : is_clean new → (s : State) → stands old s → stands new (left result s (step s).after)
+  pub live : is_clean new → OnOk result (is_live new)
+  pub crash : is_clean new → is_live old → (s : State) (past : List State) → stands old s → leaves old past → leaves new ((step s).after ∷ past)
+  pub kept : is_clean new → is_live old → (s : State) → stands old s → OnOk result (leaves new ((step s).after ∷ []))
+
+-- A call that reads: it answers by the state or gives up, and changes nothing.
+pub record Reads {K A B : Type 0} (stands : K → State → Type 0) (is_clean is_live : K → Type 0) (leaves : K → List State → Type 0)
+    (view : A → B) (old new : K) (result : Result A StoreFault) (told : State → Result B StoreFault) : Type 0 where
+  pub clean : is_clean new → is_clean old
+  pub answer : is_clean new → (s : State) → stands old s → Answers view result (told s)
+  pub state : is_clean new → (s : State) → stands old s → stands new s
+  pub live : is_clean new → OnOk result (is_live new)
+  pub crash : is_clean new → is_live old → (past : List State) → leaves old past → leaves new past

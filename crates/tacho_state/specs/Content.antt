@@ -1,0 +1,27 @@
+-- What a card file tells, read by a part: a relation with one solution.
+use Rattle.std.specs.Prelude.{◌≡◌, ℕ, List, Result, Ok, Err}
+use Rattle.tacho_card.specs.declared.fault.CardFault.{CardFault}
+use Rattle.tacho_card.specs.declared.file.Part.{Part}
+use Rattle.tacho_card.specs.declared.file.Part.TheVariants as part
+use Rattle.tacho_card.specs.CardFile.{FileBlock, card_file, file_holder, ReadsFile}
+use Rattle.tacho_state.specs.Steps.{Content}
+
+-- 0 both, 1 first, 2 second
+abbrev pub part_number : Part → ℕ
+part_number part.Both = 0
+part_number part.First = 1
+part_number part.Second = 2
+
+-- the content of blocks: their holder and the spans of their reading, or its fault
+abbrev pub BlocksTell : Part → List FileBlock → Result Content CardFault → Type 0
+BlocksTell p blocks (Ok content) = (file_holder blocks ≡ Ok content.holder) × ReadsFile p blocks (Ok content.spans)
+BlocksTell p blocks (Err fault) = ReadsFile p blocks (Err fault)
+
+-- the content of a file's blocks, or the fault in their place
+abbrev pub ReadTells : Part → Result (List FileBlock) CardFault → Result Content CardFault → Type 0
+ReadTells p (Ok blocks) content = BlocksTell p blocks content
+ReadTells p (Err fault) content = content ≡ Err fault
+
+-- the content of a file's bytes, or its first fault
+abbrev pub Tells : Part → List ℕ → Result Content CardFault → Type 0
+Tells p bytes content = ReadTells p (card_file bytes) content

@@ -1,0 +1,30 @@
+-- What a driver's number, key and name may be, and how many numbers are given out.
+use Rattle.std.specs.Prelude.{◌≡◌, ◌≢◌, ℕ, ◌+◌, ◌≤◌, ◌⊎◌, List, length, All, Option, Some, None, if◌then◌else◌, nat_le, IsTrue}
+use Rattle.std.specs.Char.{is_ascii_alphanumeric}
+
+-- a letter, a digit or a hyphen
+abbrev pub IsKeyByte : ℕ → Type 0
+IsKeyByte c = IsTrue (is_ascii_alphanumeric c) ⊎ (c ≡ 45)
+
+-- a key: 8 to 64 of these
+pub record IsKey (text : List ℕ) : Type 0 where
+  pub least : 8 ≤ length text
+  pub most : length text ≤ 64
+  pub bytes : All IsKeyByte text
+
+-- a byte of a name: no control, no comma and no double quote
+pub record IsNameByte (c : ℕ) : Type 0 where
+  pub printed : 32 ≤ c
+  pub no_delete : c ≢ 127
+  pub no_comma : c ≢ 44
+  pub no_quote : c ≢ 34
+
+-- a name: 1 to 64 of these
+pub record IsName (text : List ℕ) : Type 0 where
+  pub least : 1 ≤ length text
+  pub most : length text ≤ 64
+  pub bytes : All IsNameByte text
+
+-- the first of so many numbers more, where so many were given out: there are 1,000,000
+abbrev pub next_number : ℕ → ℕ → Option ℕ
+next_number given count = if nat_le (given + count) 1000000 then Some (given + 1) else None

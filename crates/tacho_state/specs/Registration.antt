@@ -1,0 +1,35 @@
+-- A driver as he is registered, and the first column that is out of its limits.
+use Rattle.std.specs.Prelude.{ℕ, ◌≤◌, List}
+use Rattle.tacho_state.specs.declared.driver.Column.{Column}
+use Rattle.tacho_state.specs.declared.driver.Column.TheVariants as column
+use Rattle.tacho_state.specs.Limits.{IsKey, IsName}
+
+-- number, the holder of his card, his key, the day from which he is examined, and his name
+pub record Registration : Type 0 where
+  pub number : ℕ
+  pub holder : List ℕ
+  pub key : List ℕ
+  pub base : ℕ
+  pub name : List ℕ
+
+abbrev pub IsNumber : ℕ → Type 0
+IsNumber number = (1 ≤ number) × (number ≤ 999999)
+
+-- from 2000-01-03 to 2099-12-31
+abbrev pub IsReadDay : ℕ → Type 0
+IsReadDay day = (10959 ≤ day) × (day ≤ 47481)
+
+-- each column is within its limits
+pub record IsRegistration (r : Registration) : Type 0 where
+  pub number : IsNumber r.number
+  pub key : IsKey r.key
+  pub base : IsReadDay r.base
+  pub name : IsName r.name
+
+-- the column is out of its limits, and those before it are within theirs; fifteen bytes are a holder always
+abbrev pub IsFirstBad : Registration → Column → Type 0
+IsFirstBad r column.Driver = ¬ (IsNumber r.number)
+IsFirstBad r column.Holder = ⊥
+IsFirstBad r column.Key = IsNumber r.number × ¬ (IsKey r.key)
+IsFirstBad r column.Base = IsNumber r.number × IsKey r.key × ¬ (IsReadDay r.base)
+IsFirstBad r column.Name = IsNumber r.number × IsKey r.key × IsReadDay r.base × ¬ (IsName r.name)

@@ -1,0 +1,122 @@
+-- The archive's state: its drivers, the card files that were accepted of each, and the hours that were entered for him.
+use Rattle.std.specs.Prelude.{ℕ, ◌+◌, ◌<◌, ◌==◌, Bool, true, false, List, [], ◌∷◌, ◌++◌, Option, Some, None, bytes_eq, if◌then◌else◌}
+use Rattle.tacho_time.specs.declared.span.Span.{Span}
+use Rattle.tacho_time.specs.declared.span.Mark.{Mark}
+use Rattle.tacho_time.specs.declared.span.Activity.{Activity}
+use Rattle.tacho_time.specs.Spans.{Gives}
+use Rattle.tacho_line.specs.Line.{mark_at}
+
+-- a card file that was accepted, the part that it was read by, and the spans of that reading
+pub record Download : Type 0 where
+  pub part : ℕ
+  pub file : List ℕ
+  pub spans : List Span
+
+-- hours that were entered: minutes from start to before past; a withdrawn entry stays listed and gives nothing
+pub record Entry : Type 0 where
+  pub start : ℕ
+  pub past : ℕ
+  pub activity : Activity
+  pub withdrawn : Bool
+
+-- a driver: the holder of his card, his key, the day from which he is examined, his name, and his downloads and entries in the
+-- order of their numbers, which count from 1
+pub record Driver : Type 0 where
+  pub number : ℕ
+  pub holder : List ℕ
+  pub key : List ℕ
+  pub base : ℕ
+  pub name : List ℕ
+  pub downloads : List Download
+  pub entries : List Entry
+
+-- the drivers; their order means nothing
+abbrev pub State : Type 0
+State = List Driver
+
+-- ---- what a driver holds
+
+-- the spans of his accepted downloads
+abbrev pub given_spans : List Download → List Span
+given_spans [] = []
+given_spans (d ∷ ds) = d.spans ++ given_spans ds
+
+-- the span of an entry: nobody drives with him
+abbrev pub entry_span : Entry → Span
+entry_span e = record { start = e.start; past = e.past; mark = record { activity = e.activity; crew = false } }
+
+-- the spans of his entries that are not withdrawn
+abbrev pub entered_spans : List Entry → List Span
+entered_spans [] = []
+entered_spans (e ∷ es) = if e.withdrawn then entered_spans es else entry_span e ∷ entered_spans es
+
+-- what his accepted downloads give
+abbrev pub Given : Driver → ℕ → Mark → Type 0
+Given d = Gives (given_spans d.downloads)
+
+-- and with it what his entries give that are not withdrawn: what he holds
+abbrev pub held_spans : Driver → List Span
+held_spans d = given_spans d.downloads ++ entered_spans d.entries
+
+abbrev pub Held : Driver → ℕ → Mark → Type 0
+Held d = Gives (held_spans d)
+
+-- the mark that he holds a minute with, if he holds it
+abbrev pub held_mark : Driver → ℕ → Option Mark
+held_mark d m = mark_at (held_spans d) m
+
+-- ---- drivers, downloads and entries by their numbers, keys and holders
+
+-- the driver with a number
+abbrev pub driver_of : ℕ → State → Option Driver
+driver_of n [] = None
+driver_of n (d ∷ s) = if d.number == n then Some d else driver_of n s
+
+-- the driver with a key
+abbrev pub keyed : List ℕ → State → Option Driver
+keyed key [] = None
+keyed key (d ∷ s) = if bytes_eq d.key key then Some d else keyed key s
+
+-- the driver whose card has this holder
+abbrev pub holding : List ℕ → State → Option Driver
+holding holder [] = None
+holding holder (d ∷ s) = if bytes_eq d.holder holder then Some d else holding holder s
+
+-- the state with this driver in the place of the one with his number
+abbrev pub put : Driver → State → State
+put d [] = []
+put d (x ∷ s) = if x.number == d.number then d ∷ s else x ∷ put d s
+
+-- the download with a number, where the first has another one
+abbrev pub download_from : ℕ → ℕ → List Download → Option Download
+download_from i number [] = None
+download_from i number (d ∷ ds) = if i == number then Some d else download_from (i + 1) number ds
+
+-- the entry with a number, where the first has another one
+abbrev pub entry_from : ℕ → ℕ → List Entry → Option Entry
+entry_from i number [] = None
+entry_from i number (e ∷ es) = if i == number then Some e else entry_from (i + 1) number es
+
+-- the entries, that one withdrawn
+abbrev pub marked_from : ℕ → ℕ → List Entry → List Entry
+marked_from i number [] = []
+marked_from i number (e ∷ es) = if i == number then record e { withdrawn = true } ∷ es else e ∷ marked_from (i + 1) number es
+
+-- ---- a driver after a command
+
+abbrev pub with_download : ℕ → List ℕ → List Span → Driver → Driver
+with_download part file spans d = record d { downloads = d.downloads ++ record { part = part; file = file; spans = spans } ∷ [] }
+
+abbrev pub with_batch : List Entry → Driver → Driver
+with_batch batch d = record d { entries = d.entries ++ batch }
+
+abbrev pub with_marked : ℕ → Driver → Driver
+with_marked number d = record d { entries = marked_from 1 number d.entries }
+
+abbrev pub with_base : ℕ → Driver → Driver
+with_base base d = record d { base = base }
+
+-- no entry is empty
+abbrev pub AreFull : List Entry → Type 0
+AreFull [] = Unit {0}
+AreFull (e ∷ es) = (e.start < e.past) × AreFull es

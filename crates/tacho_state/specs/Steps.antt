@@ -1,0 +1,147 @@
+-- What each command and each reading answers, and the state after it. A refusal leaves the state as it was; where several
+-- stand, the first in the order of S1 to S14 is answered, but a file's own fault (S11) before all others.
+use Rattle.std.specs.Prelude.{ℕ, ◌+◌, ◌%◌, ◌==◌, nat_lt, Bool, List, [], ◌∷◌, ◌++◌, length, Option, Some, None, is_some, option_map, Result, Ok, Err, bytes_eq, if◌then◌else◌}
+use Rattle.tacho_time.specs.declared.span.Span.{Span}
+use Rattle.tacho_time.specs.declared.span.Mark.{Mark}
+use Rattle.tacho_card.specs.declared.fault.CardFault.{CardFault}
+use Rattle.tacho_state.specs.declared.fault.StoreFault.{StoreFault}
+use Rattle.tacho_state.specs.declared.fault.StoreFault.TheVariants.{DriverTaken, KeyTaken, HolderTaken, UnknownDriver, NotYourCard, Contradiction, UnknownEntry, AlreadyWithdrawn, NotMonday, UnknownDownload, Card, Full}
+use Rattle.tacho_state.specs.declared.imported.Imported.{Imported}
+use Rattle.tacho_state.specs.declared.imported.Imported.TheVariants.{Added, Repeated}
+use Rattle.tacho_state.specs.State.{Download, Entry, Driver, State, given_spans, entered_spans, held_spans, held_mark, driver_of, keyed, holding, put, download_from, entry_from, with_download, with_batch, with_marked, with_base}
+use Rattle.tacho_state.specs.Least.{least_conflict, is_within}
+
+-- an answer, and the state after it
+pub record Turn (A : Type 0) : Type 0 where
+  pub answer : Result A StoreFault
+  pub after : State
+
+abbrev pub refused : {A : Type 0} → StoreFault → State → Turn A
+refused fault s = record { answer = Err fault; after = s }
+
+-- what one driver's command answers, and the driver after it
+abbrev pub Own : Type 0 → Type 0
+Own A = Driver → Result (A × Driver) StoreFault
+
+abbrev pub settled : {A : Type 0} → State → Result (A × Driver) StoreFault → Turn A
+settled s (Ok told) = record { answer = Ok told.0; after = put told.1 s }
+settled s (Err fault) = refused fault s
+
+-- the command of one driver, if there is one: S4
+abbrev pub own_turn : {A : Type 0} → Own A → State → Option Driver → Turn A
+own_turn f s None = refused UnknownDriver s
+own_turn f s (Some d) = settled s (f d)
+
+-- how many downloads, and how many entries, a driver may have
+abbrev pub most : ℕ
+most = 1000000
+
+-- a day is a Monday: day 0 was a Thursday
+abbrev pub is_monday : ℕ → Bool
+is_monday day = (day + 3) % 7 == 0
+
+-- ---- register
+
+-- the driver, without downloads and entries; S1, S2, S3, S9
+abbrev pub registered : ℕ → List ℕ → List ℕ → ℕ → List ℕ → State → Turn (Unit {0})
+registered number holder key base name s =
+    if is_some (driver_of number s) then refused DriverTaken s
+    else (if is_some (keyed key s) then refused KeyTaken s
+    else (if is_some (holding holder s) then refused HolderTaken s
+    else (if is_monday base
+    then record { answer = Ok tt; after = s ++ record { number = number; holder = holder; key = key; base = base; name = name; downloads = []; entries = [] } ∷ [] }
+    else refused NotMonday s)))
+
+-- ---- import
+
+-- what a card file tells: its holder, and the spans of its reading by a part
+pub record Content : Type 0 where
+  pub holder : List ℕ
+  pub spans : List Span
+
+-- the file goes in, by the least minute that it contradicts: S6, S14
+abbrev pub kept_by : ℕ → List ℕ → List Span → Driver → Option ℕ → Result (Imported × Driver) StoreFault
+kept_by part file spans d (Some m) = Err (Contradiction m)
+kept_by part file spans d None =
+    if nat_lt (length d.downloads) most then Ok (Added d.number (1 + length d.downloads), with_download part file spans d) else Err Full
+
+-- a file whose pairs downloads give already, all of them, is repeated; entries don't count for that
+abbrev pub import_own : ℕ → List ℕ → List Span → Own Imported
+import_own part file spans d =
+    if is_within spans (given_spans d.downloads) then Ok (Repeated d.number, d)
+    else kept_by part file spans d (least_conflict (held_spans d ++ spans))
+
+-- a driver's own import: S5 where the card is another's
+abbrev pub import_his : ℕ → List ℕ → Content → Own Imported
+import_his part file content d = if bytes_eq d.holder content.holder then import_own part file content.spans d else Err NotYourCard
+
+-- an import by the office (no number), which looks for the holder, or by a driver; the file's fault comes first
+abbrev pub imported : Option ℕ → ℕ → List ℕ → Result Content CardFault → State → Turn Imported
+imported caller part file (Err fault) s = refused (Card fault) s
+imported None part file (Ok content) s = own_turn (import_own part file content.spans) s (holding content.holder s)
+imported (Some n) part file (Ok content) s = own_turn (import_his part file content) s (driver_of n s)
+
+-- ---- enter
+
+-- a batch goes in whole, or not at all: S6, S14
+abbrev pub entered_by : List Entry → Driver → Option ℕ → Result (ℕ × Driver) StoreFault
+entered_by batch d (Some m) = Err (Contradiction m)
+entered_by batch d None =
+    if nat_lt most (length d.entries + length batch) then Err Full else Ok (1 + length d.entries, with_batch batch d)
+
+abbrev pub enter_own : List Entry → Own ℕ
+enter_own batch d = entered_by batch d (least_conflict (held_spans d ++ entered_spans batch))
+
+-- the number of the first
+abbrev pub entered : ℕ → List Entry → State → Turn ℕ
+entered n batch s = own_turn (enter_own batch) s (driver_of n s)
+
+-- ---- withdraw, rebase
+
+-- S7, S8
+abbrev pub withdrawn_by : ℕ → Driver → Option Entry → Result (Unit {0} × Driver) StoreFault
+withdrawn_by number d None = Err UnknownEntry
+withdrawn_by number d (Some e) = if e.withdrawn then Err AlreadyWithdrawn else Ok (tt, with_marked number d)
+
+abbrev pub withdraw_own : ℕ → Own (Unit {0})
+withdraw_own number d = withdrawn_by number d (entry_from 1 number d.entries)
+
+abbrev pub withdrawn : ℕ → ℕ → State → Turn (Unit {0})
+withdrawn n number s = own_turn (withdraw_own number) s (driver_of n s)
+
+-- S9
+abbrev pub rebase_own : ℕ → Own (Unit {0})
+rebase_own base d = if is_monday base then Ok (tt, with_base base d) else Err NotMonday
+
+abbrev pub rebased : ℕ → ℕ → State → Turn (Unit {0})
+rebased n base s = own_turn (rebase_own base) s (driver_of n s)
+
+-- ---- readings
+
+-- what is told of a driver, if there is one: S4
+abbrev pub told_of : {A : Type 0} → (Driver → Result A StoreFault) → Option Driver → Result A StoreFault
+told_of f None = Err UnknownDriver
+told_of f (Some d) = f d
+
+-- whose key it is
+abbrev pub owner : List ℕ → State → Result (Option ℕ) StoreFault
+owner key s = Ok (option_map (λ (d : Driver). d.number) (keyed key s))
+
+abbrev pub named : ℕ → State → Result (List ℕ) StoreFault
+named n s = told_of (λ d. Ok d.name) (driver_of n s)
+
+-- the mark of each minute that the driver holds
+abbrev pub lined : ℕ → State → Result (ℕ → Option Mark) StoreFault
+lined n s = told_of (λ d. Ok (held_mark d)) (driver_of n s)
+
+-- his entries, withdrawn ones among them, in the order of their numbers
+abbrev pub listed : ℕ → State → Result (List Entry) StoreFault
+listed n s = told_of (λ d. Ok d.entries) (driver_of n s)
+
+-- the bytes of a download: S10
+abbrev pub file_of : Option Download → Result (List ℕ) StoreFault
+file_of None = Err UnknownDownload
+file_of (Some d) = Ok d.file
+
+abbrev pub downloaded : ℕ → ℕ → State → Result (List ℕ) StoreFault
+downloaded n number s = told_of (λ d. file_of (download_from 1 number d.downloads)) (driver_of n s)

@@ -1,0 +1,113 @@
+ghost use Rattle.std.specs.Prelude.{◌≡◌, MatchResult, string_bytes};
+ghost use Rattle.tacho_state.specs.Registration.{Registration, IsRegistration, IsFirstBad};
+
+use crate::limits::{is_key, is_name};
+use std::marker::Model;
+use tacho_time::Day;
+
+/// A column of a driver.
+#[derive(Clone, Copy, Debug, PartialEq, Eq)]
+pub enum Column {
+    /// His number: 1 to 999,999.
+    Driver,
+    /// The holder of his card: fifteen bytes.
+    Holder,
+    /// His key: 8 to 64 letters, digits and hyphens.
+    Key,
+    /// The day from which he is examined, from 2000-01-03 to 2099-12-31.
+    Base,
+    /// His name: 1 to 64 bytes, without controls, commas and double quotes.
+    Name,
+}
+
+/// A driver as he is registered: each column is within its limits.
+#[derive(Debug, Drop)]
+pub struct Driver {
+    number: u32,
+    holder: [u8; 15],
+    key: String,
+    base: Day,
+    name: String,
+}
+
+impl Model for Driver {
+    ghost use Rattle.std.specs.Prelude.{string_bytes};
+    ghost use Rattle.tacho_state.specs.Registration.{Registration, IsRegistration};
+
+    ghost Value = { Registration };
+
+    ghost view = { λ d. record { number = d.number; holder = d.holder; key = string_bytes d.key; base = d.base; name = string_bytes d.name } };
+
+    ghost invariant = { λ d. IsRegistration (record { number = d.number; holder = d.holder; key = string_bytes d.key; base = d.base; name = string_bytes d.name }) };
+}
+
+impl Driver {
+    ghost use Rattle.std.specs.Prelude.{◌≡◌};
+
+    /// A driver of these columns, or the first of them that is out of its limits. It takes no memory.
+    pub fn new(
+        number: u32,
+        holder: [u8; 15],
+        key: String,
+        base: Day,
+        name: String,
+    ) -> Result<Driver, Column>
+        ensures { let columns : Registration = record { number = number; holder = holder; key = string_bytes key; base = base; name = string_bytes name } in
+            MatchResult result (λ driver. (driver ≡ columns) × IsRegistration columns) (IsFirstBad columns) }
+    {
+        if number < 1 || number > 999_999 {
+            return Err(Column::Driver);
+        }
+        if !is_key(&key) {
+            return Err(Column::Key);
+        }
+        if base.number() < 10_959 || base.number() > 47_481 {
+            return Err(Column::Base);
+        }
+        if !is_name(&name) {
+            return Err(Column::Name);
+        }
+        Ok(Driver {
+            number,
+            holder,
+            key,
+            base,
+            name,
+        })
+    }
+
+    /// His number.
+    pub fn number(&self) -> u32
+        ensures { result ≡ self.now.number }
+    {
+        self.number
+    }
+
+    /// The holder of his card.
+    pub fn holder(&self) -> &[u8]
+        ensures { result.now ≡ self.now.holder }
+    {
+        &self.holder
+    }
+
+    /// His key.
+    pub fn key(&self) -> &str
+        ensures { result.now ≡ self.now.key }
+    {
+        &self.key
+    }
+
+    /// The day from which he is examined.
+    pub fn base(&self) -> Day
+        ensures { result ≡ self.now.base }
+    {
+        self.base
+    }
+
+    /// His name.
+    pub fn name(&self) -> &str
+        ensures { result.now ≡ self.now.name }
+    {
+        &self.name
+    }
+}

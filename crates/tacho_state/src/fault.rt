@@ -1,0 +1,50 @@
+use tacho_card::CardFault;
+use tacho_time::Minute;
+use thiserror::Error;
+
+/// Why a command or a reading of an archive was refused. After each of these nothing has changed.
+#[derive(Clone, Copy, Debug, PartialEq, Eq, Error)]
+pub enum StoreFault {
+    /// S1: there is a driver with the number.
+    #[error("the driver's number is taken")]
+    DriverTaken,
+    /// S2: there is a driver with the key.
+    #[error("the driver's key is taken")]
+    KeyTaken,
+    /// S3: there is a driver with the holder.
+    #[error("the card's holder is taken")]
+    HolderTaken,
+    /// S4: no driver has the number, or the file's holder.
+    #[error("unknown driver")]
+    UnknownDriver,
+    /// S5: a driver's import of a card of another holder.
+    #[error("another holder's card")]
+    NotYourCard,
+    /// S6: the least minute that would have two marks.
+    #[error("two marks at {0}")]
+    Contradiction(Minute),
+    /// S7: no entry of the driver has the number.
+    #[error("unknown entry")]
+    UnknownEntry,
+    /// S8: the entry is withdrawn already.
+    #[error("the entry is withdrawn already")]
+    AlreadyWithdrawn,
+    /// S9: the day isn't a Monday.
+    #[error("not a Monday")]
+    NotMonday,
+    /// S10: no download of the driver has the number.
+    #[error("unknown download")]
+    UnknownDownload,
+    /// S11: the first fault of the card file.
+    #[error("{0}")]
+    Card(CardFault),
+    /// S12: the store's call failed, or gave a row that no archive writes.
+    #[error("the store failed")]
+    Store,
+    /// S14: no further number is given out.
+    #[error("no further number")]
+    Full,
+    /// There was no memory.
+    #[error("no memory")]
+    Memory,
+}

@@ -1,0 +1,62 @@
+ghost use Rattle.std.specs.Prelude.{◌≡◌, ◌∷◌, ◌≤◌, List, Result};
+ghost use Rattle.tacho_line.specs.Line.{mark_at};
+ghost use Rattle.tacho_card.specs.declared.fault.CardFault.{CardFault};
+ghost use Rattle.tacho_state.specs.State.{State};
+ghost use Rattle.tacho_state.specs.Steps.{Content, registered, imported, rebased, lined, downloaded};
+ghost use Rattle.tacho_state.specs.Content.{Tells, part_number};
+ghost use Rattle.tacho_state.specs.Acts.{Acts, Reads, caller_number};
+
+use crate::caller::Caller;
+use crate::driver::Driver;
+use crate::fault::StoreFault;
+use crate::imported::Imported;
+use std::alloc::Global;
+use tacho_card::Part;
+use tacho_line::Line;
+use tacho_time::Day;
+
+/// An archive, however it is kept. Each call is a step of its state (`Acts`) or reads it (`Reads`).
+pub trait Keeper {
+    /// What is kept stands for this state.
+    ghost stands: { Self → State → Type 0 };
+
+    /// What is kept is what was written.
+    ghost is_clean: { Self → Type 0 };
+
+    /// It can be written to. Only a failure of the store ends that.
+    ghost is_live: { Self → Type 0 };
+
+    /// Whatever a stop now leaves stands for one of these states.
+    ghost leaves: { Self → List State → Type 0 };
+
+    /// More states may be named.
+    ghost leaves_more: { (keeper : Self) (s : State) (states : List State) → leaves keeper states → leaves keeper (s ∷ states) };
+
+    /// Adds a driver: S1, S2, S3, S9.
+    fn register(&mut self, driver: &Driver) -> Result<(), StoreFault>
+        ensures { Acts stands is_clean is_live leaves (λ _. tt) self.old self.new result
+            (registered driver.now.number driver.now.holder driver.now.key driver.now.base driver.now.name) };
+
+    /// Imports a card file by a part: S11 first; then S4, S5, S6, S14.
+    fn import(
+        &mut self,
+        alloc: Global,
+        caller: Caller,
+        part: Part,
+        file: &[u8],
+    ) -> Result<Imported, StoreFault>
+        ensures { (content : Result Content CardFault) → Tells part file.now content
+            → Acts stands is_clean is_live leaves (λ done. done) self.old self.new result (imported (caller_number caller) (part_number part) file.now content) };
+
+    /// Sets the day from which a driver is examined: S4, S9.
+    fn rebase(&mut self, driver: u32, base: Day) -> Result<(), StoreFault>
+        ensures { Acts stands is_clean is_live leaves (λ _. tt) self.old self.new result (rebased driver base) };
+
+    /// The timeline of a driver: S4.
+    fn line(&mut self, alloc: Global, driver: u32) -> Result<Line, StoreFault>
+        ensures { Reads stands is_clean is_live leaves (λ line. mark_at line) self.old self.new result (lined driver) };
+
+    /// The bytes of a driver's download: S4, S10.
+    fn download(&mut self, alloc: Global, driver: u32, number: u32) -> Result<Vec<u8>, StoreFault>
+        ensures { Reads stands is_clean is_live leaves (λ bytes. bytes.items) self.old self.new result (downloaded driver number) };
+}

@@ -1,0 +1,22 @@
+//! The archive's state: drivers, what they hold, and what each command and each reading answers. No store is named here.
+#![tactic(auto)]
+
+mod caller;
+mod driver;
+mod fault;
+mod imported;
+mod keeper;
+pub mod laws;
+mod limits;
+mod parts;
+
+pub use caller::Caller;
+pub use driver::{Column, Driver};
+pub use fault::StoreFault;
+pub use imported::Imported;
+pub use keeper::Keeper;
+pub use limits::{first_number, is_key, is_name};
+pub use parts::{inside_of, line_of, outside_of};
+
+#[cfg(test)]
+mod tests;

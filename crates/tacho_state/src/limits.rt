@@ -1,0 +1,37 @@
+ghost use Rattle.std.specs.Prelude.{◌≡◌, ◌↔◌, IsTrue};
+ghost use Rattle.tacho_state.specs.Limits.{IsKey, IsName, next_number};
+
+/// How many numbers a driver's downloads, and his entries, are given at the most.
+const MOST: u32 = 1_000_000;
+
+/// Whether a text may be a key: 8 to 64 letters, digits and hyphens. It takes no memory.
+pub fn is_key(text: &str) -> bool
+    ensures { IsTrue result ↔ IsKey text.now }
+{
+    let bytes = text.as_bytes();
+    bytes.len() >= 8
+        && bytes.len() <= 64
+        && bytes
+            .iter()
+            .all(|&byte| byte.is_ascii_alphanumeric() || byte == b'-')
+}
+
+/// Whether a text may be a driver's name: 1 to 64 bytes, without controls, commas and double quotes. It takes no memory.
+pub fn is_name(text: &str) -> bool
+    ensures { IsTrue result ↔ IsName text.now }
+{
+    let bytes = text.as_bytes();
+    bytes.len() >= 1
+        && bytes.len() <= 64
+        && bytes.iter().all(|&byte| byte >= 0x20 && byte != 0x7f && byte != b',' && byte != b'"')
+}
+
+/// The first of `count` numbers that are given out where `given` are, or none where there aren't as many. It takes no memory.
+pub fn first_number(given: u32, count: u32) -> Option<u32>
+    ensures { result ≡ next_number given count }
+{
+    if given > MOST || count > MOST - given {
+        return None;
+    }
+    Some(given + 1)
+}
