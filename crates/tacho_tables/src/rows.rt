@@ -1,0 +1,51 @@
+ghost use Rattle.std.specs.Prelude.{◌≡◌, ℕ, pos, ◌∷◌, [], List, map, IfOk};
+ghost use Rattle.sqlite.specs.declared.types.Value.TheVariants.{Int};
+ghost use Rattle.tacho_tables.specs.Rows.{SpanRow};
+ghost use Rattle.tacho_tables.specs.Tables.{span_of, span_shown};
+
+use crate::fault::TableFault;
+use sqlite::Row;
+use std::alloc::Global;
+
+/// Minutes from `start` to before `past`, and the number of the mark that a driver has in them.
+#[derive(Clone, Copy, Debug, PartialEq, Eq)]
+pub struct StoredSpan {
+    pub start: u32,
+    pub past: u32,
+    pub mark: u32,
+}
+
+/// What is stored of a driver, but for his key and his name.
+#[derive(Debug, Drop)]
+pub struct StoredDriver {
+    /// The first 15 bytes of his card's identification.
+    pub holder: Vec<u8>,
+    /// The number of the day from which he is examined.
+    pub base: u32,
+    /// How many numbers were given out to his downloads.
+    pub downloads: u32,
+    /// How many numbers were given out to his entries.
+    pub entries: u32,
+}
+
+/// The span that a row of start, past and mark shows.
+fn stored_span(row: &Row) -> Result<StoredSpan, TableFault>
+    ensures { IfOk result (λ s. (r : SpanRow) → row.now ≡ span_shown r → s ≡ span_of r) }
+{
+    Ok(StoredSpan {
+        start: row.get(0)?,
+        past: row.get(1)?,
+        mark: row.get(2)?,
+    })
+}
+
+/// The spans that such rows show.
+pub(crate) fn stored_spans(alloc: Global, rows: &[Row]) -> Result<Vec<StoredSpan>, TableFault>
+    ensures { IfOk result (λ spans. (shown : List SpanRow) → rows.now ≡ map span_shown shown → spans.items ≡ map span_of shown) }
+{
+    let mut spans = Vec::new(alloc);
+    for row in rows {
+        spans.push(stored_span(row)?)?;
+    }
+    Ok(spans)
+}
