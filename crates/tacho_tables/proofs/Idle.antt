@@ -4,7 +4,7 @@ use Rattle.sqlite.specs.Order.{Row}
 use Rattle.sqlite_schema.specs.declared.schema.Keys.TheVariants.{Enforced}
 use Rattle.sqlite_schema.specs.declared.schema.Action.TheVariants.{NoAction}
 use Rattle.sqlite_rules.specs.Action.{works, deed_of}
-use Rattle.tacho_tables.specs.Tables.{archive_schema}
+use Rattle.tacho_tables.specs.Schema.{archive_schema}
 
 none : (b : Bool) → deed_of Enforced b (cond b NoAction NoAction) ≡ None
 none true = refl

@@ -14,8 +14,9 @@ use Rattle.sqlite.specs.State.{State, Shows, Executes, ExecutesInside, KeepsComm
 use Rattle.sqlite_resolve.specs.declared.compiled.Compiled.{Compiled}
 use Rattle.sqlite_schema.specs.declared.command.Returning.{Returning}
 use Rattle.std.proofs.Common.{Option, Some, None}
-use Rattle.tacho_tables.specs.Tables.{archive_schema}
-use Rattle.tacho_tables.specs.Archive.{GoesOn}
+use Rattle.std.proofs.lemmas.Result.{IfOk-weaker}
+use Rattle.tacho_tables.specs.Schema.{archive_schema}
+use Rattle.tacho_tables.proofs.Answers.{shown_same}
 
 pub ran_inside : {X : Type 0} (sql : List ℕ) (params : Row) (old new : State) (count : ℕ) (e : Error) → (old.in_transaction ≡ false → (Ok count ≡ Err e) × X)
     → (IsTrue old.in_transaction → ExecutesInside 0 sql params old new (Ok count)) → Executes sql params old new (Ok count) × Shows old new new.now old.committed true
@@ -23,9 +24,6 @@ ran_inside sql params old new count e ended runs = elim (cases_Bool old.in_trans
   | inl is ↦ let h = runs is in (h.0, h.1)
   | inr not ↦ absurd (let k = (ended not).0 in cc)
 ]
-
-pub goes_on : (old new : State) → Shows old new new.now old.committed true → new.now.schema ≡ archive_schema → GoesOn old new
-goes_on old new s schema = record { inside = s.mode; committed = s.committed_is; schema = schema }
 
 keeps_unchanged : (old new : State) → IsUnchanged old new → KeepsCommit old new
 keeps_unchanged old new h = record { was_open = λ _. h.0.was_open; committed = λ _. h.0.committed_is }
@@ -57,11 +55,17 @@ keeps_failed sql params old new e plain (inr h) =
     let bare = subst IsPlain h.1.is plain in
     keeps_unchanged old new (subst (FailsToShow old new sql h.0 (timed params h.0.formats h.1.now) e) bare.0 h.2).3
 
-pub keeps_read : (sql : List ℕ) (params : Row) (old new : State) (r : Result (Vec TheRow Global) Error) → IsPlain (understood old.now.schema sql) → IfOk r (λ rows. IsUnchanged old new)
+keeps_read : (sql : List ℕ) (params : Row) (old new : State) (r : Result (Vec TheRow Global) Error) → IsPlain (understood old.now.schema sql) → IfOk r (λ rows. IsUnchanged old new)
     → IfErr r (λ e. FailsToQuery sql params old new e ⊎ IsTooLate sql params old new e) → KeepsCommit old new
 keeps_read sql params old new (Ok rows) plain same fails = keeps_unchanged old new same
 keeps_read sql params old new (Err e) plain same (inl h) = keeps_failed sql params old new e plain h
 keeps_read sql params old new (Err e) plain same (inr h) = keeps_unchanged old new h.5
+
+-- a reading commits nothing
+pub keeps_reading : (sql : List ℕ) (params : Row) (old new : State) (r : Result (Vec TheRow Global) Error) → old.now.schema ≡ archive_schema → IsPlain (understood archive_schema sql)
+    → IfOk r (λ rows. Shown sql params old new rows.items) → IfErr r (λ e. FailsToQuery sql params old new e ⊎ IsTooLate sql params old new e) → KeepsCommit old new
+keeps_reading sql params old new r has plain shown fails =
+    keeps_read sql params old new r (subst (λ s. IsPlain (understood s sql)) (sym has) plain) (IfOk-weaker r _ _ (λ rows h. shown_same sql params old new archive_schema rows.items has plain h) shown) fails
 
 pub keeps_then : (a b c : State) → KeepsCommit a b → KeepsCommit b c → KeepsCommit a c
 keeps_then a b c p q = record { was_open = λ o. p.was_open (q.was_open o); committed = λ o. q.committed o ∙ p.committed (q.was_open o) }

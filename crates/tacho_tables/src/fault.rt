@@ -1,5 +1,5 @@
 use sqlite::Error;
-use std::alloc::AllocError;
+use std::alloc::AllocFailed;
 
 /// Why a call on the tables did nothing.
 #[derive(Clone, Copy, Debug, PartialEq, Eq)]
@@ -10,13 +10,13 @@ pub enum TableFault {
     Store,
 }
 
-impl From<AllocError> for TableFault {
+impl<T: Drop> From<AllocFailed<T>> for TableFault {
     ghost use Rattle.std.specs.Prelude.{◌≡◌};
     ghost use Rattle.tacho_tables.specs.declared.fault.TableFault.TheVariants.{Memory};
 
     ghost from_gives = { λ _ fault. fault ≡ Memory };
 
-    fn from(_: AllocError) -> TableFault {
+    fn from(_: AllocFailed<T>) -> TableFault {
         TableFault::Memory
     }
 }

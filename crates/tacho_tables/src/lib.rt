@@ -2,12 +2,8 @@
 //! within a transaction.
 #![tactic(auto)]
 
-pub mod card_spans;
-pub mod downloads;
-pub mod drivers;
 mod fault;
 pub mod held;
-pub mod making;
 mod rows;
 
 pub use fault::TableFault;

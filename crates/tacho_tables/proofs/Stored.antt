@@ -19,7 +19,7 @@ use Rattle.sqlite_rules.specs.Lists.{Has}
 use Rattle.sqlite_rules.specs.Edit.{id_in, without_all, put_all, is_taken, are_fresh}
 use Rattle.sqlite_rules.proofs.ListLemmas.{has_filtered, has_kept, some_has, some_from, all_from}
 use Rattle.sqlite_rules.proofs.TableLemmas.{put_has, without_all_has}
-use Rattle.tacho_tables.specs.Stands.{Stands}
+use Rattle.tacho_tables.specs.Rows.{Stands}
 
 pub put_shuffles : (new : Row) (rows : List Row) → is_taken rows new ≡ false → IsPermutation (new ∷ rows) (put_row new rows)
 put_shuffles new [] free = IsPermutation-refl _
@@ -55,6 +55,10 @@ free_from : (rows : List Row) (id : ℤ) (rest b : Row) → is_taken rows (Int i
 free_from rows id rest b free has is = true≢false (sym (some_from (λ r. is_eq (value_cmp (rowid r) (Int id))) rows b has (subst (λ v. is_eq (value_cmp v (Int id)) ≡ true) (sym is) (own_id id))) ∙ free)
 
 module _ {X : Type 0} (columns : X → Row) where
+  -- the order of the list means nothing
+  pub stands_shuffled : (rows : List Row) (all other : List X) → Stands columns rows all → IsPermutation (map columns other) (map columns all) → Stands columns rows other
+  stands_shuffled rows all other s same = record { stored = s.stored; apart = s.apart; same = IsPermutation-trans _ _ _ same s.same }
+
   pub stands_put : (rows : List Row) (all : List X) (id : ℤ) (x : X) → Stands columns rows all → is_taken rows (Int id ∷ columns x) ≡ false → Stands columns (put_row (Int id ∷ columns x) rows) (x ∷ all)
   stands_put rows all id x s free =
       let new : Row = Int id ∷ columns x in
