@@ -62,3 +62,35 @@ held_insert_is = record { meant = refl; plain = (refl, refl) }
 pub held_near_is : IsReading held_near_text 10 near three_shown by_start span_names
 unfolding understood everything
 held_near_is = record { meant = refl; unlisted = refl; plain = (refl, refl) }
+
+-- ---- card_spans
+
+abbrev pub card_insert_text : List ℕ
+card_insert_text = codes "INSERT INTO card_spans (driver, start, past, mark) VALUES (?1, ?2, ?3, ?4)"
+
+abbrev pub card_near_text : List ℕ
+card_near_text = codes "SELECT start, past, mark FROM card_spans WHERE driver = ?1 AND start < ?3 AND ?2 < past ORDER BY start"
+
+pub card_insert_is : IsStatement card_insert_text (Insert 3 (Values four 5))
+unfolding understood everything
+card_insert_is = record { meant = refl; plain = (refl, refl) }
+
+pub card_near_is : IsReading card_near_text 6 near three_shown by_start span_names
+unfolding understood everything
+card_near_is = record { meant = refl; unlisted = refl; plain = (refl, refl) }
+
+-- ---- downloads
+
+abbrev pub download_insert_text : List ℕ
+download_insert_text = codes "INSERT INTO downloads (driver, number, part, file) VALUES (?1, ?2, ?3, ?4)"
+
+abbrev pub file_text : List ℕ
+file_text = codes "SELECT file FROM downloads WHERE driver = ?1 AND number = ?2"
+
+pub download_insert_is : IsStatement download_insert_text (Insert 2 (Values four 5))
+unfolding understood everything
+download_insert_is = record { meant = refl; plain = (refl, refl) }
+
+pub file_is : IsReading file_text 4 numbered (col 1 4 ∷ []) [] (codes "file" ∷ [])
+unfolding understood everything
+file_is = record { meant = refl; unlisted = refl; plain = (refl, refl) }

@@ -1,6 +1,6 @@
 -- The six tables as lists of typed rows, and what a call within a transaction makes of them.
 use Rattle.std.specs.Prelude.{◌≡◌, ℕ, pos, Bool, ◌&&◌, ◌==◌, nat_lt, if◌then◌else◌, List, [], ◌∷◌, bytes_eq}
-use Rattle.sqlite.specs.declared.types.Value.TheVariants.{Null, Int}
+use Rattle.sqlite.specs.declared.types.Value.TheVariants.{Null, Int, Blob}
 use Rattle.sqlite.specs.Order.{Row}
 use Rattle.sqlite.specs.Tree.{Trees}
 use Rattle.sqlite.specs.State.{State}
@@ -40,9 +40,18 @@ row_of driver s = record { driver = driver; start = s.start; past = s.past; mark
 abbrev pub span_of : SpanRow → StoredSpan
 span_of r = record { start = r.start; past = r.past; mark = r.mark }
 
--- what a reading shows of a row
+-- what readings show of a row
 abbrev pub span_shown : SpanRow → Row
 span_shown r = Int (pos r.start) ∷ Int (pos r.past) ∷ Int (pos r.mark) ∷ []
+
+abbrev pub number_shown : DriverRow → Row
+number_shown r = Int (pos r.driver) ∷ []
+
+abbrev pub driver_shown : DriverRow → Row
+driver_shown r = Blob r.holder ∷ Int (pos r.base) ∷ Int (pos r.downloads) ∷ Int (pos r.entries) ∷ []
+
+abbrev pub file_shown : DownloadRow → Row
+file_shown r = Blob r.file ∷ []
 
 -- the download of the driver with this number
 abbrev pub is_download : ℕ → ℕ → DownloadRow → Bool

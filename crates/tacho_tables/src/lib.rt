@@ -2,8 +2,11 @@
 //! within a transaction.
 #![tactic(auto)]
 
+pub mod card_spans;
+pub mod downloads;
 mod fault;
 pub mod held;
+pub mod making;
 mod rows;
 
 pub use fault::TableFault;

@@ -1,7 +1,7 @@
-ghost use Rattle.std.specs.Prelude.{◌≡◌, ℕ, pos, ◌∷◌, [], List, map, IfOk};
-ghost use Rattle.sqlite.specs.declared.types.Value.TheVariants.{Int};
-ghost use Rattle.tacho_tables.specs.Rows.{SpanRow};
-ghost use Rattle.tacho_tables.specs.Tables.{span_of, span_shown};
+ghost use Rattle.std.specs.Prelude.{◌≡◌, ◌∷◌, [], List, map, IfOk, IfSome, IsNone, ◌↔◌};
+ghost use Rattle.sqlite.specs.Order.{Row as Values};
+ghost use Rattle.tacho_tables.specs.Rows.{SpanRow, DownloadRow};
+ghost use Rattle.tacho_tables.specs.Tables.{span_of, span_shown, file_shown};
 
 use crate::fault::TableFault;
 use sqlite::Row;
@@ -48,4 +48,15 @@ pub(crate) fn stored_spans(alloc: Global, rows: &[Row]) -> Result<Vec<StoredSpan
         spans.push(stored_span(row)?)?;
     }
     Ok(spans)
+}
+
+/// The file that the first of such rows shows, if there is one.
+pub(crate) fn first_file(rows: &[Row]) -> Result<Option<Vec<u8>>, TableFault>
+    ensures none { IfOk result (λ found. IsNone found ↔ (rows.now ≡ [])) }
+    ensures some { IfOk result (λ found. IfSome found (λ bytes. (r : DownloadRow) (more : List Values) → rows.now ≡ file_shown r ∷ more → bytes.items ≡ r.file)) }
+{
+    match rows.first() {
+        None => Ok(None),
+        Some(row) => Ok(Some(row.get(0)?)),
+    }
 }
