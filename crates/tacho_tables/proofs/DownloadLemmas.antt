@@ -1,6 +1,5 @@
 -- What the statements on `downloads` do.
-use Rattle.std.proofs.Common.{◌≡◌, ℕ, pos, ◌==◌, List, [], ◌∷◌, map, filter, codes, None, false, Ok, refl, sym, ap, subst, ◌∙◌, ◌&&◌}
-use Rattle.std.specs.Prelude.{Option}
+use Rattle.std.proofs.Common.{◌≡◌, ℕ, pos, ◌==◌, List, [], ◌∷◌, map, filter, codes, None, false, Ok, refl, sym, ap, subst, ◌&&◌}
 use Rattle.std.specs.List.Sorted.{IsPermutation}
 use Rattle.std.proofs.lemmas.Bool.{and_parts, not-true}
 use Rattle.std.proofs.lemmas.List.Sorted.{IsPermutation-trans}
@@ -15,7 +14,7 @@ use Rattle.sqlite.proofs.Callers.{reads_as}
 use Rattle.tacho_tables.specs.Schema.{archive_schema, to_driver}
 use Rattle.tacho_tables.specs.Schema as made
 use Rattle.tacho_tables.specs.Rows.{Stands, DownloadRow, download_columns}
-use Rattle.tacho_tables.specs.Tables.{Tables, Stand, Turns, is_download, file_shown}
+use Rattle.tacho_tables.specs.Tables.{Stand, Turns, is_download, file_shown}
 use Rattle.tacho_tables.proofs.Answers.{passes, listed, shows, eq_test}
 use Rattle.tacho_tables.proofs.Stored.{stands_put, shown_of}
 use Rattle.tacho_tables.proofs.Idle.{idle}

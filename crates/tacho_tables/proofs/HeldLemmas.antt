@@ -1,13 +1,11 @@
 -- What the statements on `held` do.
 use Rattle.std.proofs.Common.{◌≡◌, ℕ, List, ◌∷◌, ◌++◌, [], map, codes, Ok, refl}
-use Rattle.std.specs.List.Sorted.{IsPermutation}
 use Rattle.std.proofs.lemmas.List.Sorted.{IsPermutation-map}
-use Rattle.sqlite.specs.Tree.{Trees}
 use Rattle.tacho_tables.specs.declared.rows.StoredSpan.{StoredSpan}
 use Rattle.sqlite.specs.State.{State, Executes}
 use Rattle.tacho_tables.specs.Schema.{archive_schema}
 use Rattle.tacho_tables.specs.Rows.{SpanRow, span_columns}
-use Rattle.tacho_tables.specs.Tables.{Tables, Stand, Turns, row_of}
+use Rattle.tacho_tables.specs.Tables.{Tables, Turns, row_of}
 use Rattle.tacho_tables.proofs.Kept.{with_held}
 use Rattle.tacho_tables.proofs.SpanLemmas.{adds_span, HasLeft}
 use Rattle.tacho_tables.proofs.Stored.{stands_shuffled}

@@ -1,5 +1,5 @@
 -- No foreign key of the archive acts.
-use Rattle.std.proofs.Common.{◌≡◌, ℕ, ◌==◌, length, List, [], ◌∷◌, Bool, true, false, cond, None, refl}
+use Rattle.std.proofs.Common.{◌≡◌, ℕ, ◌==◌, length, List, [], Bool, true, false, cond, None, refl}
 use Rattle.sqlite.specs.Order.{Row}
 use Rattle.sqlite_schema.specs.declared.schema.Keys.TheVariants.{Enforced}
 use Rattle.sqlite_schema.specs.declared.schema.Action.TheVariants.{NoAction}

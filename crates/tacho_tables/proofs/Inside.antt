@@ -1,9 +1,9 @@
 -- A statement that went well inside a transaction.
-use Rattle.std.proofs.Common.{◌≡◌, ℕ, Bool, true, false, List, Ok, Err, Result, IsTrue, refl, sym, inl, inr, ◌⊎◌}
+use Rattle.std.proofs.Common.{◌≡◌, ℕ, true, false, List, Ok, Err, Result, IsTrue, refl, sym, inl, inr, ◌⊎◌}
 use Rattle.std.proofs.lemmas.Bool.{cases_Bool}
 use Rattle.sqlite.specs.declared.error.Error.{Error}
 use Rattle.sqlite.specs.Order.{Row}
-use Rattle.std.proofs.Common.{subst, ap, ◌∙◌, IfOk, IfErr, Vec, Global}
+use Rattle.std.proofs.Common.{subst, ◌∙◌, IfOk, IfErr, Vec, Global}
 use Rattle.sqlite.specs.Store.{Ghosts}
 use Rattle.sqlite.specs.Held.{Held, state}
 use Rattle.sqlite.specs.Clock.{timed}

@@ -1,5 +1,5 @@
 -- What rows of spans are read as.
-use Rattle.std.proofs.Common.{◌≡◌, ◌∙◌, ℕ, List, [], ◌∷◌, map, length, refl, sym, ap, inl, Option, Some, None, Result, Ok, Err, IfOk, arith}
+use Rattle.std.proofs.Common.{◌≡◌, ◌∙◌, List, [], ◌∷◌, map, refl, sym, ap, Option, Some, None, Result, Ok, Err, IfOk, arith}
 use Rattle.std.specs.Prelude.{Contains, IfSome, IsNone, MatchOption, ◌↔◌}
 use Rattle.std.specs.List.Sorted.{IsPermutation}
 use Rattle.std.proofs.lemmas.List.Sorted.{IsPermutation-sym, Contains-permutation, length_permutation}
@@ -41,3 +41,8 @@ first_found show is found rows xs same none some = let it = pull_back show _ row
 pub ok_both : {X E : Type 0} (r : Result X E) {P Q R : X → Type 0} → ((x : X) → P x → Q x → R x) → IfOk r P → IfOk r Q → IfOk r R
 ok_both (Ok x) both p q = both x p q
 ok_both (Err e) both p q = tt
+
+-- a fact on what there may be gives a weaker one
+pub some_weaker : {X : Type 0} (o : Option X) (P : Type 0) {Q R : X → Type 0} → ((x : X) → Q x → R x) → MatchOption o P Q → MatchOption o P R
+some_weaker None P weaker h = h
+some_weaker (Some x) P weaker h = weaker x h

@@ -1,9 +1,9 @@
 -- What the statements on a table of spans do.
-use Rattle.std.proofs.Common.{◌≡◌, ℕ, pos, ◌==◌, ◌^◌, leb, List, [], ◌∷◌, ◌++◌, map, filter, slice_get, Bool, true, false, cond, not, ◌&&◌, None, Some, Ok, unwrap_or, refl, sym, ap, subst, ◌∙◌, arith}
+use Rattle.std.proofs.Common.{◌≡◌, ℕ, pos, ◌==◌, ◌^◌, leb, List, [], ◌∷◌, ◌++◌, map, filter, slice_get, Bool, true, false, cond, ◌&&◌, None, Some, Ok, unwrap_or, refl, sym, ap, subst, ◌∙◌}
 use Rattle.std.specs.Prelude.{nat_lt}
 use Rattle.std.specs.List.Sorted.{IsPermutation}
 use Rattle.std.proofs.lemmas.Bool.{and_parts, not-true}
-use Rattle.std.proofs.lemmas.List.Sorted.{IsPermutation-refl, IsPermutation-trans, IsPermutation-sym, IsPermutation-map, IsPermutation-middle}
+use Rattle.std.proofs.lemmas.List.Sorted.{IsPermutation-trans, IsPermutation-sym, IsPermutation-map, IsPermutation-middle}
 use Rattle.sqlite.specs.declared.types.Value.{Value}
 use Rattle.sqlite.specs.declared.types.Value.TheVariants.{Null, Int}
 use Rattle.sqlite.specs.Command.TheVariants.{Insert}

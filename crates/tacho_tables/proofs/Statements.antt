@@ -1,8 +1,8 @@
 -- What the statements on spans and downloads are.
-use Rattle.std.proofs.Common.{◌≡◌, ℕ, List, [], ◌∷◌, ◌++◌, codes, true, false, refl, pos, None, Some}
+use Rattle.std.proofs.Common.{◌≡◌, ℕ, List, [], ◌∷◌, codes, false, refl, pos}
 use Rattle.sqlite.specs.declared.types.Value.TheVariants.{Null, Int}
 use Rattle.sqlite.specs.Command.{Command}
-use Rattle.sqlite.specs.Command.TheVariants.{Insert, Select}
+use Rattle.sqlite.specs.Command.TheVariants.{Insert, Select, Update}
 use Rattle.sqlite.specs.Source.TheVariants.{Values}
 use Rattle.sqlite.specs.Term.{Term, lit, col, op2}
 use Rattle.sqlite_sql.specs.declared.ops.BinaryOp.TheVariants.{Compare}
@@ -94,3 +94,60 @@ download_insert_is = record { meant = refl; plain = (refl, refl) }
 pub file_is : IsReading file_text 4 numbered (col 1 4 ∷ []) [] (codes "file" ∷ [])
 unfolding understood everything
 file_is = record { meant = refl; unlisted = refl; plain = (refl, refl) }
+
+-- ---- drivers
+
+abbrev pub driver_insert_text : List ℕ
+driver_insert_text = codes "INSERT INTO drivers (driver, holder, secret, base, name, downloads, entries) VALUES (?1, ?2, ?3, ?4, ?5, 0, 0)"
+
+abbrev pub by_number_text : List ℕ
+by_number_text = codes "SELECT holder, base, downloads, entries FROM drivers WHERE driver = ?1"
+
+abbrev pub by_secret_text : List ℕ
+by_secret_text = codes "SELECT driver FROM drivers WHERE secret = ?1"
+
+abbrev pub by_holder_text : List ℕ
+by_holder_text = codes "SELECT driver FROM drivers WHERE holder = ?1"
+
+abbrev pub base_text : List ℕ
+base_text = codes "UPDATE drivers SET base = ?2 WHERE driver = ?1"
+
+abbrev pub count_text : List ℕ
+count_text = codes "UPDATE drivers SET downloads = ?2 WHERE driver = ?1"
+
+abbrev pub driver_values : List Term
+driver_values = col 0 0 ∷ lit Null ∷ col 0 1 ∷ col 0 2 ∷ col 0 3 ∷ col 0 4 ∷ lit (Int (pos 0)) ∷ lit (Int (pos 0)) ∷ []
+
+-- the column is the first parameter
+abbrev pub column_is : ℕ → List Term
+column_is place = op2 (Compare Eq Binary) (col 1 place) (col 0 0) ∷ []
+
+abbrev pub with_base_shown : List Term
+with_base_shown = col 1 0 ∷ col 1 0 ∷ lit Null ∷ col 1 2 ∷ col 1 3 ∷ col 0 1 ∷ col 1 5 ∷ col 1 6 ∷ col 1 7 ∷ []
+
+abbrev pub with_count_shown : List Term
+with_count_shown = col 1 0 ∷ col 1 0 ∷ lit Null ∷ col 1 2 ∷ col 1 3 ∷ col 1 4 ∷ col 1 5 ∷ col 0 1 ∷ col 1 7 ∷ []
+
+pub driver_insert_is : IsStatement driver_insert_text (Insert 1 (Values driver_values 8))
+unfolding understood everything
+driver_insert_is = record { meant = refl; plain = (refl, refl) }
+
+pub by_number_is : IsReading by_number_text 1 (column_is 0) (col 1 2 ∷ col 1 4 ∷ col 1 6 ∷ col 1 7 ∷ []) [] (codes "holder" ∷ codes "base" ∷ codes "downloads" ∷ codes "entries" ∷ [])
+unfolding understood everything
+by_number_is = record { meant = refl; unlisted = refl; plain = (refl, refl) }
+
+pub by_secret_is : IsReading by_secret_text 1 (column_is 3) (col 1 0 ∷ []) [] (codes "driver" ∷ [])
+unfolding understood everything
+by_secret_is = record { meant = refl; unlisted = refl; plain = (refl, refl) }
+
+pub by_holder_is : IsReading by_holder_text 1 (column_is 2) (col 1 0 ∷ []) [] (codes "driver" ∷ [])
+unfolding understood everything
+by_holder_is = record { meant = refl; unlisted = refl; plain = (refl, refl) }
+
+pub base_is : IsStatement base_text (Update 1 (record { lets = []; body = simple 1 (column_is 0) with_base_shown [] }))
+unfolding understood everything
+base_is = record { meant = refl; plain = (refl, refl) }
+
+pub count_is : IsStatement count_text (Update 1 (record { lets = []; body = simple 1 (column_is 0) with_count_shown [] }))
+unfolding understood everything
+count_is = record { meant = refl; plain = (refl, refl) }

@@ -1,14 +1,14 @@
 -- What an edit of rows makes of the list that they stand for.
-use Rattle.std.proofs.Common.{◌≡◌, ℕ, ℤ, pos, ◌+◌, length, map, drop, Bool, true, false, not, ◌&&◌, ◌||◌, cond, List, [], ◌∷◌, ◌++◌, filter, Ordering, Less, Equal, Greater, refl, sym, ap, ◌∙◌, subst, inl, inr, true≢false, arith}
-use Rattle.std.specs.List.{AllByRecursion, list_any, list_all}
+use Rattle.std.proofs.Common.{◌≡◌, ℤ, map, drop, Bool, true, false, not, ◌||◌, cond, List, [], ◌∷◌, filter, Ordering, Less, Equal, Greater, refl, sym, ap, ◌∙◌, subst, inl, inr, true≢false, arith}
+use Rattle.std.specs.List.{AllByRecursion, list_any}
 use Rattle.std.specs.List.Sorted.{IsPermutation}
 use Rattle.std.specs.Ordering.{is_eq, match_ordering, int_cmp}
-use Rattle.std.proofs.lemmas.Bool.{and_parts, or_parts, not-true, cases_Bool}
+use Rattle.std.proofs.lemmas.Bool.{or_parts}
 use Rattle.std.specs.Cmp.{both_ways}
-use Rattle.std.proofs.lemmas.List.Sorted.{IsPermutation-refl, IsPermutation-sym, IsPermutation-trans, IsPermutation-cons, IsPermutation-middle, IsPermutation-map, IsPermutation-append, IsPermutation-append_comm, list_any-IsPermutation}
+use Rattle.std.proofs.lemmas.List.Sorted.{IsPermutation-refl, IsPermutation-trans, IsPermutation-cons, IsPermutation-middle, IsPermutation-map, list_any-IsPermutation}
 use Rattle.sqlite_value.specs.declared.value.Value.{Value}
-use Rattle.sqlite_value.specs.declared.value.Value.TheVariants.{Null, Int, Real, Text, Blob}
-use Rattle.sqlite_value.specs.Order.{Row, column, value_cmp}
+use Rattle.sqlite_value.specs.declared.value.Value.TheVariants.{Null, Int}
+use Rattle.sqlite_value.specs.Order.{Row, value_cmp}
 use Rattle.sqlite_value.proofs.OrderLemmas.{value_cmp-Int}
 use Rattle.std.proofs.lemmas.Cmp.{int_cmp_total, tied_itself}
 use Rattle.std.proofs.lemmas.Int.{ints}
@@ -16,9 +16,9 @@ use Rattle.sqlite_trees.specs.Tree.{rowid, has_rowid, put_row, without_rowid}
 use Rattle.sqlite_trees.proofs.ListLemmas.{map-map, IsPermutation-filter, filter-map, filter_same, filter_all}
 use Rattle.sqlite_rules.specs.Calls.{ids_of}
 use Rattle.sqlite_rules.specs.Lists.{Has}
-use Rattle.sqlite_rules.specs.Edit.{id_in, without_all, put_all, is_taken, are_fresh}
+use Rattle.sqlite_rules.specs.Edit.{id_in, without_all, is_taken}
 use Rattle.sqlite_rules.proofs.ListLemmas.{has_filtered, has_kept, some_has, some_from, all_from}
-use Rattle.sqlite_rules.proofs.TableLemmas.{put_has, without_all_has}
+use Rattle.sqlite_rules.proofs.TableLemmas.{put_has}
 use Rattle.tacho_tables.specs.Rows.{Stands}
 
 pub put_shuffles : (new : Row) (rows : List Row) → is_taken rows new ≡ false → IsPermutation (new ∷ rows) (put_row new rows)
@@ -51,7 +51,7 @@ own_id a = ap is_eq (value_cmp-Int a a) ∙ ap is_eq (tied_itself int_cmp_total 
 
 -- ---- the edits of rows that stand for a list
 
-free_from : (rows : List Row) (id : ℤ) (rest b : Row) → is_taken rows (Int id ∷ rest) ≡ false → Has rows b → rowid b ≡ Int id → ⊥
+pub free_from : (rows : List Row) (id : ℤ) (rest b : Row) → is_taken rows (Int id ∷ rest) ≡ false → Has rows b → rowid b ≡ Int id → ⊥
 free_from rows id rest b free has is = true≢false (sym (some_from (λ r. is_eq (value_cmp (rowid r) (Int id))) rows b has (subst (λ v. is_eq (value_cmp v (Int id)) ≡ true) (sym is) (own_id id))) ∙ free)
 
 module _ {X : Type 0} (columns : X → Row) where
@@ -111,7 +111,12 @@ without_all_is (id ∷ ids) rows = without_all_is ids (without_rowid id rows) �
     both p q [] = refl
     both p q (r ∷ rows) = step p q r rows (p r) (q r) refl refl ∙ ap (λ xs. cond (not (p r || q r)) (r ∷ xs) xs) (both p q rows)
 
-module _ {X : Type 0} (columns : X → Row) (rows : List Row) (all : List X) (s : Stands columns rows all) (p : Row → Bool) (t : X → Bool) (deaf : (v : Value) (x : X) → p (v ∷ columns x) ≡ t x) where
+-- rows with numbers, of which no two are one
+pub record AreNumbered (rows : List Row) : Type 0 where
+  pub numbered : (r : Row) → Has rows r → (id : ℤ) × (rowid r ≡ Int id)
+  pub apart : (a b : Row) → Has rows a → Has rows b → rowid a ≡ rowid b → a ≡ b
+
+module _ (rows : List Row) (s : AreNumbered rows) (p : Row → Bool) where
   -- a row has one of the numbers that were found exactly where it passes
   found_is : (out : List Row) → IsPermutation (map (λ r. rowid r ∷ []) (filter p rows)) out → (r : Row) → Has rows r → list_any (λ id. has_rowid id r) (ids_of out) ≡ p r
   found_is out same r has =
@@ -124,25 +129,22 @@ module _ {X : Type 0} (columns : X → Row) (rows : List Row) (all : List X) (s 
       sound h =
           let it = some_has (λ o. has_rowid (id_in (rowid o)) r) (filter p rows) h in
           let was = has_filtered p rows it.0 it.1 in
-          let o = s.stored it.0 was.0 in
-          let own = s.stored r has in
-          let met : is_eq (value_cmp (Int own.0) (Int o.0)) ≡ true = subst (λ (z : Row). is_eq (value_cmp (rowid z) (Int o.0)) ≡ true) own.2 (subst (λ (z : Row). has_rowid (id_in (rowid z)) r ≡ true) o.2 it.2) in
-          let one : rowid it.0 ≡ rowid r = ap rowid o.2 ∙ ap Int (sym (same_id own.0 o.0 met)) ∙ sym (ap rowid own.2) in
+          let o = s.numbered it.0 was.0 in
+          let own = s.numbered r has in
+          let met : is_eq (value_cmp (Int own.0) (Int o.0)) ≡ true = subst (λ v. is_eq (value_cmp v (Int o.0)) ≡ true) own.1 (subst (λ v. has_rowid (id_in v) r ≡ true) o.1 it.2) in
+          let one : rowid it.0 ≡ rowid r = o.1 ∙ ap Int (sym (same_id own.0 o.0 met)) ∙ sym own.1 in
           subst (λ z. p z ≡ true) (s.apart it.0 r was.0 has one) was.1
 
       complete : p r ≡ true → list_any (λ o. has_rowid (id_in (rowid o)) r) (filter p rows) ≡ true
       complete h =
-          let own = s.stored r has in
-          some_from (λ o. has_rowid (id_in (rowid o)) r) (filter p rows) r (has_kept p rows r has h)
-          (subst (λ (z : Row). has_rowid (id_in (rowid z)) z ≡ true) (sym own.2) (own_id own.0))
+          let own = s.numbered r has in
+          some_from (λ o. has_rowid (id_in (rowid o)) r) (filter p rows) r (has_kept p rows r has h) (subst (λ v. is_eq (value_cmp v (Int (id_in v))) ≡ true) (sym own.1) (own_id own.0))
 
-  left_is : (out : List Row) → IsPermutation (map (λ r. rowid r ∷ []) (filter p rows)) out → without_all rows (ids_of out) ≡ filter (λ r. not (p r)) rows
+  -- without those that were found, what is left is what doesn't pass
+  pub left_is : (out : List Row) → IsPermutation (map (λ r. rowid r ∷ []) (filter p rows)) out → without_all rows (ids_of out) ≡ filter (λ r. not (p r)) rows
   left_is out same = without_all_is (ids_of out) rows ∙ filter_same _ (λ r. not (p r)) rows (all_from _ rows (λ r has. ap not (found_is out same r has)))
 
-  pub stands_left : (out : List Row) → IsPermutation (map (λ r. rowid r ∷ []) (filter p rows)) out → Stands columns (without_all rows (ids_of out)) (filter (λ x. not (t x)) all)
-  stands_left out same =
-      subst (λ xs. Stands columns xs (filter (λ x. not (t x)) all)) (sym (left_is out same)) (stands_filter columns (λ r. not (p r)) (λ x. not (t x)) (λ v x. ap not (deaf v x)) rows all s)
-
+module _ {X : Type 0} (columns : X → Row) (rows : List Row) (all : List X) (s : Stands columns rows all) (p : Row → Bool) (t : X → Bool) (deaf : (v : Value) (x : X) → p (v ∷ columns x) ≡ t x) where
   -- what a query shows of the rows that pass
   pub shown_of : {Y : Type 0} (f : Row → Y) (show : X → Y) → ((v : Value) (x : X) → f (v ∷ columns x) ≡ show x) → IsPermutation (map show (filter t all)) (map f (filter p rows))
   shown_of f show same =

@@ -1,6 +1,5 @@
 -- What the six texts define.
-use Rattle.std.proofs.Common.{◌≡◌, ℕ, List, [], ◌∷◌, codes, true, false, Ok, refl}
-use Rattle.sqlite.specs.Schema.{Schema}
+use Rattle.std.proofs.Common.{codes, refl}
 use Rattle.sqlite_tied.specs.Compute.{everything}
 use Rattle.sqlite.specs.Listing.{understood}
 use Rattle.tacho_tables.specs.Making.{IsCreate}

@@ -4,6 +4,7 @@
 
 pub mod card_spans;
 pub mod downloads;
+pub mod drivers;
 mod fault;
 pub mod held;
 pub mod making;

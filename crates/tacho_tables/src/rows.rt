@@ -1,7 +1,7 @@
 ghost use Rattle.std.specs.Prelude.{◌≡◌, ◌∷◌, [], List, map, IfOk, IfSome, IsNone, ◌↔◌};
 ghost use Rattle.sqlite.specs.Order.{Row as Values};
-ghost use Rattle.tacho_tables.specs.Rows.{SpanRow, DownloadRow};
-ghost use Rattle.tacho_tables.specs.Tables.{span_of, span_shown, file_shown};
+ghost use Rattle.tacho_tables.specs.Rows.{SpanRow, DownloadRow, DriverRow};
+ghost use Rattle.tacho_tables.specs.Tables.{span_of, span_shown, file_shown, number_shown, driver_shown};
 
 use crate::fault::TableFault;
 use sqlite::Row;
@@ -58,5 +58,33 @@ pub(crate) fn first_file(rows: &[Row]) -> Result<Option<Vec<u8>>, TableFault>
     match rows.first() {
         None => Ok(None),
         Some(row) => Ok(Some(row.get(0)?)),
+    }
+}
+
+/// The number that the first of such rows shows, if there is one.
+pub(crate) fn first_number(rows: &[Row]) -> Result<Option<u32>, TableFault>
+    ensures none { IfOk result (λ found. IsNone found ↔ (rows.now ≡ [])) }
+    ensures some { IfOk result (λ found. IfSome found (λ number. (r : DriverRow) (more : List Values) → rows.now ≡ number_shown r ∷ more → number ≡ r.driver)) }
+{
+    match rows.first() {
+        None => Ok(None),
+        Some(row) => Ok(Some(row.get(0)?)),
+    }
+}
+
+/// The driver that the first of such rows shows, if there is one.
+pub(crate) fn first_driver(rows: &[Row]) -> Result<Option<StoredDriver>, TableFault>
+    ensures none { IfOk result (λ found. IsNone found ↔ (rows.now ≡ [])) }
+    ensures some { IfOk result (λ found. IfSome found (λ d. (r : DriverRow) (more : List Values) → rows.now ≡ driver_shown r ∷ more
+        → (d.holder.items ≡ r.holder) × (d.base ≡ r.base) × (d.downloads ≡ r.downloads) × (d.entries ≡ r.entries))) }
+{
+    match rows.first() {
+        None => Ok(None),
+        Some(row) => Ok(Some(StoredDriver {
+            holder: row.get(0)?,
+            base: row.get(1)?,
+            downloads: row.get(2)?,
+            entries: row.get(3)?,
+        })),
     }
 }

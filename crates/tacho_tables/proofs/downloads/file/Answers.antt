@@ -1,4 +1,4 @@
-use Rattle.std.proofs.Common.{◌≡◌, ◌∙◌, subst, sym, map, filter, IsPermutation}
+use Rattle.std.proofs.Common.{◌≡◌, subst, sym, map, filter, IsPermutation}
 use Rattle.std.proofs.lemmas.Result.{IfOk-weaker}
 use Rattle.sqlite.specs.Held.{state}
 use Rattle.tacho_tables.specs.Schema.{archive_schema}

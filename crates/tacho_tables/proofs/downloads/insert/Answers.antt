@@ -1,4 +1,3 @@
-use Rattle.std.proofs.Common.{◌≡◌}
 use Rattle.sqlite.specs.Held.{state}
 use Rattle.tacho_tables.proofs.DownloadLemmas.{adds_download}
 use Rattle.tacho_tables.proofs.Inside.{ran_inside, keeps_ran}

@@ -1,4 +1,3 @@
-use Rattle.std.proofs.Common.{◌≡◌}
 use Rattle.sqlite.specs.Held.{state}
 use Rattle.tacho_tables.specs.Tables.{row_of}
 use Rattle.tacho_tables.proofs.HeldLemmas.{adds_held}

@@ -1,8 +1,8 @@
-use Rattle.std.proofs.Common.{◌∙◌, arith}
+use Rattle.std.proofs.Common.{arith}
 use Rattle.sqlite.specs.State.{HasCleanDisk}
 use Rattle.sqlite.specs.Held.{state}
 use Rattle.tacho_tables.proofs.MakingLemmas.{makes_archive}
-use Rattle.tacho_tables.proofs.Inside.{ran_inside, keeps_ran, keeps_then}
+use Rattle.tacho_tables.proofs.Inside.{ran_inside}
 use Rattle.tacho_tables.proofs.making.make_all.Goals as goal
 
 pub returns-clause-made : goal.returns-clause-made

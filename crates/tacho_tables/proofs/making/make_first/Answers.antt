@@ -1,6 +1,5 @@
-use Rattle.std.proofs.Common.{◌∙◌, arith}
+use Rattle.std.proofs.Common.{◌∙◌}
 use Rattle.std.proofs.lemmas.Result.{on_ok_weaker}
-use Rattle.sqlite.specs.Held.{state}
 use Rattle.tacho_tables.specs.Schema.{no_schema, schema_1, schema_2, meta, drivers, downloads}
 use Rattle.tacho_tables.proofs.Texts.{makes_meta, makes_drivers, makes_downloads}
 use Rattle.tacho_tables.proofs.making.make_first.Goals as goal

@@ -1,6 +1,5 @@
-use Rattle.std.proofs.Common.{◌∙◌, codes, arith}
+use Rattle.std.proofs.Common.{◌∙◌, codes}
 use Rattle.std.proofs.lemmas.Result.{on_ok_weaker}
-use Rattle.sqlite.specs.Held.{state}
 use Rattle.tacho_tables.specs.Schema.{schema_3, schema_4, schema_5, spans, entries}
 use Rattle.tacho_tables.proofs.Texts.{makes_card_spans, makes_entries, makes_held}
 use Rattle.tacho_tables.proofs.making.make_rest.Goals as goal

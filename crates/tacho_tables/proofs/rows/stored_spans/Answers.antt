@@ -1,7 +1,6 @@
-use Rattle.std.proofs.Common.{◌≡◌, ◌∙◌, ℕ, suc, ◌+◌, ap, sym, arith, drop, get_or, drop-cons, add-one, [], ◌∷◌, ◌++◌, List, map, append_assoc}
+use Rattle.std.proofs.Common.{◌≡◌, ◌∙◌, suc, ◌+◌, ap, sym, drop, drop-cons, add-one, [], ◌∷◌, ◌++◌, List, map, append_assoc}
 use Rattle.sqlite.specs.Order.{Row}
-use Rattle.tacho_tables.specs.Rows.{SpanRow}
-use Rattle.tacho_tables.specs.Tables.{span_of, span_shown}
+use Rattle.tacho_tables.specs.Tables.{span_of}
 use Rattle.tacho_tables.proofs.Reading.{reads_first}
 use Rattle.tacho_tables.proofs.rows.stored_spans.Goals as goal
 
