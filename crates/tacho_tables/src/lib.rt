@@ -12,3 +12,6 @@ mod rows;
 
 pub use fault::TableFault;
 pub use rows::{StoredDriver, StoredSpan};
+
+#[cfg(test)]
+mod tests;
