@@ -59,9 +59,11 @@ adds_driver old new driver holder secret base name count has h =
 pub number_test : (driver : ℕ) (x : DriverRow) → passes (column_is 0) (Int (pos driver) ∷ []) (driver_row x) ≡ has_number driver x
 number_test driver x = rw (eq_test x.driver driver) (and-true (x.driver == driver))
 
+-- and by key
 pub secret_test : (secret : List ℕ) (x : DriverRow) → passes (column_is 3) (Text secret ∷ []) (driver_row x) ≡ has_secret secret x
 secret_test secret x = rw (text_test x.secret secret) (and-true (bytes_eq x.secret secret))
 
+-- and by holder
 pub holder_test : (holder : List ℕ) (x : DriverRow) → passes (column_is 2) (Blob holder ∷ []) (driver_row x) ≡ has_holder holder x
 holder_test holder x = rw (blob_test x.holder holder) (and-true (bytes_eq x.holder holder))
 
@@ -78,9 +80,11 @@ shows_drivers text tests terms names it params t deaf show same old new rows has
 -- ---- changes
 
 module _ (old new : State) (driver value count : ℕ) (has : old.now.schema ≡ archive_schema) where
+  -- the parameters
   abbrev params : Row
   params = Int (pos driver) ∷ Int (pos value) ∷ []
 
+  -- the row that is stored of what an UPDATE shows
   abbrev new_of : Row → Row
   new_of s = cast_row (record made.drivers { tree = 1 }) (drop 1 s)
 

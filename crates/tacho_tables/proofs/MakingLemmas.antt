@@ -49,15 +49,19 @@ makes schema table text old new count has it h shown =
 
 -- ---- the row of meta
 
+-- the text that adds it
 abbrev pub meta_row_text : List ℕ
 meta_row_text = codes "INSERT INTO meta (id, version) VALUES (1, 1)"
 
+-- its values
 abbrev meta_values : List Term
 meta_values = lit (Int (pos 1)) ∷ lit Null ∷ lit (Int (pos 1)) ∷ []
 
+-- the row
 abbrev meta_row : Row
 meta_row = Int (pos 1) ∷ Null ∷ Int (pos 1) ∷ []
 
+-- the text means so
 meta_row_is : IsStatement meta_row_text (Insert 0 (Values meta_values 3))
 unfolding understood everything
 meta_row_is = record { meant = refl; plain = (refl, refl) }
@@ -66,6 +70,7 @@ meta_row_is = record { meant = refl; plain = (refl, refl) }
 nothing_stands : {X : Type 0} (columns : X → Row) (rows : List Row) → rows ≡ [] → Stands columns rows []
 nothing_stands columns rows none = subst (λ rs. Stands columns rs []) (sym none) (record { stored = λ r has. absurd has; apart = λ a b has other same. absurd has; same = IsPermutation-refl [] })
 
+-- and no drivers
 no_driver_stands : (rows : List Row) → rows ≡ [] → StandNumbered rows []
 no_driver_stands rows none = subst (λ rs. StandNumbered rs []) (sym none) (record { apart = λ a b has other same. absurd has; same = IsPermutation-refl [] })
 

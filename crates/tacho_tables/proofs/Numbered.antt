@@ -16,14 +16,17 @@ use Rattle.sqlite_rules.proofs.TableLemmas.{put_has}
 use Rattle.tacho_tables.specs.Rows.{DriverRow, driver_row, StandNumbered}
 use Rattle.tacho_tables.proofs.Stored.{AreNumbered, left_is, put_shuffles, map_same, free_from}
 
+-- what holds of all rows holds of one
 picked : (P : Row → Type 0) (rows : List Row) → AllByRecursion P rows → (r : Row) → Has rows r → P r
 picked P [] all r has = absurd has
 picked P (x ∷ rows) all r (inl is) = subst P (sym is) all.0
 picked P (x ∷ rows) all r (inr later) = picked P rows all.1 r later
 
+-- a row of a driver
 abbrev IsDriver : Row → Type 0
 IsDriver r = (x : DriverRow) × (r ≡ driver_row x)
 
+-- the rows of drivers are such
 each_driver : (all : List DriverRow) → AllByRecursion IsDriver (map driver_row all)
 each_driver [] = tt
 each_driver (x ∷ all) = ((x, refl), each_driver all)
@@ -32,6 +35,7 @@ each_driver (x ∷ all) = ((x, refl), each_driver all)
 drivers_only : (rows : List Row) (all : List DriverRow) → StandNumbered rows all → (r : Row) → Has rows r → IsDriver r
 drivers_only rows all s = picked IsDriver rows (all-permutation IsDriver (map driver_row all) rows s.same (each_driver all))
 
+-- so the rows have numbers
 are_numbered : (rows : List Row) (all : List DriverRow) → StandNumbered rows all → AreNumbered rows
 are_numbered rows all s = record { numbered = λ r has. let it = drivers_only rows all s r has in (pos it.0.driver, ap rowid it.1); apart = s.apart }
 
@@ -39,6 +43,7 @@ are_numbered rows all s = record { numbered = λ r has. let it = drivers_only ro
 numbered_shuffled : (rows : List Row) (all other : List DriverRow) → StandNumbered rows all → IsPermutation other all → StandNumbered rows other
 numbered_shuffled rows all other s same = record { apart = s.apart; same = IsPermutation-trans _ _ _ (IsPermutation-map driver_row other all same) s.same }
 
+-- one driver more
 pub numbered_put : (rows : List Row) (all : List DriverRow) (x : DriverRow) → StandNumbered rows all → is_taken rows (driver_row x) ≡ false → StandNumbered (put_row (driver_row x) rows) (x ∷ all)
 numbered_put rows all x s free =
     let new : Row = driver_row x in
@@ -56,6 +61,7 @@ numbered_put rows all x s free =
       same = IsPermutation-trans _ _ _ (IsPermutation-cons new _ _ s.same) (put_shuffles new rows free);
     }
 
+-- more drivers, one after the other
 numbered_put_all : (xs : List DriverRow) (rows : List Row) (all : List DriverRow) → StandNumbered rows all → are_fresh rows (map driver_row xs) ≡ true → StandNumbered (put_all rows (map driver_row xs)) (xs ++ all)
 numbered_put_all [] rows all s fresh = s
 numbered_put_all (x ∷ xs) rows all s fresh =
@@ -63,6 +69,7 @@ numbered_put_all (x ∷ xs) rows all s fresh =
     let later = numbered_put_all xs (put_row (driver_row x) rows) (x ∷ all) (numbered_put rows all x s (not-true _ parts.0)) parts.1 in
     numbered_shuffled _ _ _ later (IsPermutation-sym _ _ (IsPermutation-middle xs x all))
 
+-- the drivers that pass
 numbered_filter : (p : Row → Bool) (t : DriverRow → Bool) (deaf : (x : DriverRow) → p (driver_row x) ≡ t x) (rows : List Row) (all : List DriverRow) → StandNumbered rows all → StandNumbered (filter p rows) (filter t all)
 numbered_filter p t deaf rows all s = record {
   apart = λ a b here there. s.apart a b (has_filtered p rows a here).0 (has_filtered p rows b there).0;
@@ -77,6 +84,7 @@ numbered_shown p t deaf f show same rows all s =
     let left : map f (map driver_row (filter t all)) ≡ map show (filter t all) = map-map f driver_row (filter t all) ∙ map_same _ show (filter t all) (all_from _ (filter t all) (λ x _. same x)) in
     subst (λ xs. IsPermutation xs (map f (filter p rows))) left (IsPermutation-map f (map driver_row (filter t all)) (filter p rows) k.same)
 
+-- a change that leaves each element leaves the list
 unmoved : {X : Type 0} (f : X → X) (xs : List X) → AllByRecursion (λ x. f x ≡ x) xs → map f xs ≡ xs
 unmoved f [] all = refl
 unmoved f (x ∷ xs) all = rw (all.0, unmoved f xs all.1) refl

@@ -9,9 +9,11 @@ use Rattle.tacho_tables.specs.declared.rows.StoredSpan.{StoredSpan}
 use Rattle.tacho_tables.specs.Rows.{SpanRow}
 use Rattle.tacho_tables.specs.Tables.{span_of, span_shown}
 
+-- equal lists have equal heads
 head_is : {A : Type 0} {x y : A} {xs ys : List A} → x ∷ xs ≡ y ∷ ys → x ≡ y
 head_is e = cc
 
+-- and equal tails
 tail_is : {A : Type 0} {x y : A} {xs ys : List A} → x ∷ xs ≡ y ∷ ys → xs ≡ ys
 tail_is e = cc
 
@@ -21,6 +23,7 @@ pub reads_first : (rest : List SpanRow) (row : Row) (more : List Row) (s : Store
 reads_first [] row more s shown reads = absurd (let e = shown in cc)
 reads_first (r ∷ later) row more s shown reads = (later, tail_is shown, ap (λ z. z ∷ map span_of later) (sym (reads r (head_is shown))))
 
+-- only the empty list is a permutation of the empty list
 none_of_none : {X : Type 0} (xs : List X) → IsPermutation xs [] → xs ≡ []
 none_of_none [] same = refl
 none_of_none (x ∷ xs) same = absurd (let e = length_permutation (x ∷ xs) [] same in omega (arith, e))

@@ -21,6 +21,7 @@ use Rattle.sqlite_rules.proofs.ListLemmas.{has_filtered, has_kept, some_has, som
 use Rattle.sqlite_rules.proofs.TableLemmas.{put_has}
 use Rattle.tacho_tables.specs.Rows.{Stands}
 
+-- a row that is put is one row more
 pub put_shuffles : (new : Row) (rows : List Row) → is_taken rows new ≡ false → IsPermutation (new ∷ rows) (put_row new rows)
 put_shuffles new [] free = IsPermutation-refl _
 put_shuffles new (r ∷ rows) free = go (value_cmp (rowid r) (rowid new)) (or_parts _ _ free).0 (put_shuffles new rows (or_parts _ _ free).1)
@@ -30,27 +31,32 @@ put_shuffles new (r ∷ rows) free = go (value_cmp (rowid r) (rowid new)) (or_pa
     go Equal other h = absurd (true≢false other)
     go Greater other h = IsPermutation-refl _
 
+-- some image passes where some element does
 list_any-map : {A B : Type 0} (p : B → Bool) (f : A → B) (xs : List A) → list_any p (map f xs) ≡ list_any (λ x. p (f x)) xs
 list_any-map p f [] = refl
 list_any-map p f (x ∷ xs) = ap (λ b. p (f x) || b) (list_any-map p f xs)
 
+-- two functions that agree on a list
 pub map_same : {A B : Type 0} (f g : A → B) (xs : List A) → AllByRecursion (λ x. f x ≡ g x) xs → map f xs ≡ map g xs
 map_same f g [] all = refl
 map_same f g (x ∷ xs) all = rw (all.0, map_same f g xs all.1) refl
 
 -- ---- numbers as values
 
+-- numbers that tie are one
 same_id : (a b : ℤ) → is_eq (value_cmp (Int a) (Int b)) ≡ true → a ≡ b
 same_id a b h = int_eq_same a b (sym (ap is_eq (value_cmp-Int a b)) ∙ h)
   where
     int_eq_same : (a b : ℤ) → is_eq (int_cmp a b) ≡ true → a ≡ b
     int_eq_same a b h = grind (arith, ints)
 
+-- a number ties with itself
 own_id : (a : ℤ) → is_eq (value_cmp (Int a) (Int a)) ≡ true
 own_id a = ap is_eq (value_cmp-Int a a) ∙ ap is_eq (tied_itself int_cmp_total a)
 
 -- ---- the edits of rows that stand for a list
 
+-- no row has a number that is not taken
 pub free_from : (rows : List Row) (id : ℤ) (rest b : Row) → is_taken rows (Int id ∷ rest) ≡ false → Has rows b → rowid b ≡ Int id → ⊥
 free_from rows id rest b free has is = true≢false (sym (some_from (λ r. is_eq (value_cmp (rowid r) (Int id))) rows b has (subst (λ v. is_eq (value_cmp v (Int id)) ≡ true) (sym is) (own_id id))) ∙ free)
 
@@ -59,6 +65,7 @@ module _ {X : Type 0} (columns : X → Row) where
   pub stands_shuffled : (rows : List Row) (all other : List X) → Stands columns rows all → IsPermutation (map columns other) (map columns all) → Stands columns rows other
   stands_shuffled rows all other s same = record { stored = s.stored; apart = s.apart; same = IsPermutation-trans _ _ _ same s.same }
 
+  -- one value more
   pub stands_put : (rows : List Row) (all : List X) (id : ℤ) (x : X) → Stands columns rows all → is_taken rows (Int id ∷ columns x) ≡ false → Stands columns (put_row (Int id ∷ columns x) rows) (x ∷ all)
   stands_put rows all id x s free =
       let new : Row = Int id ∷ columns x in
@@ -92,9 +99,6 @@ module _ {X : Type 0} (columns : X → Row) where
           let right : filter test (map (drop 1) rows) ≡ map (drop 1) (filter p rows) = filter-map test (drop 1) rows ∙ ap (map (drop 1)) (filter_same _ p rows (all_from _ rows (λ r has. sym (blind rows all s r has)))) in
           subst (λ xs. IsPermutation xs (map (drop 1) (filter p rows))) left (subst (IsPermutation (filter test (map columns all))) right moved);
     }
-
-is_among : List ℤ → Row → Bool
-is_among ids r = list_any (λ id. has_rowid id r) ids
 
 -- what is left is what has none of the numbers
 without_all_is : (ids : List ℤ) (rows : List Row) → without_all rows ids ≡ filter (λ r. not (list_any (λ id. has_rowid id r) ids)) rows

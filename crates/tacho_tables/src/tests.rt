@@ -61,7 +61,8 @@ fn held_spans_near_a_range(rt: HostRuntime) -> Result<(), Fail> {
     assert_eq!(rt; middle.as_slice(), [span(200, 210, 2)].as_slice());
     let all = held::near(rt.alloc(), &mut tx, 17, 199, 301)?;
     assert_eq!(rt;
-        all.as_slice(), [span(100, 200, 3), span(200, 210, 2), span(300, 400, 1)].as_slice()
+        all.as_slice(),
+        [span(100, 200, 3), span(200, 210, 2), span(300, 400, 1)].as_slice()
     );
     assert!(rt; held::near(rt.alloc(), &mut tx, 18, 199, 301)?.is_empty());
     assert!(rt; card_spans::near(rt.alloc(), &mut tx, 17, 199, 301)?.is_empty());

@@ -1,6 +1,7 @@
 use Rattle.sqlite.specs.Held.{state}
 use Rattle.tacho_tables.specs.Tables.{row_of}
-use Rattle.tacho_tables.proofs.CardLemmas.{adds_card}
+use Rattle.tacho_tables.proofs.SpanLemmas.{card_table, adds_span}
+use Rattle.tacho_tables.proofs.Statements.{card_insert_text, card_insert_is}
 use Rattle.tacho_tables.proofs.Inside.{ran_inside, keeps_ran}
 use Rattle.tacho_tables.proofs.card_spans.insert.Goals as goal
 
@@ -9,7 +10,7 @@ returns-clause-turned g c clean schema =
     let old = state g.S.Store c.args.tx.now.conn.now in
     let new = state g.S.Store c.execute.new.self.conn.now in
     let ran = ran_inside _ _ old new c.in_ok-execute.field-0 _ c.in_ok-execute.ensures.ended (c.in_ok-execute.ensures.runs clean) in
-    adds_card old new (row_of c.args.driver c.args.span.now) _ schema
+    adds_span card_table card_insert_text old new (row_of c.args.driver c.args.span.now) _ schema card_insert_is
     (rw (c.params-to_sql.ensures, c.params-to_sql-2.ensures, c.params-to_sql-3.ensures, c.params-to_sql-4.ensures) at ran.0)
 
 pub returns-clause-keeps : goal.returns-clause-keeps

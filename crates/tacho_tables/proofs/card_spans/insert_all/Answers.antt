@@ -1,11 +1,10 @@
-use Rattle.std.proofs.Common.{◌≡◌, ◌∙◌, ◌+◌, ap, sym, subst, refl, drop, get_or, drop-cons, add-one, [], ◌∷◌, List}
+use Rattle.std.proofs.Common.{◌≡◌, ◌∙◌, ◌+◌, ap, sym, subst, drop, get_or, drop-cons, add-one, [], ◌∷◌, List}
 use Rattle.std.proofs.lemmas.List.{drop_all}
 use Rattle.sqlite.specs.Held.{state}
 use Rattle.sqlite.proofs.StateLemmas.{survives_then}
 use Rattle.tacho_tables.specs.declared.rows.StoredSpan.{StoredSpan}
 use Rattle.tacho_tables.proofs.Inside.{keeps_then}
-use Rattle.tacho_tables.proofs.SpanLemmas.{HasLeft, leaves_one_less}
-use Rattle.tacho_tables.proofs.CardLemmas.{get_card, put_card, all_card}
+use Rattle.tacho_tables.proofs.SpanLemmas.{HasLeft, get_card, put_card, card_table, leaves_one_less, all_added}
 use Rattle.tacho_tables.proofs.card_spans.insert_all.Goals as goal
 
 pub loop-span-preserved : goal.loop-span-preserved
@@ -25,7 +24,7 @@ loop-span-preserved g c =
       (λ clean. keeps_then old mid now (was.2 (it.clean clean)) (it.keeps clean)),
       λ clean schema.
           let left = subst (λ l. HasLeft get_card put_card c.args.driver xs l old mid) cut (was.3 (it.clean clean) schema) in
-          leaves_one_less get_card put_card (λ ys a. refl) (λ ys zs a. refl) c.args.driver xs (drop (i + 1) xs) s old mid now left (it.turned clean left.schema),
+          leaves_one_less card_table c.args.driver xs (drop (i + 1) xs) s old mid now left (it.turned clean left.schema),
     )
 
 pub returns-clause-turned : goal.returns-clause-turned
@@ -34,4 +33,4 @@ returns-clause-turned g c clean schema =
     let now = state g.S.Store c.loop-span.tx.conn.now in
     let xs : List StoredSpan = c.args.spans.now in
     let done : drop c.loop-span.span-index xs ≡ [] = drop_all c.loop-span.span-index xs c.loop-span-test.false in
-    all_card c.args.driver xs old now (subst (λ l. HasLeft get_card put_card c.args.driver xs l old now) done (c.loop-span.invariant.3 clean schema))
+    all_added card_table c.args.driver xs old now (subst (λ l. HasLeft get_card put_card c.args.driver xs l old now) done (c.loop-span.invariant.3 clean schema))

@@ -2,8 +2,7 @@ use Rattle.std.proofs.Common.{◌≡◌, drop}
 use Rattle.sqlite.specs.State.{HasCleanDisk, Survives, KeepsCommit}
 use Rattle.sqlite.specs.Held.{state}
 use Rattle.tacho_tables.specs.Schema.{archive_schema}
-use Rattle.tacho_tables.proofs.SpanLemmas.{HasLeft}
-use Rattle.tacho_tables.proofs.CardLemmas.{get_card, put_card}
+use Rattle.tacho_tables.proofs.SpanLemmas.{HasLeft, get_card, put_card}
 use Rattle.tacho_tables.proofs.card_spans.insert_all.Given as goal
 
 abbrev pub invariant-loop-span : goal.invariant-loop-span
