@@ -1,0 +1,14 @@
+-- No foreign key of the archive acts.
+use Rattle.std.proofs.Common.{◌≡◌, ℕ, ◌==◌, length, List, [], Bool, true, false, cond, None, refl}
+use Rattle.sqlite.specs.Order.{Row}
+use Rattle.sqlite_schema.specs.declared.schema.Keys.TheVariants.{Enforced}
+use Rattle.sqlite_schema.specs.declared.schema.Action.TheVariants.{NoAction}
+use Rattle.sqlite_rules.specs.Action.{works, deed_of}
+use Rattle.tacho_tables.specs.Schema.{archive_schema}
+
+none : (b : Bool) → deed_of Enforced b (cond b NoAction NoAction) ≡ None
+none true = refl
+none false = refl
+
+pub idle : (tree : ℕ) (olds news : List Row) → works archive_schema Enforced 0 tree olds news ≡ []
+idle tree olds news = rw (none (length news == 0)) refl

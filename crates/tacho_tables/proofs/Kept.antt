@@ -1,0 +1,55 @@
+-- What a change of one table leaves of the others.
+use Rattle.std.proofs.Common.{◌≡◌, ◌≢◌, ℕ, List, sym, subst, ◌∙◌, arith}
+use Rattle.std.specs.List.{AllByRecursion}
+use Rattle.sqlite.specs.Tree.{Trees}
+use Rattle.tacho_tables.specs.Schema.{archive_schema}
+use Rattle.tacho_tables.specs.Rows.{Stands, StandNumbered, SpanRow, DownloadRow, DriverRow, span_columns, download_columns, entry_columns}
+use Rattle.tacho_tables.specs.Tables.{Tables, Stand}
+
+-- every table but the one with this tree has its rows
+abbrev pub AreKept : ℕ → Trees → Trees → Type 0
+AreKept tree db next = AllByRecursion (λ t. t.tree ≢ tree → next t.tree ≡ db t.tree) archive_schema.tables
+
+-- only the rows of held changed
+pub with_held : (db next : Trees) (a : Tables) (held : List SpanRow) → AreKept 10 db next → Stand db a → Stands span_columns (next 10) held → Stand next (record a { held = held })
+with_held db next a held kept s it = record {
+  meta = kept.0 (λ e. omega (arith, e)) ∙ s.meta;
+  drivers = subst (λ rows. StandNumbered rows a.drivers) (sym (kept.1.0 (λ e. omega (arith, e)))) s.drivers;
+  downloads = subst (λ rows. Stands download_columns rows a.downloads) (sym (kept.1.1.0 (λ e. omega (arith, e)))) s.downloads;
+  card_spans = subst (λ rows. Stands span_columns rows a.card_spans) (sym (kept.1.1.1.0 (λ e. omega (arith, e)))) s.card_spans;
+  entries = subst (λ rows. Stands entry_columns rows a.entries) (sym (kept.1.1.1.1.0 (λ e. omega (arith, e)))) s.entries;
+  held = it;
+}
+
+-- only the rows of card_spans changed
+pub with_card_spans : (db next : Trees) (a : Tables) (card_spans : List SpanRow) → AreKept 6 db next → Stand db a → Stands span_columns (next 6) card_spans → Stand next (record a { card_spans = card_spans })
+with_card_spans db next a card_spans kept s it = record {
+  meta = kept.0 (λ e. omega (arith, e)) ∙ s.meta;
+  drivers = subst (λ rows. StandNumbered rows a.drivers) (sym (kept.1.0 (λ e. omega (arith, e)))) s.drivers;
+  downloads = subst (λ rows. Stands download_columns rows a.downloads) (sym (kept.1.1.0 (λ e. omega (arith, e)))) s.downloads;
+  card_spans = it;
+  entries = subst (λ rows. Stands entry_columns rows a.entries) (sym (kept.1.1.1.1.0 (λ e. omega (arith, e)))) s.entries;
+  held = subst (λ rows. Stands span_columns rows a.held) (sym (kept.1.1.1.1.1.0 (λ e. omega (arith, e)))) s.held;
+}
+
+-- only the rows of downloads changed
+pub with_downloads : (db next : Trees) (a : Tables) (downloads : List DownloadRow) → AreKept 4 db next → Stand db a → Stands download_columns (next 4) downloads → Stand next (record a { downloads = downloads })
+with_downloads db next a downloads kept s it = record {
+  meta = kept.0 (λ e. omega (arith, e)) ∙ s.meta;
+  drivers = subst (λ rows. StandNumbered rows a.drivers) (sym (kept.1.0 (λ e. omega (arith, e)))) s.drivers;
+  downloads = it;
+  card_spans = subst (λ rows. Stands span_columns rows a.card_spans) (sym (kept.1.1.1.0 (λ e. omega (arith, e)))) s.card_spans;
+  entries = subst (λ rows. Stands entry_columns rows a.entries) (sym (kept.1.1.1.1.0 (λ e. omega (arith, e)))) s.entries;
+  held = subst (λ rows. Stands span_columns rows a.held) (sym (kept.1.1.1.1.1.0 (λ e. omega (arith, e)))) s.held;
+}
+
+-- only the rows of drivers changed
+pub with_drivers : (db next : Trees) (a : Tables) (drivers : List DriverRow) → AreKept 1 db next → Stand db a → StandNumbered (next 1) drivers → Stand next (record a { drivers = drivers })
+with_drivers db next a drivers kept s it = record {
+  meta = kept.0 (λ e. omega (arith, e)) ∙ s.meta;
+  drivers = it;
+  downloads = subst (λ rows. Stands download_columns rows a.downloads) (sym (kept.1.1.0 (λ e. omega (arith, e)))) s.downloads;
+  card_spans = subst (λ rows. Stands span_columns rows a.card_spans) (sym (kept.1.1.1.0 (λ e. omega (arith, e)))) s.card_spans;
+  entries = subst (λ rows. Stands entry_columns rows a.entries) (sym (kept.1.1.1.1.0 (λ e. omega (arith, e)))) s.entries;
+  held = subst (λ rows. Stands span_columns rows a.held) (sym (kept.1.1.1.1.1.0 (λ e. omega (arith, e)))) s.held;
+}

@@ -1,0 +1,89 @@
+-- What CREATE TABLE leaves.
+use Rattle.std.proofs.Common.{◌≡◌, ℕ, pos, List, [], ◌∷◌, codes, Ok, Some, None, true, false, refl, sym, ap, subst, ◌∙◌, arith}
+use Rattle.std.proofs.lemmas.List.Sorted.{IsPermutation-refl}
+use Rattle.sqlite.specs.declared.types.Value.TheVariants.{Null, Int}
+use Rattle.sqlite.specs.Order.{Row}
+use Rattle.sqlite.specs.Source.TheVariants.{Values}
+use Rattle.sqlite.specs.Term.{Term, lit}
+use Rattle.sqlite_tied.specs.Compute.{everything}
+use Rattle.sqlite.specs.Listing.{understood}
+use Rattle.tacho_tables.specs.Schema.{archive_schema}
+use Rattle.tacho_tables.specs.Schema as made
+use Rattle.tacho_tables.specs.Rows.{Stands, StandNumbered, span_columns, download_columns, entry_columns}
+use Rattle.tacho_tables.specs.Tables.{Stand, no_rows}
+use Rattle.tacho_tables.specs.Making.{AreEmpty}
+use Rattle.tacho_tables.proofs.Idle.{idle}
+use Rattle.tacho_tables.proofs.Statements.{IsStatement}
+use Rattle.tacho_tables.proofs.Writes.{inserted, cast_null, cast_int}
+use Rattle.sqlite.specs.Schema.{Schema}
+use Rattle.sqlite.specs.Table.{Table}
+use Rattle.sqlite.specs.Command.TheVariants.{CreateTable, Insert}
+use Rattle.sqlite.specs.Change.{created, next_tree, KeepsRows}
+use Rattle.sqlite.specs.Does.{Tally, lacks_sequence}
+use Rattle.sqlite.specs.Effect.{Database}
+use Rattle.sqlite.specs.State.{State, Writes, Executes, Shows}
+use Rattle.sqlite.proofs.Callers.{runs_as}
+use Rattle.tacho_tables.specs.Making.{IsCreate, HasMade}
+use Rattle.tacho_tables.proofs.Writes.{went, same_value}
+
+-- a CREATE TABLE within a transaction makes the table
+pub makes : (schema : Schema) (table : Table) (text : List ℕ) (old new : State) (count : ℕ) → old.now.schema ≡ schema → IsCreate schema text table → Executes text [] old new (Ok count)
+    → Shows old new new.now old.committed true → HasMade schema table old new
+makes schema table text old new count has it h shown =
+    let w = subst (λ t. Writes old new None CreateTable t [] count) it.statement (runs_as text [] old new schema has CreateTable it.command it.plain count h) in
+    let all = went w.changed in
+    let first = went all.1 in
+    let made = first.1 in
+    let both : Ok made.table ≡ Ok table = sym made.defined ∙ it.defined in
+    let same : made.table ≡ table = same_value both in
+    let after : first.0.schema ≡ created schema table = made.is ∙ ap (λ s. created s made.table) has ∙ ap (created schema) same in
+    let plain : lacks_sequence first.0.schema ≡ false = ap lacks_sequence after ∙ it.uncounted in
+    let now : new.now ≡ first.0 = ap (λ (p : Tally × Database). p.1) (same_value all.2) ∙ same_value (rw plain at first.2) in
+    record {
+      inside = shown.mode;
+      committed = shown.committed_is;
+      after = ap (λ (d : Database). d.schema) now ∙ after;
+      empty = ap (λ (d : Database). d.trees (next_tree schema)) now ∙ subst (λ s. first.0.trees (next_tree s) ≡ []) has made.empty;
+      others = subst (λ (d : Database). KeepsRows schema.tables old.now.trees d.trees) (sym now) (subst (λ s. KeepsRows s.tables old.now.trees first.0.trees) has made.others);
+    }
+
+-- ---- the row of meta
+
+abbrev pub meta_row_text : List ℕ
+meta_row_text = codes "INSERT INTO meta (id, version) VALUES (1, 1)"
+
+abbrev meta_values : List Term
+meta_values = lit (Int (pos 1)) ∷ lit Null ∷ lit (Int (pos 1)) ∷ []
+
+abbrev meta_row : Row
+meta_row = Int (pos 1) ∷ Null ∷ Int (pos 1) ∷ []
+
+meta_row_is : IsStatement meta_row_text (Insert 0 (Values meta_values 3))
+unfolding understood everything
+meta_row_is = record { meant = refl; plain = (refl, refl) }
+
+-- no rows stand for nothing
+nothing_stands : {X : Type 0} (columns : X → Row) (rows : List Row) → rows ≡ [] → Stands columns rows []
+nothing_stands columns rows none = subst (λ rs. Stands columns rs []) (sym none) (record { stored = λ r has. absurd has; apart = λ a b has other same. absurd has; same = IsPermutation-refl [] })
+
+no_driver_stands : (rows : List Row) → rows ≡ [] → StandNumbered rows []
+no_driver_stands rows none = subst (λ rs. StandNumbered rs []) (sym none) (record { apart = λ a b has other same. absurd has; same = IsPermutation-refl [] })
+
+-- with its row in meta, six empty tables are an archive of no drivers
+pub makes_archive : (old new : State) (count : ℕ) → old.now.schema ≡ archive_schema → AreEmpty (0 ∷ 1 ∷ 4 ∷ 6 ∷ 8 ∷ 10 ∷ []) old.now.trees → Executes meta_row_text [] old new (Ok count)
+    → (new.now.schema ≡ archive_schema) × Stand new.now.trees no_rows
+makes_archive old new count has none h =
+    let t = made.meta in
+    let e = inserted archive_schema old new has meta_row_text meta_row_is.plain [] count 0 (codes "meta") 0 t.columns (Some 0) (0 ∷ []) [] [] [] [] refl (idle 0) meta_values 3 meta_row_is.meant (meta_row ∷ []) refl h in
+    let stored = rw (cast_int (pos 1), cast_null, none.0) at e.applies.rows in
+    let kept = e.applies.tables in (
+      ap (λ d. d.schema) e.now_is,
+      subst (λ db. Stand db no_rows) (sym (ap (λ d. d.trees) e.now_is)) (record {
+        meta = stored;
+        drivers = no_driver_stands (e.next 1) (kept.1.0 (λ e. omega (arith, e)) ∙ none.1.0);
+        downloads = nothing_stands download_columns (e.next 4) (kept.1.1.0 (λ e. omega (arith, e)) ∙ none.1.1.0);
+        card_spans = nothing_stands span_columns (e.next 6) (kept.1.1.1.0 (λ e. omega (arith, e)) ∙ none.1.1.1.0);
+        entries = nothing_stands entry_columns (e.next 8) (kept.1.1.1.1.0 (λ e. omega (arith, e)) ∙ none.1.1.1.1.0);
+        held = nothing_stands span_columns (e.next 10) (kept.1.1.1.1.1.0 (λ e. omega (arith, e)) ∙ none.1.1.1.1.1.0);
+      }),
+    )

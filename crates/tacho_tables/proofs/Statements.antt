@@ -1,0 +1,153 @@
+-- What the statements on spans and downloads are.
+use Rattle.std.proofs.Common.{◌≡◌, ℕ, List, [], ◌∷◌, codes, false, refl, pos}
+use Rattle.sqlite.specs.declared.types.Value.TheVariants.{Null, Int}
+use Rattle.sqlite.specs.Command.{Command}
+use Rattle.sqlite.specs.Command.TheVariants.{Insert, Select, Update}
+use Rattle.sqlite.specs.Source.TheVariants.{Values}
+use Rattle.sqlite.specs.Term.{Term, lit, col, op2}
+use Rattle.sqlite_sql.specs.declared.ops.BinaryOp.TheVariants.{Compare}
+use Rattle.sqlite_sql.specs.declared.ops.CompareOp.TheVariants.{Eq, Lt}
+use Rattle.sqlite.specs.Collation.TheVariants.{Binary}
+use Rattle.sqlite_value.specs.declared.keys.Key.{Key}
+use Rattle.sqlite_tied.specs.Compute.{everything}
+use Rattle.sqlite.specs.Listing.{understood, reads_listing}
+use Rattle.sqlite.proofs.Callers.{IsPlain, command_of}
+use Rattle.tacho_tables.specs.Schema.{archive_schema}
+use Rattle.tacho_tables.proofs.Answers.{simple}
+
+-- the text is this statement, which reads no clock
+pub record IsStatement (text : List ℕ) (command : Command) : Type 0 where
+  pub meant : command_of (understood archive_schema text) ≡ command
+  pub plain : IsPlain (understood archive_schema text)
+
+-- the text shows this of the rows of one table that pass these tests
+pub record IsReading (text : List ℕ) (tree : ℕ) (tests shown : List Term) (order : List (Term × Key)) (names : List (List ℕ)) : Type 0 where
+  pub meant : command_of (understood archive_schema text) ≡ Select (record { lets = []; body = simple tree tests shown order }) names
+  pub unlisted : reads_listing archive_schema text ≡ false
+  pub plain : IsPlain (understood archive_schema text)
+
+-- ---- terms
+
+-- a row of four columns, whose number the store gives
+abbrev pub four : List Term
+four = lit Null ∷ col 0 0 ∷ col 0 1 ∷ col 0 2 ∷ col 0 3 ∷ []
+
+abbrev pub near : List Term
+near = op2 (Compare Eq Binary) (col 1 1) (col 0 0) ∷ op2 (Compare Lt Binary) (col 1 2) (col 0 2) ∷ op2 (Compare Lt Binary) (col 0 1) (col 1 3) ∷ []
+
+abbrev pub numbered : List Term
+numbered = op2 (Compare Eq Binary) (col 1 1) (col 0 0) ∷ op2 (Compare Eq Binary) (col 1 2) (col 0 1) ∷ []
+
+abbrev pub three_shown : List Term
+three_shown = col 1 2 ∷ col 1 3 ∷ col 1 4 ∷ []
+
+abbrev pub by_start : List (Term × Key)
+by_start = (col 1 2, record { collation = Binary; descending = false }) ∷ []
+
+abbrev pub span_names : List (List ℕ)
+span_names = codes "start" ∷ codes "past" ∷ codes "mark" ∷ []
+
+-- ---- held
+
+abbrev pub held_insert_text : List ℕ
+held_insert_text = codes "INSERT INTO held (driver, start, past, mark) VALUES (?1, ?2, ?3, ?4)"
+
+abbrev pub held_near_text : List ℕ
+held_near_text = codes "SELECT start, past, mark FROM held WHERE driver = ?1 AND start < ?3 AND ?2 < past ORDER BY start"
+
+pub held_insert_is : IsStatement held_insert_text (Insert 5 (Values four 5))
+unfolding understood everything
+held_insert_is = record { meant = refl; plain = (refl, refl) }
+
+pub held_near_is : IsReading held_near_text 10 near three_shown by_start span_names
+unfolding understood everything
+held_near_is = record { meant = refl; unlisted = refl; plain = (refl, refl) }
+
+-- ---- card_spans
+
+abbrev pub card_insert_text : List ℕ
+card_insert_text = codes "INSERT INTO card_spans (driver, start, past, mark) VALUES (?1, ?2, ?3, ?4)"
+
+abbrev pub card_near_text : List ℕ
+card_near_text = codes "SELECT start, past, mark FROM card_spans WHERE driver = ?1 AND start < ?3 AND ?2 < past ORDER BY start"
+
+pub card_insert_is : IsStatement card_insert_text (Insert 3 (Values four 5))
+unfolding understood everything
+card_insert_is = record { meant = refl; plain = (refl, refl) }
+
+pub card_near_is : IsReading card_near_text 6 near three_shown by_start span_names
+unfolding understood everything
+card_near_is = record { meant = refl; unlisted = refl; plain = (refl, refl) }
+
+-- ---- downloads
+
+abbrev pub download_insert_text : List ℕ
+download_insert_text = codes "INSERT INTO downloads (driver, number, part, file) VALUES (?1, ?2, ?3, ?4)"
+
+abbrev pub file_text : List ℕ
+file_text = codes "SELECT file FROM downloads WHERE driver = ?1 AND number = ?2"
+
+pub download_insert_is : IsStatement download_insert_text (Insert 2 (Values four 5))
+unfolding understood everything
+download_insert_is = record { meant = refl; plain = (refl, refl) }
+
+pub file_is : IsReading file_text 4 numbered (col 1 4 ∷ []) [] (codes "file" ∷ [])
+unfolding understood everything
+file_is = record { meant = refl; unlisted = refl; plain = (refl, refl) }
+
+-- ---- drivers
+
+abbrev pub driver_insert_text : List ℕ
+driver_insert_text = codes "INSERT INTO drivers (driver, holder, secret, base, name, downloads, entries) VALUES (?1, ?2, ?3, ?4, ?5, 0, 0)"
+
+abbrev pub by_number_text : List ℕ
+by_number_text = codes "SELECT holder, base, downloads, entries FROM drivers WHERE driver = ?1"
+
+abbrev pub by_secret_text : List ℕ
+by_secret_text = codes "SELECT driver FROM drivers WHERE secret = ?1"
+
+abbrev pub by_holder_text : List ℕ
+by_holder_text = codes "SELECT driver FROM drivers WHERE holder = ?1"
+
+abbrev pub base_text : List ℕ
+base_text = codes "UPDATE drivers SET base = ?2 WHERE driver = ?1"
+
+abbrev pub count_text : List ℕ
+count_text = codes "UPDATE drivers SET downloads = ?2 WHERE driver = ?1"
+
+abbrev pub driver_values : List Term
+driver_values = col 0 0 ∷ lit Null ∷ col 0 1 ∷ col 0 2 ∷ col 0 3 ∷ col 0 4 ∷ lit (Int (pos 0)) ∷ lit (Int (pos 0)) ∷ []
+
+-- the column is the first parameter
+abbrev pub column_is : ℕ → List Term
+column_is place = op2 (Compare Eq Binary) (col 1 place) (col 0 0) ∷ []
+
+abbrev pub with_base_shown : List Term
+with_base_shown = col 1 0 ∷ col 1 0 ∷ lit Null ∷ col 1 2 ∷ col 1 3 ∷ col 0 1 ∷ col 1 5 ∷ col 1 6 ∷ col 1 7 ∷ []
+
+abbrev pub with_count_shown : List Term
+with_count_shown = col 1 0 ∷ col 1 0 ∷ lit Null ∷ col 1 2 ∷ col 1 3 ∷ col 1 4 ∷ col 1 5 ∷ col 0 1 ∷ col 1 7 ∷ []
+
+pub driver_insert_is : IsStatement driver_insert_text (Insert 1 (Values driver_values 8))
+unfolding understood everything
+driver_insert_is = record { meant = refl; plain = (refl, refl) }
+
+pub by_number_is : IsReading by_number_text 1 (column_is 0) (col 1 2 ∷ col 1 4 ∷ col 1 6 ∷ col 1 7 ∷ []) [] (codes "holder" ∷ codes "base" ∷ codes "downloads" ∷ codes "entries" ∷ [])
+unfolding understood everything
+by_number_is = record { meant = refl; unlisted = refl; plain = (refl, refl) }
+
+pub by_secret_is : IsReading by_secret_text 1 (column_is 3) (col 1 0 ∷ []) [] (codes "driver" ∷ [])
+unfolding understood everything
+by_secret_is = record { meant = refl; unlisted = refl; plain = (refl, refl) }
+
+pub by_holder_is : IsReading by_holder_text 1 (column_is 2) (col 1 0 ∷ []) [] (codes "driver" ∷ [])
+unfolding understood everything
+by_holder_is = record { meant = refl; unlisted = refl; plain = (refl, refl) }
+
+pub base_is : IsStatement base_text (Update 1 (record { lets = []; body = simple 1 (column_is 0) with_base_shown [] }))
+unfolding understood everything
+base_is = record { meant = refl; plain = (refl, refl) }
+
+pub count_is : IsStatement count_text (Update 1 (record { lets = []; body = simple 1 (column_is 0) with_count_shown [] }))
+unfolding understood everything
+count_is = record { meant = refl; plain = (refl, refl) }

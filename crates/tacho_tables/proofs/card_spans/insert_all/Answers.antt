@@ -1,0 +1,37 @@
+use Rattle.std.proofs.Common.{◌≡◌, ◌∙◌, ◌+◌, ap, sym, subst, refl, drop, get_or, drop-cons, add-one, [], ◌∷◌, List}
+use Rattle.std.proofs.lemmas.List.{drop_all}
+use Rattle.sqlite.specs.Held.{state}
+use Rattle.sqlite.proofs.StateLemmas.{survives_then}
+use Rattle.tacho_tables.specs.declared.rows.StoredSpan.{StoredSpan}
+use Rattle.tacho_tables.proofs.Inside.{keeps_then}
+use Rattle.tacho_tables.proofs.SpanLemmas.{HasLeft, leaves_one_less}
+use Rattle.tacho_tables.proofs.CardLemmas.{get_card, put_card, all_card}
+use Rattle.tacho_tables.proofs.card_spans.insert_all.Goals as goal
+
+pub loop-span-preserved : goal.loop-span-preserved
+loop-span-preserved g c =
+    let was = c.loop-span.invariant in
+    let old = state g.S.Store c.args.tx.now.conn.now in
+    let mid = state g.S.Store c.loop-span.tx.conn.now in
+    let now = state g.S.Store c.insert.new.tx.conn.now in
+    let it = c.in_ok-insert.ensures in
+    let xs : List StoredSpan = c.args.spans.now in
+    let i = c.loop-span.span-index in
+    let none : StoredSpan = record { start = 0; past = 0; mark = 0 } in
+    let s = get_or xs i none in
+    let cut : drop i xs ≡ s ∷ drop (i + 1) xs = drop-cons xs i none c.loop-span-test.true ∙ ap (λ k. s ∷ drop k xs) (sym (add-one i)) in (
+      it.same_reference ∙ was.0,
+      survives_then old mid now (λ _. ⊥) (λ _. ⊥) (λ _. ⊥) (λ _ db none. none) (λ _ db none. none) was.1 it.survives,
+      (λ clean. keeps_then old mid now (was.2 (it.clean clean)) (it.keeps clean)),
+      λ clean schema.
+          let left = subst (λ l. HasLeft get_card put_card c.args.driver xs l old mid) cut (was.3 (it.clean clean) schema) in
+          leaves_one_less get_card put_card (λ ys a. refl) (λ ys zs a. refl) c.args.driver xs (drop (i + 1) xs) s old mid now left (it.turned clean left.schema),
+    )
+
+pub returns-clause-turned : goal.returns-clause-turned
+returns-clause-turned g c clean schema =
+    let old = state g.S.Store c.args.tx.now.conn.now in
+    let now = state g.S.Store c.loop-span.tx.conn.now in
+    let xs : List StoredSpan = c.args.spans.now in
+    let done : drop c.loop-span.span-index xs ≡ [] = drop_all c.loop-span.span-index xs c.loop-span-test.false in
+    all_card c.args.driver xs old now (subst (λ l. HasLeft get_card put_card c.args.driver xs l old now) done (c.loop-span.invariant.3 clean schema))

@@ -1,0 +1,4 @@
+pub mod Schema
+pub mod Making
+pub mod Rows
+pub mod Tables

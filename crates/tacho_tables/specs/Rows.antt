@@ -1,0 +1,68 @@
+-- The rows of the archive's tables as values of types, and when stored rows stand for a list of them.
+use Rattle.std.specs.Prelude.{◌≡◌, ℕ, ℤ, pos, List, [], ◌∷◌, map, drop, IsPermutation}
+use Rattle.sqlite.specs.declared.types.Value.TheVariants.{Null, Int, Text, Blob}
+use Rattle.sqlite.specs.Order.{Row}
+use Rattle.sqlite.specs.Tree.{rowid}
+use Rattle.sqlite_rules.specs.Lists.{Has}
+
+-- ---- tables whose rows have a hidden number
+
+-- each stored row is a hidden number of its own and then the columns of one of these values, in some order
+pub record Stands {X : Type 0} (columns : X → Row) (rows : List Row) (all : List X) : Type 0 where
+  pub stored : (r : Row) → Has rows r → (id : ℤ) × (x : X) × (r ≡ Int id ∷ columns x)
+  pub apart : (a b : Row) → Has rows a → Has rows b → rowid a ≡ rowid b → a ≡ b
+  pub same : IsPermutation (map columns all) (map (drop 1) rows)
+
+-- minutes of a driver, from start to before past, and what he did in them: a mark's number
+pub record SpanRow : Type 0 where
+  pub driver : ℕ
+  pub start : ℕ
+  pub past : ℕ
+  pub mark : ℕ
+
+abbrev pub span_columns : SpanRow → Row
+span_columns r = Int (pos r.driver) ∷ Int (pos r.start) ∷ Int (pos r.past) ∷ Int (pos r.mark) ∷ []
+
+-- a card file of a driver, its number among his, and the part that it was read by
+pub record DownloadRow : Type 0 where
+  pub driver : ℕ
+  pub number : ℕ
+  pub part : ℕ
+  pub file : List ℕ
+
+abbrev pub download_columns : DownloadRow → Row
+download_columns r = Int (pos r.driver) ∷ Int (pos r.number) ∷ Int (pos r.part) ∷ Blob r.file ∷ []
+
+-- hours of a driver that were entered by hand, their number among his, and 1 where they were withdrawn
+pub record EntryRow : Type 0 where
+  pub driver : ℕ
+  pub number : ℕ
+  pub start : ℕ
+  pub past : ℕ
+  pub mark : ℕ
+  pub withdrawn : ℕ
+
+abbrev pub entry_columns : EntryRow → Row
+entry_columns r = Int (pos r.driver) ∷ Int (pos r.number) ∷ Int (pos r.start) ∷ Int (pos r.past) ∷ Int (pos r.mark) ∷ Int (pos r.withdrawn) ∷ []
+
+-- ---- drivers, whose number is the row's own
+
+-- a driver: his card's holder, his key, the day from which he is examined, his name, and how many downloads and entries he has
+pub record DriverRow : Type 0 where
+  pub driver : ℕ
+  pub holder : List ℕ
+  pub secret : List ℕ
+  pub base : ℕ
+  pub name : List ℕ
+  pub downloads : ℕ
+  pub entries : ℕ
+
+-- the whole stored row: the number, and then a place that stays empty for it
+abbrev pub driver_row : DriverRow → Row
+driver_row r =
+    Int (pos r.driver) ∷ Null ∷ Blob r.holder ∷ Text r.secret ∷ Int (pos r.base) ∷ Text r.name ∷ Int (pos r.downloads) ∷ Int (pos r.entries) ∷ []
+
+-- the stored rows are those of these drivers, in some order, and no two have one number
+pub record StandNumbered (rows : List Row) (all : List DriverRow) : Type 0 where
+  pub apart : (a b : Row) → Has rows a → Has rows b → rowid a ≡ rowid b → a ≡ b
+  pub same : IsPermutation (map driver_row all) rows

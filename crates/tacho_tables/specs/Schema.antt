@@ -1,0 +1,157 @@
+-- Schema 1 of the archive: six tables, in the order in which they are made, and the texts that make them.
+use Rattle.std.specs.Prelude.{true, false, [], ◌∷◌, Some, None, codes, List, ℕ, pos}
+use Rattle.sqlite.specs.Collation.TheVariants.{Binary}
+use Rattle.sqlite.specs.declared.types.Value.TheVariants.{Null, Int}
+use Rattle.sqlite.specs.Table.{Table}
+use Rattle.sqlite.specs.Schema.{Schema}
+use Rattle.sqlite.specs.Kind.{Kind}
+use Rattle.sqlite.specs.Kind.TheVariants.{Integer, Text, Blob}
+use Rattle.sqlite_schema.specs.declared.schema.Column.{Column}
+use Rattle.sqlite_schema.specs.declared.schema.Reference.{Reference}
+use Rattle.sqlite_schema.specs.declared.schema.Action.TheVariants.{NoAction}
+use Rattle.sqlite_value.specs.Keys.{plain}
+use Rattle.sqlite_sql.specs.Term.{lit, col, op2}
+use Rattle.sqlite_sql.specs.declared.ops.BinaryOp.TheVariants.{Or, Compare}
+use Rattle.sqlite_sql.specs.declared.ops.CompareOp.TheVariants.{Eq}
+use Rattle.sqlite.specs.Change.{created}
+
+-- a column that is never NULL
+abbrev pub need : List ℕ → Kind → Column
+need name kind = record { name = name; kind = kind; is_strict = true; not_null = true; default = Null; collation = Binary }
+
+-- a key that the store may give
+abbrev pub free : List ℕ → Kind → Column
+free name kind = record { name = name; kind = kind; is_strict = true; not_null = false; default = Null; collation = Binary }
+
+-- the first column is the number of a driver that there is
+abbrev pub to_driver : Reference
+to_driver = record { columns = 1 ∷ []; parent = codes "drivers"; parent_columns = codes "driver" ∷ []; on_delete = NoAction; on_update = NoAction; is_deferred = false }
+
+-- which schema it is: one row
+abbrev pub meta : Table
+meta = record {
+  name = codes "meta";
+  tree = 0;
+  columns = free (codes "id") Integer ∷ need (codes "version") Integer ∷ [];
+  key = Some 0;
+  primary = 0 ∷ [];
+  uniques = [];
+  orders = [];
+  checks = [];
+  references = [];
+  computed = [];
+  stamps = record { places = []; terms = []; formats = [] };
+  is_counted = false;
+}
+
+-- who the drivers are, and how many numbers were given out to each one's downloads and entries
+abbrev pub drivers : Table
+drivers = record {
+  name = codes "drivers";
+  tree = 0;
+  columns = free (codes "driver") Integer ∷ need (codes "holder") Blob ∷ need (codes "secret") Text ∷ need (codes "base") Integer ∷ need (codes "name") Text
+      ∷ need (codes "downloads") Integer ∷ need (codes "entries") Integer ∷ [];
+  key = Some 0;
+  primary = 0 ∷ [];
+  uniques = (2 ∷ []) ∷ (3 ∷ []) ∷ [];
+  orders = plain ∷ plain ∷ [];
+  checks = [];
+  references = [];
+  computed = [];
+  stamps = record { places = []; terms = []; formats = [] };
+  is_counted = false;
+}
+
+-- the card files that were accepted, byte for byte
+abbrev pub downloads : Table
+downloads = record {
+  name = codes "downloads";
+  tree = 0;
+  columns = need (codes "driver") Integer ∷ need (codes "number") Integer ∷ need (codes "part") Integer ∷ need (codes "file") Blob ∷ [];
+  key = None;
+  primary = 1 ∷ 2 ∷ [];
+  uniques = (1 ∷ 2 ∷ []) ∷ [];
+  orders = plain ∷ [];
+  checks = [];
+  references = to_driver ∷ [];
+  computed = [];
+  stamps = record { places = []; terms = []; formats = [] };
+  is_counted = false;
+}
+
+-- spans of drivers' minutes
+abbrev pub spans : List ℕ → Table
+spans name = record {
+  name = name;
+  tree = 0;
+  columns = need (codes "driver") Integer ∷ need (codes "start") Integer ∷ need (codes "past") Integer ∷ need (codes "mark") Integer ∷ [];
+  key = None;
+  primary = 1 ∷ 2 ∷ [];
+  uniques = (1 ∷ 2 ∷ []) ∷ [];
+  orders = plain ∷ [];
+  checks = [];
+  references = to_driver ∷ [];
+  computed = [];
+  stamps = record { places = []; terms = []; formats = [] };
+  is_counted = false;
+}
+
+-- the hours that were entered by hand
+abbrev pub entries : Table
+entries = record {
+  name = codes "entries";
+  tree = 0;
+  columns = need (codes "driver") Integer ∷ need (codes "number") Integer ∷ need (codes "start") Integer ∷ need (codes "past") Integer ∷ need (codes "mark") Integer ∷ need (codes "withdrawn") Integer ∷ [];
+  key = None;
+  primary = 1 ∷ 2 ∷ [];
+  uniques = (1 ∷ 2 ∷ []) ∷ [];
+  orders = plain ∷ [];
+  checks = op2 Or (op2 (Compare Eq Binary) (col 1 6) (lit (Int (pos 0)))) (op2 (Compare Eq Binary) (col 1 6) (lit (Int (pos 1)))) ∷ [];
+  references = to_driver ∷ [];
+  computed = [];
+  stamps = record { places = []; terms = []; formats = [] };
+  is_counted = false;
+}
+
+-- a store without tables
+abbrev pub no_schema : Schema
+no_schema = record { tables = []; indexes = []; views = [] }
+
+-- the schema after each of the tables was made
+abbrev pub schema_1 : Schema
+schema_1 = created no_schema meta
+
+abbrev pub schema_2 : Schema
+schema_2 = created schema_1 drivers
+
+abbrev pub schema_3 : Schema
+schema_3 = created schema_2 downloads
+
+abbrev pub schema_4 : Schema
+schema_4 = created schema_3 (spans (codes "card_spans"))
+
+abbrev pub schema_5 : Schema
+schema_5 = created schema_4 entries
+
+-- the schema of an archive
+abbrev pub archive_schema : Schema
+archive_schema = created schema_5 (spans (codes "held"))
+
+-- the texts that make the tables
+abbrev pub meta_text : List ℕ
+meta_text = codes "CREATE TABLE meta (id INTEGER PRIMARY KEY, version INTEGER NOT NULL) STRICT"
+
+abbrev pub drivers_text : List ℕ
+drivers_text = codes "CREATE TABLE drivers (driver INTEGER PRIMARY KEY, holder BLOB NOT NULL UNIQUE, secret TEXT NOT NULL UNIQUE, base INTEGER NOT NULL, name TEXT NOT NULL, downloads INTEGER NOT NULL, entries INTEGER NOT NULL) STRICT"
+
+abbrev pub downloads_text : List ℕ
+downloads_text = codes "CREATE TABLE downloads (driver INTEGER NOT NULL REFERENCES drivers(driver), number INTEGER NOT NULL, part INTEGER NOT NULL, file BLOB NOT NULL, PRIMARY KEY (driver, number)) STRICT"
+
+abbrev pub card_spans_text : List ℕ
+card_spans_text = codes "CREATE TABLE card_spans (driver INTEGER NOT NULL REFERENCES drivers(driver), start INTEGER NOT NULL, past INTEGER NOT NULL, mark INTEGER NOT NULL, PRIMARY KEY (driver, start)) STRICT"
+
+abbrev pub entries_text : List ℕ
+entries_text = codes "CREATE TABLE entries (driver INTEGER NOT NULL REFERENCES drivers(driver), number INTEGER NOT NULL, start INTEGER NOT NULL, past INTEGER NOT NULL, mark INTEGER NOT NULL, withdrawn INTEGER NOT NULL CHECK (withdrawn IN (0, 1)), PRIMARY KEY (driver, number)) STRICT"
+
+abbrev pub held_text : List ℕ
+held_text = codes "CREATE TABLE held (driver INTEGER NOT NULL REFERENCES drivers(driver), start INTEGER NOT NULL, past INTEGER NOT NULL, mark INTEGER NOT NULL, PRIMARY KEY (driver, start)) STRICT"

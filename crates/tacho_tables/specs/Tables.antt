@@ -1,0 +1,79 @@
+-- The six tables as lists of typed rows, and what a call within a transaction makes of them.
+use Rattle.std.specs.Prelude.{◌≡◌, ℕ, pos, Bool, ◌&&◌, ◌==◌, nat_lt, if◌then◌else◌, List, [], ◌∷◌, bytes_eq}
+use Rattle.sqlite.specs.declared.types.Value.TheVariants.{Null, Int, Blob}
+use Rattle.sqlite.specs.Order.{Row}
+use Rattle.sqlite.specs.Tree.{Trees}
+use Rattle.sqlite.specs.State.{State}
+use Rattle.tacho_tables.specs.declared.rows.StoredSpan.{StoredSpan}
+use Rattle.tacho_tables.specs.Schema.{archive_schema}
+use Rattle.tacho_tables.specs.Rows.{Stands, SpanRow, span_columns, DownloadRow, download_columns, EntryRow, entry_columns, DriverRow, StandNumbered}
+
+pub record Tables : Type 0 where
+  pub drivers : List DriverRow
+  pub downloads : List DownloadRow
+  pub card_spans : List SpanRow
+  pub entries : List EntryRow
+  pub held : List SpanRow
+
+-- what is stored stands for these lists; their order means nothing
+pub record Stand (db : Trees) (a : Tables) : Type 0 where
+  pub meta : db 0 ≡ (Int (pos 1) ∷ Null ∷ Int (pos 1) ∷ []) ∷ []
+  pub drivers : StandNumbered (db 1) a.drivers
+  pub downloads : Stands download_columns (db 4) a.downloads
+  pub card_spans : Stands span_columns (db 6) a.card_spans
+  pub entries : Stands entry_columns (db 8) a.entries
+  pub held : Stands span_columns (db 10) a.held
+
+-- a step that makes of what stands for some lists what stands for others
+pub record Turns (old new : State) (step : Tables → Tables) : Type 0 where
+  pub schema : new.now.schema ≡ archive_schema
+  pub stands : (a : Tables) → Stand old.now.trees a → Stand new.now.trees (step a)
+
+-- a row of the driver that has a minute in the range
+abbrev pub is_near : ℕ → ℕ → ℕ → SpanRow → Bool
+is_near driver start past r = (r.driver == driver) && (nat_lt r.start past && nat_lt start r.past)
+
+-- a span as a driver's row, and the span of a row
+abbrev pub row_of : ℕ → StoredSpan → SpanRow
+row_of driver s = record { driver = driver; start = s.start; past = s.past; mark = s.mark }
+
+abbrev pub span_of : SpanRow → StoredSpan
+span_of r = record { start = r.start; past = r.past; mark = r.mark }
+
+-- what readings show of a row
+abbrev pub span_shown : SpanRow → Row
+span_shown r = Int (pos r.start) ∷ Int (pos r.past) ∷ Int (pos r.mark) ∷ []
+
+abbrev pub number_shown : DriverRow → Row
+number_shown r = Int (pos r.driver) ∷ []
+
+abbrev pub driver_shown : DriverRow → Row
+driver_shown r = Blob r.holder ∷ Int (pos r.base) ∷ Int (pos r.downloads) ∷ Int (pos r.entries) ∷ []
+
+abbrev pub file_shown : DownloadRow → Row
+file_shown r = Blob r.file ∷ []
+
+-- the download of the driver with this number
+abbrev pub is_download : ℕ → ℕ → DownloadRow → Bool
+is_download driver number r = (r.driver == driver) && (r.number == number)
+
+-- tests of drivers: by number, by key, by holder
+abbrev pub has_number : ℕ → DriverRow → Bool
+has_number driver r = r.driver == driver
+
+abbrev pub has_secret : List ℕ → DriverRow → Bool
+has_secret secret r = bytes_eq r.secret secret
+
+abbrev pub has_holder : List ℕ → DriverRow → Bool
+has_holder holder r = bytes_eq r.holder holder
+
+-- the driver with this number, with another base, or with another count of downloads
+abbrev pub with_base : ℕ → ℕ → DriverRow → DriverRow
+with_base driver base r = if has_number driver r then record r { base = base } else r
+
+abbrev pub with_downloads : ℕ → ℕ → DriverRow → DriverRow
+with_downloads driver count r = if has_number driver r then record r { downloads = count } else r
+
+-- an archive of no drivers
+abbrev pub no_rows : Tables
+no_rows = record { drivers = []; downloads = []; card_spans = []; entries = []; held = [] }

@@ -1,0 +1,17 @@
+//! The tables of the archive: how they are made, and calls that read and change their rows. Each call is one statement
+//! within a transaction.
+#![tactic(auto)]
+
+pub mod card_spans;
+pub mod downloads;
+pub mod drivers;
+mod fault;
+pub mod held;
+pub mod making;
+mod rows;
+
+pub use fault::TableFault;
+pub use rows::{StoredDriver, StoredSpan};
+
+#[cfg(test)]
+mod tests;

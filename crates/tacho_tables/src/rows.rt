@@ -1,0 +1,90 @@
+ghost use Rattle.std.specs.Prelude.{◌≡◌, ◌∷◌, [], List, map, IfOk, IfSome, IsNone, ◌↔◌};
+ghost use Rattle.sqlite.specs.Order.{Row as Values};
+ghost use Rattle.tacho_tables.specs.Rows.{SpanRow, DownloadRow, DriverRow};
+ghost use Rattle.tacho_tables.specs.Tables.{span_of, span_shown, file_shown, number_shown, driver_shown};
+
+use crate::fault::TableFault;
+use sqlite::Row;
+use std::alloc::Global;
+
+/// Minutes from `start` to before `past`, and the number of the mark that a driver has in them.
+#[derive(Clone, Copy, Debug, PartialEq, Eq)]
+pub struct StoredSpan {
+    pub start: u32,
+    pub past: u32,
+    pub mark: u32,
+}
+
+/// What is stored of a driver, but for his key and his name.
+#[derive(Debug, Drop)]
+pub struct StoredDriver {
+    /// The first 15 bytes of his card's identification.
+    pub holder: Vec<u8>,
+    /// The number of the day from which he is examined.
+    pub base: u32,
+    /// How many numbers were given out to his downloads.
+    pub downloads: u32,
+    /// How many numbers were given out to his entries.
+    pub entries: u32,
+}
+
+/// The span that a row of start, past and mark shows.
+fn stored_span(row: &Row) -> Result<StoredSpan, TableFault>
+    ensures { IfOk result (λ s. (r : SpanRow) → row.now ≡ span_shown r → s ≡ span_of r) }
+{
+    Ok(StoredSpan {
+        start: row.get(0)?,
+        past: row.get(1)?,
+        mark: row.get(2)?,
+    })
+}
+
+/// The spans that such rows show.
+pub(crate) fn stored_spans(alloc: Global, rows: &[Row]) -> Result<Vec<StoredSpan>, TableFault>
+    ensures { IfOk result (λ spans. (shown : List SpanRow) → rows.now ≡ map span_shown shown → spans.items ≡ map span_of shown) }
+{
+    let mut spans = Vec::new(alloc);
+    for row in rows {
+        spans.push(stored_span(row)?)?;
+    }
+    Ok(spans)
+}
+
+/// The file that the first of such rows shows, if there is one.
+pub(crate) fn first_file(rows: &[Row]) -> Result<Option<Vec<u8>>, TableFault>
+    ensures none { IfOk result (λ found. IsNone found ↔ (rows.now ≡ [])) }
+    ensures some { IfOk result (λ found. IfSome found (λ bytes. (r : DownloadRow) (more : List Values) → rows.now ≡ file_shown r ∷ more → bytes.items ≡ r.file)) }
+{
+    match rows.first() {
+        None => Ok(None),
+        Some(row) => Ok(Some(row.get(0)?)),
+    }
+}
+
+/// The number that the first of such rows shows, if there is one.
+pub(crate) fn first_number(rows: &[Row]) -> Result<Option<u32>, TableFault>
+    ensures none { IfOk result (λ found. IsNone found ↔ (rows.now ≡ [])) }
+    ensures some { IfOk result (λ found. IfSome found (λ number. (r : DriverRow) (more : List Values) → rows.now ≡ number_shown r ∷ more → number ≡ r.driver)) }
+{
+    match rows.first() {
+        None => Ok(None),
+        Some(row) => Ok(Some(row.get(0)?)),
+    }
+}
+
+/// The driver that the first of such rows shows, if there is one.
+pub(crate) fn first_driver(rows: &[Row]) -> Result<Option<StoredDriver>, TableFault>
+    ensures none { IfOk result (λ found. IsNone found ↔ (rows.now ≡ [])) }
+    ensures some { IfOk result (λ found. IfSome found (λ d. (r : DriverRow) (more : List Values) → rows.now ≡ driver_shown r ∷ more
+        → (d.holder.items ≡ r.holder) × (d.base ≡ r.base) × (d.downloads ≡ r.downloads) × (d.entries ≡ r.entries))) }
+{
+    match rows.first() {
+        None => Ok(None),
+        Some(row) => Ok(Some(StoredDriver {
+            holder: row.get(0)?,
+            base: row.get(1)?,
+            downloads: row.get(2)?,
+            entries: row.get(3)?,
+        })),
+    }
+}

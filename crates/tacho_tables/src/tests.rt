@@ -1,0 +1,98 @@
+ghost use Rattle.std.specs.Prelude.{◌≡◌};
+
+use crate::{StoredDriver, StoredSpan, TableFault, card_spans, downloads, drivers, held, making};
+use sqlite::Connection;
+use std::test::Fail;
+
+/// A span of the test.
+fn span(start: u32, past: u32, mark: u32) -> StoredSpan
+    ensures { result ≡ record { start = start; past = past; mark = mark } }
+{
+    StoredSpan { start, past, mark }
+}
+
+#[test]
+fn drivers_are_found_and_changed(rt: HostRuntime) -> Result<(), Fail> {
+    let mut conn = Connection::open_in_memory(rt.alloc())?;
+    let mut tx = conn.transaction();
+    making::make_all(&mut tx)?;
+    drivers::insert(&mut tx, 17, &[0x0d, 0x44], "anna-key-1", 19_786, "Anna")?;
+    drivers::insert(&mut tx, 18, &[0x0d, 0x45], "bert-key-1", 19_787, "Bert")?;
+    assert_eq!(rt; drivers::number_by_secret(&mut tx, "bert-key-1")?, Some(18));
+    assert_eq!(rt; drivers::number_by_secret(&mut tx, "bert-key-2")?, None);
+    assert_eq!(rt;
+        drivers::number_by_holder(&mut tx, &[0x0d, 0x44])?,
+        Some(17)
+    );
+    assert_eq!(rt; drivers::number_by_holder(&mut tx, &[0x0d])?, None);
+    drivers::set_base(&mut tx, 17, 19_790)?;
+    drivers::set_downloads(&mut tx, 18, 2)?;
+    assert!(rt; is_driver(drivers::by_number(&mut tx, 17)?, &[0x0d, 0x44], 19_790, 0));
+    assert!(rt; is_driver(drivers::by_number(&mut tx, 18)?, &[0x0d, 0x45], 19_787, 2));
+    assert!(rt; drivers::by_number(&mut tx, 19)?.is_none());
+    Ok(())
+}
+
+/// Whether there is a driver with these, and without entries.
+fn is_driver(found: Option<StoredDriver>, holder: &[u8], base: u32, count: u32) -> bool {
+    match found {
+        None => false,
+        Some(driver) => {
+            driver.holder.as_slice() == holder
+                && driver.base == base
+                && driver.downloads == count
+                && driver.entries == 0
+        }
+    }
+}
+
+#[test]
+fn held_spans_near_a_range(rt: HostRuntime) -> Result<(), Fail> {
+    let mut conn = Connection::open_in_memory(rt.alloc())?;
+    let mut tx = conn.transaction();
+    making::make_all(&mut tx)?;
+    drivers::insert(&mut tx, 17, &[0x0d, 0x44], "anna-key-1", 19_786, "Anna")?;
+    held::insert_all(
+        &mut tx,
+        17,
+        &[span(300, 400, 1), span(100, 200, 3), span(200, 210, 2)],
+    )?;
+    let middle = held::near(rt.alloc(), &mut tx, 17, 200, 300)?;
+    assert_eq!(rt; middle.as_slice(), [span(200, 210, 2)].as_slice());
+    let all = held::near(rt.alloc(), &mut tx, 17, 199, 301)?;
+    assert_eq!(rt;
+        all.as_slice(), [span(100, 200, 3), span(200, 210, 2), span(300, 400, 1)].as_slice()
+    );
+    assert!(rt; held::near(rt.alloc(), &mut tx, 18, 199, 301)?.is_empty());
+    assert!(rt; card_spans::near(rt.alloc(), &mut tx, 17, 199, 301)?.is_empty());
+    Ok(())
+}
+
+#[test]
+fn card_spans_and_a_download(rt: HostRuntime) -> Result<(), Fail> {
+    let mut conn = Connection::open_in_memory(rt.alloc())?;
+    let mut tx = conn.transaction();
+    making::make_all(&mut tx)?;
+    drivers::insert(&mut tx, 17, &[0x0d, 0x44], "anna-key-1", 19_786, "Anna")?;
+    card_spans::insert_all(&mut tx, 17, &[span(100, 200, 3), span(200, 210, 2)])?;
+    let first = card_spans::near(rt.alloc(), &mut tx, 17, 0, 200)?;
+    assert_eq!(rt; first.as_slice(), [span(100, 200, 3)].as_slice());
+    downloads::insert(&mut tx, 17, 1, 0, &[1, 2, 3])?;
+    downloads::insert(&mut tx, 17, 2, 2, &[4])?;
+    assert!(rt; is_file(downloads::file(&mut tx, 17, 1)?, &[1, 2, 3]));
+    assert!(rt; is_file(downloads::file(&mut tx, 17, 2)?, &[4]));
+    assert!(rt; downloads::file(&mut tx, 17, 3)?.is_none());
+    assert_eq!(rt;
+        downloads::insert(&mut tx, 18, 1, 0, &[1]),
+        Err(TableFault::Store)
+    );
+    Ok(())
+}
+
+/// Whether there is a file, of these bytes.
+fn is_file(found: Option<Vec<u8>>, bytes: &[u8]) -> bool {
+    match found {
+        None => false,
+        Some(file) => file.as_slice() == bytes,
+    }
+}
