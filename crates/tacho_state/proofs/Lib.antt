@@ -1,7 +1,7 @@
-mod DisjointLemmas
-mod NearLemmas
-mod OrderLemmas
-mod GainLemmas
+pub mod DisjointLemmas
+pub mod NearLemmas
+pub mod OrderLemmas
+pub mod GainLemmas
 mod WithdrawLemmas
 mod LeastLemmas
 mod StepLemmas
