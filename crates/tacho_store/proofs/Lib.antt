@@ -1,1 +1,4 @@
 mod OrderedLemmas
+mod RowLemmas
+mod StateLemmas
+mod FindLemmas

@@ -26,18 +26,18 @@ pub fn empty_tables_stand()
     ensures { IsOf no_rows [] }
 {}
 
-// /// Drivers are found in the tables by their numbers, keys and holders as in the state.
-// pub fn drivers_are_found()
-//     ensures no_number { (t : Tables) (s : State) (n : ℕ) → IsOf t s → (filter (has_number n) t.drivers ≡ []) ↔ (driver_of n s ≡ None) }
-//     ensures number { (t : Tables) (s : State) (n : ℕ) (row : DriverRow) → IsOf t s → Contains (filter (has_number n) t.drivers) row
-//         → (d : Driver) × (driver_of n s ≡ Some d) × (row ≡ driver_columns d) }
-//     ensures no_key { (t : Tables) (s : State) (key : List ℕ) → IsOf t s → (filter (has_secret key) t.drivers ≡ []) ↔ (keyed key s ≡ None) }
-//     ensures key { (t : Tables) (s : State) (key : List ℕ) (row : DriverRow) → IsOf t s → Contains (filter (has_secret key) t.drivers) row
-//         → (d : Driver) × (keyed key s ≡ Some d) × (row ≡ driver_columns d) }
-//     ensures no_holder { (t : Tables) (s : State) (holder : List ℕ) → IsOf t s → (filter (has_holder holder) t.drivers ≡ []) ↔ (holding holder s ≡ None) }
-//     ensures holder { (t : Tables) (s : State) (holder : List ℕ) (row : DriverRow) → IsOf t s → Contains (filter (has_holder holder) t.drivers) row
-//         → (d : Driver) × (holding holder s ≡ Some d) × (driver_of d.number s ≡ Some d) × (row ≡ driver_columns d) }
-// {}
+/// Drivers are found in the tables by their numbers, keys and holders as in the state.
+pub fn drivers_are_found()
+    ensures no_number { (t : Tables) (s : State) (n : ℕ) → IsOf t s → (filter (has_number n) t.drivers ≡ []) ↔ (driver_of n s ≡ None) }
+    ensures number { (t : Tables) (s : State) (n : ℕ) (row : DriverRow) → IsOf t s → Contains (filter (has_number n) t.drivers) row
+        → (d : Driver) × (driver_of n s ≡ Some d) × (row ≡ driver_columns d) }
+    ensures no_key { (t : Tables) (s : State) (key : List ℕ) → IsOf t s → (filter (has_secret key) t.drivers ≡ []) ↔ (keyed key s ≡ None) }
+    ensures key { (t : Tables) (s : State) (key : List ℕ) (row : DriverRow) → IsOf t s → Contains (filter (has_secret key) t.drivers) row
+        → (d : Driver) × (keyed key s ≡ Some d) × (row ≡ driver_columns d) }
+    ensures no_holder { (t : Tables) (s : State) (holder : List ℕ) → IsOf t s → (filter (has_holder holder) t.drivers ≡ []) ↔ (holding holder s ≡ None) }
+    ensures holder { (t : Tables) (s : State) (holder : List ℕ) (row : DriverRow) → IsOf t s → Contains (filter (has_holder holder) t.drivers) row
+        → (d : Driver) × (holding holder s ≡ Some d) × (driver_of d.number s ≡ Some d) × (row ≡ driver_columns d) }
+{}
 
 // /// A registration, on the tables.
 // pub fn registered_tables_stand()
