@@ -2,3 +2,4 @@ mod OrderedLemmas
 mod RowLemmas
 mod StateLemmas
 mod FindLemmas
+mod RegisterLemmas

@@ -39,16 +39,16 @@ pub fn drivers_are_found()
         → (d : Driver) × (holding holder s ≡ Some d) × (driver_of d.number s ≡ Some d) × (row ≡ driver_columns d) }
 {}
 
-// /// A registration, on the tables.
-// pub fn registered_tables_stand()
-//     ensures { (t : Tables) (s : State) (d : Driver) → IsOf t s → driver_of d.number s ≡ None → keyed d.key s ≡ None → holding d.holder s ≡ None
-//         → d.downloads ≡ [] → d.entries ≡ [] → IsOf (with_driver (driver_columns d) t) (s ++ d ∷ []) }
-// {}
+/// A registration, on the tables.
+pub fn registered_tables_stand()
+    ensures { (t : Tables) (s : State) (d : Driver) → IsOf t s → driver_of d.number s ≡ None → keyed d.key s ≡ None → holding d.holder s ≡ None
+        → d.downloads ≡ [] → d.entries ≡ [] → IsOf (with_driver (driver_columns d) t) (s ++ d ∷ []) }
+{}
 
-// /// A change of the day from which a driver is examined, on the tables.
-// pub fn rebased_tables_stand()
-//     ensures { (t : Tables) (s : State) (n base : ℕ) (d : Driver) → IsOf t s → driver_of n s ≡ Some d → IsOf (with_rebased n base t) (put (with_base base d) s) }
-// {}
+/// A change of the day from which a driver is examined, on the tables.
+pub fn rebased_tables_stand()
+    ensures { (t : Tables) (s : State) (n base : ℕ) (d : Driver) → IsOf t s → driver_of n s ≡ Some d → IsOf (with_rebased n base t) (put (with_base base d) s) }
+{}
 
 // /// What is read near a range is what the driver's rows keep there; and with the whole range, all that they keep.
 // pub fn rows_are_near()
