@@ -3,3 +3,6 @@ mod RowLemmas
 mod StateLemmas
 mod FindLemmas
 mod RegisterLemmas
+mod NearRowLemmas
+mod DownloadLemmas
+mod ImportLemmas

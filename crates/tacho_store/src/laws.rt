@@ -50,29 +50,29 @@ pub fn rebased_tables_stand()
     ensures { (t : Tables) (s : State) (n base : ℕ) (d : Driver) → IsOf t s → driver_of n s ≡ Some d → IsOf (with_rebased n base t) (put (with_base base d) s) }
 {}
 
-// /// What is read near a range is what the driver's rows keep there; and with the whole range, all that they keep.
-// pub fn rows_are_near()
-//     ensures card { (t : Tables) (s : State) (n : ℕ) (d : Driver) → IsOf t s → driver_of n s ≡ Some d → Keeps (spans_of n t.card_spans) (Given d) }
-//     ensures held { (t : Tables) (s : State) (n : ℕ) (d : Driver) → IsOf t s → driver_of n s ≡ Some d → Keeps (spans_of n t.held) (Held d) }
-//     ensures card_line { (t : Tables) (n start past : ℕ) (found : List StoredValue) (line : List Span) → IsReadNear t.card_spans n start past found
-//         → IsCanonicalOf (Gives (map stored_span found)) line → IsCanonicalOf (Gives (near start past (spans_of n t.card_spans))) line }
-//     ensures held_line { (t : Tables) (n start past : ℕ) (found : List StoredValue) (line : List Span) → IsReadNear t.held n start past found
-//         → IsCanonicalOf (Gives (map stored_span found)) line → IsCanonicalOf (Gives (near start past (spans_of n t.held))) line }
-// {}
+/// What is read near a range is what the driver's rows keep there; and with the whole range, all that they keep.
+pub fn rows_are_near()
+    ensures card { (t : Tables) (s : State) (n : ℕ) (d : Driver) → IsOf t s → driver_of n s ≡ Some d → Keeps (spans_of n t.card_spans) (Given d) }
+    ensures held { (t : Tables) (s : State) (n : ℕ) (d : Driver) → IsOf t s → driver_of n s ≡ Some d → Keeps (spans_of n t.held) (Held d) }
+    ensures card_line { (t : Tables) (n start past : ℕ) (found : List StoredValue) (line : List Span) → IsReadNear t.card_spans n start past found
+        → IsCanonicalOf (Gives (map stored_span found)) line → IsCanonicalOf (Gives (near start past (spans_of n t.card_spans))) line }
+    ensures held_line { (t : Tables) (n start past : ℕ) (found : List StoredValue) (line : List Span) → IsReadNear t.held n start past found
+        → IsCanonicalOf (Gives (map stored_span found)) line → IsCanonicalOf (Gives (near start past (spans_of n t.held))) line }
+{}
 
-// /// An import, on the tables: the gains against card spans near the file's spans and those against held rows near them are added.
-// pub fn imported_tables_stand()
-//     ensures { (t : Tables) (s : State) (n : ℕ) (d : Driver) (part : PartValue) (file : List ℕ) (content : Content) (card_line line card_gains gains : List Span) (start past : ℕ)
-//         → IsOf t s → driver_of n s ≡ Some d → Tells part file (Ok content) → AreInRange start past content.spans
-//         → IsCanonicalOf (Gives (near start past (spans_of n t.card_spans))) card_line → AreGains card_line content.spans card_gains
-//         → IsCanonicalOf (Gives (near start past (spans_of n t.held))) line → AreGains line content.spans gains
-//         → IsOf (with_imported n (1 + length d.downloads) (part_number part) file card_gains gains t) (put (with_download (part_number part) file content.spans d) s) }
-// {}
+/// An import, on the tables: the gains against card spans near the file's spans and those against held rows near them are added.
+pub fn imported_tables_stand()
+    ensures { (t : Tables) (s : State) (n : ℕ) (d : Driver) (part : PartValue) (file : List ℕ) (content : Content) (card_line line card_gains gains : List Span) (start past : ℕ)
+        → IsOf t s → driver_of n s ≡ Some d → Tells part file (Ok content) → AreInRange start past content.spans
+        → IsCanonicalOf (Gives (near start past (spans_of n t.card_spans))) card_line → AreGains card_line content.spans card_gains
+        → IsCanonicalOf (Gives (near start past (spans_of n t.held))) line → AreGains line content.spans gains
+        → IsOf (with_imported n (1 + length d.downloads) (part_number part) file card_gains gains t) (put (with_download (part_number part) file content.spans d) s) }
+{}
 
-// /// Downloads are found in the tables by their numbers as in the state.
-// pub fn downloads_are_found()
-//     ensures none { (t : Tables) (s : State) (n number : ℕ) (d : Driver) → IsOf t s → driver_of n s ≡ Some d
-//         → (filter (is_download n number) t.downloads ≡ []) ↔ (download_from 1 number d.downloads ≡ None) }
-//     ensures some { (t : Tables) (s : State) (n number : ℕ) (d : Driver) (row : DownloadRow) → IsOf t s → driver_of n s ≡ Some d
-//         → Contains (filter (is_download n number) t.downloads) row → file_of (download_from 1 number d.downloads) ≡ Ok row.file }
-// {}
+/// Downloads are found in the tables by their numbers as in the state.
+pub fn downloads_are_found()
+    ensures none { (t : Tables) (s : State) (n number : ℕ) (d : Driver) → IsOf t s → driver_of n s ≡ Some d
+        → (filter (is_download n number) t.downloads ≡ []) ↔ (download_from 1 number d.downloads ≡ None) }
+    ensures some { (t : Tables) (s : State) (n number : ℕ) (d : Driver) (row : DownloadRow) → IsOf t s → driver_of n s ≡ Some d
+        → Contains (filter (is_download n number) t.downloads) row → file_of (download_from 1 number d.downloads) ≡ Ok row.file }
+{}
