@@ -1,6 +1,6 @@
-pub mod DisjointLemmas
-pub mod NearLemmas
-pub mod OrderLemmas
+mod DisjointLemmas
+mod NearLemmas
+mod OrderLemmas
 pub mod GainLemmas
 mod WithdrawLemmas
 mod LeastLemmas

@@ -1,13 +1,14 @@
 -- Downloads by their numbers, in the tables and in the state.
-use Rattle.std.proofs.Common.{◌≡◌, ◌≢◌, ℕ, ◌+◌, ◌<◌, ◌==◌, ◌&&◌, ◌⊎◌, inl, inr, ◌↔◌, Bool, true, false, cond, List, [], ◌∷◌, ◌++◌, Option, Some, None, Ok, length, map, filter, refl, sym, ap, ◌∙◌, subst, arith}
+use Rattle.std.proofs.Common.{◌≡◌, ◌≢◌, ℕ, ◌+◌, ◌<◌, ◌==◌, ◌&&◌, ◌⊎◌, inl, inr, ◌↔◌, Bool, true, false, cond, List, [], ◌∷◌, ◌++◌, Some, None, Ok, length, filter, refl, sym, ap, ◌∙◌, subst, arith}
 use Rattle.std.specs.List.{Contains}
+use Rattle.std.proofs.lemmas.List.{append-nil}
 use Rattle.std.proofs.lemmas.List.Elements.{filter-append}
 use Rattle.tacho_state.specs.State.{Download, Driver, State, driver_of, download_from}
 use Rattle.tacho_state.specs.Steps.{file_of}
 use Rattle.tacho_tables.specs.Rows.{DownloadRow}
 use Rattle.tacho_tables.specs.Tables.{Tables, is_download}
 use Rattle.tacho_store.specs.Standing.{IsOf, download_rows, downloads_of}
-use Rattle.tacho_store.proofs.RowLemmas.{eq_self, eq_not, eq_true, append_none}
+use Rattle.tacho_store.proofs.RowLemmas.{eq_self, eq_not, eq_true}
 use Rattle.tacho_store.proofs.FindLemmas.{first_or_rest, none_there}
 use Rattle.tacho_store.proofs.StateLemmas.{found_number, found_of}
 
@@ -24,7 +25,7 @@ among_own : (n number : ℕ) (rows : List DownloadRow) → filter (is_download n
 among_own n number [] = refl
 among_own n number (r ∷ rows) = go (r.driver == n) (among_own n number rows) where
   go : (o : Bool) → filter (is_download n number) rows ≡ filter (has_own_number number) (downloads_of n rows)
-    → cond (o && (r.number == number)) (r ∷ filter (is_download n number) rows) (filter (is_download n number) rows) ≡ filter (has_own_number number) (cond o (r ∷ downloads_of n rows) (downloads_of n rows))
+      → cond (o && (r.number == number)) (r ∷ filter (is_download n number) rows) (filter (is_download n number) rows) ≡ filter (has_own_number number) (cond o (r ∷ downloads_of n rows) (downloads_of n rows))
   go true e = ap (λ (x : List DownloadRow). cond (r.number == number) (r ∷ x) x) e
   go false e = e
 
@@ -40,7 +41,7 @@ rows_none : (n i number : ℕ) (ds : List Download) → filter (has_own_number n
 rows_none n i number [] e = refl
 rows_none n i number (d ∷ ds) e = go (i == number) e (rows_none n (i + 1) number ds) where
   go : (b : Bool) → cond b (download_row n i d ∷ filter (has_own_number number) (download_rows n (i + 1) ds)) (filter (has_own_number number) (download_rows n (i + 1) ds)) ≡ []
-    → (filter (has_own_number number) (download_rows n (i + 1) ds) ≡ [] → download_from (i + 1) number ds ≡ None) → cond b (Some d) (download_from (i + 1) number ds) ≡ None
+      → (filter (has_own_number number) (download_rows n (i + 1) ds) ≡ [] → download_from (i + 1) number ds ≡ None) → cond b (Some d) (download_from (i + 1) number ds) ≡ None
   go true f more = cc
   go false f more = more f
 
@@ -49,7 +50,7 @@ none_rows : (n i number : ℕ) (ds : List Download) → download_from i number d
 none_rows n i number [] e = refl
 none_rows n i number (d ∷ ds) e = go (i == number) e (none_rows n (i + 1) number ds) where
   go : (b : Bool) → cond b (Some d) (download_from (i + 1) number ds) ≡ None → (download_from (i + 1) number ds ≡ None → filter (has_own_number number) (download_rows n (i + 1) ds) ≡ [])
-    → cond b (download_row n i d ∷ filter (has_own_number number) (download_rows n (i + 1) ds)) (filter (has_own_number number) (download_rows n (i + 1) ds)) ≡ []
+      → cond b (download_row n i d ∷ filter (has_own_number number) (download_rows n (i + 1) ds)) (filter (has_own_number number) (download_rows n (i + 1) ds)) ≡ []
   go true f more = cc
   go false f more = more f
 
@@ -58,7 +59,7 @@ row_file : (n i number : ℕ) (ds : List Download) (row : DownloadRow) → Conta
 row_file n i number [] row h = absurd (none_there row h)
 row_file n i number (d ∷ ds) row h = go (i == number) refl h (row_file n (i + 1) number ds row) where
   go : (b : Bool) → (i == number) ≡ b → Contains (cond b (download_row n i d ∷ filter (has_own_number number) (download_rows n (i + 1) ds)) (filter (has_own_number number) (download_rows n (i + 1) ds))) row
-    → (Contains (filter (has_own_number number) (download_rows n (i + 1) ds)) row → file_of (download_from (i + 1) number ds) ≡ Ok row.file) → file_of (cond b (Some d) (download_from (i + 1) number ds)) ≡ Ok row.file
+      → (Contains (filter (has_own_number number) (download_rows n (i + 1) ds)) row → file_of (download_from (i + 1) number ds) ≡ Ok row.file) → file_of (cond b (Some d) (download_from (i + 1) number ds)) ≡ Ok row.file
   go true o w more = either (first_or_rest (download_row n i d) row (filter (has_own_number number) (download_rows n (i + 1) ds)) w) where
     none : filter (has_own_number number) (download_rows n (i + 1) ds) ≡ []
     none = let f = eq_true i number o in later_rows n (i + 1) number ds (omega (arith, f))
@@ -73,7 +74,7 @@ numbered_rows : (t : Tables) (s : State) (n number : ℕ) (d : Driver) → IsOf 
 numbered_rows t s n number d h k =
     among_own n number t.downloads
     ∙ ap (λ (x : List DownloadRow). filter (has_own_number number) x)
-      (subst (λ (j : ℕ). downloads_of j t.downloads ≡ download_rows j 1 d.downloads) (found_number n s d k) (found_of t n s d k h.each).downloads)
+    (subst (λ (j : ℕ). downloads_of j t.downloads ≡ download_rows j 1 d.downloads) (found_number n s d k) (found_of t n s d k h.each).downloads)
 
 -- without a row of the number the driver has no such download
 pub download_none : (t : Tables) (s : State) (n number : ℕ) (d : Driver) → IsOf t s → driver_of n s ≡ Some d → (filter (is_download n number) t.downloads ≡ []) ↔ (download_from 1 number d.downloads ≡ None)
@@ -83,7 +84,7 @@ download_none t s n number d h k =
 
 -- a row of the number has his download's file
 pub download_some : (t : Tables) (s : State) (n number : ℕ) (d : Driver) (row : DownloadRow) → IsOf t s → driver_of n s ≡ Some d → Contains (filter (is_download n number) t.downloads) row
-  → file_of (download_from 1 number d.downloads) ≡ Ok row.file
+    → file_of (download_from 1 number d.downloads) ≡ Ok row.file
 download_some t s n number d row h k w = row_file n 1 number d.downloads row (subst (λ (rows : List DownloadRow). Contains rows row) (numbered_rows t s n number d h k) w)
 
 -- ---- one more download
@@ -107,7 +108,7 @@ pub other_added : (j n : ℕ) (rows : List DownloadRow) (r : DownloadRow) → r.
 other_added j n rows r e d =
     filter-append (λ (x : DownloadRow). x.driver == j) rows (r ∷ [])
     ∙ ap (λ b. downloads_of j rows ++ cond b (r ∷ []) []) (eq_not r.driver j (λ f. d (sym f ∙ e)))
-    ∙ append_none (downloads_of j rows)
+    ∙ append-nil (downloads_of j rows)
 
 -- it is counted
 pub one_more : (ds : List Download) (x : Download) → 1 + length ds ≡ length (ds ++ x ∷ [])

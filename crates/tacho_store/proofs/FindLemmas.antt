@@ -56,7 +56,7 @@ row_found : (p : DriverRow → Bool) (s : State) (row : DriverRow) → PassesOnc
 row_found p [] row o h = absurd (none_there row h)
 row_found p (x ∷ s) row o h = go (p (driver_columns x)) refl h (row_found p s row o.1) where
   go : (b : Bool) → p (driver_columns x) ≡ b → Contains (cond b (driver_columns x ∷ filter p (map driver_columns s)) (filter p (map driver_columns s))) row
-    → (Contains (filter p (map driver_columns s)) row → (d : Driver) × (first_passing p s ≡ Some d) × (row ≡ driver_columns d)) → (d : Driver) × (cond b (Some x) (first_passing p s) ≡ Some d) × (row ≡ driver_columns d)
+      → (Contains (filter p (map driver_columns s)) row → (d : Driver) × (first_passing p s ≡ Some d) × (row ≡ driver_columns d)) → (d : Driver) × (cond b (Some x) (first_passing p s) ≡ Some d) × (row ≡ driver_columns d)
   go true e w more = either (first_or_rest (driver_columns x) row (filter p (map driver_columns s)) w) where
     either : (driver_columns x ≡ row) ⊎ Contains (filter p (map driver_columns s)) row → (d : Driver) × (Some x ≡ Some d) × (row ≡ driver_columns d)
     either (inl f) = (x, refl, sym f)
@@ -147,7 +147,7 @@ none_passes p t s h = (λ e. rows_none p s (sym (ap (λ (x : List DriverRow). fi
 
 -- a row that passes is the found driver's
 row_passes : (p : DriverRow → Bool) (t : Tables) (s : State) (row : DriverRow) → t.drivers ≡ map driver_columns s → PassesOnce p s → Contains (filter p t.drivers) row
-  → (d : Driver) × (first_passing p s ≡ Some d) × (row ≡ driver_columns d)
+    → (d : Driver) × (first_passing p s ≡ Some d) × (row ≡ driver_columns d)
 row_passes p t s row h o w = row_found p s row o (subst (λ (x : List DriverRow). Contains (filter p x) row) h w)
 
 -- without a row of the number there is no such driver
@@ -176,7 +176,7 @@ key_some t s key row h w =
 
 -- a row of the holder is its driver's
 pub holder_some : (t : Tables) (s : State) (holder : List ℕ) (row : DriverRow) → IsOf t s → Contains (filter (has_holder holder) t.drivers) row
-  → (d : Driver) × (holding holder s ≡ Some d) × (driver_of d.number s ≡ Some d) × (row ≡ driver_columns d)
+    → (d : Driver) × (holding holder s ≡ Some d) × (driver_of d.number s ≡ Some d) × (row ≡ driver_columns d)
 holder_some t s holder row h w =
     let it = row_passes (has_holder holder) t s row h.drivers (once_holder holder s h.distinct) w in
     (it.0, sym (by_holder holder s) ∙ it.1, passing_number (has_holder holder) s it.0 h.distinct it.1, it.2)

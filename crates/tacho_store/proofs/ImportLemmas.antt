@@ -18,7 +18,7 @@ use Rattle.tacho_store.proofs.StateLemmas.{SameOfDriver, found_number, found_of,
 
 -- the spans of one more download are read from its file
 read_more : (ds : List Download) (part : Part) (file : List ℕ) (content : Content) → AreRead ds → Tells part file (Ok content)
-  → AreRead (ds ++ record { part = part_number part; file = file; spans = content.spans } ∷ [])
+    → AreRead (ds ++ record { part = part_number part; file = file; spans = content.spans } ∷ [])
 read_more [] part file content h tells = ((part, content.holder, refl, tells), tt)
 read_more (d ∷ ds) part file content h tells = (h.0, read_more ds part file content h.1 tells)
 
@@ -31,8 +31,8 @@ pub record AreGained (t : Tables) (n a b : ℕ) (spans card_line line card_gains
 
 -- the tables stand for the driver with the download
 imported_own : (t : Tables) (d : Driver) (part : Part) (file : List ℕ) (content : Content) (card_line line card_gains gains : List Span) (a b : ℕ) → IsOfDriver t d → Tells part file (Ok content) → AreInRange a b content.spans
-  → AreGained t d.number a b content.spans card_line line card_gains gains
-  → IsOfDriver (with_imported d.number (1 + length d.downloads) (part_number part) file card_gains gains t) (with_download (part_number part) file content.spans d)
+    → AreGained t d.number a b content.spans card_line line card_gains gains
+    → IsOfDriver (with_imported d.number (1 + length d.downloads) (part_number part) file card_gains gains t) (with_download (part_number part) file content.spans d)
 imported_own t d part file content card_line line card_gains gains a b h tells r g =
     record {
       downloads =
@@ -72,27 +72,27 @@ counted_other n count r d = ap (λ b. cond b (record r { downloads = count }) r)
 
 -- the tables stand for the state after an import by the driver's own number
 imported_at : (t : Tables) (s : State) (d : Driver) (part : Part) (file : List ℕ) (content : Content) (card_line line card_gains gains : List Span) (a b : ℕ) → IsOf t s → driver_of d.number s ≡ Some d
-  → Tells part file (Ok content) → AreInRange a b content.spans → AreGained t d.number a b content.spans card_line line card_gains gains
-  → IsOf (with_imported d.number (1 + length d.downloads) (part_number part) file card_gains gains t) (put (with_download (part_number part) file content.spans d) s)
+    → Tells part file (Ok content) → AreInRange a b content.spans → AreGained t d.number a b content.spans card_line line card_gains gains
+    → IsOf (with_imported d.number (1 + length d.downloads) (part_number part) file card_gains gains t) (put (with_download (part_number part) file content.spans d) s)
 imported_at t s d part file content card_line line card_gains gains a b h k tells r g =
     let n = d.number in
     let count = 1 + length d.downloads in
     let next = with_download (part_number part) file content.spans d in
     put_is t (with_imported n count (part_number part) file card_gains gains t) n next d s h k refl (record { key = refl; holder = refl })
     (ap (λ (x : List DriverRow). map (with_downloads n count) x) h.drivers
-      ∙ rows_put (with_downloads n count) n next d s k refl h.distinct
-        (counted_own n count (driver_columns d) refl ∙ ap (λ (y : ℕ). record (driver_columns d) { downloads = y }) (one_more d.downloads (record { part = part_number part; file = file; spans = content.spans })))
-        (λ x o. counted_other n count x o))
+    ∙ rows_put (with_downloads n count) n next d s k refl h.distinct
+    (counted_own n count (driver_columns d) refl ∙ ap (λ (y : ℕ). record (driver_columns d) { downloads = y }) (one_more d.downloads (record { part = part_number part; file = file; spans = content.spans })))
+    (λ x o. counted_other n count x o))
     (imported_own t d part file content card_line line card_gains gains a b (found_of t n s d k h.each) tells r g)
     (λ j o. imported_other t n count (part_number part) file card_gains gains j o)
 
 -- the tables after an import stand for the state after it
 pub imported_is : (t : Tables) (s : State) (n : ℕ) (d : Driver) (part : Part) (file : List ℕ) (content : Content) (card_line line card_gains gains : List Span) (a b : ℕ) → IsOf t s → driver_of n s ≡ Some d
-  → Tells part file (Ok content) → AreInRange a b content.spans
-  → IsCanonicalOf (Gives (near a b (spans_of n t.card_spans))) card_line → AreGains card_line content.spans card_gains
-  → IsCanonicalOf (Gives (near a b (spans_of n t.held))) line → AreGains line content.spans gains
-  → IsOf (with_imported n (1 + length d.downloads) (part_number part) file card_gains gains t) (put (with_download (part_number part) file content.spans d) s)
+    → Tells part file (Ok content) → AreInRange a b content.spans
+    → IsCanonicalOf (Gives (near a b (spans_of n t.card_spans))) card_line → AreGains card_line content.spans card_gains
+    → IsCanonicalOf (Gives (near a b (spans_of n t.held))) line → AreGains line content.spans gains
+    → IsOf (with_imported n (1 + length d.downloads) (part_number part) file card_gains gains t) (put (with_download (part_number part) file content.spans d) s)
 imported_is t s n d part file content card_line line card_gains gains a b h k tells r cl cg l g =
     subst (λ (j : ℕ). driver_of j s ≡ Some d → AreGained t j a b content.spans card_line line card_gains gains
-      → IsOf (with_imported j (1 + length d.downloads) (part_number part) file card_gains gains t) (put (with_download (part_number part) file content.spans d) s)) (found_number n s d k)
+    → IsOf (with_imported j (1 + length d.downloads) (part_number part) file card_gains gains t) (put (with_download (part_number part) file content.spans d) s)) (found_number n s d k)
     (λ k g. imported_at t s d part file content card_line line card_gains gains a b h k tells r g) k (record { card_near = cl; card_gained = cg; held_near = l; held_gained = g })

@@ -1,5 +1,5 @@
 -- What is read near a range gives what the driver's rows give there.
-use Rattle.std.proofs.Common.{◌≡◌, ℕ, zero, suc, ◌<◌, ◌⊎◌, inl, inr, List, [], ◌∷◌, Some, length, map, filter, refl, sym, ap, ◌∙◌, subst, arith}
+use Rattle.std.proofs.Common.{◌≡◌, ℕ, suc, ◌⊎◌, inl, inr, List, [], ◌∷◌, Some, map, filter, refl, sym, subst, arith}
 use Rattle.std.specs.List.{Contains}
 use Rattle.std.specs.List.Sorted.{IsPermutation}
 use Rattle.std.proofs.lemmas.List.Sorted.{IsPermutation-sym, IsPermutation-map, Contains-permutation}
@@ -41,10 +41,10 @@ permuted_gives xs ys m k p g =
 
 -- the line of what was read near a range is that of the driver's spans there
 pub read_line : (rows : List SpanRow) (n a b : ℕ) (found : List StoredSpan) (line : List Span) → IsReadNear rows n a b found → IsCanonicalOf (Gives (map stored_span found)) line
-  → IsCanonicalOf (Gives (near a b (spans_of n rows))) line
+    → IsCanonicalOf (Gives (near a b (spans_of n rows))) line
 read_line rows n a b found line p h =
     let read : IsPermutation (near a b (spans_of n rows)) (map stored_span found) =
-        subst (λ (x : List Span). IsPermutation x (map stored_span found)) (near_spans n a b rows) (IsPermutation-map stored_span (map span_of (filter (is_near n a b) rows)) found p)
+    subst (λ (x : List Span). IsPermutation x (map stored_span found)) (near_spans n a b rows) (IsPermutation-map stored_span (map span_of (filter (is_near n a b) rows)) found p)
     in
     record {
       canonical = h.canonical;

@@ -1,5 +1,5 @@
 -- The order of a table's rows means nothing.
-use Rattle.std.proofs.Common.{List, map}
+use Rattle.std.proofs.Common.{List}
 use Rattle.std.specs.List.Sorted.{IsPermutation}
 use Rattle.std.proofs.lemmas.List.Sorted.{IsPermutation-sym, IsPermutation-map}
 use Rattle.sqlite.specs.Order.{Row}
@@ -14,6 +14,7 @@ use Rattle.tacho_store.specs.Standing.{SameRows}
 shuffled : {X : Type 0} (columns : X → Row) (rows : List Row) (all other : List X) → IsPermutation all other → Stands columns rows all → Stands columns rows other
 shuffled columns rows all other same s = stands_shuffled columns rows all other s (IsPermutation-map columns other all (IsPermutation-sym all other same))
 
+-- and so do all five tables
 pub any_order_stands : (db : Trees) (t u : Tables) → SameRows t u → Stand db t → Stand db u
 any_order_stands db t u same s = record {
   meta = s.meta;

@@ -1,15 +1,15 @@
 -- A driver is registered, or examined from another day.
-use Rattle.std.proofs.Common.{◌≡◌, ◌≢◌, ℕ, ◌==◌, Bool, true, false, cond, List, [], ◌∷◌, ◌++◌, Option, Some, None, map, refl, sym, ap, ◌∙◌, subst}
+use Rattle.std.proofs.Common.{◌≡◌, ◌≢◌, ℕ, ◌==◌, Bool, true, false, cond, List, [], ◌∷◌, ◌++◌, Some, None, map, refl, sym, ap, ◌∙◌, subst}
 use Rattle.std.specs.Str.{bytes_eq}
 use Rattle.std.proofs.lemmas.List.{map-append}
 use Rattle.tacho_time.specs.declared.span.Span.{Span}
 use Rattle.tacho_time.specs.Spans.{Gives}
 use Rattle.tacho_state.specs.Disjoint.{Keeps}
-use Rattle.tacho_state.specs.State.{Download, Entry, Driver, State, Given, Held, AreFull, given_spans, held_spans, entered_spans, driver_of, keyed, holding, put, with_base}
-use Rattle.tacho_tables.specs.Rows.{DriverRow, DownloadRow, EntryRow}
+use Rattle.tacho_state.specs.State.{Download, Entry, Driver, State, driver_of, keyed, holding, put, with_base}
+use Rattle.tacho_tables.specs.Rows.{DriverRow}
 use Rattle.tacho_tables.specs.Tables as tables
 use Rattle.tacho_tables.specs.Tables.{Tables}
-use Rattle.tacho_store.specs.Standing.{driver_columns, download_rows, entry_rows, downloads_of, entries_of, spans_of, AreRead, IsOfDriver, IsOfEach, HasNot, HasNoKey, HasNoHolder, AreDistinct, AreKnown, IsOf, with_driver, with_rebased}
+use Rattle.tacho_store.specs.Standing.{driver_columns, IsOfDriver, IsOfEach, HasNot, HasNoKey, HasNoHolder, AreDistinct, AreKnown, IsOf, with_driver, with_rebased}
 use Rattle.tacho_store.proofs.RowLemmas.{eq_self, eq_not, eq_false}
 use Rattle.tacho_store.proofs.FindLemmas.{bytes_false}
 use Rattle.tacho_store.proofs.StateLemmas.{SameOfDriver, found_number, found_of, put_is, rows_put}
@@ -63,11 +63,12 @@ added_has n (x ∷ s) d h = (h.0, added_has n s d h.1)
 -- drivers stay distinct
 distinct_added : (s : State) (d : Driver) → HasNot d.number s → HasNoKey d.key s → HasNoHolder d.holder s → AreDistinct s → AreDistinct (s ++ d ∷ [])
 distinct_added [] d n k o h = (tt, tt, tt, tt)
-distinct_added (x ∷ s) d n k o h =
-    ( has_added x.number s d h.0 (λ e. n.0 (sym e)),
-      no_key_added x.key s d h.1 (λ e. k.0 (sym e)),
-      no_holder_added x.holder s d h.2 (λ e. o.0 (sym e)),
-      distinct_added s d n.1 k.1 o.1 h.3 )
+distinct_added (x ∷ s) d n k o h = (
+  has_added x.number s d h.0 (λ e. n.0 (sym e)),
+  no_key_added x.key s d h.1 (λ e. k.0 (sym e)),
+  no_holder_added x.holder s d h.2 (λ e. o.0 (sym e)),
+  distinct_added s d n.1 k.1 o.1 h.3,
+)
 
 -- the tables stand for the others, who have the rows that they had, and for the new one
 each_added : (t : Tables) (row : DriverRow) (s : State) (d : Driver) → IsOfEach t s → IsOfDriver (with_driver row t) d → IsOfEach (with_driver row t) (s ++ d ∷ [])
@@ -80,22 +81,22 @@ nothing_kept = record { disjoint = tt; same = λ m k. (λ g. g, λ g. g) }
 
 -- a driver without downloads and entries needs no rows
 new_is : (t : Tables) (s : State) (d : Driver) (downloads : List Download) (entries : List Entry) → downloads ≡ [] → entries ≡ [] → AreKnown t s → HasNot d.number s
-  → IsOfDriver (with_driver (driver_columns d) t) (record d { downloads = downloads; entries = entries })
+    → IsOfDriver (with_driver (driver_columns d) t) (record d { downloads = downloads; entries = entries })
 new_is t s d downloads entries none empty known free =
     subst (λ (ds : List Download). IsOfDriver (with_driver (driver_columns d) t) (record d { downloads = ds; entries = entries })) (sym none)
     (subst (λ (es : List Entry). IsOfDriver (with_driver (driver_columns d) t) (record d { downloads = []; entries = es })) (sym empty)
-      (record {
-        downloads = known.downloads d.number free;
-        read = tt;
-        entries = known.entries d.number free;
-        full = tt;
-        card_spans = subst (λ (x : List Span). Keeps x (Gives [])) (sym (known.card_spans d.number free)) nothing_kept;
-        held = subst (λ (x : List Span). Keeps x (Gives [])) (sym (known.held d.number free)) nothing_kept;
-      }))
+    (record {
+      downloads = known.downloads d.number free;
+      read = tt;
+      entries = known.entries d.number free;
+      full = tt;
+      card_spans = subst (λ (x : List Span). Keeps x (Gives [])) (sym (known.card_spans d.number free)) nothing_kept;
+      held = subst (λ (x : List Span). Keeps x (Gives [])) (sym (known.held d.number free)) nothing_kept;
+    }))
 
 -- the tables with a new driver's row stand for the state with him
 pub registered_is : (t : Tables) (s : State) (d : Driver) → IsOf t s → driver_of d.number s ≡ None → keyed d.key s ≡ None → holding d.holder s ≡ None
-  → d.downloads ≡ [] → d.entries ≡ [] → IsOf (with_driver (driver_columns d) t) (s ++ d ∷ [])
+    → d.downloads ≡ [] → d.entries ≡ [] → IsOf (with_driver (driver_columns d) t) (s ++ d ∷ [])
 registered_is t s d h n k o none empty =
     let free = number_not d.number s n in
     record {
@@ -131,6 +132,6 @@ rebased_is t s n base d h k =
     let own = found_of t n s d k h.each in
     put_is t (with_rebased n base t) n (with_base base d) d s h k same (record { key = refl; holder = refl })
     (ap (λ (x : List DriverRow). map (tables.with_base n base) x) h.drivers
-      ∙ rows_put (tables.with_base n base) n (with_base base d) d s k same h.distinct (based_own n base (driver_columns d) same) (λ x o. based_other n base x o))
+    ∙ rows_put (tables.with_base n base) n (with_base base d) d s k same h.distinct (based_own n base (driver_columns d) same) (λ x o. based_other n base x o))
     (record { downloads = own.downloads; read = own.read; entries = own.entries; full = own.full; card_spans = own.card_spans; held = own.held })
     (λ j o. based_same t n base j)

@@ -1,5 +1,5 @@
 -- What the archive's tables stand for: rows by driver, and the state of all drivers.
-use Rattle.std.specs.Prelude.{◌≡◌, ◌≢◌, ℕ, ◌+◌, ◌==◌, nat_lt, Bool, true, false, List, [], ◌∷◌, ◌++◌, length, map, filter, IsPermutation, Ok, if◌then◌else◌}
+use Rattle.std.specs.Prelude.{◌≡◌, ◌≢◌, ℕ, ◌+◌, ◌==◌, nat_lt, true, false, List, [], ◌∷◌, ◌++◌, length, map, filter, IsPermutation, Ok, if◌then◌else◌}
 use Rattle.sqlite.specs.Tree.{Trees}
 use Rattle.tacho_time.specs.declared.span.Span.{Span}
 use Rattle.tacho_time.specs.declared.span.Mark.{Mark}
@@ -8,7 +8,6 @@ use Rattle.tacho_time.specs.declared.span.Activity.TheVariants.{Rest, Available,
 use Rattle.tacho_card.specs.declared.file.Part.{Part}
 use Rattle.tacho_state.specs.State.{Download, Entry, Driver, State, Given, Held, AreFull}
 use Rattle.tacho_state.specs.Disjoint.{Keeps}
-use Rattle.tacho_state.specs.Steps.{Content}
 use Rattle.tacho_state.specs.Content.{Tells, part_number}
 use Rattle.tacho_tables.specs.Rows.{SpanRow, DownloadRow, EntryRow, DriverRow}
 use Rattle.tacho_tables.specs.declared.rows.StoredSpan.{StoredSpan}
