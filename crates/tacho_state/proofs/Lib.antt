@@ -1,7 +1,7 @@
 mod DisjointLemmas
 mod NearLemmas
 mod OrderLemmas
-mod GainLemmas
+pub mod GainLemmas
 mod WithdrawLemmas
 mod LeastLemmas
 mod StepLemmas

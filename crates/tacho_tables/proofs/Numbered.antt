@@ -40,7 +40,7 @@ are_numbered : (rows : List Row) (all : List DriverRow) → StandNumbered rows a
 are_numbered rows all s = record { numbered = λ r has. let it = drivers_only rows all s r has in (pos it.0.driver, ap rowid it.1); apart = s.apart }
 
 -- the order of the list means nothing
-numbered_shuffled : (rows : List Row) (all other : List DriverRow) → StandNumbered rows all → IsPermutation other all → StandNumbered rows other
+pub numbered_shuffled : (rows : List Row) (all other : List DriverRow) → StandNumbered rows all → IsPermutation other all → StandNumbered rows other
 numbered_shuffled rows all other s same = record { apart = s.apart; same = IsPermutation-trans _ _ _ (IsPermutation-map driver_row other all same) s.same }
 
 -- one driver more

@@ -1,0 +1,5 @@
+use Rattle.tacho_store.proofs.RegisterLemmas.{rebased_is}
+use Rattle.tacho_store.proofs.laws.rebased_tables_stand.Goals as goal
+
+pub returns : goal.returns
+returns c = rebased_is

@@ -1,0 +1,5 @@
+use Rattle.tacho_store.proofs.RegisterLemmas.{registered_is}
+use Rattle.tacho_store.proofs.laws.registered_tables_stand.Goals as goal
+
+pub returns : goal.returns
+returns c = registered_is

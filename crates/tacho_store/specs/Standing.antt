@@ -1,0 +1,160 @@
+-- What the archive's tables stand for: rows by driver, and the state of all drivers.
+use Rattle.std.specs.Prelude.{◌≡◌, ◌≢◌, ℕ, ◌+◌, ◌==◌, nat_lt, true, false, List, [], ◌∷◌, ◌++◌, length, map, filter, IsPermutation, Ok, if◌then◌else◌}
+use Rattle.sqlite.specs.Tree.{Trees}
+use Rattle.tacho_time.specs.declared.span.Span.{Span}
+use Rattle.tacho_time.specs.declared.span.Mark.{Mark}
+use Rattle.tacho_time.specs.declared.span.Activity.{Activity}
+use Rattle.tacho_time.specs.declared.span.Activity.TheVariants.{Rest, Available, Work, Drive}
+use Rattle.tacho_card.specs.declared.file.Part.{Part}
+use Rattle.tacho_state.specs.State.{Download, Entry, Driver, State, Given, Held, AreFull}
+use Rattle.tacho_state.specs.Disjoint.{Keeps}
+use Rattle.tacho_state.specs.Content.{Tells, part_number}
+use Rattle.tacho_tables.specs.Rows.{SpanRow, DownloadRow, EntryRow, DriverRow}
+use Rattle.tacho_tables.specs.declared.rows.StoredSpan.{StoredSpan}
+use Rattle.tacho_tables.specs.Tables.{Tables, Stand, is_near, span_of, with_base, with_downloads}
+
+-- ---- marks as numbers: 0 rest, 1 available, 2 work, 3 drive, and 4 more for crew
+
+abbrev pub activity_number : Activity → ℕ
+activity_number Rest = 0
+activity_number Available = 1
+activity_number Work = 2
+activity_number Drive = 3
+
+abbrev pub mark_number : Mark → ℕ
+mark_number k = activity_number k.activity + (if k.crew then 4 else 0)
+
+abbrev pub numbered_activity : ℕ → Activity
+numbered_activity n = if n == 0 then Rest else (if n == 1 then Available else (if n == 2 then Work else Drive))
+
+abbrev pub numbered_mark : ℕ → Mark
+numbered_mark n =
+    if nat_lt n 4 then record { activity = numbered_activity n; crew = false }
+    else record { activity = (if n == 4 then Rest else (if n == 5 then Available else (if n == 6 then Work else Drive))); crew = true }
+
+-- ---- rows of a driver
+
+-- the span of a row, and the row of a driver's span
+abbrev pub row_span : SpanRow → Span
+row_span r = record { start = r.start; past = r.past; mark = numbered_mark r.mark }
+
+abbrev pub span_row : ℕ → Span → SpanRow
+span_row n s = record { driver = n; start = s.start; past = s.past; mark = mark_number s.mark }
+
+-- the spans of a driver's rows
+abbrev pub spans_of : ℕ → List SpanRow → List Span
+spans_of n [] = []
+spans_of n (r ∷ rows) = if r.driver == n then row_span r ∷ spans_of n rows else spans_of n rows
+
+-- the rows of his downloads and of his entries, numbered from a number on
+abbrev pub download_rows : ℕ → ℕ → List Download → List DownloadRow
+download_rows n i [] = []
+download_rows n i (d ∷ ds) = record { driver = n; number = i; part = d.part; file = d.file } ∷ download_rows n (i + 1) ds
+
+abbrev pub entry_row : ℕ → ℕ → Entry → EntryRow
+entry_row n i e = record { driver = n; number = i; start = e.start; past = e.past; mark = activity_number e.activity; withdrawn = (if e.withdrawn then 1 else 0) }
+
+abbrev pub entry_rows : ℕ → ℕ → List Entry → List EntryRow
+entry_rows n i [] = []
+entry_rows n i (e ∷ es) = entry_row n i e ∷ entry_rows n (i + 1) es
+
+-- his own row: the columns downloads and entries count the numbers that were given out
+abbrev pub driver_columns : Driver → DriverRow
+driver_columns d = record { driver = d.number; holder = d.holder; secret = d.key; base = d.base; name = d.name; downloads = length d.downloads; entries = length d.entries }
+
+abbrev pub downloads_of : ℕ → List DownloadRow → List DownloadRow
+downloads_of n rows = filter (λ r. r.driver == n) rows
+
+abbrev pub entries_of : ℕ → List EntryRow → List EntryRow
+entries_of n rows = filter (λ r. r.driver == n) rows
+
+-- ---- what the tables stand for
+
+-- each download's spans are what its file tells by its part
+abbrev pub AreRead : List Download → Type 0
+AreRead [] = Unit {0}
+AreRead (d ∷ ds) =
+    ((part : Part) × (holder : List ℕ) × (part_number part ≡ d.part) × Tells part d.file (Ok (record { holder = holder; spans = d.spans }))) × AreRead ds
+
+-- the rows of one driver: card_spans give exactly what his downloads give, and held exactly what he holds, each in disjoint rows
+pub record IsOfDriver (t : Tables) (d : Driver) : Type 0 where
+  pub downloads : downloads_of d.number t.downloads ≡ download_rows d.number 1 d.downloads
+  pub read : AreRead d.downloads
+  pub entries : entries_of d.number t.entries ≡ entry_rows d.number 1 d.entries
+  pub full : AreFull d.entries
+  pub card_spans : Keeps (spans_of d.number t.card_spans) (Given d)
+  pub held : Keeps (spans_of d.number t.held) (Held d)
+
+abbrev pub IsOfEach : Tables → State → Type 0
+IsOfEach t [] = Unit {0}
+IsOfEach t (d ∷ s) = IsOfDriver t d × IsOfEach t s
+
+-- no driver of the state has the number, the key, or the holder
+abbrev pub HasNot : ℕ → State → Type 0
+HasNot n [] = Unit {0}
+HasNot n (d ∷ s) = (d.number ≢ n) × HasNot n s
+
+abbrev pub HasNoKey : List ℕ → State → Type 0
+HasNoKey key [] = Unit {0}
+HasNoKey key (d ∷ s) = (d.key ≢ key) × HasNoKey key s
+
+abbrev pub HasNoHolder : List ℕ → State → Type 0
+HasNoHolder holder [] = Unit {0}
+HasNoHolder holder (d ∷ s) = (d.holder ≢ holder) × HasNoHolder holder s
+
+-- no two drivers have one number, one key or one holder
+abbrev pub AreDistinct : State → Type 0
+AreDistinct [] = Unit {0}
+AreDistinct (d ∷ s) = HasNot d.number s × HasNoKey d.key s × HasNoHolder d.holder s × AreDistinct s
+
+-- no row is without its driver
+pub record AreKnown (t : Tables) (s : State) : Type 0 where
+  pub downloads : (n : ℕ) → HasNot n s → downloads_of n t.downloads ≡ []
+  pub entries : (n : ℕ) → HasNot n s → entries_of n t.entries ≡ []
+  pub card_spans : (n : ℕ) → HasNot n s → spans_of n t.card_spans ≡ []
+  pub held : (n : ℕ) → HasNot n s → spans_of n t.held ≡ []
+
+-- the tables stand for the state
+pub record IsOf (t : Tables) (s : State) : Type 0 where
+  pub drivers : t.drivers ≡ map driver_columns s
+  pub distinct : AreDistinct s
+  pub each : IsOfEach t s
+  pub known : AreKnown t s
+
+-- what is stored stands for the state
+abbrev pub StandsFor : Trees → State → Type 0
+StandsFor db s = (t : Tables) × Stand db t × IsOf t s
+
+-- ---- the tables after a command
+
+-- a driver is registered
+abbrev pub with_driver : DriverRow → Tables → Tables
+with_driver row t = record t { drivers = t.drivers ++ row ∷ [] }
+
+-- a driver is examined from another day
+abbrev pub with_rebased : ℕ → ℕ → Tables → Tables
+with_rebased n base t = record t { drivers = map (with_base n base) t.drivers }
+
+-- a download goes in: its row, its number as the count, and what it gives that downloads, and the driver, didn't have
+abbrev pub with_imported : ℕ → ℕ → ℕ → List ℕ → List Span → List Span → Tables → Tables
+with_imported n number part file card_gains gains t = record t {
+  drivers = map (with_downloads n number) t.drivers;
+  downloads = t.downloads ++ record { driver = n; number = number; part = part; file = file } ∷ [];
+  card_spans = t.card_spans ++ map (span_row n) card_gains;
+  held = t.held ++ map (span_row n) gains;
+}
+
+-- the same rows in another order
+pub record SameRows (t u : Tables) : Type 0 where
+  pub drivers : IsPermutation t.drivers u.drivers
+  pub downloads : IsPermutation t.downloads u.downloads
+  pub card_spans : IsPermutation t.card_spans u.card_spans
+  pub entries : IsPermutation t.entries u.entries
+  pub held : IsPermutation t.held u.held
+
+-- what is read near a range, in some order, as spans
+abbrev pub stored_span : StoredSpan → Span
+stored_span s = record { start = s.start; past = s.past; mark = numbered_mark s.mark }
+
+abbrev pub IsReadNear : List SpanRow → ℕ → ℕ → ℕ → List StoredSpan → Type 0
+IsReadNear rows n start past found = IsPermutation (map span_of (filter (is_near n start past) rows)) found

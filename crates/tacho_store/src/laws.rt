@@ -1,0 +1,78 @@
+//! Laws about what the archive's tables stand for. A law is a function without a body: what it ensures is proved, and holds for
+//! all that it names.
+
+ghost use Rattle.std.specs.Prelude.{◌≡◌, ◌↔◌, ℕ, ◌+◌, ◌++◌, List, [], ◌∷◌, Option, None, Some, Ok, Err, length, map, filter, Contains};
+ghost use Rattle.sqlite.specs.Tree.{Trees};
+ghost use Rattle.tacho_time.specs.Spans.{Gives, IsCanonicalOf};
+ghost use Rattle.tacho_time.specs.declared.span.Span.{Span};
+ghost use Rattle.tacho_line.specs.Line.{AreGains};
+ghost use Rattle.tacho_card.specs.declared.file.Part.{Part as PartValue};
+ghost use Rattle.tacho_state.specs.Content.{Tells, part_number};
+ghost use Rattle.tacho_state.specs.Disjoint.{Keeps, AreInRange, near};
+ghost use Rattle.tacho_state.specs.State.{Driver, Download, State, Given, Held, driver_of, keyed, holding, download_from, put, with_base, with_download};
+ghost use Rattle.tacho_state.specs.Steps.{Content, file_of};
+ghost use Rattle.tacho_tables.specs.declared.rows.StoredSpan.{StoredSpan as StoredValue};
+ghost use Rattle.tacho_tables.specs.Rows.{DriverRow, DownloadRow};
+ghost use Rattle.tacho_tables.specs.Tables.{Tables, Stand, no_rows, has_number, has_secret, has_holder, is_download};
+ghost use Rattle.tacho_store.specs.Standing.{IsOf, SameRows, spans_of, driver_columns, with_driver, with_rebased, with_imported, stored_span, IsReadNear};
+
+/// What is stored stands for lists of rows in any order.
+pub fn any_order()
+    ensures { (db : Trees) (t u : Tables) → SameRows t u → Stand db t → Stand db u }
+{}
+
+/// Empty tables stand for the state with no drivers.
+pub fn empty_tables_stand()
+    ensures { IsOf no_rows [] }
+{}
+
+/// Drivers are found in the tables by their numbers, keys and holders as in the state.
+pub fn drivers_are_found()
+    ensures no_number { (t : Tables) (s : State) (n : ℕ) → IsOf t s → (filter (has_number n) t.drivers ≡ []) ↔ (driver_of n s ≡ None) }
+    ensures number { (t : Tables) (s : State) (n : ℕ) (row : DriverRow) → IsOf t s → Contains (filter (has_number n) t.drivers) row
+        → (d : Driver) × (driver_of n s ≡ Some d) × (row ≡ driver_columns d) }
+    ensures no_key { (t : Tables) (s : State) (key : List ℕ) → IsOf t s → (filter (has_secret key) t.drivers ≡ []) ↔ (keyed key s ≡ None) }
+    ensures key { (t : Tables) (s : State) (key : List ℕ) (row : DriverRow) → IsOf t s → Contains (filter (has_secret key) t.drivers) row
+        → (d : Driver) × (keyed key s ≡ Some d) × (row ≡ driver_columns d) }
+    ensures no_holder { (t : Tables) (s : State) (holder : List ℕ) → IsOf t s → (filter (has_holder holder) t.drivers ≡ []) ↔ (holding holder s ≡ None) }
+    ensures holder { (t : Tables) (s : State) (holder : List ℕ) (row : DriverRow) → IsOf t s → Contains (filter (has_holder holder) t.drivers) row
+        → (d : Driver) × (holding holder s ≡ Some d) × (driver_of d.number s ≡ Some d) × (row ≡ driver_columns d) }
+{}
+
+/// A registration, on the tables.
+pub fn registered_tables_stand()
+    ensures { (t : Tables) (s : State) (d : Driver) → IsOf t s → driver_of d.number s ≡ None → keyed d.key s ≡ None → holding d.holder s ≡ None
+        → d.downloads ≡ [] → d.entries ≡ [] → IsOf (with_driver (driver_columns d) t) (s ++ d ∷ []) }
+{}
+
+/// A change of the day from which a driver is examined, on the tables.
+pub fn rebased_tables_stand()
+    ensures { (t : Tables) (s : State) (n base : ℕ) (d : Driver) → IsOf t s → driver_of n s ≡ Some d → IsOf (with_rebased n base t) (put (with_base base d) s) }
+{}
+
+/// What is read near a range is what the driver's rows keep there; and with the whole range, all that they keep.
+pub fn rows_are_near()
+    ensures card { (t : Tables) (s : State) (n : ℕ) (d : Driver) → IsOf t s → driver_of n s ≡ Some d → Keeps (spans_of n t.card_spans) (Given d) }
+    ensures held { (t : Tables) (s : State) (n : ℕ) (d : Driver) → IsOf t s → driver_of n s ≡ Some d → Keeps (spans_of n t.held) (Held d) }
+    ensures card_line { (t : Tables) (n start past : ℕ) (found : List StoredValue) (line : List Span) → IsReadNear t.card_spans n start past found
+        → IsCanonicalOf (Gives (map stored_span found)) line → IsCanonicalOf (Gives (near start past (spans_of n t.card_spans))) line }
+    ensures held_line { (t : Tables) (n start past : ℕ) (found : List StoredValue) (line : List Span) → IsReadNear t.held n start past found
+        → IsCanonicalOf (Gives (map stored_span found)) line → IsCanonicalOf (Gives (near start past (spans_of n t.held))) line }
+{}
+
+/// An import, on the tables: the gains against card spans near the file's spans and those against held rows near them are added.
+pub fn imported_tables_stand()
+    ensures { (t : Tables) (s : State) (n : ℕ) (d : Driver) (part : PartValue) (file : List ℕ) (content : Content) (card_line line card_gains gains : List Span) (start past : ℕ)
+        → IsOf t s → driver_of n s ≡ Some d → Tells part file (Ok content) → AreInRange start past content.spans
+        → IsCanonicalOf (Gives (near start past (spans_of n t.card_spans))) card_line → AreGains card_line content.spans card_gains
+        → IsCanonicalOf (Gives (near start past (spans_of n t.held))) line → AreGains line content.spans gains
+        → IsOf (with_imported n (1 + length d.downloads) (part_number part) file card_gains gains t) (put (with_download (part_number part) file content.spans d) s) }
+{}
+
+/// Downloads are found in the tables by their numbers as in the state.
+pub fn downloads_are_found()
+    ensures none { (t : Tables) (s : State) (n number : ℕ) (d : Driver) → IsOf t s → driver_of n s ≡ Some d
+        → (filter (is_download n number) t.downloads ≡ []) ↔ (download_from 1 number d.downloads ≡ None) }
+    ensures some { (t : Tables) (s : State) (n number : ℕ) (d : Driver) (row : DownloadRow) → IsOf t s → driver_of n s ≡ Some d
+        → Contains (filter (is_download n number) t.downloads) row → file_of (download_from 1 number d.downloads) ≡ Ok row.file }
+{}
