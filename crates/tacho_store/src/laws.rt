@@ -1,7 +1,7 @@
 //! Laws about what the archive's tables stand for. A law is a function without a body: what it ensures is proved, and holds for
 //! all that it names.
 
-ghost use Rattle.std.specs.Prelude.{◌≡◌, ◌↔◌, ℕ, ◌+◌, ◌++◌, List, [], ◌∷◌, Option, None, Some, Ok, Err, length, map, filter, Contains};
+ghost use Rattle.std.specs.Prelude.{◌≡◌, ◌↔◌, ℕ, ◌+◌, ◌++◌, List, [], ◌∷◌, Option, None, Some, Ok, length, map, filter, Contains};
 ghost use Rattle.sqlite.specs.Tree.{Trees};
 ghost use Rattle.tacho_time.specs.Spans.{Gives, IsCanonicalOf};
 ghost use Rattle.tacho_time.specs.declared.span.Span.{Span};
@@ -9,7 +9,7 @@ ghost use Rattle.tacho_line.specs.Line.{AreGains};
 ghost use Rattle.tacho_card.specs.declared.file.Part.{Part as PartValue};
 ghost use Rattle.tacho_state.specs.Content.{Tells, part_number};
 ghost use Rattle.tacho_state.specs.Disjoint.{Keeps, AreInRange, near};
-ghost use Rattle.tacho_state.specs.State.{Driver, Download, State, Given, Held, driver_of, keyed, holding, download_from, put, with_base, with_download};
+ghost use Rattle.tacho_state.specs.State.{Driver, State, Given, Held, driver_of, keyed, holding, download_from, put, with_base, with_download};
 ghost use Rattle.tacho_state.specs.Steps.{Content, file_of};
 ghost use Rattle.tacho_tables.specs.declared.rows.StoredSpan.{StoredSpan as StoredValue};
 ghost use Rattle.tacho_tables.specs.Rows.{DriverRow, DownloadRow};
