@@ -45,5 +45,6 @@ one_read : (part : Part) (r : Result (List FileBlock) CardFault) (a b : Result C
 one_read part (Ok blocks) a b h k = one_of_blocks part blocks a b h k
 one_read part (Err fault) a b h k = h ∙ sym k
 
+-- a file has no second content
 pub one_content : (part : Part) (bytes : List ℕ) (a b : Result Content CardFault) → Tells part bytes a → Tells part bytes b → a ≡ b
 one_content part bytes a b h k = one_read part (card_file bytes) a b h k
