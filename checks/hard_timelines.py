@@ -1,10 +1,10 @@
 """Timelines that sit at the limits of the rules on driving and rest hours, from a seed.
 
 `timeline(seed, weeks)` returns (spans, base, past): spans joined from the first minute of a Monday to the horizon, as
-`slow_rules.examine` takes them. The same seed and weeks give the same timeline. `weekly_timeline(seed)` returns the same at
-the limits of the rules on weekly rests and debts, and `held_timeline(seed)` returns (spans, base) as `slow_rules.report`
-takes them: spans of a card with crew and gaps. Run as a command with a seed and a number of weeks, it prints what
-`slow_rules.py` reads.
+`slow_rules.examine` takes them. The same seed and weeks give the same timeline. `weekly_timeline(seed)` returns the same
+at the limits of the rules on weekly rests and debts, and `held_timeline(seed)` returns (spans, base) as
+`slow_rules.report` takes them: spans of a card with crew and gaps. Run as a command with a seed and a number of weeks, it
+prints what `slow_rules.py` reads.
 """
 
 import random
@@ -387,8 +387,8 @@ def closed(chance, writer):
 
 
 def weekly_timeline(seed):
-    """The spans from a Monday's first minute to a horizon, the Monday, and the horizon: from two to ten weeks later, and up to
-    three days more, or a last rest of up to three weeks; sometimes ended earlier."""
+    """The spans from a Monday's first minute to a horizon, the Monday, and the horizon: from two to ten weeks later, and up
+    to three days more, or a last rest of up to three weeks; sometimes ended earlier."""
     chance = random.Random(f"weekly {seed}")
     length = chance.choice([2, 3, 4, 5, 6, 7, 8, 9, 10])
     base = chance.choice([USUAL_BASE] * 8 + [FIRST_BASE, LAST_BASE - (length - 1) * WEEK])
@@ -447,8 +447,8 @@ def cut(chance, spans, count, unit, base):
 
 
 def bounds(chance, length):
-    """A Monday and a horizon: whole weeks later, or a minute or a day less, or a minute more, or any minute before that, or one of
-    the first day; sometimes at the ends of the calendar."""
+    """A Monday and a horizon: whole weeks later, or a minute or a day less, or a minute more, or any minute before that, or
+    one of the first day; sometimes at the ends of the calendar."""
     base = chance.choice([USUAL_BASE] * 8 + [FIRST_BASE, LAST_BASE - (length - 1) * WEEK])
     past = base + length * WEEK
     change = chance.random()

@@ -1,134 +1,165 @@
-//! What `tacho dump` does, in plain Rust over std alone, as a measure of its speed.
-use std::fmt::Write as _;
+//! What `tacho dump` does, in plain Rust over std alone and written for speed: digits are put by hand, a day's text is
+//! made once a day, and each buffer has its size from the start.
 use std::io::{self, Read, Write};
 use std::process::ExitCode;
 
 const LIMIT: usize = 65_535;
 
-#[derive(Clone, Copy, PartialEq, Eq)]
-struct Mark {
-    activity: u8,
-    crew: bool,
-}
+/// The end of a line by the mark: twice the activity, and one more for crew.
+const MARKS: [&str; 8] = [
+    " rest single\n",
+    " rest crew\n",
+    " available single\n",
+    " available crew\n",
+    " work single\n",
+    " work crew\n",
+    " drive single\n",
+    " drive crew\n",
+];
+
+/// The bytes of the longest line.
+const LINE: usize = "2023-01-12 00:00 2023-01-12 04:59 available single\n".len();
 
 #[derive(Clone, Copy)]
 struct Span {
     start: u32,
     past: u32,
-    mark: Mark,
+    mark: u8,
 }
 
-struct Ring<'a> {
-    oldest: usize,
-    newest: usize,
-    buffer: &'a [u8],
+enum Fault {
+    TooLarge,
+    ShortActivity,
+    Pointer,
+    RecordLength(usize),
+    Chain(usize),
+    DayRange(usize),
+    WordMinute(usize),
+    WordOrder(usize),
+    Contradiction(u32),
 }
 
-impl<'a> Ring<'a> {
-    fn read(bytes: &'a [u8]) -> Result<Ring<'a>, String> {
-        if bytes.len() < 16 {
-            return Err("C7 activity data too short".into());
+impl Fault {
+    fn line(&self) -> Vec<u8> {
+        let text = match *self {
+            Fault::TooLarge => "X1 too large".into(),
+            Fault::ShortActivity => "C7 activity data too short".into(),
+            Fault::Pointer => "C8 pointer out of the buffer".into(),
+            Fault::RecordLength(place) => format!("C9 record length at {place}"),
+            Fault::Chain(place) => format!("C10 chain broken at {place}"),
+            Fault::DayRange(place) => format!("C11 day out of range at {place}"),
+            Fault::WordMinute(place) => format!("C12 word minute at {place}"),
+            Fault::WordOrder(place) => format!("C13 word order at {place}"),
+            Fault::Contradiction(_) => "C14 file contradicts itself at ".into(),
+        };
+        let mut line = Lines::with_capacity(2 * LINE);
+        line.text.extend_from_slice(text.as_bytes());
+        if let Fault::Contradiction(minute) = *self {
+            line.push_minute(minute);
         }
-        let oldest = usize::from(u16::from_be_bytes([bytes[0], bytes[1]]));
-        let newest = usize::from(u16::from_be_bytes([bytes[2], bytes[3]]));
-        let buffer = &bytes[4..];
-        if oldest >= buffer.len() || newest >= buffer.len() {
-            return Err("C8 pointer out of the buffer".into());
-        }
-        Ok(Ring { oldest, newest, buffer })
+        line.text.push(b'\n');
+        line.text
     }
+}
 
-    fn number(&self, place: usize) -> u16 {
-        let n = self.buffer.len();
-        u16::from_be_bytes([self.buffer[place % n], self.buffer[(place + 1) % n]])
+fn number(bytes: &[u8], place: usize) -> usize {
+    usize::from(u16::from_be_bytes([bytes[place], bytes[place + 1]]))
+}
+
+fn mark_of(word: u16) -> Option<u8> {
+    let activity = (word >> 11 & 3) as u8;
+    let (is_crew, is_out) = (word & 0x4000 != 0, word & 0x2000 != 0);
+    match (is_crew, is_out) {
+        (false, true) => None,
+        (true, false) => Some(2 * activity + 1),
+        _ => Some(2 * activity),
     }
+}
 
-    /// The spans of the record at a place, and the place of the next one, if there is one.
-    fn record(&self, place: usize, left: &mut usize, spans: &mut Vec<Span>) -> Result<Option<usize>, String> {
-        let n = self.buffer.len();
-        let len = usize::from(self.number(place + 2));
-        if len < 12 || len % 2 != 0 || len > n {
-            return Err(format!("C9 record length at {place}"));
+/// Appends a span, if it has a minute and a mark.
+fn push(spans: &mut Vec<Span>, start: u32, past: u32, mark: Option<u8>) {
+    if let Some(mark) = mark {
+        if start < past {
+            spans.push(Span { start, past, mark });
         }
-        if len > *left {
-            return Err(format!("C10 chain broken at {place}"));
+    }
+}
+
+/// The spans of all records from the oldest to the newest.
+fn spans_of(value: &[u8]) -> Result<Vec<Span>, Fault> {
+    if value.len() < 16 {
+        return Err(Fault::ShortActivity);
+    }
+    let (oldest, newest, ring) = (number(value, 0), number(value, 2), &value[4..]);
+    let size = ring.len();
+    if oldest >= size || newest >= size {
+        return Err(Fault::Pointer);
+    }
+    // The ring from the oldest record on, so that no record comes round, and its first bytes again for a length that does.
+    let mut bytes = Vec::with_capacity(size + 4);
+    bytes.extend_from_slice(&ring[oldest..]);
+    bytes.extend_from_slice(&ring[..oldest]);
+    bytes.extend_from_within(..4);
+    let place_of = |at: usize| (oldest + at) % size;
+    let last = (newest + size - oldest) % size;
+    let mut spans = Vec::with_capacity(size / 2);
+    if last == 0 && number(&bytes, 2) == 0 {
+        return Ok(spans);
+    }
+    let mut at = 0;
+    loop {
+        let length = number(&bytes, at + 2);
+        if length < 12 || length % 2 != 0 || length > size {
+            return Err(Fault::RecordLength(place_of(at)));
         }
-        *left -= len;
-        let seconds = u32::from(self.number(place + 4)) << 16 | u32::from(self.number(place + 6));
-        let day = seconds / 86_400;
+        if at + length > size {
+            return Err(Fault::Chain(place_of(at)));
+        }
+        let day = (number(&bytes, at + 4) << 16 | number(&bytes, at + 6)) as u32 / 86_400;
         if !(10_959..=47_481).contains(&day) {
-            return Err(format!("C11 day out of range at {place}"));
+            return Err(Fault::DayRange(place_of(at)));
         }
-        let count = (len - 12) / 2;
-        let mut before: Option<(u32, Option<Mark>)> = None;
-        for i in 0..count {
-            let at = place + 12 + 2 * i;
-            let word = self.number(at);
-            let minute = u32::from(word % 2048);
+        let midnight = 1440 * day;
+        let (mut start, mut mark) = (midnight, None);
+        for (i, word) in bytes[at + 12..at + length].chunks_exact(2).enumerate() {
+            let word = u16::from_be_bytes([word[0], word[1]]);
+            let minute = u32::from(word & 0x7ff);
             if minute >= 1440 {
-                return Err(format!("C12 word minute at {}", at % n));
+                return Err(Fault::WordMinute(place_of(at + 12 + 2 * i)));
             }
-            let minute = 1440 * day + minute;
-            if let Some((start, mark)) = before {
-                if minute < start {
-                    return Err(format!("C13 word order at {}", at % n));
-                }
-                if let Some(mark) = mark {
-                    spans.push(Span { start, past: minute, mark });
-                }
+            if midnight + minute < start {
+                return Err(Fault::WordOrder(place_of(at + 12 + 2 * i)));
             }
-            before = Some((minute, mark_of(word)));
+            push(&mut spans, start, midnight + minute, mark);
+            (start, mark) = (midnight + minute, mark_of(word));
         }
-        if let Some((start, Some(mark))) = before {
-            if place != self.newest {
-                spans.push(Span { start, past: 1440 * (day + 1), mark });
-            }
+        if at == last {
+            return Ok(spans);
         }
-        Ok((place != self.newest).then_some((place + len) % n))
+        push(&mut spans, start, midnight + 1440, mark);
+        at += length;
     }
 }
 
-fn mark_of(word: u16) -> Option<Mark> {
-    let activity = (word / 2048 % 4) as u8;
-    match (word / 8192 % 2 == 1, word / 16384 % 2 == 1) {
-        (false, crew) => Some(Mark { activity, crew }),
-        (true, true) => Some(Mark { activity, crew: false }),
-        (true, false) => None,
-    }
-}
-
-fn spans_of(ring: &Ring) -> Result<Vec<Span>, String> {
-    let mut spans = Vec::new();
-    let mut left = ring.buffer.len();
-    let mut place = ring.oldest;
-    let is_empty = ring.oldest == ring.newest && ring.number(place + 2) == 0;
-    while !is_empty {
-        match ring.record(place, &mut left, &mut spans)? {
-            Some(next) => place = next,
-            None => break,
-        }
-    }
-    canonical(spans)
-}
-
-fn canonical(mut spans: Vec<Span>) -> Result<Vec<Span>, String> {
-    spans.retain(|span| span.start < span.past);
+/// Puts the spans in order, and joins those that touch with one mark.
+fn put_in_order(spans: &mut Vec<Span>) -> Result<(), Fault> {
     spans.sort_unstable_by_key(|span| span.start);
-    let mut runs: Vec<Span> = Vec::new();
-    for span in spans {
-        match runs.last_mut() {
-            Some(last) if span.start < last.past && span.mark != last.mark => {
-                let mut line = String::from("C14 file contradicts itself at ");
-                minute(&mut line, span.start);
-                return Err(line);
-            }
-            Some(last) if span.start <= last.past && span.mark == last.mark => {
-                last.past = last.past.max(span.past);
-            }
-            _ => runs.push(span),
+    let mut conflict = None;
+    spans.dedup_by(|span, last| {
+        let is_same = span.mark == last.mark;
+        if span.start < last.past && !is_same {
+            conflict.get_or_insert(span.start);
         }
+        let is_joined = span.start <= last.past && is_same;
+        if is_joined {
+            last.past = last.past.max(span.past);
+        }
+        is_joined
+    });
+    match conflict {
+        Some(minute) => Err(Fault::Contradiction(minute)),
+        None => Ok(()),
     }
-    Ok(runs)
 }
 
 /// The date with a day number (Howard Hinnant's `civil_from_days`).
@@ -143,41 +174,86 @@ fn civil(day: u32) -> (u32, u32, u32) {
     (yoe + era * 400 + u32::from(month <= 2), month, doy - (153 * mp + 2) / 5 + 1)
 }
 
-fn minute(text: &mut String, minute: u32) {
-    let (y, m, d) = civil(minute / 1440);
-    let (hour, minute) = (minute % 1440 / 60, minute % 60);
-    write!(text, "{y:04}-{m:02}-{d:02} {hour:02}:{minute:02}").unwrap();
+/// The two digits of each number below 100.
+const PAIRS: [[u8; 2]; 100] = {
+    let mut pairs = [[b'0'; 2]; 100];
+    let mut number = 0;
+    while number < 100 {
+        pairs[number] = [b'0' + (number / 10) as u8, b'0' + (number % 10) as u8];
+        number += 1;
+    }
+    pairs
+};
+
+fn pair(number: u32) -> [u8; 2] {
+    PAIRS[number as usize]
 }
 
-fn text_of(spans: &[Span]) -> String {
-    let mut text = String::new();
-    for span in spans {
-        minute(&mut text, span.start);
-        text.push(' ');
-        minute(&mut text, span.past);
-        text.push(' ');
-        text.push_str(["rest", "available", "work", "drive"][usize::from(span.mark.activity)]);
-        text.push_str(if span.mark.crew { " crew\n" } else { " single\n" });
+/// The text of a day's first minute.
+fn midnight_text(day: u32) -> [u8; 16] {
+    let (year, month, day) = civil(day);
+    let ([y1, y2], [y3, y4]) = (pair(year / 100), pair(year % 100));
+    let ([m1, m2], [d1, d2]) = (pair(month), pair(day));
+    [y1, y2, y3, y4, b'-', m1, m2, b'-', d1, d2, b' ', b'0', b'0', b':', b'0', b'0']
+}
+
+/// Lines as they are put together. The text of a day is kept while the day is the same.
+struct Lines {
+    text: Vec<u8>,
+    day: u32,
+    midnight: [u8; 16],
+}
+
+impl Lines {
+    fn with_capacity(bytes: usize) -> Lines {
+        Lines { text: Vec::with_capacity(bytes), day: 0, midnight: midnight_text(0) }
     }
-    text
+
+    fn push_minute(&mut self, minute: u32) {
+        let (day, of_day) = (minute / 1440, minute % 1440);
+        if day != self.day {
+            self.day = day;
+            self.midnight = midnight_text(day);
+        }
+        let mut text = self.midnight;
+        text[11..13].copy_from_slice(&pair(of_day / 60));
+        text[14..].copy_from_slice(&pair(of_day % 60));
+        self.text.extend_from_slice(&text);
+    }
+
+    fn push_span(&mut self, span: &Span) {
+        self.push_minute(span.start);
+        self.text.push(b' ');
+        self.push_minute(span.past);
+        self.text.extend_from_slice(MARKS[usize::from(span.mark)].as_bytes());
+    }
+}
+
+/// The lines of what a value's bytes give.
+fn lines_of(value: &[u8]) -> Result<Vec<u8>, Fault> {
+    if value.len() > LIMIT {
+        return Err(Fault::TooLarge);
+    }
+    let mut spans = spans_of(value)?;
+    put_in_order(&mut spans)?;
+    let mut lines = Lines::with_capacity(LINE * spans.len());
+    for span in &spans {
+        lines.push_span(span);
+    }
+    Ok(lines.text)
 }
 
 fn main() -> ExitCode {
-    let mut input = Vec::new();
+    let mut input = Vec::with_capacity(LIMIT + 1);
     if io::stdin().lock().take(LIMIT as u64 + 1).read_to_end(&mut input).is_err() {
-        println!("X2 device failed");
+        let _ = io::stdout().lock().write_all(b"X2 device failed\n");
         return ExitCode::from(3);
     }
-    let answer = if input.len() > LIMIT {
-        Err("X1 too large".into())
-    } else {
-        Ring::read(&input).and_then(|ring| spans_of(&ring))
+    let (text, status) = match lines_of(&input) {
+        Ok(text) => (text, 0),
+        Err(fault) => (fault.line(), 1),
     };
-    let (text, status) = match answer {
-        Ok(spans) => (text_of(&spans), 0),
-        Err(line) => (line + "\n", 1),
-    };
-    match io::stdout().lock().write_all(text.as_bytes()) {
+    match io::stdout().lock().write_all(&text) {
         Ok(()) => ExitCode::from(status),
         Err(_) => ExitCode::from(3),
     }

@@ -1,0 +1,508 @@
+//! What `tacho_bench examine` does, in plain Rust over std alone: it makes a line of working days, and examines it for
+//! breaches of the rules on driving and rest hours and for weekly rests that are owed, in one pass. docs/RULES.md has the
+//! rules.
+use std::hint::black_box;
+use std::mem;
+
+const START: u32 = 15_780_960; // 2000-01-03 00:00
+const LAST: u32 = 68_374_080; // 2100-01-01 00:00
+const FAR: u32 = u32::MAX; // where the last rest ends
+const DAY: u32 = 1440;
+const WEEK: u32 = 7 * DAY;
+const FIRST_MONDAY: u32 = 4 * DAY;
+
+const FIRST_PART: u32 = 180;
+const DAILY_REST: u32 = 540;
+const REGULAR_DAILY_REST: u32 = 660;
+const WEEKLY_REST: u32 = 1440;
+const REGULAR_WEEKLY_REST: u32 = 2700;
+const SIX_DAYS: u32 = 6 * DAY;
+
+#[derive(Clone, Copy, PartialEq)]
+enum Activity {
+    Rest,
+    Work,
+    Drive,
+}
+
+/// What is done from one minute to before another, alone or with a second driver.
+#[derive(Clone, Copy)]
+struct Span {
+    start: u32,
+    past: u32,
+    activity: Activity,
+    is_crew: bool,
+}
+
+#[derive(Clone, Copy, PartialEq, Eq, PartialOrd, Ord)]
+enum Kind {
+    B1,
+    B2,
+    B3,
+    B4,
+    B5,
+    B6,
+    B7,
+    B8,
+    B9,
+    B10,
+}
+
+/// A breach, whose amount nothing here reads.
+#[allow(dead_code)]
+struct Breach {
+    kind: Kind,
+    moment: u32,
+    since: u32,
+    amount: u32,
+}
+
+struct Debt {
+    week: u32,
+    amount: u32,
+    deadline: u32,
+    paid_by: Option<u32>,
+}
+
+/// Why the examination of a line stops.
+enum Cause {
+    Unknown,
+    Crew,
+}
+
+/// All that is found, of which only counts are printed.
+#[allow(dead_code)]
+struct Report {
+    horizon: u32,
+    cause: Cause,
+    breaches: Vec<Breach>,
+    debts: Vec<Debt>,
+}
+
+fn week_of(minute: u32) -> u32 {
+    (minute - FIRST_MONDAY) / WEEK
+}
+
+fn week_start(week: u32) -> u32 {
+    FIRST_MONDAY + WEEK * week
+}
+
+/// Driving minutes as they come, and the first above a limit.
+struct Driving {
+    limit: u32,
+    minutes: u32,
+    first: u32,
+    moment: u32,
+}
+
+impl Driving {
+    fn new(limit: u32) -> Driving {
+        Driving { limit, minutes: 0, first: 0, moment: 0 }
+    }
+
+    fn add(&mut self, start: u32, past: u32) {
+        if self.minutes == 0 {
+            self.first = start;
+        }
+        if self.minutes <= self.limit {
+            self.moment = start + (self.limit - self.minutes);
+        }
+        self.minutes += past - start;
+    }
+
+    fn is_over(&self) -> bool {
+        self.limit < self.minutes
+    }
+
+    fn breach(&self, kind: Kind, since: u32) -> Option<Breach> {
+        self.is_over().then(|| Breach { kind, moment: self.moment, since, amount: self.minutes - self.limit })
+    }
+}
+
+/// What is driven since the last complete break.
+struct Stretch {
+    driving: Driving,
+    has_first_part: bool,
+}
+
+impl Stretch {
+    fn new() -> Stretch {
+        Stretch { driving: Driving::new(270), has_first_part: false }
+    }
+
+    fn rest(&mut self, minutes: u32, breaches: &mut Vec<Breach>) {
+        if minutes >= 45 || minutes >= 30 && self.has_first_part {
+            breaches.extend(self.driving.breach(Kind::B1, self.driving.first));
+            *self = Stretch::new();
+        } else if minutes >= 15 {
+            self.has_first_part = true;
+        }
+    }
+}
+
+/// A duty day as it comes.
+struct Day {
+    start: u32,
+    driving: Driving,
+    usual_driving: Driving,
+    has_part: bool,
+}
+
+impl Day {
+    fn from(start: u32) -> Day {
+        Day { start, driving: Driving::new(600), usual_driving: Driving::new(540), has_part: false }
+    }
+}
+
+/// The duty day, and what is counted over the days before it.
+struct Days {
+    day: Day,
+    week: u32,
+    extended: u32,
+    weekly_rest_end: u32,
+    reduced: u32,
+}
+
+impl Days {
+    fn drive(&mut self, start: u32, past: u32) {
+        self.day.driving.add(start, past);
+        self.day.usual_driving.add(start, past);
+    }
+
+    /// Begins a day, behind a daily rest.
+    fn begin(&mut self, rest: &Rest) {
+        if rest.minutes() >= WEEKLY_REST {
+            self.weekly_rest_end = rest.past;
+            self.reduced = 0;
+        }
+        self.day = Day::from(rest.past);
+    }
+
+    /// Ends the day with its daily rest.
+    fn end(&mut self, rest: &Rest, breaches: &mut Vec<Breach>) {
+        let start = self.day.start;
+        let portion_end = rest.past.min(start + DAY);
+        let has_portion = |minutes| rest.start + minutes <= portion_end;
+        if !has_portion(DAILY_REST) {
+            let amount = rest.start + DAILY_REST - portion_end;
+            breaches.push(Breach { kind: Kind::B2, moment: start + 900, since: start, amount });
+        } else if !has_portion(REGULAR_DAILY_REST) && !self.day.has_part && rest.minutes() < WEEKLY_REST {
+            self.reduced += 1;
+            if self.reduced > 3 {
+                let (since, amount) = (self.weekly_rest_end, self.reduced - 3);
+                breaches.push(Breach { kind: Kind::B3, moment: rest.start, since, amount });
+            }
+        }
+        breaches.extend(self.day.driving.breach(Kind::B4, start));
+        if self.day.usual_driving.is_over() {
+            if self.week != week_of(start) {
+                self.week = week_of(start);
+                self.extended = 0;
+            }
+            self.extended += 1;
+            if self.extended > 2 {
+                breaches.extend(self.day.usual_driving.breach(Kind::B5, start));
+            }
+        }
+    }
+}
+
+/// The driving of a week, of it and the week before, and of it and the next.
+struct Weeks {
+    week: u32,
+    driving: Driving,
+    with_last: Driving,
+    with_next: Driving,
+}
+
+impl Weeks {
+    fn from(week: u32) -> Weeks {
+        Weeks { week, driving: Driving::new(3360), with_last: Driving::new(5400), with_next: Driving::new(5400) }
+    }
+
+    fn drive(&mut self, start: u32, past: u32, breaches: &mut Vec<Breach>) {
+        let mut from = start;
+        while from < past {
+            let end = week_start(self.week + 1);
+            if end <= from {
+                self.end_week(breaches);
+                continue;
+            }
+            for driving in [&mut self.driving, &mut self.with_last, &mut self.with_next] {
+                driving.add(from, past.min(end));
+            }
+            from = end;
+        }
+    }
+
+    fn end_week(&mut self, breaches: &mut Vec<Breach>) {
+        breaches.extend(self.driving.breach(Kind::B6, week_start(self.week)));
+        breaches.extend(self.with_last.breach(Kind::B7, week_start(self.week - 1)));
+        let next = Weeks::from(self.week + 1);
+        let with_last = mem::replace(self, next).with_next;
+        self.with_last = with_last;
+    }
+}
+
+/// A rest of nine hours or more, and what of it is kept or pays debts.
+#[derive(Clone, Copy)]
+struct Rest {
+    start: u32,
+    past: u32,
+    used: u32,
+}
+
+impl Rest {
+    fn minutes(&self) -> u32 {
+        self.past - self.start
+    }
+
+    fn minutes_before(&self, end: u32) -> u32 {
+        self.past.min(end).saturating_sub(self.start)
+    }
+}
+
+/// The rules as they go along a line, and the rests of nine hours or more.
+struct Pass {
+    stretch: Stretch,
+    days: Days,
+    weeks: Weeks,
+    rests: Vec<Rest>,
+    breaches: Vec<Breach>,
+}
+
+impl Pass {
+    fn from(base: u32) -> Pass {
+        Pass {
+            stretch: Stretch::new(),
+            days: Days { day: Day::from(0), week: 0, extended: 0, weekly_rest_end: 0, reduced: 0 },
+            weeks: Weeks::from(week_of(base)),
+            rests: Vec::new(),
+            breaches: Vec::new(),
+        }
+    }
+
+    fn drive(&mut self, start: u32, past: u32) {
+        self.stretch.driving.add(start, past);
+        self.days.drive(start, past);
+        self.weeks.drive(start, past, &mut self.breaches);
+    }
+
+    fn rest(&mut self, start: u32, past: u32) {
+        let rest = Rest { start, past, used: DAILY_REST };
+        self.stretch.rest(rest.minutes(), &mut self.breaches);
+        if rest.minutes() < DAILY_REST {
+            self.days.day.has_part |= rest.minutes() >= FIRST_PART;
+            return;
+        }
+        if !self.rests.is_empty() {
+            self.days.end(&rest, &mut self.breaches);
+        }
+        self.days.begin(&rest);
+        self.rests.push(rest);
+    }
+
+    fn end(&mut self) {
+        self.weeks.end_week(&mut self.breaches);
+        self.weeks.end_week(&mut self.breaches);
+    }
+}
+
+/// Adds the breaches of weekly rests that start more than six days after the last.
+fn add_late_rests(weekly: &[Rest], breaches: &mut Vec<Breach>) {
+    for pair in weekly.windows(2) {
+        let (since, latest) = (pair[0].past, pair[0].past + SIX_DAYS);
+        if latest < pair[1].start {
+            breaches.push(Breach { kind: Kind::B8, moment: latest, since, amount: pair[1].start - latest });
+        }
+    }
+}
+
+/// Adds the breaches of two neighbouring weeks without two weekly rests, one of them regular.
+fn add_lacking_rests(weekly: &[Rest], base: u32, horizon: u32, breaches: &mut Vec<Breach>) {
+    let mut first = 0;
+    for week in week_of(base).. {
+        let (start, middle, end) = (week_start(week), week_start(week + 1), week_start(week + 2));
+        if horizon < end {
+            return;
+        }
+        while weekly[first].past <= start {
+            first += 1;
+        }
+        let count = weekly[first..].iter().take_while(|rest| rest.start < end).count();
+        let near = &weekly[first..first + count];
+        let is_at_rest = |from, to| near.iter().any(|rest| rest.start <= from && to <= rest.past);
+        let has_two = count >= 2 && near.iter().any(|rest| rest.minutes() >= REGULAR_WEEKLY_REST);
+        if !has_two && !is_at_rest(start, middle) && !is_at_rest(middle, end) {
+            breaches.push(Breach { kind: Kind::B9, moment: end, since: start, amount: 0 });
+        }
+    }
+}
+
+/// The places of the main rests of the weeks: of the rests that start in a week and have 24 hours before the horizon the
+/// longest there, and the first of equals.
+fn main_rests(rests: &[Rest], horizon: u32) -> Vec<usize> {
+    let mut mains: Vec<usize> = Vec::new();
+    for (place, rest) in rests.iter().enumerate().skip(1) {
+        let minutes = rest.minutes_before(horizon);
+        if minutes < WEEKLY_REST {
+            continue;
+        }
+        match mains.last_mut() {
+            Some(main) if week_of(rests[*main].start) == week_of(rest.start) => {
+                if rests[*main].minutes_before(horizon) < minutes {
+                    *main = place;
+                }
+            }
+            _ => mains.push(place),
+        }
+    }
+    mains
+}
+
+/// The debts of the weeks whose main rests are too short. Each is paid by the first later rest that has room for it.
+fn debts_of(rests: &mut [Rest], horizon: u32) -> Vec<Debt> {
+    let mains = main_rests(rests, horizon);
+    for &main in &mains {
+        rests[main].used = REGULAR_WEEKLY_REST;
+    }
+    let last = rests[rests.len() - 1].start;
+    let mut debts = Vec::new();
+    for main in mains {
+        let week = week_of(rests[main].start);
+        let amount = REGULAR_WEEKLY_REST.saturating_sub(rests[main].minutes());
+        if amount == 0 || last < week_start(week + 1) {
+            continue;
+        }
+        let deadline = week_start(week + 4);
+        let payer = rests[main + 1..]
+            .iter_mut()
+            .take_while(|rest| rest.start < deadline)
+            .find(|rest| rest.used + amount <= rest.minutes_before(horizon.min(deadline)));
+        let paid_by = payer.map(|rest| {
+            rest.used += amount;
+            rest.start
+        });
+        debts.push(Debt { week, amount, deadline, paid_by });
+    }
+    debts
+}
+
+/// Adds the breaches of debts that nothing pays and whose deadline has come.
+fn add_overdue(debts: &[Debt], horizon: u32, breaches: &mut Vec<Breach>) {
+    for debt in debts {
+        if debt.paid_by.is_none() && debt.deadline <= horizon {
+            let since = week_start(debt.week);
+            breaches.push(Breach { kind: Kind::B10, moment: debt.deadline, since, amount: debt.amount });
+        }
+    }
+}
+
+/// The report of a line from a base, the first minute of a Monday.
+fn examine(line: &[Span], base: u32) -> Report {
+    let mut pass = Pass::from(base);
+    let (mut horizon, mut cause, mut rest_from) = (base, Cause::Unknown, 0);
+    for span in &line[line.partition_point(|span| span.past <= base)..] {
+        if horizon < span.start {
+            break;
+        }
+        if span.is_crew {
+            cause = Cause::Crew;
+            break;
+        }
+        if span.activity != Activity::Rest {
+            let start = span.start.max(base);
+            if rest_from < start {
+                pass.rest(rest_from, start);
+            }
+            if span.activity == Activity::Drive {
+                pass.drive(start, span.past);
+            }
+            rest_from = span.past;
+        }
+        horizon = span.past;
+    }
+    pass.rest(rest_from, FAR);
+    pass.end();
+    let Pass { mut rests, mut breaches, .. } = pass;
+    let weekly: Vec<Rest> = rests.iter().filter(|rest| rest.minutes() >= WEEKLY_REST).copied().collect();
+    let debts = debts_of(&mut rests, horizon);
+    add_late_rests(&weekly, &mut breaches);
+    add_lacking_rests(&weekly, base, horizon, &mut breaches);
+    add_overdue(&debts, horizon, &mut breaches);
+    breaches.sort_unstable_by_key(|breach| (breach.moment, breach.kind, breach.since));
+    Report { horizon, cause, breaches, debts }
+}
+
+/// Adds what a driver who is alone does, in minutes after the start.
+fn push(spans: &mut Vec<Span>, start: u32, past: u32, activity: Activity) {
+    let minute = |number: u32| (START + number).min(LAST);
+    spans.push(Span { start: minute(start), past: minute(past), activity, is_crew: false });
+}
+
+/// Adds a shift of six hours in so many pieces, of which half are driving.
+fn push_shift(spans: &mut Vec<Span>, from: u32, pieces: u32) {
+    let end = |number: u32| from + 360 * number / pieces;
+    for i in 0..pieces {
+        let activity = match i % 4 {
+            1 => Activity::Rest,
+            3 => Activity::Work,
+            _ => Activity::Drive,
+        };
+        push(spans, end(i), end(i + 1), activity);
+    }
+}
+
+/// Adds a day by its number from a Monday, with two shifts; or without, on Sundays and on each second Saturday.
+fn push_day(spans: &mut Vec<Span>, day: u32, pieces: u32) {
+    let midnight = DAY * day;
+    if day % 7 == 6 || day % 14 == 5 {
+        push(spans, midnight, midnight + DAY, Activity::Rest);
+        return;
+    }
+    let second_shift = match day % 28 {
+        9 => 930,
+        number if number % 7 == 1 || number % 7 == 3 => 870,
+        _ => 780,
+    };
+    push(spans, midnight, midnight + 360, Activity::Rest);
+    push_shift(spans, midnight + 360, pieces);
+    push(spans, midnight + 720, midnight + second_shift, Activity::Rest);
+    push_shift(spans, midnight + second_shift, pieces);
+    push(spans, midnight + second_shift + 360, midnight + DAY, Activity::Rest);
+}
+
+/// The line of so many days, with shifts of so many pieces, or the place of the first span that has no minute.
+fn line_of(days: u32, pieces: u32) -> Result<Vec<Span>, usize> {
+    let mut spans = Vec::new();
+    for day in 0..days {
+        push_day(&mut spans, day, pieces);
+    }
+    if let Some(place) = spans.iter().position(|span| span.past <= span.start) {
+        return Err(place);
+    }
+    spans.dedup_by(|span, last| {
+        let is_joined = span.start == last.past && span.activity == last.activity;
+        if is_joined {
+            last.past = span.past;
+        }
+        is_joined
+    });
+    Ok(spans)
+}
+
+fn main() {
+    let words: Vec<u32> = std::env::args().skip(2).map(|word| word.parse().unwrap()).collect();
+    let (days, pieces, times) = (words[0], words[1], words[2]);
+    let line = match line_of(days, pieces) {
+        Ok(line) => line,
+        Err(place) => return println!("the span at {place} is empty"),
+    };
+    let (mut breaches, mut debts) = (0, 0);
+    for _ in 0..times {
+        let report = black_box(examine(black_box(&line), START));
+        breaches += report.breaches.len();
+        debts += report.debts.len();
+    }
+    println!("{} spans, {breaches} breaches, {debts} debts", line.len());
+}
