@@ -8,7 +8,7 @@ use Rattle.tacho_tables.proofs.Answers.{shown_same}
 use Rattle.tacho_tables.proofs.Reading.{first_found, ok_both, some_weaker}
 use Rattle.tacho_tables.proofs.DriverLemmas.{shows_drivers, number_test}
 use Rattle.tacho_tables.proofs.Statements.{by_number_text, by_number_is}
-use Rattle.tacho_tables.proofs.Inside.{keeps_reading, read_open}
+use Rattle.tacho_tables.proofs.Inside.{keeps_reading, read_open, shown_live}
 use Rattle.tacho_tables.proofs.drivers.by_number.Goals as goal
 
 pub returns-clause-found : goal.returns-clause-found
@@ -44,3 +44,7 @@ returns-in_err-rows-clause-keeps g c clean schema =
 pub returns-in_err-rows-clause-was_open : goal.returns-in_err-rows-clause-was_open
 returns-in_err-rows-clause-was_open g c clean =
     read_open by_number_text _ (state g.S.Store c.args.tx.now.conn.now) (state g.S.Store c.query_all.new.self.conn.now) c.query_all.result (c.query_all.ensures.ok clean) (c.query_all.ensures.err clean)
+
+pub returns-clause-live : goal.returns-clause-live
+returns-clause-live g c clean =
+    IfOk-weaker c.first_driver.result _ _ (λ _ _. shown_live _ _ (state g.S.Store c.args.tx.now.conn.now) (state g.S.Store c.query_all.new.self.conn.now) c.in_ok-rows.rows.items (c.in_ok-rows.ensures.ok clean)) c.first_driver.ensures.none
