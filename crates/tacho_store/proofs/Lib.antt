@@ -6,3 +6,7 @@ mod RegisterLemmas
 mod NearRowLemmas
 mod DownloadLemmas
 mod ImportLemmas
+mod MappedLemmas
+mod FoundLemmas
+mod RegistrationLemmas
+mod SeenLemmas

@@ -122,7 +122,7 @@ pub record IsOf (t : Tables) (s : State) : Type 0 where
   pub known : AreKnown t s
 
 -- what is stored stands for the state
-abbrev pub StandsFor : Trees → State → Type 0
+unfoldable pub StandsFor : Trees → State → Type 0
 StandsFor db s = (t : Tables) × Stand db t × IsOf t s
 
 -- ---- the tables after a command

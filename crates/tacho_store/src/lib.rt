@@ -1,5 +1,6 @@
-//! The archive: drivers, what their cards told, and what they hold, in tables over SQLite. So far these are the laws on what
-//! the tables stand for.
+//! The archive: drivers, what their cards told, and what they hold, in tables over SQLite.
 #![tactic(auto)]
 
+mod fault;
 pub mod laws;
+mod registration;

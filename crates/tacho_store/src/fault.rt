@@ -1,0 +1,16 @@
+ghost use Rattle.std.specs.Prelude.{◌≡◌};
+ghost use Rattle.tacho_tables.specs.declared.fault.TableFault.{TableFault as Fault};
+ghost use Rattle.tacho_store.specs.Faults.{store_fault};
+
+use tacho_state::StoreFault;
+use tacho_tables::TableFault;
+
+/// Why a command does nothing after a call on the tables that did nothing.
+pub fn store_fault(fault: TableFault) -> StoreFault
+    ensures { result ≡ store_fault fault }
+{
+    match fault {
+        TableFault::Memory => StoreFault::Memory,
+        TableFault::Store => StoreFault::Store,
+    }
+}
