@@ -2,24 +2,17 @@ ghost use Rattle.std.specs.Prelude.{◌≡◌, ◌∷◌, false, IsTrue, OnOk};
 ghost use Rattle.sqlite.specs.State.{HasCleanDisk, Survives, KeepsCommit};
 ghost use Rattle.sqlite.specs.Held.{state};
 ghost use Rattle.tacho_state.specs.State.{State};
-ghost use Rattle.tacho_state.specs.Steps.{registered, is_monday};
+ghost use Rattle.tacho_state.specs.Steps.{registered};
 ghost use Rattle.tacho_state.specs.Acts.{Acts, Answers};
 ghost use Rattle.tacho_tables.specs.Schema.{archive_schema};
 ghost use Rattle.tacho_store.specs.Standing.{StandsFor};
 ghost use Rattle.tacho_store.specs.Kept.{Shows, Leaves, IsAnswered};
 
+use crate::base::is_monday;
 use crate::fault::store_fault;
 use sqlite::{Alter, Connection, Transaction};
 use tacho_state::{Driver, StoreFault};
 use tacho_tables::drivers;
-use tacho_time::Day;
-
-/// Whether a day is a Monday.
-pub fn is_monday(day: Day) -> bool
-    ensures { result ≡ is_monday day }
-{
-    (day.number() + 3) % 7 == 0
-}
 
 /// Adds a driver, within a transaction: S1, S2, S3, S9.
 fn register_in<S: Alter>(tx: &mut Transaction<'_, S>, driver: &Driver) -> Result<(), StoreFault>

@@ -1,0 +1,72 @@
+ghost use Rattle.std.specs.Prelude.{◌≡◌, ◌∷◌, false, IsTrue, OnOk, OnErr, Err};
+ghost use Rattle.sqlite.specs.State.{HasCleanDisk, Survives, KeepsCommit, IsUnchanged};
+ghost use Rattle.sqlite.specs.Held.{state};
+ghost use Rattle.tacho_state.specs.State.{State};
+ghost use Rattle.tacho_state.specs.Steps.{downloaded};
+ghost use Rattle.tacho_state.specs.Acts.{Reads, Answers};
+ghost use Rattle.tacho_tables.specs.Schema.{archive_schema};
+ghost use Rattle.tacho_store.specs.Standing.{StandsFor};
+ghost use Rattle.tacho_store.specs.Kept.{Shows, Leaves, IsAnswered};
+
+use crate::fault::store_fault;
+use sqlite::{Alter, Connection, Transaction};
+use tacho_state::StoreFault;
+use tacho_tables::{downloads, drivers};
+
+/// Whether the connection is still open after a reading: a Store fault where it isn't.
+fn ask_open<S: Alter>(conn: &mut Connection<S>) -> Result<(), StoreFault>
+    ensures autocommit { conn.old.in_transaction ≡ false → conn.new.in_transaction ≡ false }
+    ensures fault { OnErr result (result ≡ Err StoreFault.Store) }
+    ensures live { HasCleanDisk (state S.Store conn.new) → OnOk result (IsTrue (state S.Store conn.new).is_open) }
+    ensures clean { HasCleanDisk (state S.Store conn.new) → HasCleanDisk (state S.Store conn.old) }
+    ensures was_open { HasCleanDisk (state S.Store conn.new) → IsTrue (state S.Store conn.new).is_open → IsTrue (state S.Store conn.old).is_open }
+    ensures same { HasCleanDisk (state S.Store conn.new) → IsTrue (state S.Store conn.new).is_open → (state S.Store conn.old).now ≡ (state S.Store conn.old).committed → (state S.Store conn.new).now ≡ (state S.Store conn.old).now }
+    ensures survives { Survives (state S.Store conn.old) (state S.Store conn.new) (λ _. ⊥) }
+{
+    match conn.prepare("SELECT version FROM meta") {
+        Ok(_) => Ok(()),
+        Err(_) => Err(StoreFault::Store),
+    }
+}
+
+/// The bytes of a driver's download, within a transaction: S4, S10.
+fn download_in<S: Alter>(
+    tx: &mut Transaction<'_, S>,
+    driver: u32,
+    number: u32,
+) -> Result<Vec<u8>, StoreFault>
+    ensures same_reference { tx.new.conn.ghost_name ≡ tx.old.conn.ghost_name }
+    ensures answer { HasCleanDisk (state S.Store tx.new.conn.now) → (state S.Store tx.old.conn.now).now.schema ≡ archive_schema → (s : State) → StandsFor (state S.Store tx.old.conn.now).now.trees s
+        → Answers (λ bytes. bytes.items) result (downloaded driver number s) }
+    ensures live { HasCleanDisk (state S.Store tx.new.conn.now) → IsAnswered result → IsTrue (state S.Store tx.old.conn.now).is_open }
+    ensures clean { HasCleanDisk (state S.Store tx.new.conn.now) → HasCleanDisk (state S.Store tx.old.conn.now) }
+    ensures was_open { HasCleanDisk (state S.Store tx.new.conn.now) → IsTrue (state S.Store tx.new.conn.now).is_open → IsTrue (state S.Store tx.old.conn.now).is_open }
+    ensures keeps { HasCleanDisk (state S.Store tx.new.conn.now) → (state S.Store tx.old.conn.now).now.schema ≡ archive_schema → KeepsCommit (state S.Store tx.old.conn.now) (state S.Store tx.new.conn.now) }
+    ensures survives { Survives (state S.Store tx.old.conn.now) (state S.Store tx.new.conn.now) (λ _. ⊥) }
+{
+    let found = drivers::by_number(tx, driver).map_err(store_fault)?;
+    if found.is_none() {
+        return Err(StoreFault::UnknownDriver);
+    }
+    let file = downloads::file(tx, driver, number).map_err(store_fault)?;
+    file.ok_or(StoreFault::UnknownDownload)
+}
+
+/// The bytes of a driver's download: S4, S10.
+pub fn download<S: Alter>(
+    conn: &mut Connection<S>,
+    driver: u32,
+    number: u32,
+) -> Result<Vec<u8>, StoreFault>
+    requires { conn.old.in_transaction ≡ false }
+    ensures autocommit { conn.new.in_transaction ≡ false }
+    ensures reads { Reads (λ c. Shows (state S.Store c)) (λ c. HasCleanDisk (state S.Store c)) (λ c. IsTrue (state S.Store c).is_open) (λ c. Leaves (state S.Store c)) (λ bytes. bytes.items) conn.old conn.new result
+        (downloaded driver number) }
+{
+    let _settled = conn.is_autocommit();
+    let mut tx = conn.transaction();
+    let file = download_in(&mut tx, driver, number)?;
+    tx.rollback();
+    ask_open(conn)?;
+    Ok(file)
+}
