@@ -6,3 +6,5 @@ mod RegisterLemmas
 mod NearRowLemmas
 mod DownloadLemmas
 mod ImportLemmas
+mod RangeLemmas
+mod NewsLemmas
