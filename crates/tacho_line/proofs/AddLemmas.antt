@@ -41,12 +41,12 @@ starting_minutes b (s ∷ ss) m k h g = go (nat_le s.start b) refl g (starting_m
   go false e x more = kept (grind (arith, nat_tests)) x
 
 -- the minutes of canonical spans are from the first start to before the last past
-first_bound : (xs : List Span) (m : ℕ) (k : Mark) (d : Span) → IsCanonical xs → Gives xs m k → (slice_index_or xs 0 d).start ≤ m
+pub first_bound : (xs : List Span) (m : ℕ) (k : Mark) (d : Span) → IsCanonical xs → Gives xs m k → (slice_index_or xs 0 d).start ≤ m
 first_bound [] m k d h g = absurd g
 first_bound (s ∷ ss) m k d h (inl c) = c.0.0
 first_bound (s ∷ ss) m k d h (inr g) = let l = later s.past ss m k (canonical_starts s ss h) g in omega (arith, l, h.0)
 
-last_bound : (xs : List Span) (n m : ℕ) (k : Mark) (d : Span) → IsCanonical xs → length xs ≡ n + 1 → Gives xs m k → m < (slice_index_or xs n d).past
+pub last_bound : (xs : List Span) (n m : ℕ) (k : Mark) (d : Span) → IsCanonical xs → length xs ≡ n + 1 → Gives xs m k → m < (slice_index_or xs n d).past
 last_bound [] n m k d h e g = absurd g
 last_bound (s ∷ []) zero m k d h e (inl c) = c.0.1
 last_bound (s ∷ []) zero m k d h e (inr g) = absurd g

@@ -3,7 +3,7 @@ pub mod LineLemmas
 mod HorizonLemmas
 pub mod RangeLemmas
 pub mod MergeLemmas
-mod AddLemmas
+pub mod AddLemmas
 mod GainLemmas
 mod GapLaw
 mod PageFacts

@@ -1,9 +1,12 @@
 -- What a card file tells, read by a part: a relation with one solution.
 use Rattle.std.specs.Prelude.{◌≡◌, ℕ, List, Result, Ok, Err}
 use Rattle.tacho_card.specs.declared.fault.CardFault.{CardFault}
+use Rattle.tacho_card.specs.declared.fault.CardFault.TheVariants as card
 use Rattle.tacho_card.specs.declared.file.Part.{Part}
 use Rattle.tacho_card.specs.declared.file.Part.TheVariants as part
 use Rattle.tacho_card.specs.CardFile.{FileBlock, card_file, file_holder, ReadsFile}
+use Rattle.tacho_state.specs.declared.fault.StoreFault.{StoreFault}
+use Rattle.tacho_state.specs.declared.fault.StoreFault.TheVariants.{Card, Memory}
 use Rattle.tacho_state.specs.Steps.{Content}
 
 -- 0 both, 1 first, 2 second
@@ -25,3 +28,8 @@ ReadTells p (Err fault) content = content ≡ Err fault
 -- the content of a file's bytes, or its first fault
 abbrev pub Tells : Part → List ℕ → Result Content CardFault → Type 0
 Tells p bytes content = ReadTells p (card_file bytes) content
+
+-- the fault of an archive by that of a card file: want of memory is its own
+abbrev pub fault_of_card : CardFault → StoreFault
+fault_of_card card.Memory = Memory
+fault_of_card fault = Card fault

@@ -1,3 +1,4 @@
+use std::alloc::{AllocError, AllocFailed};
 use tacho_card::CardFault;
 use tacho_time::Minute;
 use thiserror::Error;
@@ -35,7 +36,7 @@ pub enum StoreFault {
     /// S10: no download of the driver has the number.
     #[error("unknown download")]
     UnknownDownload,
-    /// S11: the first fault of the card file.
+    /// S11: the first fault of the card file, never want of memory.
     #[error("{0}")]
     Card(CardFault),
     /// S12: the store's call failed, or gave a row that no archive writes.
@@ -47,4 +48,40 @@ pub enum StoreFault {
     /// There was no memory.
     #[error("no memory")]
     Memory,
+}
+
+impl<T: Drop> From<AllocFailed<T>> for StoreFault {
+    ghost use Rattle.std.specs.Prelude.{◌≡◌};
+    ghost use Rattle.tacho_state.specs.declared.fault.StoreFault.TheVariants.{Memory};
+
+    ghost from_gives = { λ _ fault. fault ≡ Memory };
+
+    fn from(_: AllocFailed<T>) -> StoreFault {
+        StoreFault::Memory
+    }
+}
+
+impl From<AllocError> for StoreFault {
+    ghost use Rattle.std.specs.Prelude.{◌≡◌};
+    ghost use Rattle.tacho_state.specs.declared.fault.StoreFault.TheVariants.{Memory};
+
+    ghost from_gives = { λ _ fault. fault ≡ Memory };
+
+    fn from(_: AllocError) -> StoreFault {
+        StoreFault::Memory
+    }
+}
+
+impl From<CardFault> for StoreFault {
+    ghost use Rattle.std.specs.Prelude.{◌≡◌};
+    ghost use Rattle.tacho_state.specs.Content.{fault_of_card};
+
+    ghost from_gives = { λ card fault. fault ≡ fault_of_card card };
+
+    fn from(card: CardFault) -> StoreFault {
+        match card {
+            CardFault::Memory => StoreFault::Memory,
+            _ => StoreFault::Card(card),
+        }
+    }
 }

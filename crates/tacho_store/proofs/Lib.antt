@@ -13,3 +13,5 @@ mod SeenLemmas
 mod OpenLemmas
 mod BaseLemmas
 mod ReadingLemmas
+mod RangeLemmas
+mod NewsLemmas

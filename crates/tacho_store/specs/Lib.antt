@@ -1,3 +1,4 @@
 pub mod Standing
 pub mod Kept
 pub mod Faults
+pub mod News

@@ -2,7 +2,10 @@
 #![tactic(auto)]
 
 mod base;
+mod content;
 mod fault;
 pub mod laws;
+mod news;
 mod reading;
 mod registration;
+mod spans;

@@ -1,0 +1,31 @@
+ghost use Rattle.std.specs.Prelude.{◌≡◌, ◌⊎◌, Ok, Err, IfOk, MatchResult};
+ghost use Rattle.tacho_time.specs.Spans.{IsCanonical};
+ghost use Rattle.tacho_card.specs.declared.fault.CardFault.{CardFault as OwnFault};
+ghost use Rattle.tacho_state.specs.Content.{Tells};
+
+use std::alloc::Global;
+use tacho_card::{CardFile, Part, spans};
+use tacho_state::StoreFault;
+use tacho_time::Span;
+
+/// What a card file tells, read by a part.
+#[derive(Drop)]
+pub struct CardContent {
+    /// The first 15 bytes of its identification.
+    pub holder: [u8; 15],
+    /// The canonical list of what its records give.
+    pub spans: Vec<Span>,
+}
+
+/// What a card file tells, read by a part; S11 where it has a fault.
+pub fn content_of(alloc: Global, part: Part, file: &[u8]) -> Result<CardContent, StoreFault>
+    ensures told { MatchResult result (λ it. Tells part file.now (Ok (record { holder = it.holder; spans = it.spans.items })))
+        (λ fault. (fault ≡ StoreFault.Memory) ⊎ ((f : OwnFault) × (fault ≡ StoreFault.Card f) × Tells part file.now (Err f))) }
+    ensures canonical { IfOk result (λ it. IsCanonical it.spans.items) }
+{
+    let card = CardFile::read(file)?;
+    Ok(CardContent {
+        holder: card.holder(),
+        spans: spans(alloc, &card, part)?,
+    })
+}
