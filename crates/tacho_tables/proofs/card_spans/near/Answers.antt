@@ -5,7 +5,7 @@ use Rattle.tacho_tables.specs.Schema.{archive_schema}
 use Rattle.tacho_tables.proofs.Answers.{shown_same}
 use Rattle.tacho_tables.proofs.SpanLemmas.{found_near}
 use Rattle.tacho_tables.proofs.Statements.{card_near_text, card_near_is}
-use Rattle.tacho_tables.proofs.Inside.{keeps_reading, read_open}
+use Rattle.tacho_tables.proofs.Inside.{keeps_reading, read_open, shown_live}
 use Rattle.tacho_tables.proofs.card_spans.near.Goals as goal
 
 pub returns-clause-found : goal.returns-clause-found
@@ -22,6 +22,12 @@ returns-clause-same g c clean schema =
     let old = state g.S.Store c.args.tx.now.conn.now in
     let new = state g.S.Store c.query_all.new.self.conn.now in
     IfOk-weaker c.stored_spans.result _ _ (λ _ _. shown_same card_near_text _ old new archive_schema c.in_ok-rows.rows.items schema card_near_is.plain (c.in_ok-rows.ensures.ok clean)) c.stored_spans.ensures
+
+pub returns-clause-live : goal.returns-clause-live
+returns-clause-live g c clean =
+    let old = state g.S.Store c.args.tx.now.conn.now in
+    let new = state g.S.Store c.query_all.new.self.conn.now in
+    IfOk-weaker c.stored_spans.result _ _ (λ _ _. shown_live _ _ old new c.in_ok-rows.rows.items (c.in_ok-rows.ensures.ok clean)) c.stored_spans.ensures
 
 pub returns-clause-keeps : goal.returns-clause-keeps
 returns-clause-keeps g c clean schema =

@@ -7,7 +7,7 @@ use Rattle.tacho_tables.specs.Tables.{is_download, file_shown}
 use Rattle.tacho_tables.proofs.Reading.{first_found, ok_both}
 use Rattle.tacho_tables.proofs.DownloadLemmas.{shows_file}
 use Rattle.tacho_tables.proofs.Statements.{file_text, file_is}
-use Rattle.tacho_tables.proofs.Inside.{keeps_reading, read_open}
+use Rattle.tacho_tables.proofs.Inside.{keeps_reading, read_open, shown_live}
 use Rattle.tacho_tables.proofs.downloads.file.Goals as goal
 
 pub returns-clause-found : goal.returns-clause-found
@@ -25,6 +25,12 @@ returns-clause-same g c clean schema =
     let old = state g.S.Store c.args.tx.now.conn.now in
     let new = state g.S.Store c.query_all.new.self.conn.now in
     IfOk-weaker c.first_file.result _ _ (λ _ _. shown_same file_text _ old new archive_schema c.in_ok-rows.rows.items schema file_is.plain (c.in_ok-rows.ensures.ok clean)) c.first_file.ensures.none
+
+pub returns-clause-live : goal.returns-clause-live
+returns-clause-live g c clean =
+    let old = state g.S.Store c.args.tx.now.conn.now in
+    let new = state g.S.Store c.query_all.new.self.conn.now in
+    IfOk-weaker c.first_file.result _ _ (λ _ _. shown_live _ _ old new c.in_ok-rows.rows.items (c.in_ok-rows.ensures.ok clean)) c.first_file.ensures.none
 
 pub returns-clause-keeps : goal.returns-clause-keeps
 returns-clause-keeps g c clean schema =

@@ -8,7 +8,7 @@ use Rattle.tacho_tables.proofs.Answers.{shown_same}
 use Rattle.tacho_tables.proofs.Reading.{first_found, ok_both}
 use Rattle.tacho_tables.proofs.DriverLemmas.{shows_drivers, secret_test}
 use Rattle.tacho_tables.proofs.Statements.{by_secret_text, by_secret_is}
-use Rattle.tacho_tables.proofs.Inside.{keeps_reading, read_open}
+use Rattle.tacho_tables.proofs.Inside.{keeps_reading, read_open, shown_live}
 use Rattle.tacho_tables.proofs.drivers.number_by_secret.Goals as goal
 
 pub returns-clause-found : goal.returns-clause-found
@@ -27,6 +27,12 @@ returns-clause-same g c clean schema =
     let old = state g.S.Store c.args.tx.now.conn.now in
     let new = state g.S.Store c.query_all.new.self.conn.now in
     IfOk-weaker c.first_number.result _ _ (λ _ _. shown_same by_secret_text _ old new archive_schema c.in_ok-rows.rows.items schema by_secret_is.plain (c.in_ok-rows.ensures.ok clean)) c.first_number.ensures.none
+
+pub returns-clause-live : goal.returns-clause-live
+returns-clause-live g c clean =
+    let old = state g.S.Store c.args.tx.now.conn.now in
+    let new = state g.S.Store c.query_all.new.self.conn.now in
+    IfOk-weaker c.first_number.result _ _ (λ _ _. shown_live _ _ old new c.in_ok-rows.rows.items (c.in_ok-rows.ensures.ok clean)) c.first_number.ensures.none
 
 pub returns-clause-keeps : goal.returns-clause-keeps
 returns-clause-keeps g c clean schema =
