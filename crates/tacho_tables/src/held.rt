@@ -8,6 +8,7 @@ ghost use Rattle.tacho_tables.specs.Tables.{Tables, Stand, Turns, is_near, row_o
 
 use crate::fault::TableFault;
 use crate::rows::{StoredSpan, stored_spans};
+use crate::statement::{read, run};
 use sqlite::{Alter, Transaction, params};
 use std::alloc::Global;
 
@@ -29,7 +30,8 @@ pub fn near<S: Alter>(
     ensures keeps { HasCleanDisk (state S.Store tx.new.conn.now) → (state S.Store tx.old.conn.now).now.schema ≡ archive_schema → KeepsCommit (state S.Store tx.old.conn.now) (state S.Store tx.new.conn.now) }
     ensures survives { Survives (state S.Store tx.old.conn.now) (state S.Store tx.new.conn.now) (λ _. ⊥) }
 {
-    let rows = tx.query_all(
+    let rows = read(
+        tx,
         "SELECT start, past, mark FROM held WHERE driver = ?1 AND start < ?3 AND ?2 < past ORDER BY start",
         params![driver, start, past],
     )?;
@@ -50,11 +52,11 @@ pub fn insert<S: Alter>(
     ensures keeps { HasCleanDisk (state S.Store tx.new.conn.now) → KeepsCommit (state S.Store tx.old.conn.now) (state S.Store tx.new.conn.now) }
     ensures survives { Survives (state S.Store tx.old.conn.now) (state S.Store tx.new.conn.now) (λ _. ⊥) }
 {
-    tx.execute(
+    run(
+        tx,
         "INSERT INTO held (driver, start, past, mark) VALUES (?1, ?2, ?3, ?4)",
         params![driver, span.start, span.past, span.mark],
-    )?;
-    Ok(())
+    )
 }
 
 /// Adds spans of a driver.
