@@ -88,6 +88,16 @@ shown_open : (sql : List ℕ) (params : Row) (old new : State) (rows : List Row)
 unfolding Shown
 shown_open sql params old new rows h = rows_open old new sql h.0 _ rows h.0.returning h.2
 
+-- and leaves it open
+rows_live : (old new : State) (sql : List ℕ) (c : Compiled) (params : Row) (rows : List Row) (r : Option Returning) → ShowsRows old new sql c params rows r → IsTrue new.is_open
+rows_live old new sql c params rows None h = h.3.0.is_open
+rows_live old new sql c params rows (Some what) h = h.1.shown.is_open
+
+-- whatever the schema is
+pub shown_live : (sql : List ℕ) (params : Row) (old new : State) (rows : List Row) → Shown sql params old new rows → IsTrue new.is_open
+unfolding Shown
+shown_live sql params old new rows h = rows_live old new sql h.0 _ rows h.0.returning h.2
+
 -- a query that shows nothing leaves a connection open only where it was
 not_shown_open : (old new : State) (sql : List ℕ) (c : Compiled) (params : Row) (e : Error) (r : Option Returning) → FailsToShow old new sql c params e r → IsTrue new.is_open → IsTrue old.is_open
 not_shown_open old new sql c params e None h = λ _. h.3.0.was_open

@@ -8,6 +8,7 @@ ghost use Rattle.tacho_tables.specs.Tables.{Tables, Stand, Turns, is_near, row_o
 
 use crate::fault::TableFault;
 use crate::rows::{StoredSpan, stored_spans};
+use crate::statement::{read, run};
 use sqlite::{Alter, Transaction, params};
 use std::alloc::Global;
 
@@ -23,12 +24,14 @@ pub fn near<S: Alter>(
     ensures same { HasCleanDisk (state S.Store tx.new.conn.now) → (state S.Store tx.old.conn.now).now.schema ≡ archive_schema → OnOk result (IsUnchanged (state S.Store tx.old.conn.now) (state S.Store tx.new.conn.now)) }
     ensures found { HasCleanDisk (state S.Store tx.new.conn.now) → (state S.Store tx.old.conn.now).now.schema ≡ archive_schema
         → IfOk result (λ found. (a : Tables) → Stand (state S.Store tx.old.conn.now).now.trees a → IsPermutation (map span_of (filter (is_near driver start past) a.card_spans)) found.items) }
+    ensures live { HasCleanDisk (state S.Store tx.new.conn.now) → OnOk result (IsTrue (state S.Store tx.new.conn.now).is_open) }
     ensures clean { HasCleanDisk (state S.Store tx.new.conn.now) → HasCleanDisk (state S.Store tx.old.conn.now) }
     ensures was_open { HasCleanDisk (state S.Store tx.new.conn.now) → IsTrue (state S.Store tx.new.conn.now).is_open → IsTrue (state S.Store tx.old.conn.now).is_open }
     ensures keeps { HasCleanDisk (state S.Store tx.new.conn.now) → (state S.Store tx.old.conn.now).now.schema ≡ archive_schema → KeepsCommit (state S.Store tx.old.conn.now) (state S.Store tx.new.conn.now) }
     ensures survives { Survives (state S.Store tx.old.conn.now) (state S.Store tx.new.conn.now) (λ _. ⊥) }
 {
-    let rows = tx.query_all(
+    let rows = read(
+        tx,
         "SELECT start, past, mark FROM card_spans WHERE driver = ?1 AND start < ?3 AND ?2 < past ORDER BY start",
         params![driver, start, past],
     )?;
@@ -49,11 +52,11 @@ pub fn insert<S: Alter>(
     ensures keeps { HasCleanDisk (state S.Store tx.new.conn.now) → KeepsCommit (state S.Store tx.old.conn.now) (state S.Store tx.new.conn.now) }
     ensures survives { Survives (state S.Store tx.old.conn.now) (state S.Store tx.new.conn.now) (λ _. ⊥) }
 {
-    tx.execute(
+    run(
+        tx,
         "INSERT INTO card_spans (driver, start, past, mark) VALUES (?1, ?2, ?3, ?4)",
         params![driver, span.start, span.past, span.mark],
-    )?;
-    Ok(())
+    )
 }
 
 /// Adds spans of a driver.

@@ -9,6 +9,7 @@ ghost use Rattle.tacho_tables.specs.Tables.{Tables, Stand, Turns, has_number, ha
 
 use crate::fault::TableFault;
 use crate::rows::{StoredDriver, first_driver, first_number};
+use crate::statement::{read, run};
 use sqlite::{Alter, Transaction, params};
 
 /// Adds a driver, without downloads and entries.
@@ -28,11 +29,11 @@ pub fn insert<S: Alter>(
     ensures keeps { HasCleanDisk (state S.Store tx.new.conn.now) → KeepsCommit (state S.Store tx.old.conn.now) (state S.Store tx.new.conn.now) }
     ensures survives { Survives (state S.Store tx.old.conn.now) (state S.Store tx.new.conn.now) (λ _. ⊥) }
 {
-    tx.execute(
+    run(
+        tx,
         "INSERT INTO drivers (driver, holder, secret, base, name, downloads, entries) VALUES (?1, ?2, ?3, ?4, ?5, 0, 0)",
         params![driver, holder, secret, base, name],
-    )?;
-    Ok(())
+    )
 }
 
 /// The driver with this number, if there is one.
@@ -50,7 +51,8 @@ pub fn by_number<S: Alter>(
     ensures keeps { HasCleanDisk (state S.Store tx.new.conn.now) → (state S.Store tx.old.conn.now).now.schema ≡ archive_schema → KeepsCommit (state S.Store tx.old.conn.now) (state S.Store tx.new.conn.now) }
     ensures survives { Survives (state S.Store tx.old.conn.now) (state S.Store tx.new.conn.now) (λ _. ⊥) }
 {
-    let rows = tx.query_all(
+    let rows = read(
+        tx,
         "SELECT holder, base, downloads, entries FROM drivers WHERE driver = ?1",
         params![driver],
     )?;
@@ -72,7 +74,8 @@ pub fn number_by_secret<S: Alter>(
     ensures keeps { HasCleanDisk (state S.Store tx.new.conn.now) → (state S.Store tx.old.conn.now).now.schema ≡ archive_schema → KeepsCommit (state S.Store tx.old.conn.now) (state S.Store tx.new.conn.now) }
     ensures survives { Survives (state S.Store tx.old.conn.now) (state S.Store tx.new.conn.now) (λ _. ⊥) }
 {
-    let rows = tx.query_all(
+    let rows = read(
+        tx,
         "SELECT driver FROM drivers WHERE secret = ?1",
         params![secret],
     )?;
@@ -94,7 +97,8 @@ pub fn number_by_holder<S: Alter>(
     ensures keeps { HasCleanDisk (state S.Store tx.new.conn.now) → (state S.Store tx.old.conn.now).now.schema ≡ archive_schema → KeepsCommit (state S.Store tx.old.conn.now) (state S.Store tx.new.conn.now) }
     ensures survives { Survives (state S.Store tx.old.conn.now) (state S.Store tx.new.conn.now) (λ _. ⊥) }
 {
-    let rows = tx.query_all(
+    let rows = read(
+        tx,
         "SELECT driver FROM drivers WHERE holder = ?1",
         params![holder],
     )?;
@@ -115,11 +119,11 @@ pub fn set_base<S: Alter>(
     ensures keeps { HasCleanDisk (state S.Store tx.new.conn.now) → KeepsCommit (state S.Store tx.old.conn.now) (state S.Store tx.new.conn.now) }
     ensures survives { Survives (state S.Store tx.old.conn.now) (state S.Store tx.new.conn.now) (λ _. ⊥) }
 {
-    tx.execute(
+    run(
+        tx,
         "UPDATE drivers SET base = ?2 WHERE driver = ?1",
         params![driver, base],
-    )?;
-    Ok(())
+    )
 }
 
 /// Sets how many numbers were given out to a driver's downloads.
@@ -136,9 +140,9 @@ pub fn set_downloads<S: Alter>(
     ensures keeps { HasCleanDisk (state S.Store tx.new.conn.now) → KeepsCommit (state S.Store tx.old.conn.now) (state S.Store tx.new.conn.now) }
     ensures survives { Survives (state S.Store tx.old.conn.now) (state S.Store tx.new.conn.now) (λ _. ⊥) }
 {
-    tx.execute(
+    run(
+        tx,
         "UPDATE drivers SET downloads = ?2 WHERE driver = ?1",
         params![driver, count],
-    )?;
-    Ok(())
+    )
 }

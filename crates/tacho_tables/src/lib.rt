@@ -9,6 +9,7 @@ mod fault;
 pub mod held;
 pub mod making;
 mod rows;
+mod statement;
 
 pub use fault::TableFault;
 pub use rows::{StoredDriver, StoredSpan};

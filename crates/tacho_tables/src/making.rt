@@ -8,6 +8,7 @@ ghost use Rattle.tacho_tables.specs.Making.{AreEmpty, IsCreate, HasMade};
 ghost use Rattle.tacho_tables.specs.Tables.{Stand, no_rows};
 
 use crate::fault::TableFault;
+use crate::statement::run;
 use sqlite::{Alter, Transaction};
 
 /// Makes one table.
@@ -20,8 +21,7 @@ fn make_table<S: Alter>(tx: &mut Transaction<'_, S>, text: &str) -> Result<(), T
     ensures keeps { HasCleanDisk (state S.Store tx.new.conn.now) → KeepsCommit (state S.Store tx.old.conn.now) (state S.Store tx.new.conn.now) }
     ensures survives { Survives (state S.Store tx.old.conn.now) (state S.Store tx.new.conn.now) (λ _. ⊥) }
 {
-    tx.execute(text, &[])?;
-    Ok(())
+    run(tx, text, &[])
 }
 
 /// Makes the first three tables.
@@ -84,6 +84,5 @@ pub fn make_all<S: Alter>(tx: &mut Transaction<'_, S>) -> Result<(), TableFault>
 {
     make_first(tx)?;
     make_rest(tx)?;
-    tx.execute("INSERT INTO meta (id, version) VALUES (1, 1)", &[])?;
-    Ok(())
+    run(tx, "INSERT INTO meta (id, version) VALUES (1, 1)", &[])
 }

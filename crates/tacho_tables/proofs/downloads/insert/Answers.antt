@@ -1,24 +1,11 @@
+use Rattle.std.proofs.lemmas.Result.{on_ok_weaker}
 use Rattle.sqlite.specs.Held.{state}
 use Rattle.tacho_tables.proofs.DownloadLemmas.{adds_download}
-use Rattle.tacho_tables.proofs.Inside.{ran_inside, keeps_ran}
 use Rattle.tacho_tables.proofs.downloads.insert.Goals as goal
 
 pub returns-clause-turned : goal.returns-clause-turned
 returns-clause-turned g c clean schema =
     let old = state g.S.Store c.args.tx.now.conn.now in
-    let new = state g.S.Store c.execute.new.self.conn.now in
-    let ran = ran_inside _ _ old new c.in_ok-execute.field-0 _ c.in_ok-execute.ensures.ended (c.in_ok-execute.ensures.runs clean) in
-    adds_download old new (record { driver = c.args.driver; number = c.args.number; part = c.args.part; file = c.args.file.now }) _ schema
-    (rw (c.params-to_sql.ensures, c.params-to_sql-2.ensures, c.params-to_sql-3.ensures, c.params-to_sql-4.ensures) at ran.0)
-
-pub returns-clause-keeps : goal.returns-clause-keeps
-returns-clause-keeps g c clean = keeps_ran g.S.Store _ _ c.args.tx.now.conn.now c.execute.new.self.conn.now c.execute.result _ c.execute.ensures.ended (c.execute.ensures.runs clean)
-
-pub returns-in_err-execute-clause-keeps : goal.returns-in_err-execute-clause-keeps
-returns-in_err-execute-clause-keeps g c clean = keeps_ran g.S.Store _ _ c.args.tx.now.conn.now c.execute.new.self.conn.now c.execute.result _ c.execute.ensures.ended (c.execute.ensures.runs clean)
-
-pub returns-clause-was_open : goal.returns-clause-was_open
-returns-clause-was_open g c clean = (keeps_ran g.S.Store _ _ c.args.tx.now.conn.now c.execute.new.self.conn.now c.execute.result _ c.execute.ensures.ended (c.execute.ensures.runs clean)).was_open
-
-pub returns-in_err-execute-clause-was_open : goal.returns-in_err-execute-clause-was_open
-returns-in_err-execute-clause-was_open g c clean = (keeps_ran g.S.Store _ _ c.args.tx.now.conn.now c.execute.new.self.conn.now c.execute.result _ c.execute.ensures.ended (c.execute.ensures.runs clean)).was_open
+    let new = state g.S.Store c.run.new.tx.conn.now in
+    on_ok_weaker c.run.result (λ ran. adds_download old new (record { driver = c.args.driver; number = c.args.number; part = c.args.part; file = c.args.file.now }) ran.0 schema ran.1)
+    (rw (c.params-to_sql.ensures, c.params-to_sql-2.ensures, c.params-to_sql-3.ensures, c.params-to_sql-4.ensures) at (c.run.ensures.ran clean))
