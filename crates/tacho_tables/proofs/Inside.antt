@@ -117,13 +117,3 @@ pub read_open : (sql : List ℕ) (params : Row) (old new : State) (r : Result (V
 read_open sql params old new (Ok rows) h fails = shown_open sql params old new rows.items h
 read_open sql params old new (Err e) h (inl x) = fails_open sql params old new e x
 read_open sql params old new (Err e) h (inr x) = λ _. x.5.0.was_open
-
--- and leave it open
-rows_leave_open : (old new : State) (sql : List ℕ) (c : Compiled) (params : Row) (rows : List Row) (r : Option Returning) → ShowsRows old new sql c params rows r → IsTrue new.is_open
-rows_leave_open old new sql c params rows None h = h.3.0.is_open
-rows_leave_open old new sql c params rows (Some what) h = h.1.shown.is_open
-
--- what a query shows leaves the connection open
-pub shown_live : (sql : List ℕ) (params : Row) (old new : State) (rows : List Row) → Shown sql params old new rows → IsTrue new.is_open
-unfolding Shown
-shown_live sql params old new rows h = rows_leave_open old new sql h.0 _ rows h.0.returning h.2
