@@ -11,7 +11,7 @@ use Rattle.sqlite.specs.Source.TheVariants.{Values}
 use Rattle.sqlite.specs.Order.{Row}
 use Rattle.sqlite.specs.Tree.{Trees}
 use Rattle.sqlite_trees.proofs.ListLemmas.{pull_back}
-use Rattle.sqlite.specs.Term.{eval_all}
+use Rattle.sqlite.specs.Term.{Term, eval_all}
 use Rattle.sqlite.specs.Edit.{next_rowid, is_taken}
 use Rattle.sqlite.specs.Program.{overlay}
 use Rattle.sqlite.specs.State.{State, Executes, Shown}
@@ -19,12 +19,12 @@ use Rattle.sqlite.proofs.Callers.{reads_as}
 use Rattle.tacho_tables.specs.Schema.{archive_schema, to_driver, spans}
 use Rattle.tacho_tables.specs.Rows.{Stands, SpanRow, span_columns}
 use Rattle.tacho_tables.specs.declared.rows.StoredSpan.{StoredSpan}
-use Rattle.tacho_tables.specs.Tables.{Tables, Stand, Turns, is_near, span_shown, span_of, row_of}
+use Rattle.tacho_tables.specs.Tables.{Tables, Stand, Turns, is_near, is_of, span_shown, span_of, row_of}
 use Rattle.tacho_tables.proofs.Answers.{passes, listed, shows, eq_test, lt_test}
 use Rattle.tacho_tables.proofs.Stored.{stands_put, stands_shuffled, shown_of}
 use Rattle.tacho_tables.proofs.Idle.{idle}
 use Rattle.tacho_tables.proofs.Kept.{AreKept, with_held, with_card_spans}
-use Rattle.tacho_tables.proofs.Statements.{IsStatement, IsReading, four, near, three_shown, by_start, span_names}
+use Rattle.tacho_tables.proofs.Statements.{IsStatement, IsReading, four, near, own, three_shown, by_start, span_names}
 use Rattle.tacho_tables.proofs.Writes.{flat, inserted, cast_null, cast_int}
 
 -- a table of spans: its place, its tree and its name, and the list that its rows stand for
@@ -72,26 +72,28 @@ near_is driver start past v x = rw (eq_test x.driver driver, lt_test x.start pas
 pub none_given : (db : Trees) (t : ℕ) → overlay db [] t ≡ db t
 none_given db t = elim (leb (2 ^ 31) t) as (λ b. unwrap_or (cond b None None) (db t) ≡ db t) [ true ↦ refl | false ↦ refl ]
 
--- a reading near a range shows the spans that have a minute in it
-pub shows_near : (text : List ℕ) (tree : ℕ) (old new : State) (driver start past : ℕ) (rows : List Row) → old.now.schema ≡ archive_schema → IsReading text tree near three_shown by_start span_names
-    → Shown text (Int (pos driver) ∷ Int (pos start) ∷ Int (pos past) ∷ []) old new rows
-    → (all : List SpanRow) → Stands span_columns (old.now.trees tree) all → IsPermutation (map span_shown (filter (is_near driver start past) all)) rows
-shows_near text tree old new driver start past rows has it h all s =
-    let db = old.now.trees in
-    let params = Int (pos driver) ∷ Int (pos start) ∷ Int (pos past) ∷ [] in
-    let got = reads_as text params old new archive_schema has _ it.meant it.plain it.unlisted rows h in
-    let l = listed tree near three_shown by_start (overlay db []) params rows (got.answer Null) in
-    IsPermutation-trans _ _ _ (shown_of span_columns (db tree) all s (passes near params) (is_near driver start past) (near_is driver start past) (λ (r : Row). eval_all three_shown (params ∷ r ∷ [])) span_shown (λ v x. refl))
-    (rw (none_given db tree) at (shows tree near three_shown by_start (overlay db []) params rows l))
+-- the tests of a reading of all spans are that of a row's driver
+pub own_is : (driver : ℕ) (v : Value) (x : SpanRow) → passes own (Int (pos driver) ∷ []) (v ∷ span_columns x) ≡ is_of driver x
+own_is driver v x = rw (eq_test x.driver driver) (and-true (x.driver == driver))
 
--- what is read of the rows that a reading near a range shows are the spans that have a minute in it
-pub found_near : (text : List ℕ) (tree : ℕ) (old new : State) (driver start past : ℕ) (rows : List Row) → old.now.schema ≡ archive_schema → IsReading text tree near three_shown by_start span_names
-    → Shown text (Int (pos driver) ∷ Int (pos start) ∷ Int (pos past) ∷ []) old new rows → (found : List StoredSpan) → ((shown : List SpanRow) → rows ≡ map span_shown shown → found ≡ map span_of shown)
-    → (all : List SpanRow) → Stands span_columns (old.now.trees tree) all → IsPermutation (map span_of (filter (is_near driver start past) all)) found
-found_near text tree old new driver start past rows has it h found reads all s =
-    let near = filter (is_near driver start past) all in
-    let shown = pull_back span_shown _ _ (shows_near text tree old new driver start past rows has it h all s) near refl in
-    subst (IsPermutation (map span_of near)) (sym (reads shown.0 shown.2)) (IsPermutation-map span_of near shown.0 shown.1)
+module _ (text : List ℕ) (tree : ℕ) (tests : List Term) (params : Row) (p : SpanRow → Bool) (tested : (v : Value) (x : SpanRow) → passes tests params (v ∷ span_columns x) ≡ p x)
+    (old new : State) (rows : List Row) (has : old.now.schema ≡ archive_schema) (it : IsReading text tree tests three_shown by_start span_names) (h : Shown text params old new rows)
+    (all : List SpanRow) (s : Stands span_columns (old.now.trees tree) all) where
+  -- a reading shows the spans that pass its tests
+  shows_spans : IsPermutation (map span_shown (filter p all)) rows
+  shows_spans =
+      let db = old.now.trees in
+      let got = reads_as text params old new archive_schema has _ it.meant it.plain it.unlisted rows h in
+      let l = listed tree tests three_shown by_start (overlay db []) params rows (got.answer Null) in
+      IsPermutation-trans _ _ _ (shown_of span_columns (db tree) all s (passes tests params) p tested (λ (r : Row). eval_all three_shown (params ∷ r ∷ [])) span_shown (λ v x. refl))
+      (rw (none_given db tree) at (shows tree tests three_shown by_start (overlay db []) params rows l))
+
+  -- and what is read of its rows are these spans
+  pub found_spans : (found : List StoredSpan) → ((shown : List SpanRow) → rows ≡ map span_shown shown → found ≡ map span_of shown) → IsPermutation (map span_of (filter p all)) found
+  found_spans found reads =
+      let passed = filter p all in
+      let shown = pull_back span_shown _ _ shows_spans passed refl in
+      subst (IsPermutation (map span_of passed)) (sym (reads shown.0 shown.2)) (IsPermutation-map span_of passed shown.0 shown.1)
 
 -- ---- INSERTs
 

@@ -36,6 +36,10 @@ four = lit Null ∷ col 0 0 ∷ col 0 1 ∷ col 0 2 ∷ col 0 3 ∷ []
 abbrev pub near : List Term
 near = op2 (Compare Eq Binary) (col 1 1) (col 0 0) ∷ op2 (Compare Lt Binary) (col 1 2) (col 0 2) ∷ op2 (Compare Lt Binary) (col 0 1) (col 1 3) ∷ []
 
+-- a row of driver ?1
+abbrev pub own : List Term
+own = op2 (Compare Eq Binary) (col 1 1) (col 0 0) ∷ []
+
 -- the row of driver ?1 with number ?2
 abbrev pub numbered : List Term
 numbered = op2 (Compare Eq Binary) (col 1 1) (col 0 0) ∷ op2 (Compare Eq Binary) (col 1 2) (col 0 1) ∷ []
@@ -71,6 +75,15 @@ held_insert_is = record { meant = refl; plain = (refl, refl) }
 pub held_near_is : IsReading held_near_text 10 near three_shown by_start span_names
 unfolding understood everything
 held_near_is = record { meant = refl; unlisted = refl; plain = (refl, refl) }
+
+-- the text that reads all spans of a driver
+abbrev pub held_own_text : List ℕ
+held_own_text = codes "SELECT start, past, mark FROM held WHERE driver = ?1 ORDER BY start"
+
+-- what it means
+pub held_own_is : IsReading held_own_text 10 own three_shown by_start span_names
+unfolding understood everything
+held_own_is = record { meant = refl; unlisted = refl; plain = (refl, refl) }
 
 -- ---- card_spans
 

@@ -33,6 +33,10 @@ pub record Turns (old new : State) (step : Tables → Tables) : Type 0 where
 abbrev pub is_near : ℕ → ℕ → ℕ → SpanRow → Bool
 is_near driver start past r = (r.driver == driver) && (nat_lt r.start past && nat_lt start r.past)
 
+-- a row of the driver
+abbrev pub is_of : ℕ → SpanRow → Bool
+is_of driver r = r.driver == driver
+
 -- a span as a driver's row, and the span of a row
 abbrev pub row_of : ℕ → StoredSpan → SpanRow
 row_of driver s = record { driver = driver; start = s.start; past = s.past; mark = s.mark }

@@ -4,7 +4,7 @@ ghost use Rattle.std.specs.Prelude.{◌≡◌, ◌++◌, ◌∷◌, map, filter,
 ghost use Rattle.sqlite.specs.State.{HasCleanDisk, Survives, IsUnchanged, KeepsCommit};
 ghost use Rattle.sqlite.specs.Held.{state};
 ghost use Rattle.tacho_tables.specs.Schema.{archive_schema};
-ghost use Rattle.tacho_tables.specs.Tables.{Tables, Stand, Turns, is_near, row_of, span_of};
+ghost use Rattle.tacho_tables.specs.Tables.{Tables, Stand, Turns, is_near, is_of, row_of, span_of};
 
 use crate::fault::TableFault;
 use crate::rows::{StoredSpan, stored_spans};
@@ -34,6 +34,30 @@ pub fn near<S: Alter>(
         tx,
         "SELECT start, past, mark FROM held WHERE driver = ?1 AND start < ?3 AND ?2 < past ORDER BY start",
         params![driver, start, past],
+    )?;
+    stored_spans(alloc, &rows)
+}
+
+/// All spans of a driver.
+pub fn of_driver<S: Alter>(
+    alloc: Global,
+    tx: &mut Transaction<'_, S>,
+    driver: u32,
+) -> Result<Vec<StoredSpan>, TableFault>
+    ensures same_reference { tx.new.conn.ghost_name ≡ tx.old.conn.ghost_name }
+    ensures same { HasCleanDisk (state S.Store tx.new.conn.now) → (state S.Store tx.old.conn.now).now.schema ≡ archive_schema → OnOk result (IsUnchanged (state S.Store tx.old.conn.now) (state S.Store tx.new.conn.now)) }
+    ensures found { HasCleanDisk (state S.Store tx.new.conn.now) → (state S.Store tx.old.conn.now).now.schema ≡ archive_schema
+        → IfOk result (λ found. (a : Tables) → Stand (state S.Store tx.old.conn.now).now.trees a → IsPermutation (map span_of (filter (is_of driver) a.held)) found.items) }
+    ensures live { HasCleanDisk (state S.Store tx.new.conn.now) → OnOk result (IsTrue (state S.Store tx.new.conn.now).is_open) }
+    ensures clean { HasCleanDisk (state S.Store tx.new.conn.now) → HasCleanDisk (state S.Store tx.old.conn.now) }
+    ensures was_open { HasCleanDisk (state S.Store tx.new.conn.now) → IsTrue (state S.Store tx.new.conn.now).is_open → IsTrue (state S.Store tx.old.conn.now).is_open }
+    ensures keeps { HasCleanDisk (state S.Store tx.new.conn.now) → (state S.Store tx.old.conn.now).now.schema ≡ archive_schema → KeepsCommit (state S.Store tx.old.conn.now) (state S.Store tx.new.conn.now) }
+    ensures survives { Survives (state S.Store tx.old.conn.now) (state S.Store tx.new.conn.now) (λ _. ⊥) }
+{
+    let rows = read(
+        tx,
+        "SELECT start, past, mark FROM held WHERE driver = ?1 ORDER BY start",
+        params![driver],
     )?;
     stored_spans(alloc, &rows)
 }

@@ -1,7 +1,8 @@
 use Rattle.std.proofs.Common.{◌∙◌}
 use Rattle.std.proofs.lemmas.Result.{IfOk-weaker}
 use Rattle.sqlite.specs.Held.{state}
-use Rattle.tacho_tables.proofs.SpanLemmas.{found_near}
+use Rattle.tacho_tables.specs.Tables.{is_near}
+use Rattle.tacho_tables.proofs.SpanLemmas.{near_is, found_spans}
 use Rattle.tacho_tables.proofs.Statements.{held_near_text, held_near_is}
 use Rattle.tacho_tables.proofs.held.near.Goals as goal
 
@@ -13,6 +14,7 @@ returns-clause-found g c clean schema =
     let old = state g.S.Store c.args.tx.now.conn.now in
     let new = state g.S.Store c.read.new.tx.conn.now in
     let shown = rw (c.params-to_sql.ensures, c.params-to_sql-2.ensures, c.params-to_sql-3.ensures) at (c.in_ok-rows.ensures.shown clean) in
+    let driver = c.args.driver in
     IfOk-weaker c.stored_spans.result _ _
-    (λ spans reads a s. found_near held_near_text 10 old new c.args.driver c.args.start c.args.past c.in_ok-rows.rows.items schema held_near_is shown spans.items
-    (λ some is. reads some (c.deref.ensures.value ∙ is)) a.held s.held) c.stored_spans.ensures
+    (λ spans reads a s. found_spans held_near_text 10 _ _ (is_near driver c.args.start c.args.past) (near_is driver c.args.start c.args.past) old new c.in_ok-rows.rows.items schema held_near_is shown a.held s.held spans.items
+    (λ some is. reads some (c.deref.ensures.value ∙ is))) c.stored_spans.ensures
