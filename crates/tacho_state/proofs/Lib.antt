@@ -4,7 +4,7 @@ mod OrderLemmas
 pub mod GainLemmas
 mod WithdrawLemmas
 mod LeastLemmas
-mod StepLemmas
-mod MapLemmas
+pub mod StepLemmas
+pub mod MapLemmas
 mod PartLemmas
 mod ContentLemmas

@@ -15,3 +15,4 @@ mod BaseLemmas
 mod ReadingLemmas
 mod RangeLemmas
 mod NewsLemmas
+mod TimelineLemmas

@@ -34,7 +34,7 @@ given_by (x ∷ xs) m k s h c e = go (first_or_rest x s xs h) (λ w. given_by xs
   go (inr f) more = inr (more f)
 
 -- spans in another order give the same
-permuted_gives : (xs ys : List Span) (m : ℕ) (k : Mark) → IsPermutation xs ys → Gives xs m k → Gives ys m k
+pub permuted_gives : (xs ys : List Span) (m : ℕ) (k : Mark) → IsPermutation xs ys → Gives xs m k → Gives ys m k
 permuted_gives xs ys m k p g =
     let it = giver xs m k g in
     given_by ys m k it.0 (Contains-permutation xs ys it.0 p it.1) it.2 it.3

@@ -1,17 +1,21 @@
 ghost use Rattle.std.specs.Prelude.{◌≡◌, ◌∷◌, false, IsTrue, OnOk, OnErr, Err};
 ghost use Rattle.sqlite.specs.State.{HasCleanDisk, Survives, KeepsCommit, IsUnchanged};
 ghost use Rattle.sqlite.specs.Held.{state};
+ghost use Rattle.tacho_line.specs.Line.{mark_at};
 ghost use Rattle.tacho_state.specs.State.{State};
-ghost use Rattle.tacho_state.specs.Steps.{downloaded};
+ghost use Rattle.tacho_state.specs.Steps.{lined, downloaded};
 ghost use Rattle.tacho_state.specs.Acts.{Reads, Answers};
 ghost use Rattle.tacho_tables.specs.Schema.{archive_schema};
 ghost use Rattle.tacho_store.specs.Standing.{StandsFor};
 ghost use Rattle.tacho_store.specs.Kept.{Shows, Leaves, IsAnswered};
 
 use crate::fault::store_fault;
+use crate::spans::line_of_stored;
 use sqlite::{Alter, Connection, Transaction};
+use std::alloc::Global;
+use tacho_line::Line;
 use tacho_state::StoreFault;
-use tacho_tables::{downloads, drivers};
+use tacho_tables::{downloads, drivers, held};
 
 /// Whether the connection is still open after a reading: a Store fault where it isn't.
 fn ask_open<S: Alter>(conn: &mut Connection<S>) -> Result<(), StoreFault>
@@ -69,4 +73,46 @@ pub fn download<S: Alter>(
     tx.rollback();
     ask_open(conn)?;
     Ok(file)
+}
+
+/// A driver's timeline, within a transaction: S4.
+fn line_in<S: Alter>(
+    alloc: Global,
+    tx: &mut Transaction<'_, S>,
+    driver: u32,
+) -> Result<Line, StoreFault>
+    ensures same_reference { tx.new.conn.ghost_name ≡ tx.old.conn.ghost_name }
+    ensures answer { HasCleanDisk (state S.Store tx.new.conn.now) → (state S.Store tx.old.conn.now).now.schema ≡ archive_schema → (s : State) → StandsFor (state S.Store tx.old.conn.now).now.trees s
+        → Answers (λ line. mark_at line) result (lined driver s) }
+    ensures live { HasCleanDisk (state S.Store tx.new.conn.now) → IsAnswered result → IsTrue (state S.Store tx.old.conn.now).is_open }
+    ensures clean { HasCleanDisk (state S.Store tx.new.conn.now) → HasCleanDisk (state S.Store tx.old.conn.now) }
+    ensures was_open { HasCleanDisk (state S.Store tx.new.conn.now) → IsTrue (state S.Store tx.new.conn.now).is_open → IsTrue (state S.Store tx.old.conn.now).is_open }
+    ensures keeps { HasCleanDisk (state S.Store tx.new.conn.now) → (state S.Store tx.old.conn.now).now.schema ≡ archive_schema → KeepsCommit (state S.Store tx.old.conn.now) (state S.Store tx.new.conn.now) }
+    ensures survives { Survives (state S.Store tx.old.conn.now) (state S.Store tx.new.conn.now) (λ _. ⊥) }
+{
+    let found = drivers::by_number(tx, driver).map_err(store_fault)?;
+    if found.is_none() {
+        return Err(StoreFault::UnknownDriver);
+    }
+    let rows = held::of_driver(alloc, tx, driver).map_err(store_fault)?;
+    line_of_stored(alloc, &rows)
+}
+
+/// A driver's timeline: S4.
+pub fn line<S: Alter>(
+    alloc: Global,
+    conn: &mut Connection<S>,
+    driver: u32,
+) -> Result<Line, StoreFault>
+    requires { conn.old.in_transaction ≡ false }
+    ensures autocommit { conn.new.in_transaction ≡ false }
+    ensures reads { Reads (λ c. Shows (state S.Store c)) (λ c. HasCleanDisk (state S.Store c)) (λ c. IsTrue (state S.Store c).is_open) (λ c. Leaves (state S.Store c)) (λ line. mark_at line) conn.old conn.new result
+        (lined driver) }
+{
+    let _settled = conn.is_autocommit();
+    let mut tx = conn.transaction();
+    let line = line_in(alloc, &mut tx, driver)?;
+    tx.rollback();
+    ask_open(conn)?;
+    Ok(line)
 }
