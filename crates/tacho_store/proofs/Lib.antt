@@ -8,3 +8,4 @@ mod DownloadLemmas
 mod ImportLemmas
 mod RangeLemmas
 mod NewsLemmas
+mod JoinLemmas
