@@ -6,3 +6,5 @@ mod content;
 pub mod laws;
 mod news;
 mod spans;
+#[cfg(test)]
+mod tests;
