@@ -16,3 +16,4 @@ mod ReadingLemmas
 mod RangeLemmas
 mod NewsLemmas
 mod TimelineLemmas
+mod JoinLemmas

@@ -144,6 +144,15 @@ with_imported n number part file card_gains gains t = record t {
   held = t.held ++ map (span_row n) gains;
 }
 
+-- the same rows as the writes of an import leave them, each in front of what was there
+abbrev pub kept : ℕ → ℕ → ℕ → List ℕ → List Span → List Span → Tables → Tables
+kept n number part file card_gains gains t = record t {
+  drivers = map (with_downloads n number) t.drivers;
+  downloads = record { driver = n; number = number; part = part; file = file } ∷ t.downloads;
+  card_spans = map (span_row n) card_gains ++ t.card_spans;
+  held = map (span_row n) gains ++ t.held;
+}
+
 -- the same rows in another order
 pub record SameRows (t u : Tables) : Type 0 where
   pub drivers : IsPermutation t.drivers u.drivers

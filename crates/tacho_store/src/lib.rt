@@ -9,3 +9,5 @@ mod news;
 mod reading;
 mod registration;
 mod spans;
+#[cfg(test)]
+mod tests;

@@ -1,0 +1,93 @@
+-- What joins a command's writes: one step after another, and rows that stand in front where the tables have them behind.
+use Rattle.std.proofs.Common.{◌≡◌, ℕ, List, ◌∷◌, ◌++◌, map, subst}
+use Rattle.std.proofs.lemmas.List.Sorted.{IsPermutation-refl, IsPermutation-sym, IsPermutation-append_comm, IsPermutation-to_front}
+use Rattle.sqlite.specs.State.{State as StoreState}
+use Rattle.sqlite.specs.Tree.{Trees}
+use Rattle.tacho_time.specs.declared.span.Span.{Span}
+use Rattle.tacho_state.specs.State.{State}
+use Rattle.tacho_tables.specs.Rows.{SpanRow, DriverRow}
+use Rattle.tacho_tables.specs.Tables.{Tables, Stand, Turns, row_of, with_downloads}
+use Rattle.tacho_tables.specs.declared.rows.StoredSpan.{StoredSpan}
+use Rattle.tacho_store.specs.Standing.{IsOf, StandsFor, SameRows, span_row, with_driver, with_imported, kept}
+use Rattle.tacho_store.proofs.OrderedLemmas.{any_order_stands}
+
+-- ---- steps
+
+-- two steps, one after the other
+pub turns_then : (a b c : StoreState) (f g : Tables → Tables) → Turns a b f → Turns b c g → Turns a c (λ t. g (f t))
+turns_then a b c f g first second = record { schema = second.schema; stands = λ t h. second.stands (f t) (first.stands t h) }
+
+-- ---- order
+
+-- other tables have the same rows as these, and these as the others
+pub same_back : (t u : Tables) → SameRows t u → SameRows u t
+same_back t u same = record {
+  drivers = IsPermutation-sym t.drivers u.drivers same.drivers;
+  downloads = IsPermutation-sym t.downloads u.downloads same.downloads;
+  card_spans = IsPermutation-sym t.card_spans u.card_spans same.card_spans;
+  entries = IsPermutation-sym t.entries u.entries same.entries;
+  held = IsPermutation-sym t.held u.held same.held;
+}
+
+-- what stands for tables stands for a state that other tables with the same rows stand for
+same_stands : (db : Trees) (t u : Tables) (s : State) → SameRows u t → Stand db t → IsOf u s → StandsFor db s
+same_stands db t u s same stands is = (u, any_order_stands db t u (same_back u t same) stands, is)
+
+-- ---- a registration
+
+-- a driver's row in front or behind
+pub same_driver : (row : DriverRow) (t : Tables) → SameRows (with_driver row t) (record t { drivers = row ∷ t.drivers })
+same_driver row t = record {
+  drivers = IsPermutation-to_front t.drivers row;
+  downloads = IsPermutation-refl t.downloads;
+  card_spans = IsPermutation-refl t.card_spans;
+  entries = IsPermutation-refl t.entries;
+  held = IsPermutation-refl t.held;
+}
+
+-- what was written of a registration stands for the state after it
+pub driver_stands : (db : Trees) (row : DriverRow) (t : Tables) (s : State) → Stand db (record t { drivers = row ∷ t.drivers }) → IsOf (with_driver row t) s → StandsFor db s
+driver_stands db row t s stands is = same_stands db (record t { drivers = row ∷ t.drivers }) (with_driver row t) s (same_driver row t) stands is
+
+-- ---- an import
+
+-- the rows of an import in front or behind
+pub same_kept : (n number part : ℕ) (file : List ℕ) (card_gains gains : List Span) (t : Tables) → SameRows (with_imported n number part file card_gains gains t) (kept n number part file card_gains gains t)
+same_kept n number part file card_gains gains t = record {
+  drivers = IsPermutation-refl (map (with_downloads n number) t.drivers);
+  downloads = IsPermutation-to_front t.downloads (record { driver = n; number = number; part = part; file = file });
+  card_spans = IsPermutation-append_comm t.card_spans (map (span_row n) card_gains);
+  entries = IsPermutation-refl t.entries;
+  held = IsPermutation-append_comm t.held (map (span_row n) gains);
+}
+
+-- the tables of an import's writes, by the rows that they put in front
+abbrev written : ℕ → ℕ → ℕ → List ℕ → List SpanRow → List SpanRow → Tables → Tables
+written n number part file cards helds t = record t {
+  drivers = map (with_downloads n number) t.drivers;
+  downloads = record { driver = n; number = number; part = part; file = file } ∷ t.downloads;
+  card_spans = cards ++ t.card_spans;
+  held = helds ++ t.held;
+}
+
+-- an import's four writes make its tables, where the stored rows are those of its gains
+pub turns_kept : (a b c d e : StoreState) (n number part : ℕ) (file : List ℕ) (card_rows rows : List StoredSpan) (card_gains gains : List Span)
+    → map (row_of n) card_rows ≡ map (span_row n) card_gains → map (row_of n) rows ≡ map (span_row n) gains
+    → Turns a b (λ t. record t { drivers = map (with_downloads n number) t.drivers })
+    → Turns b c (λ t. record t { downloads = (record { driver = n; number = number; part = part; file = file }) ∷ t.downloads })
+    → Turns c d (λ t. record t { card_spans = map (row_of n) card_rows ++ t.card_spans })
+    → Turns d e (λ t. record t { held = map (row_of n) rows ++ t.held })
+    → Turns a e (kept n number part file card_gains gains)
+turns_kept a b c d e n number part file card_rows rows card_gains gains same_cards same_rows drivers downloads cards helds =
+    let all : Turns a e (written n number part file (map (row_of n) card_rows) (map (row_of n) rows)) = record {
+      schema = helds.schema;
+      stands = λ t h. helds.stands _ (cards.stands _ (downloads.stands _ (drivers.stands t h)));
+    } in
+    subst (λ (x : List SpanRow). Turns a e (written n number part file (map (span_row n) card_gains) x)) same_rows
+    (subst (λ (x : List SpanRow). Turns a e (written n number part file x (map (row_of n) rows))) same_cards all)
+
+-- what was written of an import stands for the state after it
+pub kept_stands : (db : Trees) (n number part : ℕ) (file : List ℕ) (card_gains gains : List Span) (t : Tables) (s : State) → Stand db (kept n number part file card_gains gains t)
+    → IsOf (with_imported n number part file card_gains gains t) s → StandsFor db s
+kept_stands db n number part file card_gains gains t s stands is =
+    same_stands db (kept n number part file card_gains gains t) (with_imported n number part file card_gains gains t) s (same_kept n number part file card_gains gains t) stands is
