@@ -31,6 +31,7 @@ same_back t u same = record {
 
 -- what stands for tables stands for a state that other tables with the same rows stand for
 same_stands : (db : Trees) (t u : Tables) (s : State) → SameRows u t → Stand db t → IsOf u s → StandsFor db s
+unfolding StandsFor
 same_stands db t u s same stands is = (u, any_order_stands db t u (same_back u t same) stands, is)
 
 -- ---- a registration

@@ -17,3 +17,5 @@ mod RangeLemmas
 mod NewsLemmas
 mod TimelineLemmas
 mod JoinLemmas
+mod ImporterLemmas
+mod DecisionLemmas

@@ -2,3 +2,4 @@ pub mod Standing
 pub mod Kept
 pub mod Faults
 pub mod News
+pub mod Importing

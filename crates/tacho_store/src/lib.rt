@@ -4,6 +4,7 @@
 mod base;
 mod content;
 mod fault;
+mod import;
 pub mod laws;
 mod news;
 mod reading;

@@ -1,0 +1,161 @@
+ghost use Rattle.std.specs.Prelude.{◌≡◌, ℕ, ◌∷◌, map, None, Some, Ok, List, false, IsTrue, OnOk};
+ghost use Rattle.sqlite.specs.State.{HasCleanDisk, Survives, KeepsCommit, IsUnchanged};
+ghost use Rattle.sqlite.specs.Held.{state};
+ghost use Rattle.tacho_time.specs.declared.span.Span.{Span as Stretch};
+ghost use Rattle.tacho_time.specs.Spans.{IsCanonical};
+ghost use Rattle.tacho_state.specs.State.{State, Driver, driver_of};
+ghost use Rattle.tacho_state.specs.Steps.{imported};
+ghost use Rattle.tacho_state.specs.Content.{Tells, part_number};
+ghost use Rattle.tacho_state.specs.Acts.{Acts, Answers, caller_number};
+ghost use Rattle.tacho_tables.specs.Schema.{archive_schema};
+ghost use Rattle.tacho_tables.specs.Tables.{Turns, row_of};
+ghost use Rattle.tacho_store.specs.Standing.{StandsFor, span_row, kept};
+ghost use Rattle.tacho_store.specs.Kept.{Shows, Leaves, IsAnswered};
+ghost use Rattle.tacho_store.specs.Importing.{importer, IsImporter, AreDecided};
+
+use crate::content::CardContent;
+use crate::fault::store_fault;
+use crate::news::{News, news_of};
+use crate::spans::{line_of_stored, range_of, stored};
+use sqlite::{Alter, Connection, Transaction};
+use std::alloc::Global;
+use tacho_card::Part;
+use tacho_state::{Caller, Imported, StoreFault, first_number};
+use tacho_tables::{StoredSpan, TableFault, card_spans, downloads, drivers, held};
+use tacho_time::Span;
+
+/// The driver whom an import is for, and how many downloads he has.
+#[derive(Clone, Copy, Debug, PartialEq, Eq)]
+pub struct Importer {
+    pub number: u32,
+    pub downloads: u32,
+}
+
+/// The driver whose card has the holder: S4.
+fn importer_by_holder<S: Alter>(
+    tx: &mut Transaction<'_, S>,
+    holder: &[u8],
+) -> Result<Importer, StoreFault>
+    ensures same_reference { tx.new.conn.ghost_name ≡ tx.old.conn.ghost_name }
+    ensures found { HasCleanDisk (state S.Store tx.new.conn.now) → (state S.Store tx.old.conn.now).now.schema ≡ archive_schema → (s : State) → StandsFor (state S.Store tx.old.conn.now).now.trees s
+        → IsImporter s result (importer None holder.now s) }
+    ensures same { HasCleanDisk (state S.Store tx.new.conn.now) → (state S.Store tx.old.conn.now).now.schema ≡ archive_schema → OnOk result (IsUnchanged (state S.Store tx.old.conn.now) (state S.Store tx.new.conn.now)) }
+    ensures live { HasCleanDisk (state S.Store tx.new.conn.now) → IsAnswered result → IsTrue (state S.Store tx.old.conn.now).is_open }
+    ensures clean { HasCleanDisk (state S.Store tx.new.conn.now) → HasCleanDisk (state S.Store tx.old.conn.now) }
+    ensures was_open { HasCleanDisk (state S.Store tx.new.conn.now) → IsTrue (state S.Store tx.new.conn.now).is_open → IsTrue (state S.Store tx.old.conn.now).is_open }
+    ensures keeps { HasCleanDisk (state S.Store tx.new.conn.now) → (state S.Store tx.old.conn.now).now.schema ≡ archive_schema → KeepsCommit (state S.Store tx.old.conn.now) (state S.Store tx.new.conn.now) }
+    ensures survives { Survives (state S.Store tx.old.conn.now) (state S.Store tx.new.conn.now) (λ _. ⊥) }
+{
+    let found = drivers::number_by_holder(tx, holder).map_err(store_fault)?;
+    let Some(number) = found else {
+        return Err(StoreFault::UnknownDriver);
+    };
+    match drivers::by_number(tx, number).map_err(store_fault)? {
+        None => Err(StoreFault::Store),
+        Some(driver) => Ok(Importer {
+            number,
+            downloads: driver.downloads,
+        }),
+    }
+}
+
+/// The driver with the number, whose card has to have the holder: S4, S5.
+fn importer_by_number<S: Alter>(
+    tx: &mut Transaction<'_, S>,
+    number: u32,
+    holder: &[u8],
+) -> Result<Importer, StoreFault>
+    ensures same_reference { tx.new.conn.ghost_name ≡ tx.old.conn.ghost_name }
+    ensures found { HasCleanDisk (state S.Store tx.new.conn.now) → (state S.Store tx.old.conn.now).now.schema ≡ archive_schema → (s : State) → StandsFor (state S.Store tx.old.conn.now).now.trees s
+        → IsImporter s result (importer (Some number) holder.now s) }
+    ensures same { HasCleanDisk (state S.Store tx.new.conn.now) → (state S.Store tx.old.conn.now).now.schema ≡ archive_schema → OnOk result (IsUnchanged (state S.Store tx.old.conn.now) (state S.Store tx.new.conn.now)) }
+    ensures live { HasCleanDisk (state S.Store tx.new.conn.now) → IsAnswered result → IsTrue (state S.Store tx.old.conn.now).is_open }
+    ensures clean { HasCleanDisk (state S.Store tx.new.conn.now) → HasCleanDisk (state S.Store tx.old.conn.now) }
+    ensures was_open { HasCleanDisk (state S.Store tx.new.conn.now) → IsTrue (state S.Store tx.new.conn.now).is_open → IsTrue (state S.Store tx.old.conn.now).is_open }
+    ensures keeps { HasCleanDisk (state S.Store tx.new.conn.now) → (state S.Store tx.old.conn.now).now.schema ≡ archive_schema → KeepsCommit (state S.Store tx.old.conn.now) (state S.Store tx.new.conn.now) }
+    ensures survives { Survives (state S.Store tx.old.conn.now) (state S.Store tx.new.conn.now) (λ _. ⊥) }
+{
+    let found = drivers::by_number(tx, number).map_err(store_fault)?;
+    let Some(driver) = found else {
+        return Err(StoreFault::UnknownDriver);
+    };
+    if driver.holder.as_slice() != holder {
+        return Err(StoreFault::NotYourCard);
+    }
+    Ok(Importer {
+        number,
+        downloads: driver.downloads,
+    })
+}
+
+/// The driver whom an import is for: S4, S5.
+fn importer_of<S: Alter>(
+    tx: &mut Transaction<'_, S>,
+    caller: Caller,
+    holder: &[u8],
+) -> Result<Importer, StoreFault>
+    ensures same_reference { tx.new.conn.ghost_name ≡ tx.old.conn.ghost_name }
+    ensures found { HasCleanDisk (state S.Store tx.new.conn.now) → (state S.Store tx.old.conn.now).now.schema ≡ archive_schema → (s : State) → StandsFor (state S.Store tx.old.conn.now).now.trees s
+        → IsImporter s result (importer (caller_number caller) holder.now s) }
+    ensures same { HasCleanDisk (state S.Store tx.new.conn.now) → (state S.Store tx.old.conn.now).now.schema ≡ archive_schema → OnOk result (IsUnchanged (state S.Store tx.old.conn.now) (state S.Store tx.new.conn.now)) }
+    ensures live { HasCleanDisk (state S.Store tx.new.conn.now) → IsAnswered result → IsTrue (state S.Store tx.old.conn.now).is_open }
+    ensures clean { HasCleanDisk (state S.Store tx.new.conn.now) → HasCleanDisk (state S.Store tx.old.conn.now) }
+    ensures was_open { HasCleanDisk (state S.Store tx.new.conn.now) → IsTrue (state S.Store tx.new.conn.now).is_open → IsTrue (state S.Store tx.old.conn.now).is_open }
+    ensures keeps { HasCleanDisk (state S.Store tx.new.conn.now) → (state S.Store tx.old.conn.now).now.schema ≡ archive_schema → KeepsCommit (state S.Store tx.old.conn.now) (state S.Store tx.new.conn.now) }
+    ensures survives { Survives (state S.Store tx.old.conn.now) (state S.Store tx.new.conn.now) (λ _. ⊥) }
+{
+    match caller {
+        Caller::Office => importer_by_holder(tx, holder),
+        Caller::Driver(number) => importer_by_number(tx, number, holder),
+    }
+}
+
+/// What of a file's spans is new to a driver, by the rows near them: nothing where downloads give them all. S6.
+fn news_near<S: Alter>(
+    alloc: Global,
+    tx: &mut Transaction<'_, S>,
+    driver: u32,
+    spans: &[Span],
+) -> Result<Option<News>, StoreFault>
+    requires { IsCanonical spans.now }
+    ensures same_reference { tx.new.conn.ghost_name ≡ tx.old.conn.ghost_name }
+    ensures decided { HasCleanDisk (state S.Store tx.new.conn.now) → (state S.Store tx.old.conn.now).now.schema ≡ archive_schema → (s : State) → StandsFor (state S.Store tx.old.conn.now).now.trees s
+        → (d : Driver) → driver_of driver s ≡ Some d → AreDecided (state S.Store tx.old.conn.now).now.trees s driver d spans.now result }
+    ensures same { HasCleanDisk (state S.Store tx.new.conn.now) → (state S.Store tx.old.conn.now).now.schema ≡ archive_schema → OnOk result (IsUnchanged (state S.Store tx.old.conn.now) (state S.Store tx.new.conn.now)) }
+    ensures clean { HasCleanDisk (state S.Store tx.new.conn.now) → HasCleanDisk (state S.Store tx.old.conn.now) }
+    ensures was_open { HasCleanDisk (state S.Store tx.new.conn.now) → IsTrue (state S.Store tx.new.conn.now).is_open → IsTrue (state S.Store tx.old.conn.now).is_open }
+    ensures keeps { HasCleanDisk (state S.Store tx.new.conn.now) → (state S.Store tx.old.conn.now).now.schema ≡ archive_schema → KeepsCommit (state S.Store tx.old.conn.now) (state S.Store tx.new.conn.now) }
+    ensures survives { Survives (state S.Store tx.old.conn.now) (state S.Store tx.new.conn.now) (λ _. ⊥) }
+{
+    let (start, past) = range_of(spans);
+    let cards = card_spans::near(alloc, tx, driver, start, past).map_err(store_fault)?;
+    let helds = held::near(alloc, tx, driver, start, past).map_err(store_fault)?;
+    let card_line = line_of_stored(alloc, &cards)?;
+    let line = line_of_stored(alloc, &helds)?;
+    news_of(alloc, &card_line, &line, spans)
+}
+
+/// Writes a download, its number as the driver's count, and what is new of its spans.
+fn write_download<S: Alter>(
+    tx: &mut Transaction<'_, S>,
+    driver: u32,
+    number: u32,
+    part: u32,
+    file: &[u8],
+    cards: &[StoredSpan],
+    helds: &[StoredSpan],
+) -> Result<(), TableFault>
+    ensures same_reference { tx.new.conn.ghost_name ≡ tx.old.conn.ghost_name }
+    ensures turned { HasCleanDisk (state S.Store tx.new.conn.now) → (state S.Store tx.old.conn.now).now.schema ≡ archive_schema
+        → (card_gains gains : List Stretch) → map (row_of driver) cards.now ≡ map (span_row driver) card_gains → map (row_of driver) helds.now ≡ map (span_row driver) gains
+        → OnOk result (Turns (state S.Store tx.old.conn.now) (state S.Store tx.new.conn.now) (kept driver number part file.now card_gains gains)) }
+    ensures clean { HasCleanDisk (state S.Store tx.new.conn.now) → HasCleanDisk (state S.Store tx.old.conn.now) }
+    ensures was_open { HasCleanDisk (state S.Store tx.new.conn.now) → IsTrue (state S.Store tx.new.conn.now).is_open → IsTrue (state S.Store tx.old.conn.now).is_open }
+    ensures keeps { HasCleanDisk (state S.Store tx.new.conn.now) → KeepsCommit (state S.Store tx.old.conn.now) (state S.Store tx.new.conn.now) }
+    ensures survives { Survives (state S.Store tx.old.conn.now) (state S.Store tx.new.conn.now) (λ _. ⊥) }
+{
+    drivers::set_downloads(tx, driver, number)?;
+    downloads::insert(tx, driver, number, part, file)?;
+    card_spans::insert_all(tx, driver, cards)?;
+    held::insert_all(tx, driver, helds)
+}
