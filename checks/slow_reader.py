@@ -145,13 +145,19 @@ def runs(pairs):
     return found
 
 
-def lines_of_pairs(pairs):
-    """The lines of the maximal runs of minutes of one mark, or the least minute with two marks."""
+def map_of(pairs):
+    """The mark of each minute, or the fault of the least minute with two marks."""
     pairs = sorted(set(pairs))
     for (minute, _), (following, _) in zip(pairs, pairs[1:]):
         if minute == following:
             raise Fault(f"C14 file contradicts itself at {minute_text(minute)}")
-    return "".join(f"{minute_text(a)} {minute_text(b)} {m[0]} {m[1]}\n" for a, b, m in runs(pairs))
+    return dict(pairs)
+
+
+def lines_of_pairs(pairs):
+    """The lines of the maximal runs of minutes of one mark, or the fault of the least minute with two marks."""
+    found = runs(map_of(pairs).items())
+    return "".join(f"{minute_text(a)} {minute_text(b)} {m[0]} {m[1]}\n" for a, b, m in found)
 
 
 def within(given, limit):

@@ -1,0 +1,218 @@
+"""A slow archive of drivers, written from the definitions and not from the program: it keeps each minute that a driver holds.
+`docs/TABLES.md` says what its tables are.
+
+A command is a line of words, and so is its answer (`Archive.answer`). Bytes are hexadecimal, `-` where there are none:
+
+    register NUMBER HOLDER KEY BASE NAME    registered
+    import office|NUMBER PART FILE          added driver NUMBER number NUMBER, repeated driver NUMBER
+    rebase NUMBER BASE                      rebased
+    line NUMBER                             line, and start, past and mark of each span
+    download NUMBER NUMBER                  download, and the file
+
+A refusal answers its code; S6 with the minute, and S11 with the line of the file's fault. A column of a registration that is out
+of its limits answers that, and no archive is asked.
+"""
+import functools
+from collections import namedtuple
+
+import slow_reader
+
+PARTS = ["both", "first", "second"]
+MOST = 1_000_000
+
+Download = namedtuple("Download", "part file marks")
+
+
+class Refusal(Exception):
+    """The answer of a command that does nothing."""
+
+
+class Driver:
+    """A driver: his downloads in the order of their numbers, and the mark of each minute that he holds."""
+
+    def __init__(self, number, holder, key, base, name):
+        self.number = number
+        self.holder = holder
+        self.key = key
+        self.base = base
+        self.name = name
+        self.downloads = []
+        self.held = {}
+
+    def gives(self, minute, mark):
+        """Whether a download gives the minute this mark."""
+        return any(download.marks.get(minute) == mark for download in self.downloads)
+
+    def take(self, part, file, marks):
+        """Takes a file, unless downloads give all its minutes already."""
+        if all(self.gives(minute, mark) for minute, mark in marks.items()):
+            return f"repeated driver {self.number}"
+        contradicted = [minute for minute, mark in marks.items() if self.held.get(minute, mark) != mark]
+        if contradicted:
+            raise Refusal(f"S6 {min(contradicted)}")
+        if len(self.downloads) == MOST:
+            raise Refusal("S14")
+        self.downloads.append(Download(part, file, marks))
+        self.held.update(marks)
+        return f"added driver {self.number} number {len(self.downloads)}"
+
+
+# Words
+
+
+def bytes_of(word):
+    """The bytes of a word."""
+    return bytes.fromhex("" if word == "-" else word)
+
+
+def word_of(given):
+    """The word of bytes."""
+    return given.hex() or "-"
+
+
+def mark_number(mark):
+    """The number of a mark: 0 rest, 1 available, 2 work, 3 drive, and 4 more with a second driver."""
+    activity, crew = mark
+    return slow_reader.ACTIVITIES.index(activity) + 4 * (crew == "crew")
+
+
+# What is given
+
+
+def is_key(text):
+    """Whether a text is a key: 8 to 64 letters, digits and hyphens."""
+    return 8 <= len(text) <= 64 and all(c.isascii() and c.isalnum() or c == "-" for c in text)
+
+
+def is_name(given):
+    """Whether bytes are a name: 1 to 64, without controls, commas and double quotes."""
+    return 1 <= len(given) <= 64 and all(byte >= 32 and byte not in b'\x7f,"' for byte in given)
+
+
+def check_columns(number, key, base, name):
+    """Refuses the first column that is out of its limits."""
+    limits = [
+        ("Driver", 1 <= number <= 999_999),
+        ("Key", is_key(key)),
+        ("Base", base in slow_reader.READ_DAYS),
+        ("Name", is_name(name)),
+    ]
+    for column, is_within in limits:
+        if not is_within:
+            raise Refusal(f"out of limits: {column}")
+
+
+def check_monday(day):
+    """Refuses a day that isn't a Monday: S9. Day 4 was one."""
+    if day % 7 != 4:
+        raise Refusal("S9")
+
+
+@functools.lru_cache(maxsize=10_000)
+def content(part, file):
+    """The holder and the marks that a part of a file tells: S11."""
+    try:
+        _, holder = slow_reader.card_file(file)
+        return holder, slow_reader.map_of(slow_reader.pairs_of_file(file, part))
+    except slow_reader.Fault as fault:
+        raise Refusal(f"S11 {fault}") from fault
+
+
+class Archive:
+    """Drivers by their numbers."""
+
+    def __init__(self):
+        self.drivers = {}
+
+    def answer(self, line):
+        """The answer to a command. After a refusal nothing has changed."""
+        command, *words = line.split()
+        commands = {
+            "register": self.register,
+            "import": self.import_file,
+            "rebase": self.rebase,
+            "line": self.line,
+            "download": self.download,
+        }
+        try:
+            return commands[command](*words)
+        except Refusal as refusal:
+            return str(refusal)
+
+    def driver(self, number):
+        """The driver with a number: S4."""
+        if number not in self.drivers:
+            raise Refusal("S4")
+        return self.drivers[number]
+
+    def owner(self, holder):
+        """The driver whose card has a holder: S4."""
+        for driver in self.drivers.values():
+            if driver.holder == holder:
+                return driver
+        raise Refusal("S4")
+
+    def register(self, number, holder, key, base, name):
+        """S1, S2, S3, S9."""
+        driver = Driver(int(number), bytes_of(holder), key, int(base), bytes_of(name))
+        check_columns(driver.number, driver.key, driver.base, driver.name)
+        if driver.number in self.drivers:
+            raise Refusal("S1")
+        if any(other.key == driver.key for other in self.drivers.values()):
+            raise Refusal("S2")
+        if any(other.holder == driver.holder for other in self.drivers.values()):
+            raise Refusal("S3")
+        check_monday(driver.base)
+        self.drivers[driver.number] = driver
+        return "registered"
+
+    def import_file(self, caller, part, file):
+        """S11 before all; then S4, S5, S6, S14."""
+        file = bytes_of(file)
+        holder, marks = content(part, file)
+        driver = self.owner(holder) if caller == "office" else self.driver(int(caller))
+        if driver.holder != holder:
+            raise Refusal("S5")
+        return driver.take(part, file, marks)
+
+    def rebase(self, number, base):
+        """S4, S9."""
+        driver = self.driver(int(number))
+        check_monday(int(base))
+        driver.base = int(base)
+        return "rebased"
+
+    def line(self, number):
+        """S4."""
+        held = slow_reader.runs(self.driver(int(number)).held.items())
+        return " ".join(["line"] + [f"{start} {past} {mark_number(mark)}" for start, past, mark in held])
+
+    def download(self, number, download):
+        """S4, S10."""
+        downloads = self.driver(int(number)).downloads
+        if not 1 <= int(download) <= len(downloads):
+            raise Refusal("S10")
+        return f"download {word_of(downloads[int(download) - 1].file)}"
+
+    def tables(self):
+        """The rows of each table, in order; of spans the minutes, each with its driver and its mark."""
+        drivers = sorted(self.drivers.values(), key=lambda driver: driver.number)
+        return {
+            "meta": [(1, 1)],
+            "drivers": [(d.number, d.holder, d.key, d.base, d.name.decode(), len(d.downloads), 0) for d in drivers],
+            "downloads": [
+                (driver.number, number, PARTS.index(download.part), download.file)
+                for driver in drivers
+                for number, download in enumerate(driver.downloads, 1)
+            ],
+            "entries": [],
+            "card_spans": sorted(
+                {
+                    (driver.number, minute, mark_number(mark))
+                    for driver in drivers
+                    for download in driver.downloads
+                    for minute, mark in download.marks.items()
+                }
+            ),
+            "held": sorted((d.number, minute, mark_number(mark)) for d in drivers for minute, mark in d.held.items()),
+        }
