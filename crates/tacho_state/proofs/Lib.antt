@@ -1,10 +1,10 @@
-mod DisjointLemmas
+pub mod DisjointLemmas
 mod NearLemmas
 mod OrderLemmas
 pub mod GainLemmas
 mod WithdrawLemmas
 mod LeastLemmas
-mod StepLemmas
-mod MapLemmas
+pub mod StepLemmas
+pub mod MapLemmas
 mod PartLemmas
-mod ContentLemmas
+pub mod ContentLemmas

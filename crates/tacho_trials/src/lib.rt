@@ -1,0 +1,7 @@
+//! An archive in memory, and trials that cross crates.
+#![tactic(auto)]
+
+mod row;
+mod shelf;
+
+pub use shelf::Shelf;
