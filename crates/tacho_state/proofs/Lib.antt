@@ -1,5 +1,5 @@
 pub mod DisjointLemmas
-mod NearLemmas
+pub mod NearLemmas
 mod OrderLemmas
 pub mod GainLemmas
 mod WithdrawLemmas

@@ -1,5 +1,5 @@
 -- What one driver of a shelf has.
-use Rattle.std.proofs.Common.{◌≡◌, ℕ, zero, suc, ◌+◌, ◌<◌, ◌≤◌, ◌⊎◌, inl, inr, ◌==◌, nat_lt, Bool, true, false, cond, Bor, List, [], ◌∷◌, ◌++◌, length, get_or, slice_get, Option, Some, None, Ok, is_some, IfSome, refl, sym, ap, ◌∙◌, subst, arith}
+use Rattle.std.proofs.Common.{◌≡◌, ◌≢◌, ℕ, zero, suc, ◌+◌, ◌<◌, ◌≤◌, ◌⊎◌, inl, inr, ◌==◌, nat_lt, Bool, true, false, cond, Bor, List, [], ◌∷◌, ◌++◌, length, get_or, slice_get, Option, Some, None, Ok, Err, is_some, IfSome, refl, sym, ap, ◌∙◌, subst, arith}
 use Rattle.std.proofs.Math.Path.{fun_ext}
 use Rattle.std.proofs.lemmas.Bool.{eqb-true, eq-eqb}
 use Rattle.std.proofs.lemmas.Bool.Decides.{nat_tests}
@@ -11,14 +11,21 @@ use Rattle.tacho_time.specs.declared.canonical.SpanFault.{SpanFault}
 use Rattle.tacho_time.specs.declared.canonical.SpanFault.TheVariants.{Contradiction as SpanContradiction, Memory as SpanMemory}
 use Rattle.tacho_time.specs.Spans.{Gives, SamePairs, IsCanonicalOf, Conflicts}
 use Rattle.tacho_time.specs.Merge.{IsFirstFault}
+use Rattle.tacho_card.specs.declared.fault.CardFault.{CardFault}
+use Rattle.tacho_card.specs.declared.fault.CardFault.TheVariants.{Memory as CardMemory}
+use Rattle.tacho_card.specs.declared.file.Part.{Part}
 use Rattle.tacho_line.specs.Line.{mark_at}
 use Rattle.tacho_line.proofs.LineLemmas.{held_given, given_held as given_held_in}
 use Rattle.tacho_line.proofs.MergeLemmas.{append_gives, front_gives}
+use Rattle.tacho_state.specs.declared.fault.StoreFault.{StoreFault}
+use Rattle.tacho_state.specs.declared.fault.StoreFault.TheVariants.{Memory, Card}
+use Rattle.tacho_state.specs.Content.{Tells}
 use Rattle.tacho_state.specs.Disjoint.{Keeps}
 use Rattle.tacho_state.specs.State.{Download, Entry, Driver, State, driver_of, Given, Held, given_spans, entered_spans, held_spans, held_mark, download_from}
 use Rattle.tacho_state.specs.Steps.{told_of, lined}
 use Rattle.tacho_state.proofs.DisjointLemmas.{disjoint_canonical}
 use Rattle.tacho_state.proofs.MapLemmas.{held_map}
+use Rattle.tacho_trials.specs.Shelf.{IsCardFault}
 
 -- ---- downloads by number
 
@@ -83,3 +90,10 @@ lined_at n s d line e h = ap (λ o. told_of (λ x. Ok (held_mark x)) o) e ∙ ap
 pub no_conflict : (P : ℕ → Mark → Type 0) (fault : SpanFault) → ((m : ℕ) → ¬ (Conflicts P m)) → IsFirstFault P fault → fault ≡ SpanMemory
 no_conflict P (SpanContradiction m) h f = absurd (h m f.0)
 no_conflict P SpanMemory h f = refl
+
+-- the fault of a card that is told is one of the import
+pub card_fault : (part : Part) (bytes : List ℕ) (fault : CardFault) (told : StoreFault) → ((fault ≡ CardMemory) × (told ≡ Memory)) ⊎ ((fault ≢ CardMemory) × (told ≡ Card fault))
+    → (fault ≡ CardMemory) ⊎ Tells part bytes (Err fault) → IsCardFault part bytes told
+card_fault part bytes fault told (inl e) f = inl e.1
+card_fault part bytes fault told (inr e) (inl f) = absurd (e.0 f)
+card_fault part bytes fault told (inr e) (inr f) = inr (fault, e.1, f)

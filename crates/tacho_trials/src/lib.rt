@@ -1,6 +1,7 @@
 //! An archive in memory, and trials that cross crates.
 #![tactic(auto)]
 
+mod content;
 mod row;
 mod shelf;
 

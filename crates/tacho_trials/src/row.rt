@@ -1,13 +1,13 @@
-ghost use Rattle.std.specs.Prelude.{◌≡◌, ◌==◌, ◌%◌, ◌+◌, IfOk, bytes_eq, option_map};
+ghost use Rattle.std.specs.Prelude.{◌≡◌, ◌≢◌, ℕ};
 ghost use Rattle.tacho_state.specs.State.{driver_of, keyed, holding};
 ghost use Rattle.tacho_state.specs.Steps.{is_monday as on_monday};
-ghost use Rattle.tacho_trials.specs.Shelf.{IsPlaceOf, new_driver};
+ghost use Rattle.tacho_trials.specs.Shelf.{IsPlaceOf};
 
 use std::alloc::{AllocError, Global};
 use std::marker::Model;
 use tacho_card::Part;
-use tacho_line::Line;
-use tacho_state::{Driver, line_of};
+use tacho_line::{Line, LineFault};
+use tacho_state::{Driver, Imported, StoreFault, first_number, line_of};
 use tacho_time::{Day, Span, SpanFault};
 
 /// A card file that was accepted, and what it gives.
@@ -62,11 +62,14 @@ impl Model for Row {
 }
 
 impl Row {
-    ghost use Rattle.std.specs.Prelude.{◌≡◌, ℕ, [], IfOk};
+    ghost use Rattle.std.specs.Prelude.{◌≡◌, ℕ, List, [], ◌++◌, length, Ok, bytes_eq, IfOk, OnSome, OnErr, MatchResult};
     ghost use Rattle.std.specs.Option.{option_copied};
-    ghost use Rattle.tacho_time.specs.Spans.{Gives, IsCanonicalOf, Conflicts};
+    ghost use Rattle.tacho_time.specs.Spans.{Gives, IsCanonical, IsCanonicalOf, Conflicts};
     ghost use Rattle.tacho_state.specs.State.{Held, given_spans, download_from};
-    ghost use Rattle.tacho_trials.specs.Shelf.{new_driver};
+    ghost use Rattle.tacho_state.specs.Steps.{import_own};
+    ghost use Rattle.tacho_state.specs.Limits.{next_number};
+    ghost use Rattle.tacho_state.specs.Content.{part_number};
+    ghost use Rattle.tacho_trials.specs.Shelf.{IsFaultOf, new_driver, numbered};
 
     /// A driver who is registered now.
     pub(crate) fn new(alloc: Global, driver: &Driver) -> Result<Row, AllocError>
@@ -104,7 +107,8 @@ impl Row {
 
     /// The line of what he holds.
     pub(crate) fn line(&self, alloc: Global) -> Result<Line, AllocError>
-        ensures { IfOk result (λ line. IsCanonicalOf (Held self.now) line) }
+        ensures held { IfOk result (λ line. IsCanonicalOf (Held self.now) line) }
+        ensures no_entries { IfOk result (λ _. self.now.entries ≡ []) }
     {
         let spans = self.spans(alloc)?;
         match line_of(alloc, &spans) {
@@ -121,11 +125,93 @@ impl Row {
         self.downloads.get(place as usize)
     }
 
+    /// The number of a download that gives these spans, or none where his downloads give them all: S6, S14.
+    fn number_for(&self, alloc: Global, spans: &[Span]) -> Result<Option<u32>, StoreFault>
+        requires { IsCanonical spans.now }
+        ensures told { (part : ℕ) (file : List ℕ) → MatchResult result (λ number. import_own part file spans.now self.now ≡ Ok (numbered part file spans.now self.now number)) (IsFaultOf (import_own part file spans.now self.now)) }
+        ensures agreed { IfOk result (λ number. OnSome number ((m : ℕ) → ¬ (Conflicts (Gives (given_spans self.now.downloads ++ spans.now)) m))) }
+    {
+        let Ok(line) = self.line(alloc) else {
+            return Err(StoreFault::Memory);
+        };
+        let gains = match line.gains(alloc, spans) {
+            Ok(gains) => gains,
+            Err(fault) => return Err(gain_fault(fault)),
+        };
+        if gains.is_empty() {
+            return Ok(None);
+        }
+        match self.next_number() {
+            Some(number) => Ok(Some(number)),
+            None => Err(StoreFault::Full),
+        }
+    }
+
+    /// The number of his next download, if there is one.
+    fn next_number(&self) -> Option<u32>
+        ensures { result ≡ next_number (length self.now.downloads) 1 }
+    {
+        let Ok(given) = u32::try_from(self.downloads.len()) else {
+            return None;
+        };
+        first_number(given, 1)
+    }
+
+    /// Imports a file that gives these spans by a part: S6, S14. All that takes memory comes before he changes.
+    pub(crate) fn import(
+        &mut self,
+        alloc: Global,
+        part: Part,
+        file: &[u8],
+        spans: Vec<Span>,
+    ) -> Result<Imported, StoreFault>
+        requires { IsCanonical spans.items }
+        ensures told { MatchResult result (λ done. import_own (part_number part) file.now spans.items self.old ≡ Ok (done, self.new)) (IsFaultOf (import_own (part_number part) file.now spans.items self.old)) }
+        ensures number { self.new.number ≡ self.old.number }
+        ensures err { OnErr result (self.new ≡ self.old) }
+    {
+        let Some(number) = self.number_for(alloc, &spans)? else {
+            return Ok(Imported::Repeated {
+                driver: self.number,
+            });
+        };
+        let Ok(file) = Vec::from_slice(alloc, file) else {
+            return Err(StoreFault::Memory);
+        };
+        let Ok(()) = self.downloads.push(Download { part, file, spans }) else {
+            return Err(StoreFault::Memory);
+        };
+        Ok(Imported::Added {
+            driver: self.number,
+            number,
+        })
+    }
+
+    /// Whether his card has a holder.
+    pub(crate) fn has_holder(&self, holder: &[u8]) -> bool
+        ensures { result ≡ bytes_eq self.now.holder holder.now }
+    {
+        self.holder.as_slice() == holder
+    }
+
     /// Has him examined from a day on.
     pub(crate) fn set_base(&mut self, base: Day)
         ensures { self.new ≡ record self.old { base = base } }
     {
         self.base = base;
+    }
+}
+
+/// The fault of an import whose spans, none of them empty, have no gains.
+fn gain_fault(fault: LineFault) -> StoreFault
+    requires { (place : ℕ) → fault ≢ LineFault.EmptySpan place }
+    ensures contradiction { (m : ℕ) → fault ≡ LineFault.Contradiction m → result ≡ StoreFault.Contradiction m }
+    ensures memory { fault ≡ LineFault.Memory → result ≡ StoreFault.Memory }
+{
+    match fault {
+        LineFault::Contradiction(minute) => StoreFault::Contradiction(minute),
+        LineFault::EmptySpan(_) => unreachable!(),
+        LineFault::Memory => StoreFault::Memory,
     }
 }
 
