@@ -1,15 +1,19 @@
-ghost use Rattle.std.specs.Prelude.{◌≡◌, ◌++◌, [], ◌∷◌, Ok, None, MatchOption, IfNone, OnOk, OnErr};
+ghost use Rattle.std.specs.Prelude.{◌≡◌, ◌++◌, [], ◌∷◌, Result, Ok, Err, None, MatchOption, MatchResult, IfNone, OnOk, OnErr};
+ghost use Rattle.tacho_card.specs.declared.fault.CardFault.{CardFault};
 ghost use Rattle.tacho_line.specs.Line.{mark_at};
-ghost use Rattle.tacho_state.specs.State.{driver_of};
-ghost use Rattle.tacho_state.specs.Steps.{registered, rebased, refused, lined, downloaded};
-ghost use Rattle.tacho_state.specs.Acts.{Answers};
-ghost use Rattle.tacho_trials.specs.Shelf.{Turns, new_driver};
+ghost use Rattle.tacho_state.specs.State.{driver_of, holding};
+ghost use Rattle.tacho_state.specs.Content.{Tells, part_number};
+ghost use Rattle.tacho_state.specs.Steps.{Content, registered, imported, rebased, refused, lined, downloaded};
+ghost use Rattle.tacho_state.specs.Acts.{Answers, caller_number};
+ghost use Rattle.tacho_trials.specs.Shelf.{Turns, IsOwnerAt, known, known_by, owner_of, new_driver};
 
+use crate::content::read_content;
 use crate::row::{Row, is_monday, place_of, place_of_holder, place_of_key};
 use std::alloc::{AllocError, Global};
 use std::marker::Model;
+use tacho_card::Part;
 use tacho_line::Line;
-use tacho_state::{Driver, StoreFault};
+use tacho_state::{Caller, Driver, Imported, Keeper, StoreFault};
 use tacho_time::Day;
 
 /// An archive in memory. No two of its drivers have one number.
@@ -133,5 +137,99 @@ impl Shelf {
             Ok(file) => Ok(file),
             Err(_) => Err(StoreFault::Memory),
         }
+    }
+
+    /// The place of the driver whose card it is: of him who has the holder, or of the caller, if he has it: S4, S5.
+    fn owner(&self, caller: Caller, holder: &[u8]) -> Result<usize, StoreFault>
+        ensures { MatchResult result (IsOwnerAt self.now (owner_of (caller_number caller) holder.now self.now))
+            (λ fault. owner_of (caller_number caller) holder.now self.now ≡ Err fault) }
+    {
+        match caller {
+            Caller::Office => self.place_of_holder(holder),
+            Caller::Driver(number) => self.own_place(number, holder),
+        }
+    }
+
+    /// The place of the driver whose card has a holder: S4.
+    fn place_of_holder(&self, holder: &[u8]) -> Result<usize, StoreFault>
+        ensures { MatchResult result (IsOwnerAt self.now (known (holding holder.now self.now)))
+            (λ fault. known (holding holder.now self.now) ≡ Err fault) }
+    {
+        match place_of_holder(&self.drivers, holder) {
+            Some(place) => Ok(place),
+            None => Err(StoreFault::UnknownDriver),
+        }
+    }
+
+    /// The place of the driver with a number, if his card has a holder: S4, S5.
+    fn own_place(&self, number: u32, holder: &[u8]) -> Result<usize, StoreFault>
+        ensures { MatchResult result (IsOwnerAt self.now (known_by holder.now (driver_of number self.now)))
+            (λ fault. known_by holder.now (driver_of number self.now) ≡ Err fault) }
+    {
+        let Some(place) = place_of(&self.drivers, number) else {
+            return Err(StoreFault::UnknownDriver);
+        };
+        if !self.drivers[place].has_holder(holder) {
+            return Err(StoreFault::NotYourCard);
+        }
+        Ok(place)
+    }
+
+    /// Imports a card file by a part: S11 first; then S4, S5, S6, S14.
+    fn add_file(
+        &mut self,
+        alloc: Global,
+        caller: Caller,
+        part: Part,
+        file: &[u8],
+    ) -> Result<Imported, StoreFault>
+        ensures { (content : Result Content CardFault) → Tells part file.now content
+            → Turns (λ done. done) self.old self.new result (imported (caller_number caller) (part_number part) file.now content) }
+    {
+        let content = read_content(alloc, part, file)?;
+        let place = self.owner(caller, &content.holder)?;
+        self.drivers[place].import(alloc, part, file, content.spans)
+    }
+}
+
+impl Keeper for Shelf {
+    ghost use Rattle.std.specs.Prelude.{◌≡◌};
+    ghost use Rattle.std.proofs.Common.{inr};
+    ghost use Rattle.tacho_trials.specs.Among.{StandsAmong};
+
+    ghost stands = { λ shelf s. shelf ≡ s };
+
+    ghost is_clean = { λ _. Unit {0} };
+
+    ghost is_live = { λ _. Unit {0} };
+
+    ghost leaves = { StandsAmong };
+
+    ghost leaves_more = { λ shelf s states among. inr among };
+
+    fn register(&mut self, driver: &Driver) -> Result<(), StoreFault> {
+        self.add_driver(driver)
+    }
+
+    fn import(
+        &mut self,
+        alloc: Global,
+        caller: Caller,
+        part: Part,
+        file: &[u8],
+    ) -> Result<Imported, StoreFault> {
+        self.add_file(alloc, caller, part, file)
+    }
+
+    fn rebase(&mut self, driver: u32, base: Day) -> Result<(), StoreFault> {
+        self.set_base(driver, base)
+    }
+
+    fn line(&mut self, alloc: Global, driver: u32) -> Result<Line, StoreFault> {
+        self.line_of(alloc, driver)
+    }
+
+    fn download(&mut self, alloc: Global, driver: u32, number: u32) -> Result<Vec<u8>, StoreFault> {
+        self.file_of(alloc, driver, number)
     }
 }
