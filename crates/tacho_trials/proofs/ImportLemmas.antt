@@ -1,20 +1,20 @@
 -- An import, by the whole line of what a driver holds.
-use Rattle.std.proofs.Common.{◌≡◌, ◌≢◌, ℕ, ◌+◌, ◌<◌, ◌≤◌, ◌⊎◌, inl, inr, ◌==◌, nat_le, Bool, true, false, cond, List, [], ◌∷◌, ◌++◌, length, Option, Some, None, Ok, Err, refl, sym, ap, ◌∙◌, subst, append_assoc, append-nil, arith}
+use Rattle.std.proofs.Common.{◌≡◌, ◌≢◌, ℕ, ◌+◌, ◌<◌, ◌≤◌, inl, inr, ◌==◌, nat_le, Bool, true, false, cond, List, [], ◌∷◌, ◌++◌, length, Some, None, Ok, Err, refl, sym, ap, ◌∙◌, append_assoc, append-nil, arith}
 use Rattle.std.proofs.lemmas.Bool.{eqb-true, eq-eqb}
 use Rattle.std.proofs.lemmas.Bool.Decides.{nat_tests}
 use Rattle.tacho_time.specs.declared.span.Span.{Span}
 use Rattle.tacho_time.specs.declared.span.Mark.{Mark}
-use Rattle.tacho_time.specs.Spans.{Gives, SamePairs, IsCanonical, IsCanonicalOf, Conflicts, IsFirstConflict}
+use Rattle.tacho_time.specs.Spans.{Gives, IsCanonical, IsCanonicalOf, Conflicts, IsFirstConflict}
 use Rattle.tacho_line.specs.declared.line.LineFault.{LineFault}
 use Rattle.tacho_line.specs.declared.line.LineFault.TheVariants.{EmptySpan, Contradiction as LineContradiction, Memory as LineMemory}
-use Rattle.tacho_line.specs.Line.{Together, is_empty, empty_from, first_empty, AreGains, IsGainFault}
-use Rattle.tacho_line.proofs.MergeLemmas.{append_gives, front_gives}
+use Rattle.tacho_line.specs.Line.{Together, empty_from, AreGains, IsGainFault}
+use Rattle.tacho_line.proofs.MergeLemmas.{append_gives}
 use Rattle.tacho_state.specs.declared.fault.StoreFault.{StoreFault}
 use Rattle.tacho_state.specs.declared.fault.StoreFault.TheVariants.{Contradiction, Full, Memory}
 use Rattle.tacho_state.specs.declared.imported.Imported.TheVariants.{Added, Repeated}
 use Rattle.tacho_state.specs.Limits.{next_number}
 use Rattle.tacho_state.specs.Least.{bound}
-use Rattle.tacho_state.specs.Disjoint.{Keeps, near, AreInRange, IsNew, With}
+use Rattle.tacho_state.specs.Disjoint.{Keeps, near, AreInRange}
 use Rattle.tacho_state.specs.State.{Download, Driver, Given, Held, given_spans, with_download}
 use Rattle.tacho_state.specs.Steps.{most, import_own}
 use Rattle.tacho_state.proofs.DisjointLemmas.{disjoint_canonical}

@@ -1,9 +1,9 @@
 -- What a shelf's drivers are after a change of one.
-use Rattle.std.proofs.Common.{◌≡◌, ℕ, zero, suc, ◌+◌, ◌<◌, ◌==◌, Bool, true, false, cond, List, [], ◌∷◌, ◌++◌, length, get_or, slice_get, slice_set, Option, Some, None, Result, Ok, Err, refl, sym, ap, ◌∙◌, arith}
+use Rattle.std.proofs.Common.{◌≡◌, ℕ, zero, suc, ◌==◌, Bool, true, false, cond, [], ◌∷◌, ◌++◌, length, get_or, slice_get, slice_set, Some, None, Result, Ok, Err, refl, sym, ap, ◌∙◌}
 use Rattle.std.proofs.lemmas.Bool.{eqb-true, eq-eqb}
 use Rattle.std.proofs.lemmas.Option.{slice_get_read}
 use Rattle.tacho_state.specs.declared.fault.StoreFault.{StoreFault}
-use Rattle.tacho_state.specs.declared.fault.StoreFault.TheVariants.{Memory, Store, NotMonday}
+use Rattle.tacho_state.specs.declared.fault.StoreFault.TheVariants.{NotMonday}
 use Rattle.tacho_state.specs.State.{Driver, State, driver_of, put, with_base}
 use Rattle.tacho_state.specs.Steps.{Turn, is_monday, own_turn, settled, rebase_own, rebased}
 use Rattle.tacho_state.specs.Acts.{Answers, left}

@@ -1,16 +1,15 @@
--- What an import answers, by whose card the file is; and what a call does to a shelf.
-use Rattle.std.proofs.Common.{◌≡◌, ℕ, zero, suc, ◌⊎◌, inl, inr, Bool, true, false, cond, List, [], ◌∷◌, Option, Some, None, Result, Ok, Err, MatchResult, OnErr, slice_get, slice_set, bytes_eq, refl, sym, ap, ◌∙◌, subst}
+-- What an import answers, by whose card the file is.
+use Rattle.std.proofs.Common.{◌≡◌, ℕ, zero, suc, ◌⊎◌, inl, inr, Bool, true, false, cond, List, [], ◌∷◌, Option, Some, None, Result, Ok, Err, MatchResult, OnErr, slice_get, slice_set, bytes_eq, refl, sym, ap, ◌∙◌}
 use Rattle.tacho_card.specs.declared.fault.CardFault.{CardFault}
 use Rattle.tacho_card.specs.declared.file.Part.{Part}
 use Rattle.tacho_state.specs.declared.fault.StoreFault.{StoreFault}
-use Rattle.tacho_state.specs.declared.fault.StoreFault.TheVariants.{DriverTaken, KeyTaken, HolderTaken, UnknownDriver, NotYourCard, Contradiction, UnknownEntry, AlreadyWithdrawn, NotMonday, UnknownDownload, Card, Store, Full, Memory}
+use Rattle.tacho_state.specs.declared.fault.StoreFault.TheVariants.{UnknownDriver, NotYourCard, Store, Memory}
 use Rattle.tacho_state.specs.declared.imported.Imported.{Imported}
 use Rattle.tacho_state.specs.State.{Driver, State, driver_of, holding, put}
 use Rattle.tacho_state.specs.Content.{Tells, part_number}
 use Rattle.tacho_state.specs.Steps.{Turn, Content, refused, settled, own_turn, import_own, import_his, imported}
-use Rattle.tacho_state.specs.Acts.{Acts, Reads, Answers, left}
+use Rattle.tacho_state.specs.Acts.{Answers}
 use Rattle.tacho_state.proofs.ContentLemmas.{one_content}
-use Rattle.tacho_trials.specs.Among.{StandsAmong}
 use Rattle.tacho_trials.specs.Shelf.{AreNumbered, IsFaultOf, IsCardFault, IsOwnerAt, known, known_by, owner_of, Turns}
 use Rattle.tacho_trials.proofs.ShelfLemmas.{put_at}
 
@@ -119,43 +118,3 @@ import_turns caller part bytes s i x d read content result h owner at n tells to
     own_turns (imported caller (part_number part) bytes content) s i x d (import_own (part_number part) bytes read.spans x) result h at n
     (ap (λ (c : Result Content CardFault). imported caller (part_number part) bytes c s) same
     ∙ import_owned caller (part_number part) bytes read s x (owner.2 ∙ ap Ok his)) told kept
-
--- ---- calls of the trait
-
--- a call that turns
-pub acts : {A B : Type 0} (view : A → B) (old new : State) (result : Result A StoreFault) (step : State → Turn B) → Turns view old new result step
-    → Acts (λ shelf s. shelf ≡ s) (λ _. Unit {0}) (λ _. Unit {0}) StandsAmong view old new result step
-acts view old new (Ok x) step t = record {
-  clean = λ _. tt;
-  answer = λ _ s e. subst (λ (u : State). Answers view (Ok x) (step u).answer) e t.answer;
-  state = λ _ s e. t.state ∙ ap (λ (u : State). (step u).after) e;
-  live = λ _. tt;
-  crash = λ _ _ s past e h. inl (t.state ∙ ap (λ (u : State). (step u).after) e);
-  kept = λ _ _ s e. inl (t.state ∙ ap (λ (u : State). (step u).after) e);
-}
-acts view old new (Err fault) step t = record {
-  clean = λ _. tt;
-  answer = λ _ s e. subst (λ (u : State). Answers view (Err fault) (step u).answer) e t.answer;
-  state = λ _ s e. t.state ∙ e;
-  live = λ _. tt;
-  crash = λ _ _ s past e h. inr (subst (λ (u : State). StandsAmong u past) (sym t.state) h);
-  kept = λ _ _ s e. tt;
-}
-
--- a call that reads
-pub reads : {A B : Type 0} (view : A → B) (old : State) (result : Result A StoreFault) (told : State → Result B StoreFault) → Answers view result (told old)
-    → Reads (λ shelf s. shelf ≡ s) (λ _. Unit {0}) (λ _. Unit {0}) StandsAmong view old old result told
-reads view old (Ok x) told h = record {
-  clean = λ _. tt;
-  answer = λ _ s e. subst (λ (u : State). Answers view (Ok x) (told u)) e h;
-  state = λ _ s e. e;
-  live = λ _. tt;
-  crash = λ _ _ past among. among;
-}
-reads view old (Err fault) told h = record {
-  clean = λ _. tt;
-  answer = λ _ s e. subst (λ (u : State). Answers view (Err fault) (told u)) e h;
-  state = λ _ s e. e;
-  live = λ _. tt;
-  crash = λ _ _ past among. among;
-}

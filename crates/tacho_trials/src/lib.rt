@@ -1,4 +1,4 @@
-//! An archive in memory, and trials that cross crates.
+//! An archive in memory, and tests that cross crates: rows that hold of each archive that keeps what `Keeper` promises.
 #![tactic(auto)]
 
 mod content;
@@ -6,3 +6,8 @@ mod row;
 mod shelf;
 
 pub use shelf::Shelf;
+
+#[cfg(test)]
+mod answers;
+#[cfg(test)]
+mod tests;

@@ -85,13 +85,6 @@ impl Row {
         })
     }
 
-    /// His number.
-    pub(crate) fn number(&self) -> u32
-        ensures { result ≡ self.now.number }
-    {
-        self.number
-    }
-
     /// The spans of all his downloads.
     fn spans(&self, alloc: Global) -> Result<Vec<Span>, AllocError>
         ensures given { IfOk result (λ spans. spans.items ≡ given_spans self.now.downloads) }

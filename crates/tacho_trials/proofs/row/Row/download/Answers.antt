@@ -1,4 +1,4 @@
-use Rattle.std.proofs.Common.{◌≡◌, ◌+◌, ◌≤◌, ◌∙◌, ap, sym, None, arith, rules, slice_get}
+use Rattle.std.proofs.Common.{◌≡◌, ◌+◌, ◌∙◌, ap, sym, None, arith, slice_get}
 use Rattle.std.specs.Option.{option_copied}
 use Rattle.tacho_state.specs.State.{Driver, download_from}
 use Rattle.tacho_trials.proofs.RowLemmas.{download_before, download_at, looked_up}

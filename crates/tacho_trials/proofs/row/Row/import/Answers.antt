@@ -17,8 +17,8 @@ invariant_of-self-2 c =
     let added : Download = record { part = part_number c.args.part; file = c.in-Ok.file.items; spans = c.args.spans.items } in
     let after : c.push.new.self.items ≡ downloads ++ added ∷ [] = c.in-Ok-push.ensures.items in
     let all : given_spans c.push.new.self.items ≡ given_spans c.args.self.now.downloads ++ c.deref.result.now =
-        ap given_spans after ∙ given_push downloads added ∙ ap (λ (d : Driver). given_spans d.downloads ++ c.args.spans.items) c.self.view_is
-        ∙ ap (λ (xs : List Span). given_spans c.args.self.now.downloads ++ xs) (sym c.deref.ensures.value)
+    ap given_spans after ∙ given_push downloads added ∙ ap (λ (d : Driver). given_spans d.downloads ++ c.args.spans.items) c.self.view_is
+    ∙ ap (λ (xs : List Span). given_spans c.args.self.now.downloads ++ xs) (sym c.deref.ensures.value)
     in
     let agreed = rw c.in-Some.is at c.in_ok-number.ensures.agreed in
     subst (λ (xs : List Span). (m : ℕ) → ¬ (Conflicts (Gives xs) m)) (sym all) agreed

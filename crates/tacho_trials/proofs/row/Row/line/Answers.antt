@@ -1,6 +1,5 @@
-use Rattle.std.proofs.Common.{◌≡◌, ◌∙◌, List, subst, ap}
+use Rattle.std.proofs.Common.{◌≡◌, ◌∙◌, List, subst}
 use Rattle.tacho_time.specs.declared.span.Span.{Span}
-use Rattle.tacho_time.specs.declared.canonical.SpanFault.TheVariants.{Memory}
 use Rattle.tacho_time.specs.Spans.{Gives, IsCanonicalOf}
 use Rattle.tacho_time.specs.Merge.{IsFirstFault}
 use Rattle.tacho_state.specs.State.{given_spans}

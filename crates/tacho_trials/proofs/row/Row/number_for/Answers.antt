@@ -1,4 +1,4 @@
-use Rattle.std.proofs.Common.{◌≡◌, ◌∙◌, ◌==◌, List, [], ◌∷◌, length, true, false, inr, sym, subst, vec_len, rules}
+use Rattle.std.proofs.Common.{◌≡◌, ◌∙◌, List, [], inr, sym, subst, vec_len, rules}
 use Rattle.tacho_time.specs.declared.span.Span.{Span}
 use Rattle.tacho_line.specs.Line.{AreGains}
 use Rattle.tacho_trials.proofs.ImportLemmas.{no_empty_span, import_repeated, import_added, import_full, import_fault, import_agreed, some_first, no_first}

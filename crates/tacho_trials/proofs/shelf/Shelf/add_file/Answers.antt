@@ -1,12 +1,12 @@
-use Rattle.std.proofs.Common.{◌≡◌, ◌∙◌, ◌<◌, Result, Ok, Err, MatchResult, slice_get, slice_set, length, vec_len, Some, ap, refl, sym, subst, arith, rules}
+use Rattle.std.proofs.Common.{◌≡◌, ◌∙◌, ◌<◌, Result, Ok, Err, slice_get, slice_set, length, ap, refl, sym, subst, rules}
 use Rattle.std.proofs.lemmas.Option.{slice_get_read, slice_get_within}
 use Rattle.tacho_state.specs.declared.fault.StoreFault.{StoreFault}
 use Rattle.tacho_state.specs.declared.imported.Imported.{Imported}
-use Rattle.tacho_state.specs.State.{Driver, State}
+use Rattle.tacho_state.specs.State.{State}
 use Rattle.tacho_state.specs.Content.{Tells, part_number}
-use Rattle.tacho_state.specs.Steps.{Content, import_own, imported}
+use Rattle.tacho_state.specs.Steps.{Content, imported}
 use Rattle.tacho_state.specs.Acts.{caller_number}
-use Rattle.tacho_trials.specs.Shelf.{IsFaultOf, IsOwnerAt, owner_of, Turns}
+use Rattle.tacho_trials.specs.Shelf.{IsOwnerAt, owner_of, Turns}
 use Rattle.tacho_trials.proofs.ShelfLemmas.{numbered_set}
 use Rattle.tacho_trials.proofs.TurnLemmas.{import_unread, import_refused, import_turns}
 use Rattle.tacho_trials.proofs.shelf.Shelf.add_file.Goals as goal
@@ -29,7 +29,7 @@ pub index_mut-requires : goal.index_mut-requires
 index_mut-requires c =
     let owner = c.in_ok-place.ensures in
     let within : c.in_ok-place.place < length c.self.inside.drivers.items =
-        slice_get_within c.self.inside.drivers.items c.in_ok-place.place owner.0 (ap (λ (s : State). slice_get s c.in_ok-place.place) c.self.view_is ∙ owner.1)
+    slice_get_within c.self.inside.drivers.items c.in_ok-place.place owner.0 (ap (λ (s : State). slice_get s c.in_ok-place.place) c.self.view_is ∙ owner.1)
     in
     search rules
 
