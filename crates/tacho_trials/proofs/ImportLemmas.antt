@@ -33,7 +33,8 @@ none_empty place (s ∷ spans) h =
     ap (λ b. cond b (Some place) (empty_from (place + 1) spans)) test ∙ none_empty (place + 1) spans h.2
 
 -- so no empty one is why they have no gains
-pub no_empty_span : (line spans : List Span) (fault : LineFault) → IsCanonical spans → IsGainFault line spans fault → (place : ℕ) → fault ≢ EmptySpan place
+pub no_empty_span : (line spans : List Span) (fault : LineFault) → IsCanonical spans → IsGainFault line spans fault → (place : ℕ)
+    → fault ≢ EmptySpan place
 no_empty_span line spans (EmptySpan at) h f place e = let none = none_empty 0 spans h in cc
 no_empty_span line spans (LineContradiction m) h f place e = cc
 no_empty_span line spans LineMemory h f place e = cc
@@ -79,12 +80,14 @@ module _ (d : Driver) (line spans : List Span) (none : d.entries ≡ []) (held :
   import_repeated part file g = repeated_import d part file line line spans 0 past keeps_given all_near g
 
   -- the least minute that it contradicts
-  pub import_contradicted : (part : ℕ) (file : List ℕ) (m : ℕ) → IsFirstConflict (Together line spans) m → import_own part file spans d ≡ Err (Contradiction m)
+  pub import_contradicted : (part : ℕ) (file : List ℕ) (m : ℕ) → IsFirstConflict (Together line spans) m
+      → import_own part file spans d ≡ Err (Contradiction m)
   import_contradicted part file m f =
       contradicted_import d part file line line line line spans 0 past m keeps_given keeps_held all_in_range all_near all_near (inr (m, f)) f
 
   -- with gains it goes in, where there is a number
-  pub import_added : (part : ℕ) (file : List ℕ) (x : Span) (gains : List Span) (number : ℕ) → AreGains line spans (x ∷ gains) → next_number (length d.downloads) 1 ≡ Some number
+  pub import_added : (part : ℕ) (file : List ℕ) (x : Span) (gains : List Span) (number : ℕ) → AreGains line spans (x ∷ gains)
+      → next_number (length d.downloads) 1 ≡ Some number
       → import_own part file spans d ≡ Ok (Added d.number number, with_download part file spans d)
   import_added part file x gains number g e = go (nat_le (length d.downloads + 1) 1000000) refl e where
     go : (b : Bool) → nat_le (length d.downloads + 1) 1000000 ≡ b → cond b (Some (length d.downloads + 1)) None ≡ Some number
@@ -92,23 +95,29 @@ module _ (d : Driver) (line spans : List Span) (none : d.entries ≡ []) (held :
     go true t f =
         let room : length d.downloads < most = grind (arith, nat_tests) in
         let same : 1 + length d.downloads ≡ number = let h : length d.downloads + 1 ≡ number = cc in omega (arith, h) in
-        added_import d part file line line line line spans (x ∷ gains) 0 past keeps_given keeps_held all_in_range all_near all_near (inl (x, gains, g)) g room
+        added_import d part file line line line line spans (x ∷ gains) 0 past keeps_given keeps_held all_in_range all_near all_near (inl
+        (x, gains, g)) g room
         ∙ ap (λ n. Ok (Added d.number n, with_download part file spans d)) same
     go false t f = cc
 
   -- and is refused, where there is none
-  pub import_full : (part : ℕ) (file : List ℕ) (x : Span) (gains : List Span) → AreGains line spans (x ∷ gains) → next_number (length d.downloads) 1 ≡ None
+  pub import_full : (part : ℕ) (file : List ℕ) (x : Span) (gains : List Span) → AreGains line spans (x ∷ gains)
+      → next_number (length d.downloads) 1 ≡ None
       → import_own part file spans d ≡ Err Full
   import_full part file x gains g e = go (nat_le (length d.downloads + 1) 1000000) refl e where
-    go : (b : Bool) → nat_le (length d.downloads + 1) 1000000 ≡ b → cond b (Some (length d.downloads + 1)) None ≡ None → import_own part file spans d ≡ Err Full
+    go : (b : Bool) → nat_le (length d.downloads + 1) 1000000 ≡ b → cond b (Some (length d.downloads + 1)) None ≡ None
+        → import_own part file spans d ≡ Err Full
     go true t f = cc
     go false t f =
         let full : most ≤ length d.downloads = grind (arith, nat_tests) in
-        full_import d part file line line line line spans (x ∷ gains) 0 past keeps_given keeps_held all_in_range all_near all_near (inl (x, gains, g)) g full
+        full_import d part file line line line line spans (x ∷ gains) 0 past keeps_given keeps_held all_in_range all_near all_near (inl
+        (x, gains, g)) g full
 
   -- what an import that fails for this fault is refused with
-  pub import_fault : (part : ℕ) (file : List ℕ) (fault : LineFault) (told : StoreFault) → IsGainFault line spans fault → ((place : ℕ) → fault ≢ EmptySpan place)
-      → ((m : ℕ) → fault ≡ LineContradiction m → told ≡ Contradiction m) → (fault ≡ LineMemory → told ≡ Memory) → IsFaultOf (import_own part file spans d) told
+  pub import_fault : (part : ℕ) (file : List ℕ) (fault : LineFault) (told : StoreFault) → IsGainFault line spans fault → ((place : ℕ)
+      → fault ≢ EmptySpan place)
+      → ((m : ℕ) → fault ≡ LineContradiction m → told ≡ Contradiction m) → (fault ≡ LineMemory → told ≡ Memory) → IsFaultOf
+      (import_own part file spans d) told
   import_fault part file (EmptySpan at) told f full c m = absurd (full at refl)
   import_fault part file (LineContradiction minute) told f full c m = inr (import_contradicted part file minute f.1 ∙ ap Err (sym (c minute refl)))
   import_fault part file LineMemory told f full c m = inl (m refl)

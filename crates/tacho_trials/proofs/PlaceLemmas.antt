@@ -7,9 +7,11 @@ use Rattle.tacho_state.specs.State.{Driver, State, driver_of, keyed, holding}
 use Rattle.tacho_trials.specs.Shelf.{IsPlaceOf}
 
 -- a search that goes from driver to driver and stops at the first who passes
-module _ (p : Driver → Bool) (sought : State → Option Driver) (none : sought [] ≡ None) (step : (d : Driver) (s : State) → sought (d ∷ s) ≡ cond (p d) (Some d) (sought s)) where
+module _ (p : Driver → Bool) (sought : State → Option Driver) (none : sought [] ≡ None) (step : (d : Driver) (s : State) → sought
+    (d ∷ s) ≡ cond (p d) (Some d) (sought s)) where
   -- where the first who passes stands, it finds him
-  found_at : (s : State) (i : ℕ) (d : Driver) → i < length s → p (get_or s i d) ≡ true → ((k : ℕ) → k < i → p (get_or s k d) ≡ false) → slice_get s i ≡ sought s
+  found_at : (s : State) (i : ℕ) (d : Driver) → i < length s → p (get_or s i d) ≡ true → ((k : ℕ) → k < i → p (get_or s k d) ≡ false)
+      → slice_get s i ≡ sought s
   found_at [] i d l t f = absurd (omega (arith, l))
   found_at (x ∷ s) zero d l t f = sym (step x s ∙ ap (λ b. cond b (Some x) (sought s)) t)
   found_at (x ∷ s) (suc i) d l t f =
@@ -20,7 +22,8 @@ module _ (p : Driver → Bool) (sought : State → Option Driver) (none : sought
   none_found : (s : State) (k : ℕ) → position_from p k s ≡ None → sought s ≡ None
   none_found [] k e = none
   none_found (x ∷ s) k e = step x s ∙ go (p x) e (none_found s (k + 1)) where
-    go : (b : Bool) → cond b (Some k) (position_from p (k + 1) s) ≡ None → (position_from p (k + 1) s ≡ None → sought s ≡ None) → cond b (Some x) (sought s) ≡ None
+    go : (b : Bool) → cond b (Some k) (position_from p (k + 1) s) ≡ None → (position_from p (k + 1) s ≡ None → sought s ≡ None)
+        → cond b (Some x) (sought s) ≡ None
     go true e more = cc
     go false e more = more e
 

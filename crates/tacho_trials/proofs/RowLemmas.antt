@@ -47,7 +47,8 @@ download_at i number (suc k) (d ∷ ds) e =
     ap (λ b. cond b (Some d) (download_from (i + 1) number ds)) t ∙ download_at (i + 1) number k ds (omega (arith, e))
 
 -- the element that was lent of a list
-pub looked_up : (xs : List Download) (i : ℕ) (r : Option (Bor Download)) → is_some r ≡ nat_lt i (length xs) → IfSome r (λ y. y.now ≡ get_or xs i y.now) → option_copied r ≡ slice_get xs i
+pub looked_up : (xs : List Download) (i : ℕ) (r : Option (Bor Download)) → is_some r ≡ nat_lt i (length xs)
+    → IfSome r (λ y. y.now ≡ get_or xs i y.now) → option_copied r ≡ slice_get xs i
 looked_up xs i None e h = let l : length xs ≤ i = grind (arith, nat_tests) in sym (slice_get_past xs i l)
 looked_up xs i (Some y) e h = let l : i < length xs = grind (arith, nat_tests) in sym (slice_get_read xs (length xs) i y.now refl l h)
 
@@ -69,7 +70,14 @@ given_held d e m k = (front_gives given entered m k, λ g. go (append_gives give
 -- the line of what his downloads give is that of what he holds
 pub held_line : (d : Driver) (line : List Span) → d.entries ≡ [] → IsCanonicalOf (Given d) line → IsCanonicalOf (Held d) line
 held_line d line e h =
-    record { canonical = h.canonical; same = (λ m k. (λ g. (given_held d e m k).0 ((h.same m k).0 g), λ g. (h.same m k).1 ((given_held d e m k).1 g))) }
+    record {
+      canonical = h.canonical;
+      same = (λ m k. (
+        λ g. (given_held d e m k).0 ((h.same m k).0 g),
+        λ g. (h.same m k).1
+            ((given_held d e m k).1 g),
+      ));
+    }
 
 -- a line of it gives each minute the mark that he holds it with
 pub line_marks : (d : Driver) (line : List Span) → IsCanonicalOf (Held d) line → mark_at line ≡ held_mark d
@@ -83,7 +91,8 @@ line_marks d line h = fun_ext (λ m. go m (mark_at line m) refl (held_mark d m) 
   go m None e None f = e ∙ sym f
 
 -- it is what is told of him
-pub lined_at : (n : ℕ) (s : State) (d : Driver) (line : List Span) → driver_of n s ≡ Some d → IsCanonicalOf (Held d) line → lined n s ≡ Ok (mark_at line)
+pub lined_at : (n : ℕ) (s : State) (d : Driver) (line : List Span) → driver_of n s ≡ Some d → IsCanonicalOf (Held d) line
+    → lined n s ≡ Ok (mark_at line)
 lined_at n s d line e h = ap (λ o. told_of (λ x. Ok (held_mark x)) o) e ∙ ap (λ (f : ℕ → Option Mark). Ok f) (sym (line_marks d line h))
 
 -- what gives no minute two marks has no first such minute
@@ -92,7 +101,8 @@ no_conflict P (SpanContradiction m) h f = absurd (h m f.0)
 no_conflict P SpanMemory h f = refl
 
 -- the fault of a card that is told is one of the import
-pub card_fault : (part : Part) (bytes : List ℕ) (fault : CardFault) (told : StoreFault) → ((fault ≡ CardMemory) × (told ≡ Memory)) ⊎ ((fault ≢ CardMemory) × (told ≡ Card fault))
+pub card_fault : (part : Part) (bytes : List ℕ) (fault : CardFault) (told : StoreFault)
+    → ((fault ≡ CardMemory) × (told ≡ Memory)) ⊎ ((fault ≢ CardMemory) × (told ≡ Card fault))
     → (fault ≡ CardMemory) ⊎ Tells part bytes (Err fault) → IsCardFault part bytes told
 card_fault part bytes fault told (inl e) f = inl e.1
 card_fault part bytes fault told (inr e) (inl f) = absurd (e.0 f)

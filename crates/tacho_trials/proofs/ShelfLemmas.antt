@@ -42,7 +42,8 @@ lacks_push n (x ∷ s) d e f = go (x.number == n) e (lacks_push n s d) where
 pub numbered_push : (s : State) (d : Driver) → AreNumbered s → driver_of d.number s ≡ None → AreNumbered (s ++ d ∷ [])
 numbered_push [] d h e = (refl, tt)
 numbered_push (x ∷ s) d h e = go (x.number == d.number) refl e (numbered_push s d h.1) where
-  go : (b : Bool) → (x.number == d.number) ≡ b → cond b (Some x) (driver_of d.number s) ≡ None → (driver_of d.number s ≡ None → AreNumbered (s ++ d ∷ [])) → AreNumbered (x ∷ (s ++ d ∷ []))
+  go : (b : Bool) → (x.number == d.number) ≡ b → cond b (Some x) (driver_of d.number s) ≡ None → (driver_of d.number s ≡ None
+      → AreNumbered (s ++ d ∷ [])) → AreNumbered (x ∷ (s ++ d ∷ []))
   go true t g more = cc
   go false t g more = (lacks_push x.number s d h.0 (apart (d.number == x.number) refl), more g) where
     apart : (b : Bool) → (d.number == x.number) ≡ b → b ≡ false
@@ -52,7 +53,8 @@ numbered_push (x ∷ s) d h e = go (x.number == d.number) refl e (numbered_push 
 -- ---- a driver in the place of one with his number
 
 -- no driver has the number then who hadn't it before
-lacks_set : (n i : ℕ) (s : State) (d x : Driver) → driver_of n s ≡ None → slice_get s i ≡ Some x → d.number ≡ x.number → driver_of n (slice_set s i d) ≡ None
+lacks_set : (n i : ℕ) (s : State) (d x : Driver) → driver_of n s ≡ None → slice_get s i ≡ Some x → d.number ≡ x.number
+    → driver_of n (slice_set s i d) ≡ None
 lacks_set n i [] d x e g f = cc
 lacks_set n zero (y ∷ s) d x e g f = go (y.number == n) refl e where
   same : d.number ≡ y.number
@@ -62,7 +64,8 @@ lacks_set n zero (y ∷ s) d x e g f = go (y.number == n) refl e where
   go true t h = cc
   go false t h = ap (λ (k : ℕ). cond (k == n) (Some d) (driver_of n s)) same ∙ ap (λ b. cond b (Some d) (driver_of n s)) t ∙ h
 lacks_set n (suc i) (y ∷ s) d x e g f = go (y.number == n) e (λ h. lacks_set n i s d x h g f) where
-  go : (b : Bool) → cond b (Some y) (driver_of n s) ≡ None → (driver_of n s ≡ None → driver_of n (slice_set s i d) ≡ None) → cond b (Some y) (driver_of n (slice_set s i d)) ≡ None
+  go : (b : Bool) → cond b (Some y) (driver_of n s) ≡ None → (driver_of n s ≡ None → driver_of n (slice_set s i d) ≡ None)
+      → cond b (Some y) (driver_of n (slice_set s i d)) ≡ None
   go true h more = cc
   go false h more = more h
 
@@ -88,19 +91,23 @@ put_at (y ∷ s) (suc i) d x h g f =
 -- ---- calls
 
 -- a call whose step is known
-pub turns_as : {A B : Type 0} (view : A → B) (old new : State) (result : Result A StoreFault) (step : State → Turn B) (turn : Turn B) → step old ≡ turn
+pub turns_as : {A B : Type 0} (view : A → B) (old new : State) (result : Result A StoreFault) (step : State → Turn B) (turn : Turn B)
+    → step old ≡ turn
     → Answers view result turn.answer → new ≡ left result old turn.after → Turns view old new result step
 turns_as view old new result step turn e told after = record { answer = rw e told; state = rw e after }
 
 -- the driver of this number, who is examined from a Monday on
-pub rebased_at : (n base : ℕ) (s : State) (x : Driver) → driver_of n s ≡ Some x → is_monday base ≡ true → rebased n base s ≡ record { answer = Ok tt; after = put (with_base base x) s }
+pub rebased_at : (n base : ℕ) (s : State) (x : Driver) → driver_of n s ≡ Some x → is_monday base ≡ true
+    → rebased n base s ≡ record { answer = Ok tt; after = put (with_base base x) s }
 rebased_at n base s x e t =
     ap (λ o. own_turn (rebase_own base) s o) e ∙ ap (λ b. settled s (cond b (Ok (tt, with_base base x)) (Err NotMonday))) t
 
 -- the one at the place that a search found is examined from a Monday on
-pub rebased_set : (n base i : ℕ) (s : State) (x d : Driver) → AreNumbered s → IsPlaceOf s (driver_of n s) (Some i) → x ≡ get_or s i x → d ≡ with_base base x → is_monday base ≡ true
+pub rebased_set : (n base i : ℕ) (s : State) (x d : Driver) → AreNumbered s → IsPlaceOf s (driver_of n s) (Some i) → x ≡ get_or s i x
+    → d ≡ with_base base x → is_monday base ≡ true
     → Turns (λ (u : Unit {0}). tt) s (slice_set s i d) (Ok tt) (rebased n base)
 rebased_set n base i s x d h place e f monday =
     let at : slice_get s i ≡ Some x = slice_get_read s (length s) i x refl place.0 e in
     let put_there = put_at s i d x h at (ap (λ (y : Driver). y.number) f) in
-    turns_as (λ u. tt) s (slice_set s i d) (Ok tt) (rebased n base) _ (rebased_at n base s x (sym place.1 ∙ at) monday) refl (put_there ∙ ap (λ (y : Driver). put y s) f)
+    turns_as (λ u. tt) s (slice_set s i d) (Ok tt) (rebased n base) _ (rebased_at n base s x (sym place.1 ∙ at) monday) refl (put_there
+    ∙ ap (λ (y : Driver). put y s) f)

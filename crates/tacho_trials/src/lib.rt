@@ -1,4 +1,5 @@
-//! An archive in memory, and tests that cross crates: rows that hold of each archive that keeps what `Keeper` promises.
+//! An archive in memory, and tests that cross crates: what each archive answers that keeps what
+//! `Keeper` promises.
 #![tactic(auto)]
 
 mod content;

@@ -38,7 +38,8 @@ impl Download {
     }
 }
 
-/// A driver, with his downloads in the order of their numbers. They contradict nowhere. He has no entries.
+/// A driver, with his downloads in the order of their numbers, which contradict nowhere. He has no
+/// entries.
 #[derive(Drop)]
 pub(crate) struct Row {
     number: u32,
@@ -118,7 +119,8 @@ impl Row {
         self.downloads.get(place as usize)
     }
 
-    /// The number of a download that gives these spans, or none where his downloads give them all: S6, S14.
+    /// The number of a download that gives these spans, or none where his downloads give them all:
+    /// S6, S14.
     fn number_for(&self, alloc: Global, spans: &[Span]) -> Result<Option<u32>, StoreFault>
         requires { IsCanonical spans.now }
         ensures told { (part : ℕ) (file : List ℕ) → MatchResult result (λ number. import_own part file spans.now self.now ≡ Ok (numbered part file spans.now self.now number)) (IsFaultOf (import_own part file spans.now self.now)) }
@@ -150,7 +152,8 @@ impl Row {
         first_number(given, 1)
     }
 
-    /// Imports a file that gives these spans by a part: S6, S14. All that takes memory comes before he changes.
+    /// Imports a file that gives these spans by a part: S6, S14. All that takes memory comes before
+    /// he changes.
     pub(crate) fn import(
         &mut self,
         alloc: Global,

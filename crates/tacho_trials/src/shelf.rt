@@ -35,7 +35,8 @@ impl Model for Shelf {
 }
 
 impl Shelf {
-    /// An archive without drivers. It takes the allocator for all that it will hold, and no memory yet.
+    /// An archive without drivers. It takes the allocator for all that it will hold, and no memory
+    /// yet.
     pub fn new(alloc: Global) -> Shelf
         ensures { result ≡ [] }
     {
@@ -139,7 +140,8 @@ impl Shelf {
         }
     }
 
-    /// The place of the driver whose card it is: of him who has the holder, or of the caller, if he has it: S4, S5.
+    /// The place of the driver whose card it is: of him who has the holder, or of the caller, if he
+    /// has it: S4, S5.
     fn owner(&self, caller: Caller, holder: &[u8]) -> Result<usize, StoreFault>
         ensures { MatchResult result (IsOwnerAt self.now (owner_of (caller_number caller) holder.now self.now))
             (λ fault. owner_of (caller_number caller) holder.now self.now ≡ Err fault) }

@@ -14,7 +14,8 @@ pub returns : goal.returns
 returns c =
     let downloads = c.self.inside.downloads.items in
     let read : option_copied c.get.result ≡ slice_get downloads c.in_ok-place.place =
-    looked_up downloads c.in_ok-place.place c.get.result (rw c.deref.ensures.value at c.get.ensures.lookup).0 (rw c.deref.ensures.value at c.get.ensures.lookup).1
+    looked_up downloads c.in_ok-place.place c.get.result (rw c.deref.ensures.value at c.get.ensures.lookup).0 (rw
+    c.deref.ensures.value at c.get.ensures.lookup).1
     in
     let place = c.in_ok-place.ensures in
     let number : c.args.number ≡ 1 + c.in_ok-place.place = omega (arith, place) in
