@@ -1,5 +1,5 @@
-mod DisjointLemmas
-mod NearLemmas
+pub mod DisjointLemmas
+pub mod NearLemmas
 mod OrderLemmas
 pub mod GainLemmas
 mod WithdrawLemmas
@@ -7,4 +7,4 @@ mod LeastLemmas
 pub mod StepLemmas
 pub mod MapLemmas
 mod PartLemmas
-mod ContentLemmas
+pub mod ContentLemmas

@@ -1,0 +1,109 @@
+-- What one driver of a shelf has.
+use Rattle.std.proofs.Common.{◌≡◌, ◌≢◌, ℕ, zero, suc, ◌+◌, ◌<◌, ◌≤◌, ◌⊎◌, inl, inr, ◌==◌, nat_lt, true, false, cond, Bor, List, [], ◌∷◌, length, get_or, slice_get, Option, Some, None, Ok, Err, is_some, IfSome, refl, sym, ap, ◌∙◌, subst, arith}
+use Rattle.std.proofs.Math.Path.{fun_ext}
+use Rattle.std.proofs.lemmas.Bool.{eq-eqb}
+use Rattle.std.proofs.lemmas.Bool.Decides.{nat_tests}
+use Rattle.std.proofs.lemmas.Option.{slice_get_past, slice_get_read}
+use Rattle.std.specs.Option.{option_copied}
+use Rattle.tacho_time.specs.declared.span.Span.{Span}
+use Rattle.tacho_time.specs.declared.span.Mark.{Mark}
+use Rattle.tacho_time.specs.declared.canonical.SpanFault.{SpanFault}
+use Rattle.tacho_time.specs.declared.canonical.SpanFault.TheVariants.{Contradiction as SpanContradiction, Memory as SpanMemory}
+use Rattle.tacho_time.specs.Spans.{Gives, SamePairs, IsCanonicalOf, Conflicts}
+use Rattle.tacho_time.specs.Merge.{IsFirstFault}
+use Rattle.tacho_card.specs.declared.fault.CardFault.{CardFault}
+use Rattle.tacho_card.specs.declared.fault.CardFault.TheVariants.{Memory as CardMemory}
+use Rattle.tacho_card.specs.declared.file.Part.{Part}
+use Rattle.tacho_line.specs.Line.{mark_at}
+use Rattle.tacho_line.proofs.LineLemmas.{held_given, given_held as given_held_in}
+use Rattle.tacho_line.proofs.MergeLemmas.{append_gives, front_gives}
+use Rattle.tacho_state.specs.declared.fault.StoreFault.{StoreFault}
+use Rattle.tacho_state.specs.declared.fault.StoreFault.TheVariants.{Memory, Card}
+use Rattle.tacho_state.specs.Content.{Tells}
+use Rattle.tacho_state.specs.Disjoint.{Keeps}
+use Rattle.tacho_state.specs.State.{Download, Entry, Driver, State, driver_of, Given, Held, given_spans, entered_spans, held_spans, held_mark, download_from}
+use Rattle.tacho_state.specs.Steps.{told_of, lined}
+use Rattle.tacho_state.proofs.DisjointLemmas.{disjoint_canonical}
+use Rattle.tacho_state.proofs.MapLemmas.{held_map}
+use Rattle.tacho_trials.specs.Shelf.{IsCardFault}
+
+-- ---- downloads by number
+
+-- a number before the first one's is none's
+pub download_before : (i number : ℕ) (ds : List Download) → number < i → download_from i number ds ≡ None
+download_before i number [] l = refl
+download_before i number (d ∷ ds) l =
+    let t : (i == number) ≡ false = grind (arith, nat_tests) in
+    ap (λ b. cond b (Some d) (download_from (i + 1) number ds)) t ∙ download_before (i + 1) number ds (omega arith)
+
+-- another one is that of the download so many places behind the first
+pub download_at : (i number k : ℕ) (ds : List Download) → number ≡ i + k → download_from i number ds ≡ slice_get ds k
+download_at i number k [] e = refl
+download_at i number zero (d ∷ ds) e =
+    let t : (i == number) ≡ true = eq-eqb i number (omega (arith, e)) in
+    ap (λ b. cond b (Some d) (download_from (i + 1) number ds)) t
+download_at i number (suc k) (d ∷ ds) e =
+    let t : (i == number) ≡ false = grind (arith, nat_tests) in
+    ap (λ b. cond b (Some d) (download_from (i + 1) number ds)) t ∙ download_at (i + 1) number k ds (omega (arith, e))
+
+-- the element that was lent of a list
+pub looked_up : (xs : List Download) (i : ℕ) (r : Option (Bor Download)) → is_some r ≡ nat_lt i (length xs)
+    → IfSome r (λ y. y.now ≡ get_or xs i y.now) → option_copied r ≡ slice_get xs i
+looked_up xs i None e h = let l : length xs ≤ i = grind (arith, nat_tests) in sym (slice_get_past xs i l)
+looked_up xs i (Some y) e h = let l : i < length xs = grind (arith, nat_tests) in sym (slice_get_read xs (length xs) i y.now refl l h)
+
+-- ---- what he holds
+
+-- without entries he holds what his downloads give
+pub given_held : (d : Driver) → d.entries ≡ [] → SamePairs (Given d) (Held d)
+given_held d e m k = (front_gives given entered m k, λ g. go (append_gives given entered m k g)) where
+  given : List Span
+  given = given_spans d.downloads
+
+  entered : List Span
+  entered = entered_spans d.entries
+
+  go : Gives given m k ⊎ Gives entered m k → Gives given m k
+  go (inl x) = x
+  go (inr y) = absurd (subst (λ (es : List Entry). Gives (entered_spans es) m k) e y)
+
+-- the line of what his downloads give is that of what he holds
+pub held_line : (d : Driver) (line : List Span) → d.entries ≡ [] → IsCanonicalOf (Given d) line → IsCanonicalOf (Held d) line
+held_line d line e h =
+    record {
+      canonical = h.canonical;
+      same = (λ m k. (
+        λ g. (given_held d e m k).0 ((h.same m k).0 g),
+        λ g. (h.same m k).1
+            ((given_held d e m k).1 g),
+      ));
+    }
+
+-- a line of it gives each minute the mark that he holds it with
+pub line_marks : (d : Driver) (line : List Span) → IsCanonicalOf (Held d) line → mark_at line ≡ held_mark d
+line_marks d line h = fun_ext (λ m. go m (mark_at line m) refl (held_mark d m) refl) where
+  go : (m : ℕ) (a : Option Mark) → mark_at line m ≡ a → (b : Option Mark) → held_mark d m ≡ b → mark_at line m ≡ held_mark d m
+  go m (Some j) e b f =
+      let kept : Keeps line (Held d) = record { disjoint = disjoint_canonical line h.canonical; same = h.same } in
+      e ∙ sym ((held_map d line m j kept).0 ((h.same m j).0 (held_given line m j e)))
+  go m None e (Some k) f =
+      let held = given_held_in line m k h.canonical ((h.same m k).1 (held_given (held_spans d) m k f)) in cc
+  go m None e None f = e ∙ sym f
+
+-- it is what is told of him
+pub lined_at : (n : ℕ) (s : State) (d : Driver) (line : List Span) → driver_of n s ≡ Some d → IsCanonicalOf (Held d) line
+    → lined n s ≡ Ok (mark_at line)
+lined_at n s d line e h = ap (λ o. told_of (λ x. Ok (held_mark x)) o) e ∙ ap (λ (f : ℕ → Option Mark). Ok f) (sym (line_marks d line h))
+
+-- what gives no minute two marks has no first such minute
+pub no_conflict : (P : ℕ → Mark → Type 0) (fault : SpanFault) → ((m : ℕ) → ¬ (Conflicts P m)) → IsFirstFault P fault → fault ≡ SpanMemory
+no_conflict P (SpanContradiction m) h f = absurd (h m f.0)
+no_conflict P SpanMemory h f = refl
+
+-- the fault of a card that is told is one of the import
+pub card_fault : (part : Part) (bytes : List ℕ) (fault : CardFault) (told : StoreFault)
+    → ((fault ≡ CardMemory) × (told ≡ Memory)) ⊎ ((fault ≢ CardMemory) × (told ≡ Card fault))
+    → (fault ≡ CardMemory) ⊎ Tells part bytes (Err fault) → IsCardFault part bytes told
+card_fault part bytes fault told (inl e) f = inl e.1
+card_fault part bytes fault told (inr e) (inl f) = absurd (e.0 f)
+card_fault part bytes fault told (inr e) (inr f) = inr (fault, e.1, f)

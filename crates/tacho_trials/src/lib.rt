@@ -1,0 +1,14 @@
+//! An archive in memory, and tests that cross crates: what each archive answers that keeps what
+//! `Keeper` promises.
+#![tactic(auto)]
+
+mod content;
+mod row;
+mod shelf;
+
+pub use shelf::Shelf;
+
+#[cfg(test)]
+mod answers;
+#[cfg(test)]
+mod tests;
