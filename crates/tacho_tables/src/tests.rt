@@ -12,6 +12,16 @@ fn span(start: u32, past: u32, mark: u32) -> StoredSpan
 }
 
 #[test]
+fn version_is_one_once_made(rt: HostRuntime) -> Result<(), Fail> {
+    let mut conn = Connection::open_in_memory(rt.alloc())?;
+    let mut tx = conn.transaction();
+    assert_eq!(rt; making::version(&mut tx), Err(TableFault::Store));
+    making::make_all(&mut tx)?;
+    assert_eq!(rt; making::version(&mut tx)?, Some(1));
+    Ok(())
+}
+
+#[test]
 fn drivers_are_found_and_changed(rt: HostRuntime) -> Result<(), Fail> {
     let mut conn = Connection::open_in_memory(rt.alloc())?;
     let mut tx = conn.transaction();
