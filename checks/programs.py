@@ -18,9 +18,9 @@ def built(compiler, folder):
     return refuser
 
 
-def answers_without_memory(compiler, words, given):
-    """What a program answers with each of its allocations refused in turn, up to the first run that asks for fewer: the
-    allocation's number, counted from 1, and the answer."""
+def runs_without_memory(compiler, words, given):
+    """The runs of a program with each of its allocations refused in turn, up to the first run that asks for fewer: the
+    allocation's number, counted from 1, and the run."""
     with tempfile.TemporaryDirectory() as folder:
         refuser = built(compiler, folder)
         for number in range(1, 1_000_000):
@@ -30,4 +30,10 @@ def answers_without_memory(compiler, words, given):
                 if number == 1:
                     raise RuntimeError(f"no allocation of {words} was refused")
                 return
-            yield number, (run.stdout.decode(errors="backslashreplace"), run.returncode)
+            yield number, run
+
+
+def answers_without_memory(compiler, words, given):
+    """What a program answers in each of these runs: the allocation's number and the answer."""
+    for number, run in runs_without_memory(compiler, words, given):
+        yield number, (run.stdout.decode(errors="backslashreplace"), run.returncode)

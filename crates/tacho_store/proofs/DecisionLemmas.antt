@@ -1,13 +1,18 @@
 -- What is near a file's spans decides their import.
 use Rattle.std.proofs.Common.{◌≡◌, ◌⊎◌, inl, inr, ℕ, ◌+◌, List, [], length, map, filter, Option, Some, None, Result, Ok, Err, sym, ap, subst}
-use Rattle.std.specs.Prelude.{MatchOption, MatchResult}
+use Rattle.std.specs.Prelude.{MatchOption, MatchResult, IsErr, IsErrAnd}
 use Rattle.std.specs.List.Sorted.{IsPermutation}
 use Rattle.sqlite.specs.Tree.{Trees}
 use Rattle.tacho_time.specs.declared.span.Span.{Span}
 use Rattle.tacho_time.specs.Spans.{Gives, IsCanonicalOf}
 use Rattle.tacho_line.specs.Line.{AreGains}
 use Rattle.tacho_state.specs.declared.fault.StoreFault.{StoreFault}
+use Rattle.tacho_state.specs.declared.fault.StoreFault.TheVariants.{Memory, Store}
+use Rattle.tacho_state.specs.declared.imported.Imported.{Imported}
+use Rattle.tacho_state.specs.declared.imported.Imported.TheVariants.{Repeated}
+use Rattle.tacho_state.specs.Acts.{Answers}
 use Rattle.tacho_state.specs.Content.{part_number}
+use Rattle.tacho_state.specs.Steps.{settled, import_own}
 use Rattle.tacho_state.specs.Disjoint.{AreInRange, IsNew, near}
 use Rattle.tacho_state.specs.State.{Driver, State, driver_of, put, with_download}
 use Rattle.tacho_state.proofs.StepLemmas.{repeated_import, contradicted_import, added_import, full_import}
@@ -45,6 +50,7 @@ module _ (db : Trees) (s : State) (n : ℕ) (d : Driver) (a b : ℕ) (spans : Li
   -- nothing new, something new, a contradiction; or a call gave up
   by_lines : (r : Result (Option News) StoreFault)
       → MatchResult r (λ found. MatchOption found (AreGains card_line spans []) (λ news. AreNews card_line line spans news.card_spans.items news.held.items)) (IsRefused card_line line spans) → AreDecided db s n d spans r
+  unfolding AreDecided
   by_lines (Ok None) h = λ part file. repeated_import d part file (spans_of n t.card_spans) card_line spans a b (card_kept t s n d of is) card_near h
   by_lines (Ok (Some news)) h = goes_in news.card_spans.items news.held.items h
   by_lines (Err fault) (inl e) = subst (λ f. AreDecided db s n d spans (Err f)) (sym e) tt
@@ -62,3 +68,30 @@ unfolding StandsFor
 decided db s n d a b spans cards helds card_line line r (t, stand, of) is card_read read card_of held_of within h =
     by_lines db s n d a b spans is within t stand of card_line line
     (read_line t.card_spans n a b cards card_line (card_read t stand) card_of) (read_line t.held n a b helds line (read t stand) held_of) r h
+
+-- a fault that is handed on answers the import
+pub handed_fault : (db : Trees) (s : State) (n : ℕ) (d : Driver) (spans : List Span) (fault : StoreFault) (r : Result Imported StoreFault) (part : ℕ) (file : List ℕ) → AreDecided db s n d spans (Err fault)
+    → IsErr r × IsErrAnd r (λ found. found ≡ fault) → Answers (λ done. done) r (settled s (import_own part file spans d)).answer
+unfolding AreDecided
+handed_fault db s n d spans fault (Ok done) part file h e = let wrong = e.0 in cc
+handed_fault db s n d spans fault (Err found) part file h e = subst (λ f. Answers (λ done. done) (Err f) (settled s (import_own part file spans d)).answer) (sym e.1) (go fault h) where
+  go : (f : StoreFault) → AreDecided db s n d spans (Err f) → Answers (λ done. done) (Err f) (settled s (import_own part file spans d)).answer
+  go Memory h = tt
+  go Store h = tt
+  go f h = ap (λ o. (settled s o).answer) (h part file)
+
+-- a file that gives nothing new is repeated
+pub is_repeated : (db : Trees) (s : State) (n : ℕ) (d : Driver) (spans : List Span) (found : Option News) → found ≡ None → AreDecided db s n d spans (Ok found)
+    → (part : ℕ) (file : List ℕ) → import_own part file spans d ≡ Ok (Repeated d.number, d)
+unfolding AreDecided
+is_repeated db s n d spans found is h = subst (λ o. AreDecided db s n d spans (Ok o)) is h
+
+-- and one that gives something new can be added
+pub is_new : (db : Trees) (s : State) (n : ℕ) (d : Driver) (spans : List Span) (found : Option News) (news : News) → found ≡ Some news → AreDecided db s n d spans (Ok found)
+    → AreAdded db s n d spans news.card_spans.items news.held.items
+unfolding AreDecided
+is_new db s n d spans found news is h = subst (λ o. AreDecided db s n d spans (Ok o)) is h
+
+-- equal spans are decided alike
+pub same_spans : (db : Trees) (s : State) (n : ℕ) (d : Driver) (spans other : List Span) (r : Result (Option News) StoreFault) → spans ≡ other → AreDecided db s n d spans r → AreDecided db s n d other r
+same_spans db s n d spans other r same = subst (λ x. AreDecided db s n d x r) same

@@ -19,3 +19,4 @@ mod TimelineLemmas
 mod JoinLemmas
 mod ImporterLemmas
 mod DecisionLemmas
+mod AdditionLemmas

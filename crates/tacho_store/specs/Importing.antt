@@ -29,9 +29,14 @@ abbrev pub importer : Option ℕ → List ℕ → State → Result Driver StoreF
 importer None holder s = known (holding holder s)
 importer (Some n) holder s = with_card holder (driver_of n s)
 
--- he was found, with his number and how many downloads he has; or a call gave up
+-- his number and how many downloads he has
+pub record IsImporterOf (s : State) (d : Driver) (it : Importer) : Type 0 where
+  pub found : driver_of it.number s ≡ Some d
+  pub downloads : it.downloads ≡ length d.downloads
+
+-- he was found; or a call gave up
 abbrev pub IsImporter : State → Result Importer StoreFault → Result Driver StoreFault → Type 0
-IsImporter s (Ok it) told = (d : Driver) × (told ≡ Ok d) × (driver_of it.number s ≡ Some d) × (it.downloads ≡ length d.downloads)
+IsImporter s (Ok it) told = (d : Driver) × (told ≡ Ok d) × IsImporterOf s d it
 IsImporter s (Err Memory) told = Unit {0}
 IsImporter s (Err Store) told = Unit {0}
 IsImporter s (Err fault) told = told ≡ Err fault
@@ -46,7 +51,7 @@ pub record AreAdded (db : Trees) (s : State) (n : ℕ) (d : Driver) (spans cards
       → StandsFor next (put (with_download (part_number part) file spans d) s)
 
 -- what is new of a file's spans decides the driver's import; or a call gave up
-abbrev pub AreDecided : Trees → State → ℕ → Driver → List Span → Result (Option News) StoreFault → Type 0
+unfoldable pub AreDecided : Trees → State → ℕ → Driver → List Span → Result (Option News) StoreFault → Type 0
 AreDecided db s n d spans (Ok None) = (part : ℕ) (file : List ℕ) → import_own part file spans d ≡ Ok (Repeated d.number, d)
 AreDecided db s n d spans (Ok (Some news)) = AreAdded db s n d spans news.card_spans.items news.held.items
 AreDecided db s n d spans (Err Memory) = Unit {0}

@@ -4,14 +4,14 @@ ghost use Rattle.sqlite.specs.Held.{state};
 ghost use Rattle.tacho_time.specs.declared.span.Span.{Span as Stretch};
 ghost use Rattle.tacho_time.specs.Spans.{IsCanonical};
 ghost use Rattle.tacho_state.specs.State.{State, Driver, driver_of};
-ghost use Rattle.tacho_state.specs.Steps.{imported};
+ghost use Rattle.tacho_state.specs.Steps.{settled, import_own, imported};
 ghost use Rattle.tacho_state.specs.Content.{Tells, part_number};
 ghost use Rattle.tacho_state.specs.Acts.{Acts, Answers, caller_number};
 ghost use Rattle.tacho_tables.specs.Schema.{archive_schema};
 ghost use Rattle.tacho_tables.specs.Tables.{Turns, row_of};
 ghost use Rattle.tacho_store.specs.Standing.{StandsFor, span_row, kept};
 ghost use Rattle.tacho_store.specs.Kept.{Shows, Leaves, IsAnswered};
-ghost use Rattle.tacho_store.specs.Importing.{importer, IsImporter, AreDecided};
+ghost use Rattle.tacho_store.specs.Importing.{importer, IsImporterOf, IsImporter, AreAdded, AreDecided};
 
 use crate::content::CardContent;
 use crate::fault::store_fault;
@@ -111,6 +111,7 @@ fn importer_of<S: Alter>(
 }
 
 /// What of a file's spans is new to a driver, by the rows near them: nothing where downloads give them all. S6.
+#[tactic(auto, unfolding(crate::specs::Importing::AreDecided))]
 fn news_near<S: Alter>(
     alloc: Global,
     tx: &mut Transaction<'_, S>,
@@ -158,4 +159,116 @@ fn write_download<S: Alter>(
     downloads::insert(tx, driver, number, part, file)?;
     card_spans::insert_all(tx, driver, cards)?;
     held::insert_all(tx, driver, helds)
+}
+
+/// How a part is stored: 0 both, 1 first, 2 second.
+fn number_of_part(part: Part) -> u32
+    ensures { result ≡ part_number part }
+{
+    match part {
+        Part::Both => 0,
+        Part::First => 1,
+        Part::Second => 2,
+    }
+}
+
+/// Adds a driver's download, of whose spans these are new: S14. All memory is taken before the first write.
+fn add_download<S: Alter>(
+    alloc: Global,
+    tx: &mut Transaction<'_, S>,
+    importer: Importer,
+    part: Part,
+    file: &[u8],
+    news: &News,
+) -> Result<Imported, StoreFault>
+    ensures same_reference { tx.new.conn.ghost_name ≡ tx.old.conn.ghost_name }
+    ensures answer { HasCleanDisk (state S.Store tx.new.conn.now) → (state S.Store tx.old.conn.now).now.schema ≡ archive_schema → (s : State) → StandsFor (state S.Store tx.old.conn.now).now.trees s
+        → (d : Driver) (spans : List Stretch) → IsImporterOf s d importer → AreAdded (state S.Store tx.old.conn.now).now.trees s importer.number d spans news.now.card_spans.items news.now.held.items
+        → Answers (λ done. done) result (settled s (import_own (part_number part) file.now spans d)).answer }
+    ensures made { HasCleanDisk (state S.Store tx.new.conn.now) → (state S.Store tx.old.conn.now).now.schema ≡ archive_schema → (s : State) → StandsFor (state S.Store tx.old.conn.now).now.trees s
+        → (d : Driver) (spans : List Stretch) (holder : List ℕ) → IsImporterOf s d importer → AreAdded (state S.Store tx.old.conn.now).now.trees s importer.number d spans news.now.card_spans.items news.now.held.items
+        → Tells part file.now (Ok (record { holder = holder; spans = spans }))
+        → OnOk result (((state S.Store tx.new.conn.now).now.schema ≡ archive_schema) × StandsFor (state S.Store tx.new.conn.now).now.trees (settled s (import_own (part_number part) file.now spans d)).after) }
+    ensures clean { HasCleanDisk (state S.Store tx.new.conn.now) → HasCleanDisk (state S.Store tx.old.conn.now) }
+    ensures was_open { HasCleanDisk (state S.Store tx.new.conn.now) → IsTrue (state S.Store tx.new.conn.now).is_open → IsTrue (state S.Store tx.old.conn.now).is_open }
+    ensures keeps { HasCleanDisk (state S.Store tx.new.conn.now) → (state S.Store tx.old.conn.now).now.schema ≡ archive_schema → KeepsCommit (state S.Store tx.old.conn.now) (state S.Store tx.new.conn.now) }
+    ensures survives { Survives (state S.Store tx.old.conn.now) (state S.Store tx.new.conn.now) (λ _. ⊥) }
+{
+    let Some(number) = first_number(importer.downloads, 1) else {
+        return Err(StoreFault::Full);
+    };
+    let cards = stored(alloc, &news.card_spans)?;
+    let helds = stored(alloc, &news.held)?;
+    let driver = importer.number;
+    write_download(
+        tx,
+        driver,
+        number,
+        number_of_part(part),
+        file,
+        &cards,
+        &helds,
+    )
+    .map_err(store_fault)?;
+    Ok(Imported::Added { driver, number })
+}
+
+/// Imports what a card file tells, within a transaction: S4, S5, S6, S14.
+fn import_in<S: Alter>(
+    alloc: Global,
+    tx: &mut Transaction<'_, S>,
+    caller: Caller,
+    part: Part,
+    file: &[u8],
+    content: &CardContent,
+) -> Result<Imported, StoreFault>
+    requires { IsCanonical content.now.spans.items }
+    ensures same_reference { tx.new.conn.ghost_name ≡ tx.old.conn.ghost_name }
+    ensures answer { HasCleanDisk (state S.Store tx.new.conn.now) → (state S.Store tx.old.conn.now).now.schema ≡ archive_schema → (s : State) → StandsFor (state S.Store tx.old.conn.now).now.trees s
+        → Answers (λ done. done) result (imported (caller_number caller) (part_number part) file.now (Ok (record { holder = content.now.holder; spans = content.now.spans.items })) s).answer }
+    ensures made { HasCleanDisk (state S.Store tx.new.conn.now) → (state S.Store tx.old.conn.now).now.schema ≡ archive_schema → (s : State) → StandsFor (state S.Store tx.old.conn.now).now.trees s
+        → Tells part file.now (Ok (record { holder = content.now.holder; spans = content.now.spans.items }))
+        → OnOk result (((state S.Store tx.new.conn.now).now.schema ≡ archive_schema)
+        × StandsFor (state S.Store tx.new.conn.now).now.trees (imported (caller_number caller) (part_number part) file.now (Ok (record { holder = content.now.holder; spans = content.now.spans.items })) s).after) }
+    ensures live { HasCleanDisk (state S.Store tx.new.conn.now) → IsAnswered result → IsTrue (state S.Store tx.old.conn.now).is_open }
+    ensures clean { HasCleanDisk (state S.Store tx.new.conn.now) → HasCleanDisk (state S.Store tx.old.conn.now) }
+    ensures was_open { HasCleanDisk (state S.Store tx.new.conn.now) → IsTrue (state S.Store tx.new.conn.now).is_open → IsTrue (state S.Store tx.old.conn.now).is_open }
+    ensures keeps { HasCleanDisk (state S.Store tx.new.conn.now) → (state S.Store tx.old.conn.now).now.schema ≡ archive_schema → KeepsCommit (state S.Store tx.old.conn.now) (state S.Store tx.new.conn.now) }
+    ensures survives { Survives (state S.Store tx.old.conn.now) (state S.Store tx.new.conn.now) (λ _. ⊥) }
+{
+    let importer = importer_of(tx, caller, &content.holder)?;
+    match news_near(alloc, tx, importer.number, &content.spans)? {
+        None => Ok(Imported::Repeated {
+            driver: importer.number,
+        }),
+        Some(news) => add_download(alloc, tx, importer, part, file, &news),
+    }
+}
+
+/// Imports what a card file tells: S4, S5, S6, S14.
+pub fn import<S: Alter>(
+    alloc: Global,
+    conn: &mut Connection<S>,
+    caller: Caller,
+    part: Part,
+    file: &[u8],
+    content: &CardContent,
+) -> Result<Imported, StoreFault>
+    requires open { conn.old.in_transaction ≡ false }
+    requires spans { IsCanonical content.now.spans.items }
+    ensures autocommit { conn.new.in_transaction ≡ false }
+    ensures acts { Tells part file.now (Ok (record { holder = content.now.holder; spans = content.now.spans.items }))
+        → Acts (λ c. Shows (state S.Store c)) (λ c. HasCleanDisk (state S.Store c)) (λ c. IsTrue (state S.Store c).is_open) (λ c. Leaves (state S.Store c)) (λ done. done) conn.old conn.new result
+        (imported (caller_number caller) (part_number part) file.now (Ok (record { holder = content.now.holder; spans = content.now.spans.items }))) }
+{
+    let _settled = conn.is_autocommit();
+    let mut tx = conn.transaction();
+    let done = import_in(alloc, &mut tx, caller, part, file, content)?;
+    match tx.commit() {
+        Ok(()) => Ok(done),
+        Err(_) => {
+            let _undone = conn.is_autocommit();
+            Err(StoreFault::Store)
+        }
+    }
 }

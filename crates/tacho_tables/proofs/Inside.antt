@@ -3,7 +3,7 @@ use Rattle.std.proofs.Common.{◌≡◌, ℕ, true, false, List, Ok, Err, Result
 use Rattle.std.proofs.lemmas.Bool.{cases_Bool}
 use Rattle.sqlite.specs.declared.error.Error.{Error}
 use Rattle.sqlite.specs.Order.{Row}
-use Rattle.std.proofs.Common.{subst, ◌∙◌, IfOk, IfErr, Vec, Global}
+use Rattle.std.proofs.Common.{subst, ap, ◌∙◌, IfOk, IfErr, Vec, Global}
 use Rattle.sqlite.specs.Store.{Ghosts}
 use Rattle.sqlite.specs.Held.{Held, state}
 use Rattle.sqlite.specs.Clock.{timed}
@@ -11,7 +11,9 @@ use Rattle.sqlite.specs.Listing.{understood}
 use Rattle.sqlite.proofs.Callers.{IsPlain}
 use Rattle.sqlite.specs.declared.rows.Row.{Row as TheRow}
 use Rattle.sqlite.specs.State.{State, Shows, Executes, ExecutesInside, KeepsCommit, IsUnchanged, IsRolledBack, FailsToQuery, FailsToShow, IsNotRun, IsTooLate, Shown, ShowsRows}
+use Rattle.sqlite.specs.Schema.{Schema}
 use Rattle.sqlite_resolve.specs.declared.compiled.Compiled.{Compiled}
+use Rattle.sqlite_resolve.specs.declared.error.CompileError.{CompileError}
 use Rattle.sqlite_schema.specs.declared.command.Returning.{Returning}
 use Rattle.std.proofs.Common.{Option, Some, None}
 use Rattle.std.proofs.lemmas.Result.{IfOk-weaker}
@@ -77,6 +79,12 @@ keeps_reading sql params old new r has plain shown fails =
 -- two steps that commit nothing
 pub keeps_then : (a b c : State) → KeepsCommit a b → KeepsCommit b c → KeepsCommit a c
 keeps_then a b c p q = record { was_open = λ o. p.was_open (q.was_open o); committed = λ o. q.committed o ∙ p.committed (q.was_open o) }
+
+-- a text that means nothing shows no rows
+pub unknown_shows : (sql : List ℕ) (params : Row) (old new : State) (rows : List Row) {schema : Schema} {fault : CompileError} → old.now.schema ≡ schema → understood schema sql ≡ Err fault
+    → ¬ Shown sql params old new rows
+unfolding Shown
+unknown_shows sql params old new rows has unknown h = let known = sym h.1.is ∙ ap (λ s. understood s sql) has ∙ unknown in cc
 
 -- rows are shown of a connection that was open
 rows_open : (old new : State) (sql : List ℕ) (c : Compiled) (params : Row) (rows : List Row) (r : Option Returning) → ShowsRows old new sql c params rows r → IsTrue new.is_open → IsTrue old.is_open

@@ -1,10 +1,11 @@
--- What CREATE TABLE leaves.
-use Rattle.std.proofs.Common.{◌≡◌, ℕ, pos, List, [], ◌∷◌, codes, Ok, Some, None, true, false, refl, sym, ap, subst, ◌∙◌, arith}
+-- What CREATE TABLE leaves, and what is read of `meta`.
+use Rattle.std.proofs.Common.{◌≡◌, ℕ, pos, List, [], ◌∷◌, codes, Ok, Option, Some, None, true, false, refl, sym, ap, subst, ◌∙◌, arith}
+use Rattle.std.specs.Prelude.{IfSome, IsNone, ◌↔◌}
 use Rattle.std.proofs.lemmas.List.Sorted.{IsPermutation-refl}
 use Rattle.sqlite.specs.declared.types.Value.TheVariants.{Null, Int}
 use Rattle.sqlite.specs.Order.{Row}
 use Rattle.sqlite.specs.Source.TheVariants.{Values}
-use Rattle.sqlite.specs.Term.{Term, lit}
+use Rattle.sqlite.specs.Term.{Term, lit, col}
 use Rattle.sqlite_tied.specs.Compute.{everything}
 use Rattle.sqlite.specs.Listing.{understood}
 use Rattle.tacho_tables.specs.Schema.{archive_schema}
@@ -13,7 +14,9 @@ use Rattle.tacho_tables.specs.Rows.{Stands, StandNumbered, span_columns, downloa
 use Rattle.tacho_tables.specs.Tables.{Stand, no_rows}
 use Rattle.tacho_tables.specs.Making.{AreEmpty}
 use Rattle.tacho_tables.proofs.Idle.{idle}
-use Rattle.tacho_tables.proofs.Statements.{IsStatement}
+use Rattle.tacho_tables.proofs.Answers.{listed, shows, eq_test}
+use Rattle.tacho_tables.proofs.SpanLemmas.{none_given}
+use Rattle.tacho_tables.proofs.Statements.{IsStatement, version_text, version_is, first_row}
 use Rattle.tacho_tables.proofs.Writes.{inserted, cast_null, cast_int}
 use Rattle.sqlite.specs.Schema.{Schema}
 use Rattle.sqlite.specs.Table.{Table}
@@ -21,8 +24,9 @@ use Rattle.sqlite.specs.Command.TheVariants.{CreateTable, Insert}
 use Rattle.sqlite.specs.Change.{created, next_tree, KeepsRows}
 use Rattle.sqlite.specs.Does.{Tally, lacks_sequence}
 use Rattle.sqlite.specs.Effect.{Database}
-use Rattle.sqlite.specs.State.{State, Writes, Executes, Shows}
-use Rattle.sqlite.proofs.Callers.{runs_as}
+use Rattle.sqlite.specs.State.{State, Writes, Executes, Shows, Shown}
+use Rattle.sqlite.specs.Program.{overlay}
+use Rattle.sqlite.proofs.Callers.{runs_as, reads_as, one_permutation}
 use Rattle.tacho_tables.specs.Making.{IsCreate, HasMade}
 use Rattle.tacho_tables.proofs.Writes.{went, same_value}
 
@@ -92,3 +96,18 @@ makes_archive old new count has none h =
         held = nothing_stands span_columns (e.next 10) (kept.1.1.1.1.1.0 (λ e. omega (arith, e)) ∙ none.1.1.1.1.1.0);
       }),
     )
+
+-- the reading of the version shows 1
+pub shows_version : (old new : State) (rows : List Row) → old.now.schema ≡ archive_schema → Shown version_text [] old new rows → old.now.trees 0 ≡ meta_row ∷ [] → rows ≡ (Int (pos 1) ∷ []) ∷ []
+shows_version old new rows has h is =
+    let db = old.now.trees in
+    let shown = col 1 2 ∷ [] in
+    let got = reads_as version_text [] old new archive_schema has _ version_is.meant version_is.plain version_is.unlisted rows h in
+    let l = listed 0 first_row shown [] (overlay db []) [] rows (got.answer Null) in
+    one_permutation (Int (pos 1) ∷ []) rows (rw (none_given db 0, is, eq_test 1 1) at (shows 0 first_row shown [] (overlay db []) [] rows l))
+
+-- and what is read of the first such row is 1
+pub first_is_one : (found : Option ℕ) (rows : List Row) → rows ≡ (Int (pos 1) ∷ []) ∷ [] → (IsNone found ↔ (rows ≡ [])) → IfSome found (λ n. (m : ℕ) (more : List Row) → rows ≡ (Int (pos m) ∷ []) ∷ more → n ≡ m)
+    → found ≡ Some 1
+first_is_one None rows is none some = absurd (let e = sym is ∙ none.0 refl in cc)
+first_is_one (Some n) rows is none some = ap Some (some 1 [] is)

@@ -1,5 +1,5 @@
--- What the statements on spans and downloads are.
-use Rattle.std.proofs.Common.{◌≡◌, ℕ, List, [], ◌∷◌, codes, false, refl, pos}
+-- What the statements on rows are.
+use Rattle.std.proofs.Common.{◌≡◌, ℕ, List, [], ◌∷◌, codes, false, refl, pos, Err}
 use Rattle.sqlite.specs.declared.types.Value.TheVariants.{Null, Int}
 use Rattle.sqlite.specs.Command.{Command}
 use Rattle.sqlite.specs.Command.TheVariants.{Insert, Select, Update}
@@ -10,9 +10,10 @@ use Rattle.sqlite_sql.specs.declared.ops.CompareOp.TheVariants.{Eq, Lt}
 use Rattle.sqlite.specs.Collation.TheVariants.{Binary}
 use Rattle.sqlite_value.specs.declared.keys.Key.{Key}
 use Rattle.sqlite_tied.specs.Compute.{everything}
-use Rattle.sqlite.specs.Listing.{understood, reads_listing}
+use Rattle.sqlite.specs.Listing.{understood, reads_listing, listing_schema}
 use Rattle.sqlite.proofs.Callers.{IsPlain, command_of}
-use Rattle.tacho_tables.specs.Schema.{archive_schema}
+use Rattle.sqlite_resolve.specs.declared.error.CompileError.TheVariants.{NoSuchTable}
+use Rattle.tacho_tables.specs.Schema.{archive_schema, no_schema}
 use Rattle.tacho_tables.proofs.Answers.{simple}
 
 -- the text is this statement, which reads no clock
@@ -55,6 +56,26 @@ by_start = (col 1 2, record { collation = Binary; descending = false }) ∷ []
 -- their names
 abbrev pub span_names : List (List ℕ)
 span_names = codes "start" ∷ codes "past" ∷ codes "mark" ∷ []
+
+-- ---- meta
+
+-- the text that reads the version
+abbrev pub version_text : List ℕ
+version_text = codes "SELECT version FROM meta WHERE id = 1"
+
+-- the row of meta with number 1
+abbrev pub first_row : List Term
+first_row = op2 (Compare Eq Binary) (col 1 0) (lit (Int (pos 1))) ∷ []
+
+-- what it means
+pub version_is : IsReading version_text 0 first_row (col 1 2 ∷ []) [] (codes "version" ∷ [])
+unfolding understood everything
+version_is = record { meant = refl; unlisted = refl; plain = (refl, refl) }
+
+-- without tables it means nothing
+pub version_is_unknown : understood no_schema version_text ≡ Err NoSuchTable
+unfolding understood listing_schema everything
+version_is_unknown = refl
 
 -- ---- held
 

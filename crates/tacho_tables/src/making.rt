@@ -1,14 +1,15 @@
 //! How the tables are made.
 
-ghost use Rattle.std.specs.Prelude.{◌≡◌, [], ◌∷◌, OnOk, IsTrue};
-ghost use Rattle.sqlite.specs.State.{HasCleanDisk, Survives, KeepsCommit};
+ghost use Rattle.std.specs.Prelude.{◌≡◌, [], ◌∷◌, Some, IfOk, OnOk, IsErr, IsTrue};
+ghost use Rattle.sqlite.specs.State.{HasCleanDisk, Survives, IsUnchanged, KeepsCommit};
 ghost use Rattle.sqlite.specs.Held.{state};
 ghost use Rattle.tacho_tables.specs.Schema.{no_schema, schema_3, archive_schema};
 ghost use Rattle.tacho_tables.specs.Making.{AreEmpty, IsCreate, HasMade};
-ghost use Rattle.tacho_tables.specs.Tables.{Stand, no_rows};
+ghost use Rattle.tacho_tables.specs.Tables.{Tables, Stand, no_rows};
 
 use crate::fault::TableFault;
-use crate::statement::run;
+use crate::rows::first_number;
+use crate::statement::{read, run};
 use sqlite::{Alter, Transaction};
 
 /// Makes one table.
@@ -85,4 +86,22 @@ pub fn make_all<S: Alter>(tx: &mut Transaction<'_, S>) -> Result<(), TableFault>
     make_first(tx)?;
     make_rest(tx)?;
     run(tx, "INSERT INTO meta (id, version) VALUES (1, 1)", &[])
+}
+
+/// The number of the schema that the tables are of, or none where its row is missing. A store without
+/// tables gives `TableFault::Store`.
+pub fn version<S: Alter>(tx: &mut Transaction<'_, S>) -> Result<Option<u32>, TableFault>
+    ensures same_reference { tx.new.conn.ghost_name ≡ tx.old.conn.ghost_name }
+    ensures same { HasCleanDisk (state S.Store tx.new.conn.now) → (state S.Store tx.old.conn.now).now.schema ≡ archive_schema → OnOk result (IsUnchanged (state S.Store tx.old.conn.now) (state S.Store tx.new.conn.now)) }
+    ensures found { HasCleanDisk (state S.Store tx.new.conn.now) → (state S.Store tx.old.conn.now).now.schema ≡ archive_schema
+        → IfOk result (λ found. (a : Tables) → Stand (state S.Store tx.old.conn.now).now.trees a → found ≡ Some 1) }
+    ensures missing { HasCleanDisk (state S.Store tx.new.conn.now) → (state S.Store tx.old.conn.now).now.schema ≡ no_schema → IsErr result }
+    ensures live { HasCleanDisk (state S.Store tx.new.conn.now) → OnOk result (IsTrue (state S.Store tx.new.conn.now).is_open) }
+    ensures clean { HasCleanDisk (state S.Store tx.new.conn.now) → HasCleanDisk (state S.Store tx.old.conn.now) }
+    ensures was_open { HasCleanDisk (state S.Store tx.new.conn.now) → IsTrue (state S.Store tx.new.conn.now).is_open → IsTrue (state S.Store tx.old.conn.now).is_open }
+    ensures keeps { HasCleanDisk (state S.Store tx.new.conn.now) → (state S.Store tx.old.conn.now).now.schema ≡ archive_schema → KeepsCommit (state S.Store tx.old.conn.now) (state S.Store tx.new.conn.now) }
+    ensures survives { Survives (state S.Store tx.old.conn.now) (state S.Store tx.new.conn.now) (λ _. ⊥) }
+{
+    let rows = read(tx, "SELECT version FROM meta WHERE id = 1", &[])?;
+    first_number(&rows)
 }

@@ -1,7 +1,8 @@
-ghost use Rattle.std.specs.Prelude.{◌≡◌, ◌∷◌, [], List, map, IfOk, IfSome, IsNone, ◌↔◌};
+ghost use Rattle.std.specs.Prelude.{◌≡◌, ◌∷◌, [], ℕ, pos, List, map, IfOk, IfSome, IsNone, ◌↔◌};
+ghost use Rattle.sqlite.specs.declared.types.Value.TheVariants.{Int};
 ghost use Rattle.sqlite.specs.Order.{Row as Values};
 ghost use Rattle.tacho_tables.specs.Rows.{SpanRow, DownloadRow, DriverRow};
-ghost use Rattle.tacho_tables.specs.Tables.{span_of, span_shown, file_shown, number_shown, driver_shown};
+ghost use Rattle.tacho_tables.specs.Tables.{span_of, span_shown, file_shown, driver_shown};
 
 use crate::fault::TableFault;
 use sqlite::Row;
@@ -64,7 +65,7 @@ pub(crate) fn first_file(rows: &[Row]) -> Result<Option<Vec<u8>>, TableFault>
 /// The number that the first of such rows shows, if there is one.
 pub(crate) fn first_number(rows: &[Row]) -> Result<Option<u32>, TableFault>
     ensures none { IfOk result (λ found. IsNone found ↔ (rows.now ≡ [])) }
-    ensures some { IfOk result (λ found. IfSome found (λ number. (r : DriverRow) (more : List Values) → rows.now ≡ number_shown r ∷ more → number ≡ r.driver)) }
+    ensures some { IfOk result (λ found. IfSome found (λ number. (n : ℕ) (more : List Values) → rows.now ≡ (Int (pos n) ∷ []) ∷ more → number ≡ n)) }
 {
     match rows.first() {
         None => Ok(None),

@@ -1,7 +1,8 @@
 ghost use Rattle.std.specs.Prelude.{◌≡◌};
 
 use crate::{StoredDriver, StoredSpan, TableFault, card_spans, downloads, drivers, held, making};
-use sqlite::Connection;
+use sqlite::{Alter, Connection, Transaction};
+use std::alloc::Global;
 use std::test::Fail;
 
 /// A span of the test.
@@ -9,6 +10,16 @@ fn span(start: u32, past: u32, mark: u32) -> StoredSpan
     ensures { result ≡ record { start = start; past = past; mark = mark } }
 {
     StoredSpan { start, past, mark }
+}
+
+#[test]
+fn version_is_one_once_made(rt: HostRuntime) -> Result<(), Fail> {
+    let mut conn = Connection::open_in_memory(rt.alloc())?;
+    let mut tx = conn.transaction();
+    assert_eq!(rt; making::version(&mut tx), Err(TableFault::Store));
+    making::make_all(&mut tx)?;
+    assert_eq!(rt; making::version(&mut tx)?, Some(1));
+    Ok(())
 }
 
 #[test]
@@ -95,5 +106,45 @@ fn is_file(found: Option<Vec<u8>>, bytes: &[u8]) -> bool {
     match found {
         None => false,
         Some(file) => file.as_slice() == bytes,
+    }
+}
+
+// `checks/failing_tables.py` runs it with each allocation refused in turn.
+#[test]
+fn a_reading_is_right_or_fails(rt: HostRuntime) -> Result<(), Fail> {
+    let mut conn = Connection::open_in_memory(rt.alloc())?;
+    let mut tx = conn.transaction();
+    making::make_all(&mut tx)?;
+    drivers::insert(&mut tx, 17, &[0x0d, 0x44], "anna-key-1", 19_786, "Anna")?;
+    held::insert_all(&mut tx, 17, &[span(300, 400, 1), span(100, 200, 3)])?;
+    downloads::insert(&mut tx, 17, 1, 0, &[1, 2, 3])?;
+    tx.commit()?;
+    let mut tx = conn.transaction();
+    assert!(rt; has_right_spans(rt.alloc(), &mut tx));
+    assert!(rt; has_right_file(&mut tx));
+    tx.rollback();
+    let mut tx = conn.transaction();
+    assert!(rt; has_right_spans(rt.alloc(), &mut tx));
+    assert!(rt; has_right_file(&mut tx));
+    Ok(())
+}
+
+/// Whether the spans that are read are those of the test, or can't be read.
+fn has_right_spans<S: Alter>(alloc: Global, tx: &mut Transaction<'_, S>) -> bool
+    ensures { tx.new.conn.ghost_name ≡ tx.old.conn.ghost_name }
+{
+    match held::near(alloc, tx, 17, 199, 301) {
+        Ok(spans) => spans.as_slice() == [span(100, 200, 3), span(300, 400, 1)].as_slice(),
+        Err(_) => true,
+    }
+}
+
+/// Whether the file that is read is that of the test, or can't be read.
+fn has_right_file<S: Alter>(tx: &mut Transaction<'_, S>) -> bool
+    ensures { tx.new.conn.ghost_name ≡ tx.old.conn.ghost_name }
+{
+    match downloads::file(tx, 17, 1) {
+        Ok(found) => is_file(found, &[1, 2, 3]),
+        Err(_) => true,
     }
 }
