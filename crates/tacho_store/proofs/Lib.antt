@@ -10,7 +10,6 @@ mod MappedLemmas
 mod FoundLemmas
 mod RegistrationLemmas
 mod SeenLemmas
-mod OpenLemmas
 mod BaseLemmas
 mod ReadingLemmas
 mod RangeLemmas

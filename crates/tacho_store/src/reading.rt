@@ -15,23 +15,7 @@ use sqlite::{Alter, Connection, Transaction};
 use std::alloc::Global;
 use tacho_line::Line;
 use tacho_state::StoreFault;
-use tacho_tables::{downloads, drivers, held};
-
-/// Whether the connection is still open after a reading: a Store fault where it isn't.
-fn ask_open<S: Alter>(conn: &mut Connection<S>) -> Result<(), StoreFault>
-    ensures autocommit { conn.old.in_transaction ≡ false → conn.new.in_transaction ≡ false }
-    ensures fault { OnErr result (result ≡ Err StoreFault.Store) }
-    ensures live { HasCleanDisk (state S.Store conn.new) → OnOk result (IsTrue (state S.Store conn.new).is_open) }
-    ensures clean { HasCleanDisk (state S.Store conn.new) → HasCleanDisk (state S.Store conn.old) }
-    ensures was_open { HasCleanDisk (state S.Store conn.new) → IsTrue (state S.Store conn.new).is_open → IsTrue (state S.Store conn.old).is_open }
-    ensures same { HasCleanDisk (state S.Store conn.new) → IsTrue (state S.Store conn.new).is_open → (state S.Store conn.old).now ≡ (state S.Store conn.old).committed → (state S.Store conn.new).now ≡ (state S.Store conn.old).now }
-    ensures survives { Survives (state S.Store conn.old) (state S.Store conn.new) (λ _. ⊥) }
-{
-    match conn.prepare("SELECT version FROM meta") {
-        Ok(_) => Ok(()),
-        Err(_) => Err(StoreFault::Store),
-    }
-}
+use tacho_tables::{downloads, drivers, held, opening};
 
 /// The bytes of a driver's download, within a transaction: S4, S10.
 fn download_in<S: Alter>(
@@ -71,7 +55,7 @@ pub fn download<S: Alter>(
     let mut tx = conn.transaction();
     let file = download_in(&mut tx, driver, number)?;
     tx.rollback();
-    ask_open(conn)?;
+    opening::ask(conn).map_err(store_fault)?;
     Ok(file)
 }
 
@@ -113,6 +97,6 @@ pub fn line<S: Alter>(
     let mut tx = conn.transaction();
     let line = line_in(alloc, &mut tx, driver)?;
     tx.rollback();
-    ask_open(conn)?;
+    opening::ask(conn).map_err(store_fault)?;
     Ok(line)
 }

@@ -8,6 +8,7 @@ pub mod drivers;
 mod fault;
 pub mod held;
 pub mod making;
+pub mod opening;
 mod rows;
 mod statement;
 

@@ -1,6 +1,11 @@
 -- What a statement that is only prepared leaves.
-use Rattle.std.proofs.Common.{◌≡◌, ◌∙◌, sym, List, ℕ, inl, inr, Result, Ok, Err, IfOk, IfErr, IsTrue}
+use Rattle.std.proofs.Common.{◌≡◌, ◌∙◌, sym, ap, subst, List, ℕ, inl, inr, Result, Ok, Err, IfOk, IfErr, IsTrue}
 use Rattle.sqlite.specs.Order.{Row}
+use Rattle.sqlite.specs.Listing.{understood}
+use Rattle.sqlite.specs.Outline.{Outline}
+use Rattle.sqlite.specs.Schema.{Schema}
+use Rattle.sqlite.specs.Steps.{Outlines}
+use Rattle.sqlite_resolve.specs.declared.error.CompileError.{CompileError}
 use Rattle.sqlite.specs.declared.error.Error.{Error}
 use Rattle.sqlite.specs.State.{State, IsUnchanged, IsNotRun}
 
@@ -23,3 +28,7 @@ asked_not sql params old new e (inr h) = record { was_open = h.3.was_open; same 
 pub asked : {X : Type 0} (sql : List ℕ) (params : Row) (old new : State) (r : Result X Error) (P : X → Type 0) → IfOk r (λ x. P x × IsUnchanged old new) → IfErr r (λ e. IsNotRun old new sql params e) → IsAsked old new
 asked sql params old new (Ok x) P h _ = asked_same old new h.1
 asked sql params old new (Err e) P h fails = asked_not sql params old new e fails
+
+-- a text that means nothing isn't prepared
+pub unknown_outline : (sql : List ℕ) (schema : Schema) (s : Outline) {other : Schema} {fault : CompileError} → schema ≡ other → understood other sql ≡ Err fault → ¬ Outlines (understood schema sql) s
+unknown_outline sql schema s has unknown h = subst (λ r. Outlines r s) (ap (λ x. understood x sql) has ∙ unknown) h
