@@ -1,0 +1,239 @@
+#!/usr/bin/env python3
+"""Gives an archive on a file random commands, and compares its answers with those of the slow archive, and with those of the
+archive in memory; then reads the file's tables by SQLite itself.
+
+The file is closed after half of the commands, and opened again for the others. The word is the program `tacho_script`. The last
+line is 'N passed, M failed'."""
+import contextlib
+import multiprocessing
+import os
+import random
+import sqlite3
+import sys
+import tempfile
+
+import compare_files
+import counting
+import programs
+import random_cards
+import slow_archive
+
+SEEDS = 160
+COMMANDS = 30
+PROCESSES = 2
+
+HOLDER = "0d4431323334353637383930313233"
+ANNA = f"register 17 {HOLDER} anna-key-1 19786 {b'Anna Berg'.hex()}"
+CARD = "0520000011" + HOLDER + "3030"
+VALUE = "00000014" "0000001465e50f0000010064000011e019fe23fc" "0014001065e6608000020000000011e0"
+OTHER_VALUE = "00000014" "0000001465e50f0000010064000011ea1a0823f2" "0014001065e6608000020000080011e0"
+DAY = CARD + "0504000028" + VALUE
+OTHER_DAY = CARD + "0504000028" + OTHER_VALUE
+NOON = CARD + "0504000016" "00000000" "0000001265e50f0000010000000011e019fe"
+NOTHING = CARD + "0504000010" + "00" * 16
+BOTH = DAY + "0504020028" + OTHER_VALUE
+
+ADDED = "added driver 17 number 1"
+REPEATED = "repeated driver 17"
+MORNING = "line 28491840 28492320 0 28492320 28492350 2"
+WHOLE_DAY = f"{MORNING} 28492350 28492860 3 28493280 28493760 0"
+
+# Commands and what they answer, in an archive that has Anna.
+ROWS = {
+    "a day": [(f"import office both {DAY}", ADDED), ("line 17", WHOLE_DAY), ("download 17 1", f"download {DAY}")],
+    "no records": [(f"import office both {NOTHING}", REPEATED), ("line 17", "line"), ("download 17 1", "S10")],
+    "a morning, and its day": [
+        (f"import office both {NOON}", ADDED),
+        ("line 17", MORNING),
+        (f"import office both {DAY}", "added driver 17 number 2"),
+        ("line 17", WHOLE_DAY),
+        (f"import office both {NOON}", REPEATED),
+        ("download 17 2", f"download {DAY}"),
+        ("download 17 3", "S10"),
+    ],
+    "another day": [
+        (f"import office both {DAY}", ADDED),
+        (f"import 17 both {OTHER_DAY}", "S6 28492320"),
+        ("line 17", WHOLE_DAY),
+        ("download 17 2", "S10"),
+    ],
+    "two generations": [
+        (f"import office both {BOTH}", "S11 C14 file contradicts itself at 2024-03-04 08:00"),
+        ("line 17", "line"),
+        (f"import office first {BOTH}", ADDED),
+        (f"import 17 second {BOTH}", "S6 28492320"),
+        ("line 17", WHOLE_DAY),
+    ],
+    "registrations": [
+        (ANNA, "S1"),
+        (f"register 18 {HOLDER} anna-key-1 19787 {b'Bert'.hex()}", "S2"),
+        (f"register 18 {HOLDER} bert-key-1 19787 {b'Bert'.hex()}", "S3"),
+        (f"register 18 {random_cards.HOLDERS[1].hex()} bert-key-1 19787 {b'Bert'.hex()}", "S9"),
+        (f"register 18 {random_cards.HOLDERS[1].hex()} bert-key-1 19786 {b'Bert'.hex()}", "registered"),
+        (f"import 18 both {DAY}", "S5"),
+        (f"import 19 both {DAY}", "S4"),
+        (f"import office both {DAY}", ADDED),
+        ("rebase 18 19793", "rebased"),
+        ("rebase 17 19787", "S9"),
+        ("rebase 19 19787", "S4"),
+    ],
+}
+
+
+# Random commands
+
+NUMBERS = [17, 18, 999_999]
+KEYS = ["anna-key-1", "bert-key-2", "Key3"*16]
+NAMES = [b"Anna Berg", "Zo\u00eb".encode(), b"B" * 64]
+BASES = [19_786, 19_793, 10_959, 47_478]
+BAD_NUMBERS = [0, 1_000_000]
+BAD_KEYS = ["short-1", "under_score", "k" * 65]
+BAD_NAMES = [b"", b"Berg, Anna", b'Anna "A"', b"Anna\x7f", b"n" * 65]
+OTHER_BASES = [19_787, 19_792, 10_958, 47_482, 0]
+
+
+class Commands:
+    """Commands of a seed, on a few drivers and their cards."""
+
+    def __init__(self, seed):
+        self.chance = random.Random(seed)
+        self.cards = [random_cards.Card(self.chance, holder) for holder in random_cards.HOLDERS]
+        self.imports = []
+
+    def one_of(self, usual, others=()):
+        """A usual value, or rarely another one."""
+        return self.chance.choice(others if others and self.chance.random() < 0.05 else usual)
+
+    def registration(self, number, holder, key, name):
+        """A registration of these columns, from any base."""
+        return f"register {number} {holder.hex()} {key} {self.one_of(BASES, OTHER_BASES)} {slow_archive.word_of(name)}"
+
+    def register(self):
+        """A driver, who may have what another has, or a column out of its limits."""
+        number, key, name = self.one_of(NUMBERS, BAD_NUMBERS), self.one_of(KEYS, BAD_KEYS), self.one_of(NAMES, BAD_NAMES)
+        return self.registration(number, self.one_of(self.cards).holder, key, name)
+
+    def registrations(self):
+        """All drivers, or but one of them."""
+        cards = [card.holder for card in self.cards]
+        drivers = [self.registration(*columns) for columns in zip(NUMBERS, cards, KEYS, NAMES)]
+        return self.chance.sample(drivers, self.one_of([3, 3, 3, 2]))
+
+    def import_new(self):
+        """The import of a new file by the office or by a driver, mostly the one whose card it is."""
+        place = self.chance.randrange(len(self.cards))
+        caller = self.one_of(["office", "office", NUMBERS[place]], [*NUMBERS, 16])
+        part = self.one_of(["both"] * 8 + ["first", "second"])
+        self.imports.append(f"import {caller} {part} {slow_archive.word_of(self.cards[place].file())}")
+        return self.imports[-1]
+
+    def import_again(self):
+        """An import that there was before, if there was one."""
+        return self.one_of(self.imports) if self.imports else self.import_new()
+
+    def rebase(self):
+        """Another base, not always a Monday."""
+        return f"rebase {self.one_of(NUMBERS, [0, 16])} {self.one_of(BASES, OTHER_BASES)}"
+
+    def line(self):
+        """A driver's timeline."""
+        return f"line {self.one_of(NUMBERS, [0, 16])}"
+
+    def download(self):
+        """A download that is there or not."""
+        return f"download {self.one_of(NUMBERS, [16])} {self.chance.randrange(4)}"
+
+    def all(self):
+        """The commands: some drivers first, and then anything."""
+        commands = self.registrations()
+        kinds = [self.import_new] * 7 + [self.import_again, self.line, self.download, self.rebase, self.register]
+        return commands + [self.chance.choice(kinds)() for _ in range(COMMANDS - len(commands))]
+
+
+# What is told
+
+
+def line_of(told):
+    """What was told, with a card's fault as its line."""
+    code, _, fault = told.partition(" ")
+    return f"S11 {compare_files.line_of(fault).strip()}" if code == "S11" else told
+
+
+def answers(words, commands):
+    """What the program answers to commands, line by line, and then its status."""
+    text, status = programs.answer(words, "".join(command + "\n" for command in commands).encode())
+    return [line_of(line) for line in text.splitlines()] + [f"status {status}"]
+
+
+def minutes_of(rows):
+    """The minutes of rows of spans, each with its driver and its mark; of a row without any, the row."""
+    return sorted((driver, m, mark) for driver, start, past, mark in rows for m in range(start, past) or [(start, past)])
+
+
+def tables(path):
+    """The tables of a file as SQLite reads them, and what it says of the file."""
+    with contextlib.closing(sqlite3.connect(path)) as store:
+        names = [name for name, in store.execute("select name from sqlite_schema where type = 'table'")]
+        found = {name: store.execute(f"select * from {name} order by 1, 2").fetchall() for name in names}
+        found["integrity_check"] = store.execute("pragma integrity_check").fetchall()
+    for name in ["card_spans", "held"]:
+        found[name] = minutes_of(found.get(name, []))
+    return found
+
+
+# What has to be told
+
+
+def wanted_of(archive, commands):
+    """What the slow archive answers to commands, and the status."""
+    return [archive.answer(command) for command in commands] + ["status 0"]
+
+
+def wanted_tables(archive):
+    """What SQLite has to find in the file."""
+    return {**archive.tables(), "integrity_check": [("ok",)]}
+
+
+# Comparisons
+
+
+def of_commands(program, name, commands):
+    """The comparisons of commands, the first half and then the others, on a new file and in memory."""
+    half = len(commands) // 2
+    archive = slow_archive.Archive()
+    first, second = wanted_of(archive, commands[:half]), wanted_of(archive, commands[half:])
+    with tempfile.TemporaryDirectory() as folder:
+        path = os.path.join(folder, "archive.db")
+        yield f"{name}, on a file", answers([program, "archive", path], commands[:half]), first
+        yield f"{name}, on that file again", answers([program, "archive", path], commands[half:]), second
+        told = tables(path)
+    yield f"{name}, in memory", answers([program, "shelf"], commands), first[:-1] + second
+    wanted = wanted_tables(archive)
+    yield f"{name}: the names of the tables", sorted(told), sorted(wanted)
+    for table in wanted:
+        yield f"{name}: table {table}", told.get(table), wanted[table]
+
+
+def of_rows(program):
+    """The comparisons of the worked rows, and of the slow archive with what they say."""
+    for name, rows in ROWS.items():
+        commands, wanted = [ANNA] + [command for command, _ in rows], ["registered"] + [answer for _, answer in rows]
+        yield f"{name}, by the slow archive", wanted_of(slow_archive.Archive(), commands), wanted + ["status 0"]
+        yield from of_commands(program, name, commands)
+
+
+def of_seed(question):
+    """The comparisons of a seed's commands."""
+    program, seed = question
+    return list(of_commands(program, f"seed {seed}", Commands(seed).all()))
+
+
+def comparisons(program):
+    yield from of_rows(program)
+    with multiprocessing.Pool(PROCESSES) as pool:
+        for found in pool.imap(of_seed, [(program, seed) for seed in range(SEEDS)], chunksize=4):
+            yield from found
+
+
+if __name__ == "__main__":
+    sys.exit(counting.count(comparisons(*sys.argv[1:])))
