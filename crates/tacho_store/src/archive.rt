@@ -74,7 +74,22 @@ fn make<S: Alter>(conn: &mut Connection<S>) -> Result<(), StoreFault>
     }
 }
 
-/// Asks for tables of schema 1 in a store, and changes nothing.
+/// Which schema the tables are of.
+fn read_version<S: Alter>(conn: &mut Connection<S>) -> Result<Option<u32>, StoreFault>
+    requires { conn.old.in_transaction ≡ false }
+    ensures autocommit { conn.new.in_transaction ≡ false }
+    ensures refused { IfErr result IsGivenUp }
+    ensures clean { HasCleanDisk (state S.Store conn.new) → HasCleanDisk (state S.Store conn.old) }
+    ensures was_open { HasCleanDisk (state S.Store conn.new) → IsTrue (state S.Store conn.new).is_open → IsTrue (state S.Store conn.old).is_open }
+    ensures same { HasCleanDisk (state S.Store conn.new) → IsTrue (state S.Store conn.new).is_open → (s : State) → Holds (state S.Store conn.old) s → (state S.Store conn.new).now ≡ (state S.Store conn.old).now }
+    ensures survives { Survives (state S.Store conn.old) (state S.Store conn.new) (λ _. ⊥) }
+{
+    let _settled = conn.is_autocommit();
+    let mut tx = conn.transaction();
+    making::version(&mut tx).map_err(store_fault)
+}
+
+/// Asks a store for tables of schema 1, and changes nothing.
 fn check<S: Alter>(conn: &mut Connection<S>) -> Result<(), StoreFault>
     requires { conn.old.in_transaction ≡ false }
     ensures autocommit { conn.new.in_transaction ≡ false }
@@ -83,11 +98,19 @@ fn check<S: Alter>(conn: &mut Connection<S>) -> Result<(), StoreFault>
     ensures live { HasCleanDisk (state S.Store conn.new) → OnOk result (IsTrue (state S.Store conn.new).is_open) }
     ensures clean { HasCleanDisk (state S.Store conn.new) → HasCleanDisk (state S.Store conn.old) }
     ensures was_open { HasCleanDisk (state S.Store conn.new) → IsTrue (state S.Store conn.new).is_open → IsTrue (state S.Store conn.old).is_open }
-    ensures same { HasCleanDisk (state S.Store conn.new) → IsTrue (state S.Store conn.new).is_open → (state S.Store conn.new).now ≡ (state S.Store conn.old).now }
+    ensures same { HasCleanDisk (state S.Store conn.new) → IsTrue (state S.Store conn.new).is_open → (s : State) → Holds (state S.Store conn.old) s → (state S.Store conn.new).now ≡ (state S.Store conn.old).now }
+    ensures blank { HasCleanDisk (state S.Store conn.new) → IsTrue (state S.Store conn.new).is_open → IsBlank (state S.Store conn.old) → (state S.Store conn.new).now ≡ (state S.Store conn.old).now }
     ensures survives { Survives (state S.Store conn.old) (state S.Store conn.new) (λ _. ⊥) }
 {
     let _settled = conn.is_autocommit();
-    opening::ask(conn).map_err(store_fault)
+    opening::ask(conn).map_err(store_fault)?;
+    match read_version(conn)? {
+        Some(1) => {
+            let _settled = conn.is_autocommit();
+            opening::ask(conn).map_err(store_fault)
+        }
+        _ => Err(StoreFault::Store),
+    }
 }
 
 impl<S: Alter> Archive<S> {
@@ -115,8 +138,8 @@ impl<S: Alter> Archive<S> {
         }
     }
 
-    /// The archive that a store has. S12 where the store has none. A refusal hands the connection back, with the store as
-    /// it was.
+    /// The archive that a store has. S12 where the store has no tables, or tables of another schema. A refusal hands the
+    /// connection back, with the archive, or the store without tables, as it was.
     pub fn adopt(mut conn: Connection<S>) -> Result<Archive<S>, (StoreFault, Connection<S>)>
         requires { conn.in_transaction ≡ false }
         ensures adopted { IfOk result (λ archive. ⟦<Archive<S> as Keeper>⟧.is_clean archive → (s : State) → Holds (state S.Store conn) s → ⟦<Archive<S> as Keeper>⟧.stands archive s) }
@@ -124,7 +147,8 @@ impl<S: Alter> Archive<S> {
         ensures crash { IfOk result (λ archive. ⟦<Archive<S> as Keeper>⟧.is_clean archive → (states : List State) → Leaves (state S.Store conn) states → ⟦<Archive<S> as Keeper>⟧.leaves archive states) }
         ensures missing { IfOk result (λ archive. ⟦<Archive<S> as Keeper>⟧.is_clean archive → IsBlank (state S.Store conn) → ⊥) }
         ensures refused { IfErr result (λ e. IsGivenUp e.0 × (e.1.in_transaction ≡ false)) }
-        ensures same { IfErr result (λ e. HasCleanDisk (state S.Store e.1) → IsTrue (state S.Store e.1).is_open → (state S.Store e.1).now ≡ (state S.Store conn).now) }
+        ensures same { IfErr result (λ e. HasCleanDisk (state S.Store e.1) → (s : State) → Holds (state S.Store conn) s → Shows (state S.Store e.1) s) }
+        ensures blank { IfErr result (λ e. HasCleanDisk (state S.Store e.1) → IsTrue (state S.Store e.1).is_open → IsBlank (state S.Store conn) → (state S.Store e.1).now ≡ (state S.Store conn).now) }
         ensures survives { IfErr result (λ e. Survives (state S.Store conn) (state S.Store e.1) (λ _. ⊥)) }
     {
         match check(&mut conn) {
