@@ -1,5 +1,5 @@
 -- Results whose faults were mapped.
-use Rattle.std.proofs.Common.{◌≡◌, ◌∙◌, sym, subst, Result, Ok, Err, IfOk, OnOk}
+use Rattle.std.proofs.Common.{◌≡◌, sym, subst, Result, Ok, Err, IfOk, OnOk}
 use Rattle.std.specs.Prelude.{IsErrAnd, MatchResult}
 use Rattle.tacho_state.specs.declared.fault.StoreFault.{StoreFault}
 use Rattle.tacho_state.specs.Acts.{Answers}

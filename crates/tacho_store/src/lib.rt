@@ -15,4 +15,6 @@ mod spans;
 mod tests;
 
 pub use archive::{Archive, open_memory};
-pub use tacho_state::{Caller, Column, Driver, Imported, Keeper, StoreFault, first_number, is_key, is_name};
+pub use tacho_state::{
+    Caller, Column, Driver, Imported, Keeper, StoreFault, first_number, is_key, is_name,
+};

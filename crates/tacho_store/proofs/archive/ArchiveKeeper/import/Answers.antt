@@ -1,4 +1,4 @@
-use Rattle.std.proofs.Common.{Ok, IsTrue, inr}
+use Rattle.std.proofs.Common.{IsTrue, inr}
 use Rattle.sqlite.specs.Held.{state}
 use Rattle.sqlite.specs.State.{HasCleanDisk}
 use Rattle.tacho_state.specs.Acts.{caller_number}
