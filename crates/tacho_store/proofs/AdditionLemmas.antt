@@ -1,5 +1,5 @@
 -- The download that an import adds, and the import that adds none.
-use Rattle.std.proofs.Common.{◌≡◌, ◌∙◌, ℕ, ◌+◌, ◌<◌, ◌≤◌, ◌==◌, Bool, true, false, cond, List, [], ◌∷◌, length, Option, Some, None, Result, Ok, Err, refl, sym, ap, subst, arith}
+use Rattle.std.proofs.Common.{◌≡◌, ◌∙◌, ℕ, ◌+◌, ◌<◌, ◌≤◌, ◌==◌, Bool, true, false, cond, List, [], ◌∷◌, length, Some, None, Ok, Err, refl, sym, ap, subst, arith}
 use Rattle.std.specs.Prelude.{nat_le}
 use Rattle.std.proofs.lemmas.Bool.Decides.{nat_tests}
 use Rattle.tacho_time.specs.declared.span.Span.{Span}
@@ -11,7 +11,6 @@ use Rattle.tacho_state.specs.Steps.{settled, import_own, most}
 use Rattle.tacho_store.specs.declared.import.Importer.{Importer}
 use Rattle.tacho_store.specs.Importing.{IsImporterOf, AreAdded}
 use Rattle.tacho_store.proofs.StateLemmas.{found_number}
-use Rattle.tacho_store.proofs.RowLemmas.{eq_true, eq_self}
 use Rattle.sqlite.specs.Tree.{Trees}
 
 -- ---- numbers

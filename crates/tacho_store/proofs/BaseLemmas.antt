@@ -1,5 +1,5 @@
 -- What a change of the day from which a driver is examined answers, by what a look-up finds.
-use Rattle.std.proofs.Common.{◌≡◌, ◌∙◌, ℕ, true, false, Option, Some, None, Ok, Err, refl, sym, ap, subst, map}
+use Rattle.std.proofs.Common.{◌≡◌, ℕ, true, false, Option, Some, None, Ok, Err, refl, map}
 use Rattle.std.specs.Prelude.{MatchOption, is_some}
 use Rattle.sqlite.specs.Tree.{Trees}
 use Rattle.tacho_state.specs.declared.fault.StoreFault.TheVariants.{UnknownDriver, NotMonday}

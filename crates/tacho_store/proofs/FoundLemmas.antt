@@ -1,5 +1,5 @@
 -- What look-ups find, by the state that the tables stand for.
-use Rattle.std.proofs.Common.{◌≡◌, ◌∙◌, ℕ, List, [], length, filter, true, false, Option, Some, None, sym, ap}
+use Rattle.std.proofs.Common.{◌≡◌, ◌∙◌, ℕ, List, [], length, filter, false, Option, Some, None, ap}
 use Rattle.std.specs.Prelude.{Contains, MatchOption, is_some}
 use Rattle.sqlite.specs.Tree.{Trees}
 use Rattle.tacho_state.specs.State.{Driver, State, driver_of, keyed, holding}

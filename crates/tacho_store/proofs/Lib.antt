@@ -19,3 +19,5 @@ mod JoinLemmas
 mod ImporterLemmas
 mod DecisionLemmas
 mod AdditionLemmas
+mod EmptyLemmas
+mod FileLemmas

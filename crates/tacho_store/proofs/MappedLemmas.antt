@@ -1,5 +1,5 @@
 -- Results whose faults were mapped.
-use Rattle.std.proofs.Common.{◌≡◌, ◌∙◌, sym, subst, Result, Ok, Err, IfOk, OnOk}
+use Rattle.std.proofs.Common.{◌≡◌, sym, subst, Result, Ok, Err, IfOk, OnOk}
 use Rattle.std.specs.Prelude.{IsErrAnd, MatchResult}
 use Rattle.tacho_state.specs.declared.fault.StoreFault.{StoreFault}
 use Rattle.tacho_state.specs.Acts.{Answers}
@@ -24,3 +24,8 @@ answers_mapped (Ok y) t told cases is = subst (λ u. Answers (λ y. y) u told) (
 answers_mapped (Err e) (Ok x) told cases is = absurd cases
 answers_mapped (Err table.Memory) (Err f) told cases is = subst (λ g. Answers (λ y. y) (Err g) told) (sym cases) tt
 answers_mapped (Err table.Store) (Err f) told cases is = subst (λ g. Answers (λ y. y) (Err g) told) (sym cases) tt
+
+-- what holds of a call that went well, twice
+pub on_ok_both : {T E : Type 0} (r : Result T E) (P Q : Type 0) → OnOk r P → OnOk r Q → OnOk r (P × Q)
+on_ok_both (Ok x) P Q p q = (p, q)
+on_ok_both (Err e) P Q p q = tt

@@ -1,5 +1,5 @@
 -- What readings answer, by what look-ups find.
-use Rattle.std.proofs.Common.{◌≡◌, ◌∙◌, ℕ, List, [], filter, true, false, Option, Some, None, Result, Ok, Err, refl, sym, ap, subst}
+use Rattle.std.proofs.Common.{◌≡◌, ◌∙◌, ℕ, List, [], filter, true, false, Option, Some, None, Result, Ok, Err, refl, sym, ap}
 use Rattle.std.specs.Prelude.{MatchOption, Contains, is_some, ok_or}
 use Rattle.sqlite.specs.Tree.{Trees}
 use Rattle.tacho_state.specs.declared.fault.StoreFault.{StoreFault}

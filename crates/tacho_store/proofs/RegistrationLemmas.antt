@@ -1,15 +1,13 @@
 -- What a registration answers, by what look-ups find.
-use Rattle.std.proofs.Common.{◌≡◌, ◌∙◌, ℕ, List, [], ◌∷◌, ◌++◌, true, false, Option, Some, None, Ok, Err, refl, sym, ap, subst}
+use Rattle.std.proofs.Common.{◌≡◌, ℕ, List, [], ◌∷◌, ◌++◌, true, false, Option, Some, None, Ok, Err, refl, sym, subst}
 use Rattle.std.specs.Prelude.{MatchOption, is_some}
 use Rattle.std.proofs.lemmas.List.Sorted.{IsPermutation-refl, IsPermutation-append_comm}
 use Rattle.sqlite.specs.Tree.{Trees}
-use Rattle.sqlite.specs.State.{State as Sqlite}
 use Rattle.tacho_state.specs.declared.fault.StoreFault.TheVariants.{DriverTaken, KeyTaken, HolderTaken, NotMonday}
 use Rattle.tacho_state.specs.State.{Driver, State, driver_of, keyed, holding}
-use Rattle.tacho_state.specs.Steps.{Turn, registered, is_monday}
-use Rattle.tacho_tables.specs.Rows.{DriverRow}
+use Rattle.tacho_state.specs.Steps.{registered, is_monday}
 use Rattle.tacho_tables.specs.Tables.{Tables, Stand}
-use Rattle.tacho_store.specs.Standing.{StandsFor, SameRows, driver_columns, with_driver}
+use Rattle.tacho_store.specs.Standing.{StandsFor, driver_columns, with_driver}
 use Rattle.tacho_store.proofs.RegisterLemmas.{registered_is}
 use Rattle.tacho_store.proofs.OrderedLemmas.{any_order_stands}
 

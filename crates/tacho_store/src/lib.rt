@@ -1,6 +1,7 @@
 //! The archive: drivers, what their cards told, and what they hold, in tables over SQLite.
 #![tactic(auto)]
 
+mod archive;
 mod base;
 mod content;
 mod fault;
@@ -12,3 +13,8 @@ mod registration;
 mod spans;
 #[cfg(test)]
 mod tests;
+
+pub use archive::{Archive, open_memory};
+pub use tacho_state::{
+    Caller, Column, Driver, Imported, Keeper, StoreFault, first_number, is_key, is_name,
+};

@@ -1,4 +1,4 @@
-use Rattle.std.proofs.Common.{◌≡◌, ◌∙◌, not, ap, sym}
+use Rattle.std.proofs.Common.{◌∙◌, not, ap, sym}
 use Rattle.tacho_store.proofs.MappedLemmas.{was_ok, on_ok_mapped, answers_mapped}
 use Rattle.tacho_store.proofs.FoundLemmas.{number_found}
 use Rattle.tacho_store.proofs.SeenLemmas.{still_seen}

@@ -1,4 +1,4 @@
-use Rattle.std.proofs.Common.{◌≡◌, ◌∙◌, ap, Ok, OnOk, sym, subst}
+use Rattle.std.proofs.Common.{◌≡◌, ◌∙◌, ap, OnOk, sym, subst}
 use Rattle.sqlite.specs.Effect.{Database}
 use Rattle.sqlite.specs.Held.{state}
 use Rattle.tacho_state.specs.Acts.{Answers, caller_number}
@@ -46,9 +46,11 @@ returns-in-None-clause-made g c clean schema s stands tells =
     let it = c.in_ok-importer.ensures.found clean_1 schema s stands in
     let seen = still_seen _ _ s (c.in_ok-importer.ensures.same clean_1 schema) schema stands in
     let decided = is_repeated _ s _ it.0 content.spans _ c.in-None.is (same_spans _ s _ it.0 _ _ _ c.deref.ensures.value (c.in_ok-news_near.ensures.decided clean seen.0 s seen.1 it.0 it.2.found)) in
-    let last = still_seen _ _ s (c.in_ok-news_near.ensures.same clean seen.0) seen.0 seen.1 in
-    (last.0, subst (λ turn. StandsFor (state g.S.Store c.news_near.new.tx.conn.now).now.trees turn.after) (sym (imports_his part file content s (caller_number c.args.caller) it.0 it.1))
-    (subst (StandsFor (state g.S.Store c.news_near.new.tx.conn.now).now.trees) (sym (repeated_after s it.0 c.in_ok-importer.importer part file content.spans it.2 (decided part file))) last.1))
+    let last = still_seen _ _ s (c.in_ok-news_near.ensures.same clean seen.0) seen.0 seen.1 in (
+      last.0,
+      subst (λ turn. StandsFor (state g.S.Store c.news_near.new.tx.conn.now).now.trees turn.after) (sym (imports_his part file content s (caller_number c.args.caller) it.0 it.1))
+          (subst (StandsFor (state g.S.Store c.news_near.new.tx.conn.now).now.trees) (sym (repeated_after s it.0 c.in_ok-importer.importer part file content.spans it.2 (decided part file))) last.1),
+    )
 
 pub returns-in-Some-clause-answer : goal.returns-in-Some-clause-answer
 returns-in-Some-clause-answer g c clean schema s stands =

@@ -1,4 +1,3 @@
-use Rattle.std.proofs.Common.{◌≡◌, ◌∙◌, not, ap, sym}
 use Rattle.tacho_store.proofs.MappedLemmas.{was_ok}
 use Rattle.tacho_store.proofs.FoundLemmas.{number_found}
 use Rattle.tacho_store.proofs.ImporterLemmas.{is_other, not_other, unknown_number, other_card, own_card}

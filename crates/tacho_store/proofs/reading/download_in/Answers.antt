@@ -1,4 +1,4 @@
-use Rattle.std.proofs.Common.{◌≡◌, ◌∙◌, not, ap, sym, subst}
+use Rattle.std.proofs.Common.{◌∙◌, not, ap, sym, subst}
 use Rattle.tacho_state.specs.Acts.{Answers}
 use Rattle.tacho_state.specs.Steps.{downloaded}
 use Rattle.tacho_store.proofs.MappedLemmas.{was_ok}

@@ -1,4 +1,4 @@
-use Rattle.std.proofs.Common.{◌≡◌, ◌∙◌, not, ap, sym, subst}
+use Rattle.std.proofs.Common.{◌∙◌, not, ap}
 use Rattle.std.proofs.lemmas.Result.{IfOk-weaker}
 use Rattle.tacho_store.proofs.MappedLemmas.{was_ok}
 use Rattle.tacho_store.proofs.FoundLemmas.{number_found}

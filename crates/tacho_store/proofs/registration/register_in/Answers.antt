@@ -1,8 +1,4 @@
-use Rattle.std.proofs.Common.{◌≡◌, ◌∙◌, sym, ap, subst}
-use Rattle.sqlite.specs.Effect.{Database}
-use Rattle.sqlite.specs.Held.{state}
-use Rattle.tacho_tables.specs.Schema.{archive_schema}
-use Rattle.tacho_store.specs.Standing.{StandsFor}
+use Rattle.std.proofs.Common.{◌∙◌, sym}
 use Rattle.tacho_store.proofs.MappedLemmas.{was_ok, on_ok_mapped, answers_mapped}
 use Rattle.tacho_store.proofs.FoundLemmas.{number_found, key_found, holder_found, not_found}
 use Rattle.tacho_store.proofs.SeenLemmas.{still_seen}

@@ -1,0 +1,19 @@
+-- Empty tables stand for no drivers.
+use Rattle.std.proofs.Common.{[], refl}
+use Rattle.sqlite.specs.Tree.{Trees}
+use Rattle.tacho_tables.specs.Tables.{Stand, no_rows}
+use Rattle.tacho_store.specs.Standing.{IsOf, StandsFor}
+
+-- as lists
+pub empty_is : IsOf no_rows []
+empty_is = record {
+  drivers = refl;
+  distinct = tt;
+  each = tt;
+  known = record { downloads = λ n h. refl; entries = λ n h. refl; card_spans = λ n h. refl; held = λ n h. refl };
+}
+
+-- as they are stored
+pub empty_stands : (db : Trees) → Stand db no_rows → StandsFor db []
+unfolding StandsFor
+empty_stands db stand = (no_rows, stand, empty_is)

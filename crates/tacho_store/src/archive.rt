@@ -1,0 +1,227 @@
+ghost use Rattle.std.specs.Prelude.{◌≡◌, ◌↔◌, ◌∷◌, [], List, Ok, Err, Result, false, IsTrue, IfOk, IfErr, IsErr, OnOk, OnErr};
+ghost use Rattle.sqlite.specs.State.{HasCleanDisk, Survives, KeepsCommit};
+ghost use Rattle.tacho_tables.specs.Schema.{archive_schema};
+ghost use Rattle.sqlite.specs.Held.{state};
+ghost use Rattle.sqlite.specs.Steps.{over_memory};
+ghost use Rattle.tacho_card.specs.declared.fault.CardFault.{CardFault as Fault};
+ghost use Rattle.tacho_state.specs.State.{State};
+ghost use Rattle.tacho_state.specs.Steps.{Content, imported};
+ghost use Rattle.tacho_state.specs.Content.{Tells, part_number};
+ghost use Rattle.tacho_state.specs.Acts.{Acts, caller_number};
+ghost use Rattle.tacho_store.specs.Standing.{StandsFor};
+ghost use Rattle.tacho_store.specs.Kept.{IsBlank, Holds, Shows, Leaves, IsGivenUp};
+
+use crate::base::rebase;
+use crate::content::content_of;
+use crate::fault::store_fault;
+use crate::import::import;
+use crate::reading::{download, line};
+use crate::registration::register;
+use sqlite::{Alter, Connection, MemStore, Transaction};
+use std::alloc::Global;
+use tacho_card::Part;
+use tacho_line::Line;
+use tacho_state::{Caller, Driver, Imported, Keeper, StoreFault};
+use tacho_tables::{making, opening};
+use tacho_time::Day;
+
+/// An archive in a store: drivers, what their cards told, and what they hold. Its calls are those of `Keeper`.
+#[derive(Drop)]
+pub struct Archive<S: Alter> {
+    conn: Connection<S>,
+    ghost closed: { conn.in_transaction ≡ false },
+}
+
+/// Makes the tables in a store that has none, within a transaction.
+fn make_in<S: Alter>(tx: &mut Transaction<'_, S>) -> Result<(), StoreFault>
+    ensures same_reference { tx.new.conn.ghost_name ≡ tx.old.conn.ghost_name }
+    ensures made { HasCleanDisk (state S.Store tx.new.conn.now) → IsBlank (state S.Store tx.old.conn.now)
+        → OnOk result (((state S.Store tx.new.conn.now).now.schema ≡ archive_schema) × StandsFor (state S.Store tx.new.conn.now).now.trees []) }
+    ensures refused { IfErr result IsGivenUp }
+    ensures clean { HasCleanDisk (state S.Store tx.new.conn.now) → HasCleanDisk (state S.Store tx.old.conn.now) }
+    ensures was_open { HasCleanDisk (state S.Store tx.new.conn.now) → IsTrue (state S.Store tx.new.conn.now).is_open → IsTrue (state S.Store tx.old.conn.now).is_open }
+    ensures keeps { HasCleanDisk (state S.Store tx.new.conn.now) → KeepsCommit (state S.Store tx.old.conn.now) (state S.Store tx.new.conn.now) }
+    ensures survives { Survives (state S.Store tx.old.conn.now) (state S.Store tx.new.conn.now) (λ _. ⊥) }
+{
+    making::make_all(tx).map_err(store_fault)
+}
+
+/// Makes the tables in a store that has none.
+fn make<S: Alter>(conn: &mut Connection<S>) -> Result<(), StoreFault>
+    requires { conn.old.in_transaction ≡ false }
+    ensures autocommit { conn.new.in_transaction ≡ false }
+    ensures made { HasCleanDisk (state S.Store conn.new) → IsBlank (state S.Store conn.old) → OnOk result (Holds (state S.Store conn.new) []) }
+    ensures taken { (s : State) → Holds (state S.Store conn.old) s → IsErr result }
+    ensures refused { IfErr result IsGivenUp }
+    ensures live { HasCleanDisk (state S.Store conn.new) → OnOk result (IsTrue (state S.Store conn.new).is_open) }
+    ensures clean { HasCleanDisk (state S.Store conn.new) → HasCleanDisk (state S.Store conn.old) }
+    ensures same { HasCleanDisk (state S.Store conn.new) → IsTrue (state S.Store conn.new).is_open → OnErr result ((state S.Store conn.new).now ≡ (state S.Store conn.old).now) }
+    ensures kept { HasCleanDisk (state S.Store conn.new) → IsBlank (state S.Store conn.old) → OnOk result (Leaves (state S.Store conn.new) ([] ∷ [])) }
+    ensures crash { IsBlank (state S.Store conn.old) → Survives (state S.Store conn.old) (state S.Store conn.new) (λ db. StandsFor db []) }
+{
+    if opening::has_tables(conn) {
+        return Err(StoreFault::Store);
+    }
+    let _settled = conn.is_autocommit();
+    let mut tx = conn.transaction();
+    make_in(&mut tx)?;
+    match tx.commit() {
+        Ok(()) => Ok(()),
+        Err(_) => {
+            let _undone = conn.is_autocommit();
+            Err(StoreFault::Store)
+        }
+    }
+}
+
+/// Which schema the tables are of.
+fn read_version<S: Alter>(conn: &mut Connection<S>) -> Result<Option<u32>, StoreFault>
+    requires { conn.old.in_transaction ≡ false }
+    ensures autocommit { conn.new.in_transaction ≡ false }
+    ensures refused { IfErr result IsGivenUp }
+    ensures clean { HasCleanDisk (state S.Store conn.new) → HasCleanDisk (state S.Store conn.old) }
+    ensures was_open { HasCleanDisk (state S.Store conn.new) → IsTrue (state S.Store conn.new).is_open → IsTrue (state S.Store conn.old).is_open }
+    ensures same { HasCleanDisk (state S.Store conn.new) → IsTrue (state S.Store conn.new).is_open → (s : State) → Holds (state S.Store conn.old) s → (state S.Store conn.new).now ≡ (state S.Store conn.old).now }
+    ensures survives { Survives (state S.Store conn.old) (state S.Store conn.new) (λ _. ⊥) }
+{
+    let _settled = conn.is_autocommit();
+    let mut tx = conn.transaction();
+    making::version(&mut tx).map_err(store_fault)
+}
+
+/// Asks a store for tables of schema 1, and changes nothing.
+fn check<S: Alter>(conn: &mut Connection<S>) -> Result<(), StoreFault>
+    requires { conn.old.in_transaction ≡ false }
+    ensures autocommit { conn.new.in_transaction ≡ false }
+    ensures missing { HasCleanDisk (state S.Store conn.new) → IsBlank (state S.Store conn.old) → IsErr result }
+    ensures refused { IfErr result IsGivenUp }
+    ensures live { HasCleanDisk (state S.Store conn.new) → OnOk result (IsTrue (state S.Store conn.new).is_open) }
+    ensures clean { HasCleanDisk (state S.Store conn.new) → HasCleanDisk (state S.Store conn.old) }
+    ensures was_open { HasCleanDisk (state S.Store conn.new) → IsTrue (state S.Store conn.new).is_open → IsTrue (state S.Store conn.old).is_open }
+    ensures same { HasCleanDisk (state S.Store conn.new) → IsTrue (state S.Store conn.new).is_open → (s : State) → Holds (state S.Store conn.old) s → (state S.Store conn.new).now ≡ (state S.Store conn.old).now }
+    ensures blank { HasCleanDisk (state S.Store conn.new) → IsTrue (state S.Store conn.new).is_open → IsBlank (state S.Store conn.old) → (state S.Store conn.new).now ≡ (state S.Store conn.old).now }
+    ensures survives { Survives (state S.Store conn.old) (state S.Store conn.new) (λ _. ⊥) }
+{
+    let _settled = conn.is_autocommit();
+    opening::ask(conn).map_err(store_fault)?;
+    match read_version(conn)? {
+        Some(1) => {
+            let _settled = conn.is_autocommit();
+            opening::ask(conn).map_err(store_fault)
+        }
+        _ => Err(StoreFault::Store),
+    }
+}
+
+impl<S: Alter> Archive<S> {
+    ghost use Rattle.std.specs.Prelude.{◌≡◌, ◌↔◌, ◌∷◌, [], List, false, IsTrue, IfOk, IfErr, IsErr};
+    ghost use Rattle.sqlite.specs.State.{HasCleanDisk, Survives};
+    ghost use Rattle.sqlite.specs.Held.{state};
+    ghost use Rattle.tacho_state.specs.State.{State};
+    ghost use Rattle.tacho_store.specs.Standing.{StandsFor};
+    ghost use Rattle.tacho_store.specs.Kept.{IsBlank, Holds, Shows, Leaves, IsGivenUp};
+
+    /// An archive of no drivers in a store without tables, made in one transaction. S12 where the store has tables. A refusal
+    /// hands the connection back, with the store as it was.
+    pub fn create(mut conn: Connection<S>) -> Result<Archive<S>, (StoreFault, Connection<S>)>
+        requires { conn.in_transaction ≡ false }
+        ensures created { IfOk result (λ archive. ⟦<Archive<S> as Keeper>⟧.is_clean archive → IsBlank (state S.Store conn)
+            → ⟦<Archive<S> as Keeper>⟧.stands archive [] × ⟦<Archive<S> as Keeper>⟧.is_live archive × ⟦<Archive<S> as Keeper>⟧.leaves archive ([] ∷ [])) }
+        ensures taken { (s : State) → Holds (state S.Store conn) s → IsErr result }
+        ensures refused { IfErr result (λ e. IsGivenUp e.0 × (e.1.in_transaction ≡ false)) }
+        ensures same { IfErr result (λ e. HasCleanDisk (state S.Store e.1) → IsTrue (state S.Store e.1).is_open → (state S.Store e.1).now ≡ (state S.Store conn).now) }
+        ensures crash { IfErr result (λ e. IsBlank (state S.Store conn) → Survives (state S.Store conn) (state S.Store e.1) (λ db. StandsFor db [])) }
+    {
+        match make(&mut conn) {
+            Ok(()) => Ok(Archive { conn }),
+            Err(fault) => Err((fault, conn)),
+        }
+    }
+
+    /// The archive that a store has. S12 where the store has no tables, or tables of another schema. A refusal hands the
+    /// connection back, with the archive, or the store without tables, as it was.
+    pub fn adopt(mut conn: Connection<S>) -> Result<Archive<S>, (StoreFault, Connection<S>)>
+        requires { conn.in_transaction ≡ false }
+        ensures adopted { IfOk result (λ archive. ⟦<Archive<S> as Keeper>⟧.is_clean archive → (s : State) → Holds (state S.Store conn) s → ⟦<Archive<S> as Keeper>⟧.stands archive s) }
+        ensures live { IfOk result (λ archive. ⟦<Archive<S> as Keeper>⟧.is_clean archive → ⟦<Archive<S> as Keeper>⟧.is_live archive) }
+        ensures crash { IfOk result (λ archive. ⟦<Archive<S> as Keeper>⟧.is_clean archive → (states : List State) → Leaves (state S.Store conn) states → ⟦<Archive<S> as Keeper>⟧.leaves archive states) }
+        ensures missing { IfOk result (λ archive. ⟦<Archive<S> as Keeper>⟧.is_clean archive → IsBlank (state S.Store conn) → ⊥) }
+        ensures refused { IfErr result (λ e. IsGivenUp e.0 × (e.1.in_transaction ≡ false)) }
+        ensures same { IfErr result (λ e. HasCleanDisk (state S.Store e.1) → (s : State) → Holds (state S.Store conn) s → Shows (state S.Store e.1) s) }
+        ensures blank { IfErr result (λ e. HasCleanDisk (state S.Store e.1) → IsTrue (state S.Store e.1).is_open → IsBlank (state S.Store conn) → (state S.Store e.1).now ≡ (state S.Store conn).now) }
+        ensures survives { IfErr result (λ e. Survives (state S.Store conn) (state S.Store e.1) (λ _. ⊥)) }
+    {
+        match check(&mut conn) {
+            Ok(()) => Ok(Archive { conn }),
+            Err(fault) => Err((fault, conn)),
+        }
+    }
+
+    /// Hands the connection back, outside a transaction.
+    pub fn close(self) -> Connection<S>
+        ensures autocommit { result.in_transaction ≡ false }
+        ensures clean { ⟦<Archive<S> as Keeper>⟧.is_clean self ↔ HasCleanDisk (state S.Store result) }
+        ensures held { (s : State) → ⟦<Archive<S> as Keeper>⟧.stands self s → Shows (state S.Store result) s }
+        ensures live { ⟦<Archive<S> as Keeper>⟧.is_live self ↔ IsTrue (state S.Store result).is_open }
+        ensures crash { (states : List State) → ⟦<Archive<S> as Keeper>⟧.leaves self states → Leaves (state S.Store result) states }
+    {
+        let Archive { conn } = self;
+        conn
+    }
+}
+
+impl<S: Alter> Keeper for Archive<S> {
+    ghost use Rattle.std.specs.Prelude.{◌≡◌, IsTrue, List, Result};
+    ghost use Rattle.std.proofs.Common.{inr};
+    ghost use Rattle.sqlite.specs.State.{HasCleanDisk};
+    ghost use Rattle.sqlite.specs.Held.{state};
+    ghost use Rattle.tacho_store.specs.Kept.{Shows, Leaves};
+
+    ghost stands = { λ a s. Shows (state S.Store a.conn) s };
+
+    ghost is_clean = { λ a. HasCleanDisk (state S.Store a.conn) };
+
+    ghost is_live = { λ a. IsTrue (state S.Store a.conn).is_open };
+
+    ghost leaves = { λ a states. Leaves (state S.Store a.conn) states };
+
+    ghost leaves_more = { λ a s states leaves db may. inr (leaves db may) };
+
+    fn register(&mut self, driver: &Driver) -> Result<(), StoreFault> {
+        register(&mut self.conn, driver)
+    }
+
+    fn import(
+        &mut self,
+        alloc: Global,
+        caller: Caller,
+        part: Part,
+        file: &[u8],
+    ) -> Result<Imported, StoreFault> {
+        let content = content_of(alloc, part, file)?;
+        import(alloc, &mut self.conn, caller, part, file, &content)
+    }
+
+    fn rebase(&mut self, driver: u32, base: Day) -> Result<(), StoreFault> {
+        rebase(&mut self.conn, driver, base)
+    }
+
+    fn line(&mut self, alloc: Global, driver: u32) -> Result<Line, StoreFault> {
+        line(alloc, &mut self.conn, driver)
+    }
+
+    fn download(&mut self, alloc: Global, driver: u32, number: u32) -> Result<Vec<u8>, StoreFault> {
+        download(&mut self.conn, driver, number)
+    }
+}
+
+/// An archive of no drivers in memory.
+pub fn open_memory(alloc: Global) -> Result<Archive<MemStore>, StoreFault>
+    ensures opened { IfOk result (λ archive. ⟦<Archive<MemStore> as Keeper>⟧.is_clean archive
+        → ⟦<Archive<MemStore> as Keeper>⟧.stands archive [] × ⟦<Archive<MemStore> as Keeper>⟧.is_live archive × ⟦<Archive<MemStore> as Keeper>⟧.leaves archive ([] ∷ [])) }
+    ensures refused { IfErr result IsGivenUp }
+{
+    let mut conn = Connection::open_in_memory(alloc)?;
+    make(&mut conn)?;
+    Ok(Archive { conn })
+}
