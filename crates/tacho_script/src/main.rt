@@ -1,14 +1,24 @@
-//! Runs commands on an archive and prints what they answer, for the check beside a slow archive. The words say which archive:
-//! `shelf` is one in memory. A command is a line of standard input, and its answer a line.
+//! Runs commands on an archive and prints what they answer, for the check beside a slow archive. A command is a line of standard
+//! input, and its answer a line. The words say which archive: `archive FILE` is that of a file, which is made where it isn't
+//! there, and `shelf` one in memory.
 #![tactic(auto)]
 
 mod answers;
 mod command;
 
+use sqlite::{Connection, File, FileStore};
 use std::rt::Env;
 use std::{env, io};
-use tacho_state::Keeper;
+use tacho_state::{Keeper, StoreFault};
+use tacho_store::Archive;
+use tacho_tables::opening;
 use tacho_trials::Shelf;
+
+/// A connection to a file.
+type FileConnection = Connection<FileStore<File>>;
+
+/// An archive in a file.
+type FileArchive = Archive<FileStore<File>>;
 
 /// The words of the command line, the program's name the first of them.
 fn words(rt: &(impl Env + AllocGlobal)) -> io::Result<Vec<String>> {
@@ -23,10 +33,48 @@ fn run<K: Keeper>(rt: &(impl Input + Print + AllocGlobal), keeper: &mut K) -> io
     Ok(())
 }
 
+/// The archive of a connection: the one that is there, or a new one where there are no tables.
+fn archive_of(conn: FileConnection) -> Result<FileArchive, (StoreFault, FileConnection)> {
+    if !conn.is_autocommit() {
+        return Err((StoreFault::Store, conn));
+    }
+    if opening::has_tables(&conn) {
+        return Archive::adopt(conn);
+    }
+    Archive::create(conn)
+}
+
+/// Closes an archive's file.
+fn close(rt: &impl Print, archive: FileArchive) -> io::Result<()> {
+    match archive.close().close() {
+        Ok(()) => Ok(()),
+        Err(fault) => println!(rt; "not closed: {fault:?}"),
+    }
+}
+
+/// Answers the commands on the archive of a file.
+fn run_file(rt: &HostRuntime, path: &str) -> io::Result<()> {
+    let conn = match Connection::open_with_sums(rt, path) {
+        Ok(conn) => conn,
+        Err(fault) => return println!(rt; "not opened: {fault:?}"),
+    };
+    match archive_of(conn) {
+        Ok(mut archive) => {
+            run(rt, &mut archive)?;
+            close(rt, archive)
+        }
+        Err((fault, conn)) => {
+            drop(conn);
+            println!(rt; "no archive: {fault:?}")
+        }
+    }
+}
+
 fn main(rt: HostRuntime) -> io::Result<()> {
     let words = words(&rt)?;
-    match words.get(1) {
-        Some(word) if word.as_str() == "shelf" => run(&rt, &mut Shelf::new(rt.alloc())),
+    match (words.get(1), words.get(2)) {
+        (Some(word), None) if word.as_str() == "shelf" => run(&rt, &mut Shelf::new(rt.alloc())),
+        (Some(word), Some(path)) if word.as_str() == "archive" => run_file(&rt, path.as_str()),
         _ => println!(rt; "no archive is named"),
     }
 }
