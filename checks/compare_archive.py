@@ -8,6 +8,7 @@ import contextlib
 import multiprocessing
 import os
 import random
+import re
 import sqlite3
 import sys
 import tempfile
@@ -80,10 +81,22 @@ ROWS = {
 }
 
 
+
+def documented():
+    """The statements by which the tables are made, as the document shows them."""
+    path = os.path.join(os.path.dirname(os.path.abspath(__file__)), "..", "docs", "TABLES.md")
+    with open(path, encoding="utf-8") as document:
+        found = re.findall(r"^    (CREATE TABLE .*\n(?:      .*\n)*)", document.read(), re.MULTILINE)
+    return sorted(" ".join(statement.split()) for statement in found)
+
+
+STATEMENTS = documented()
+
+
 # Random commands
 
 NUMBERS = [17, 18, 999_999]
-KEYS = ["anna-key-1", "bert-key-2", "Key3"*16]
+KEYS = ["anna-key-1", "bert-key-2", "Key3" * 16]
 NAMES = [b"Anna Berg", "Zo\u00eb".encode(), b"B" * 64]
 BASES = [19_786, 19_793, 10_959, 47_478]
 BAD_NUMBERS = [0, 1_000_000]
@@ -159,10 +172,19 @@ def line_of(told):
     return f"S11 {compare_files.line_of(fault).strip()}" if code == "S11" else told
 
 
+def given(commands):
+    """The input with commands."""
+    return "".join(command + "\n" for command in commands).encode()
+
+
+def lines_of(text, status):
+    """The answers in what was printed, and then the status."""
+    return [line_of(line) for line in text.splitlines()] + [f"status {status}"]
+
+
 def answers(words, commands):
     """What the program answers to commands, line by line, and then its status."""
-    text, status = programs.answer(words, "".join(command + "\n" for command in commands).encode())
-    return [line_of(line) for line in text.splitlines()] + [f"status {status}"]
+    return lines_of(*programs.answer(words, given(commands)))
 
 
 def minutes_of(rows):
@@ -170,15 +192,29 @@ def minutes_of(rows):
     return sorted((driver, m, mark) for driver, start, past, mark in rows for m in range(start, past) or [(start, past)])
 
 
-def tables(path):
-    """The tables of a file as SQLite reads them, and what it says of the file."""
-    with contextlib.closing(sqlite3.connect(path)) as store:
-        names = [name for name, in store.execute("select name from sqlite_schema where type = 'table'")]
-        found = {name: store.execute(f"select * from {name} order by 1, 2").fetchall() for name in names}
-        found["integrity_check"] = store.execute("pragma integrity_check").fetchall()
+def read(store):
+    """The tables of a store, the statements that made them, and what SQLite says of all."""
+    made = store.execute("select name, sql from sqlite_schema where type = 'table'").fetchall()
+    found = {name: sorted(store.execute(f"select * from {name}")) for name, _ in made}
+    for question in ["integrity_check", "foreign_key_check"]:
+        found[question] = store.execute(f"pragma {question}").fetchall()
     for name in ["card_spans", "held"]:
         found[name] = minutes_of(found.get(name, []))
-    return found
+    return {**found, "statements": sorted(statement for _, statement in made)}
+
+
+def tables(path):
+    """The tables of a file as SQLite reads them, or why it doesn't."""
+    with contextlib.closing(sqlite3.connect(path)) as store:
+        try:
+            return read(store)
+        except sqlite3.Error as fault:
+            return {"fault": [str(fault)]}
+
+
+def rows_of(found):
+    """The rows of tables in one list, those of each behind its name."""
+    return [row for name in sorted(found) for row in [name, *found[name]]]
 
 
 # What has to be told
@@ -191,10 +227,15 @@ def wanted_of(archive, commands):
 
 def wanted_tables(archive):
     """What SQLite has to find in the file."""
-    return {**archive.tables(), "integrity_check": [("ok",)]}
+    return {**archive.tables(), "statements": STATEMENTS, "integrity_check": [("ok",)], "foreign_key_check": []}
 
 
 # Comparisons
+
+
+def of_tables(name, path, archive):
+    """The comparison of a file's tables with those that it has to have."""
+    return f"{name}: tables", rows_of(tables(path)), rows_of(wanted_tables(archive))
 
 
 def of_commands(program, name, commands):
@@ -206,12 +247,8 @@ def of_commands(program, name, commands):
         path = os.path.join(folder, "archive.db")
         yield f"{name}, on a file", answers([program, "archive", path], commands[:half]), first
         yield f"{name}, on that file again", answers([program, "archive", path], commands[half:]), second
-        told = tables(path)
+        yield of_tables(name, path, archive)
     yield f"{name}, in memory", answers([program, "shelf"], commands), first[:-1] + second
-    wanted = wanted_tables(archive)
-    yield f"{name}: the names of the tables", sorted(told), sorted(wanted)
-    for table in wanted:
-        yield f"{name}: table {table}", told.get(table), wanted[table]
 
 
 def of_rows(program):

@@ -1,4 +1,5 @@
 """Runs programs, as they are and with their memory refused."""
+import bisect
 import os
 import subprocess
 import tempfile
@@ -18,16 +19,22 @@ def built(compiler, folder):
     return refuser
 
 
-def runs_without_memory(compiler, words, given):
-    """The runs of a program with each of its allocations refused in turn, up to the first run that asks for fewer: the
-    allocation's number, counted from 1, and the run."""
+def run_without(refuser, number, words, given):
+    """A run of a program with the allocation of that number refused, and whether it asked for so many."""
+    environment = dict(os.environ, LD_PRELOAD=refuser, REFUSED_ALLOCATION=str(number))
+    run = subprocess.run(words, input=given, capture_output=True, env=environment)
+    return run, b"refused\n" in run.stderr
+
+
+def runs_without_memory(compiler, words, given, numbers=range(1, 1_000_000)):
+    """The runs of a program with each of its allocations refused in turn, or those of some numbers, up to the first run that
+    asks for fewer: the allocation's number, counted from 1, and the run."""
     with tempfile.TemporaryDirectory() as folder:
         refuser = built(compiler, folder)
-        for number in range(1, 1_000_000):
-            environment = dict(os.environ, LD_PRELOAD=refuser, REFUSED_ALLOCATION=str(number))
-            run = subprocess.run(words, input=given, capture_output=True, env=environment)
-            if b"refused\n" not in run.stderr:
-                if number == 1:
+        for number in numbers:
+            run, is_refused = run_without(refuser, number, words, given)
+            if not is_refused:
+                if number == numbers[0]:
                     raise RuntimeError(f"no allocation of {words} was refused")
                 return
             yield number, run
@@ -37,3 +44,10 @@ def answers_without_memory(compiler, words, given):
     """What a program answers in each of these runs: the allocation's number and the answer."""
     for number, run in runs_without_memory(compiler, words, given):
         yield number, (run.stdout.decode(errors="backslashreplace"), run.returncode)
+
+
+def allocations(compiler, words, given):
+    """How many allocations a program asks for."""
+    with tempfile.TemporaryDirectory() as folder:
+        refuser = built(compiler, folder)
+        return bisect.bisect_left(range(1, 1_000_000), True, key=lambda n: not run_without(refuser, n, words, given)[1])
