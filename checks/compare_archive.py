@@ -1,9 +1,9 @@
 #!/usr/bin/env python3
-"""Gives an archive on a file random commands, and compares its answers with those of the slow archive, and with those of the
-archive in memory; then reads the file's tables by SQLite itself.
+"""Gives an archive in a file random commands, and compares its answers with those of the slow archive and of the archive in
+memory; then it reads the file's tables by SQLite itself.
 
-The file is closed after half of the commands, and opened again for the others. The word is the program `tacho_script`. The last
-line is 'N passed, M failed'."""
+The file is closed after half of the commands, and opened again for the others. The word is the program `tacho_script`.
+The last line is 'N passed, M failed'."""
 import contextlib
 import multiprocessing
 import os
@@ -81,7 +81,6 @@ ROWS = {
 }
 
 
-
 def documented():
     """The statements by which the tables are made, as the document shows them."""
     path = os.path.join(os.path.dirname(os.path.abspath(__file__)), "..", "docs", "TABLES.md")
@@ -123,8 +122,8 @@ class Commands:
 
     def register(self):
         """A driver, who may have what another has, or a column out of its limits."""
-        number, key, name = self.one_of(NUMBERS, BAD_NUMBERS), self.one_of(KEYS, BAD_KEYS), self.one_of(NAMES, BAD_NAMES)
-        return self.registration(number, self.one_of(self.cards).holder, key, name)
+        number, key = self.one_of(NUMBERS, BAD_NUMBERS), self.one_of(KEYS, BAD_KEYS)
+        return self.registration(number, self.one_of(self.cards).holder, key, self.one_of(NAMES, BAD_NAMES))
 
     def registrations(self):
         """All drivers, or but one of them."""
@@ -188,8 +187,8 @@ def answers(words, commands):
 
 
 def minutes_of(rows):
-    """The minutes of rows of spans, each with its driver and its mark; of a row without any, the row."""
-    return sorted((driver, m, mark) for driver, start, past, mark in rows for m in range(start, past) or [(start, past)])
+    """The minutes of rows of spans, each with its driver and its mark, as often as rows have it; of a row that has none, -1."""
+    return sorted((driver, minute, mark) for driver, a, b, mark in rows for minute in range(a, b) or [-1])
 
 
 def read(store):

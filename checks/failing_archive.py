@@ -1,10 +1,10 @@
 #!/usr/bin/env python3
-"""Runs commands on an archive in a file with each of their allocations refused in turn, and looks for an answer or a table that
-changes.
+"""Runs commands on an archive in a file with each of their allocations refused in turn, and looks for an answer or a table
+that changes.
 
-Each command is given twice. One of the two may find no memory: it answers `Memory`, or S12 where that was the store's, and has
-no effect, so that the other gives the undisturbed answer, and SQLite finds what the slow archive holds. Some allocations are
-refused while the file is opened, or made: then nothing is answered, and the next run opens it. The words are the program
+Each command is given twice. One of the two may find no memory: it answers `Memory`, or S12 where the store had none, and has
+no effect, so that the other gives the undisturbed answer, and SQLite finds what the slow archive holds. Some allocations
+are refused while a file is opened or made: then nothing is answered, and the next run opens it. The words are the program
 `tacho_script` and the compiler of C. The last line is 'N passed, M failed'."""
 import multiprocessing
 import os
@@ -107,8 +107,8 @@ def of_command(program, compiler, case):
 
 
 def of_opening(program, compiler, case, is_new):
-    """The comparisons of an opening with some of its allocations refused, and of the next one: of an archive, or of a file that
-    isn't there yet."""
+    """The comparisons of an opening with some of its allocations refused, and of the next one: of an archive, or of a file
+    that isn't there yet."""
     with tempfile.TemporaryDirectory() as folder:
         store = Store(program, folder, [ANNA])
         put_back = store.remove if is_new else store.restore

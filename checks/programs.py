@@ -27,8 +27,8 @@ def run_without(refuser, number, words, given):
 
 
 def runs_without_memory(compiler, words, given, numbers=range(1, 1_000_000)):
-    """The runs of a program with each of its allocations refused in turn, or those of some numbers, up to the first run that
-    asks for fewer: the allocation's number, counted from 1, and the run."""
+    """The runs of a program with each of its allocations refused in turn, or those of some numbers, up to the first run
+    that asks for fewer: the allocation's number, counted from 1, and the run."""
     with tempfile.TemporaryDirectory() as folder:
         refuser = built(compiler, folder)
         for number in numbers:

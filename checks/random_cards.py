@@ -1,9 +1,9 @@
-"""Driver cards from a seed, and the files that are downloaded of them: what a driver did, whole or in part; files that tell
-something else, and files with a fault. `docs/CARD.md` says what their bytes are."""
+"""Driver cards from a seed, and the files that are downloaded of them: what a driver did, whole or in part, or with a word
+that is another one, or with a fault. `docs/CARD.md` says what the bytes are."""
 import struct
 
-FIRST_DAY = 19_786  # 2024-03-04, a Monday
 DAYS = 5
+FIRST_DAYS = [19_786, 19_786, 10_959, 47_482 - DAYS]  # 2024-03-04, and at both ends of the days that are read
 HOLDERS = [b"\x0dD1234567890123", b"\x0dD1234567890124", b"\x0dF1234567890123"]
 MINUTES = [0, 1, 479, 480, 510, 511, 1020, 1438, 1439]
 IDENTIFICATION, ACTIVITY = 0x0520, 0x0504
@@ -45,7 +45,8 @@ class Card:
     def __init__(self, chance, holder):
         self.chance = chance
         self.holder = holder
-        self.days = {day: self.words() for day in range(FIRST_DAY, FIRST_DAY + DAYS)}
+        first = chance.choice(FIRST_DAYS)
+        self.days = [(first + place, self.words()) for place in range(DAYS)]
 
     def minute(self):
         """A minute of a day, often one where others change too."""
@@ -64,11 +65,10 @@ class Card:
         return [self.word(minute) for minute in minutes]
 
     def records(self):
-        """What the card had on some days: perhaps without the first words, or as it was before the last; now and then a word is
-        another one, or the days come in another order."""
-        first = self.chance.randrange(FIRST_DAY, FIRST_DAY + DAYS)
-        past = min(first + self.chance.randrange(1, 4), FIRST_DAY + DAYS)
-        days = [(day, list(self.days[day])) for day in range(first, past)]
+        """What the card had on some days: perhaps without the first words, or without the last ones; now and then with
+        another word, or in another order."""
+        first = self.chance.randrange(DAYS)
+        days = [(day, list(words)) for day, words in self.days[first : first + self.chance.randrange(1, 4)]]
         if self.chance.random() < 0.2:
             del days[0][1][: self.chance.randrange(3)]
         if self.chance.random() < 0.4:

@@ -1,5 +1,5 @@
-"""A slow archive of drivers, written from the definitions and not from the program: it keeps each minute that a driver holds.
-`docs/TABLES.md` says what its tables are.
+"""A slow archive of drivers, written from the definitions and not from the program: it keeps the mark of each minute.
+`docs/TABLES.md` says what the tables are.
 
 A command is a line of words, and so is its answer (`Archive.answer`). Bytes are hexadecimal, `-` where there are none:
 
@@ -9,8 +9,8 @@ A command is a line of words, and so is its answer (`Archive.answer`). Bytes are
     line NUMBER                             line, and start, past and mark of each span
     download NUMBER NUMBER                  download, and the file
 
-A refusal answers its code; S6 with the minute, and S11 with the line of the file's fault. A column of a registration that is out
-of its limits answers that, and no archive is asked.
+A refusal answers its code, S6 with the minute, and S11 with the line of the file's fault. A registration with a column out
+of its limits answers the first of these, before any archive is asked.
 """
 import functools
 from collections import namedtuple

@@ -119,7 +119,13 @@ fn driver(alloc: Global, words: [&str; 5]) -> Result<Driver, CommandFault> {
     let [number_word, holder_word, key, base, name] = words;
     let key = String::from_str(alloc, key)?;
     let name = text(alloc, name)?;
-    match Driver::new(number(number_word)?, holder(holder_word)?, key, day(base)?, name) {
+    match Driver::new(
+        number(number_word)?,
+        holder(holder_word)?,
+        key,
+        day(base)?,
+        name,
+    ) {
         Ok(driver) => Ok(driver),
         Err(column) => Err(CommandFault::Limits(column)),
     }

@@ -1,6 +1,6 @@
-//! Runs commands on an archive and prints what they answer, for the check beside a slow archive. A command is a line of standard
-//! input, and its answer a line. The words say which archive: `archive FILE` is that of a file, which is made where it isn't
-//! there, and `shelf` one in memory.
+//! Runs commands on an archive and prints what they answer, for the check beside a slow archive.
+//! A command is a line of standard input, and its answer a line. The words say which archive:
+//! `archive FILE` is that of a file, which is made where it isn't there, and `shelf` one in memory.
 #![tactic(auto)]
 
 mod answers;
