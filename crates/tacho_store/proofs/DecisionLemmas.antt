@@ -2,6 +2,8 @@
 use Rattle.std.proofs.Common.{◌≡◌, inl, inr, ℕ, ◌+◌, List, [], length, map, filter, Option, Some, None, Result, Ok, Err, sym, ap, subst}
 use Rattle.std.specs.Prelude.{MatchOption, MatchResult, IsErr, IsErrAnd}
 use Rattle.std.specs.List.Sorted.{IsPermutation}
+use Rattle.sqlite.specs.Effect.{Database}
+use Rattle.sqlite.specs.State.{State as Sqlite, IsUnchanged}
 use Rattle.sqlite.specs.Tree.{Trees}
 use Rattle.tacho_time.specs.declared.span.Span.{Span}
 use Rattle.tacho_time.specs.Spans.{Gives, IsCanonicalOf}
@@ -25,7 +27,9 @@ use Rattle.tacho_store.specs.News.{AreNews, IsRefused}
 use Rattle.tacho_store.specs.Importing.{AreAdded, AreDecided}
 use Rattle.tacho_store.proofs.NearRowLemmas.{read_line, card_kept, held_kept}
 use Rattle.tacho_store.proofs.ImportLemmas.{imported_is}
+use Rattle.tacho_store.specs.Finding.{Refuses}
 use Rattle.tacho_store.proofs.JoinLemmas.{kept_stands}
+use Rattle.tacho_store.proofs.FoundLemmas.{handed_on}
 
 -- rows of a table that were read near a range
 abbrev pub AreRead : (Tables → List SpanRow) → Trees → ℕ → ℕ → ℕ → List StoredSpan → Type 0
@@ -53,8 +57,8 @@ module _ (db : Trees) (s : State) (n : ℕ) (d : Driver) (a b : ℕ) (spans : Li
   unfolding AreDecided
   by_lines (Ok None) h = λ part file. repeated_import d part file (spans_of n t.card_spans) card_line spans a b (card_kept t s n d of is) card_near h
   by_lines (Ok (Some news)) h = goes_in news.card_spans.items news.held.items h
-  by_lines (Err fault) (inl e) = subst (λ f. AreDecided db s n d spans (Err f)) (sym e) tt
-  by_lines (Err fault) (inr (inl e)) = subst (λ f. AreDecided db s n d spans (Err f)) (sym e) tt
+  by_lines (Err fault) (inl e) = subst (λ f. AreDecided db s n d spans (Err f)) (sym e) (λ part file. tt)
+  by_lines (Err fault) (inr (inl e)) = subst (λ f. AreDecided db s n d spans (Err f)) (sym e) (λ part file. tt)
   by_lines (Err fault) (inr (inr it)) =
       subst (λ f. AreDecided db s n d spans (Err f)) (sym it.1)
       (λ part file. contradicted_import d part file (spans_of n t.card_spans) (spans_of n t.held) card_line line spans a b it.0 (card_kept t s n d of is) (held_kept t s n d of is) within card_near held_near it.2 it.3)
@@ -73,12 +77,11 @@ decided db s n d a b spans cards helds card_line line r (t, stand, of) is card_r
 pub handed_fault : (db : Trees) (s : State) (n : ℕ) (d : Driver) (spans : List Span) (fault : StoreFault) (r : Result Imported StoreFault) (part : ℕ) (file : List ℕ) → AreDecided db s n d spans (Err fault)
     → IsErr r × IsErrAnd r (λ found. found ≡ fault) → Answers (λ done. done) r (settled s (import_own part file spans d)).answer
 unfolding AreDecided
-handed_fault db s n d spans fault (Ok done) part file h e = let wrong = e.0 in cc
-handed_fault db s n d spans fault (Err found) part file h e = subst (λ f. Answers (λ done. done) (Err f) (settled s (import_own part file spans d)).answer) (sym e.1) (go fault h) where
-  go : (f : StoreFault) → AreDecided db s n d spans (Err f) → Answers (λ done. done) (Err f) (settled s (import_own part file spans d)).answer
+handed_fault db s n d spans fault r part file h = handed_on (λ done. done) fault r (settled s (import_own part file spans d)).answer (go fault (h part file)) where
+  go : (f : StoreFault) → Refuses f (import_own part file spans d) → Refuses f (settled s (import_own part file spans d)).answer
   go Memory h = tt
   go Store h = tt
-  go f h = ap (λ o. (settled s o).answer) (h part file)
+  go f h = ap (λ o. (settled s o).answer) h
 
 -- a file that gives nothing new is repeated
 pub is_repeated : (db : Trees) (s : State) (n : ℕ) (d : Driver) (spans : List Span) (found : Option News) → found ≡ None → AreDecided db s n d spans (Ok found)
@@ -92,6 +95,6 @@ pub is_new : (db : Trees) (s : State) (n : ℕ) (d : Driver) (spans : List Span)
 unfolding AreDecided
 is_new db s n d spans found news is h = subst (λ o. AreDecided db s n d spans (Ok o)) is h
 
--- equal spans are decided alike
-pub same_spans : (db : Trees) (s : State) (n : ℕ) (d : Driver) (spans other : List Span) (r : Result (Option News) StoreFault) → spans ≡ other → AreDecided db s n d spans r → AreDecided db s n d other r
-same_spans db s n d spans other r same = subst (λ x. AreDecided db s n d x r) same
+-- what is new stays so while nothing changes
+pub still_new : (old now : Sqlite) (s : State) (n : ℕ) (d : Driver) (spans cards helds : List Span) → IsUnchanged old now → AreAdded old.now.trees s n d spans cards helds → AreAdded now.now.trees s n d spans cards helds
+still_new old now s n d spans cards helds same = subst (λ (w : Database). AreAdded w.trees s n d spans cards helds) (sym same.0.now_is)
