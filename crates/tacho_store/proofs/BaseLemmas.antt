@@ -22,7 +22,8 @@ module _ (n base : ℕ) (s : State) (d : Driver) (is : driver_of n s ≡ Some d)
   is_set monday = rw (is, monday) refl
 
   -- and the tables stand for the state after it
-  pub day_set : (db next : Trees) → is_monday base ≡ true → StandsFor db s → ((a : Tables) → Stand db a → Stand next (record a { drivers = map (with_base n base) a.drivers }))
+  pub day_set : (db next : Trees) → is_monday base ≡ true → StandsFor db s
+      → ((a : Tables) → Stand db a → Stand next (record a { drivers = map (with_base n base) a.drivers }))
       → StandsFor next (rebased n base s).after
   unfolding StandsFor
   day_set db next monday (t, stand, of) turn = rw (is, monday) (with_rebased n base t, turn t stand, rebased_is t s n base d of is)

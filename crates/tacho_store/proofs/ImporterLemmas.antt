@@ -29,30 +29,42 @@ pub unknown_number : (n : ℕ) (holder : List ℕ) (s : State) → driver_of n s
 unknown_number n holder s none = ap (with_card holder) none
 
 -- his card is another one: S5
-pub other_card : (n : ℕ) (holder : List ℕ) (s : State) (it : StoredDriver) (d : Driver) → driver_of n s ≡ Some d → IsStored it d → bytes_eq it.holder.items holder ≡ false → with_card holder (driver_of n s) ≡ Err NotYourCard
-other_card n holder s it d is stored other = ap (with_card holder) is ∙ ap (λ b. cond b (Ok d) (Err NotYourCard)) (ap (λ x. bytes_eq x holder) (sym stored.holder) ∙ other)
+pub other_card : (n : ℕ) (holder : List ℕ) (s : State) (it : StoredDriver) (d : Driver) → driver_of n s ≡ Some d → IsStored it d
+    → bytes_eq it.holder.items holder ≡ false → with_card holder (driver_of n s) ≡ Err NotYourCard
+other_card n holder s it d is stored other = ap (with_card holder) is
+    ∙ ap (λ b. cond b (Ok d) (Err NotYourCard)) (ap (λ x. bytes_eq x holder) (sym stored.holder) ∙ other)
 
 -- it is he
-pub own_card : (n : ℕ) (holder : List ℕ) (s : State) (it : StoredDriver) (d : Driver) → driver_of n s ≡ Some d → IsStored it d → bytes_eq it.holder.items holder ≡ true
+pub own_card : (n : ℕ) (holder : List ℕ) (s : State) (it : StoredDriver) (d : Driver) → driver_of n s ≡ Some d → IsStored it d
+    → bytes_eq it.holder.items holder ≡ true
     → IsImporter s (Ok (record { number = n; downloads = it.downloads })) (with_card holder (driver_of n s))
 unfolding IsImporter
-own_card n holder s it d is stored own =
-    (d, ap (with_card holder) is ∙ ap (λ b. cond b (Ok d) (Err NotYourCard)) (ap (λ x. bytes_eq x holder) (sym stored.holder) ∙ own), record { found = is; downloads = stored.downloads })
+own_card n holder s it d is stored own = (
+  d,
+  ap (with_card holder) is ∙ ap (λ b. cond b (Ok d) (Err NotYourCard))
+      (ap (λ x. bytes_eq x holder) (sym stored.holder) ∙ own),
+  record { found = is; downloads = stored.downloads },
+)
 
 -- ---- by holder
 
 -- nobody's card has it: S4
-pub unknown_holder : {X : Type 0} (holder : List ℕ) (s : State) (found : Option X) (is : X → Driver → Type 0) → found ≡ None → MatchOption found (holding holder s ≡ None) (λ n. (d : Driver) × (holding holder s ≡ Some d) × is n d)
+pub unknown_holder : {X : Type 0} (holder : List ℕ) (s : State) (found : Option X) (is : X → Driver → Type 0) → found ≡ None
+    → MatchOption found (holding holder s ≡ None) (λ n. (d : Driver) × (holding holder s ≡ Some d) × is n d)
     → known (holding holder s) ≡ Err UnknownDriver
-unknown_holder holder s found is none h = ap known (subst (λ o. MatchOption o (holding holder s ≡ None) (λ n. (d : Driver) × (holding holder s ≡ Some d) × is n d)) none h)
+unknown_holder holder s found is none h = ap known
+    (subst (λ o. MatchOption o (holding holder s ≡ None) (λ n. (d : Driver) × (holding holder s ≡ Some d) × is n d)) none h)
 
 -- the driver whose number was found
-pub number_known : (holder : List ℕ) (s : State) (n : ℕ) (number : Option ℕ) → number ≡ Some n → MatchOption number (holding holder s ≡ None) (λ m. (d : Driver) × (holding holder s ≡ Some d) × IsNumberOf s m d)
+pub number_known : (holder : List ℕ) (s : State) (n : ℕ) (number : Option ℕ) → number ≡ Some n
+    → MatchOption number (holding holder s ≡ None) (λ m. (d : Driver) × (holding holder s ≡ Some d) × IsNumberOf s m d)
     → (d : Driver) × (holding holder s ≡ Some d) × IsNumberOf s n d
-number_known holder s n number some = subst (λ o. MatchOption o (holding holder s ≡ None) (λ m. (d : Driver) × (holding holder s ≡ Some d) × IsNumberOf s m d)) some
+number_known holder s n number some = subst
+    (λ o. MatchOption o (holding holder s ≡ None) (λ m. (d : Driver) × (holding holder s ≡ Some d) × IsNumberOf s m d)) some
 
 -- he is there
-pub holder_known : (holder : List ℕ) (s : State) (n : ℕ) (it : StoredDriver) (d e : Driver) → holding holder s ≡ Some d → IsNumberOf s n d → driver_of n s ≡ Some e → IsStored it e
+pub holder_known : (holder : List ℕ) (s : State) (n : ℕ) (it : StoredDriver) (d e : Driver) → holding holder s ≡ Some d → IsNumberOf s n d
+    → driver_of n s ≡ Some e → IsStored it e
     → IsImporter s (Ok (record { number = n; downloads = it.downloads })) (known (holding holder s))
 unfolding IsImporter
 holder_known holder s n it d e is number found stored =
@@ -60,11 +72,13 @@ holder_known holder s n it d e is number found stored =
     (d, ap known is, record { found = number.found; downloads = stored.downloads ∙ ap (λ (x : Driver). length x.downloads) same })
 
 -- and so the look-up by his number isn't refused by S4
-pub holder_refuses : (holder : List ℕ) (s : State) (n : ℕ) (d : Driver) (fault : StoreFault) (told : Result Driver StoreFault) → IsNumberOf s n d → IsDriver s n (Err fault) → Refuses fault told
+pub holder_refuses : (holder : List ℕ) (s : State) (n : ℕ) (d : Driver) (fault : StoreFault) (told : Result Driver StoreFault)
+    → IsNumberOf s n d → IsDriver s n (Err fault) → Refuses fault told
 holder_refuses holder s n d fault told number = unknown_refuses n s fault told (λ none. absurd (let both = sym number.found ∙ none in cc))
 
 -- a fault that is handed on refuses the importer
-pub handed_importer : (s : State) (fault : StoreFault) (r : Result Importer StoreFault) (told : Result Driver StoreFault) → Refuses fault told → IsErr r × IsErrAnd r (λ found. found ≡ fault) → IsImporter s r told
+pub handed_importer : (s : State) (fault : StoreFault) (r : Result Importer StoreFault) (told : Result Driver StoreFault)
+    → Refuses fault told → IsErr r × IsErrAnd r (λ found. found ≡ fault) → IsImporter s r told
 unfolding IsImporter
 handed_importer s fault (Ok x) told h e = let wrong = e.0 in cc
 handed_importer s fault (Err found) told h e = subst (λ f. Refuses f told) (sym e.1) h
@@ -73,21 +87,26 @@ handed_importer s fault (Err found) told h e = subst (λ f. Refuses f told) (sym
 
 module _ (part : ℕ) (file : List ℕ) (content : Content) (s : State) where
   -- it is his command
-  pub imports_his : (caller : Option ℕ) (d : Driver) → importer caller content.holder s ≡ Ok d → imported caller part file (Ok content) s ≡ settled s (import_own part file content.spans d)
+  pub imports_his : (caller : Option ℕ) (d : Driver) → importer caller content.holder s ≡ Ok d
+      → imported caller part file (Ok content) s ≡ settled s (import_own part file content.spans d)
   imports_his None d is = go (holding content.holder s) is where
-    go : (o : Option Driver) → known o ≡ Ok d → own_turn (import_own part file content.spans) s o ≡ settled s (import_own part file content.spans d)
+    go : (o : Option Driver) → known o ≡ Ok d
+        → own_turn (import_own part file content.spans) s o ≡ settled s (import_own part file content.spans d)
     go None e = absurd (let both = e in cc)
     go (Some x) e = let same : x ≡ d = (let both = e in cc) in ap (λ y. settled s (import_own part file content.spans y)) same
   imports_his (Some n) d is = go (driver_of n s) is where
-    go : (o : Option Driver) → with_card content.holder o ≡ Ok d → own_turn (import_his part file content) s o ≡ settled s (import_own part file content.spans d)
+    go : (o : Option Driver) → with_card content.holder o ≡ Ok d
+        → own_turn (import_his part file content) s o ≡ settled s (import_own part file content.spans d)
     go None e = absurd (let both = e in cc)
     go (Some x) e = own (bytes_eq x.holder content.holder) e where
-      own : (b : Bool) → cond b (Ok x) (Err NotYourCard) ≡ Ok d → settled s (cond b (import_own part file content.spans x) (Err NotYourCard)) ≡ settled s (import_own part file content.spans d)
+      own : (b : Bool) → cond b (Ok x) (Err NotYourCard) ≡ Ok d
+          → settled s (cond b (import_own part file content.spans x) (Err NotYourCard)) ≡ settled s (import_own part file content.spans d)
       own true e = let same : x ≡ d = (let both = e in cc) in ap (λ y. settled s (import_own part file content.spans y)) same
       own false e = absurd (let both = e in cc)
 
   -- where he isn't found, it is refused so
-  pub refuses : (caller : Option ℕ) (f : StoreFault) → importer caller content.holder s ≡ Err f → imported caller part file (Ok content) s ≡ refused f s
+  pub refuses : (caller : Option ℕ) (f : StoreFault) → importer caller content.holder s ≡ Err f
+      → imported caller part file (Ok content) s ≡ refused f s
   refuses None f is = go (holding content.holder s) is where
     go : (o : Option Driver) → known o ≡ Err f → own_turn (import_own part file content.spans) s o ≡ refused f s
     go None e = let same : UnknownDriver ≡ f = (let both = e in cc) in ap (λ g. refused g s) same
@@ -96,12 +115,14 @@ module _ (part : ℕ) (file : List ℕ) (content : Content) (s : State) where
     go : (o : Option Driver) → with_card content.holder o ≡ Err f → own_turn (import_his part file content) s o ≡ refused f s
     go None e = let same : UnknownDriver ≡ f = (let both = e in cc) in ap (λ g. refused g s) same
     go (Some x) e = own (bytes_eq x.holder content.holder) e where
-      own : (b : Bool) → cond b (Ok x) (Err NotYourCard) ≡ Err f → settled s (cond b (import_own part file content.spans x) (Err NotYourCard)) ≡ refused f s
+      own : (b : Bool) → cond b (Ok x) (Err NotYourCard) ≡ Err f
+          → settled s (cond b (import_own part file content.spans x) (Err NotYourCard)) ≡ refused f s
       own true e = absurd (let both = e in cc)
       own false e = let same : NotYourCard ≡ f = (let both = e in cc) in ap (λ g. refused g s) same
 
   -- so it is refused as the look-up was
-  pub not_importer : (caller : Option ℕ) (fault : StoreFault) → IsImporter s (Err fault) (importer caller content.holder s) → Refuses fault (imported caller part file (Ok content) s).answer
+  pub not_importer : (caller : Option ℕ) (fault : StoreFault) → IsImporter s (Err fault) (importer caller content.holder s)
+      → Refuses fault (imported caller part file (Ok content) s).answer
   unfolding IsImporter
   not_importer caller fault h = go fault h where
     go : (f : StoreFault) → Refuses f (importer caller content.holder s) → Refuses f (imported caller part file (Ok content) s).answer
@@ -110,6 +131,7 @@ module _ (part : ℕ) (file : List ℕ) (content : Content) (s : State) where
     go f h = ap (λ (turn : Turn Imported). turn.answer) (refuses caller f h)
 
 -- the importer who was found
-pub the_importer : (s : State) (it : Importer) (told : Result Driver StoreFault) → IsImporter s (Ok it) told → (d : Driver) × (told ≡ Ok d) × IsImporterOf s d it
+pub the_importer : (s : State) (it : Importer) (told : Result Driver StoreFault) → IsImporter s (Ok it) told
+    → (d : Driver) × (told ≡ Ok d) × IsImporterOf s d it
 unfolding IsImporter
 the_importer s it told h = h

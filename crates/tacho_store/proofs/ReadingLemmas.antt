@@ -13,15 +13,19 @@ use Rattle.tacho_store.specs.Standing.{StandsFor}
 use Rattle.tacho_store.proofs.DownloadLemmas.{download_none, download_some}
 
 -- S4
-pub nobody : {A : Type 0} (n : ℕ) (s : State) (f : Driver → Result A StoreFault) → driver_of n s ≡ None → told_of f (driver_of n s) ≡ Err UnknownDriver
+pub nobody : {A : Type 0} (n : ℕ) (s : State) (f : Driver → Result A StoreFault) → driver_of n s ≡ None
+    → told_of f (driver_of n s) ≡ Err UnknownDriver
 nobody n s f none = ap (told_of f) none
 
 -- S10, or the file
-pub file_told : {X : Type 0} (items : X → List ℕ) (db : Trees) (n number : ℕ) (s : State) (found : Option X) (d : Driver) → driver_of n s ≡ Some d → StandsFor db s
-    → ((a : Tables) → Stand db a → MatchOption found (filter (is_download n number) a.downloads ≡ []) (λ x. (r : DownloadRow) × Contains (filter (is_download n number) a.downloads) r × (items x ≡ r.file)))
+pub file_told : {X : Type 0} (items : X → List ℕ) (db : Trees) (n number : ℕ) (s : State) (found : Option X) (d : Driver)
+    → driver_of n s ≡ Some d → StandsFor db s
+    → ((a : Tables) → Stand db a → MatchOption found (filter (is_download n number) a.downloads ≡ [])
+    (λ x. (r : DownloadRow) × Contains (filter (is_download n number) a.downloads) r × (items x ≡ r.file)))
     → Answers items (ok_or found UnknownDownload) (downloaded n number s)
 unfolding StandsFor
 file_told items db n number s None d is (t, stand, of) h = rw (is, (download_none t s n number d of is).0 (h t stand)) refl
 file_told items db n number s (Some x) d is (t, stand, of) h =
     let row = h t stand in
-    ap (told_of (λ (d : Driver). file_of (download_from 1 number d.downloads))) is ∙ download_some t s n number d row.0 of is row.1 ∙ ap Ok (sym row.2)
+    ap (told_of (λ (d : Driver). file_of (download_from 1 number d.downloads))) is ∙ download_some t s n number d row.0 of is row.1
+    ∙ ap Ok (sym row.2)

@@ -15,20 +15,24 @@ use Rattle.tacho_store.proofs.OrderedLemmas.{any_order_stands}
 
 module _ (number : ℕ) (holder key : List ℕ) (base : ℕ) (name : List ℕ) (s : State) where
   -- S1
-  pub number_taken : {X : Type 0} (found : Option X) (Q : X → Driver → Type 0) → is_some found ≡ true → MatchOption found (driver_of number s ≡ None) (λ it. (d : Driver) × (driver_of number s ≡ Some d) × Q it d)
+  pub number_taken : {X : Type 0} (found : Option X) (Q : X → Driver → Type 0) → is_some found ≡ true
+      → MatchOption found (driver_of number s ≡ None) (λ it. (d : Driver) × (driver_of number s ≡ Some d) × Q it d)
       → (registered number holder key base name s).answer ≡ Err DriverTaken
   number_taken None Q is h = absurd (let e = is in cc)
   number_taken (Some x) Q is h = rw h.1 refl
 
   -- S2
   pub key_taken : {X : Type 0} (found : Option X) (Q : X → Driver → Type 0) → driver_of number s ≡ None → is_some found ≡ true
-      → MatchOption found (keyed key s ≡ None) (λ it. (d : Driver) × (keyed key s ≡ Some d) × Q it d) → (registered number holder key base name s).answer ≡ Err KeyTaken
+      → MatchOption found (keyed key s ≡ None) (λ it. (d : Driver) × (keyed key s ≡ Some d) × Q it d)
+      → (registered number holder key base name s).answer ≡ Err KeyTaken
   key_taken None Q free is h = absurd (let e = is in cc)
   key_taken (Some x) Q free is h = rw (free, h.1) refl
 
   -- S3
-  pub holder_taken : {X : Type 0} (found : Option X) (Q : X → Driver → Type 0) → driver_of number s ≡ None → keyed key s ≡ None → is_some found ≡ true
-      → MatchOption found (holding holder s ≡ None) (λ it. (d : Driver) × (holding holder s ≡ Some d) × Q it d) → (registered number holder key base name s).answer ≡ Err HolderTaken
+  pub holder_taken : {X : Type 0} (found : Option X) (Q : X → Driver → Type 0) → driver_of number s ≡ None → keyed key s ≡ None
+      → is_some found ≡ true
+      → MatchOption found (holding holder s ≡ None) (λ it. (d : Driver) × (holding holder s ≡ Some d) × Q it d)
+      → (registered number holder key base name s).answer ≡ Err HolderTaken
   holder_taken None Q free unknown is h = absurd (let e = is in cc)
   holder_taken (Some x) Q free unknown is h = rw (free, unknown, h.1) refl
 
@@ -43,14 +47,16 @@ module _ (number : ℕ) (holder key : List ℕ) (base : ℕ) (name : List ℕ) (
 
     -- and with his row the tables stand for the state after it
     pub row_added : (db next : Trees) → is_monday base ≡ true → StandsFor db s
-        → ((a : Tables) → Stand db a → Stand next (record a { drivers = record { driver = number; holder = holder; secret = key; base = base; name = name; downloads = 0; entries = 0 } ∷ a.drivers }))
+        → ((a : Tables) → Stand db a → Stand next
+        (record a { drivers = record { driver = number; holder = holder; secret = key; base = base; name = name; downloads = 0; entries = 0 } ∷ a.drivers }))
         → StandsFor next (registered number holder key base name s).after
     unfolding StandsFor
     row_added db next is (t, stand, of) turn =
         let d : Driver = record { number = number; holder = holder; key = key; base = base; name = name; downloads = []; entries = [] } in
         let row = driver_columns d in
         let front : Tables = record t { drivers = row ∷ t.drivers } in
-        let after : (registered number holder key base name s).after ≡ s ++ d ∷ [] = rw (free.new_number, free.new_key, free.new_holder, is) refl in
+        let after : (registered number holder key base name s).after ≡ s ++ d ∷ [] = rw
+        (free.new_number, free.new_key, free.new_holder, is) refl in
         subst (StandsFor next) (sym after) (
           with_driver row t,
           any_order_stands next front (with_driver row t) (record {
@@ -64,11 +70,13 @@ module _ (number : ℕ) (holder key : List ℕ) (base : ℕ) (name : List ℕ) (
         )
 
 -- what was asked: all are free
-pub all_free : (s : State) (number : ℕ) (key holder : List ℕ) (done : Unit {0}) → IsAskedFree s number key holder (Ok done) → AreFree s number key holder
+pub all_free : (s : State) (number : ℕ) (key holder : List ℕ) (done : Unit {0}) → IsAskedFree s number key holder (Ok done)
+    → AreFree s number key holder
 unfolding IsAskedFree
 all_free s number key holder done h = h
 
 -- or the registration is refused
-pub not_free : (s : State) (number : ℕ) (key holder : List ℕ) (base : ℕ) (name : List ℕ) (fault : StoreFault) → IsAskedFree s number key holder (Err fault) → Refuses fault (registered number holder key base name s).answer
+pub not_free : (s : State) (number : ℕ) (key holder : List ℕ) (base : ℕ) (name : List ℕ) (fault : StoreFault)
+    → IsAskedFree s number key holder (Err fault) → Refuses fault (registered number holder key base name s).answer
 unfolding IsAskedFree
 not_free s number key holder base name fault h = h base name

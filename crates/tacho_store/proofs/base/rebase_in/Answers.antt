@@ -7,7 +7,8 @@ use Rattle.tacho_store.proofs.base.rebase_in.Goals as goal
 
 pub returns-in_err-driver_with-clause-answer : goal.returns-in_err-driver_with-clause-answer
 returns-in_err-driver_with-clause-answer g c clean schema s stands =
-    handed_on _ _ c.from_residual.result _ (unknown_refuses c.args.driver s _ _ (no_driver c.args.driver c.args.base s) (c.in_err-driver_with.ensures.found clean schema s stands)) c.from_residual.ensures
+    handed_on _ _ c.from_residual.result _ (unknown_refuses c.args.driver s _ _ (no_driver c.args.driver c.args.base s)
+    (c.in_err-driver_with.ensures.found clean schema s stands)) c.from_residual.ensures
 
 pub returns-then-not-is_monday-clause-answer : goal.returns-then-not-is_monday-clause-answer
 returns-then-not-is_monday-clause-answer g c clean schema s stands =
@@ -17,12 +18,18 @@ returns-then-not-is_monday-clause-answer g c clean schema s stands =
 pub returns-clause-answer : goal.returns-clause-answer
 returns-clause-answer g c clean schema s stands =
     let d = the_driver c.args.driver s _ (c.in_ok-driver_with.ensures.found (c.set_base.ensures.clean clean) schema s stands) in
-    answers_mapped c.set_base.result c.map_err.result _ c.map_err.ensures.cases (λ _. is_set c.args.driver c.args.base s d.0 d.1 (sym c.is_monday.ensures ∙ c.if-not-is_monday.false))
+    answers_mapped c.set_base.result c.map_err.result _ c.map_err.ensures.cases
+    (λ _. is_set c.args.driver c.args.base s d.0 d.1 (sym c.is_monday.ensures ∙ c.if-not-is_monday.false))
 
 pub returns-clause-made : goal.returns-clause-made
 returns-clause-made g c clean schema s stands =
     let clean_1 = c.set_base.ensures.clean clean in
     let d = the_driver c.args.driver s _ (c.in_ok-driver_with.ensures.found clean_1 schema s stands) in
     let seen = still_seen _ _ s (c.in_ok-driver_with.ensures.same clean_1 schema) schema stands in
-    on_ok_mapped c.set_base.result c.map_err.result _ _ _ (λ turns. (turns.schema, day_set c.args.driver c.args.base s d.0 d.1 _ _ (sym c.is_monday.ensures ∙ c.if-not-is_monday.false) seen.1 turns.stands)) c.map_err.ensures.cases
+    on_ok_mapped c.set_base.result c.map_err.result _ _ _
+    (λ turns. (
+      turns.schema,
+      day_set c.args.driver c.args.base s d.0 d.1 _ _
+          (sym c.is_monday.ensures ∙ c.if-not-is_monday.false) seen.1 turns.stands,
+    )) c.map_err.ensures.cases
     (rw c.number.ensures.value at (c.set_base.ensures.turned clean seen.0))

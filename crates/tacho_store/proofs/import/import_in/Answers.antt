@@ -13,7 +13,8 @@ use Rattle.tacho_store.proofs.import.import_in.Goals as goal
 pub returns-in_err-importer-clause-answer : goal.returns-in_err-importer-clause-answer
 returns-in_err-importer-clause-answer g c clean schema s stands =
     let content : Content = record { holder = c.args.content.now.holder; spans = c.args.content.now.spans.items } in
-    handed_on _ _ c.from_residual.result _ (not_importer (part_number c.args.part) c.args.file.now content s (caller_number c.args.caller) _ (c.in_err-importer.ensures.found clean schema s stands)) c.from_residual.ensures
+    handed_on _ _ c.from_residual.result _ (not_importer (part_number c.args.part) c.args.file.now content s
+    (caller_number c.args.caller) _ (c.in_err-importer.ensures.found clean schema s stands)) c.from_residual.ensures
 
 pub returns-clause-answer : goal.returns-clause-answer
 returns-clause-answer g c clean schema s stands =
@@ -21,7 +22,8 @@ returns-clause-answer g c clean schema s stands =
     let clean_1 = c.import_spans.ensures.clean clean in
     let it = the_importer s _ _ (c.in_ok-importer.ensures.found clean_1 schema s stands) in
     let seen = still_seen _ _ s (c.in_ok-importer.ensures.same clean_1 schema) schema stands in
-    subst (λ turn. Answers (λ done. done) c.import_spans.result turn.answer) (sym (imports_his (part_number c.args.part) c.args.file.now content s (caller_number c.args.caller) it.0 it.1))
+    subst (λ turn. Answers (λ done. done) c.import_spans.result turn.answer)
+    (sym (imports_his (part_number c.args.part) c.args.file.now content s (caller_number c.args.caller) it.0 it.1))
     (rw c.deref.ensures.value at (c.import_spans.ensures.answer clean seen.0 s seen.1 it.0 it.2))
 
 pub returns-clause-made : goal.returns-clause-made
@@ -30,6 +32,8 @@ returns-clause-made g c clean schema s stands tells =
     let clean_1 = c.import_spans.ensures.clean clean in
     let it = the_importer s _ _ (c.in_ok-importer.ensures.found clean_1 schema s stands) in
     let seen = still_seen _ _ s (c.in_ok-importer.ensures.same clean_1 schema) schema stands in
-    subst (λ turn. OnOk c.import_spans.result (((state g.S.Store c.import_spans.new.tx.conn.now).now.schema ≡ archive_schema) × StandsFor (state g.S.Store c.import_spans.new.tx.conn.now).now.trees turn.after))
+    subst (λ turn. OnOk c.import_spans.result
+    (((state g.S.Store c.import_spans.new.tx.conn.now).now.schema ≡ archive_schema)
+    × StandsFor (state g.S.Store c.import_spans.new.tx.conn.now).now.trees turn.after))
     (sym (imports_his (part_number c.args.part) c.args.file.now content s (caller_number c.args.caller) it.0 it.1))
     (rw c.deref.ensures.value at (c.import_spans.ensures.made clean seen.0 s seen.1 it.0 content.holder it.2) tells)

@@ -5,7 +5,9 @@ use Rattle.tacho_store.proofs.import.importer_by_number.Goals as goal
 
 pub returns-in_err-driver-clause-found : goal.returns-in_err-driver-clause-found
 returns-in_err-driver-clause-found g c clean schema s stands =
-    handed_importer s _ c.from_residual.result _ (unknown_refuses c.args.number s _ _ (unknown_number c.args.number c.args.holder.now s) (c.in_err-driver.ensures.found clean schema s stands)) c.from_residual.ensures
+    handed_importer s _ c.from_residual.result _
+    (unknown_refuses c.args.number s _ _ (unknown_number c.args.number c.args.holder.now s)
+    (c.in_err-driver.ensures.found clean schema s stands)) c.from_residual.ensures
 
 pub returns-then-ne-clause-found : goal.returns-then-ne-clause-found
 unfolding IsImporter

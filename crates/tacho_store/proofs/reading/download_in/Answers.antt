@@ -9,7 +9,8 @@ use Rattle.tacho_store.proofs.reading.download_in.Goals as goal
 
 pub returns-in_err-driver_with-clause-answer : goal.returns-in_err-driver_with-clause-answer
 returns-in_err-driver_with-clause-answer g c clean schema s stands =
-    handed_on _ _ c.from_residual.result _ (unknown_refuses c.args.driver s _ _ (nobody c.args.driver s _) (c.in_err-driver_with.ensures.found clean schema s stands)) c.from_residual.ensures
+    handed_on _ _ c.from_residual.result _ (unknown_refuses c.args.driver s _ _ (nobody c.args.driver s _)
+    (c.in_err-driver_with.ensures.found clean schema s stands)) c.from_residual.ensures
 
 pub returns-clause-answer : goal.returns-clause-answer
 returns-clause-answer g c clean schema s stands =
@@ -17,4 +18,5 @@ returns-clause-answer g c clean schema s stands =
     let d = the_driver c.args.driver s _ (c.in_ok-driver_with.ensures.found clean_1 schema s stands) in
     let seen = still_seen _ _ s (c.in_ok-driver_with.ensures.same clean_1 schema) schema stands in
     subst (λ r. Answers (λ bytes. bytes.items) r (downloaded c.args.driver c.args.number s)) (sym c.ok_or.ensures.value)
-    (file_told (λ bytes. bytes.items) _ _ _ s c.in_ok-file.file d.0 d.1 seen.1 (was_ok c.file.result c.in_ok-file.file _ c.in_ok-file.ensures.cases (c.file.ensures.found clean seen.0)))
+    (file_told (λ bytes. bytes.items) _ _ _ s c.in_ok-file.file d.0 d.1 seen.1
+    (was_ok c.file.result c.in_ok-file.file _ c.in_ok-file.ensures.cases (c.file.ensures.found clean seen.0)))

@@ -8,7 +8,8 @@ use Rattle.tacho_store.proofs.reading.line_in.Goals as goal
 
 pub returns-in_err-driver_with-clause-answer : goal.returns-in_err-driver_with-clause-answer
 returns-in_err-driver_with-clause-answer g c clean schema s stands =
-    handed_on _ _ c.from_residual.result _ (unknown_refuses c.args.driver s _ _ (nobody c.args.driver s _) (c.in_err-driver_with.ensures.found clean schema s stands)) c.from_residual.ensures
+    handed_on _ _ c.from_residual.result _ (unknown_refuses c.args.driver s _ _ (nobody c.args.driver s _)
+    (c.in_err-driver_with.ensures.found clean schema s stands)) c.from_residual.ensures
 
 pub returns-clause-answer : goal.returns-clause-answer
 returns-clause-answer g c clean schema s stands =
@@ -17,4 +18,5 @@ returns-clause-answer g c clean schema s stands =
     let seen = still_seen _ _ s (c.in_ok-driver_with.ensures.same clean_1 schema) schema stands in
     let read = was_ok c.of_driver.result c.in_ok-rows.rows _ c.in_ok-rows.ensures.cases (c.of_driver.ensures.found clean seen.0) in
     line_answers _ s d.0 c.line_of_stored.result d.1
-    (IfOk-weaker c.line_of_stored.result _ _ (λ line of. line_told _ _ s d.0 c.in_ok-rows.rows.items line seen.1 d.1 read (rw c.deref.ensures.value at of)) c.line_of_stored.ensures.line) c.line_of_stored.ensures.fault
+    (IfOk-weaker c.line_of_stored.result _ _ (λ line of. line_told _ _ s d.0 c.in_ok-rows.rows.items line seen.1 d.1 read
+    (rw c.deref.ensures.value at of)) c.line_of_stored.ensures.line) c.line_of_stored.ensures.fault
