@@ -9,6 +9,8 @@ mod shelf;
 pub use shelf::Shelf;
 
 #[cfg(test)]
-mod answers;
+mod rows;
+#[cfg(test)]
+mod step;
 #[cfg(test)]
 mod tests;

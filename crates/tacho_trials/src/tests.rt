@@ -1,47 +1,151 @@
-use crate::{Shelf, answers};
+ghost use Rattle.std.specs.Prelude.{◌≡◌, false, IfOk, IfErr};
+
+use crate::Shelf;
+use crate::rows::{A_DAY_IS_ADDED, ROWS};
+use crate::step::{Step, take};
+use sqlite::{Alter, Connection, FileStore};
+use sqlite_disk::Disk;
+use std::alloc::Global;
+use std::fs;
+use std::process::Abort;
 use std::test::Fail;
+use tacho_state::StoreFault;
+use tacho_store::{Archive, open_memory};
 
-#[test]
-fn a_day_is_added(rt: HostRuntime) -> Result<(), Fail> {
-    answers::a_day_is_added(&rt, rt.alloc(), &mut Shelf::new(rt.alloc()))
+/// The folder of a test's files.
+const FOLDER: &str = "tacho_trials_test";
+
+/// A file of a test.
+const PATH: &str = "tacho_trials_test/archive.db";
+
+/// The archive that a store has.
+fn adopted<S: Alter + Drop>(conn: Connection<S>) -> Result<Archive<S>, StoreFault>
+    requires { conn.in_transaction ≡ false }
+{
+    match Archive::adopt(conn) {
+        Ok(archive) => Ok(archive),
+        Err(refused) => Err(refused.0),
+    }
+}
+
+/// An archive that is made in a store.
+fn created<S: Alter + Drop>(conn: Connection<S>) -> Result<Archive<S>, StoreFault>
+    requires { conn.in_transaction ≡ false }
+{
+    match Archive::create(conn) {
+        Ok(archive) => Ok(archive),
+        Err(refused) => Err(refused.0),
+    }
+}
+
+/// The connection that a refusal, which has to be S12, hands back.
+fn handed_back<S: Alter + Drop>(
+    rt: &impl Abort,
+    made: Result<Archive<S>, (StoreFault, Connection<S>)>,
+) -> Result<Connection<S>, Fail>
+    requires { IfErr made (λ e. e.1.in_transaction ≡ false) }
+    ensures { IfOk result (λ conn. conn.in_transaction ≡ false) }
+{
+    match made {
+        Ok(_) => Err("the store was taken")?,
+        Err((fault, conn)) => {
+            assert_eq!(rt; fault, StoreFault::Store);
+            Ok(conn)
+        }
+    }
 }
 
 #[test]
-fn empty_data_are_repeated(rt: HostRuntime) -> Result<(), Fail> {
-    answers::empty_data_are_repeated(&rt, rt.alloc(), &mut Shelf::new(rt.alloc()))
+fn rows_over_a_shelf(rt: HostRuntime) -> Result<(), Fail> {
+    for (row, steps) in ROWS {
+        take(&rt, rt.alloc(), &mut Shelf::new(rt.alloc()), row, steps)?;
+    }
+    Ok(())
 }
 
 #[test]
-fn a_part_of_the_day_is_repeated(rt: HostRuntime) -> Result<(), Fail> {
-    answers::a_part_of_the_day_is_repeated(&rt, rt.alloc(), &mut Shelf::new(rt.alloc()))
+fn rows_over_an_archive(rt: HostRuntime) -> Result<(), Fail> {
+    for (row, steps) in ROWS {
+        take(&rt, rt.alloc(), &mut open_memory(rt.alloc())?, row, steps)?;
+    }
+    Ok(())
+}
+
+/// Takes a row's steps over archives, each of which is closed and adopted again before another one
+/// of the steps.
+fn take_reopened(rt: &impl Abort, alloc: Global, row: &str, steps: &[Step]) -> Result<(), Fail> {
+    for place in 0..=steps.len() {
+        let (before, after) = steps.split_at(place);
+        let mut archive = open_memory(alloc)?;
+        take(rt, alloc, &mut archive, row, before)?;
+        take(rt, alloc, &mut adopted(archive.close())?, row, after)?;
+    }
+    Ok(())
 }
 
 #[test]
-fn a_contradiction_changes_nothing(rt: HostRuntime) -> Result<(), Fail> {
-    answers::a_contradiction_changes_nothing(&rt, rt.alloc(), &mut Shelf::new(rt.alloc()))
+fn rows_over_an_archive_that_is_adopted_again(rt: HostRuntime) -> Result<(), Fail> {
+    for (row, steps) in ROWS {
+        take_reopened(&rt, rt.alloc(), row, steps)?;
+    }
+    Ok(())
+}
+
+/// Takes steps over an archive in a file, and closes the file.
+fn take_and_close<D: Disk + Drop>(
+    rt: &impl Abort,
+    alloc: Global,
+    mut archive: Archive<FileStore<D>>,
+    row: &str,
+    steps: &[Step],
+) -> Result<(), Fail> {
+    take(rt, alloc, &mut archive, row, steps)?;
+    archive.close().close()?;
+    Ok(())
 }
 
 #[test]
-fn one_of_two_generations_is_added(rt: HostRuntime) -> Result<(), Fail> {
-    answers::one_of_two_generations_is_added(&rt, rt.alloc(), &mut Shelf::new(rt.alloc()))
+fn rows_over_a_file_that_is_opened_again(rt: HostRuntime) -> Result<(), Fail> {
+    let _ = fs::remove_dir_all(&rt, FOLDER);
+    for (row, steps) in ROWS {
+        fs::create_dir(&rt, FOLDER)?;
+        let (before, after) = steps.split_at(steps.len() / 2);
+        let archive = created(Connection::open(&rt, PATH)?)?;
+        take_and_close(&rt, rt.alloc(), archive, row, before)?;
+        let archive = adopted(Connection::open(&rt, PATH)?)?;
+        take_and_close(&rt, rt.alloc(), archive, row, after)?;
+        fs::remove_dir_all(&rt, FOLDER)?;
+    }
+    Ok(())
 }
 
 #[test]
-fn registrations_are_refused(rt: HostRuntime) -> Result<(), Fail> {
-    answers::registrations_are_refused(&rt, rt.alloc(), &mut Shelf::new(rt.alloc()))
+fn an_archive_is_not_made_twice(rt: HostRuntime) -> Result<(), Fail> {
+    let row = "made twice";
+    let (before, after) = A_DAY_IS_ADDED.split_at(3);
+    let mut archive = open_memory(rt.alloc())?;
+    take(&rt, rt.alloc(), &mut archive, row, before)?;
+    let conn = handed_back(&rt, Archive::create(archive.close()))?;
+    take(&rt, rt.alloc(), &mut adopted(conn)?, row, after)
 }
 
 #[test]
-fn drivers_are_rebased(rt: HostRuntime) -> Result<(), Fail> {
-    answers::drivers_are_rebased(&rt, rt.alloc(), &mut Shelf::new(rt.alloc()))
+fn a_store_without_tables_has_no_archive(rt: HostRuntime) -> Result<(), Fail> {
+    let conn = Connection::open_in_memory(rt.alloc())?;
+    let conn = handed_back(&rt, Archive::adopt(conn))?;
+    let mut archive = created(conn)?;
+    take(&rt, rt.alloc(), &mut archive, "made later", A_DAY_IS_ADDED)
 }
 
 #[test]
-fn a_card_has_its_owner(rt: HostRuntime) -> Result<(), Fail> {
-    answers::a_card_has_its_owner(&rt, rt.alloc(), &mut Shelf::new(rt.alloc()))
-}
-
-#[test]
-fn downloads_are_read(rt: HostRuntime) -> Result<(), Fail> {
-    answers::downloads_are_read(&rt, rt.alloc(), &mut Shelf::new(rt.alloc()))
+fn a_store_with_other_tables_has_no_archive(rt: HostRuntime) -> Result<(), Fail> {
+    let mut conn = Connection::open_in_memory(rt.alloc())?;
+    conn.execute_batch("CREATE TABLE note (a INTEGER) STRICT")?;
+    assert!(rt; conn.is_autocommit());
+    let conn = handed_back(&rt, Archive::create(conn))?;
+    let mut conn = handed_back(&rt, Archive::adopt(conn))?;
+    let row = conn.query_row("SELECT count(*) FROM sqlite_master", &[])?;
+    let count: i64 = row.get(0)?;
+    assert_eq!(rt; count, 1);
+    Ok(())
 }

@@ -1,0 +1,437 @@
+//! Rows: what an archive without drivers answers, step by step.
+
+use crate::step::Step::{Adds, Has, HasNoLine, Holds, Lacks, Rebase, Refuses, Register, Repeats};
+use crate::step::{Code, Pieces, Step};
+use tacho_card::Part;
+use tacho_state::Caller;
+use tacho_time::Activity;
+
+/// The holder of Anna's card.
+const ANNAS_HOLDER: [u8; 15] = *b"\x0dD1234567890123";
+
+/// That of Bert's.
+const BERTS_HOLDER: [u8; 15] = *b"\x0dD1234567890124";
+
+/// The identification of Anna's card.
+const ANNA: &str = "05200000110d44313233343536373839303132333030";
+
+/// That of Bert's.
+const BERT: &str = "05200000110d44313233343536373839303132343030";
+
+/// The head of a block of activity data of the first generation, of 40 bytes.
+const FIRST: &str = "0504000028";
+
+/// That of the second one.
+const SECOND: &str = "0504020028";
+
+/// Activity data from Monday 00:00 to Tuesday 08:00.
+const DAY: &str =
+    "000000140000001465e50f0000010000000011e019fe23fc0014001065e6608000020000000011e0";
+
+/// Activity data of the same time, which are others from Monday 08:00 on, and all Tuesday.
+const OTHER_DAY: &str =
+    "000000140000001465e50f0000010000000011ea1a0823f20014001065e6608000020000080011e0";
+
+/// A block of activity data of Monday's morning alone, to 08:30.
+const MORNING: &str = "0504000016000000000000001265e50f0000010000000011e019fe";
+
+/// A block of Monday's first five hours alone.
+const NIGHT: &str = "0504000014000000000000001065e50f00000100000000012c";
+
+/// A block of Tuesday's morning alone, to 08:30.
+const TUESDAY: &str = "0504000016000000000000001265e6608000020000000011e019fe";
+
+/// A block of activity data without records.
+const EMPTY: &str = "050400001000000000000000000000000000000000";
+
+/// What `DAY` gives.
+const THE_DAY: Pieces = &[
+    (0, 480, Activity::Rest),
+    (480, 510, Activity::Work),
+    (510, 1020, Activity::Drive),
+    (1440, 1920, Activity::Rest),
+];
+
+/// What `OTHER_DAY` gives.
+const THE_OTHER_DAY: Pieces = &[
+    (0, 490, Activity::Rest),
+    (490, 520, Activity::Work),
+    (520, 1010, Activity::Drive),
+    (1440, 1920, Activity::Available),
+];
+
+/// What `MORNING` gives.
+const THE_MORNING: Pieces = &[(0, 480, Activity::Rest), (480, 510, Activity::Work)];
+
+/// What `MORNING` and `TUESDAY` give.
+const BOTH_MORNINGS: Pieces = &[
+    (0, 480, Activity::Rest),
+    (480, 510, Activity::Work),
+    (1440, 1920, Activity::Rest),
+    (1920, 1950, Activity::Work),
+];
+
+/// What `DAY` and `TUESDAY` give.
+const TWO_DAYS: Pieces = &[
+    (0, 480, Activity::Rest),
+    (480, 510, Activity::Work),
+    (510, 1020, Activity::Drive),
+    (1440, 1920, Activity::Rest),
+    (1920, 1950, Activity::Work),
+];
+
+/// Anna is registered, as driver 17.
+const REGISTER_ANNA: Step = Register(17, ANNAS_HOLDER, "anna-key-1", 0, Ok(()));
+
+/// Bert is registered, as driver 18.
+const REGISTER_BERT: Step = Register(18, BERTS_HOLDER, "bert-key-1", 7, Ok(()));
+
+/// A card's file is added, held and read again.
+pub(crate) const A_DAY_IS_ADDED: &[Step] = &[
+    REGISTER_ANNA,
+    Holds(17, &[]),
+    Adds(Caller::Office, Part::Both, &[ANNA, FIRST, DAY], 17, 1),
+    Holds(17, THE_DAY),
+    Has(17, 1, &[ANNA, FIRST, DAY]),
+    Lacks(17, 2, Code::S10),
+];
+
+/// A file without records gives nothing, so it adds nothing.
+const EMPTY_DATA_ARE_REPEATED: &[Step] = &[
+    REGISTER_ANNA,
+    Repeats(Caller::Office, Part::Both, &[ANNA, EMPTY], 17),
+    Holds(17, &[]),
+    Lacks(17, 1, Code::S10),
+];
+
+/// What was given before isn't added again, and what wasn't is.
+const A_PART_OF_THE_DAY_IS_REPEATED: &[Step] = &[
+    REGISTER_ANNA,
+    Adds(Caller::Office, Part::Both, &[ANNA, MORNING], 17, 1),
+    Holds(17, THE_MORNING),
+    Adds(Caller::Office, Part::Both, &[ANNA, FIRST, DAY], 17, 2),
+    Holds(17, THE_DAY),
+    Repeats(Caller::Office, Part::Both, &[ANNA, MORNING], 17),
+    Holds(17, THE_DAY),
+    Has(17, 2, &[ANNA, FIRST, DAY]),
+    Lacks(17, 3, Code::S10),
+];
+
+/// Spans of one activity that follow each other are one span, whichever files gave them.
+const SPANS_OF_TWO_DOWNLOADS_ARE_JOINED: &[Step] = &[
+    REGISTER_ANNA,
+    Adds(Caller::Office, Part::Both, &[ANNA, NIGHT], 17, 1),
+    Holds(17, &[(0, 300, Activity::Rest)]),
+    Adds(Caller::Office, Part::Both, &[ANNA, MORNING], 17, 2),
+    Holds(17, THE_MORNING),
+    Repeats(Caller::Office, Part::Both, &[ANNA, NIGHT], 17),
+];
+
+/// A file adds what lies before, between and after what is held.
+const A_DAY_GOES_AROUND_WHAT_IS_HELD: &[Step] = &[
+    REGISTER_ANNA,
+    Adds(Caller::Office, Part::Both, &[ANNA, TUESDAY], 17, 1),
+    Adds(Caller::Office, Part::Both, &[ANNA, MORNING], 17, 2),
+    Holds(17, BOTH_MORNINGS),
+    Adds(Caller::Office, Part::Both, &[ANNA, FIRST, DAY], 17, 3),
+    Holds(17, TWO_DAYS),
+];
+
+/// S6 changes nothing.
+const A_CONTRADICTION_CHANGES_NOTHING: &[Step] = &[
+    REGISTER_ANNA,
+    Adds(Caller::Office, Part::Both, &[ANNA, FIRST, DAY], 17, 1),
+    Refuses(
+        Caller::Office,
+        Part::Both,
+        &[ANNA, FIRST, OTHER_DAY],
+        Code::S6(480),
+    ),
+    Holds(17, THE_DAY),
+    Lacks(17, 2, Code::S10),
+];
+
+/// S6 names the least of several minutes, in whatever order they came.
+const THE_LEAST_CONTRADICTION_IS_NAMED: &[Step] = &[
+    REGISTER_ANNA,
+    Adds(Caller::Office, Part::Both, &[ANNA, TUESDAY], 17, 1),
+    Refuses(
+        Caller::Office,
+        Part::Both,
+        &[ANNA, FIRST, OTHER_DAY],
+        Code::S6(1440),
+    ),
+    Adds(Caller::Office, Part::Both, &[ANNA, MORNING], 17, 2),
+    Refuses(
+        Caller::Office,
+        Part::Both,
+        &[ANNA, FIRST, OTHER_DAY],
+        Code::S6(480),
+    ),
+    Refuses(
+        Caller::Driver(17),
+        Part::First,
+        &[ANNA, FIRST, OTHER_DAY],
+        Code::S6(480),
+    ),
+    Holds(17, BOTH_MORNINGS),
+];
+
+/// A file whose generations contradict each other is taken by one of them.
+const ONE_OF_TWO_GENERATIONS_IS_ADDED: &[Step] = &[
+    REGISTER_ANNA,
+    Refuses(
+        Caller::Office,
+        Part::Both,
+        &[ANNA, FIRST, DAY, SECOND, OTHER_DAY],
+        Code::C14(480),
+    ),
+    Adds(
+        Caller::Office,
+        Part::First,
+        &[ANNA, FIRST, DAY, SECOND, OTHER_DAY],
+        17,
+        1,
+    ),
+    Holds(17, THE_DAY),
+    Refuses(
+        Caller::Office,
+        Part::Second,
+        &[ANNA, FIRST, DAY, SECOND, OTHER_DAY],
+        Code::S6(480),
+    ),
+    Has(17, 1, &[ANNA, FIRST, DAY, SECOND, OTHER_DAY]),
+];
+
+/// A file is taken by one generation and then by the other, where that gives more.
+const EACH_PART_OF_A_FILE_IS_ADDED: &[Step] = &[
+    REGISTER_ANNA,
+    Adds(
+        Caller::Office,
+        Part::First,
+        &[ANNA, MORNING, SECOND, DAY],
+        17,
+        1,
+    ),
+    Holds(17, THE_MORNING),
+    Repeats(
+        Caller::Office,
+        Part::First,
+        &[ANNA, MORNING, SECOND, DAY],
+        17,
+    ),
+    Adds(
+        Caller::Driver(17),
+        Part::Second,
+        &[ANNA, MORNING, SECOND, DAY],
+        17,
+        2,
+    ),
+    Holds(17, THE_DAY),
+    Repeats(
+        Caller::Office,
+        Part::Both,
+        &[ANNA, MORNING, SECOND, DAY],
+        17,
+    ),
+    Repeats(
+        Caller::Driver(17),
+        Part::First,
+        &[ANNA, MORNING, SECOND, DAY],
+        17,
+    ),
+    Has(17, 1, &[ANNA, MORNING, SECOND, DAY]),
+    Has(17, 2, &[ANNA, MORNING, SECOND, DAY]),
+    Lacks(17, 3, Code::S10),
+];
+
+/// A file that was taken by both generations adds nothing by either.
+const BOTH_PARTS_ARE_ADDED_AT_ONCE: &[Step] = &[
+    REGISTER_ANNA,
+    Adds(
+        Caller::Driver(17),
+        Part::Both,
+        &[ANNA, TUESDAY, SECOND, DAY],
+        17,
+        1,
+    ),
+    Holds(17, TWO_DAYS),
+    Repeats(
+        Caller::Office,
+        Part::Second,
+        &[ANNA, TUESDAY, SECOND, DAY],
+        17,
+    ),
+    Repeats(
+        Caller::Office,
+        Part::First,
+        &[ANNA, TUESDAY, SECOND, DAY],
+        17,
+    ),
+    Lacks(17, 2, Code::S10),
+];
+
+/// Each driver has his own files, numbers and timeline.
+const FILES_OF_TWO_DRIVERS_INTERLEAVE: &[Step] = &[
+    REGISTER_BERT,
+    REGISTER_ANNA,
+    Adds(Caller::Office, Part::Both, &[ANNA, MORNING], 17, 1),
+    Adds(Caller::Office, Part::Both, &[BERT, FIRST, OTHER_DAY], 18, 1),
+    Adds(Caller::Office, Part::Both, &[ANNA, FIRST, DAY], 17, 2),
+    Refuses(Caller::Office, Part::Both, &[BERT, MORNING], Code::S6(480)),
+    Adds(Caller::Driver(17), Part::Both, &[ANNA, TUESDAY], 17, 3),
+    Repeats(
+        Caller::Driver(18),
+        Part::Both,
+        &[BERT, FIRST, OTHER_DAY],
+        18,
+    ),
+    Holds(17, TWO_DAYS),
+    Holds(18, THE_OTHER_DAY),
+    Has(17, 1, &[ANNA, MORNING]),
+    Has(18, 1, &[BERT, FIRST, OTHER_DAY]),
+    Has(17, 3, &[ANNA, TUESDAY]),
+    Lacks(18, 2, Code::S10),
+];
+
+/// Of what one driver's files gave nothing counts for another.
+const ONE_FILE_GIVES_TWO_DRIVERS_THE_SAME: &[Step] = &[
+    REGISTER_ANNA,
+    REGISTER_BERT,
+    Adds(Caller::Office, Part::Both, &[ANNA, FIRST, DAY], 17, 1),
+    Holds(18, &[]),
+    Adds(Caller::Office, Part::Both, &[BERT, FIRST, DAY], 18, 1),
+    Holds(17, THE_DAY),
+    Holds(18, THE_DAY),
+];
+
+/// A registration's first fault is answered: S1, S2, S3, S9.
+const REGISTRATIONS_ARE_REFUSED: &[Step] = &[
+    REGISTER_ANNA,
+    Register(17, ANNAS_HOLDER, "anna-key-1", 1, Err(Code::S1)),
+    Register(18, ANNAS_HOLDER, "anna-key-1", 1, Err(Code::S2)),
+    Register(18, ANNAS_HOLDER, "bert-key-1", 1, Err(Code::S3)),
+    Register(18, BERTS_HOLDER, "bert-key-1", 1, Err(Code::S9)),
+    HasNoLine(18, Code::S4),
+    REGISTER_BERT,
+    Holds(18, &[]),
+];
+
+/// S4 comes before S9.
+const DRIVERS_ARE_REBASED: &[Step] = &[
+    REGISTER_ANNA,
+    Rebase(17, 7, Ok(())),
+    Rebase(17, 1, Err(Code::S9)),
+    Rebase(18, 7, Err(Code::S4)),
+    Rebase(18, 1, Err(Code::S4)),
+    Register(17, ANNAS_HOLDER, "anna-key-1", 0, Err(Code::S1)),
+];
+
+/// An import is for the driver whose card it is: S4, S5.
+const A_CARD_HAS_ITS_OWNER: &[Step] = &[
+    REGISTER_ANNA,
+    Refuses(Caller::Office, Part::Both, &[BERT, FIRST, DAY], Code::S4),
+    Refuses(
+        Caller::Driver(18),
+        Part::Both,
+        &[ANNA, FIRST, DAY],
+        Code::S4,
+    ),
+    REGISTER_BERT,
+    Refuses(
+        Caller::Driver(18),
+        Part::Both,
+        &[ANNA, FIRST, DAY],
+        Code::S5,
+    ),
+    Lacks(17, 1, Code::S10),
+    Lacks(18, 1, Code::S10),
+    Adds(Caller::Driver(17), Part::Both, &[ANNA, FIRST, DAY], 17, 1),
+    Refuses(
+        Caller::Driver(18),
+        Part::Both,
+        &[ANNA, FIRST, DAY],
+        Code::S5,
+    ),
+    Holds(18, &[]),
+];
+
+/// S11 comes before S4 and S5.
+const A_FILES_FAULT_COMES_FIRST: &[Step] = &[
+    Refuses(Caller::Office, Part::Both, &[BERT, FIRST], Code::C1(22)),
+    REGISTER_ANNA,
+    Refuses(Caller::Driver(18), Part::Both, &[ANNA, FIRST], Code::C1(22)),
+    Refuses(
+        Caller::Driver(17),
+        Part::Second,
+        &[BERT, FIRST, DAY],
+        Code::C6,
+    ),
+    Refuses(
+        Caller::Driver(17),
+        Part::Both,
+        &[BERT, FIRST, DAY, SECOND, OTHER_DAY],
+        Code::C14(480),
+    ),
+    Refuses(Caller::Office, Part::Both, &[FIRST, DAY], Code::C3),
+    Holds(17, &[]),
+    Lacks(17, 1, Code::S10),
+];
+
+/// Readings of drivers and downloads that there are not: S4, S10.
+const WHAT_IS_UNKNOWN_IS_NOT_READ: &[Step] = &[
+    HasNoLine(17, Code::S4),
+    REGISTER_ANNA,
+    Adds(Caller::Office, Part::Both, &[ANNA, FIRST, DAY], 17, 1),
+    Lacks(17, 0, Code::S10),
+    Lacks(17, 4_294_967_295, Code::S10),
+    Lacks(18, 1, Code::S4),
+    Lacks(4_294_967_295, 1, Code::S4),
+    HasNoLine(18, Code::S4),
+    HasNoLine(0, Code::S4),
+];
+
+/// Each row, with its name.
+pub(crate) const ROWS: [(&str, &[Step]); 17] = [
+    ("a day is added", A_DAY_IS_ADDED),
+    ("empty data are repeated", EMPTY_DATA_ARE_REPEATED),
+    (
+        "a part of the day is repeated",
+        A_PART_OF_THE_DAY_IS_REPEATED,
+    ),
+    (
+        "spans of two downloads are joined",
+        SPANS_OF_TWO_DOWNLOADS_ARE_JOINED,
+    ),
+    (
+        "a day goes around what is held",
+        A_DAY_GOES_AROUND_WHAT_IS_HELD,
+    ),
+    (
+        "a contradiction changes nothing",
+        A_CONTRADICTION_CHANGES_NOTHING,
+    ),
+    (
+        "the least contradiction is named",
+        THE_LEAST_CONTRADICTION_IS_NAMED,
+    ),
+    (
+        "one of two generations is added",
+        ONE_OF_TWO_GENERATIONS_IS_ADDED,
+    ),
+    ("each part of a file is added", EACH_PART_OF_A_FILE_IS_ADDED),
+    ("both parts are added at once", BOTH_PARTS_ARE_ADDED_AT_ONCE),
+    (
+        "files of two drivers interleave",
+        FILES_OF_TWO_DRIVERS_INTERLEAVE,
+    ),
+    (
+        "one file gives two drivers the same",
+        ONE_FILE_GIVES_TWO_DRIVERS_THE_SAME,
+    ),
+    ("registrations are refused", REGISTRATIONS_ARE_REFUSED),
+    ("drivers are rebased", DRIVERS_ARE_REBASED),
+    ("a card has its owner", A_CARD_HAS_ITS_OWNER),
+    ("a file's fault comes first", A_FILES_FAULT_COMES_FIRST),
+    ("what is unknown is not read", WHAT_IS_UNKNOWN_IS_NOT_READ),
+];

@@ -1,0 +1,218 @@
+//! Steps: what an archive is told or asked, and what it has to answer, whichever archive it is.
+
+use std::alloc::Global;
+use std::process::Abort;
+use std::test::Fail;
+use tacho_card::{CardFault, Part};
+use tacho_state::{Caller, Driver, Imported, Keeper, StoreFault};
+use tacho_time::{Activity, Day, Mark, Minute, Span};
+
+/// Monday 2024-03-04, from which the days of steps are counted.
+const MONDAY: u32 = 19_786;
+
+/// A card file's blocks, in hexadecimal digits.
+pub(crate) type Blocks = &'static [&'static str];
+
+/// Spans of a driver who is alone: each from a minute to before another one, counted from Monday 00:00.
+pub(crate) type Pieces = &'static [(u16, u16, Activity)];
+
+/// Why an archive refuses, by its code. Minutes are counted from Monday 00:00.
+#[derive(Clone, Copy, Debug)]
+pub(crate) enum Code {
+    /// The driver's number is taken.
+    S1,
+    /// The key is taken.
+    S2,
+    /// The card's holder is taken.
+    S3,
+    /// No driver has the number, or the card's holder.
+    S4,
+    /// It is another's card.
+    S5,
+    /// This minute would have two marks, and none before it.
+    S6(u16),
+    /// The day isn't a Monday.
+    S9,
+    /// No download has the number.
+    S10,
+    /// S11: the block at this offset goes past the file's end.
+    C1(usize),
+    /// S11: the file has no identification.
+    C3,
+    /// S11: it has no activity data of the part.
+    C6,
+    /// S11: it gives this minute two marks, and none before it.
+    C14(u16),
+}
+
+/// What an archive is told or asked, and what it has to answer.
+#[derive(Clone, Copy, Debug)]
+pub(crate) enum Step {
+    /// A driver is registered: his number, his card's holder, his key, and how many days after Monday he is examined from.
+    Register(u32, [u8; 15], &'static str, u8, Result<(), Code>),
+    /// An import of a file of these blocks by a part makes it that download of that driver.
+    Adds(Caller, Part, Blocks, u32, u32),
+    /// An import does nothing: the driver's downloads give all before.
+    Repeats(Caller, Part, Blocks, u32),
+    /// An import is refused.
+    Refuses(Caller, Part, Blocks, Code),
+    /// A driver is examined from another day.
+    Rebase(u32, u8, Result<(), Code>),
+    /// A driver's timeline is exactly these spans.
+    Holds(u32, Pieces),
+    /// A driver has a download with this number: a file of these blocks.
+    Has(u32, u32, Blocks),
+    /// Of a driver no timeline is read.
+    HasNoLine(u32, Code),
+    /// Of a driver no download with this number is read.
+    Lacks(u32, u32, Code),
+}
+
+/// Takes steps of a row, and asserts the answer to each.
+pub(crate) fn take<K: Keeper>(
+    rt: &impl Abort,
+    alloc: Global,
+    keeper: &mut K,
+    row: &str,
+    steps: &[Step],
+) -> Result<(), Fail> {
+    for &step in steps {
+        take_one(rt, alloc, keeper, row, step)?;
+    }
+    Ok(())
+}
+
+/// Takes one step, and asserts its answer.
+fn take_one<K: Keeper>(
+    rt: &impl Abort,
+    alloc: Global,
+    keeper: &mut K,
+    row: &str,
+    step: Step,
+) -> Result<(), Fail> {
+    match step {
+        Step::Register(number, holder, key, day, wanted) => {
+            let driver = driver(alloc, number, holder, key, day)?;
+            assert_eq!(rt;
+                keeper.register(&driver),
+                wanted.map_err(refusal_of),
+                "{row}: {step:?}"
+            );
+        }
+        Step::Adds(caller, part, blocks, driver, number) => {
+            let answer = keeper.import(alloc, caller, part, &file(alloc, blocks)?);
+            assert_eq!(rt;
+                answer,
+                Ok(Imported::Added { driver, number }),
+                "{row}: {step:?}"
+            );
+        }
+        Step::Repeats(caller, part, blocks, driver) => {
+            let answer = keeper.import(alloc, caller, part, &file(alloc, blocks)?);
+            assert_eq!(rt;
+                answer,
+                Ok(Imported::Repeated { driver }),
+                "{row}: {step:?}"
+            );
+        }
+        Step::Refuses(caller, part, blocks, code) => {
+            let answer = keeper.import(alloc, caller, part, &file(alloc, blocks)?);
+            assert_eq!(rt; answer, Err(refusal_of(code)), "{row}: {step:?}");
+        }
+        Step::Rebase(number, day, wanted) => {
+            assert_eq!(rt;
+                keeper.rebase(number, day_of(day)),
+                wanted.map_err(refusal_of),
+                "{row}: {step:?}"
+            );
+        }
+        Step::Holds(number, pieces) => {
+            let line = keeper.line(alloc, number)?;
+            let spans = spans_of(alloc, pieces)?;
+            assert_eq!(rt; line.spans(), spans.as_slice(), "{row}: {step:?}");
+        }
+        Step::Has(number, download, blocks) => {
+            let read = keeper.download(alloc, number, download)?;
+            let file = file(alloc, blocks)?;
+            assert_eq!(rt; read.as_slice(), file.as_slice(), "{row}: {step:?}");
+        }
+        Step::HasNoLine(number, code) => {
+            assert_eq!(rt;
+                keeper.line(alloc, number).err(),
+                Some(refusal_of(code)),
+                "{row}: {step:?}"
+            );
+        }
+        Step::Lacks(number, download, code) => {
+            let found = keeper.download(alloc, number, download);
+            assert_eq!(rt; found.err(), Some(refusal_of(code)), "{row}: {step:?}");
+        }
+    }
+    Ok(())
+}
+
+/// A driver as he is registered.
+fn driver(
+    alloc: Global,
+    number: u32,
+    holder: [u8; 15],
+    key: &str,
+    day: u8,
+) -> Result<Driver, Fail> {
+    let key = String::from_str(alloc, key)?;
+    let name = String::from_str(alloc, "Anna Berg")?;
+    Ok(Driver::new(number, holder, key, day_of(day), name)?)
+}
+
+/// The bytes of blocks.
+fn file(alloc: Global, blocks: &[&str]) -> Result<Vec<u8>, Fail> {
+    let mut bytes = Vec::new(alloc);
+    for block in blocks {
+        bytes.extend_from_slice(&hex::decode(alloc, *block)?)?;
+    }
+    Ok(bytes)
+}
+
+/// The spans of pieces.
+fn spans_of(alloc: Global, pieces: Pieces) -> Result<Vec<Span>, Fail> {
+    let mut spans = Vec::new(alloc);
+    for &(start, past, activity) in pieces {
+        spans.push(Span {
+            start: minute_of(start),
+            past: minute_of(past),
+            mark: Mark {
+                activity,
+                crew: false,
+            },
+        })?;
+    }
+    Ok(spans)
+}
+
+/// The refusal that has a code.
+fn refusal_of(code: Code) -> StoreFault {
+    match code {
+        Code::S1 => StoreFault::DriverTaken,
+        Code::S2 => StoreFault::KeyTaken,
+        Code::S3 => StoreFault::HolderTaken,
+        Code::S4 => StoreFault::UnknownDriver,
+        Code::S5 => StoreFault::NotYourCard,
+        Code::S6(minute) => StoreFault::Contradiction(minute_of(minute)),
+        Code::S9 => StoreFault::NotMonday,
+        Code::S10 => StoreFault::UnknownDownload,
+        Code::C1(offset) => StoreFault::Card(CardFault::Truncated(offset)),
+        Code::C3 => StoreFault::Card(CardFault::NoIdentification),
+        Code::C6 => StoreFault::Card(CardFault::NoActivity),
+        Code::C14(minute) => StoreFault::Card(CardFault::SelfContradiction(minute_of(minute))),
+    }
+}
+
+/// The minute that is so many after Monday 00:00.
+fn minute_of(minutes: u16) -> Minute {
+    Minute::new(MONDAY * 1440 + u32::from(minutes))
+}
+
+/// The day that is so many after Monday.
+fn day_of(days: u8) -> Day {
+    Day::new(MONDAY + u32::from(days))
+}
