@@ -1,0 +1,130 @@
+#!/usr/bin/env python3
+"""What an archive makes of its tables, by stock SQLite: the same tables and statements, each command in one transaction.
+
+It takes the words and the commands of the program tacho_archive_bench, and answers the same. Beside a card file there
+are the rows that an archive keeps of it, so that no card is read here and nothing is decided: what is measured is SQLite."""
+import json
+import sqlite3
+import sys
+
+BASE = 10_959
+TABLES = [
+    "CREATE TABLE meta (id INTEGER PRIMARY KEY, version INTEGER NOT NULL) STRICT",
+    "CREATE TABLE drivers (driver INTEGER PRIMARY KEY, holder BLOB NOT NULL UNIQUE, secret TEXT NOT NULL UNIQUE,"
+    " base INTEGER NOT NULL, name TEXT NOT NULL, downloads INTEGER NOT NULL, entries INTEGER NOT NULL) STRICT",
+    "CREATE TABLE downloads (driver INTEGER NOT NULL REFERENCES drivers(driver), number INTEGER NOT NULL,"
+    " part INTEGER NOT NULL, file BLOB NOT NULL, PRIMARY KEY (driver, number)) STRICT",
+    "CREATE TABLE card_spans (driver INTEGER NOT NULL REFERENCES drivers(driver), start INTEGER NOT NULL,"
+    " past INTEGER NOT NULL, mark INTEGER NOT NULL, PRIMARY KEY (driver, start)) STRICT",
+    "CREATE TABLE entries (driver INTEGER NOT NULL REFERENCES drivers(driver), number INTEGER NOT NULL,"
+    " start INTEGER NOT NULL, past INTEGER NOT NULL, mark INTEGER NOT NULL,"
+    " withdrawn INTEGER NOT NULL CHECK (withdrawn IN (0, 1)), PRIMARY KEY (driver, number)) STRICT",
+    "CREATE TABLE held (driver INTEGER NOT NULL REFERENCES drivers(driver), start INTEGER NOT NULL,"
+    " past INTEGER NOT NULL, mark INTEGER NOT NULL, PRIMARY KEY (driver, start)) STRICT",
+    "INSERT INTO meta (id, version) VALUES (1, 1)",
+]
+NEAR = "SELECT start, past, mark FROM {} WHERE driver = ?1 AND start < ?3 AND ?2 < past ORDER BY start"
+ADD = "INSERT INTO {} (driver, start, past, mark) VALUES (?1, ?2, ?3, ?4)"
+
+
+def opened(place, path):
+    """A connection with the settings that the archive's SQLite has, as far as it can have them."""
+    connection = sqlite3.connect(path or ":memory:", isolation_level=None)
+    connection.execute("PRAGMA foreign_keys = ON")
+    if path:
+        connection.execute("PRAGMA locking_mode = EXCLUSIVE")
+        connection.execute("PRAGMA journal_mode = WAL").fetchone()
+        connection.execute("PRAGMA synchronous = FULL")
+        connection.execute("PRAGMA cache_size = 2000")
+    if place != "open":
+        connection.execute("BEGIN")
+        for text in TABLES:
+            connection.execute(text)
+        connection.execute("COMMIT")
+    return connection
+
+
+class Card:
+    """A card file, with the rows that an archive keeps of it."""
+
+    def __init__(self, path):
+        with open(path, "rb") as file:
+            self.file = file.read()
+        with open(path + ".rows", encoding="utf-8") as file:
+            rows = json.load(file)
+        self.holder, self.driver = bytes.fromhex(rows["holder"]), rows["driver"]
+        self.range = (self.driver, rows["spans"][0][0], rows["spans"][-1][1])
+        self.spans = [(self.driver, *span) for span in rows["spans"]]
+
+
+def first(connection, text, *values):
+    """The first row of an answer, or None."""
+    return connection.execute(text, values).fetchone()
+
+
+def register(connection, driver, card):
+    """Adds a driver."""
+    key = f"driver-{driver}"
+    connection.execute("BEGIN")
+    taken = [
+        first(connection, "SELECT holder, base, downloads, entries FROM drivers WHERE driver = ?1", driver),
+        first(connection, "SELECT driver FROM drivers WHERE secret = ?1", key),
+        first(connection, "SELECT driver FROM drivers WHERE holder = ?1", card.holder),
+    ]
+    if any(taken):
+        raise ValueError("the driver is there")
+    connection.execute(
+        "INSERT INTO drivers (driver, holder, secret, base, name, downloads, entries) VALUES (?1, ?2, ?3, ?4, ?5, 0, 0)",
+        (driver, card.holder, key, BASE, "Anna Berg"),
+    )
+    connection.execute("COMMIT")
+    return f"registered {driver}"
+
+
+def import_card(connection, card):
+    """Adds a download and its spans."""
+    connection.execute("BEGIN")
+    (driver,) = first(connection, "SELECT driver FROM drivers WHERE holder = ?1", card.holder)
+    found = first(connection, "SELECT holder, base, downloads, entries FROM drivers WHERE driver = ?1", driver)
+    number = found[2] + 1
+    near = [connection.execute(NEAR.format(table), card.range).fetchall() for table in ("card_spans", "held")]
+    if any(near):
+        raise ValueError("spans near those of the card are there")
+    connection.execute("UPDATE drivers SET downloads = ?2 WHERE driver = ?1", (driver, number))
+    connection.execute("INSERT INTO downloads (driver, number, part, file) VALUES (?1, ?2, ?3, ?4)", (driver, number, 0, card.file))
+    connection.executemany(ADD.format("card_spans"), card.spans)
+    connection.executemany(ADD.format("held"), card.spans)
+    connection.execute("COMMIT")
+    return f"added {driver} {number}"
+
+
+def settings(connection):
+    """The settings that matter, as SQLite names them."""
+    names = ["journal_mode", "synchronous", "locking_mode", "cache_size", "page_size", "foreign_keys", "wal_autocheckpoint"]
+    return ", ".join(f"{name} {first(connection, f'PRAGMA {name}')[0]}" for name in names)
+
+
+def main(place="memory", path=None):
+    connection, card = opened(place, path), None
+    print("ready", flush=True)
+    for line in iter(sys.stdin.readline, ""):
+        command, _, word = line.rstrip("\n").partition(" ")
+        answer = command
+        if command == "card":
+            card, answer = Card(word), f"card {word}"
+        elif command == "register":
+            answer = register(connection, int(word), card)
+        elif command == "import":
+            answer = import_card(connection, card)
+        elif command == "settings":
+            answer = settings(connection)
+        print(answer, flush=True)
+    if path:
+        connection.execute("PRAGMA wal_checkpoint(TRUNCATE)").fetchone()
+    connection.close()
+    if path:
+        print("closed", flush=True)
+
+
+if __name__ == "__main__":
+    main(*sys.argv[1:])
