@@ -16,6 +16,17 @@ pub struct StoredSpan {
     pub mark: u32,
 }
 
+/// Hours that were entered by hand: their number among the driver's, minutes from `start` to before `past`, the number of the mark,
+/// and 1 where they were withdrawn, else 0.
+#[derive(Clone, Copy, Debug, PartialEq, Eq)]
+pub struct StoredEntry {
+    pub number: u32,
+    pub start: u32,
+    pub past: u32,
+    pub mark: u32,
+    pub withdrawn: u32,
+}
+
 /// What is stored of a driver, but for his key and his name.
 #[derive(Debug, Drop)]
 pub struct StoredDriver {
