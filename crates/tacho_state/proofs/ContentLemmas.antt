@@ -9,14 +9,17 @@ use Rattle.tacho_state.specs.Steps.{Content}
 use Rattle.tacho_state.specs.Content.{BlocksTell, ReadTells, Tells}
 
 -- blocks that name a holder have a content
-blocks_tell : (part : Part) (blocks : List FileBlock) (holder : List ℕ) → file_holder blocks ≡ Ok holder → (content : Result Content CardFault) × BlocksTell part blocks content
+blocks_tell : (part : Part) (blocks : List FileBlock) (holder : List ℕ) → file_holder blocks ≡ Ok holder
+    → (content : Result Content CardFault) × BlocksTell part blocks content
 blocks_tell part blocks holder h = go (some_reading part blocks) where
-  go : (reading : Result (List Span) CardFault) × ReadsFile part blocks reading → (content : Result Content CardFault) × BlocksTell part blocks content
+  go : (reading : Result (List Span) CardFault) × ReadsFile part blocks reading
+      → (content : Result Content CardFault) × BlocksTell part blocks content
   go (Ok spans, reads) = (Ok (record { holder = holder; spans = spans }), (h, reads))
   go (Err fault, reads) = (Err fault, reads)
 
 -- two contents of the same blocks are one
-one_of_blocks : (part : Part) (blocks : List FileBlock) (a b : Result Content CardFault) → BlocksTell part blocks a → BlocksTell part blocks b → a ≡ b
+one_of_blocks : (part : Part) (blocks : List FileBlock) (a b : Result Content CardFault) → BlocksTell part blocks a
+    → BlocksTell part blocks b → a ≡ b
 one_of_blocks part blocks (Ok a) (Ok b) h k =
     let same_holder : a.holder ≡ b.holder = let e = sym h.0 ∙ k.0 in cc in
     let same_spans : a.spans ≡ b.spans = let e = one_reading part blocks (Ok a.spans) (Ok b.spans) h.1 k.1 in cc in
@@ -26,10 +29,12 @@ one_of_blocks part blocks (Err a) (Ok b) h k = let no_such = one_reading part bl
 one_of_blocks part blocks (Err a) (Err b) h k = let e = one_reading part blocks (Err a) (Err b) h k in cc
 
 -- blocks that are read name a holder
-holds : (r : Result (List FileBlock) CardFault) (blocks : List FileBlock) → then_held r ≡ Ok blocks → (holder : List ℕ) × (file_holder blocks ≡ Ok holder)
+holds : (r : Result (List FileBlock) CardFault) (blocks : List FileBlock) → then_held r ≡ Ok blocks
+    → (holder : List ℕ) × (file_holder blocks ≡ Ok holder)
 holds (Err fault) blocks h = cc
 holds (Ok xs) blocks h = go (file_holder xs) refl h where
-  go : (r : Result (List ℕ) CardFault) → file_holder xs ≡ r → with_holder xs r ≡ Ok blocks → (holder : List ℕ) × (file_holder blocks ≡ Ok holder)
+  go : (r : Result (List ℕ) CardFault) → file_holder xs ≡ r → with_holder xs r ≡ Ok blocks
+      → (holder : List ℕ) × (file_holder blocks ≡ Ok holder)
   go (Ok holder) e k = let same : blocks ≡ xs = cc in (holder, ap file_holder same ∙ e)
   go (Err fault) e k = cc
 
@@ -41,7 +46,8 @@ some_content part bytes = go (card_file bytes) refl where
   go (Ok blocks) e = let named = holds (then_single (blocks_of bytes)) blocks e in blocks_tell part blocks named.0 named.1
 
 -- and no second one
-one_read : (part : Part) (r : Result (List FileBlock) CardFault) (a b : Result Content CardFault) → ReadTells part r a → ReadTells part r b → a ≡ b
+one_read : (part : Part) (r : Result (List FileBlock) CardFault) (a b : Result Content CardFault) → ReadTells part r a → ReadTells part r b
+    → a ≡ b
 one_read part (Ok blocks) a b h k = one_of_blocks part blocks a b h k
 one_read part (Err fault) a b h k = h ∙ sym k
 

@@ -24,5 +24,6 @@ held_map d helds m mark h = (there, held_given (held_spans d) m mark) where
   there : Held d m mark → held_mark d m ≡ Some mark
   there g =
       let found = given_mark (held_spans d) m mark g in
-      let one = disjoint_one helds m found.0 mark h.disjoint ((h.same m found.0).1 (held_given (held_spans d) m found.0 found.1)) ((h.same m mark).1 g) in
+      let one = disjoint_one helds m found.0 mark h.disjoint ((h.same m found.0).1 (held_given (held_spans d) m found.0 found.1))
+      ((h.same m mark).1 g) in
       found.1 ∙ ap (λ (k : Mark). Some k) one

@@ -35,7 +35,8 @@ unnumbered given is = go (nat_le (given + 1) 1000000) refl is where
 put_self : (d : Driver) (s : State) → driver_of d.number s ≡ Some d → put d s ≡ s
 put_self d [] e = refl
 put_self d (x ∷ s) e = go (x.number == d.number) refl e (put_self d s) where
-  go : (b : Bool) → (x.number == d.number) ≡ b → cond b (Some x) (driver_of d.number s) ≡ Some d → (driver_of d.number s ≡ Some d → put d s ≡ s) → cond b (d ∷ s) (x ∷ put d s) ≡ x ∷ s
+  go : (b : Bool) → (x.number == d.number) ≡ b → cond b (Some x) (driver_of d.number s) ≡ Some d
+      → (driver_of d.number s ≡ Some d → put d s ≡ s) → cond b (d ∷ s) (x ∷ put d s) ≡ x ∷ s
   go true o f more = let same : x ≡ d = (let both = f in cc) in ap (λ y. y ∷ s) (sym same)
   go false o f more = ap (λ y. x ∷ y) (more f)
 
@@ -44,23 +45,28 @@ pub his_number : (s : State) (d : Driver) (it : Importer) → IsImporterOf s d i
 his_number s d it is = found_number it.number s d is.found
 
 -- what is repeated is so answered, and leaves the state
-pub repeated_answer : (s : State) (d : Driver) (it : Importer) (part : ℕ) (file : List ℕ) (spans : List Span) → IsImporterOf s d it → import_own part file spans d ≡ Ok (Repeated d.number, d)
+pub repeated_answer : (s : State) (d : Driver) (it : Importer) (part : ℕ) (file : List ℕ) (spans : List Span) → IsImporterOf s d it
+    → import_own part file spans d ≡ Ok (Repeated d.number, d)
     → (settled s (import_own part file spans d)).answer ≡ Ok (Repeated it.number)
 repeated_answer s d it part file spans is own = ap (λ r. (settled s r).answer) own ∙ ap (λ n. Ok (Repeated n)) (his_number s d it is)
 
-pub repeated_after : (s : State) (d : Driver) (it : Importer) (part : ℕ) (file : List ℕ) (spans : List Span) → IsImporterOf s d it → import_own part file spans d ≡ Ok (Repeated d.number, d)
+pub repeated_after : (s : State) (d : Driver) (it : Importer) (part : ℕ) (file : List ℕ) (spans : List Span) → IsImporterOf s d it
+    → import_own part file spans d ≡ Ok (Repeated d.number, d)
     → (settled s (import_own part file spans d)).after ≡ s
-repeated_after s d it part file spans is own = ap (λ r. (settled s r).after) own ∙ put_self d s (subst (λ n. driver_of n s ≡ Some d) (sym (his_number s d it is)) is.found)
+repeated_after s d it part file spans is own = ap (λ r. (settled s r).after) own
+    ∙ put_self d s (subst (λ n. driver_of n s ≡ Some d) (sym (his_number s d it is)) is.found)
 
 -- ---- a download that is added
 
-module _ (db : Trees) (s : State) (d : Driver) (it : Importer) (part : ℕ) (file : List ℕ) (spans cards helds : List Span) (is : IsImporterOf s d it) (new : AreAdded db s it.number d spans cards helds) where
+module _ (db : Trees) (s : State) (d : Driver) (it : Importer) (part : ℕ) (file : List ℕ) (spans cards helds : List Span)
+    (is : IsImporterOf s d it) (new : AreAdded db s it.number d spans cards helds) where
   -- S14
   pub full_answer : next_number it.downloads 1 ≡ None → (settled s (import_own part file spans d)).answer ≡ Err Full
   full_answer none = ap (λ r. (settled s r).answer) (new.full part file (subst (λ n. most ≤ n) is.downloads (unnumbered it.downloads none)))
 
   -- there is a number
-  own_added : (n : ℕ) → next_number it.downloads 1 ≡ Some n → import_own part file spans d ≡ Ok (Added d.number (1 + length d.downloads), with_download part file spans d)
+  own_added : (n : ℕ) → next_number it.downloads 1 ≡ Some n
+      → import_own part file spans d ≡ Ok (Added d.number (1 + length d.downloads), with_download part file spans d)
   own_added n some = new.added part file (subst (λ m. m < most) is.downloads (numbered it.downloads n some).0)
 
   -- and it is the download's
@@ -68,9 +74,12 @@ module _ (db : Trees) (s : State) (d : Driver) (it : Importer) (part : ℕ) (fil
   count_is n some = (numbered it.downloads n some).1 ∙ ap (λ m. 1 + m) is.downloads
 
   -- the answer tells it
-  pub added_answer : (n : ℕ) → next_number it.downloads 1 ≡ Some n → (settled s (import_own part file spans d)).answer ≡ Ok (Added it.number n)
-  added_answer n some = ap (λ r. (settled s r).answer) (own_added n some) ∙ ap (λ m. Ok (Added m (1 + length d.downloads))) (his_number s d it is) ∙ ap (λ m. Ok (Added it.number m)) (sym (count_is n some))
+  pub added_answer : (n : ℕ) → next_number it.downloads 1 ≡ Some n
+      → (settled s (import_own part file spans d)).answer ≡ Ok (Added it.number n)
+  added_answer n some = ap (λ r. (settled s r).answer) (own_added n some)
+      ∙ ap (λ m. Ok (Added m (1 + length d.downloads))) (his_number s d it is) ∙ ap (λ m. Ok (Added it.number m)) (sym (count_is n some))
 
   -- and the state after it has the download
-  pub added_after : (n : ℕ) → next_number it.downloads 1 ≡ Some n → (settled s (import_own part file spans d)).after ≡ put (with_download part file spans d) s
+  pub added_after : (n : ℕ) → next_number it.downloads 1 ≡ Some n
+      → (settled s (import_own part file spans d)).after ≡ put (with_download part file spans d) s
   added_after n some = ap (λ r. (settled s r).after) (own_added n some)

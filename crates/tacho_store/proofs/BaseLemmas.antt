@@ -1,6 +1,5 @@
--- What a change of the day from which a driver is examined answers, by what a look-up finds.
-use Rattle.std.proofs.Common.{◌≡◌, ℕ, true, false, Option, Some, None, Ok, Err, refl, map}
-use Rattle.std.specs.Prelude.{MatchOption, is_some}
+-- What a change of the day from which a driver is examined answers, where he is there.
+use Rattle.std.proofs.Common.{◌≡◌, ℕ, true, false, Some, None, Ok, Err, refl, map}
 use Rattle.sqlite.specs.Tree.{Trees}
 use Rattle.tacho_state.specs.declared.fault.StoreFault.TheVariants.{UnknownDriver, NotMonday}
 use Rattle.tacho_state.specs.State.{Driver, State, driver_of}
@@ -9,29 +8,22 @@ use Rattle.tacho_tables.specs.Tables.{Tables, Stand, with_base}
 use Rattle.tacho_store.specs.Standing.{StandsFor, with_rebased}
 use Rattle.tacho_store.proofs.RegisterLemmas.{rebased_is}
 
--- what a look-up by number found: a driver of the state, of whom so much is known
-abbrev pub Found : {X : Type 0} → ℕ → State → (X → Driver → Type 0) → Option X → Type 0
-Found n s is found = MatchOption found (driver_of n s ≡ None) (λ it. (d : Driver) × (driver_of n s ≡ Some d) × is it d)
+-- S4
+pub no_driver : (n base : ℕ) (s : State) → driver_of n s ≡ None → (rebased n base s).answer ≡ Err UnknownDriver
+no_driver n base s none = rw none refl
 
-module _ (n base : ℕ) (s : State) where
-  -- S4
-  pub no_driver : {X : Type 0} (found : Option X) (is : X → Driver → Type 0) → is_some found ≡ false → Found n s is found → (rebased n base s).answer ≡ Err UnknownDriver
-  no_driver None is none h = rw h refl
-  no_driver (Some x) is none h = absurd (let e = none in cc)
-
+module _ (n base : ℕ) (s : State) (d : Driver) (is : driver_of n s ≡ Some d) where
   -- S9
-  pub no_monday : {X : Type 0} (found : Option X) (is : X → Driver → Type 0) → is_some found ≡ true → Found n s is found → is_monday base ≡ false → (rebased n base s).answer ≡ Err NotMonday
-  no_monday None is some h other = absurd (let e = some in cc)
-  no_monday (Some x) is some h other = rw (h.1, other) refl
+  pub no_monday : is_monday base ≡ false → (rebased n base s).answer ≡ Err NotMonday
+  no_monday other = rw (is, other) refl
 
   -- the day is set
-  pub is_set : {X : Type 0} (found : Option X) (is : X → Driver → Type 0) → is_some found ≡ true → Found n s is found → is_monday base ≡ true → (rebased n base s).answer ≡ Ok tt
-  is_set None is some h monday = absurd (let e = some in cc)
-  is_set (Some x) is some h monday = rw (h.1, monday) refl
+  pub is_set : is_monday base ≡ true → (rebased n base s).answer ≡ Ok tt
+  is_set monday = rw (is, monday) refl
 
   -- and the tables stand for the state after it
-  pub day_set : {X : Type 0} (db next : Trees) (found : Option X) (is : X → Driver → Type 0) → is_some found ≡ true → Found n s is found → is_monday base ≡ true → StandsFor db s
-      → ((a : Tables) → Stand db a → Stand next (record a { drivers = map (with_base n base) a.drivers })) → StandsFor next (rebased n base s).after
+  pub day_set : (db next : Trees) → is_monday base ≡ true → StandsFor db s
+      → ((a : Tables) → Stand db a → Stand next (record a { drivers = map (with_base n base) a.drivers }))
+      → StandsFor next (rebased n base s).after
   unfolding StandsFor
-  day_set db next None is some h monday stands turn = absurd (let e = some in cc)
-  day_set db next (Some x) is some h monday (t, stand, of) turn = rw (h.1, monday) (with_rebased n base t, turn t stand, rebased_is t s n base h.0 of h.1)
+  day_set db next monday (t, stand, of) turn = rw (is, monday) (with_rebased n base t, turn t stand, rebased_is t s n base d of is)

@@ -2,6 +2,8 @@
 use Rattle.std.proofs.Common.{◌≡◌, inl, inr, ℕ, ◌+◌, List, [], length, map, filter, Option, Some, None, Result, Ok, Err, sym, ap, subst}
 use Rattle.std.specs.Prelude.{MatchOption, MatchResult, IsErr, IsErrAnd}
 use Rattle.std.specs.List.Sorted.{IsPermutation}
+use Rattle.sqlite.specs.Effect.{Database}
+use Rattle.sqlite.specs.State.{State as Sqlite, IsUnchanged}
 use Rattle.sqlite.specs.Tree.{Trees}
 use Rattle.tacho_time.specs.declared.span.Span.{Span}
 use Rattle.tacho_time.specs.Spans.{Gives, IsCanonicalOf}
@@ -25,14 +27,18 @@ use Rattle.tacho_store.specs.News.{AreNews, IsRefused}
 use Rattle.tacho_store.specs.Importing.{AreAdded, AreDecided}
 use Rattle.tacho_store.proofs.NearRowLemmas.{read_line, card_kept, held_kept}
 use Rattle.tacho_store.proofs.ImportLemmas.{imported_is}
+use Rattle.tacho_store.specs.Finding.{Refuses}
 use Rattle.tacho_store.proofs.JoinLemmas.{kept_stands}
+use Rattle.tacho_store.proofs.FoundLemmas.{handed_on}
 
 -- rows of a table that were read near a range
 abbrev pub AreRead : (Tables → List SpanRow) → Trees → ℕ → ℕ → ℕ → List StoredSpan → Type 0
 AreRead get db n a b found = (t : Tables) → Stand db t → IsPermutation (map span_of (filter (is_near n a b) (get t))) found
 
-module _ (db : Trees) (s : State) (n : ℕ) (d : Driver) (a b : ℕ) (spans : List Span) (is : driver_of n s ≡ Some d) (within : AreInRange a b spans) (t : Tables) (stand : Stand db t) (of : IsOf t s)
-    (card_line line : List Span) (card_near : IsCanonicalOf (Gives (near a b (spans_of n t.card_spans))) card_line) (held_near : IsCanonicalOf (Gives (near a b (spans_of n t.held))) line) where
+module _ (db : Trees) (s : State) (n : ℕ) (d : Driver) (a b : ℕ) (spans : List Span) (is : driver_of n s ≡ Some d)
+    (within : AreInRange a b spans) (t : Tables) (stand : Stand db t) (of : IsOf t s)
+    (card_line line : List Span) (card_near : IsCanonicalOf (Gives (near a b (spans_of n t.card_spans))) card_line)
+    (held_near : IsCanonicalOf (Gives (near a b (spans_of n t.held))) line) where
   -- what is new goes in
   goes_in : (cards helds : List Span) → AreNews card_line line spans cards helds → AreAdded db s n d spans cards helds
   goes_in cards helds news =
@@ -40,58 +46,73 @@ module _ (db : Trees) (s : State) (n : ℕ) (d : Driver) (a b : ℕ) (spans : Li
       let given = card_kept t s n d of is in
       let held = held_kept t s n d of is in
       record {
-        added = λ part file room. added_import d part file (spans_of n t.card_spans) (spans_of n t.held) card_line line spans helds a b given held within card_near held_near new news.4 room;
-        full = λ part file most. full_import d part file (spans_of n t.card_spans) (spans_of n t.held) card_line line spans helds a b given held within card_near held_near new news.4 most;
+        added = λ part file room. added_import d part file (spans_of n t.card_spans)
+            (spans_of n t.held) card_line line spans helds a b given held within card_near held_near new news.4 room;
+        full = λ part file most. full_import d part file (spans_of n t.card_spans)
+            (spans_of n t.held) card_line line spans helds a b given held within card_near held_near new news.4 most;
         stands = λ part file holder next tells written.
-            kept_stands next n (1 + length d.downloads) (part_number part) file cards helds t (put (with_download (part_number part) file spans d) s) (written t stand)
+            kept_stands next n (1 + length d.downloads) (part_number part) file cards helds t
+            (put (with_download (part_number part) file spans d) s) (written t stand)
             (imported_is t s n d part file (record { holder = holder; spans = spans }) card_line line cards helds a b of is tells within card_near news.3 held_near news.4);
       }
 
   -- nothing new, something new, a contradiction; or a call gave up
   by_lines : (r : Result (Option News) StoreFault)
-      → MatchResult r (λ found. MatchOption found (AreGains card_line spans []) (λ news. AreNews card_line line spans news.card_spans.items news.held.items)) (IsRefused card_line line spans) → AreDecided db s n d spans r
+      → MatchResult r (λ found. MatchOption found (AreGains card_line spans [])
+      (λ news. AreNews card_line line spans news.card_spans.items news.held.items)) (IsRefused card_line line spans)
+      → AreDecided db s n d spans r
   unfolding AreDecided
-  by_lines (Ok None) h = λ part file. repeated_import d part file (spans_of n t.card_spans) card_line spans a b (card_kept t s n d of is) card_near h
+  by_lines (Ok None) h = λ part file. repeated_import d part file (spans_of n t.card_spans) card_line spans a b
+      (card_kept t s n d of is) card_near h
   by_lines (Ok (Some news)) h = goes_in news.card_spans.items news.held.items h
-  by_lines (Err fault) (inl e) = subst (λ f. AreDecided db s n d spans (Err f)) (sym e) tt
-  by_lines (Err fault) (inr (inl e)) = subst (λ f. AreDecided db s n d spans (Err f)) (sym e) tt
+  by_lines (Err fault) (inl e) = subst (λ f. AreDecided db s n d spans (Err f)) (sym e) (λ part file. tt)
+  by_lines (Err fault) (inr (inl e)) = subst (λ f. AreDecided db s n d spans (Err f)) (sym e) (λ part file. tt)
   by_lines (Err fault) (inr (inr it)) =
       subst (λ f. AreDecided db s n d spans (Err f)) (sym it.1)
-      (λ part file. contradicted_import d part file (spans_of n t.card_spans) (spans_of n t.held) card_line line spans a b it.0 (card_kept t s n d of is) (held_kept t s n d of is) within card_near held_near it.2 it.3)
+      (λ part file. contradicted_import d part file (spans_of n t.card_spans) (spans_of n t.held) card_line line spans a b it.0
+      (card_kept t s n d of is) (held_kept t s n d of is) within card_near held_near it.2 it.3)
 
 -- what the lines of the rows near the spans say of them decides their import
-pub decided : (db : Trees) (s : State) (n : ℕ) (d : Driver) (a b : ℕ) (spans : List Span) (cards helds : List StoredSpan) (card_line line : List Span) (r : Result (Option News) StoreFault) → StandsFor db s → driver_of n s ≡ Some d
-    → AreRead (λ t. t.card_spans) db n a b cards → AreRead (λ t. t.held) db n a b helds → IsCanonicalOf (Gives (map stored_span cards)) card_line → IsCanonicalOf (Gives (map stored_span helds)) line → AreInRange a b spans
-    → MatchResult r (λ found. MatchOption found (AreGains card_line spans []) (λ news. AreNews card_line line spans news.card_spans.items news.held.items)) (IsRefused card_line line spans)
+pub decided : (db : Trees) (s : State) (n : ℕ) (d : Driver) (a b : ℕ) (spans : List Span) (cards helds : List StoredSpan)
+    (card_line line : List Span) (r : Result (Option News) StoreFault) → StandsFor db s → driver_of n s ≡ Some d
+    → AreRead (λ t. t.card_spans) db n a b cards → AreRead (λ t. t.held) db n a b helds
+    → IsCanonicalOf (Gives (map stored_span cards)) card_line → IsCanonicalOf (Gives (map stored_span helds)) line → AreInRange a b spans
+    → MatchResult r (λ found. MatchOption found (AreGains card_line spans [])
+    (λ news. AreNews card_line line spans news.card_spans.items news.held.items)) (IsRefused card_line line spans)
     → AreDecided db s n d spans r
 unfolding StandsFor
 decided db s n d a b spans cards helds card_line line r (t, stand, of) is card_read read card_of held_of within h =
     by_lines db s n d a b spans is within t stand of card_line line
-    (read_line t.card_spans n a b cards card_line (card_read t stand) card_of) (read_line t.held n a b helds line (read t stand) held_of) r h
+    (read_line t.card_spans n a b cards card_line (card_read t stand) card_of)
+    (read_line t.held n a b helds line (read t stand) held_of) r h
 
 -- a fault that is handed on answers the import
-pub handed_fault : (db : Trees) (s : State) (n : ℕ) (d : Driver) (spans : List Span) (fault : StoreFault) (r : Result Imported StoreFault) (part : ℕ) (file : List ℕ) → AreDecided db s n d spans (Err fault)
+pub handed_fault : (db : Trees) (s : State) (n : ℕ) (d : Driver) (spans : List Span) (fault : StoreFault) (r : Result Imported StoreFault)
+    (part : ℕ) (file : List ℕ) → AreDecided db s n d spans (Err fault)
     → IsErr r × IsErrAnd r (λ found. found ≡ fault) → Answers (λ done. done) r (settled s (import_own part file spans d)).answer
 unfolding AreDecided
-handed_fault db s n d spans fault (Ok done) part file h e = let wrong = e.0 in cc
-handed_fault db s n d spans fault (Err found) part file h e = subst (λ f. Answers (λ done. done) (Err f) (settled s (import_own part file spans d)).answer) (sym e.1) (go fault h) where
-  go : (f : StoreFault) → AreDecided db s n d spans (Err f) → Answers (λ done. done) (Err f) (settled s (import_own part file spans d)).answer
-  go Memory h = tt
-  go Store h = tt
-  go f h = ap (λ o. (settled s o).answer) (h part file)
+handed_fault db s n d spans fault r part file h = handed_on (λ done. done) fault r (settled s (import_own part file spans d)).answer
+    (go fault (h part file)) where
+      go : (f : StoreFault) → Refuses f (import_own part file spans d) → Refuses f (settled s (import_own part file spans d)).answer
+      go Memory h = tt
+      go Store h = tt
+      go f h = ap (λ o. (settled s o).answer) h
 
 -- a file that gives nothing new is repeated
-pub is_repeated : (db : Trees) (s : State) (n : ℕ) (d : Driver) (spans : List Span) (found : Option News) → found ≡ None → AreDecided db s n d spans (Ok found)
+pub is_repeated : (db : Trees) (s : State) (n : ℕ) (d : Driver) (spans : List Span) (found : Option News) → found ≡ None
+    → AreDecided db s n d spans (Ok found)
     → (part : ℕ) (file : List ℕ) → import_own part file spans d ≡ Ok (Repeated d.number, d)
 unfolding AreDecided
 is_repeated db s n d spans found is h = subst (λ o. AreDecided db s n d spans (Ok o)) is h
 
 -- and one that gives something new can be added
-pub is_new : (db : Trees) (s : State) (n : ℕ) (d : Driver) (spans : List Span) (found : Option News) (news : News) → found ≡ Some news → AreDecided db s n d spans (Ok found)
+pub is_new : (db : Trees) (s : State) (n : ℕ) (d : Driver) (spans : List Span) (found : Option News) (news : News) → found ≡ Some news
+    → AreDecided db s n d spans (Ok found)
     → AreAdded db s n d spans news.card_spans.items news.held.items
 unfolding AreDecided
 is_new db s n d spans found news is h = subst (λ o. AreDecided db s n d spans (Ok o)) is h
 
--- equal spans are decided alike
-pub same_spans : (db : Trees) (s : State) (n : ℕ) (d : Driver) (spans other : List Span) (r : Result (Option News) StoreFault) → spans ≡ other → AreDecided db s n d spans r → AreDecided db s n d other r
-same_spans db s n d spans other r same = subst (λ x. AreDecided db s n d x r) same
+-- what is new stays so while nothing changes
+pub still_new : (old now : Sqlite) (s : State) (n : ℕ) (d : Driver) (spans cards helds : List Span) → IsUnchanged old now
+    → AreAdded old.now.trees s n d spans cards helds → AreAdded now.now.trees s n d spans cards helds
+still_new old now s n d spans cards helds same = subst (λ (w : Database). AreAdded w.trees s n d spans cards helds) (sym same.0.now_is)

@@ -30,9 +30,11 @@ pub record AreGained (t : Tables) (n a b : ℕ) (spans card_line line card_gains
   pub held_gained : AreGains line spans gains
 
 -- the tables stand for the driver with the download
-imported_own : (t : Tables) (d : Driver) (part : Part) (file : List ℕ) (content : Content) (card_line line card_gains gains : List Span) (a b : ℕ) → IsOfDriver t d → Tells part file (Ok content) → AreInRange a b content.spans
+imported_own : (t : Tables) (d : Driver) (part : Part) (file : List ℕ) (content : Content) (card_line line card_gains gains : List Span)
+    (a b : ℕ) → IsOfDriver t d → Tells part file (Ok content) → AreInRange a b content.spans
     → AreGained t d.number a b content.spans card_line line card_gains gains
-    → IsOfDriver (with_imported d.number (1 + length d.downloads) (part_number part) file card_gains gains t) (with_download (part_number part) file content.spans d)
+    → IsOfDriver (with_imported d.number (1 + length d.downloads) (part_number part) file card_gains gains t)
+    (with_download (part_number part) file content.spans d)
 imported_own t d part file content card_line line card_gains gains a b h tells r g =
     record {
       downloads =
@@ -42,19 +44,24 @@ imported_own t d part file content card_line line card_gains gains a b h tells r
       read = read_more d.downloads part file content h.read tells;
       entries = h.entries;
       full = h.full;
-      card_spans = subst (λ (x : List Span). Keeps x (Given (with_download (part_number part) file content.spans d))) (sym (added_own d.number t.card_spans card_gains)) both.0;
-      held = subst (λ (x : List Span). Keeps x (Held (with_download (part_number part) file content.spans d))) (sym (added_own d.number t.held gains)) both.1;
+      card_spans = subst (λ (x : List Span). Keeps x (Given (with_download (part_number part) file content.spans d)))
+          (sym (added_own d.number t.card_spans card_gains)) both.0;
+      held = subst (λ (x : List Span). Keeps x (Held (with_download (part_number part) file content.spans d)))
+          (sym (added_own d.number t.held gains)) both.1;
     } where
       new : Download
       new = record { part = part_number part; file = file; spans = content.spans }
 
-      both : Keeps (spans_of d.number t.card_spans ++ card_gains) (Given (with_download (part_number part) file content.spans d)) × Keeps (spans_of d.number t.held ++ gains) (Held (with_download (part_number part) file content.spans d))
+      both : Keeps (spans_of d.number t.card_spans ++ card_gains) (Given (with_download (part_number part) file content.spans d))
+          × Keeps (spans_of d.number t.held ++ gains) (Held (with_download (part_number part) file content.spans d))
       both =
-          download_kept d (spans_of d.number t.card_spans) (spans_of d.number t.held) card_line line content.spans card_gains gains (part_number part) file a b
+          download_kept d (spans_of d.number t.card_spans) (spans_of d.number t.held) card_line line content.spans card_gains gains
+          (part_number part) file a b
           h.card_spans h.held r g.card_near g.held_near g.card_gained g.held_gained
 
 -- and no row of another driver is another one
-imported_other : (t : Tables) (n number part : ℕ) (file : List ℕ) (card_gains gains : List Span) (j : ℕ) → j ≢ n → SameOfDriver j t (with_imported n number part file card_gains gains t)
+imported_other : (t : Tables) (n number part : ℕ) (file : List ℕ) (card_gains gains : List Span) (j : ℕ) → j ≢ n
+    → SameOfDriver j t (with_imported n number part file card_gains gains t)
 imported_other t n number part file card_gains gains j d = record {
   downloads = other_added j n t.downloads (record { driver = n; number = number; part = part; file = file }) refl d;
   entries = refl;
@@ -71,9 +78,11 @@ counted_other : (n count : ℕ) (r : DriverRow) → r.driver ≢ n → with_down
 counted_other n count r d = ap (λ b. cond b (record r { downloads = count }) r) (eq_not r.driver n d)
 
 -- the tables stand for the state after an import by the driver's own number
-imported_at : (t : Tables) (s : State) (d : Driver) (part : Part) (file : List ℕ) (content : Content) (card_line line card_gains gains : List Span) (a b : ℕ) → IsOf t s → driver_of d.number s ≡ Some d
+imported_at : (t : Tables) (s : State) (d : Driver) (part : Part) (file : List ℕ) (content : Content)
+    (card_line line card_gains gains : List Span) (a b : ℕ) → IsOf t s → driver_of d.number s ≡ Some d
     → Tells part file (Ok content) → AreInRange a b content.spans → AreGained t d.number a b content.spans card_line line card_gains gains
-    → IsOf (with_imported d.number (1 + length d.downloads) (part_number part) file card_gains gains t) (put (with_download (part_number part) file content.spans d) s)
+    → IsOf (with_imported d.number (1 + length d.downloads) (part_number part) file card_gains gains t)
+    (put (with_download (part_number part) file content.spans d) s)
 imported_at t s d part file content card_line line card_gains gains a b h k tells r g =
     let n = d.number in
     let count = 1 + length d.downloads in
@@ -81,18 +90,24 @@ imported_at t s d part file content card_line line card_gains gains a b h k tell
     put_is t (with_imported n count (part_number part) file card_gains gains t) n next d s h k refl (record { key = refl; holder = refl })
     (ap (λ (x : List DriverRow). map (with_downloads n count) x) h.drivers
     ∙ rows_put (with_downloads n count) n next d s k refl h.distinct
-    (counted_own n count (driver_columns d) refl ∙ ap (λ (y : ℕ). record (driver_columns d) { downloads = y }) (one_more d.downloads (record { part = part_number part; file = file; spans = content.spans })))
+    (counted_own n count (driver_columns d) refl
+    ∙ ap (λ (y : ℕ). record (driver_columns d) { downloads = y })
+    (one_more d.downloads (record { part = part_number part; file = file; spans = content.spans })))
     (λ x o. counted_other n count x o))
     (imported_own t d part file content card_line line card_gains gains a b (found_of t n s d k h.each) tells r g)
     (λ j o. imported_other t n count (part_number part) file card_gains gains j o)
 
 -- the tables after an import stand for the state after it
-pub imported_is : (t : Tables) (s : State) (n : ℕ) (d : Driver) (part : Part) (file : List ℕ) (content : Content) (card_line line card_gains gains : List Span) (a b : ℕ) → IsOf t s → driver_of n s ≡ Some d
+pub imported_is : (t : Tables) (s : State) (n : ℕ) (d : Driver) (part : Part) (file : List ℕ) (content : Content)
+    (card_line line card_gains gains : List Span) (a b : ℕ) → IsOf t s → driver_of n s ≡ Some d
     → Tells part file (Ok content) → AreInRange a b content.spans
     → IsCanonicalOf (Gives (near a b (spans_of n t.card_spans))) card_line → AreGains card_line content.spans card_gains
     → IsCanonicalOf (Gives (near a b (spans_of n t.held))) line → AreGains line content.spans gains
-    → IsOf (with_imported n (1 + length d.downloads) (part_number part) file card_gains gains t) (put (with_download (part_number part) file content.spans d) s)
+    → IsOf (with_imported n (1 + length d.downloads) (part_number part) file card_gains gains t)
+    (put (with_download (part_number part) file content.spans d) s)
 imported_is t s n d part file content card_line line card_gains gains a b h k tells r cl cg l g =
     subst (λ (j : ℕ). driver_of j s ≡ Some d → AreGained t j a b content.spans card_line line card_gains gains
-    → IsOf (with_imported j (1 + length d.downloads) (part_number part) file card_gains gains t) (put (with_download (part_number part) file content.spans d) s)) (found_number n s d k)
-    (λ k g. imported_at t s d part file content card_line line card_gains gains a b h k tells r g) k (record { card_near = cl; card_gained = cg; held_near = l; held_gained = g })
+    → IsOf (with_imported j (1 + length d.downloads) (part_number part) file card_gains gains t)
+    (put (with_download (part_number part) file content.spans d) s)) (found_number n s d k)
+    (λ k g. imported_at t s d part file content card_line line card_gains gains a b h k tells r g) k
+    (record { card_near = cl; card_gained = cg; held_near = l; held_gained = g })

@@ -47,13 +47,16 @@ same_driver row t = record {
 }
 
 -- what was written of a registration stands for the state after it
-pub driver_stands : (db : Trees) (row : DriverRow) (t : Tables) (s : State) → Stand db (record t { drivers = row ∷ t.drivers }) → IsOf (with_driver row t) s → StandsFor db s
-driver_stands db row t s stands is = same_stands db (record t { drivers = row ∷ t.drivers }) (with_driver row t) s (same_driver row t) stands is
+pub driver_stands : (db : Trees) (row : DriverRow) (t : Tables) (s : State) → Stand db (record t { drivers = row ∷ t.drivers })
+    → IsOf (with_driver row t) s → StandsFor db s
+driver_stands db row t s stands is = same_stands db (record t { drivers = row ∷ t.drivers }) (with_driver row t) s
+    (same_driver row t) stands is
 
 -- ---- an import
 
 -- the rows of an import in front or behind
-pub same_kept : (n number part : ℕ) (file : List ℕ) (card_gains gains : List Span) (t : Tables) → SameRows (with_imported n number part file card_gains gains t) (kept n number part file card_gains gains t)
+pub same_kept : (n number part : ℕ) (file : List ℕ) (card_gains gains : List Span) (t : Tables)
+    → SameRows (with_imported n number part file card_gains gains t) (kept n number part file card_gains gains t)
 same_kept n number part file card_gains gains t = record {
   drivers = IsPermutation-refl (map (with_downloads n number) t.drivers);
   downloads = IsPermutation-to_front t.downloads (record { driver = n; number = number; part = part; file = file });
@@ -72,7 +75,8 @@ written n number part file cards helds t = record t {
 }
 
 -- an import's four writes make its tables, where the stored rows are those of its gains
-pub turns_kept : (a b c d e : StoreState) (n number part : ℕ) (file : List ℕ) (card_rows rows : List StoredSpan) (card_gains gains : List Span)
+pub turns_kept : (a b c d e : StoreState) (n number part : ℕ) (file : List ℕ) (card_rows rows : List StoredSpan)
+    (card_gains gains : List Span)
     → map (row_of n) card_rows ≡ map (span_row n) card_gains → map (row_of n) rows ≡ map (span_row n) gains
     → Turns a b (λ t. record t { drivers = map (with_downloads n number) t.drivers })
     → Turns b c (λ t. record t { downloads = (record { driver = n; number = number; part = part; file = file }) ∷ t.downloads })
@@ -88,7 +92,9 @@ turns_kept a b c d e n number part file card_rows rows card_gains gains same_car
     (subst (λ (x : List SpanRow). Turns a e (written n number part file x (map (row_of n) rows))) same_cards all)
 
 -- what was written of an import stands for the state after it
-pub kept_stands : (db : Trees) (n number part : ℕ) (file : List ℕ) (card_gains gains : List Span) (t : Tables) (s : State) → Stand db (kept n number part file card_gains gains t)
+pub kept_stands : (db : Trees) (n number part : ℕ) (file : List ℕ) (card_gains gains : List Span) (t : Tables) (s : State)
+    → Stand db (kept n number part file card_gains gains t)
     → IsOf (with_imported n number part file card_gains gains t) s → StandsFor db s
 kept_stands db n number part file card_gains gains t s stands is =
-    same_stands db (kept n number part file card_gains gains t) (with_imported n number part file card_gains gains t) s (same_kept n number part file card_gains gains t) stands is
+    same_stands db (kept n number part file card_gains gains t) (with_imported n number part file card_gains gains t) s
+    (same_kept n number part file card_gains gains t) stands is

@@ -40,23 +40,28 @@ permuted_gives xs ys m k p g =
     given_by ys m k it.0 (Contains-permutation xs ys it.0 p it.1) it.2 it.3
 
 -- the line of what was read near a range is that of the driver's spans there
-pub read_line : (rows : List SpanRow) (n a b : ℕ) (found : List StoredSpan) (line : List Span) → IsReadNear rows n a b found → IsCanonicalOf (Gives (map stored_span found)) line
+pub read_line : (rows : List SpanRow) (n a b : ℕ) (found : List StoredSpan) (line : List Span) → IsReadNear rows n a b found
+    → IsCanonicalOf (Gives (map stored_span found)) line
     → IsCanonicalOf (Gives (near a b (spans_of n rows))) line
 read_line rows n a b found line p h =
     let read : IsPermutation (near a b (spans_of n rows)) (map stored_span found) =
-    subst (λ (x : List Span). IsPermutation x (map stored_span found)) (near_spans n a b rows) (IsPermutation-map stored_span (map span_of (filter (is_near n a b) rows)) found p)
+    subst (λ (x : List Span). IsPermutation x (map stored_span found)) (near_spans n a b rows)
+    (IsPermutation-map stored_span (map span_of (filter (is_near n a b) rows)) found p)
     in
     record {
       canonical = h.canonical;
       same = λ m k. (
-        λ g. permuted_gives (map stored_span found) (near a b (spans_of n rows)) m k (IsPermutation-sym (near a b (spans_of n rows)) (map stored_span found) read) ((h.same m k).0 g),
+        λ g. permuted_gives (map stored_span found) (near a b (spans_of n rows)) m k
+            (IsPermutation-sym (near a b (spans_of n rows)) (map stored_span found) read) ((h.same m k).0 g),
         λ g. (h.same m k).1 (permuted_gives (near a b (spans_of n rows)) (map stored_span found) m k read g),
       );
     }
 
 -- a driver's card spans keep what he is given
-pub card_kept : (t : Tables) (s : State) (n : ℕ) (d : Driver) → IsOf t s → driver_of n s ≡ Some d → Keeps (spans_of n t.card_spans) (Given d)
-card_kept t s n d h k = subst (λ (j : ℕ). Keeps (spans_of j t.card_spans) (Given d)) (found_number n s d k) (found_of t n s d k h.each).card_spans
+pub card_kept : (t : Tables) (s : State) (n : ℕ) (d : Driver) → IsOf t s → driver_of n s ≡ Some d
+    → Keeps (spans_of n t.card_spans) (Given d)
+card_kept t s n d h k = subst (λ (j : ℕ). Keeps (spans_of j t.card_spans) (Given d)) (found_number n s d k)
+    (found_of t n s d k h.each).card_spans
 
 -- and his held rows what he holds
 pub held_kept : (t : Tables) (s : State) (n : ℕ) (d : Driver) → IsOf t s → driver_of n s ≡ Some d → Keeps (spans_of n t.held) (Held d)

@@ -23,33 +23,40 @@ none_empty place (s ∷ spans) h =
 
 -- so canonical spans have no gains for want of memory, or because they contradict the line
 pub fault_is : (line spans : List Span) (fault : LineFault) (found : StoreFault) → IsCanonical spans
-    → ((m : ℕ) → fault ≡ line_fault.Contradiction m → found ≡ Contradiction m) → (fault ≡ line_fault.Memory → found ≡ Memory) → IsGainFault line spans fault
+    → ((m : ℕ) → fault ≡ line_fault.Contradiction m → found ≡ Contradiction m) → (fault ≡ line_fault.Memory → found ≡ Memory)
+    → IsGainFault line spans fault
     → (found ≡ Memory) ⊎ IsContradicted line spans found
 fault_is line spans (line_fault.Contradiction m) found h conflict memory g = inr (m, conflict m refl, g.1)
 fault_is line spans (line_fault.EmptySpan place) found h conflict memory g = let none = none_empty 0 spans h in cc
 fault_is line spans line_fault.Memory found h conflict memory g = inl (memory refl)
 
 -- new spans that contradict what the driver holds are refused
-refused : (card_line line spans : List Span) (fault : StoreFault) → IsNew card_line spans → (fault ≡ Memory) ⊎ IsContradicted line spans fault → IsRefused card_line line spans fault
+refused : (card_line line spans : List Span) (fault : StoreFault) → IsNew card_line spans
+    → (fault ≡ Memory) ⊎ IsContradicted line spans fault → IsRefused card_line line spans fault
 refused card_line line spans fault new (inl e) = inl e
 refused card_line line spans fault new (inr c) = inr (inr (c.0, c.1, new, c.2))
 
 -- and so is a result that hands their fault on
-pub handed_on : {V : Type 0} (P : V → Type 0) (card_line line spans : List Span) (fault : StoreFault) (result : Result V StoreFault) → IsNew card_line spans → (fault ≡ Memory) ⊎ IsContradicted line spans fault
+pub handed_on : {V : Type 0} (P : V → Type 0) (card_line line spans : List Span) (fault : StoreFault) (result : Result V StoreFault)
+    → IsNew card_line spans → (fault ≡ Memory) ⊎ IsContradicted line spans fault
     → IsErr result × IsErrAnd result (λ found. found ≡ fault) → MatchResult result P (IsRefused card_line line spans)
 handed_on P card_line line spans fault (Ok v) new h e = let wrong = e.0 in cc
-handed_on P card_line line spans fault (Err f) new h e = subst (IsRefused card_line line spans) (sym e.1) (refused card_line line spans fault new h)
+handed_on P card_line line spans fault (Err f) new h e = subst (IsRefused card_line line spans) (sym e.1)
+    (refused card_line line spans fault new h)
 
 -- spans that are not none have a first one
-pub some_first : (spans : List Span) (count : ℕ) → count ≡ length spans → (count == 0) ≡ false → (first : Span) × (others : List Span) × (spans ≡ first ∷ others)
+pub some_first : (spans : List Span) (count : ℕ) → count ≡ length spans → (count == 0) ≡ false
+    → (first : Span) × (others : List Span) × (spans ≡ first ∷ others)
 some_first [] count e h = let zero_count : (count == 0) ≡ true = grind (arith, nat_tests) in cc
 some_first (s ∷ ss) count e h = (s, ss, refl)
 
 -- new spans, with what they add
-pub are_news : (card_line line spans card_gains gains : List Span) → (first : Span) × (others : List Span) × (card_gains ≡ first ∷ others) → AreGains card_line spans card_gains → AreGains line spans gains
+pub are_news : (card_line line spans card_gains gains : List Span) → (first : Span) × (others : List Span) × (card_gains ≡ first ∷ others)
+    → AreGains card_line spans card_gains → AreGains line spans gains
     → AreNews card_line line spans card_gains gains
 are_news card_line line spans card_gains gains some card held = (some.0, some.1, some.2, card, held)
 
 -- they are new
-pub is_new : (card_line spans card_gains : List Span) → (first : Span) × (others : List Span) × (card_gains ≡ first ∷ others) → AreGains card_line spans card_gains → IsNew card_line spans
+pub is_new : (card_line spans card_gains : List Span) → (first : Span) × (others : List Span) × (card_gains ≡ first ∷ others)
+    → AreGains card_line spans card_gains → IsNew card_line spans
 is_new card_line spans card_gains some card = inl (some.0, some.1, subst (AreGains card_line spans) some.2 card)

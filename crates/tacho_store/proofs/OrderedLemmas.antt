@@ -11,8 +11,10 @@ use Rattle.tacho_tables.proofs.Numbered.{numbered_shuffled}
 use Rattle.tacho_store.specs.Standing.{SameRows}
 
 -- stored rows that stand for a list stand for it in another order
-shuffled : {X : Type 0} (columns : X → Row) (rows : List Row) (all other : List X) → IsPermutation all other → Stands columns rows all → Stands columns rows other
-shuffled columns rows all other same s = stands_shuffled columns rows all other s (IsPermutation-map columns other all (IsPermutation-sym all other same))
+shuffled : {X : Type 0} (columns : X → Row) (rows : List Row) (all other : List X) → IsPermutation all other → Stands columns rows all
+    → Stands columns rows other
+shuffled columns rows all other same s = stands_shuffled columns rows all other s
+    (IsPermutation-map columns other all (IsPermutation-sym all other same))
 
 -- and so do all five tables
 pub any_order_stands : (db : Trees) (t u : Tables) → SameRows t u → Stand db t → Stand db u

@@ -8,7 +8,8 @@ use Rattle.tacho_line.proofs.AddLemmas.{first_bound, last_bound}
 use Rattle.tacho_state.specs.Disjoint.{AreInRange}
 
 -- the range from the first span's start to the last one's past has them all
-pub in_range : (spans : List Span) (first last : Span) → IsCanonical spans → slice_get spans 0 ≡ Some first → slice_get spans (length spans - 1) ≡ Some last → AreInRange first.start last.past spans
+pub in_range : (spans : List Span) (first last : Span) → IsCanonical spans → slice_get spans 0 ≡ Some first
+    → slice_get spans (length spans - 1) ≡ Some last → AreInRange first.start last.past spans
 in_range spans first last h from to m k g =
     let some = slice_get_within spans 0 first from in
     let own = get_or_from_slice_get spans 0 first first from in

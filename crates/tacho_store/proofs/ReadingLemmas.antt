@@ -1,6 +1,6 @@
 -- What readings answer, by what look-ups find.
-use Rattle.std.proofs.Common.{◌≡◌, ◌∙◌, ℕ, List, [], filter, true, false, Option, Some, None, Result, Ok, Err, refl, sym, ap}
-use Rattle.std.specs.Prelude.{MatchOption, Contains, is_some, ok_or}
+use Rattle.std.proofs.Common.{◌≡◌, ◌∙◌, ℕ, List, [], filter, Option, Some, None, Result, Ok, Err, refl, sym, ap}
+use Rattle.std.specs.Prelude.{MatchOption, Contains, ok_or}
 use Rattle.sqlite.specs.Tree.{Trees}
 use Rattle.tacho_state.specs.declared.fault.StoreFault.{StoreFault}
 use Rattle.tacho_state.specs.declared.fault.StoreFault.TheVariants.{UnknownDriver, UnknownDownload}
@@ -10,25 +10,22 @@ use Rattle.tacho_state.specs.Acts.{Answers}
 use Rattle.tacho_tables.specs.Rows.{DownloadRow}
 use Rattle.tacho_tables.specs.Tables.{Tables, Stand, is_download}
 use Rattle.tacho_store.specs.Standing.{StandsFor}
-use Rattle.tacho_store.proofs.BaseLemmas.{Found}
 use Rattle.tacho_store.proofs.DownloadLemmas.{download_none, download_some}
 
 -- S4
-pub nobody : {X A : Type 0} (n : ℕ) (s : State) (f : Driver → Result A StoreFault) (found : Option X) (is : X → Driver → Type 0) → is_some found ≡ false → Found n s is found → told_of f (driver_of n s) ≡ Err UnknownDriver
-nobody n s f None is none h = rw h refl
-nobody n s f (Some x) is none h = absurd (let e = none in cc)
-
--- the driver who was found
-pub somebody : {X : Type 0} (n : ℕ) (s : State) (found : Option X) (is : X → Driver → Type 0) → is_some found ≡ true → Found n s is found → (d : Driver) × (driver_of n s ≡ Some d)
-somebody n s None is some h = absurd (let e = some in cc)
-somebody n s (Some x) is some h = (h.0, h.1)
+pub nobody : {A : Type 0} (n : ℕ) (s : State) (f : Driver → Result A StoreFault) → driver_of n s ≡ None
+    → told_of f (driver_of n s) ≡ Err UnknownDriver
+nobody n s f none = ap (told_of f) none
 
 -- S10, or the file
-pub file_told : {X : Type 0} (items : X → List ℕ) (db : Trees) (n number : ℕ) (s : State) (found : Option X) (it : (d : Driver) × (driver_of n s ≡ Some d)) → StandsFor db s
-    → ((a : Tables) → Stand db a → MatchOption found (filter (is_download n number) a.downloads ≡ []) (λ x. (r : DownloadRow) × Contains (filter (is_download n number) a.downloads) r × (items x ≡ r.file)))
+pub file_told : {X : Type 0} (items : X → List ℕ) (db : Trees) (n number : ℕ) (s : State) (found : Option X) (d : Driver)
+    → driver_of n s ≡ Some d → StandsFor db s
+    → ((a : Tables) → Stand db a → MatchOption found (filter (is_download n number) a.downloads ≡ [])
+    (λ x. (r : DownloadRow) × Contains (filter (is_download n number) a.downloads) r × (items x ≡ r.file)))
     → Answers items (ok_or found UnknownDownload) (downloaded n number s)
 unfolding StandsFor
-file_told items db n number s None it (t, stand, of) h = rw (it.1, (download_none t s n number it.0 of it.1).0 (h t stand)) refl
-file_told items db n number s (Some x) it (t, stand, of) h =
+file_told items db n number s None d is (t, stand, of) h = rw (is, (download_none t s n number d of is).0 (h t stand)) refl
+file_told items db n number s (Some x) d is (t, stand, of) h =
     let row = h t stand in
-    ap (told_of (λ (d : Driver). file_of (download_from 1 number d.downloads))) it.1 ∙ download_some t s n number it.0 row.0 of it.1 row.1 ∙ ap Ok (sym row.2)
+    ap (told_of (λ (d : Driver). file_of (download_from 1 number d.downloads))) is ∙ download_some t s n number d row.0 of is row.1
+    ∙ ap Ok (sym row.2)

@@ -28,7 +28,8 @@ number_not n (x ∷ s) e = go (x.number == n) refl e (number_not n s) where
 key_not : (key : List ℕ) (s : State) → keyed key s ≡ None → HasNoKey key s
 key_not key [] e = tt
 key_not key (x ∷ s) e = go (bytes_eq x.key key) refl e (key_not key s) where
-  go : (b : Bool) → bytes_eq x.key key ≡ b → cond b (Some x) (keyed key s) ≡ None → (keyed key s ≡ None → HasNoKey key s) → HasNoKey key (x ∷ s)
+  go : (b : Bool) → bytes_eq x.key key ≡ b → cond b (Some x) (keyed key s) ≡ None → (keyed key s ≡ None → HasNoKey key s)
+      → HasNoKey key (x ∷ s)
   go true o f more = cc
   go false o f more = (bytes_false x.key key o, more f)
 
@@ -36,7 +37,8 @@ key_not key (x ∷ s) e = go (bytes_eq x.key key) refl e (key_not key s) where
 holder_not : (holder : List ℕ) (s : State) → holding holder s ≡ None → HasNoHolder holder s
 holder_not holder [] e = tt
 holder_not holder (x ∷ s) e = go (bytes_eq x.holder holder) refl e (holder_not holder s) where
-  go : (b : Bool) → bytes_eq x.holder holder ≡ b → cond b (Some x) (holding holder s) ≡ None → (holding holder s ≡ None → HasNoHolder holder s) → HasNoHolder holder (x ∷ s)
+  go : (b : Bool) → bytes_eq x.holder holder ≡ b → cond b (Some x) (holding holder s) ≡ None
+      → (holding holder s ≡ None → HasNoHolder holder s) → HasNoHolder holder (x ∷ s)
   go true o f more = cc
   go false o f more = (bytes_false x.holder holder o, more f)
 
@@ -61,7 +63,8 @@ added_has n [] d h = tt
 added_has n (x ∷ s) d h = (h.0, added_has n s d h.1)
 
 -- drivers stay distinct
-distinct_added : (s : State) (d : Driver) → HasNot d.number s → HasNoKey d.key s → HasNoHolder d.holder s → AreDistinct s → AreDistinct (s ++ d ∷ [])
+distinct_added : (s : State) (d : Driver) → HasNot d.number s → HasNoKey d.key s → HasNoHolder d.holder s → AreDistinct s
+    → AreDistinct (s ++ d ∷ [])
 distinct_added [] d n k o h = (tt, tt, tt, tt)
 distinct_added (x ∷ s) d n k o h = (
   has_added x.number s d h.0 (λ e. n.0 (sym e)),
@@ -71,7 +74,8 @@ distinct_added (x ∷ s) d n k o h = (
 )
 
 -- the tables stand for the others, who have the rows that they had, and for the new one
-each_added : (t : Tables) (row : DriverRow) (s : State) (d : Driver) → IsOfEach t s → IsOfDriver (with_driver row t) d → IsOfEach (with_driver row t) (s ++ d ∷ [])
+each_added : (t : Tables) (row : DriverRow) (s : State) (d : Driver) → IsOfEach t s → IsOfDriver (with_driver row t) d
+    → IsOfEach (with_driver row t) (s ++ d ∷ [])
 each_added t row [] d h own = (own, tt)
 each_added t row (x ∷ s) d h own = (record { downloads = h.0.downloads; read = h.0.read; entries = h.0.entries; full = h.0.full; card_spans = h.0.card_spans; held = h.0.held }, each_added t row s d h.1 own)
 
@@ -80,10 +84,12 @@ nothing_kept : Keeps [] (Gives [])
 nothing_kept = record { disjoint = tt; same = λ m k. (λ g. g, λ g. g) }
 
 -- a driver without downloads and entries needs no rows
-new_is : (t : Tables) (s : State) (d : Driver) (downloads : List Download) (entries : List Entry) → downloads ≡ [] → entries ≡ [] → AreKnown t s → HasNot d.number s
+new_is : (t : Tables) (s : State) (d : Driver) (downloads : List Download) (entries : List Entry) → downloads ≡ [] → entries ≡ []
+    → AreKnown t s → HasNot d.number s
     → IsOfDriver (with_driver (driver_columns d) t) (record d { downloads = downloads; entries = entries })
 new_is t s d downloads entries none empty known free =
-    subst (λ (ds : List Download). IsOfDriver (with_driver (driver_columns d) t) (record d { downloads = ds; entries = entries })) (sym none)
+    subst (λ (ds : List Download). IsOfDriver (with_driver (driver_columns d) t) (record d { downloads = ds; entries = entries }))
+    (sym none)
     (subst (λ (es : List Entry). IsOfDriver (with_driver (driver_columns d) t) (record d { downloads = []; entries = es })) (sym empty)
     (record {
       downloads = known.downloads d.number free;
@@ -95,7 +101,8 @@ new_is t s d downloads entries none empty known free =
     }))
 
 -- the tables with a new driver's row stand for the state with him
-pub registered_is : (t : Tables) (s : State) (d : Driver) → IsOf t s → driver_of d.number s ≡ None → keyed d.key s ≡ None → holding d.holder s ≡ None
+pub registered_is : (t : Tables) (s : State) (d : Driver) → IsOf t s → driver_of d.number s ≡ None → keyed d.key s ≡ None
+    → holding d.holder s ≡ None
     → d.downloads ≡ [] → d.entries ≡ [] → IsOf (with_driver (driver_columns d) t) (s ++ d ∷ [])
 registered_is t s d h n k o none empty =
     let free = number_not d.number s n in
@@ -126,12 +133,14 @@ based_same : (t : Tables) (n base j : ℕ) → SameOfDriver j t (with_rebased n 
 based_same t n base j = record { downloads = refl; entries = refl; card_spans = refl; held = refl }
 
 -- the tables with another day in the driver's row stand for the state with it
-pub rebased_is : (t : Tables) (s : State) (n base : ℕ) (d : Driver) → IsOf t s → driver_of n s ≡ Some d → IsOf (with_rebased n base t) (put (with_base base d) s)
+pub rebased_is : (t : Tables) (s : State) (n base : ℕ) (d : Driver) → IsOf t s → driver_of n s ≡ Some d
+    → IsOf (with_rebased n base t) (put (with_base base d) s)
 rebased_is t s n base d h k =
     let same = found_number n s d k in
     let own = found_of t n s d k h.each in
     put_is t (with_rebased n base t) n (with_base base d) d s h k same (record { key = refl; holder = refl })
     (ap (λ (x : List DriverRow). map (tables.with_base n base) x) h.drivers
-    ∙ rows_put (tables.with_base n base) n (with_base base d) d s k same h.distinct (based_own n base (driver_columns d) same) (λ x o. based_other n base x o))
+    ∙ rows_put (tables.with_base n base) n (with_base base d) d s k same h.distinct (based_own n base (driver_columns d) same)
+    (λ x o. based_other n base x o))
     (record { downloads = own.downloads; read = own.read; entries = own.entries; full = own.full; card_spans = own.card_spans; held = own.held })
     (λ j o. based_same t n base j)

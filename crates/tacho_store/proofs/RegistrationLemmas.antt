@@ -3,52 +3,60 @@ use Rattle.std.proofs.Common.{◌≡◌, ℕ, List, [], ◌∷◌, ◌++◌, tru
 use Rattle.std.specs.Prelude.{MatchOption, is_some}
 use Rattle.std.proofs.lemmas.List.Sorted.{IsPermutation-refl, IsPermutation-append_comm}
 use Rattle.sqlite.specs.Tree.{Trees}
+use Rattle.tacho_state.specs.declared.fault.StoreFault.{StoreFault}
 use Rattle.tacho_state.specs.declared.fault.StoreFault.TheVariants.{DriverTaken, KeyTaken, HolderTaken, NotMonday}
 use Rattle.tacho_state.specs.State.{Driver, State, driver_of, keyed, holding}
 use Rattle.tacho_state.specs.Steps.{registered, is_monday}
 use Rattle.tacho_tables.specs.Tables.{Tables, Stand}
+use Rattle.tacho_store.specs.Finding.{Refuses, AreFree, IsAskedFree}
 use Rattle.tacho_store.specs.Standing.{StandsFor, driver_columns, with_driver}
 use Rattle.tacho_store.proofs.RegisterLemmas.{registered_is}
 use Rattle.tacho_store.proofs.OrderedLemmas.{any_order_stands}
 
 module _ (number : ℕ) (holder key : List ℕ) (base : ℕ) (name : List ℕ) (s : State) where
   -- S1
-  pub number_taken : {X : Type 0} (found : Option X) (Q : X → Driver → Type 0) → is_some found ≡ true → MatchOption found (driver_of number s ≡ None) (λ it. (d : Driver) × (driver_of number s ≡ Some d) × Q it d)
+  pub number_taken : {X : Type 0} (found : Option X) (Q : X → Driver → Type 0) → is_some found ≡ true
+      → MatchOption found (driver_of number s ≡ None) (λ it. (d : Driver) × (driver_of number s ≡ Some d) × Q it d)
       → (registered number holder key base name s).answer ≡ Err DriverTaken
   number_taken None Q is h = absurd (let e = is in cc)
   number_taken (Some x) Q is h = rw h.1 refl
 
   -- S2
   pub key_taken : {X : Type 0} (found : Option X) (Q : X → Driver → Type 0) → driver_of number s ≡ None → is_some found ≡ true
-      → MatchOption found (keyed key s ≡ None) (λ it. (d : Driver) × (keyed key s ≡ Some d) × Q it d) → (registered number holder key base name s).answer ≡ Err KeyTaken
+      → MatchOption found (keyed key s ≡ None) (λ it. (d : Driver) × (keyed key s ≡ Some d) × Q it d)
+      → (registered number holder key base name s).answer ≡ Err KeyTaken
   key_taken None Q free is h = absurd (let e = is in cc)
   key_taken (Some x) Q free is h = rw (free, h.1) refl
 
   -- S3
-  pub holder_taken : {X : Type 0} (found : Option X) (Q : X → Driver → Type 0) → driver_of number s ≡ None → keyed key s ≡ None → is_some found ≡ true
-      → MatchOption found (holding holder s ≡ None) (λ it. (d : Driver) × (holding holder s ≡ Some d) × Q it d) → (registered number holder key base name s).answer ≡ Err HolderTaken
+  pub holder_taken : {X : Type 0} (found : Option X) (Q : X → Driver → Type 0) → driver_of number s ≡ None → keyed key s ≡ None
+      → is_some found ≡ true
+      → MatchOption found (holding holder s ≡ None) (λ it. (d : Driver) × (holding holder s ≡ Some d) × Q it d)
+      → (registered number holder key base name s).answer ≡ Err HolderTaken
   holder_taken None Q free unknown is h = absurd (let e = is in cc)
   holder_taken (Some x) Q free unknown is h = rw (free, unknown, h.1) refl
 
-  module _ (free : driver_of number s ≡ None) (unknown : keyed key s ≡ None) (new : holding holder s ≡ None) where
+  module _ (free : AreFree s number key holder) where
     -- S9
     pub no_monday : is_monday base ≡ false → (registered number holder key base name s).answer ≡ Err NotMonday
-    no_monday is = rw (free, unknown, new, is) refl
+    no_monday is = rw (free.new_number, free.new_key, free.new_holder, is) refl
 
     -- the driver is registered
     pub goes_in : is_monday base ≡ true → (registered number holder key base name s).answer ≡ Ok tt
-    goes_in is = rw (free, unknown, new, is) refl
+    goes_in is = rw (free.new_number, free.new_key, free.new_holder, is) refl
 
     -- and with his row the tables stand for the state after it
     pub row_added : (db next : Trees) → is_monday base ≡ true → StandsFor db s
-        → ((a : Tables) → Stand db a → Stand next (record a { drivers = record { driver = number; holder = holder; secret = key; base = base; name = name; downloads = 0; entries = 0 } ∷ a.drivers }))
+        → ((a : Tables) → Stand db a → Stand next
+        (record a { drivers = record { driver = number; holder = holder; secret = key; base = base; name = name; downloads = 0; entries = 0 } ∷ a.drivers }))
         → StandsFor next (registered number holder key base name s).after
     unfolding StandsFor
     row_added db next is (t, stand, of) turn =
         let d : Driver = record { number = number; holder = holder; key = key; base = base; name = name; downloads = []; entries = [] } in
         let row = driver_columns d in
         let front : Tables = record t { drivers = row ∷ t.drivers } in
-        let after : (registered number holder key base name s).after ≡ s ++ d ∷ [] = rw (free, unknown, new, is) refl in
+        let after : (registered number holder key base name s).after ≡ s ++ d ∷ [] = rw
+        (free.new_number, free.new_key, free.new_holder, is) refl in
         subst (StandsFor next) (sym after) (
           with_driver row t,
           any_order_stands next front (with_driver row t) (record {
@@ -58,5 +66,17 @@ module _ (number : ℕ) (holder key : List ℕ) (base : ℕ) (name : List ℕ) (
             entries = IsPermutation-refl _;
             held = IsPermutation-refl _;
           }) (turn t stand),
-          registered_is t s d of free unknown new refl refl,
+          registered_is t s d of free.new_number free.new_key free.new_holder refl refl,
         )
+
+-- what was asked: all are free
+pub all_free : (s : State) (number : ℕ) (key holder : List ℕ) (done : Unit {0}) → IsAskedFree s number key holder (Ok done)
+    → AreFree s number key holder
+unfolding IsAskedFree
+all_free s number key holder done h = h
+
+-- or the registration is refused
+pub not_free : (s : State) (number : ℕ) (key holder : List ℕ) (base : ℕ) (name : List ℕ) (fault : StoreFault)
+    → IsAskedFree s number key holder (Err fault) → Refuses fault (registered number holder key base name s).answer
+unfolding IsAskedFree
+not_free s number key holder base name fault h = h base name

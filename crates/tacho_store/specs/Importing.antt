@@ -4,7 +4,7 @@ use Rattle.sqlite.specs.Tree.{Trees}
 use Rattle.tacho_time.specs.declared.span.Span.{Span}
 use Rattle.tacho_card.specs.declared.file.Part.{Part}
 use Rattle.tacho_state.specs.declared.fault.StoreFault.{StoreFault}
-use Rattle.tacho_state.specs.declared.fault.StoreFault.TheVariants.{Memory, Store, UnknownDriver, NotYourCard, Full}
+use Rattle.tacho_state.specs.declared.fault.StoreFault.TheVariants.{UnknownDriver, NotYourCard, Full}
 use Rattle.tacho_state.specs.declared.imported.Imported.TheVariants.{Added, Repeated}
 use Rattle.tacho_state.specs.Content.{Tells, part_number}
 use Rattle.tacho_state.specs.State.{Driver, State, driver_of, holding, put, with_download}
@@ -13,6 +13,7 @@ use Rattle.tacho_tables.specs.Tables.{Tables, Stand}
 use Rattle.tacho_store.specs.declared.import.Importer.{Importer}
 use Rattle.tacho_store.specs.declared.news.News.{News}
 use Rattle.tacho_store.specs.Standing.{StandsFor, kept}
+use Rattle.tacho_store.specs.Finding.{Refuses}
 
 -- the driver, if there is one: S4
 abbrev pub known : Option Driver → Result Driver StoreFault
@@ -35,11 +36,9 @@ pub record IsImporterOf (s : State) (d : Driver) (it : Importer) : Type 0 where
   pub downloads : it.downloads ≡ length d.downloads
 
 -- he was found; or a call gave up
-abbrev pub IsImporter : State → Result Importer StoreFault → Result Driver StoreFault → Type 0
+unfoldable pub IsImporter : State → Result Importer StoreFault → Result Driver StoreFault → Type 0
 IsImporter s (Ok it) told = (d : Driver) × (told ≡ Ok d) × IsImporterOf s d it
-IsImporter s (Err Memory) told = Unit {0}
-IsImporter s (Err Store) told = Unit {0}
-IsImporter s (Err fault) told = told ≡ Err fault
+IsImporter s (Err fault) told = Refuses fault told
 
 -- the driver's import of spans, of which these are new to what downloads give and to what he holds: it is added where there is a
 -- number, and with these in the tables they stand for the state after it
@@ -54,6 +53,4 @@ pub record AreAdded (db : Trees) (s : State) (n : ℕ) (d : Driver) (spans cards
 unfoldable pub AreDecided : Trees → State → ℕ → Driver → List Span → Result (Option News) StoreFault → Type 0
 AreDecided db s n d spans (Ok None) = (part : ℕ) (file : List ℕ) → import_own part file spans d ≡ Ok (Repeated d.number, d)
 AreDecided db s n d spans (Ok (Some news)) = AreAdded db s n d spans news.card_spans.items news.held.items
-AreDecided db s n d spans (Err Memory) = Unit {0}
-AreDecided db s n d spans (Err Store) = Unit {0}
-AreDecided db s n d spans (Err fault) = (part : ℕ) (file : List ℕ) → import_own part file spans d ≡ Err fault
+AreDecided db s n d spans (Err fault) = (part : ℕ) (file : List ℕ) → Refuses fault (import_own part file spans d)

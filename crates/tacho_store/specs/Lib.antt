@@ -3,3 +3,4 @@ pub mod Kept
 pub mod Faults
 pub mod News
 pub mod Importing
+pub mod Finding

@@ -9,6 +9,7 @@ ghost use Rattle.tacho_store.specs.Standing.{StandsFor};
 ghost use Rattle.tacho_store.specs.Kept.{Shows, Leaves, IsAnswered};
 
 use crate::fault::store_fault;
+use crate::finding::driver_with;
 use sqlite::{Alter, Connection, Transaction};
 use tacho_state::StoreFault;
 use tacho_tables::drivers;
@@ -38,10 +39,7 @@ fn rebase_in<S: Alter>(
     ensures keeps { HasCleanDisk (state S.Store tx.new.conn.now) → (state S.Store tx.old.conn.now).now.schema ≡ archive_schema → KeepsCommit (state S.Store tx.old.conn.now) (state S.Store tx.new.conn.now) }
     ensures survives { Survives (state S.Store tx.old.conn.now) (state S.Store tx.new.conn.now) (λ _. ⊥) }
 {
-    let found = drivers::by_number(tx, driver).map_err(store_fault)?;
-    if found.is_none() {
-        return Err(StoreFault::UnknownDriver);
-    }
+    driver_with(tx, driver)?;
     if !is_monday(base) {
         return Err(StoreFault::NotMonday);
     }

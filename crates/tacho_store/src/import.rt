@@ -15,6 +15,7 @@ ghost use Rattle.tacho_store.specs.Importing.{importer, IsImporterOf, IsImporter
 
 use crate::content::CardContent;
 use crate::fault::store_fault;
+use crate::finding::driver_with;
 use crate::news::{News, news_of};
 use crate::spans::{line_of_stored, range_of, stored};
 use sqlite::{Alter, Connection, Transaction};
@@ -32,6 +33,7 @@ pub struct Importer {
 }
 
 /// The driver whose card has the holder: S4.
+#[tactic(auto, unfolding(crate::specs::Importing::IsImporter))]
 fn importer_by_holder<S: Alter>(
     tx: &mut Transaction<'_, S>,
     holder: &[u8],
@@ -50,16 +52,15 @@ fn importer_by_holder<S: Alter>(
     let Some(number) = found else {
         return Err(StoreFault::UnknownDriver);
     };
-    match drivers::by_number(tx, number).map_err(store_fault)? {
-        None => Err(StoreFault::Store),
-        Some(driver) => Ok(Importer {
-            number,
-            downloads: driver.downloads,
-        }),
-    }
+    let driver = driver_with(tx, number)?;
+    Ok(Importer {
+        number,
+        downloads: driver.downloads,
+    })
 }
 
 /// The driver with the number, whose card has to have the holder: S4, S5.
+#[tactic(auto, unfolding(crate::specs::Importing::IsImporter))]
 fn importer_by_number<S: Alter>(
     tx: &mut Transaction<'_, S>,
     number: u32,
@@ -75,10 +76,7 @@ fn importer_by_number<S: Alter>(
     ensures keeps { HasCleanDisk (state S.Store tx.new.conn.now) → (state S.Store tx.old.conn.now).now.schema ≡ archive_schema → KeepsCommit (state S.Store tx.old.conn.now) (state S.Store tx.new.conn.now) }
     ensures survives { Survives (state S.Store tx.old.conn.now) (state S.Store tx.new.conn.now) (λ _. ⊥) }
 {
-    let found = drivers::by_number(tx, number).map_err(store_fault)?;
-    let Some(driver) = found else {
-        return Err(StoreFault::UnknownDriver);
-    };
+    let driver = driver_with(tx, number)?;
     if driver.holder.as_slice() != holder {
         return Err(StoreFault::NotYourCard);
     }
@@ -213,6 +211,35 @@ fn add_download<S: Alter>(
     Ok(Imported::Added { driver, number })
 }
 
+/// Imports a file's spans for a driver: S6, S14.
+fn import_spans<S: Alter>(
+    alloc: Global,
+    tx: &mut Transaction<'_, S>,
+    importer: Importer,
+    part: Part,
+    file: &[u8],
+    spans: &[Span],
+) -> Result<Imported, StoreFault>
+    requires { IsCanonical spans.now }
+    ensures same_reference { tx.new.conn.ghost_name ≡ tx.old.conn.ghost_name }
+    ensures answer { HasCleanDisk (state S.Store tx.new.conn.now) → (state S.Store tx.old.conn.now).now.schema ≡ archive_schema → (s : State) → StandsFor (state S.Store tx.old.conn.now).now.trees s
+        → (d : Driver) → IsImporterOf s d importer → Answers (λ done. done) result (settled s (import_own (part_number part) file.now spans.now d)).answer }
+    ensures made { HasCleanDisk (state S.Store tx.new.conn.now) → (state S.Store tx.old.conn.now).now.schema ≡ archive_schema → (s : State) → StandsFor (state S.Store tx.old.conn.now).now.trees s
+        → (d : Driver) (holder : List ℕ) → IsImporterOf s d importer → Tells part file.now (Ok (record { holder = holder; spans = spans.now }))
+        → OnOk result (((state S.Store tx.new.conn.now).now.schema ≡ archive_schema) × StandsFor (state S.Store tx.new.conn.now).now.trees (settled s (import_own (part_number part) file.now spans.now d)).after) }
+    ensures clean { HasCleanDisk (state S.Store tx.new.conn.now) → HasCleanDisk (state S.Store tx.old.conn.now) }
+    ensures was_open { HasCleanDisk (state S.Store tx.new.conn.now) → IsTrue (state S.Store tx.new.conn.now).is_open → IsTrue (state S.Store tx.old.conn.now).is_open }
+    ensures keeps { HasCleanDisk (state S.Store tx.new.conn.now) → (state S.Store tx.old.conn.now).now.schema ≡ archive_schema → KeepsCommit (state S.Store tx.old.conn.now) (state S.Store tx.new.conn.now) }
+    ensures survives { Survives (state S.Store tx.old.conn.now) (state S.Store tx.new.conn.now) (λ _. ⊥) }
+{
+    match news_near(alloc, tx, importer.number, spans)? {
+        None => Ok(Imported::Repeated {
+            driver: importer.number,
+        }),
+        Some(news) => add_download(alloc, tx, importer, part, file, &news),
+    }
+}
+
 /// Imports what a card file tells, within a transaction: S4, S5, S6, S14.
 fn import_in<S: Alter>(
     alloc: Global,
@@ -237,12 +264,7 @@ fn import_in<S: Alter>(
     ensures survives { Survives (state S.Store tx.old.conn.now) (state S.Store tx.new.conn.now) (λ _. ⊥) }
 {
     let importer = importer_of(tx, caller, &content.holder)?;
-    match news_near(alloc, tx, importer.number, &content.spans)? {
-        None => Ok(Imported::Repeated {
-            driver: importer.number,
-        }),
-        Some(news) => add_download(alloc, tx, importer, part, file, &news),
-    }
+    import_spans(alloc, tx, importer, part, file, &content.spans)
 }
 
 /// Imports what a card file tells: S4, S5, S6, S14.

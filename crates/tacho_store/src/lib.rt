@@ -5,6 +5,7 @@ mod archive;
 mod base;
 mod content;
 mod fault;
+mod finding;
 mod import;
 pub mod laws;
 mod news;

@@ -10,12 +10,13 @@ ghost use Rattle.tacho_store.specs.Standing.{StandsFor};
 ghost use Rattle.tacho_store.specs.Kept.{Shows, Leaves, IsAnswered};
 
 use crate::fault::store_fault;
+use crate::finding::driver_with;
 use crate::spans::line_of_stored;
 use sqlite::{Alter, Connection, Transaction};
 use std::alloc::Global;
 use tacho_line::Line;
 use tacho_state::StoreFault;
-use tacho_tables::{downloads, drivers, held, opening};
+use tacho_tables::{downloads, held, opening};
 
 /// The bytes of a driver's download, within a transaction: S4, S10.
 fn download_in<S: Alter>(
@@ -32,10 +33,7 @@ fn download_in<S: Alter>(
     ensures keeps { HasCleanDisk (state S.Store tx.new.conn.now) → (state S.Store tx.old.conn.now).now.schema ≡ archive_schema → KeepsCommit (state S.Store tx.old.conn.now) (state S.Store tx.new.conn.now) }
     ensures survives { Survives (state S.Store tx.old.conn.now) (state S.Store tx.new.conn.now) (λ _. ⊥) }
 {
-    let found = drivers::by_number(tx, driver).map_err(store_fault)?;
-    if found.is_none() {
-        return Err(StoreFault::UnknownDriver);
-    }
+    driver_with(tx, driver)?;
     let file = downloads::file(tx, driver, number).map_err(store_fault)?;
     file.ok_or(StoreFault::UnknownDownload)
 }
@@ -74,10 +72,7 @@ fn line_in<S: Alter>(
     ensures keeps { HasCleanDisk (state S.Store tx.new.conn.now) → (state S.Store tx.old.conn.now).now.schema ≡ archive_schema → KeepsCommit (state S.Store tx.old.conn.now) (state S.Store tx.new.conn.now) }
     ensures survives { Survives (state S.Store tx.old.conn.now) (state S.Store tx.new.conn.now) (λ _. ⊥) }
 {
-    let found = drivers::by_number(tx, driver).map_err(store_fault)?;
-    if found.is_none() {
-        return Err(StoreFault::UnknownDriver);
-    }
+    driver_with(tx, driver)?;
     let rows = held::of_driver(alloc, tx, driver).map_err(store_fault)?;
     line_of_stored(alloc, &rows)
 }

@@ -10,6 +10,7 @@ ghost use Rattle.tacho_store.specs.Kept.{Shows, Leaves, IsAnswered};
 
 use crate::base::is_monday;
 use crate::fault::store_fault;
+use crate::finding::ask_free;
 use sqlite::{Alter, Connection, Transaction};
 use tacho_state::{Driver, StoreFault};
 use tacho_tables::drivers;
@@ -27,18 +28,7 @@ fn register_in<S: Alter>(tx: &mut Transaction<'_, S>, driver: &Driver) -> Result
     ensures keeps { HasCleanDisk (state S.Store tx.new.conn.now) → (state S.Store tx.old.conn.now).now.schema ≡ archive_schema → KeepsCommit (state S.Store tx.old.conn.now) (state S.Store tx.new.conn.now) }
     ensures survives { Survives (state S.Store tx.old.conn.now) (state S.Store tx.new.conn.now) (λ _. ⊥) }
 {
-    let by_number = drivers::by_number(tx, driver.number()).map_err(store_fault)?;
-    if by_number.is_some() {
-        return Err(StoreFault::DriverTaken);
-    }
-    let by_key = drivers::number_by_secret(tx, driver.key()).map_err(store_fault)?;
-    if by_key.is_some() {
-        return Err(StoreFault::KeyTaken);
-    }
-    let by_holder = drivers::number_by_holder(tx, driver.holder()).map_err(store_fault)?;
-    if by_holder.is_some() {
-        return Err(StoreFault::HolderTaken);
-    }
+    ask_free(tx, driver)?;
     if !is_monday(driver.base()) {
         return Err(StoreFault::NotMonday);
     }

@@ -33,7 +33,8 @@ abbrev pub new_driver : ℕ → List ℕ → List ℕ → ℕ → List ℕ → D
 new_driver driver holder secret base name = record { driver = driver; holder = holder; secret = secret; base = base; name = name; downloads = 0; entries = 0 }
 
 -- an INSERT into drivers adds a driver, and changes no other table
-pub adds_driver : (old new : State) (driver : ℕ) (holder secret : List ℕ) (base : ℕ) (name : List ℕ) (count : ℕ) → old.now.schema ≡ archive_schema
+pub adds_driver : (old new : State) (driver : ℕ) (holder secret : List ℕ) (base : ℕ) (name : List ℕ) (count : ℕ)
+    → old.now.schema ≡ archive_schema
     → Executes driver_insert_text (Int (pos driver) ∷ Blob holder ∷ Text secret ∷ Int (pos base) ∷ Text name ∷ []) old new (Ok count)
     → Turns old new (λ a. record a { drivers = new_driver driver holder secret base name ∷ a.drivers })
 adds_driver old new driver holder secret base name count has h =
@@ -41,7 +42,8 @@ adds_driver old new driver holder secret base name count has h =
     let t = made.drivers in
     let x = new_driver driver holder secret base name in
     let params = Int (pos driver) ∷ Blob holder ∷ Text secret ∷ Int (pos base) ∷ Text name ∷ [] in
-    let e = inserted archive_schema old new has driver_insert_text driver_insert_is.plain params count 1 (codes "drivers") 1 t.columns (Some 0) (0 ∷ []) ((2 ∷ []) ∷ (3 ∷ []) ∷ []) t.orders [] [] refl (idle 1)
+    let e = inserted archive_schema old new has driver_insert_text driver_insert_is.plain params count 1 (codes "drivers") 1 t.columns
+    (Some 0) (0 ∷ []) ((2 ∷ []) ∷ (3 ∷ []) ∷ []) t.orders [] [] refl (idle 1)
     driver_values 8 driver_insert_is.meant (driver_row x ∷ []) refl h in
     let stored = rw (cast_int (pos driver), cast_null, cast_int (pos base), cast_int (pos 0)) at e.applies.rows in
     let fresh = rw (cast_int (pos driver)) at e.applies.fresh in
@@ -50,7 +52,8 @@ adds_driver old new driver holder secret base name count has h =
       schema = ap (λ d. d.schema) e.now_is;
       stands = λ a s.
           let it = subst (λ rs. StandNumbered rs (x ∷ a.drivers)) (sym stored) (numbered_put (db 1) a.drivers x s.drivers free) in
-          subst (λ t. Stand t (record a { drivers = x ∷ a.drivers })) (sym (ap (λ d. d.trees) e.now_is)) (with_drivers db e.next a (x ∷ a.drivers) e.applies.tables s it);
+          subst (λ t. Stand t (record a { drivers = x ∷ a.drivers })) (sym (ap (λ d. d.trees) e.now_is))
+          (with_drivers db e.next a (x ∷ a.drivers) e.applies.tables s it);
     }
 
 -- ---- readings
@@ -68,14 +71,17 @@ pub holder_test : (holder : List ℕ) (x : DriverRow) → passes (column_is 2) (
 holder_test holder x = rw (blob_test x.holder holder) (and-true (bytes_eq x.holder holder))
 
 -- a reading shows this of the drivers that pass
-pub shows_drivers : (text : List ℕ) (tests terms : List Term) (names : List (List ℕ)) → IsReading text 1 tests terms [] names → (params : Row) (t : DriverRow → Bool) → ((x : DriverRow) → passes tests params (driver_row x) ≡ t x)
-    → (show : DriverRow → Row) → ((x : DriverRow) → eval_all terms (params ∷ driver_row x ∷ []) ≡ show x) → (old new : State) (rows : List Row) → old.now.schema ≡ archive_schema → Shown text params old new rows
+pub shows_drivers : (text : List ℕ) (tests terms : List Term) (names : List (List ℕ)) → IsReading text 1 tests terms [] names
+    → (params : Row) (t : DriverRow → Bool) → ((x : DriverRow) → passes tests params (driver_row x) ≡ t x)
+    → (show : DriverRow → Row) → ((x : DriverRow) → eval_all terms (params ∷ driver_row x ∷ []) ≡ show x)
+    → (old new : State) (rows : List Row) → old.now.schema ≡ archive_schema → Shown text params old new rows
     → (all : List DriverRow) → StandNumbered (old.now.trees 1) all → IsPermutation (map show (filter t all)) rows
 shows_drivers text tests terms names it params t deaf show same old new rows has h all s =
     let db = old.now.trees in
     let got = reads_as text params old new archive_schema has _ it.meant it.plain it.unlisted rows h in
     let l = listed 1 tests terms [] (overlay db []) params rows (got.answer Null) in
-    IsPermutation-trans _ _ _ (numbered_shown (passes tests params) t deaf (λ (r : Row). eval_all terms (params ∷ r ∷ [])) show same (db 1) all s) (rw (none_given db 1) at (shows 1 tests terms [] (overlay db []) params rows l))
+    IsPermutation-trans _ _ _ (numbered_shown (passes tests params) t deaf (λ (r : Row). eval_all terms (params ∷ r ∷ [])) show same
+    (db 1) all s) (rw (none_given db 1) at (shows 1 tests terms [] (overlay db []) params rows l))
 
 -- ---- changes
 
@@ -89,13 +95,17 @@ module _ (old new : State) (driver value count : ℕ) (has : old.now.schema ≡ 
   new_of s = cast_row (record made.drivers { tree = 1 }) (drop 1 s)
 
   -- an UPDATE of the driver with this number changes him alone
-  changes : (text : List ℕ) (terms : List Term) (change : DriverRow → DriverRow) → IsStatement text (Update 1 (record { lets = []; body = simple 1 (column_is 0) terms [] }))
-      → ((x : DriverRow) → rowid (eval_all terms (params ∷ driver_row x ∷ [])) ≡ rowid (driver_row x)) → ((x : DriverRow) → new_of (eval_all terms (params ∷ driver_row x ∷ [])) ≡ driver_row (change x))
-      → Executes text params old new (Ok count) → Turns old new (λ a. record a { drivers = map (λ x. cond (has_number driver x) (change x) x) a.drivers })
+  changes : (text : List ℕ) (terms : List Term) (change : DriverRow → DriverRow)
+      → IsStatement text (Update 1 (record { lets = []; body = simple 1 (column_is 0) terms [] }))
+      → ((x : DriverRow) → rowid (eval_all terms (params ∷ driver_row x ∷ [])) ≡ rowid (driver_row x))
+      → ((x : DriverRow) → new_of (eval_all terms (params ∷ driver_row x ∷ [])) ≡ driver_row (change x))
+      → Executes text params old new (Ok count)
+      → Turns old new (λ a. record a { drivers = map (λ x. cond (has_number driver x) (change x) x) a.drivers })
   changes text terms change it finds makes h =
       let db = old.now.trees in
       let t = made.drivers in
-      let e = updated archive_schema old new has text it.plain params count 1 (codes "drivers") 1 t.columns (Some 0) (0 ∷ []) ((2 ∷ []) ∷ (3 ∷ []) ∷ []) t.orders [] [] refl (idle 1) _ it.meant h in
+      let e = updated archive_schema old new has text it.plain params count 1 (codes "drivers") 1 t.columns (Some 0) (0 ∷ [])
+      ((2 ∷ []) ∷ (3 ∷ []) ∷ []) t.orders [] [] refl (idle 1) _ it.meant h in
       let l = listed 1 (column_is 0) terms [] (overlay db []) params e.0 (e.1.answer Null) in
       let found = rw (none_given db 1) at (shows 1 (column_is 0) terms [] (overlay db []) params e.0 l) in
       let left = without_all (db 1) (ids_of e.0) in
@@ -105,20 +115,26 @@ module _ (old new : State) (driver value count : ℕ) (has : old.now.schema ≡ 
         schema = ap (λ d. d.schema) e.2.now_is;
         stands = λ a s.
             let all = map (λ x. cond (has_number driver x) (change x) x) a.drivers in
-            let turned = numbered_updated (db 1) a.drivers s.drivers (passes (column_is 0) params) (has_number driver) (number_passes) (λ (r : Row). eval_all terms (params ∷ r ∷ [])) new_of change finds makes e.0 found fresh in
+            let turned = numbered_updated (db 1) a.drivers s.drivers (passes (column_is 0) params) (has_number driver) (number_passes)
+            (λ (r : Row). eval_all terms (params ∷ r ∷ [])) new_of change finds makes e.0 found fresh in
             let it = subst (λ rs. StandNumbered rs all) (sym rows) turned in
-            subst (λ ts. Stand ts (record a { drivers = all })) (sym (ap (λ d. d.trees) e.2.now_is)) (with_drivers db e.2.next a all e.2.applies.tables s it);
+            subst (λ ts. Stand ts (record a { drivers = all })) (sym (ap (λ d. d.trees) e.2.now_is))
+            (with_drivers db e.2.next a all e.2.applies.tables s it);
       }
     where
       number_passes : (x : DriverRow) → passes (column_is 0) params (driver_row x) ≡ has_number driver x
       number_passes x = rw (eq_test x.driver driver) (and-true (x.driver == driver))
 
   -- his base
-  pub sets_base : Executes base_text params old new (Ok count) → Turns old new (λ a. record a { drivers = map (with_base driver value) a.drivers })
+  pub sets_base : Executes base_text params old new (Ok count)
+      → Turns old new (λ a. record a { drivers = map (with_base driver value) a.drivers })
   sets_base h =
-      changes base_text with_base_shown (λ x. record x { base = value }) base_is (λ x. refl) (λ x. rw (cast_int (pos x.driver), cast_null, cast_int (pos value), cast_int (pos x.downloads), cast_int (pos x.entries)) refl) h
+      changes base_text with_base_shown (λ x. record x { base = value }) base_is (λ x. refl)
+          (λ x. rw (cast_int (pos x.driver), cast_null, cast_int (pos value), cast_int (pos x.downloads), cast_int (pos x.entries)) refl) h
 
   -- how many numbers were given out to his downloads
-  pub sets_count : Executes count_text params old new (Ok count) → Turns old new (λ a. record a { drivers = map (with_downloads driver value) a.drivers })
+  pub sets_count : Executes count_text params old new (Ok count)
+      → Turns old new (λ a. record a { drivers = map (with_downloads driver value) a.drivers })
   sets_count h =
-      changes count_text with_count_shown (λ x. record x { downloads = value }) count_is (λ x. refl) (λ x. rw (cast_int (pos x.driver), cast_null, cast_int (pos x.base), cast_int (pos value), cast_int (pos x.entries)) refl) h
+      changes count_text with_count_shown (λ x. record x { downloads = value }) count_is (λ x. refl)
+          (λ x. rw (cast_int (pos x.driver), cast_null, cast_int (pos x.base), cast_int (pos value), cast_int (pos x.entries)) refl) h

@@ -21,8 +21,10 @@ use Rattle.tacho_tables.specs.Schema.{archive_schema}
 use Rattle.tacho_tables.proofs.Answers.{shown_same}
 
 -- a statement that went well was within a transaction
-pub ran_inside : {X : Type 0} (sql : List ℕ) (params : Row) (old new : State) (count : ℕ) (e : Error) → (old.in_transaction ≡ false → (Ok count ≡ Err e) × X)
-    → (IsTrue old.in_transaction → ExecutesInside 0 sql params old new (Ok count)) → Executes sql params old new (Ok count) × Shows old new new.now old.committed true
+pub ran_inside : {X : Type 0} (sql : List ℕ) (params : Row) (old new : State) (count : ℕ) (e : Error)
+    → (old.in_transaction ≡ false → (Ok count ≡ Err e) × X)
+    → (IsTrue old.in_transaction → ExecutesInside 0 sql params old new (Ok count))
+    → Executes sql params old new (Ok count) × Shows old new new.now old.committed true
 ran_inside sql params old new count e ended runs = elim (cases_Bool old.in_transaction) [
   | inl is ↦ let h = runs is in (h.0, h.1)
   | inr not ↦ absurd (let k = (ended not).0 in cc)
@@ -38,16 +40,19 @@ keeps_rolled old new h = record { was_open = h.was_open; committed = λ o. (h.un
 
 -- nor a call that did not reach the store
 keeps_same : {S : Type 0} (g : Ghosts S) (old new : Held S) → new ≡ old → KeepsCommit (state g old) (state g new)
-keeps_same g old new same = subst (λ h. KeepsCommit (state g old) (state g h)) (sym same) (record { was_open = λ o. o; committed = λ _. refl })
+keeps_same g old new same = subst (λ h. KeepsCommit (state g old) (state g h)) (sym same)
+    (record { was_open = λ o. o; committed = λ _. refl })
 
 -- nor a statement within a transaction
-keeps_inside : (sql : List ℕ) (params : Row) (old new : State) (r : Result ℕ Error) → ExecutesInside 0 sql params old new r → KeepsCommit old new
+keeps_inside : (sql : List ℕ) (params : Row) (old new : State) (r : Result ℕ Error) → ExecutesInside 0 sql params old new r
+    → KeepsCommit old new
 keeps_inside sql params old new (Ok count) h = record { was_open = λ _. h.1.was_open; committed = λ _. h.1.committed_is }
 keeps_inside sql params old new (Err e) (inl h) = elim h.1 [ inl same ↦ keeps_unchanged old new same | inr back ↦ keeps_rolled old new back ]
 keeps_inside sql params old new (Err e) (inr h) = keeps_unchanged old new h.2
 
 -- whatever a statement inside does, it commits nothing
-pub keeps_ran : {S : Type 0} (g : Ghosts S) (sql : List ℕ) (params : Row) (old new : Held S) (r : Result ℕ Error) (e : Error) → (old.in_transaction ≡ false → (r ≡ Err e) × (new ≡ old))
+pub keeps_ran : {S : Type 0} (g : Ghosts S) (sql : List ℕ) (params : Row) (old new : Held S) (r : Result ℕ Error) (e : Error)
+    → (old.in_transaction ≡ false → (r ≡ Err e) × (new ≡ old))
     → (IsTrue old.in_transaction → ExecutesInside 0 sql params (state g old) (state g new) r) → KeepsCommit (state g old) (state g new)
 keeps_ran g sql params old new r e ended runs = elim (cases_Bool old.in_transaction) [
   | inl is ↦ keeps_inside sql params (state g old) (state g new) r (runs is)
@@ -55,7 +60,8 @@ keeps_ran g sql params old new r e ended runs = elim (cases_Bool old.in_transact
 ]
 
 -- nor a query that failed
-keeps_failed : (sql : List ℕ) (params : Row) (old new : State) (e : Error) → IsPlain (understood old.now.schema sql) → FailsToQuery sql params old new e → KeepsCommit old new
+keeps_failed : (sql : List ℕ) (params : Row) (old new : State) (e : Error) → IsPlain (understood old.now.schema sql)
+    → FailsToQuery sql params old new e → KeepsCommit old new
 unfolding FailsToQuery IsNotRun
 keeps_failed sql params old new e plain (inl (inl h)) = keeps_unchanged old new h.1
 keeps_failed sql params old new e plain (inl (inr h)) = keeps_rolled old new h.3
@@ -64,40 +70,48 @@ keeps_failed sql params old new e plain (inr h) =
     keeps_unchanged old new (subst (FailsToShow old new sql h.0 (timed params h.0.formats h.1.now) e) bare.0 h.2).3
 
 -- nor one that read
-keeps_read : (sql : List ℕ) (params : Row) (old new : State) (r : Result (Vec TheRow Global) Error) → IsPlain (understood old.now.schema sql) → IfOk r (λ rows. IsUnchanged old new)
+keeps_read : (sql : List ℕ) (params : Row) (old new : State) (r : Result (Vec TheRow Global) Error)
+    → IsPlain (understood old.now.schema sql) → IfOk r (λ rows. IsUnchanged old new)
     → IfErr r (λ e. FailsToQuery sql params old new e ⊎ IsTooLate sql params old new e) → KeepsCommit old new
 keeps_read sql params old new (Ok rows) plain same fails = keeps_unchanged old new same
 keeps_read sql params old new (Err e) plain same (inl h) = keeps_failed sql params old new e plain h
 keeps_read sql params old new (Err e) plain same (inr h) = keeps_unchanged old new h.5
 
 -- a reading commits nothing
-pub keeps_reading : (sql : List ℕ) (params : Row) (old new : State) (r : Result (Vec TheRow Global) Error) → old.now.schema ≡ archive_schema → IsPlain (understood archive_schema sql)
-    → IfOk r (λ rows. Shown sql params old new rows.items) → IfErr r (λ e. FailsToQuery sql params old new e ⊎ IsTooLate sql params old new e) → KeepsCommit old new
+pub keeps_reading : (sql : List ℕ) (params : Row) (old new : State) (r : Result (Vec TheRow Global) Error)
+    → old.now.schema ≡ archive_schema → IsPlain (understood archive_schema sql)
+    → IfOk r (λ rows. Shown sql params old new rows.items)
+    → IfErr r (λ e. FailsToQuery sql params old new e ⊎ IsTooLate sql params old new e) → KeepsCommit old new
 keeps_reading sql params old new r has plain shown fails =
-    keeps_read sql params old new r (subst (λ s. IsPlain (understood s sql)) (sym has) plain) (IfOk-weaker r _ _ (λ rows h. shown_same sql params old new archive_schema rows.items has plain h) shown) fails
+    keeps_read sql params old new r (subst (λ s. IsPlain (understood s sql)) (sym has) plain)
+    (IfOk-weaker r _ _ (λ rows h. shown_same sql params old new archive_schema rows.items has plain h) shown) fails
 
 -- two steps that commit nothing
 pub keeps_then : (a b c : State) → KeepsCommit a b → KeepsCommit b c → KeepsCommit a c
 keeps_then a b c p q = record { was_open = λ o. p.was_open (q.was_open o); committed = λ o. q.committed o ∙ p.committed (q.was_open o) }
 
 -- a text that means nothing shows no rows
-pub unknown_shows : (sql : List ℕ) (params : Row) (old new : State) (rows : List Row) {schema : Schema} {fault : CompileError} → old.now.schema ≡ schema → understood schema sql ≡ Err fault
+pub unknown_shows : (sql : List ℕ) (params : Row) (old new : State) (rows : List Row) {schema : Schema} {fault : CompileError}
+    → old.now.schema ≡ schema → understood schema sql ≡ Err fault
     → ¬ Shown sql params old new rows
 unfolding Shown
 unknown_shows sql params old new rows has unknown h = let known = sym h.1.is ∙ ap (λ s. understood s sql) has ∙ unknown in cc
 
 -- rows are shown of a connection that was open
-rows_open : (old new : State) (sql : List ℕ) (c : Compiled) (params : Row) (rows : List Row) (r : Option Returning) → ShowsRows old new sql c params rows r → IsTrue new.is_open → IsTrue old.is_open
+rows_open : (old new : State) (sql : List ℕ) (c : Compiled) (params : Row) (rows : List Row) (r : Option Returning)
+    → ShowsRows old new sql c params rows r → IsTrue new.is_open → IsTrue old.is_open
 rows_open old new sql c params rows None h _ = h.3.0.was_open
 rows_open old new sql c params rows (Some what) h _ = h.1.shown.was_open
 
 -- what a query shows, it shows of a connection that was open
-shown_open : (sql : List ℕ) (params : Row) (old new : State) (rows : List Row) → Shown sql params old new rows → IsTrue new.is_open → IsTrue old.is_open
+shown_open : (sql : List ℕ) (params : Row) (old new : State) (rows : List Row) → Shown sql params old new rows → IsTrue new.is_open
+    → IsTrue old.is_open
 unfolding Shown
 shown_open sql params old new rows h = rows_open old new sql h.0 _ rows h.0.returning h.2
 
 -- and leaves it open
-rows_live : (old new : State) (sql : List ℕ) (c : Compiled) (params : Row) (rows : List Row) (r : Option Returning) → ShowsRows old new sql c params rows r → IsTrue new.is_open
+rows_live : (old new : State) (sql : List ℕ) (c : Compiled) (params : Row) (rows : List Row) (r : Option Returning)
+    → ShowsRows old new sql c params rows r → IsTrue new.is_open
 rows_live old new sql c params rows None h = h.3.0.is_open
 rows_live old new sql c params rows (Some what) h = h.1.shown.is_open
 
@@ -107,20 +121,23 @@ unfolding Shown
 shown_live sql params old new rows h = rows_live old new sql h.0 _ rows h.0.returning h.2
 
 -- a query that shows nothing leaves a connection open only where it was
-not_shown_open : (old new : State) (sql : List ℕ) (c : Compiled) (params : Row) (e : Error) (r : Option Returning) → FailsToShow old new sql c params e r → IsTrue new.is_open → IsTrue old.is_open
+not_shown_open : (old new : State) (sql : List ℕ) (c : Compiled) (params : Row) (e : Error) (r : Option Returning)
+    → FailsToShow old new sql c params e r → IsTrue new.is_open → IsTrue old.is_open
 not_shown_open old new sql c params e None h = λ _. h.3.0.was_open
 not_shown_open old new sql c params e (Some what) (inl h) = λ _. h.1.0.was_open
 not_shown_open old new sql c params e (Some what) (inr h) = h.3.was_open
 
 -- so does one that fails
-fails_open : (sql : List ℕ) (params : Row) (old new : State) (e : Error) → FailsToQuery sql params old new e → IsTrue new.is_open → IsTrue old.is_open
+fails_open : (sql : List ℕ) (params : Row) (old new : State) (e : Error) → FailsToQuery sql params old new e → IsTrue new.is_open
+    → IsTrue old.is_open
 unfolding FailsToQuery IsNotRun
 fails_open sql params old new e (inl (inl h)) = λ _. h.1.0.was_open
 fails_open sql params old new e (inl (inr h)) = h.3.was_open
 fails_open sql params old new e (inr h) = not_shown_open old new sql h.0 _ e h.0.returning h.2
 
 -- a reading leaves a connection open only where it was
-pub read_open : (sql : List ℕ) (params : Row) (old new : State) (r : Result (Vec TheRow Global) Error) → IfOk r (λ rows. Shown sql params old new rows.items)
+pub read_open : (sql : List ℕ) (params : Row) (old new : State) (r : Result (Vec TheRow Global) Error)
+    → IfOk r (λ rows. Shown sql params old new rows.items)
     → IfErr r (λ e. FailsToQuery sql params old new e ⊎ IsTooLate sql params old new e) → IsTrue new.is_open → IsTrue old.is_open
 read_open sql params old new (Ok rows) h fails = shown_open sql params old new rows.items h
 read_open sql params old new (Err e) h (inl x) = fails_open sql params old new e x

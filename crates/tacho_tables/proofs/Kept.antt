@@ -11,7 +11,8 @@ abbrev pub AreKept : ℕ → Trees → Trees → Type 0
 AreKept tree db next = AllByRecursion (λ t. t.tree ≢ tree → next t.tree ≡ db t.tree) archive_schema.tables
 
 -- only the rows of held changed
-pub with_held : (db next : Trees) (a : Tables) (held : List SpanRow) → AreKept 10 db next → Stand db a → Stands span_columns (next 10) held → Stand next (record a { held = held })
+pub with_held : (db next : Trees) (a : Tables) (held : List SpanRow) → AreKept 10 db next → Stand db a → Stands span_columns (next 10) held
+    → Stand next (record a { held = held })
 with_held db next a held kept s it = record {
   meta = kept.0 (λ e. omega (arith, e)) ∙ s.meta;
   drivers = subst (λ rows. StandNumbered rows a.drivers) (sym (kept.1.0 (λ e. omega (arith, e)))) s.drivers;
@@ -22,7 +23,8 @@ with_held db next a held kept s it = record {
 }
 
 -- only the rows of card_spans changed
-pub with_card_spans : (db next : Trees) (a : Tables) (card_spans : List SpanRow) → AreKept 6 db next → Stand db a → Stands span_columns (next 6) card_spans → Stand next (record a { card_spans = card_spans })
+pub with_card_spans : (db next : Trees) (a : Tables) (card_spans : List SpanRow) → AreKept 6 db next → Stand db a
+    → Stands span_columns (next 6) card_spans → Stand next (record a { card_spans = card_spans })
 with_card_spans db next a card_spans kept s it = record {
   meta = kept.0 (λ e. omega (arith, e)) ∙ s.meta;
   drivers = subst (λ rows. StandNumbered rows a.drivers) (sym (kept.1.0 (λ e. omega (arith, e)))) s.drivers;
@@ -33,7 +35,8 @@ with_card_spans db next a card_spans kept s it = record {
 }
 
 -- only the rows of downloads changed
-pub with_downloads : (db next : Trees) (a : Tables) (downloads : List DownloadRow) → AreKept 4 db next → Stand db a → Stands download_columns (next 4) downloads → Stand next (record a { downloads = downloads })
+pub with_downloads : (db next : Trees) (a : Tables) (downloads : List DownloadRow) → AreKept 4 db next → Stand db a
+    → Stands download_columns (next 4) downloads → Stand next (record a { downloads = downloads })
 with_downloads db next a downloads kept s it = record {
   meta = kept.0 (λ e. omega (arith, e)) ∙ s.meta;
   drivers = subst (λ rows. StandNumbered rows a.drivers) (sym (kept.1.0 (λ e. omega (arith, e)))) s.drivers;
@@ -44,7 +47,8 @@ with_downloads db next a downloads kept s it = record {
 }
 
 -- only the rows of drivers changed
-pub with_drivers : (db next : Trees) (a : Tables) (drivers : List DriverRow) → AreKept 1 db next → Stand db a → StandNumbered (next 1) drivers → Stand next (record a { drivers = drivers })
+pub with_drivers : (db next : Trees) (a : Tables) (drivers : List DriverRow) → AreKept 1 db next → Stand db a
+    → StandNumbered (next 1) drivers → Stand next (record a { drivers = drivers })
 with_drivers db next a drivers kept s it = record {
   meta = kept.0 (λ e. omega (arith, e)) ∙ s.meta;
   drivers = it;

@@ -31,10 +31,12 @@ use Rattle.tacho_tables.specs.Making.{IsCreate, HasMade}
 use Rattle.tacho_tables.proofs.Writes.{went, same_value}
 
 -- a CREATE TABLE within a transaction makes the table
-pub makes : (schema : Schema) (table : Table) (text : List ℕ) (old new : State) (count : ℕ) → old.now.schema ≡ schema → IsCreate schema text table → Executes text [] old new (Ok count)
+pub makes : (schema : Schema) (table : Table) (text : List ℕ) (old new : State) (count : ℕ) → old.now.schema ≡ schema
+    → IsCreate schema text table → Executes text [] old new (Ok count)
     → Shows old new new.now old.committed true → HasMade schema table old new
 makes schema table text old new count has it h shown =
-    let w = subst (λ t. Writes old new None CreateTable t [] count) it.statement (runs_as text [] old new schema has CreateTable it.command it.plain count h) in
+    let w = subst (λ t. Writes old new None CreateTable t [] count) it.statement
+    (runs_as text [] old new schema has CreateTable it.command it.plain count h) in
     let all = went w.changed in
     let first = went all.1 in
     let made = first.1 in
@@ -48,7 +50,8 @@ makes schema table text old new count has it h shown =
       committed = shown.committed_is;
       after = ap (λ (d : Database). d.schema) now ∙ after;
       empty = ap (λ (d : Database). d.trees (next_tree schema)) now ∙ subst (λ s. first.0.trees (next_tree s) ≡ []) has made.empty;
-      others = subst (λ (d : Database). KeepsRows schema.tables old.now.trees d.trees) (sym now) (subst (λ s. KeepsRows s.tables old.now.trees first.0.trees) has made.others);
+      others = subst (λ (d : Database). KeepsRows schema.tables old.now.trees d.trees) (sym now)
+          (subst (λ s. KeepsRows s.tables old.now.trees first.0.trees) has made.others);
     }
 
 -- ---- the row of meta
@@ -72,18 +75,22 @@ meta_row_is = record { meant = refl; plain = (refl, refl) }
 
 -- no rows stand for nothing
 nothing_stands : {X : Type 0} (columns : X → Row) (rows : List Row) → rows ≡ [] → Stands columns rows []
-nothing_stands columns rows none = subst (λ rs. Stands columns rs []) (sym none) (record { stored = λ r has. absurd has; apart = λ a b has other same. absurd has; same = IsPermutation-refl [] })
+nothing_stands columns rows none = subst (λ rs. Stands columns rs []) (sym none)
+    (record { stored = λ r has. absurd has; apart = λ a b has other same. absurd has; same = IsPermutation-refl [] })
 
 -- and no drivers
 no_driver_stands : (rows : List Row) → rows ≡ [] → StandNumbered rows []
-no_driver_stands rows none = subst (λ rs. StandNumbered rs []) (sym none) (record { apart = λ a b has other same. absurd has; same = IsPermutation-refl [] })
+no_driver_stands rows none = subst (λ rs. StandNumbered rs []) (sym none)
+    (record { apart = λ a b has other same. absurd has; same = IsPermutation-refl [] })
 
 -- with its row in meta, six empty tables are an archive of no drivers
-pub makes_archive : (old new : State) (count : ℕ) → old.now.schema ≡ archive_schema → AreEmpty (0 ∷ 1 ∷ 4 ∷ 6 ∷ 8 ∷ 10 ∷ []) old.now.trees → Executes meta_row_text [] old new (Ok count)
+pub makes_archive : (old new : State) (count : ℕ) → old.now.schema ≡ archive_schema → AreEmpty (0 ∷ 1 ∷ 4 ∷ 6 ∷ 8 ∷ 10 ∷ []) old.now.trees
+    → Executes meta_row_text [] old new (Ok count)
     → (new.now.schema ≡ archive_schema) × Stand new.now.trees no_rows
 makes_archive old new count has none h =
     let t = made.meta in
-    let e = inserted archive_schema old new has meta_row_text meta_row_is.plain [] count 0 (codes "meta") 0 t.columns (Some 0) (0 ∷ []) [] [] [] [] refl (idle 0) meta_values 3 meta_row_is.meant (meta_row ∷ []) refl h in
+    let e = inserted archive_schema old new has meta_row_text meta_row_is.plain [] count 0 (codes "meta") 0 t.columns (Some 0)
+    (0 ∷ []) [] [] [] [] refl (idle 0) meta_values 3 meta_row_is.meant (meta_row ∷ []) refl h in
     let stored = rw (cast_int (pos 1), cast_null, none.0) at e.applies.rows in
     let kept = e.applies.tables in (
       ap (λ d. d.schema) e.now_is,
@@ -98,16 +105,19 @@ makes_archive old new count has none h =
     )
 
 -- the reading of the version shows 1
-pub shows_version : (old new : State) (rows : List Row) → old.now.schema ≡ archive_schema → Shown version_text [] old new rows → old.now.trees 0 ≡ meta_row ∷ [] → rows ≡ (Int (pos 1) ∷ []) ∷ []
+pub shows_version : (old new : State) (rows : List Row) → old.now.schema ≡ archive_schema → Shown version_text [] old new rows
+    → old.now.trees 0 ≡ meta_row ∷ [] → rows ≡ (Int (pos 1) ∷ []) ∷ []
 shows_version old new rows has h is =
     let db = old.now.trees in
     let shown = col 1 2 ∷ [] in
     let got = reads_as version_text [] old new archive_schema has _ version_is.meant version_is.plain version_is.unlisted rows h in
     let l = listed 0 first_row shown [] (overlay db []) [] rows (got.answer Null) in
-    one_permutation (Int (pos 1) ∷ []) rows (rw (none_given db 0, is, eq_test 1 1) at (shows 0 first_row shown [] (overlay db []) [] rows l))
+    one_permutation (Int (pos 1) ∷ []) rows (rw (none_given db 0, is, eq_test 1 1) at
+    (shows 0 first_row shown [] (overlay db []) [] rows l))
 
 -- and what is read of the first such row is 1
-pub first_is_one : (found : Option ℕ) (rows : List Row) → rows ≡ (Int (pos 1) ∷ []) ∷ [] → (IsNone found ↔ (rows ≡ [])) → IfSome found (λ n. (m : ℕ) (more : List Row) → rows ≡ (Int (pos m) ∷ []) ∷ more → n ≡ m)
+pub first_is_one : (found : Option ℕ) (rows : List Row) → rows ≡ (Int (pos 1) ∷ []) ∷ [] → (IsNone found ↔ (rows ≡ []))
+    → IfSome found (λ n. (m : ℕ) (more : List Row) → rows ≡ (Int (pos m) ∷ []) ∷ more → n ≡ m)
     → found ≡ Some 1
 first_is_one None rows is none some = absurd (let e = sym is ∙ none.0 refl in cc)
 first_is_one (Some n) rows is none some = ap Some (some 1 [] is)

@@ -37,14 +37,18 @@ drivers_only rows all s = picked IsDriver rows (all-permutation IsDriver (map dr
 
 -- so the rows have numbers
 are_numbered : (rows : List Row) (all : List DriverRow) → StandNumbered rows all → AreNumbered rows
-are_numbered rows all s = record { numbered = λ r has. let it = drivers_only rows all s r has in (pos it.0.driver, ap rowid it.1); apart = s.apart }
+are_numbered rows all s = record { numbered = λ r has. let it = drivers_only rows all s r has in
+    (pos it.0.driver, ap rowid it.1); apart = s.apart }
 
 -- the order of the list means nothing
-pub numbered_shuffled : (rows : List Row) (all other : List DriverRow) → StandNumbered rows all → IsPermutation other all → StandNumbered rows other
-numbered_shuffled rows all other s same = record { apart = s.apart; same = IsPermutation-trans _ _ _ (IsPermutation-map driver_row other all same) s.same }
+pub numbered_shuffled : (rows : List Row) (all other : List DriverRow) → StandNumbered rows all → IsPermutation other all
+    → StandNumbered rows other
+numbered_shuffled rows all other s same = record { apart = s.apart; same = IsPermutation-trans _ _ _
+    (IsPermutation-map driver_row other all same) s.same }
 
 -- one driver more
-pub numbered_put : (rows : List Row) (all : List DriverRow) (x : DriverRow) → StandNumbered rows all → is_taken rows (driver_row x) ≡ false → StandNumbered (put_row (driver_row x) rows) (x ∷ all)
+pub numbered_put : (rows : List Row) (all : List DriverRow) (x : DriverRow) → StandNumbered rows all → is_taken rows (driver_row x) ≡ false
+    → StandNumbered (put_row (driver_row x) rows) (x ∷ all)
 numbered_put rows all x s free =
     let new : Row = driver_row x in
     record {
@@ -62,7 +66,8 @@ numbered_put rows all x s free =
     }
 
 -- more drivers, one after the other
-numbered_put_all : (xs : List DriverRow) (rows : List Row) (all : List DriverRow) → StandNumbered rows all → are_fresh rows (map driver_row xs) ≡ true → StandNumbered (put_all rows (map driver_row xs)) (xs ++ all)
+numbered_put_all : (xs : List DriverRow) (rows : List Row) (all : List DriverRow) → StandNumbered rows all
+    → are_fresh rows (map driver_row xs) ≡ true → StandNumbered (put_all rows (map driver_row xs)) (xs ++ all)
 numbered_put_all [] rows all s fresh = s
 numbered_put_all (x ∷ xs) rows all s fresh =
     let parts = and_parts _ _ fresh in
@@ -70,18 +75,23 @@ numbered_put_all (x ∷ xs) rows all s fresh =
     numbered_shuffled _ _ _ later (IsPermutation-sym _ _ (IsPermutation-middle xs x all))
 
 -- the drivers that pass
-numbered_filter : (p : Row → Bool) (t : DriverRow → Bool) (deaf : (x : DriverRow) → p (driver_row x) ≡ t x) (rows : List Row) (all : List DriverRow) → StandNumbered rows all → StandNumbered (filter p rows) (filter t all)
+numbered_filter : (p : Row → Bool) (t : DriverRow → Bool) (deaf : (x : DriverRow) → p (driver_row x) ≡ t x) (rows : List Row)
+    (all : List DriverRow) → StandNumbered rows all → StandNumbered (filter p rows) (filter t all)
 numbered_filter p t deaf rows all s = record {
   apart = λ a b here there. s.apart a b (has_filtered p rows a here).0 (has_filtered p rows b there).0;
-  same = subst (λ xs. IsPermutation xs (filter p rows)) (filter-map p driver_row all ∙ ap (map driver_row) (filter_same _ t all (all_from _ all (λ x _. deaf x)))) (IsPermutation-filter p _ _ s.same);
+  same = subst (λ xs. IsPermutation xs (filter p rows))
+      (filter-map p driver_row all ∙ ap (map driver_row) (filter_same _ t all (all_from _ all (λ x _. deaf x))))
+      (IsPermutation-filter p _ _ s.same);
 }
 
 -- what a query shows of the rows that pass
-pub numbered_shown : (p : Row → Bool) (t : DriverRow → Bool) (deaf : (x : DriverRow) → p (driver_row x) ≡ t x) (f : Row → Row) (show : DriverRow → Row) → ((x : DriverRow) → f (driver_row x) ≡ show x)
+pub numbered_shown : (p : Row → Bool) (t : DriverRow → Bool) (deaf : (x : DriverRow) → p (driver_row x) ≡ t x) (f : Row → Row)
+    (show : DriverRow → Row) → ((x : DriverRow) → f (driver_row x) ≡ show x)
     → (rows : List Row) (all : List DriverRow) → StandNumbered rows all → IsPermutation (map show (filter t all)) (map f (filter p rows))
 numbered_shown p t deaf f show same rows all s =
     let k = numbered_filter p t deaf rows all s in
-    let left : map f (map driver_row (filter t all)) ≡ map show (filter t all) = map-map f driver_row (filter t all) ∙ map_same _ show (filter t all) (all_from _ (filter t all) (λ x _. same x)) in
+    let left : map f (map driver_row (filter t all)) ≡ map show (filter t all) = map-map f driver_row (filter t all)
+    ∙ map_same _ show (filter t all) (all_from _ (filter t all) (λ x _. same x)) in
     subst (λ xs. IsPermutation xs (map f (filter p rows))) left (IsPermutation-map f (map driver_row (filter t all)) (filter p rows) k.same)
 
 -- a change that leaves each element leaves the list
@@ -90,11 +100,16 @@ unmoved f [] all = refl
 unmoved f (x ∷ xs) all = rw (all.0, unmoved f xs all.1) refl
 
 -- an UPDATE changes the drivers that pass
-module _ (rows : List Row) (all : List DriverRow) (s : StandNumbered rows all) (p : Row → Bool) (t : DriverRow → Bool) (deaf : (x : DriverRow) → p (driver_row x) ≡ t x)
-    (shown new_of : Row → Row) (change : DriverRow → DriverRow) (finds : (x : DriverRow) → rowid (shown (driver_row x)) ≡ rowid (driver_row x)) (makes : (x : DriverRow) → new_of (shown (driver_row x)) ≡ driver_row (change x)) where
-  pub numbered_updated : (out : List Row) → IsPermutation (map shown (filter p rows)) out → are_fresh (without_all rows (ids_of out)) (map new_of out) ≡ true
+module _ (rows : List Row) (all : List DriverRow) (s : StandNumbered rows all) (p : Row → Bool) (t : DriverRow → Bool)
+    (deaf : (x : DriverRow) → p (driver_row x) ≡ t x)
+    (shown new_of : Row → Row) (change : DriverRow → DriverRow)
+    (finds : (x : DriverRow) → rowid (shown (driver_row x)) ≡ rowid (driver_row x))
+    (makes : (x : DriverRow) → new_of (shown (driver_row x)) ≡ driver_row (change x)) where
+  pub numbered_updated : (out : List Row) → IsPermutation (map shown (filter p rows)) out
+      → are_fresh (without_all rows (ids_of out)) (map new_of out) ≡ true
       → StandNumbered (put_all (without_all rows (ids_of out)) (map new_of out)) (map (λ x. cond (t x) (change x) x) all)
-  numbered_updated out same fresh = numbered_shuffled _ _ _ (subst (λ ns. StandNumbered (put_all (without_all rows (ids_of out)) ns) (pulled.0 ++ rest)) (sym pulled.2) placed) mixed
+  numbered_updated out same fresh = numbered_shuffled _ _ _
+      (subst (λ ns. StandNumbered (put_all (without_all rows (ids_of out)) ns) (pulled.0 ++ rest)) (sym pulled.2) placed) mixed
     where
       rest : List DriverRow
       rest = filter (λ x. not (t x)) all
@@ -108,7 +123,8 @@ module _ (rows : List Row) (all : List DriverRow) (s : StandNumbered rows all) (
       numbers : IsPermutation (map cut (filter p rows)) (map cut out)
       numbers =
           let each : map cut (map shown (filter p rows)) ≡ map cut (filter p rows) =
-          map-map cut shown (filter p rows) ∙ map_same _ cut (filter p rows) (all_from _ (filter p rows) (λ r has. let it = drivers_only rows all s r (has_filtered p rows r has).0 in
+          map-map cut shown (filter p rows) ∙ map_same _ cut (filter p rows)
+          (all_from _ (filter p rows) (λ r has. let it = drivers_only rows all s r (has_filtered p rows r has).0 in
           subst (λ (z : Row). cut (shown z) ≡ cut z) (sym it.1) (ap (λ v. v ∷ []) (finds it.0)))) in
           subst (λ xs. IsPermutation xs (map cut out)) each (IsPermutation-map cut (map shown (filter p rows)) out same)
 
@@ -116,31 +132,37 @@ module _ (rows : List Row) (all : List DriverRow) (s : StandNumbered rows all) (
       remains = ap (without_all rows) (sym (map-map _ cut out)) ∙ left_is rows (are_numbered rows all s) p (map cut out) numbers
 
       left : StandNumbered (without_all rows (ids_of out)) rest
-      left = subst (λ xs. StandNumbered xs rest) (sym remains) (numbered_filter (λ r. not (p r)) (λ x. not (t x)) (λ x. ap not (deaf x)) rows all s)
+      left = subst (λ xs. StandNumbered xs rest) (sym remains)
+          (numbered_filter (λ r. not (p r)) (λ x. not (t x)) (λ x. ap not (deaf x)) rows all s)
 
       moved : IsPermutation (map driver_row turned) (map new_of out)
       moved =
           let first = numbered_shown p t deaf (λ r. new_of (shown r)) (λ x. driver_row (change x)) makes rows all s in
-          let second = subst (λ xs. IsPermutation xs (map new_of out)) (map-map new_of shown (filter p rows)) (IsPermutation-map new_of (map shown (filter p rows)) out same) in
-          subst (λ xs. IsPermutation xs (map new_of out)) (sym (map-map driver_row change (filter t all))) (IsPermutation-trans _ _ _ first second)
+          let second = subst (λ xs. IsPermutation xs (map new_of out)) (map-map new_of shown (filter p rows))
+          (IsPermutation-map new_of (map shown (filter p rows)) out same) in
+          subst (λ xs. IsPermutation xs (map new_of out)) (sym (map-map driver_row change (filter t all)))
+          (IsPermutation-trans _ _ _ first second)
 
       pulled : (to : List DriverRow) × IsPermutation turned to × (map new_of out ≡ map driver_row to)
       pulled = pull_back driver_row _ _ moved turned refl
 
       placed : StandNumbered (put_all (without_all rows (ids_of out)) (map driver_row pulled.0)) (pulled.0 ++ rest)
-      placed = numbered_put_all pulled.0 (without_all rows (ids_of out)) rest left (subst (λ ns. are_fresh (without_all rows (ids_of out)) ns ≡ true) pulled.2 fresh)
+      placed = numbered_put_all pulled.0 (without_all rows (ids_of out)) rest left
+          (subst (λ ns. are_fresh (without_all rows (ids_of out)) ns ≡ true) pulled.2 fresh)
 
       pick : DriverRow → DriverRow
       pick x = cond (t x) (change x) x
 
       by_case : IsPermutation (map pick all) (map pick (filter t all) ++ map pick rest)
-      by_case = subst (IsPermutation (map pick all)) (map-append pick (filter t all) rest) (IsPermutation-map pick all _ (IsPermutation-filter_both t (λ x. not (t x)) (λ x. refl) all))
+      by_case = subst (IsPermutation (map pick all)) (map-append pick (filter t all) rest)
+          (IsPermutation-map pick all _ (IsPermutation-filter_both t (λ x. not (t x)) (λ x. refl) all))
 
       passed : map pick (filter t all) ≡ turned
       passed = map_same _ _ (filter t all) (all_from _ (filter t all) (λ x has. ap (λ b. cond b (change x) x) (has_filtered t all x has).1))
 
       stayed : map pick rest ≡ rest
-      stayed = unmoved pick rest (all_from _ rest (λ x has. ap (λ b. cond b (change x) x) (not-true _ (has_filtered (λ x. not (t x)) all x has).1)))
+      stayed = unmoved pick rest (all_from _ rest
+          (λ x has. ap (λ b. cond b (change x) x) (not-true _ (has_filtered (λ x. not (t x)) all x has).1)))
 
       mixed : IsPermutation (map pick all) (pulled.0 ++ rest)
       mixed = IsPermutation-trans _ _ _ (rw (passed, stayed) at by_case) (IsPermutation-append_left rest _ _ pulled.1)

@@ -25,10 +25,12 @@ asked_not sql params old new e (inl h) = asked_same old new h.1
 asked_not sql params old new e (inr h) = record { was_open = h.3.was_open; same = λ o settled. (h.3.undone o).0 ∙ sym settled }
 
 -- whether it was prepared or not
-pub asked : {X : Type 0} (sql : List ℕ) (params : Row) (old new : State) (r : Result X Error) (P : X → Type 0) → IfOk r (λ x. P x × IsUnchanged old new) → IfErr r (λ e. IsNotRun old new sql params e) → IsAsked old new
+pub asked : {X : Type 0} (sql : List ℕ) (params : Row) (old new : State) (r : Result X Error) (P : X → Type 0)
+    → IfOk r (λ x. P x × IsUnchanged old new) → IfErr r (λ e. IsNotRun old new sql params e) → IsAsked old new
 asked sql params old new (Ok x) P h _ = asked_same old new h.1
 asked sql params old new (Err e) P h fails = asked_not sql params old new e fails
 
 -- a text that means nothing isn't prepared
-pub unknown_outline : (sql : List ℕ) (schema : Schema) (s : Outline) {other : Schema} {fault : CompileError} → schema ≡ other → understood other sql ≡ Err fault → ¬ Outlines (understood schema sql) s
+pub unknown_outline : (sql : List ℕ) (schema : Schema) (s : Outline) {other : Schema} {fault : CompileError} → schema ≡ other
+    → understood other sql ≡ Err fault → ¬ Outlines (understood schema sql) s
 unknown_outline sql schema s has unknown h = subst (λ r. Outlines r s) (ap (λ x. understood x sql) has ∙ unknown) h

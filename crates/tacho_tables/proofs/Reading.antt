@@ -18,7 +18,8 @@ tail_is : {A : Type 0} {x y : A} {xs ys : List A} → x ∷ xs ≡ y ∷ ys → 
 tail_is e = cc
 
 -- the first of the rows that some spans show is read as the first of these spans
-pub reads_first : (rest : List SpanRow) (row : Row) (more : List Row) (s : StoredSpan) → row ∷ more ≡ map span_shown rest → ((r : SpanRow) → row ≡ span_shown r → s ≡ span_of r)
+pub reads_first : (rest : List SpanRow) (row : Row) (more : List Row) (s : StoredSpan) → row ∷ more ≡ map span_shown rest
+    → ((r : SpanRow) → row ≡ span_shown r → s ≡ span_of r)
     → (later : List SpanRow) × (more ≡ map span_shown later) × (map span_of rest ≡ s ∷ map span_of later)
 reads_first [] row more s shown reads = absurd (let e = shown in cc)
 reads_first (r ∷ later) row more s shown reads = (later, tail_is shown, ap (λ z. z ∷ map span_of later) (sym (reads r (head_is shown))))
@@ -29,16 +30,20 @@ none_of_none [] same = refl
 none_of_none (x ∷ xs) same = absurd (let e = length_permutation (x ∷ xs) [] same in omega (arith, e))
 
 -- what is read of the first row is of one of the values that the rows show
-pub first_found : {X A : Type 0} (show : X → Row) (is : A → X → Type 0) (found : Option A) (rows : List Row) (xs : List X) → IsPermutation (map show xs) rows → (IsNone found ↔ (rows ≡ []))
-    → IfSome found (λ a. (x : X) (more : List Row) → rows ≡ show x ∷ more → is a x) → MatchOption found (xs ≡ []) (λ a. (x : X) × Contains xs x × is a x)
+pub first_found : {X A : Type 0} (show : X → Row) (is : A → X → Type 0) (found : Option A) (rows : List Row) (xs : List X)
+    → IsPermutation (map show xs) rows → (IsNone found ↔ (rows ≡ []))
+    → IfSome found (λ a. (x : X) (more : List Row) → rows ≡ show x ∷ more → is a x)
+    → MatchOption found (xs ≡ []) (λ a. (x : X) × Contains xs x × is a x)
 first_found show is found rows xs same none some = let it = pull_back show _ rows same xs refl in go found it.0 it.1 it.2 none some
   where
-    go : (found : Option _) (to : List _) → IsPermutation xs to → rows ≡ map show to → (IsNone found ↔ (rows ≡ [])) → IfSome found (λ a. (x : _) (more : List Row) → rows ≡ show x ∷ more → is a x)
+    go : (found : Option _) (to : List _) → IsPermutation xs to → rows ≡ map show to → (IsNone found ↔ (rows ≡ []))
+        → IfSome found (λ a. (x : _) (more : List Row) → rows ≡ show x ∷ more → is a x)
         → MatchOption found (xs ≡ []) (λ a. (x : _) × Contains xs x × is a x)
     go None [] moved shown none some = none_of_none xs moved
     go None (x ∷ to) moved shown none some = absurd (let e = sym shown ∙ none.0 refl in cc)
     go (Some a) [] moved shown none some = absurd (let e = none.1 shown in cc)
-    go (Some a) (x ∷ to) moved shown none some = (x, Contains-permutation (x ∷ to) xs x (IsPermutation-sym _ _ moved) (0, omega (arith), refl), some x (map show to) shown)
+    go (Some a) (x ∷ to) moved shown none some =
+        (x, Contains-permutation (x ∷ to) xs x (IsPermutation-sym _ _ moved) (0, omega (arith), refl), some x (map show to) shown)
 
 -- of two facts on what is there, a third
 pub ok_both : {X E : Type 0} (r : Result X E) {P Q R : X → Type 0} → ((x : X) → P x → Q x → R x) → IfOk r P → IfOk r Q → IfOk r R
@@ -46,6 +51,7 @@ ok_both (Ok x) both p q = both x p q
 ok_both (Err e) both p q = tt
 
 -- a fact on what there may be gives a weaker one
-pub some_weaker : {X : Type 0} (o : Option X) (P : Type 0) {Q R : X → Type 0} → ((x : X) → Q x → R x) → MatchOption o P Q → MatchOption o P R
+pub some_weaker : {X : Type 0} (o : Option X) (P : Type 0) {Q R : X → Type 0} → ((x : X) → Q x → R x) → MatchOption o P Q
+    → MatchOption o P R
 some_weaker None P weaker h = h
 some_weaker (Some x) P weaker h = weaker x h

@@ -35,7 +35,8 @@ four = lit Null ∷ col 0 0 ∷ col 0 1 ∷ col 0 2 ∷ col 0 3 ∷ []
 
 -- a row of driver ?1 that has a minute from ?2 to before ?3
 abbrev pub near : List Term
-near = op2 (Compare Eq Binary) (col 1 1) (col 0 0) ∷ op2 (Compare Lt Binary) (col 1 2) (col 0 2) ∷ op2 (Compare Lt Binary) (col 0 1) (col 1 3) ∷ []
+near = op2 (Compare Eq Binary) (col 1 1) (col 0 0) ∷ op2 (Compare Lt Binary) (col 1 2) (col 0 2) ∷ op2 (Compare Lt Binary) (col 0 1)
+    (col 1 3) ∷ []
 
 -- a row of driver ?1
 abbrev pub own : List Term
@@ -194,7 +195,8 @@ unfolding understood everything
 driver_insert_is = record { meant = refl; plain = (refl, refl) }
 
 -- a reading by number
-pub by_number_is : IsReading by_number_text 1 (column_is 0) (col 1 2 ∷ col 1 4 ∷ col 1 6 ∷ col 1 7 ∷ []) [] (codes "holder" ∷ codes "base" ∷ codes "downloads" ∷ codes "entries" ∷ [])
+pub by_number_is : IsReading by_number_text 1 (column_is 0) (col 1 2 ∷ col 1 4 ∷ col 1 6 ∷ col 1 7 ∷ []) []
+    (codes "holder" ∷ codes "base" ∷ codes "downloads" ∷ codes "entries" ∷ [])
 unfolding understood everything
 by_number_is = record { meant = refl; unlisted = refl; plain = (refl, refl) }
 

@@ -26,7 +26,8 @@ pub put_shuffles : (new : Row) (rows : List Row) → is_taken rows new ≡ false
 put_shuffles new [] free = IsPermutation-refl _
 put_shuffles new (r ∷ rows) free = go (value_cmp (rowid r) (rowid new)) (or_parts _ _ free).0 (put_shuffles new rows (or_parts _ _ free).1)
   where
-    go : (o : Ordering) → is_eq o ≡ false → IsPermutation (new ∷ rows) (put_row new rows) → IsPermutation (new ∷ r ∷ rows) (match_ordering o (r ∷ put_row new rows) (new ∷ rows) (new ∷ r ∷ rows))
+    go : (o : Ordering) → is_eq o ≡ false → IsPermutation (new ∷ rows) (put_row new rows)
+        → IsPermutation (new ∷ r ∷ rows) (match_ordering o (r ∷ put_row new rows) (new ∷ rows) (new ∷ r ∷ rows))
     go Less other h = IsPermutation-trans _ _ _ (IsPermutation-middle (new ∷ []) r rows) (IsPermutation-cons r _ _ h)
     go Equal other h = absurd (true≢false other)
     go Greater other h = IsPermutation-refl _
@@ -58,15 +59,19 @@ own_id a = ap is_eq (value_cmp-Int a a) ∙ ap is_eq (tied_itself int_cmp_total 
 
 -- no row has a number that is not taken
 pub free_from : (rows : List Row) (id : ℤ) (rest b : Row) → is_taken rows (Int id ∷ rest) ≡ false → Has rows b → rowid b ≡ Int id → ⊥
-free_from rows id rest b free has is = true≢false (sym (some_from (λ r. is_eq (value_cmp (rowid r) (Int id))) rows b has (subst (λ v. is_eq (value_cmp v (Int id)) ≡ true) (sym is) (own_id id))) ∙ free)
+free_from rows id rest b free has is = true≢false
+    (sym (some_from (λ r. is_eq (value_cmp (rowid r) (Int id))) rows b has
+    (subst (λ v. is_eq (value_cmp v (Int id)) ≡ true) (sym is) (own_id id))) ∙ free)
 
 module _ {X : Type 0} (columns : X → Row) where
   -- the order of the list means nothing
-  pub stands_shuffled : (rows : List Row) (all other : List X) → Stands columns rows all → IsPermutation (map columns other) (map columns all) → Stands columns rows other
+  pub stands_shuffled : (rows : List Row) (all other : List X) → Stands columns rows all
+      → IsPermutation (map columns other) (map columns all) → Stands columns rows other
   stands_shuffled rows all other s same = record { stored = s.stored; apart = s.apart; same = IsPermutation-trans _ _ _ same s.same }
 
   -- one value more
-  pub stands_put : (rows : List Row) (all : List X) (id : ℤ) (x : X) → Stands columns rows all → is_taken rows (Int id ∷ columns x) ≡ false → Stands columns (put_row (Int id ∷ columns x) rows) (x ∷ all)
+  pub stands_put : (rows : List Row) (all : List X) (id : ℤ) (x : X) → Stands columns rows all → is_taken rows (Int id ∷ columns x) ≡ false
+      → Stands columns (put_row (Int id ∷ columns x) rows) (x ∷ all)
   stands_put rows all id x s free =
       let new : Row = Int id ∷ columns x in
       record {
@@ -81,12 +86,14 @@ module _ {X : Type 0} (columns : X → Row) where
             | inr both ↦ s.apart a b was both same
           ]
         ];
-        same = IsPermutation-trans _ _ _ (IsPermutation-cons (columns x) _ _ s.same) (IsPermutation-map (drop 1) (new ∷ rows) (put_row new rows) (put_shuffles new rows free));
+        same = IsPermutation-trans _ _ _ (IsPermutation-cons (columns x) _ _ s.same)
+        (IsPermutation-map (drop 1) (new ∷ rows) (put_row new rows) (put_shuffles new rows free));
       }
 
   module _ (p : Row → Bool) (t : X → Bool) (deaf : (v : Value) (x : X) → p (v ∷ columns x) ≡ t x) where
     blind : (rows : List Row) (all : List X) → Stands columns rows all → (r : Row) → Has rows r → p r ≡ p (Null ∷ drop 1 r)
-    blind rows all s r has = let it = s.stored r has in subst (λ (z : Row). p z ≡ p (Null ∷ drop 1 z)) (sym it.2) (deaf _ it.1 ∙ sym (deaf Null it.1))
+    blind rows all s r has = let it = s.stored r has in subst (λ (z : Row). p z ≡ p (Null ∷ drop 1 z)) (sym it.2)
+        (deaf _ it.1 ∙ sym (deaf Null it.1))
 
     pub stands_filter : (rows : List Row) (all : List X) → Stands columns rows all → Stands columns (filter p rows) (filter t all)
     stands_filter rows all s = record {
@@ -95,23 +102,31 @@ module _ {X : Type 0} (columns : X → Row) where
       same =
           let test : Row → Bool = λ w. p (Null ∷ w) in
           let moved = IsPermutation-filter test (map columns all) (map (drop 1) rows) s.same in
-          let left : filter test (map columns all) ≡ map columns (filter t all) = filter-map test columns all ∙ ap (map columns) (filter_same _ t all (all_from _ all (λ x _. deaf Null x))) in
-          let right : filter test (map (drop 1) rows) ≡ map (drop 1) (filter p rows) = filter-map test (drop 1) rows ∙ ap (map (drop 1)) (filter_same _ p rows (all_from _ rows (λ r has. sym (blind rows all s r has)))) in
-          subst (λ xs. IsPermutation xs (map (drop 1) (filter p rows))) left (subst (IsPermutation (filter test (map columns all))) right moved);
+          let left : filter test (map columns all) ≡ map columns (filter t all) = filter-map test columns all
+          ∙ ap (map columns) (filter_same _ t all (all_from _ all (λ x _. deaf Null x))) in
+          let right : filter test (map (drop 1) rows) ≡ map (drop 1) (filter p rows) = filter-map test (drop 1) rows
+          ∙ ap (map (drop 1)) (filter_same _ p rows (all_from _ rows (λ r has. sym (blind rows all s r has)))) in
+          subst (λ xs. IsPermutation xs (map (drop 1) (filter p rows))) left
+          (subst (IsPermutation (filter test (map columns all))) right moved);
     }
 
 -- what is left is what has none of the numbers
 without_all_is : (ids : List ℤ) (rows : List Row) → without_all rows ids ≡ filter (λ r. not (list_any (λ id. has_rowid id r) ids)) rows
 without_all_is [] rows = sym (filter_all _ rows (all_from _ rows (λ r has. refl)))
-without_all_is (id ∷ ids) rows = without_all_is ids (without_rowid id rows) ∙ both (λ r. has_rowid id r) (λ r. list_any (λ i. has_rowid i r) ids) rows
+without_all_is (id ∷ ids) rows = without_all_is ids (without_rowid id rows)
+    ∙ both (λ r. has_rowid id r) (λ r. list_any (λ i. has_rowid i r) ids) rows
   where
     step : (p q : Row → Bool) (r : Row) (rows : List Row) (a b : Bool) → p r ≡ a → q r ≡ b
-        → filter (λ r. not (q r)) (cond (not a) (r ∷ filter (λ r. not (p r)) rows) (filter (λ r. not (p r)) rows)) ≡ cond (not (a || b)) (r ∷ filter (λ r. not (q r)) (filter (λ r. not (p r)) rows)) (filter (λ r. not (q r)) (filter (λ r. not (p r)) rows))
+        → filter (λ r. not (q r)) (cond (not a) (r ∷ filter (λ r. not (p r)) rows) (filter (λ r. not (p r)) rows)) ≡ cond (not (a || b))
+        (r ∷ filter (λ r. not (q r)) (filter (λ r. not (p r)) rows)) (filter (λ r. not (q r)) (filter (λ r. not (p r)) rows))
     step p q r rows true b is too = refl
-    step p q r rows false true is too = ap (λ z. cond (not z) (r ∷ filter (λ r. not (q r)) (filter (λ r. not (p r)) rows)) (filter (λ r. not (q r)) (filter (λ r. not (p r)) rows))) too
-    step p q r rows false false is too = ap (λ z. cond (not z) (r ∷ filter (λ r. not (q r)) (filter (λ r. not (p r)) rows)) (filter (λ r. not (q r)) (filter (λ r. not (p r)) rows))) too
+    step p q r rows false true is too = ap (λ z. cond (not z) (r ∷ filter (λ r. not (q r)) (filter (λ r. not (p r)) rows))
+        (filter (λ r. not (q r)) (filter (λ r. not (p r)) rows))) too
+    step p q r rows false false is too = ap (λ z. cond (not z) (r ∷ filter (λ r. not (q r)) (filter (λ r. not (p r)) rows))
+        (filter (λ r. not (q r)) (filter (λ r. not (p r)) rows))) too
 
-    both : (p q : Row → Bool) (rows : List Row) → filter (λ r. not (q r)) (filter (λ r. not (p r)) rows) ≡ filter (λ r. not (p r || q r)) rows
+    both : (p q : Row → Bool) (rows : List Row)
+        → filter (λ r. not (q r)) (filter (λ r. not (p r)) rows) ≡ filter (λ r. not (p r || q r)) rows
     both p q [] = refl
     both p q (r ∷ rows) = step p q r rows (p r) (q r) refl refl ∙ ap (λ xs. cond (not (p r || q r)) (r ∷ xs) xs) (both p q rows)
 
@@ -122,7 +137,8 @@ pub record AreNumbered (rows : List Row) : Type 0 where
 
 module _ (rows : List Row) (s : AreNumbered rows) (p : Row → Bool) where
   -- a row has one of the numbers that were found exactly where it passes
-  found_is : (out : List Row) → IsPermutation (map (λ r. rowid r ∷ []) (filter p rows)) out → (r : Row) → Has rows r → list_any (λ id. has_rowid id r) (ids_of out) ≡ p r
+  found_is : (out : List Row) → IsPermutation (map (λ r. rowid r ∷ []) (filter p rows)) out → (r : Row) → Has rows r
+      → list_any (λ id. has_rowid id r) (ids_of out) ≡ p r
   found_is out same r has =
       list_any-map (λ id. has_rowid id r) (λ o. id_in (rowid o)) out
       ∙ sym (list_any-IsPermutation (λ o. has_rowid (id_in (rowid o)) r) _ _ same)
@@ -135,27 +151,38 @@ module _ (rows : List Row) (s : AreNumbered rows) (p : Row → Bool) where
           let was = has_filtered p rows it.0 it.1 in
           let o = s.numbered it.0 was.0 in
           let own = s.numbered r has in
-          let met : is_eq (value_cmp (Int own.0) (Int o.0)) ≡ true = subst (λ v. is_eq (value_cmp v (Int o.0)) ≡ true) own.1 (subst (λ v. has_rowid (id_in v) r ≡ true) o.1 it.2) in
+          let met : is_eq (value_cmp (Int own.0) (Int o.0)) ≡ true = subst (λ v. is_eq (value_cmp v (Int o.0)) ≡ true) own.1
+          (subst (λ v. has_rowid (id_in v) r ≡ true) o.1 it.2) in
           let one : rowid it.0 ≡ rowid r = o.1 ∙ ap Int (sym (same_id own.0 o.0 met)) ∙ sym own.1 in
           subst (λ z. p z ≡ true) (s.apart it.0 r was.0 has one) was.1
 
       complete : p r ≡ true → list_any (λ o. has_rowid (id_in (rowid o)) r) (filter p rows) ≡ true
       complete h =
           let own = s.numbered r has in
-          some_from (λ o. has_rowid (id_in (rowid o)) r) (filter p rows) r (has_kept p rows r has h) (subst (λ v. is_eq (value_cmp v (Int (id_in v))) ≡ true) (sym own.1) (own_id own.0))
+          some_from (λ o. has_rowid (id_in (rowid o)) r) (filter p rows) r (has_kept p rows r has h)
+          (subst (λ v. is_eq (value_cmp v (Int (id_in v))) ≡ true) (sym own.1) (own_id own.0))
 
   -- without those that were found, what is left is what doesn't pass
-  pub left_is : (out : List Row) → IsPermutation (map (λ r. rowid r ∷ []) (filter p rows)) out → without_all rows (ids_of out) ≡ filter (λ r. not (p r)) rows
-  left_is out same = without_all_is (ids_of out) rows ∙ filter_same _ (λ r. not (p r)) rows (all_from _ rows (λ r has. ap not (found_is out same r has)))
+  pub left_is : (out : List Row) → IsPermutation (map (λ r. rowid r ∷ []) (filter p rows)) out
+      → without_all rows (ids_of out) ≡ filter (λ r. not (p r)) rows
+  left_is out same = without_all_is (ids_of out) rows
+      ∙ filter_same _ (λ r. not (p r)) rows (all_from _ rows (λ r has. ap not (found_is out same r has)))
 
-module _ {X : Type 0} (columns : X → Row) (rows : List Row) (all : List X) (s : Stands columns rows all) (p : Row → Bool) (t : X → Bool) (deaf : (v : Value) (x : X) → p (v ∷ columns x) ≡ t x) where
+module _ {X : Type 0} (columns : X → Row) (rows : List Row) (all : List X) (s : Stands columns rows all) (p : Row → Bool) (t : X → Bool)
+    (deaf : (v : Value) (x : X) → p (v ∷ columns x) ≡ t x) where
   -- what a query shows of the rows that pass
-  pub shown_of : {Y : Type 0} (f : Row → Y) (show : X → Y) → ((v : Value) (x : X) → f (v ∷ columns x) ≡ show x) → IsPermutation (map show (filter t all)) (map f (filter p rows))
+  pub shown_of : {Y : Type 0} (f : Row → Y) (show : X → Y) → ((v : Value) (x : X) → f (v ∷ columns x) ≡ show x)
+      → IsPermutation (map show (filter t all)) (map f (filter p rows))
   shown_of f show same =
       let k = stands_filter columns p t deaf rows all s in
       let moved = IsPermutation-map (λ (w : Row). f (Null ∷ w)) (map columns (filter t all)) (map (drop 1) (filter p rows)) k.same in
-      let left : map (λ (w : Row). f (Null ∷ w)) (map columns (filter t all)) ≡ map show (filter t all) = map-map (λ (w : Row). f (Null ∷ w)) columns (filter t all) ∙ map_same _ show (filter t all) (all_from _ (filter t all) (λ x _. same Null x)) in
+      let left : map (λ (w : Row). f (Null ∷ w)) (map columns (filter t all)) ≡ map show (filter t all) = map-map
+      (λ (w : Row). f (Null ∷ w)) columns (filter t all)
+      ∙ map_same _ show (filter t all) (all_from _ (filter t all) (λ x _. same Null x)) in
       let right : map (λ (w : Row). f (Null ∷ w)) (map (drop 1) (filter p rows)) ≡ map f (filter p rows) =
       map-map (λ (w : Row). f (Null ∷ w)) (drop 1) (filter p rows)
-      ∙ map_same _ f (filter p rows) (all_from _ (filter p rows) (λ r has. let it = k.stored r has in subst (λ (z : Row). f (Null ∷ drop 1 z) ≡ f z) (sym it.2) (same Null it.1 ∙ sym (same (Int it.0) it.1)))) in
-      subst (λ xs. IsPermutation xs (map f (filter p rows))) left (subst (IsPermutation (map (λ (w : Row). f (Null ∷ w)) (map columns (filter t all)))) right moved)
+      ∙ map_same _ f (filter p rows) (all_from _ (filter p rows)
+      (λ r has. let it = k.stored r has in subst (λ (z : Row). f (Null ∷ drop 1 z) ≡ f z) (sym it.2)
+      (same Null it.1 ∙ sym (same (Int it.0) it.1)))) in
+      subst (λ xs. IsPermutation xs (map f (filter p rows))) left
+      (subst (IsPermutation (map (λ (w : Row). f (Null ∷ w)) (map columns (filter t all)))) right moved)

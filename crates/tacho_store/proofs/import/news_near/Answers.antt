@@ -16,4 +16,5 @@ returns-clause-decided g c clean schema s stands d is =
     let helds = was_ok c.near-2.result c.in_ok-helds.helds _ c.in_ok-helds.ensures.cases (c.near-2.ensures.found clean seen.0) in
     decided old.now.trees s c.args.driver d _ _ c.args.spans.now c.in_ok-cards.cards.items c.in_ok-helds.helds.items _ _ c.news_of.result stands is cards
     (subst (λ (w : Database). AreRead (λ t. t.held) w.trees c.args.driver c.range_of-start.result.0 c.range_of-start.result.1 c.in_ok-helds.helds.items) same.0.now_is helds)
-    (rw c.deref.ensures.value at c.in_ok-card_line.ensures.line) (rw c.deref-2.ensures.value at c.in_ok-line.ensures.line) c.range_of-start.ensures c.news_of.ensures
+    (rw c.deref.ensures.value at c.in_ok-card_line.ensures.line)
+    (rw c.deref-2.ensures.value at c.in_ok-line.ensures.line) c.range_of-start.ensures c.news_of.ensures

@@ -1,94 +1,36 @@
 use Rattle.std.proofs.Common.{◌∙◌, sym}
-use Rattle.tacho_store.proofs.MappedLemmas.{was_ok, on_ok_mapped, answers_mapped}
-use Rattle.tacho_store.proofs.FoundLemmas.{number_found, key_found, holder_found, not_found}
+use Rattle.tacho_store.proofs.MappedLemmas.{on_ok_mapped, answers_mapped}
+use Rattle.tacho_store.proofs.FoundLemmas.{handed_on}
 use Rattle.tacho_store.proofs.SeenLemmas.{still_seen}
-use Rattle.tacho_store.proofs.RegistrationLemmas.{number_taken, key_taken, holder_taken, no_monday, goes_in, row_added}
+use Rattle.tacho_store.proofs.RegistrationLemmas.{all_free, not_free, no_monday, goes_in, row_added}
 use Rattle.tacho_store.proofs.registration.register_in.Goals as goal
 
-pub returns-then-is_some-clause-answer : goal.returns-then-is_some-clause-answer
-returns-then-is_some-clause-answer g c clean schema s stands =
-    let number = number_found _ s _ c.in_ok-by_number.by_number stands
-    (rw c.number.ensures at (was_ok c.by_number.result c.in_ok-by_number.by_number _ c.in_ok-by_number.ensures.cases (c.by_number.ensures.found clean schema))) in
-    number_taken _ _ _ _ _ s c.in_ok-by_number.by_number _ (sym c.is_some.ensures ∙ c.if-is_some.true) number
-
-pub returns-then-is_some-2-clause-answer : goal.returns-then-is_some-2-clause-answer
-returns-then-is_some-2-clause-answer g c clean schema s stands =
-    let clean_1 = c.number_by_secret.ensures.clean clean in
-    let number = number_found _ s _ c.in_ok-by_number.by_number stands
-    (rw c.number.ensures at (was_ok c.by_number.result c.in_ok-by_number.by_number _ c.in_ok-by_number.ensures.cases (c.by_number.ensures.found clean_1 schema))) in
-    let seen_1 = still_seen _ _ s (was_ok c.by_number.result c.in_ok-by_number.by_number _ c.in_ok-by_number.ensures.cases (c.by_number.ensures.same clean_1 schema)) schema stands in
-    let free = not_found c.in_ok-by_number.by_number _ _ (sym c.is_some.ensures ∙ c.if-is_some.false) number in
-    let key = key_found _ s _ c.in_ok-by_key.by_key seen_1.1
-    (rw c.key.ensures at (was_ok c.number_by_secret.result c.in_ok-by_key.by_key _ c.in_ok-by_key.ensures.cases (c.number_by_secret.ensures.found clean seen_1.0))) in
-    key_taken _ _ _ _ _ s c.in_ok-by_key.by_key _ free (sym c.is_some-2.ensures ∙ c.if-is_some-2.true) key
-
-pub returns-then-is_some-3-clause-answer : goal.returns-then-is_some-3-clause-answer
-returns-then-is_some-3-clause-answer g c clean schema s stands =
-    let clean_2 = c.number_by_holder.ensures.clean clean in
-    let clean_1 = c.number_by_secret.ensures.clean clean_2 in
-    let number = number_found _ s _ c.in_ok-by_number.by_number stands
-    (rw c.number.ensures at (was_ok c.by_number.result c.in_ok-by_number.by_number _ c.in_ok-by_number.ensures.cases (c.by_number.ensures.found clean_1 schema))) in
-    let seen_1 = still_seen _ _ s (was_ok c.by_number.result c.in_ok-by_number.by_number _ c.in_ok-by_number.ensures.cases (c.by_number.ensures.same clean_1 schema)) schema stands in
-    let free = not_found c.in_ok-by_number.by_number _ _ (sym c.is_some.ensures ∙ c.if-is_some.false) number in
-    let key = key_found _ s _ c.in_ok-by_key.by_key seen_1.1
-    (rw c.key.ensures at (was_ok c.number_by_secret.result c.in_ok-by_key.by_key _ c.in_ok-by_key.ensures.cases (c.number_by_secret.ensures.found clean_2 seen_1.0))) in
-    let seen_2 = still_seen _ _ s (was_ok c.number_by_secret.result c.in_ok-by_key.by_key _ c.in_ok-by_key.ensures.cases (c.number_by_secret.ensures.same clean_2 seen_1.0)) seen_1.0 seen_1.1 in
-    let unknown = not_found c.in_ok-by_key.by_key _ _ (sym c.is_some-2.ensures ∙ c.if-is_some-2.false) key in
-    let holder = holder_found _ s _ c.in_ok-by_holder.by_holder seen_2.1
-    (rw c.holder.ensures at (was_ok c.number_by_holder.result c.in_ok-by_holder.by_holder _ c.in_ok-by_holder.ensures.cases (c.number_by_holder.ensures.found clean seen_2.0))) in
-    holder_taken _ _ _ _ _ s c.in_ok-by_holder.by_holder _ free unknown (sym c.is_some-3.ensures ∙ c.if-is_some-3.true) holder
+pub returns-in_err-ask_free-clause-answer : goal.returns-in_err-ask_free-clause-answer
+returns-in_err-ask_free-clause-answer g c clean schema s stands =
+    handed_on _ _ c.from_residual.result _ (not_free s _ _ _ _ _ _
+    (c.in_err-ask_free.ensures.free clean schema s stands)) c.from_residual.ensures
 
 pub returns-then-not-is_monday-clause-answer : goal.returns-then-not-is_monday-clause-answer
 returns-then-not-is_monday-clause-answer g c clean schema s stands =
-    let clean_2 = c.number_by_holder.ensures.clean clean in
-    let clean_1 = c.number_by_secret.ensures.clean clean_2 in
-    let number = number_found _ s _ c.in_ok-by_number.by_number stands
-    (rw c.number.ensures at (was_ok c.by_number.result c.in_ok-by_number.by_number _ c.in_ok-by_number.ensures.cases (c.by_number.ensures.found clean_1 schema))) in
-    let seen_1 = still_seen _ _ s (was_ok c.by_number.result c.in_ok-by_number.by_number _ c.in_ok-by_number.ensures.cases (c.by_number.ensures.same clean_1 schema)) schema stands in
-    let free = not_found c.in_ok-by_number.by_number _ _ (sym c.is_some.ensures ∙ c.if-is_some.false) number in
-    let key = key_found _ s _ c.in_ok-by_key.by_key seen_1.1
-    (rw c.key.ensures at (was_ok c.number_by_secret.result c.in_ok-by_key.by_key _ c.in_ok-by_key.ensures.cases (c.number_by_secret.ensures.found clean_2 seen_1.0))) in
-    let seen_2 = still_seen _ _ s (was_ok c.number_by_secret.result c.in_ok-by_key.by_key _ c.in_ok-by_key.ensures.cases (c.number_by_secret.ensures.same clean_2 seen_1.0)) seen_1.0 seen_1.1 in
-    let unknown = not_found c.in_ok-by_key.by_key _ _ (sym c.is_some-2.ensures ∙ c.if-is_some-2.false) key in
-    let holder = holder_found _ s _ c.in_ok-by_holder.by_holder seen_2.1
-    (rw c.holder.ensures at (was_ok c.number_by_holder.result c.in_ok-by_holder.by_holder _ c.in_ok-by_holder.ensures.cases (c.number_by_holder.ensures.found clean seen_2.0))) in
-    let new = not_found c.in_ok-by_holder.by_holder _ _ (sym c.is_some-3.ensures ∙ c.if-is_some-3.false) holder in
-    no_monday _ _ _ _ _ s free unknown new (rw c.base.ensures at (sym c.is_monday.ensures ∙ c.if-not-is_monday.true))
+    no_monday _ _ _ _ _ s (all_free s _ _ _ _ (c.in_ok-ask_free.ensures.free clean schema s stands))
+    (rw c.base.ensures at (sym c.is_monday.ensures ∙ c.if-not-is_monday.true))
 
 pub returns-clause-answer : goal.returns-clause-answer
 returns-clause-answer g c clean schema s stands =
-    let clean_3 = c.insert.ensures.clean clean in
-    let clean_2 = c.number_by_holder.ensures.clean clean_3 in
-    let clean_1 = c.number_by_secret.ensures.clean clean_2 in
-    let number = number_found _ s _ c.in_ok-by_number.by_number stands
-    (rw c.number.ensures at (was_ok c.by_number.result c.in_ok-by_number.by_number _ c.in_ok-by_number.ensures.cases (c.by_number.ensures.found clean_1 schema))) in
-    let seen_1 = still_seen _ _ s (was_ok c.by_number.result c.in_ok-by_number.by_number _ c.in_ok-by_number.ensures.cases (c.by_number.ensures.same clean_1 schema)) schema stands in
-    let free = not_found c.in_ok-by_number.by_number _ _ (sym c.is_some.ensures ∙ c.if-is_some.false) number in
-    let key = key_found _ s _ c.in_ok-by_key.by_key seen_1.1
-    (rw c.key.ensures at (was_ok c.number_by_secret.result c.in_ok-by_key.by_key _ c.in_ok-by_key.ensures.cases (c.number_by_secret.ensures.found clean_2 seen_1.0))) in
-    let seen_2 = still_seen _ _ s (was_ok c.number_by_secret.result c.in_ok-by_key.by_key _ c.in_ok-by_key.ensures.cases (c.number_by_secret.ensures.same clean_2 seen_1.0)) seen_1.0 seen_1.1 in
-    let unknown = not_found c.in_ok-by_key.by_key _ _ (sym c.is_some-2.ensures ∙ c.if-is_some-2.false) key in
-    let holder = holder_found _ s _ c.in_ok-by_holder.by_holder seen_2.1
-    (rw c.holder.ensures at (was_ok c.number_by_holder.result c.in_ok-by_holder.by_holder _ c.in_ok-by_holder.ensures.cases (c.number_by_holder.ensures.found clean_3 seen_2.0))) in
-    let new = not_found c.in_ok-by_holder.by_holder _ _ (sym c.is_some-3.ensures ∙ c.if-is_some-3.false) holder in
-    answers_mapped c.insert.result c.map_err-4.result _ c.map_err-4.ensures.cases (λ _. goes_in _ _ _ _ _ s free unknown new (rw c.base.ensures at (sym c.is_monday.ensures ∙ c.if-not-is_monday.false)))
+    let free = all_free s _ _ _ _ (c.in_ok-ask_free.ensures.free (c.insert.ensures.clean clean) schema s stands) in
+    answers_mapped c.insert.result c.map_err.result _ c.map_err.ensures.cases
+    (λ _. goes_in _ _ _ _ _ s free (rw c.base.ensures at (sym c.is_monday.ensures ∙ c.if-not-is_monday.false)))
 
 pub returns-clause-made : goal.returns-clause-made
 returns-clause-made g c clean schema s stands =
-    let clean_3 = c.insert.ensures.clean clean in
-    let clean_2 = c.number_by_holder.ensures.clean clean_3 in
-    let clean_1 = c.number_by_secret.ensures.clean clean_2 in
-    let number = number_found _ s _ c.in_ok-by_number.by_number stands
-    (rw c.number.ensures at (was_ok c.by_number.result c.in_ok-by_number.by_number _ c.in_ok-by_number.ensures.cases (c.by_number.ensures.found clean_1 schema))) in
-    let seen_1 = still_seen _ _ s (was_ok c.by_number.result c.in_ok-by_number.by_number _ c.in_ok-by_number.ensures.cases (c.by_number.ensures.same clean_1 schema)) schema stands in
-    let free = not_found c.in_ok-by_number.by_number _ _ (sym c.is_some.ensures ∙ c.if-is_some.false) number in
-    let key = key_found _ s _ c.in_ok-by_key.by_key seen_1.1
-    (rw c.key.ensures at (was_ok c.number_by_secret.result c.in_ok-by_key.by_key _ c.in_ok-by_key.ensures.cases (c.number_by_secret.ensures.found clean_2 seen_1.0))) in
-    let seen_2 = still_seen _ _ s (was_ok c.number_by_secret.result c.in_ok-by_key.by_key _ c.in_ok-by_key.ensures.cases (c.number_by_secret.ensures.same clean_2 seen_1.0)) seen_1.0 seen_1.1 in
-    let unknown = not_found c.in_ok-by_key.by_key _ _ (sym c.is_some-2.ensures ∙ c.if-is_some-2.false) key in
-    let holder = holder_found _ s _ c.in_ok-by_holder.by_holder seen_2.1
-    (rw c.holder.ensures at (was_ok c.number_by_holder.result c.in_ok-by_holder.by_holder _ c.in_ok-by_holder.ensures.cases (c.number_by_holder.ensures.found clean_3 seen_2.0))) in
-    let seen_3 = still_seen _ _ s (was_ok c.number_by_holder.result c.in_ok-by_holder.by_holder _ c.in_ok-by_holder.ensures.cases (c.number_by_holder.ensures.same clean_3 seen_2.0)) seen_2.0 seen_2.1 in
-    let new = not_found c.in_ok-by_holder.by_holder _ _ (sym c.is_some-3.ensures ∙ c.if-is_some-3.false) holder in
-    let turned = rw (c.number-2.ensures, c.holder-2.ensures, c.key-2.ensures, c.number-3.ensures.value, c.base-2.ensures, c.name.ensures) at (c.insert.ensures.turned clean seen_3.0) in
-    on_ok_mapped c.insert.result c.map_err-4.result _ _ _ (λ turns. (turns.schema, row_added _ _ _ _ _ s free unknown new _ _ (rw c.base.ensures at (sym c.is_monday.ensures ∙ c.if-not-is_monday.false)) seen_3.1 turns.stands)) c.map_err-4.ensures.cases turned
+    let clean_1 = c.insert.ensures.clean clean in
+    let free = all_free s _ _ _ _ (c.in_ok-ask_free.ensures.free clean_1 schema s stands) in
+    let seen = still_seen _ _ s (c.in_ok-ask_free.ensures.same clean_1 schema) schema stands in
+    let turned = rw (c.number.ensures, c.holder.ensures, c.key.ensures, c.number-2.ensures.value, c.base-2.ensures, c.name.ensures) at
+    (c.insert.ensures.turned clean seen.0) in
+    on_ok_mapped c.insert.result c.map_err.result _ _ _
+    (λ turns. (
+      turns.schema,
+      row_added _ _ _ _ _ s free _ _
+          (rw c.base.ensures at (sym c.is_monday.ensures ∙ c.if-not-is_monday.false)) seen.1 turns.stands,
+    )) c.map_err.ensures.cases turned

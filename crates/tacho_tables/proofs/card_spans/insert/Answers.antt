@@ -9,5 +9,7 @@ pub returns-clause-turned : goal.returns-clause-turned
 returns-clause-turned g c clean schema =
     let old = state g.S.Store c.args.tx.now.conn.now in
     let new = state g.S.Store c.run.new.tx.conn.now in
-    on_ok_weaker c.run.result (λ ran. adds_span card_table card_insert_text old new (row_of c.args.driver c.args.span.now) ran.0 schema card_insert_is ran.1)
-    (rw (c.params-to_sql.ensures, c.params-to_sql-2.ensures, c.params-to_sql-3.ensures, c.params-to_sql-4.ensures) at (c.run.ensures.ran clean))
+    on_ok_weaker c.run.result (λ ran. adds_span card_table card_insert_text old new
+    (row_of c.args.driver c.args.span.now) ran.0 schema card_insert_is ran.1)
+    (rw (c.params-to_sql.ensures, c.params-to_sql-2.ensures, c.params-to_sql-3.ensures, c.params-to_sql-4.ensures) at
+    (c.run.ensures.ran clean))

@@ -16,5 +16,6 @@ returns-clause-found g c clean schema =
     let shown = rw (c.params-to_sql.ensures, c.params-to_sql-2.ensures, c.params-to_sql-3.ensures) at (c.in_ok-rows.ensures.shown clean) in
     let driver = c.args.driver in
     IfOk-weaker c.stored_spans.result _ _
-    (λ spans reads a s. found_spans card_near_text 6 _ _ (is_near driver c.args.start c.args.past) (near_is driver c.args.start c.args.past) old new c.in_ok-rows.rows.items schema card_near_is shown a.card_spans s.card_spans spans.items
+    (λ spans reads a s. found_spans card_near_text 6 _ _ (is_near driver c.args.start c.args.past)
+    (near_is driver c.args.start c.args.past) old new c.in_ok-rows.rows.items schema card_near_is shown a.card_spans s.card_spans spans.items
     (λ some is. reads some (c.deref.ensures.value ∙ is))) c.stored_spans.ensures

@@ -17,4 +17,5 @@ returns-clause-found g c clean schema =
     ok_both c.first_file.result (λ found none some a s.
     let wanted = filter (is_download c.args.driver c.args.number) a.downloads in
     first_found file_shown (λ bytes r. bytes.items ≡ r.file) found c.deref.result.now wanted
-    (subst (IsPermutation (map file_shown wanted)) (sym c.deref.ensures.value) (shows_file old new c.args.driver c.args.number c.in_ok-rows.rows.items schema shown a.downloads s.downloads)) none some) c.first_file.ensures.none c.first_file.ensures.some
+    (subst (IsPermutation (map file_shown wanted)) (sym c.deref.ensures.value)
+    (shows_file old new c.args.driver c.args.number c.in_ok-rows.rows.items schema shown a.downloads s.downloads)) none some) c.first_file.ensures.none c.first_file.ensures.some

@@ -20,4 +20,6 @@ returns-clause-found g c clean schema =
     let wanted = filter (has_secret c.args.secret.now) a.drivers in
     first_found number_shown (λ it r. it ≡ r.driver) found c.deref.result.now wanted
     (subst (IsPermutation (map number_shown wanted)) (sym c.deref.ensures.value)
-    (shows_drivers by_secret_text _ _ _ by_secret_is (Text c.args.secret.now ∷ []) (has_secret c.args.secret.now) (secret_test c.args.secret.now) number_shown (λ x. refl) old new c.in_ok-rows.rows.items schema shown a.drivers s.drivers)) none (IfSome_then found some (λ n reads r. reads r.driver))) c.first_number.ensures.none c.first_number.ensures.some
+    (shows_drivers by_secret_text _ _ _ by_secret_is (Text c.args.secret.now ∷ []) (has_secret c.args.secret.now)
+    (secret_test c.args.secret.now) number_shown (λ x. refl) old new c.in_ok-rows.rows.items schema shown a.drivers s.drivers)) none
+    (IfSome_then found some (λ n reads r. reads r.driver))) c.first_number.ensures.none c.first_number.ensures.some

@@ -33,4 +33,5 @@ returns-clause-turned g c clean schema =
     let now = state g.S.Store c.loop-span.tx.conn.now in
     let xs : List StoredSpan = c.args.spans.now in
     let done : drop c.loop-span.span-index xs ≡ [] = drop_all c.loop-span.span-index xs c.loop-span-test.false in
-    all_added held_table c.args.driver xs old now (subst (λ l. HasLeft get_held put_held c.args.driver xs l old now) done (c.loop-span.invariant.3 clean schema))
+    all_added held_table c.args.driver xs old now
+    (subst (λ l. HasLeft get_held put_held c.args.driver xs l old now) done (c.loop-span.invariant.3 clean schema))

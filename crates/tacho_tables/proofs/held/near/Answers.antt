@@ -16,5 +16,6 @@ returns-clause-found g c clean schema =
     let shown = rw (c.params-to_sql.ensures, c.params-to_sql-2.ensures, c.params-to_sql-3.ensures) at (c.in_ok-rows.ensures.shown clean) in
     let driver = c.args.driver in
     IfOk-weaker c.stored_spans.result _ _
-    (λ spans reads a s. found_spans held_near_text 10 _ _ (is_near driver c.args.start c.args.past) (near_is driver c.args.start c.args.past) old new c.in_ok-rows.rows.items schema held_near_is shown a.held s.held spans.items
+    (λ spans reads a s. found_spans held_near_text 10 _ _ (is_near driver c.args.start c.args.past)
+    (near_is driver c.args.start c.args.past) old new c.in_ok-rows.rows.items schema held_near_is shown a.held s.held spans.items
     (λ some is. reads some (c.deref.ensures.value ∙ is))) c.stored_spans.ensures

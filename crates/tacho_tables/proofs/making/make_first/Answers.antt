@@ -10,5 +10,6 @@ returns-clause-made g c clean schema =
     let clean_1 = c.make_table-2.ensures.clean clean_2 in
     let one = c.in_ok-make_table.ensures.made clean_1 no_schema meta schema makes_meta in
     let two = c.in_ok-make_table-2.ensures.made clean_2 schema_1 drivers one.after makes_drivers in
-    on_ok_weaker c.make_table-3.result (λ three. (three.after, (three.others.0 ∙ two.others.0 ∙ one.empty, (three.others.1.0 ∙ two.empty, (three.empty, tt)))))
+    on_ok_weaker c.make_table-3.result (λ three.
+    (three.after, (three.others.0 ∙ two.others.0 ∙ one.empty, (three.others.1.0 ∙ two.empty, (three.empty, tt)))))
     (c.make_table-3.ensures.made clean schema_2 downloads two.after makes_downloads)

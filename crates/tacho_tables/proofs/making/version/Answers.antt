@@ -14,7 +14,8 @@ returns-clause-found g c clean schema =
     let old = state g.S.Store c.args.tx.now.conn.now in
     let new = state g.S.Store c.read.new.tx.conn.now in
     ok_both c.first_number.result (λ found none some a s. first_is_one found c.deref.result.now
-    (c.deref.ensures.value ∙ shows_version old new c.in_ok-rows.rows.items schema (c.in_ok-rows.ensures.shown clean) s.meta) none some) c.first_number.ensures.none c.first_number.ensures.some
+    (c.deref.ensures.value ∙ shows_version old new c.in_ok-rows.rows.items schema
+    (c.in_ok-rows.ensures.shown clean) s.meta) none some) c.first_number.ensures.none c.first_number.ensures.some
 
 pub returns-clause-missing : goal.returns-clause-missing
 returns-clause-missing g c clean schema =

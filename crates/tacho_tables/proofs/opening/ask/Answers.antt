@@ -7,11 +7,15 @@ use Rattle.tacho_tables.proofs.opening.ask.Goals as goal
 
 pub returns-in_err-prepare-clause-was_open : goal.returns-in_err-prepare-clause-was_open
 returns-in_err-prepare-clause-was_open g c clean =
-    (asked _ [] (state g.S.Store c.args.conn.now) (state g.S.Store c.prepare.new.self) c.prepare.result _ (c.prepare.ensures.ok clean) (IfErr-weaker c.prepare.result _ _ (λ e no. no []) (c.prepare.ensures.err clean))).was_open
+    (asked _ [] (state g.S.Store c.args.conn.now) (state g.S.Store c.prepare.new.self) c.prepare.result _ (c.prepare.ensures.ok clean)
+    (IfErr-weaker c.prepare.result _ _ (λ e no. no []) (c.prepare.ensures.err clean))).was_open
 
 pub returns-in_err-prepare-clause-same : goal.returns-in_err-prepare-clause-same
 returns-in_err-prepare-clause-same g c clean =
-    (asked _ [] (state g.S.Store c.args.conn.now) (state g.S.Store c.prepare.new.self) c.prepare.result _ (c.prepare.ensures.ok clean) (IfErr-weaker c.prepare.result _ _ (λ e no. no []) (c.prepare.ensures.err clean))).same
+    (asked _ [] (state g.S.Store c.args.conn.now) (state g.S.Store c.prepare.new.self) c.prepare.result _ (c.prepare.ensures.ok clean)
+    (IfErr-weaker c.prepare.result _ _ (λ e no. no []) (c.prepare.ensures.err clean))).same
 
 pub returns-clause-missing : goal.returns-clause-missing
-returns-clause-missing g c clean none = absurd (unknown_outline version_text (state g.S.Store c.args.conn.now).now.schema _ none version_is_unknown (c.in_ok-prepare.ensures.shape clean))
+returns-clause-missing g c clean none = absurd
+    (unknown_outline version_text (state g.S.Store c.args.conn.now).now.schema _ none version_is_unknown
+    (c.in_ok-prepare.ensures.shape clean))

@@ -11,7 +11,9 @@ loop-row-preserved c shown is =
     let row : Row = c.row-item.result in
     let was = c.loop-row.invariant shown is in
     let cut : drop i rows ≡ row ∷ drop (i + 1) rows =
-    drop-cons rows i row c.loop-row-test.true ∙ ap (λ r. r ∷ drop (suc i) rows) (sym c.row-item.is) ∙ ap (λ k. row ∷ drop k rows) (sym (add-one i)) in
+    drop-cons rows i row c.loop-row-test.true ∙ ap (λ r. r ∷ drop (suc i) rows) (sym c.row-item.is)
+    ∙ ap (λ k. row ∷ drop k rows) (sym (add-one i)) in
     let s = c.in_ok-stored_span.field-0 in
     let later = reads_first was.0 row (drop (i + 1) rows) s (sym cut ∙ was.1) c.in_ok-stored_span.ensures in
-    (later.0, later.1, ap (λ xs. xs ++ map span_of later.0) c.in_ok-push.ensures.items ∙ append_assoc c.loop-row.spans.items (s ∷ []) (map span_of later.0) ∙ ap (λ xs. c.loop-row.spans.items ++ xs) (sym later.2) ∙ was.2)
+    (later.0, later.1, ap (λ xs. xs ++ map span_of later.0) c.in_ok-push.ensures.items
+    ∙ append_assoc c.loop-row.spans.items (s ∷ []) (map span_of later.0) ∙ ap (λ xs. c.loop-row.spans.items ++ xs) (sym later.2) ∙ was.2)

@@ -5,4 +5,5 @@ use Rattle.tacho_tables.proofs.rows.stored_spans.Given as goal
 
 abbrev pub invariant-loop-row : goal.invariant-loop-row
 invariant-loop-row l =
-    (shown : List SpanRow) → l.rows ≡ map span_shown shown → (rest : List SpanRow) × (drop l.row-index l.rows ≡ map span_shown rest) × (l.spans.items ++ map span_of rest ≡ map span_of shown)
+    (shown : List SpanRow) → l.rows ≡ map span_shown shown
+    → (rest : List SpanRow) × (drop l.row-index l.rows ≡ map span_shown rest) × (l.spans.items ++ map span_of rest ≡ map span_of shown)

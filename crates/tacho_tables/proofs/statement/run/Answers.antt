@@ -19,4 +19,6 @@ pub returns-clause-was_open : goal.returns-clause-was_open
 returns-clause-was_open g c clean = (keeps_ran g.S.Store _ _ c.args.tx.now.conn.now c.execute.new.self.conn.now c.execute.result _ c.execute.ensures.ended (c.execute.ensures.runs clean)).was_open
 
 pub returns-in_err-execute-clause-was_open : goal.returns-in_err-execute-clause-was_open
-returns-in_err-execute-clause-was_open g c clean = (keeps_ran g.S.Store _ _ c.args.tx.now.conn.now c.execute.new.self.conn.now c.execute.result _ c.execute.ensures.ended (c.execute.ensures.runs clean)).was_open
+returns-in_err-execute-clause-was_open g c clean =
+    (keeps_ran g.S.Store _ _ c.args.tx.now.conn.now c.execute.new.self.conn.now c.execute.result _ c.execute.ensures.ended
+    (c.execute.ensures.runs clean)).was_open
