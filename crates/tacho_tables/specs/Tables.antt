@@ -55,6 +55,9 @@ number_shown r = Int (pos r.driver) ∷ []
 abbrev pub driver_shown : DriverRow → Row
 driver_shown r = Blob r.holder ∷ Int (pos r.base) ∷ Int (pos r.downloads) ∷ Int (pos r.entries) ∷ []
 
+abbrev pub entry_shown : EntryRow → Row
+entry_shown r = Int (pos r.number) ∷ Int (pos r.start) ∷ Int (pos r.past) ∷ Int (pos r.mark) ∷ Int (pos r.withdrawn) ∷ []
+
 abbrev pub file_shown : DownloadRow → Row
 file_shown r = Blob r.file ∷ []
 
