@@ -19,13 +19,13 @@ use Rattle.sqlite.proofs.Callers.{reads_as}
 use Rattle.tacho_tables.specs.Schema.{archive_schema}
 use Rattle.tacho_tables.specs.Schema as made
 use Rattle.tacho_tables.specs.Rows.{DriverRow, driver_row, StandNumbered}
-use Rattle.tacho_tables.specs.Tables.{Stand, Turns, has_number, has_secret, has_holder, with_base, with_downloads}
+use Rattle.tacho_tables.specs.Tables.{Stand, Turns, has_number, has_secret, has_holder, with_base, with_downloads, with_entries}
 use Rattle.tacho_tables.proofs.Answers.{simple, passes, listed, shows, eq_test, text_test, blob_test}
 use Rattle.tacho_tables.proofs.Idle.{idle}
 use Rattle.tacho_tables.proofs.Kept.{with_drivers}
 use Rattle.tacho_tables.proofs.Numbered.{numbered_put, numbered_shown, numbered_updated}
 use Rattle.tacho_tables.proofs.SpanLemmas.{and-true, none_given}
-use Rattle.tacho_tables.proofs.Statements.{IsStatement, IsReading, column_is, driver_values, driver_insert_text, driver_insert_is, with_base_shown, with_count_shown, base_text, base_is, count_text, count_is}
+use Rattle.tacho_tables.proofs.Statements.{IsStatement, IsReading, column_is, driver_values, driver_insert_text, driver_insert_is, with_base_shown, with_count_shown, base_text, base_is, count_text, count_is, with_entry_count_shown, entry_count_text, entry_count_is}
 use Rattle.tacho_tables.proofs.Writes.{inserted, updated, cast_null, cast_int}
 
 -- a driver who has neither downloads nor entries
@@ -130,11 +130,18 @@ module _ (old new : State) (driver value count : ℕ) (has : old.now.schema ≡ 
       → Turns old new (λ a. record a { drivers = map (with_base driver value) a.drivers })
   sets_base h =
       changes base_text with_base_shown (λ x. record x { base = value }) base_is (λ x. refl)
-          (λ x. rw (cast_int (pos x.driver), cast_null, cast_int (pos value), cast_int (pos x.downloads), cast_int (pos x.entries)) refl) h
+      (λ x. rw (cast_int (pos x.driver), cast_null, cast_int (pos value), cast_int (pos x.downloads), cast_int (pos x.entries)) refl) h
 
   -- how many numbers were given out to his downloads
   pub sets_count : Executes count_text params old new (Ok count)
       → Turns old new (λ a. record a { drivers = map (with_downloads driver value) a.drivers })
   sets_count h =
       changes count_text with_count_shown (λ x. record x { downloads = value }) count_is (λ x. refl)
-          (λ x. rw (cast_int (pos x.driver), cast_null, cast_int (pos x.base), cast_int (pos value), cast_int (pos x.entries)) refl) h
+      (λ x. rw (cast_int (pos x.driver), cast_null, cast_int (pos x.base), cast_int (pos value), cast_int (pos x.entries)) refl) h
+
+  -- and to his entries
+  pub sets_entry_count : Executes entry_count_text params old new (Ok count)
+      → Turns old new (λ a. record a { drivers = map (with_entries driver value) a.drivers })
+  sets_entry_count h =
+      changes entry_count_text with_entry_count_shown (λ x. record x { entries = value }) entry_count_is (λ x. refl)
+      (λ x. rw (cast_int (pos x.driver), cast_null, cast_int (pos x.base), cast_int (pos x.downloads), cast_int (pos value)) refl) h

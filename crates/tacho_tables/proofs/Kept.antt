@@ -3,7 +3,7 @@ use Rattle.std.proofs.Common.{◌≡◌, ◌≢◌, ℕ, List, sym, subst, ◌�
 use Rattle.std.specs.List.{AllByRecursion}
 use Rattle.sqlite.specs.Tree.{Trees}
 use Rattle.tacho_tables.specs.Schema.{archive_schema}
-use Rattle.tacho_tables.specs.Rows.{Stands, StandNumbered, SpanRow, DownloadRow, DriverRow, span_columns, download_columns, entry_columns}
+use Rattle.tacho_tables.specs.Rows.{Stands, StandNumbered, SpanRow, DownloadRow, EntryRow, DriverRow, span_columns, download_columns, entry_columns}
 use Rattle.tacho_tables.specs.Tables.{Tables, Stand}
 
 -- every table but the one with this tree has its rows
@@ -55,5 +55,17 @@ with_drivers db next a drivers kept s it = record {
   downloads = subst (λ rows. Stands download_columns rows a.downloads) (sym (kept.1.1.0 (λ e. omega (arith, e)))) s.downloads;
   card_spans = subst (λ rows. Stands span_columns rows a.card_spans) (sym (kept.1.1.1.0 (λ e. omega (arith, e)))) s.card_spans;
   entries = subst (λ rows. Stands entry_columns rows a.entries) (sym (kept.1.1.1.1.0 (λ e. omega (arith, e)))) s.entries;
+  held = subst (λ rows. Stands span_columns rows a.held) (sym (kept.1.1.1.1.1.0 (λ e. omega (arith, e)))) s.held;
+}
+
+-- only the rows of entries changed
+pub with_entries : (db next : Trees) (a : Tables) (entries : List EntryRow) → AreKept 8 db next → Stand db a → Stands entry_columns (next 8) entries
+    → Stand next (record a { entries = entries })
+with_entries db next a entries kept s it = record {
+  meta = kept.0 (λ e. omega (arith, e)) ∙ s.meta;
+  drivers = subst (λ rows. StandNumbered rows a.drivers) (sym (kept.1.0 (λ e. omega (arith, e)))) s.drivers;
+  downloads = subst (λ rows. Stands download_columns rows a.downloads) (sym (kept.1.1.0 (λ e. omega (arith, e)))) s.downloads;
+  card_spans = subst (λ rows. Stands span_columns rows a.card_spans) (sym (kept.1.1.1.0 (λ e. omega (arith, e)))) s.card_spans;
+  entries = it;
   held = subst (λ rows. Stands span_columns rows a.held) (sym (kept.1.1.1.1.1.0 (λ e. omega (arith, e)))) s.held;
 }

@@ -37,14 +37,20 @@ drivers_only rows all s = picked IsDriver rows (all-permutation IsDriver (map dr
 
 -- so the rows have numbers
 are_numbered : (rows : List Row) (all : List DriverRow) → StandNumbered rows all → AreNumbered rows
-are_numbered rows all s = record { numbered = λ r has. let it = drivers_only rows all s r has in
-    (pos it.0.driver, ap rowid it.1); apart = s.apart }
+are_numbered rows all s = record {
+  numbered = λ r has. let it = drivers_only rows all s r has in
+      (pos it.0.driver, ap rowid it.1);
+  apart = s.apart;
+}
 
 -- the order of the list means nothing
 pub numbered_shuffled : (rows : List Row) (all other : List DriverRow) → StandNumbered rows all → IsPermutation other all
     → StandNumbered rows other
-numbered_shuffled rows all other s same = record { apart = s.apart; same = IsPermutation-trans _ _ _
-    (IsPermutation-map driver_row other all same) s.same }
+numbered_shuffled rows all other s same = record {
+  apart = s.apart;
+  same = IsPermutation-trans _ _ _
+      (IsPermutation-map driver_row other all same) s.same;
+}
 
 -- one driver more
 pub numbered_put : (rows : List Row) (all : List DriverRow) (x : DriverRow) → StandNumbered rows all → is_taken rows (driver_row x) ≡ false

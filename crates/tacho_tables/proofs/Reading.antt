@@ -1,9 +1,9 @@
 -- What rows of spans are read as.
-use Rattle.std.proofs.Common.{◌≡◌, ◌∙◌, List, [], ◌∷◌, map, refl, sym, ap, Option, Some, None, Result, Ok, Err, IfOk, arith}
+use Rattle.std.proofs.Common.{◌≡◌, ◌∙◌, List, [], ◌∷◌, map, refl, sym, ap, subst, Option, Some, None, Result, Ok, Err, IfOk, arith}
 use Rattle.std.specs.Prelude.{Contains, IfSome, IsNone, MatchOption, ◌↔◌}
 use Rattle.std.specs.List.Sorted.{IsPermutation}
-use Rattle.std.proofs.lemmas.List.Sorted.{IsPermutation-sym, Contains-permutation, length_permutation}
-use Rattle.sqlite_trees.proofs.ListLemmas.{pull_back}
+use Rattle.std.proofs.lemmas.List.Sorted.{IsPermutation-sym, IsPermutation-map, Contains-permutation, length_permutation}
+use Rattle.sqlite_trees.proofs.ListLemmas.{pull_back, map-map}
 use Rattle.sqlite.specs.Order.{Row}
 use Rattle.tacho_tables.specs.declared.rows.StoredSpan.{StoredSpan}
 use Rattle.tacho_tables.specs.Rows.{SpanRow}
@@ -17,12 +17,11 @@ head_is e = cc
 tail_is : {A : Type 0} {x y : A} {xs ys : List A} → x ∷ xs ≡ y ∷ ys → xs ≡ ys
 tail_is e = cc
 
--- the first of the rows that some spans show is read as the first of these spans
-pub reads_first : (rest : List SpanRow) (row : Row) (more : List Row) (s : StoredSpan) → row ∷ more ≡ map span_shown rest
-    → ((r : SpanRow) → row ≡ span_shown r → s ≡ span_of r)
-    → (later : List SpanRow) × (more ≡ map span_shown later) × (map span_of rest ≡ s ∷ map span_of later)
-reads_first [] row more s shown reads = absurd (let e = shown in cc)
-reads_first (r ∷ later) row more s shown reads = (later, tail_is shown, ap (λ z. z ∷ map span_of later) (sym (reads r (head_is shown))))
+-- the first of the rows that some values show is read as the first of these values
+pub reads_first_of : {X A : Type 0} (show : X → Row) (is : X → A) (rest : List X) (row : Row) (more : List Row) (a : A) → row ∷ more ≡ map show rest → ((x : X) → row ≡ show x → a ≡ is x)
+    → (later : List X) × (more ≡ map show later) × (map is rest ≡ a ∷ map is later)
+reads_first_of show is [] row more a shown reads = absurd (let e = shown in cc)
+reads_first_of show is (x ∷ later) row more a shown reads = (later, tail_is shown, ap (λ z. z ∷ map is later) (sym (reads x (head_is shown))))
 
 -- only the empty list is a permutation of the empty list
 none_of_none : {X : Type 0} (xs : List X) → IsPermutation xs [] → xs ≡ []
@@ -55,3 +54,17 @@ pub some_weaker : {X : Type 0} (o : Option X) (P : Type 0) {Q R : X → Type 0} 
     → MatchOption o P R
 some_weaker None P weaker h = h
 some_weaker (Some x) P weaker h = weaker x h
+
+-- what is read of the rows that some values show is what these values are read as, but for the order
+pub all_read : {X A : Type 0} (show : X → Row) (is : X → A) (xs : List X) (rows : List Row) → IsPermutation (map show xs) rows → (found : List A)
+    → ((shown : List X) → rows ≡ map show shown → found ≡ map is shown) → IsPermutation (map is xs) found
+all_read show is xs rows same found reads =
+    let it = pull_back show _ rows same xs refl in
+    subst (IsPermutation (map is xs)) (sym (reads it.0 it.2)) (IsPermutation-map is xs it.0 it.1)
+
+-- spans that are read of the rows of other values
+pub spans_read : {X : Type 0} (row : X → SpanRow) (xs : List X) (rows : List Row) → IsPermutation (map (λ x. span_shown (row x)) xs) rows → (found : List StoredSpan)
+    → ((shown : List SpanRow) → rows ≡ map span_shown shown → found ≡ map span_of shown) → IsPermutation (map (λ x. span_of (row x)) xs) found
+spans_read row xs rows same found reads =
+    subst (λ (ys : List StoredSpan). IsPermutation ys found) (map-map span_of row xs)
+    (all_read span_shown span_of (map row xs) rows (subst (λ (ys : List Row). IsPermutation ys rows) (sym (map-map span_shown row xs)) same) found reads)

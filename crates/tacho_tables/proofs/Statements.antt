@@ -2,7 +2,7 @@
 use Rattle.std.proofs.Common.{◌≡◌, ℕ, List, [], ◌∷◌, codes, false, refl, pos, Err}
 use Rattle.sqlite.specs.declared.types.Value.TheVariants.{Null, Int}
 use Rattle.sqlite.specs.Command.{Command}
-use Rattle.sqlite.specs.Command.TheVariants.{Insert, Select, Update}
+use Rattle.sqlite.specs.Command.TheVariants.{Insert, Select, Update, Delete}
 use Rattle.sqlite.specs.Source.TheVariants.{Values}
 use Rattle.sqlite.specs.Term.{Term, lit, col, op2}
 use Rattle.sqlite_sql.specs.declared.ops.BinaryOp.TheVariants.{Compare}
@@ -106,6 +106,15 @@ held_own_text = codes "SELECT start, past, mark FROM held WHERE driver = ?1 ORDE
 pub held_own_is : IsReading held_own_text 10 own three_shown by_start span_names
 unfolding understood everything
 held_own_is = record { meant = refl; unlisted = refl; plain = (refl, refl) }
+
+-- the text that removes the spans near a range
+abbrev pub held_delete_text : List ℕ
+held_delete_text = codes "DELETE FROM held WHERE driver = ?1 AND start < ?3 AND ?2 < past"
+
+-- what it means
+pub held_delete_is : IsStatement held_delete_text (Delete 5 (record { lets = []; body = simple 10 near (col 1 0 ∷ []) [] }))
+unfolding understood everything
+held_delete_is = record { meant = refl; plain = (refl, refl) }
 
 -- ---- card_spans
 
@@ -219,3 +228,96 @@ base_is = record { meant = refl; plain = (refl, refl) }
 pub count_is : IsStatement count_text (Update 1 (record { lets = []; body = simple 1 (column_is 0) with_count_shown [] }))
 unfolding understood everything
 count_is = record { meant = refl; plain = (refl, refl) }
+
+-- how many numbers were given out to entries
+abbrev pub with_entry_count_shown : List Term
+with_entry_count_shown = col 1 0 ∷ col 1 0 ∷ lit Null ∷ col 1 2 ∷ col 1 3 ∷ col 1 4 ∷ col 1 5 ∷ col 1 6 ∷ col 0 1 ∷ []
+
+-- the text that sets it
+abbrev pub entry_count_text : List ℕ
+entry_count_text = codes "UPDATE drivers SET entries = ?2 WHERE driver = ?1"
+
+-- what it means
+pub entry_count_is : IsStatement entry_count_text (Update 1 (record { lets = []; body = simple 1 (column_is 0) with_entry_count_shown [] }))
+unfolding understood everything
+entry_count_is = record { meant = refl; plain = (refl, refl) }
+
+-- ---- entries
+
+-- an entry of five columns, whose row's number the store gives, and which isn't withdrawn
+abbrev pub new_entry : List Term
+new_entry = lit Null ∷ col 0 0 ∷ col 0 1 ∷ col 0 2 ∷ col 0 3 ∷ col 0 4 ∷ lit (Int (pos 0)) ∷ []
+
+-- the text that adds an entry
+abbrev pub entry_insert_text : List ℕ
+entry_insert_text = codes "INSERT INTO entries (driver, number, start, past, mark, withdrawn) VALUES (?1, ?2, ?3, ?4, ?5, 0)"
+
+-- what it means
+pub entry_insert_is : IsStatement entry_insert_text (Insert 4 (Values new_entry 7))
+unfolding understood everything
+entry_insert_is = record { meant = refl; plain = (refl, refl) }
+
+-- the old number, the new number and the new columns of an entry that is withdrawn
+abbrev pub withdrawn_shown : List Term
+withdrawn_shown = col 1 0 ∷ col 1 0 ∷ col 1 1 ∷ col 1 2 ∷ col 1 3 ∷ col 1 4 ∷ col 1 5 ∷ lit (Int (pos 1)) ∷ []
+
+-- the text that marks it
+abbrev pub withdraw_text : List ℕ
+withdraw_text = codes "UPDATE entries SET withdrawn = 1 WHERE driver = ?1 AND number = ?2"
+
+-- what it means
+pub withdraw_is : IsStatement withdraw_text (Update 4 (record { lets = []; body = simple 8 numbered withdrawn_shown [] }))
+unfolding understood everything
+withdraw_is = record { meant = refl; plain = (refl, refl) }
+
+-- number, start, past, mark and whether it was withdrawn
+abbrev pub five_shown : List Term
+five_shown = col 1 2 ∷ col 1 3 ∷ col 1 4 ∷ col 1 5 ∷ col 1 6 ∷ []
+
+-- their names
+abbrev pub entry_names : List (List ℕ)
+entry_names = codes "number" ∷ codes "start" ∷ codes "past" ∷ codes "mark" ∷ codes "withdrawn" ∷ []
+
+-- the text that reads the entry with a number
+abbrev pub entry_text : List ℕ
+entry_text = codes "SELECT number, start, past, mark, withdrawn FROM entries WHERE driver = ?1 AND number = ?2"
+
+-- what it means
+pub entry_is : IsReading entry_text 8 numbered five_shown [] entry_names
+unfolding understood everything
+entry_is = record { meant = refl; unlisted = refl; plain = (refl, refl) }
+
+-- the smaller number first
+abbrev pub by_number : List (Term × Key)
+by_number = (col 1 2, record { collation = Binary; descending = false }) ∷ []
+
+-- the text that reads all entries of a driver
+abbrev pub entries_text : List ℕ
+entries_text = codes "SELECT number, start, past, mark, withdrawn FROM entries WHERE driver = ?1 ORDER BY number"
+
+-- what it means
+pub entries_is : IsReading entries_text 8 own five_shown by_number entry_names
+unfolding understood everything
+entries_is = record { meant = refl; unlisted = refl; plain = (refl, refl) }
+
+-- an entry of driver ?1 that isn't withdrawn and has a minute from ?2 to before ?3
+abbrev pub kept_near : List Term
+kept_near = op2 (Compare Eq Binary) (col 1 1) (col 0 0) ∷ op2 (Compare Eq Binary) (col 1 6) (lit (Int (pos 0))) ∷ op2 (Compare Lt Binary) (col 1 3) (col 0 2)
+    ∷ op2 (Compare Lt Binary) (col 0 1) (col 1 4) ∷ []
+
+-- start, past and mark of an entry
+abbrev pub entry_span_shown : List Term
+entry_span_shown = col 1 3 ∷ col 1 4 ∷ col 1 5 ∷ []
+
+-- the earlier start first
+abbrev pub by_entry_start : List (Term × Key)
+by_entry_start = (col 1 3, record { collation = Binary; descending = false }) ∷ []
+
+-- the text that reads the spans of entries near a range
+abbrev pub kept_near_text : List ℕ
+kept_near_text = codes "SELECT start, past, mark FROM entries WHERE driver = ?1 AND withdrawn = 0 AND start < ?3 AND ?2 < past ORDER BY start"
+
+-- what it means
+pub kept_near_is : IsReading kept_near_text 8 kept_near entry_span_shown by_entry_start span_names
+unfolding understood everything
+kept_near_is = record { meant = refl; unlisted = refl; plain = (refl, refl) }

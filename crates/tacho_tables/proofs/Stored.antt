@@ -87,7 +87,7 @@ module _ {X : Type 0} (columns : X → Row) where
           ]
         ];
         same = IsPermutation-trans _ _ _ (IsPermutation-cons (columns x) _ _ s.same)
-        (IsPermutation-map (drop 1) (new ∷ rows) (put_row new rows) (put_shuffles new rows free));
+            (IsPermutation-map (drop 1) (new ∷ rows) (put_row new rows) (put_shuffles new rows free));
       }
 
   module _ (p : Row → Bool) (t : X → Bool) (deaf : (v : Value) (x : X) → p (v ∷ columns x) ≡ t x) where
@@ -186,3 +186,14 @@ module _ {X : Type 0} (columns : X → Row) (rows : List Row) (all : List X) (s 
       (same Null it.1 ∙ sym (same (Int it.0) it.1)))) in
       subst (λ xs. IsPermutation xs (map f (filter p rows))) left
       (subst (IsPermutation (map (λ (w : Row). f (Null ∷ w)) (map columns (filter t all)))) right moved)
+
+  -- rows with hidden numbers are numbered
+  pub are_numbered : AreNumbered rows
+  are_numbered = record { numbered = λ r has. (let it = s.stored r has in (it.0, ap rowid it.2)); apart = s.apart }
+
+  -- what a DELETE of the rows that pass leaves
+  pub stands_left : (out : List Row) → IsPermutation (map (λ r. rowid r ∷ []) (filter p rows)) out
+      → Stands columns (without_all rows (ids_of out)) (filter (λ x. not (t x)) all)
+  stands_left out same =
+      subst (λ xs. Stands columns xs (filter (λ x. not (t x)) all)) (sym (left_is rows are_numbered p out same))
+      (stands_filter columns (λ r. not (p r)) (λ x. not (t x)) (λ v x. ap not (deaf v x)) rows all s)

@@ -5,6 +5,7 @@ use Rattle.sqlite.specs.Order.{Row}
 use Rattle.sqlite.specs.Tree.{Trees}
 use Rattle.sqlite.specs.State.{State}
 use Rattle.tacho_tables.specs.declared.rows.StoredSpan.{StoredSpan}
+use Rattle.tacho_tables.specs.declared.rows.StoredEntry.{StoredEntry}
 use Rattle.tacho_tables.specs.Schema.{archive_schema}
 use Rattle.tacho_tables.specs.Rows.{Stands, SpanRow, span_columns, DownloadRow, download_columns, EntryRow, entry_columns, DriverRow, StandNumbered}
 
@@ -54,12 +55,36 @@ number_shown r = Int (pos r.driver) ∷ []
 abbrev pub driver_shown : DriverRow → Row
 driver_shown r = Blob r.holder ∷ Int (pos r.base) ∷ Int (pos r.downloads) ∷ Int (pos r.entries) ∷ []
 
+abbrev pub entry_shown : EntryRow → Row
+entry_shown r = Int (pos r.number) ∷ Int (pos r.start) ∷ Int (pos r.past) ∷ Int (pos r.mark) ∷ Int (pos r.withdrawn) ∷ []
+
 abbrev pub file_shown : DownloadRow → Row
 file_shown r = Blob r.file ∷ []
 
 -- the download of the driver with this number
 abbrev pub is_download : ℕ → ℕ → DownloadRow → Bool
 is_download driver number r = (r.driver == driver) && (r.number == number)
+
+-- the entry of the driver with this number; any entry of his; and one that isn't withdrawn and has a minute in the range
+abbrev pub is_entry : ℕ → ℕ → EntryRow → Bool
+is_entry driver number r = (r.driver == driver) && (r.number == number)
+
+abbrev pub is_entry_of : ℕ → EntryRow → Bool
+is_entry_of driver r = r.driver == driver
+
+abbrev pub is_kept_near : ℕ → ℕ → ℕ → EntryRow → Bool
+is_kept_near driver start past r = (r.driver == driver) && ((r.withdrawn == 0) && (nat_lt r.start past && nat_lt start r.past))
+
+-- an entry as it is read, and the span of it
+abbrev pub entry_of : EntryRow → StoredEntry
+entry_of r = record { number = r.number; start = r.start; past = r.past; mark = r.mark; withdrawn = r.withdrawn }
+
+abbrev pub entry_span_of : EntryRow → StoredSpan
+entry_span_of r = record { start = r.start; past = r.past; mark = r.mark }
+
+-- a driver's new entry with this number
+abbrev pub entered_row : ℕ → ℕ → StoredSpan → EntryRow
+entered_row driver number s = record { driver = driver; number = number; start = s.start; past = s.past; mark = s.mark; withdrawn = 0 }
 
 -- tests of drivers: by number, by key, by holder
 abbrev pub has_number : ℕ → DriverRow → Bool
@@ -77,6 +102,13 @@ with_base driver base r = if has_number driver r then record r { base = base } e
 
 abbrev pub with_downloads : ℕ → ℕ → DriverRow → DriverRow
 with_downloads driver count r = if has_number driver r then record r { downloads = count } else r
+
+abbrev pub with_entries : ℕ → ℕ → DriverRow → DriverRow
+with_entries driver count r = if has_number driver r then record r { entries = count } else r
+
+-- the entry of the driver with this number, withdrawn
+abbrev pub with_withdrawn : ℕ → ℕ → EntryRow → EntryRow
+with_withdrawn driver number r = if is_entry driver number r then record r { withdrawn = 1 } else r
 
 -- an archive of no drivers
 abbrev pub no_rows : Tables

@@ -5,7 +5,7 @@ ghost use Rattle.sqlite.specs.State.{HasCleanDisk, Survives, IsUnchanged, KeepsC
 ghost use Rattle.sqlite.specs.Held.{state};
 ghost use Rattle.tacho_tables.specs.Schema.{archive_schema};
 ghost use Rattle.tacho_tables.specs.Rows.{DriverRow};
-ghost use Rattle.tacho_tables.specs.Tables.{Tables, Stand, Turns, has_number, has_secret, has_holder, with_base, with_downloads};
+ghost use Rattle.tacho_tables.specs.Tables.{Tables, Stand, Turns, has_number, has_secret, has_holder, with_base, with_downloads, with_entries};
 
 use crate::fault::TableFault;
 use crate::rows::{StoredDriver, first_driver, first_number};
@@ -143,6 +143,27 @@ pub fn set_downloads<S: Alter>(
     run(
         tx,
         "UPDATE drivers SET downloads = ?2 WHERE driver = ?1",
+        params![driver, count],
+    )
+}
+
+/// Sets how many numbers were given out to a driver's entries.
+pub fn set_entries<S: Alter>(
+    tx: &mut Transaction<'_, S>,
+    driver: u32,
+    count: u32,
+) -> Result<(), TableFault>
+    ensures same_reference { tx.new.conn.ghost_name ≡ tx.old.conn.ghost_name }
+    ensures turned { HasCleanDisk (state S.Store tx.new.conn.now) → (state S.Store tx.old.conn.now).now.schema ≡ archive_schema
+        → OnOk result (Turns (state S.Store tx.old.conn.now) (state S.Store tx.new.conn.now) (λ a. record a { drivers = map (with_entries driver count) a.drivers })) }
+    ensures clean { HasCleanDisk (state S.Store tx.new.conn.now) → HasCleanDisk (state S.Store tx.old.conn.now) }
+    ensures was_open { HasCleanDisk (state S.Store tx.new.conn.now) → IsTrue (state S.Store tx.new.conn.now).is_open → IsTrue (state S.Store tx.old.conn.now).is_open }
+    ensures keeps { HasCleanDisk (state S.Store tx.new.conn.now) → KeepsCommit (state S.Store tx.old.conn.now) (state S.Store tx.new.conn.now) }
+    ensures survives { Survives (state S.Store tx.old.conn.now) (state S.Store tx.new.conn.now) (λ _. ⊥) }
+{
+    run(
+        tx,
+        "UPDATE drivers SET entries = ?2 WHERE driver = ?1",
         params![driver, count],
     )
 }

@@ -1,6 +1,6 @@
 //! The rows of `held`: what a driver holds
 
-ghost use Rattle.std.specs.Prelude.{◌≡◌, ◌++◌, ◌∷◌, map, filter, IfOk, OnOk, IsTrue, IsPermutation};
+ghost use Rattle.std.specs.Prelude.{◌≡◌, not, ◌++◌, ◌∷◌, map, filter, IfOk, OnOk, IsTrue, IsPermutation};
 ghost use Rattle.sqlite.specs.State.{HasCleanDisk, Survives, IsUnchanged, KeepsCommit};
 ghost use Rattle.sqlite.specs.Held.{state};
 ghost use Rattle.tacho_tables.specs.Schema.{archive_schema};
@@ -60,6 +60,28 @@ pub fn of_driver<S: Alter>(
         params![driver],
     )?;
     stored_spans(alloc, &rows)
+}
+
+/// Removes the spans of a driver that have a minute from `start` to before `past`, each whole.
+pub fn delete_near<S: Alter>(
+    tx: &mut Transaction<'_, S>,
+    driver: u32,
+    start: u32,
+    past: u32,
+) -> Result<(), TableFault>
+    ensures same_reference { tx.new.conn.ghost_name ≡ tx.old.conn.ghost_name }
+    ensures turned { HasCleanDisk (state S.Store tx.new.conn.now) → (state S.Store tx.old.conn.now).now.schema ≡ archive_schema
+        → OnOk result (Turns (state S.Store tx.old.conn.now) (state S.Store tx.new.conn.now) (λ a. record a { held = filter (λ r. not (is_near driver start past r)) a.held })) }
+    ensures clean { HasCleanDisk (state S.Store tx.new.conn.now) → HasCleanDisk (state S.Store tx.old.conn.now) }
+    ensures was_open { HasCleanDisk (state S.Store tx.new.conn.now) → IsTrue (state S.Store tx.new.conn.now).is_open → IsTrue (state S.Store tx.old.conn.now).is_open }
+    ensures keeps { HasCleanDisk (state S.Store tx.new.conn.now) → KeepsCommit (state S.Store tx.old.conn.now) (state S.Store tx.new.conn.now) }
+    ensures survives { Survives (state S.Store tx.old.conn.now) (state S.Store tx.new.conn.now) (λ _. ⊥) }
+{
+    run(
+        tx,
+        "DELETE FROM held WHERE driver = ?1 AND start < ?3 AND ?2 < past",
+        params![driver, start, past],
+    )
 }
 
 /// Adds a span of a driver.

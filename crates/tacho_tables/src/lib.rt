@@ -5,6 +5,7 @@
 pub mod card_spans;
 pub mod downloads;
 pub mod drivers;
+pub mod entries;
 mod fault;
 pub mod held;
 pub mod making;
@@ -13,7 +14,7 @@ mod rows;
 mod statement;
 
 pub use fault::TableFault;
-pub use rows::{StoredDriver, StoredSpan};
+pub use rows::{StoredDriver, StoredEntry, StoredSpan};
 
 #[cfg(test)]
 mod tests;

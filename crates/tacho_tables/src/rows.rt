@@ -1,8 +1,8 @@
 ghost use Rattle.std.specs.Prelude.{◌≡◌, ◌∷◌, [], ℕ, pos, List, map, IfOk, IfSome, IsNone, ◌↔◌};
 ghost use Rattle.sqlite.specs.declared.types.Value.TheVariants.{Int};
 ghost use Rattle.sqlite.specs.Order.{Row as Values};
-ghost use Rattle.tacho_tables.specs.Rows.{SpanRow, DownloadRow, DriverRow};
-ghost use Rattle.tacho_tables.specs.Tables.{span_of, span_shown, file_shown, driver_shown};
+ghost use Rattle.tacho_tables.specs.Rows.{SpanRow, DownloadRow, EntryRow, DriverRow};
+ghost use Rattle.tacho_tables.specs.Tables.{span_of, span_shown, entry_of, entry_shown, file_shown, driver_shown};
 
 use crate::fault::TableFault;
 use sqlite::Row;
@@ -14,6 +14,17 @@ pub struct StoredSpan {
     pub start: u32,
     pub past: u32,
     pub mark: u32,
+}
+
+/// Hours that were entered by hand: their number among the driver's, minutes from `start` to before `past`, the number of the mark,
+/// and 1 where they were withdrawn, else 0.
+#[derive(Clone, Copy, Debug, PartialEq, Eq)]
+pub struct StoredEntry {
+    pub number: u32,
+    pub start: u32,
+    pub past: u32,
+    pub mark: u32,
+    pub withdrawn: u32,
 }
 
 /// What is stored of a driver, but for his key and his name.
@@ -87,5 +98,40 @@ pub(crate) fn first_driver(rows: &[Row]) -> Result<Option<StoredDriver>, TableFa
             downloads: row.get(2)?,
             entries: row.get(3)?,
         })),
+    }
+}
+
+/// The entry that a row of number, start, past, mark and withdrawn shows.
+fn stored_entry(row: &Row) -> Result<StoredEntry, TableFault>
+    ensures { IfOk result (λ e. (r : EntryRow) → row.now ≡ entry_shown r → e ≡ entry_of r) }
+{
+    Ok(StoredEntry {
+        number: row.get(0)?,
+        start: row.get(1)?,
+        past: row.get(2)?,
+        mark: row.get(3)?,
+        withdrawn: row.get(4)?,
+    })
+}
+
+/// The entries that such rows show.
+pub(crate) fn stored_entries(alloc: Global, rows: &[Row]) -> Result<Vec<StoredEntry>, TableFault>
+    ensures { IfOk result (λ entries. (shown : List EntryRow) → rows.now ≡ map entry_shown shown → entries.items ≡ map entry_of shown) }
+{
+    let mut entries = Vec::new(alloc);
+    for row in rows {
+        entries.push(stored_entry(row)?)?;
+    }
+    Ok(entries)
+}
+
+/// The entry that the first of such rows shows, if there is one.
+pub(crate) fn first_entry(rows: &[Row]) -> Result<Option<StoredEntry>, TableFault>
+    ensures none { IfOk result (λ found. IsNone found ↔ (rows.now ≡ [])) }
+    ensures some { IfOk result (λ found. IfSome found (λ e. (r : EntryRow) (more : List Values) → rows.now ≡ entry_shown r ∷ more → e ≡ entry_of r)) }
+{
+    match rows.first() {
+        None => Ok(None),
+        Some(row) => Ok(Some(stored_entry(row)?)),
     }
 }

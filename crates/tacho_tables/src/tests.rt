@@ -1,6 +1,9 @@
 ghost use Rattle.std.specs.Prelude.{◌≡◌};
 
-use crate::{StoredDriver, StoredSpan, TableFault, card_spans, downloads, drivers, held, making};
+use crate::{
+    StoredDriver, StoredEntry, StoredSpan, TableFault, card_spans, downloads, drivers, entries,
+    held, making,
+};
 use sqlite::{Alter, Connection, Transaction};
 use std::alloc::Global;
 use std::test::Fail;
@@ -147,4 +150,61 @@ fn has_right_file<S: Alter>(tx: &mut Transaction<'_, S>) -> bool
         Ok(found) => is_file(found, &[1, 2, 3]),
         Err(_) => true,
     }
+}
+
+#[test]
+fn entries_are_found_and_withdrawn(rt: HostRuntime) -> Result<(), Fail> {
+    let mut conn = Connection::open_in_memory(rt.alloc())?;
+    let mut tx = conn.transaction();
+    making::make_all(&mut tx)?;
+    drivers::insert(&mut tx, 17, &[0x0d, 0x44], "anna-key-1", 19_786, "Anna")?;
+    drivers::insert(&mut tx, 18, &[0x0d, 0x45], "bert-key-1", 19_787, "Bert")?;
+    entries::insert(&mut tx, 17, 1, &span(100, 200, 0))?;
+    entries::insert(&mut tx, 17, 2, &span(200, 300, 2))?;
+    entries::insert(&mut tx, 18, 1, &span(150, 250, 1))?;
+    drivers::set_entries(&mut tx, 17, 2)?;
+    entries::withdraw(&mut tx, 17, 1)?;
+    let first = entries::by_number(&mut tx, 17, 1)?;
+    assert_eq!(rt; first, Some(entry(1, 100, 200, 0, 1)));
+    assert_eq!(rt; entries::by_number(&mut tx, 17, 3)?, None);
+    let all = entries::of_driver(rt.alloc(), &mut tx, 17)?;
+    assert_eq!(rt;
+        all.as_slice(),
+        [entry(1, 100, 200, 0, 1), entry(2, 200, 300, 2, 0)].as_slice()
+    );
+    let near = entries::kept_near(rt.alloc(), &mut tx, 17, 0, 201)?;
+    assert_eq!(rt; near.as_slice(), [span(200, 300, 2)].as_slice());
+    assert!(rt; entries::kept_near(rt.alloc(), &mut tx, 17, 0, 200)?.is_empty());
+    Ok(())
+}
+
+/// An entry of the test.
+fn entry(number: u32, start: u32, past: u32, mark: u32, withdrawn: u32) -> StoredEntry {
+    StoredEntry {
+        number,
+        start,
+        past,
+        mark,
+        withdrawn,
+    }
+}
+
+#[test]
+fn held_spans_near_a_range_are_deleted(rt: HostRuntime) -> Result<(), Fail> {
+    let mut conn = Connection::open_in_memory(rt.alloc())?;
+    let mut tx = conn.transaction();
+    making::make_all(&mut tx)?;
+    drivers::insert(&mut tx, 17, &[0x0d, 0x44], "anna-key-1", 19_786, "Anna")?;
+    held::insert_all(
+        &mut tx,
+        17,
+        &[span(100, 200, 3), span(200, 210, 2), span(300, 400, 1)],
+    )?;
+    held::delete_near(&mut tx, 17, 200, 300)?;
+    let left = held::of_driver(rt.alloc(), &mut tx, 17)?;
+    assert_eq!(rt;
+        left.as_slice(),
+        [span(100, 200, 3), span(300, 400, 1)].as_slice()
+    );
+    Ok(())
 }

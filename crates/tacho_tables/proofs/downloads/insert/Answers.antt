@@ -8,6 +8,6 @@ returns-clause-turned g c clean schema =
     let old = state g.S.Store c.args.tx.now.conn.now in
     let new = state g.S.Store c.run.new.tx.conn.now in
     on_ok_weaker c.run.result (λ ran. adds_download old new
-        (record { driver = c.args.driver; number = c.args.number; part = c.args.part; file = c.args.file.now }) ran.0 schema ran.1)
+    (record { driver = c.args.driver; number = c.args.number; part = c.args.part; file = c.args.file.now }) ran.0 schema ran.1)
     (rw (c.params-to_sql.ensures, c.params-to_sql-2.ensures, c.params-to_sql-3.ensures, c.params-to_sql-4.ensures) at
     (c.run.ensures.ran clean))

@@ -16,8 +16,11 @@ returns-clause-made g c clean schema none =
         three.others.0 ∙ two.others.0 ∙ one.others.0 ∙ none.0,
         (
           three.others.1.0 ∙ two.others.1.0 ∙ one.others.1.0 ∙ none.1.0,
-          (three.others.1.1.0 ∙ two.others.1.1.0 ∙ one.others.1.1.0
-          ∙ none.1.1.0, (three.others.1.1.1.0 ∙ two.others.1.1.1.0 ∙ one.empty, (three.others.1.1.1.1.0 ∙ two.empty, (three.empty, tt)))),
+          (
+            three.others.1.1.0 ∙ two.others.1.1.0 ∙ one.others.1.1.0
+                ∙ none.1.1.0,
+            (three.others.1.1.1.0 ∙ two.others.1.1.1.0 ∙ one.empty, (three.others.1.1.1.1.0 ∙ two.empty, (three.empty, tt))),
+          ),
         ),
       ),
     ))

@@ -1,7 +1,7 @@
 use Rattle.std.proofs.Common.{◌≡◌, ◌∙◌, suc, ◌+◌, ap, sym, drop, drop-cons, add-one, [], ◌∷◌, ◌++◌, List, map, append_assoc}
 use Rattle.sqlite.specs.Order.{Row}
 use Rattle.tacho_tables.specs.Tables.{span_of}
-use Rattle.tacho_tables.proofs.Reading.{reads_first}
+use Rattle.tacho_tables.proofs.Reading.{reads_first_of}
 use Rattle.tacho_tables.proofs.rows.stored_spans.Goals as goal
 
 pub loop-row-preserved : goal.loop-row-preserved
@@ -14,6 +14,9 @@ loop-row-preserved c shown is =
     drop-cons rows i row c.loop-row-test.true ∙ ap (λ r. r ∷ drop (suc i) rows) (sym c.row-item.is)
     ∙ ap (λ k. row ∷ drop k rows) (sym (add-one i)) in
     let s = c.in_ok-stored_span.field-0 in
-    let later = reads_first was.0 row (drop (i + 1) rows) s (sym cut ∙ was.1) c.in_ok-stored_span.ensures in
-    (later.0, later.1, ap (λ xs. xs ++ map span_of later.0) c.in_ok-push.ensures.items
-    ∙ append_assoc c.loop-row.spans.items (s ∷ []) (map span_of later.0) ∙ ap (λ xs. c.loop-row.spans.items ++ xs) (sym later.2) ∙ was.2)
+    let later = reads_first_of _ span_of was.0 row (drop (i + 1) rows) s (sym cut ∙ was.1) c.in_ok-stored_span.ensures in (
+      later.0,
+      later.1,
+      ap (λ xs. xs ++ map span_of later.0) c.in_ok-push.ensures.items
+          ∙ append_assoc c.loop-row.spans.items (s ∷ []) (map span_of later.0) ∙ ap (λ xs. c.loop-row.spans.items ++ xs) (sym later.2) ∙ was.2,
+    )
