@@ -2,8 +2,9 @@
 
 Each of the two is a running program that is told commands, a line each. The processor time that it has had is asked of
 the system before a command and after its answer, so that neither the opening of an archive nor what filled it counts;
-what the command `nothing` takes is taken out. Each time is the least of some rounds. Before the first measure a program registers a driver and imports a card
-of one day, so that it has met each statement. At the end both files have to have the same tables."""
+what the command `nothing` takes is taken out. Each time is the least of some rounds. Before the first measure a program
+registers a driver and imports a card of one day, so that it has met each statement. At the end both files have to have
+the same tables."""
 import json
 import os
 import shutil
