@@ -2,8 +2,9 @@
 
 Each of the two is a running program that is told commands, a line each. The processor time that it has had is asked of
 the system before a command and after its answer, so that neither the opening of an archive nor what filled it counts;
-what the command `nothing` takes is taken out. Each time is the least of some rounds. Before the first measure a program registers a driver and imports a card
-of one day, so that it has met each statement. At the end both files have to have the same tables."""
+what the command `nothing` takes is taken out. Each time is the least of some rounds. Before the first measure a program
+registers a driver and imports a card of one day, so that it has met each statement. At the end both files have to have
+the same tables."""
 import json
 import os
 import shutil
@@ -11,10 +12,11 @@ import sqlite3
 import subprocess
 import sys
 import time
+from statistics import median
 
 import cards
 
-ROUNDS = 20
+ROUNDS = 12
 SPARE, OLD, NEW = 999_999, 1, range(100, 110)  # the drivers of the one day, of ten years, and who are registered anew
 YEARS, DRIVERS = 10, 50
 ARCHIVES = ["empty", "ten years", "fifty drivers"]
@@ -159,10 +161,11 @@ def begun(words, place, fill, path):
 
 
 def times_of(program, warm, works):
-    """The time of a program's start, the least one of each work, and that of a command which is nothing but a command."""
+    """The time of a program's start, the median one of each work, and that of a command which is nothing but a command.
+    No least one: of a short work the system at times counts nothing where the machine is a virtual one."""
     program.time_of_last(warm)
     works = {"nothing": [[("nothing", "nothing")] for _ in NEW], **works}
-    return {"start": program.start, **{work: min(map(program.time_of_last, times)) for work, times in works.items()}}
+    return {"start": program.start, **{work: median(map(program.time_of_last, times)) for work, times in works.items()}}
 
 
 def least(found, times):
