@@ -1,9 +1,9 @@
 pub mod DisjointLemmas
 pub mod NearLemmas
-mod OrderLemmas
+pub mod OrderLemmas
 pub mod GainLemmas
-mod WithdrawLemmas
-mod LeastLemmas
+pub mod WithdrawLemmas
+pub mod LeastLemmas
 pub mod StepLemmas
 pub mod MapLemmas
 mod PartLemmas

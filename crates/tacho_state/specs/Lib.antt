@@ -1,3 +1,4 @@
+pub mod Batch
 pub mod State
 pub mod Least
 pub mod Disjoint

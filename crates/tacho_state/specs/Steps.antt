@@ -6,6 +6,7 @@ use Rattle.tacho_time.specs.declared.span.Mark.{Mark}
 use Rattle.tacho_card.specs.declared.fault.CardFault.{CardFault}
 use Rattle.tacho_state.specs.declared.fault.StoreFault.{StoreFault}
 use Rattle.tacho_state.specs.declared.fault.StoreFault.TheVariants.{DriverTaken, KeyTaken, HolderTaken, UnknownDriver, NotYourCard, Contradiction, UnknownEntry, AlreadyWithdrawn, NotMonday, UnknownDownload, Card, Full}
+use Rattle.tacho_state.specs.declared.entry.Entry.{Entry as Listed}
 use Rattle.tacho_state.specs.declared.imported.Imported.{Imported}
 use Rattle.tacho_state.specs.declared.imported.Imported.TheVariants.{Added, Repeated}
 use Rattle.tacho_state.specs.State.{Download, Entry, Driver, State, given_spans, entered_spans, held_spans, held_mark, driver_of, keyed, holding, put, download_from, entry_from, with_download, with_batch, with_marked, with_base}
@@ -134,9 +135,15 @@ named n s = told_of (λ d. Ok d.name) (driver_of n s)
 abbrev pub lined : ℕ → State → Result (ℕ → Option Mark) StoreFault
 lined n s = told_of (λ d. Ok (held_mark d)) (driver_of n s)
 
+-- entries by their numbers, the first of which is given
+abbrev pub numbered_from : ℕ → List Entry → List Listed
+numbered_from i [] = []
+numbered_from i (e ∷ es) =
+    record { number = i; line = record { start = e.start; past = e.past; activity = e.activity }; withdrawn = e.withdrawn } ∷ numbered_from (i + 1) es
+
 -- his entries, withdrawn ones among them, in the order of their numbers
-abbrev pub listed : ℕ → State → Result (List Entry) StoreFault
-listed n s = told_of (λ d. Ok d.entries) (driver_of n s)
+abbrev pub listed : ℕ → State → Result (List Listed) StoreFault
+listed n s = told_of (λ d. Ok (numbered_from 1 d.entries)) (driver_of n s)
 
 -- the bytes of a download: S10
 abbrev pub file_of : Option Download → Result (List ℕ) StoreFault

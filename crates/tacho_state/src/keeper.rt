@@ -1,13 +1,15 @@
-ghost use Rattle.std.specs.Prelude.{◌≡◌, ◌∷◌, ◌≤◌, List, Result};
+ghost use Rattle.std.specs.Prelude.{◌≡◌, ◌∷◌, ◌≤◌, List, Result, IfOk, length};
 ghost use Rattle.tacho_line.specs.Line.{mark_at};
 ghost use Rattle.tacho_card.specs.declared.fault.CardFault.{CardFault};
 ghost use Rattle.tacho_state.specs.State.{State};
-ghost use Rattle.tacho_state.specs.Steps.{Content, registered, imported, rebased, lined, downloaded};
+ghost use Rattle.tacho_state.specs.Steps.{Content, registered, imported, entered, withdrawn, rebased, lined, listed, downloaded};
+ghost use Rattle.tacho_state.specs.Batch.{IsBatch, batch_of};
 ghost use Rattle.tacho_state.specs.Content.{Tells, part_number};
 ghost use Rattle.tacho_state.specs.Acts.{Acts, Reads, caller_number};
 
 use crate::caller::Caller;
 use crate::driver::Driver;
+use crate::entry::{Entered, Entry, EntryLine};
 use crate::fault::StoreFault;
 use crate::imported::Imported;
 use std::alloc::Global;
@@ -48,6 +50,22 @@ pub trait Keeper {
         ensures { (content : Result Content CardFault) → Tells part file.now content
             → Acts stands is_clean is_live leaves (λ done. done) self.old self.new result (imported (caller_number caller) (part_number part) file.now content) };
 
+    /// Enters a batch of hours, which goes in whole or not at all: S4, S6, S14. Its lines are numbered on from the driver's last
+    /// entry.
+    fn enter(
+        &mut self,
+        alloc: Global,
+        driver: u32,
+        lines: &[EntryLine],
+    ) -> Result<Entered, StoreFault>
+        requires { IsBatch lines.now }
+        ensures entered { Acts stands is_clean is_live leaves (λ done. done.first) self.old self.new result (entered driver (batch_of lines.now)) }
+        ensures count { IfOk result (λ done. done.count ≡ length lines.now) };
+
+    /// Withdraws an entry of a driver, which stays listed: S4, S7, S8. What downloads and other entries give, he still holds.
+    fn withdraw(&mut self, alloc: Global, driver: u32, number: u32) -> Result<(), StoreFault>
+        ensures { Acts stands is_clean is_live leaves (λ _. tt) self.old self.new result (withdrawn driver number) };
+
     /// Sets the day from which a driver is examined: S4, S9.
     fn rebase(&mut self, driver: u32, base: Day) -> Result<(), StoreFault>
         ensures { Acts stands is_clean is_live leaves (λ _. tt) self.old self.new result (rebased driver base) };
@@ -55,6 +73,10 @@ pub trait Keeper {
     /// The timeline of a driver: S4.
     fn line(&mut self, alloc: Global, driver: u32) -> Result<Line, StoreFault>
         ensures { Reads stands is_clean is_live leaves (λ line. mark_at line) self.old self.new result (lined driver) };
+
+    /// The entries of a driver by their numbers, withdrawn ones among them: S4.
+    fn entries(&mut self, alloc: Global, driver: u32) -> Result<Vec<Entry>, StoreFault>
+        ensures { Reads stands is_clean is_live leaves (λ entries. entries.items) self.old self.new result (listed driver) };
 
     /// The bytes of a driver's download: S4, S10.
     fn download(&mut self, alloc: Global, driver: u32, number: u32) -> Result<Vec<u8>, StoreFault>

@@ -3,6 +3,7 @@
 
 mod caller;
 mod driver;
+mod entry;
 mod fault;
 mod imported;
 mod keeper;
@@ -12,6 +13,7 @@ mod parts;
 
 pub use caller::Caller;
 pub use driver::{Column, Driver};
+pub use entry::{Entered, Entry, EntryLine};
 pub use fault::StoreFault;
 pub use imported::Imported;
 pub use keeper::Keeper;

@@ -4,5 +4,5 @@ mod CivilLemmas
 mod ReadLemmas
 mod MonthLemmas
 mod DigitLemmas
-mod ReadBackLemmas
+pub mod ReadBackLemmas
 mod PageFacts
