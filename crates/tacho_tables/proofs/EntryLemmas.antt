@@ -20,35 +20,35 @@ use Rattle.tacho_tables.specs.Schema.{archive_schema, spans, to_driver}
 use Rattle.tacho_tables.specs.Schema as made
 use Rattle.tacho_tables.specs.Rows.{Stands, SpanRow, EntryRow, span_columns, entry_columns}
 use Rattle.tacho_tables.specs.declared.rows.StoredSpan.{StoredSpan}
-use Rattle.tacho_tables.specs.Tables.{Stand, Turns, is_near, is_entry, is_entry_of, is_kept_near, entered_row, with_withdrawn}
+use Rattle.tacho_tables.specs.Tables.{Stand, Turns, is_begun, is_entry, is_entry_of, is_kept_near, entered_row, with_withdrawn}
 use Rattle.tacho_tables.proofs.Answers.{passes, listed, shows, eq_test, lt_test}
 use Rattle.tacho_tables.proofs.Stored.{stands_put, stands_left, shown_of}
 use Rattle.tacho_tables.proofs.Updates.{stands_updated}
 use Rattle.tacho_tables.proofs.Idle.{idle}
 use Rattle.tacho_tables.proofs.Kept.{with_held, with_entries}
-use Rattle.tacho_tables.proofs.SpanLemmas.{and-true, none_given, near_is}
-use Rattle.tacho_tables.proofs.Statements.{IsReading, near, own, numbered, held_delete_text, held_delete_is, new_entry, entry_insert_text, entry_insert_is, withdrawn_shown, withdraw_text, withdraw_is, kept_near}
+use Rattle.tacho_tables.proofs.SpanLemmas.{and-true, none_given, begun_is}
+use Rattle.tacho_tables.proofs.Statements.{IsReading, begun, own, numbered, held_delete_text, held_delete_is, new_entry, entry_insert_text, entry_insert_is, withdrawn_shown, withdraw_text, withdraw_is, kept_near}
 use Rattle.tacho_tables.proofs.Writes.{inserted, deleted, updated, cast_null, cast_int}
 
 -- ---- held
 
--- a DELETE near a range leaves the spans that have no minute in it
-pub deletes_near : (old new : State) (driver start past count : ℕ) → old.now.schema ≡ archive_schema
+-- a DELETE of what begins in a range leaves the others
+pub deletes_begun : (old new : State) (driver start past count : ℕ) → old.now.schema ≡ archive_schema
     → Executes held_delete_text (Int (pos driver) ∷ Int (pos start) ∷ Int (pos past) ∷ []) old new (Ok count)
-    → Turns old new (λ a. record a { held = filter (λ r. not (is_near driver start past r)) a.held })
-deletes_near old new driver start past count has h =
+    → Turns old new (λ a. record a { held = filter (λ r. not (is_begun driver start past r)) a.held })
+deletes_begun old new driver start past count has h =
     let db = old.now.trees in
     let params = Int (pos driver) ∷ Int (pos start) ∷ Int (pos past) ∷ [] in
     let t = spans (codes "held") in
     let e = deleted archive_schema old new has held_delete_text held_delete_is.plain params count 5 (codes "held") 10 t.columns None (1 ∷ 2 ∷ []) ((1 ∷ 2 ∷ []) ∷ []) t.orders []
     (to_driver ∷ []) refl (idle 10) _ held_delete_is.meant h in
-    let l = listed 10 near (col 1 0 ∷ []) [] (overlay db []) params e.0 (e.1.answer Null) in
-    let found = rw (none_given db 10) at (shows 10 near (col 1 0 ∷ []) [] (overlay db []) params e.0 l) in
+    let l = listed 10 begun (col 1 0 ∷ []) [] (overlay db []) params e.0 (e.1.answer Null) in
+    let found = rw (none_given db 10) at (shows 10 begun (col 1 0 ∷ []) [] (overlay db []) params e.0 l) in
     record {
       schema = ap (λ d. d.schema) e.2.now_is;
       stands = λ a s.
-          let left = stands_left span_columns (db 10) a.held s.held (passes near params) (is_near driver start past) (near_is driver start past) e.0 found in
-          let rest = filter (λ r. not (is_near driver start past r)) a.held in
+          let left = stands_left span_columns (db 10) a.held s.held (passes begun params) (is_begun driver start past) (begun_is driver start past) e.0 found in
+          let rest = filter (λ r. not (is_begun driver start past r)) a.held in
           let held = subst (λ rs. Stands span_columns rs rest) (sym e.2.applies.rows) left in
           subst (λ t. Stand t (record a { held = rest })) (sym (ap (λ d. d.trees) e.2.now_is)) (with_held db e.2.next a rest e.2.applies.tables s held);
     }

@@ -24,7 +24,7 @@ reads_first_of show is [] row more a shown reads = absurd (let e = shown in cc)
 reads_first_of show is (x ∷ later) row more a shown reads = (later, tail_is shown, ap (λ z. z ∷ map is later) (sym (reads x (head_is shown))))
 
 -- only the empty list is a permutation of the empty list
-none_of_none : {X : Type 0} (xs : List X) → IsPermutation xs [] → xs ≡ []
+pub none_of_none : {X : Type 0} (xs : List X) → IsPermutation xs [] → xs ≡ []
 none_of_none [] same = refl
 none_of_none (x ∷ xs) same = absurd (let e = length_permutation (x ∷ xs) [] same in omega (arith, e))
 

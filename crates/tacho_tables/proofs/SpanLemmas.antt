@@ -1,6 +1,6 @@
 -- What the statements on a table of spans do.
 use Rattle.std.proofs.Common.{◌≡◌, codes, ℕ, pos, ◌==◌, ◌^◌, leb, List, [], ◌∷◌, ◌++◌, map, filter, slice_get, Bool, true, false, cond, ◌&&◌, None, Some, Ok, unwrap_or, refl, sym, ap, subst}
-use Rattle.std.specs.Prelude.{nat_lt}
+use Rattle.std.specs.Prelude.{nat_lt, nat_le}
 use Rattle.std.specs.List.Sorted.{IsPermutation}
 use Rattle.std.proofs.lemmas.Bool.{and_parts, not-true}
 use Rattle.std.proofs.lemmas.List.Sorted.{IsPermutation-trans, IsPermutation-sym, IsPermutation-map, IsPermutation-middle}
@@ -19,12 +19,12 @@ use Rattle.sqlite.proofs.Callers.{reads_as}
 use Rattle.tacho_tables.specs.Schema.{archive_schema, to_driver, spans}
 use Rattle.tacho_tables.specs.Rows.{Stands, SpanRow, span_columns}
 use Rattle.tacho_tables.specs.declared.rows.StoredSpan.{StoredSpan}
-use Rattle.tacho_tables.specs.Tables.{Tables, Stand, Turns, is_near, is_of, span_shown, span_of, row_of}
-use Rattle.tacho_tables.proofs.Answers.{passes, listed, shows, eq_test, lt_test}
+use Rattle.tacho_tables.specs.Tables.{Tables, Stand, Turns, is_before, is_begun, is_of, span_shown, span_of, row_of}
+use Rattle.tacho_tables.proofs.Answers.{passes, listed, shows, eq_test, lt_test, le_test}
 use Rattle.tacho_tables.proofs.Stored.{stands_put, stands_shuffled, shown_of}
 use Rattle.tacho_tables.proofs.Idle.{idle}
 use Rattle.tacho_tables.proofs.Kept.{AreKept, with_held, with_card_spans}
-use Rattle.tacho_tables.proofs.Statements.{IsStatement, IsReading, four, near, own, three_shown, by_start, span_names}
+use Rattle.tacho_tables.proofs.Statements.{IsStatement, IsReading, four, before, begun, own, three_shown, by_start, span_names}
 use Rattle.tacho_tables.proofs.Writes.{flat, inserted, cast_null, cast_int}
 
 -- a table of spans: its place, its tree and its name, and the list that its rows stand for
@@ -64,9 +64,13 @@ pub and-true : (b : Bool) → (b && true) ≡ b
 and-true true = refl
 and-true false = refl
 
--- the tests of a reading near a range are those of a row
-pub near_is : (driver start past : ℕ) (v : Value) (x : SpanRow) → passes near (Int (pos driver) ∷ Int (pos start) ∷ Int (pos past) ∷ []) (v ∷ span_columns x) ≡ is_near driver start past x
-near_is driver start past v x = rw (eq_test x.driver driver, lt_test x.start past, lt_test start x.past) (ap (λ b. (x.driver == driver) && (nat_lt x.start past && b)) (and-true (nat_lt start x.past)))
+-- the tests of a reading of what begins in a range are those of a row
+pub begun_is : (driver start past : ℕ) (v : Value) (x : SpanRow) → passes begun (Int (pos driver) ∷ Int (pos start) ∷ Int (pos past) ∷ []) (v ∷ span_columns x) ≡ is_begun driver start past x
+begun_is driver start past v x = rw (eq_test x.driver driver, le_test start x.start, lt_test x.start past) (ap (λ b. (x.driver == driver) && (nat_le start x.start && b)) (and-true (nat_lt x.start past)))
+
+-- and those of a reading of what begins before a minute
+pub before_is : (driver minute : ℕ) (v : Value) (x : SpanRow) → passes before (Int (pos driver) ∷ Int (pos minute) ∷ []) (v ∷ span_columns x) ≡ is_before driver minute x
+before_is driver minute v x = rw (eq_test x.driver driver, lt_test x.start minute) (ap (λ b. (x.driver == driver) && b) (and-true (nat_lt x.start minute)))
 
 -- a query has no earlier tables to read
 pub none_given : (db : Trees) (t : ℕ) → overlay db [] t ≡ db t

@@ -1,12 +1,12 @@
 -- What the statements on rows are.
-use Rattle.std.proofs.Common.{◌≡◌, ℕ, List, [], ◌∷◌, codes, false, refl, pos, Err}
+use Rattle.std.proofs.Common.{◌≡◌, ℕ, List, [], ◌∷◌, codes, false, true, refl, pos, Err}
 use Rattle.sqlite.specs.declared.types.Value.TheVariants.{Null, Int}
 use Rattle.sqlite.specs.Command.{Command}
 use Rattle.sqlite.specs.Command.TheVariants.{Insert, Select, Update, Delete}
 use Rattle.sqlite.specs.Source.TheVariants.{Values}
 use Rattle.sqlite.specs.Term.{Term, lit, col, op2}
 use Rattle.sqlite_sql.specs.declared.ops.BinaryOp.TheVariants.{Compare}
-use Rattle.sqlite_sql.specs.declared.ops.CompareOp.TheVariants.{Eq, Lt}
+use Rattle.sqlite_sql.specs.declared.ops.CompareOp.TheVariants.{Eq, Lt, Le}
 use Rattle.sqlite.specs.Collation.TheVariants.{Binary}
 use Rattle.sqlite_value.specs.declared.keys.Key.{Key}
 use Rattle.sqlite_tied.specs.Compute.{everything}
@@ -14,7 +14,7 @@ use Rattle.sqlite.specs.Listing.{understood, reads_listing, listing_schema}
 use Rattle.sqlite.proofs.Callers.{IsPlain, command_of}
 use Rattle.sqlite_resolve.specs.declared.error.CompileError.TheVariants.{NoSuchTable}
 use Rattle.tacho_tables.specs.Schema.{archive_schema, no_schema}
-use Rattle.tacho_tables.proofs.Answers.{simple}
+use Rattle.tacho_tables.proofs.Answers.{simple, first_of}
 
 -- the text is this statement, which reads no clock
 pub record IsStatement (text : List ℕ) (command : Command) : Type 0 where
@@ -27,16 +27,25 @@ pub record IsReading (text : List ℕ) (tree : ℕ) (tests shown : List Term) (o
   pub unlisted : reads_listing archive_schema text ≡ false
   pub plain : IsPlain (understood archive_schema text)
 
+-- the text shows this of the first of these rows
+pub record IsReadingFirst (text : List ℕ) (tree : ℕ) (tests shown : List Term) (order : List (Term × Key)) (names : List (List ℕ)) : Type 0 where
+  pub meant : command_of (understood archive_schema text) ≡ Select (record { lets = []; body = first_of tree tests shown order }) names
+  pub unlisted : reads_listing archive_schema text ≡ false
+  pub plain : IsPlain (understood archive_schema text)
+
 -- ---- terms
 
 -- a row of four columns, whose number the store gives
 abbrev pub four : List Term
 four = lit Null ∷ col 0 0 ∷ col 0 1 ∷ col 0 2 ∷ col 0 3 ∷ []
 
--- a row of driver ?1 that has a minute from ?2 to before ?3
-abbrev pub near : List Term
-near = op2 (Compare Eq Binary) (col 1 1) (col 0 0) ∷ op2 (Compare Lt Binary) (col 1 2) (col 0 2) ∷ op2 (Compare Lt Binary) (col 0 1)
-    (col 1 3) ∷ []
+-- a row of driver ?1 that begins before ?2
+abbrev pub before : List Term
+before = op2 (Compare Eq Binary) (col 1 1) (col 0 0) ∷ op2 (Compare Lt Binary) (col 1 2) (col 0 1) ∷ []
+
+-- one that begins from ?2 to before ?3
+abbrev pub begun : List Term
+begun = op2 (Compare Eq Binary) (col 1 1) (col 0 0) ∷ op2 (Compare Le Binary) (col 0 1) (col 1 2) ∷ op2 (Compare Lt Binary) (col 1 2) (col 0 2) ∷ []
 
 -- a row of driver ?1
 abbrev pub own : List Term
@@ -53,6 +62,10 @@ three_shown = col 1 2 ∷ col 1 3 ∷ col 1 4 ∷ []
 -- the earlier start first
 abbrev pub by_start : List (Term × Key)
 by_start = (col 1 2, record { collation = Binary; descending = false }) ∷ []
+
+-- the later start first
+abbrev pub by_start_down : List (Term × Key)
+by_start_down = (col 1 2, record { collation = Binary; descending = true }) ∷ []
 
 -- their names
 abbrev pub span_names : List (List ℕ)
@@ -84,9 +97,13 @@ version_is_unknown = refl
 abbrev pub held_insert_text : List ℕ
 held_insert_text = codes "INSERT INTO held (driver, start, past, mark) VALUES (?1, ?2, ?3, ?4)"
 
--- the text that reads the spans near a range
-abbrev pub held_near_text : List ℕ
-held_near_text = codes "SELECT start, past, mark FROM held WHERE driver = ?1 AND start < ?3 AND ?2 < past ORDER BY start"
+-- the text that reads the latest span that begins before a minute
+abbrev pub held_before_text : List ℕ
+held_before_text = codes "SELECT start, past, mark FROM held WHERE driver = ?1 AND start < ?2 ORDER BY start DESC LIMIT 1"
+
+-- the text that reads the spans that begin in a range
+abbrev pub held_begun_text : List ℕ
+held_begun_text = codes "SELECT start, past, mark FROM held WHERE driver = ?1 AND ?2 <= start AND start < ?3 ORDER BY start"
 
 -- what the first means
 pub held_insert_is : IsStatement held_insert_text (Insert 5 (Values four 5))
@@ -94,9 +111,14 @@ unfolding understood everything
 held_insert_is = record { meant = refl; plain = (refl, refl) }
 
 -- what the second means
-pub held_near_is : IsReading held_near_text 10 near three_shown by_start span_names
+pub held_before_is : IsReadingFirst held_before_text 10 before three_shown by_start_down span_names
 unfolding understood everything
-held_near_is = record { meant = refl; unlisted = refl; plain = (refl, refl) }
+held_before_is = record { meant = refl; unlisted = refl; plain = (refl, refl) }
+
+-- what the third means
+pub held_begun_is : IsReading held_begun_text 10 begun three_shown by_start span_names
+unfolding understood everything
+held_begun_is = record { meant = refl; unlisted = refl; plain = (refl, refl) }
 
 -- the text that reads all spans of a driver
 abbrev pub held_own_text : List ℕ
@@ -107,12 +129,12 @@ pub held_own_is : IsReading held_own_text 10 own three_shown by_start span_names
 unfolding understood everything
 held_own_is = record { meant = refl; unlisted = refl; plain = (refl, refl) }
 
--- the text that removes the spans near a range
+-- the text that removes the spans that begin in a range
 abbrev pub held_delete_text : List ℕ
-held_delete_text = codes "DELETE FROM held WHERE driver = ?1 AND start < ?3 AND ?2 < past"
+held_delete_text = codes "DELETE FROM held WHERE driver = ?1 AND ?2 <= start AND start < ?3"
 
 -- what it means
-pub held_delete_is : IsStatement held_delete_text (Delete 5 (record { lets = []; body = simple 10 near (col 1 0 ∷ []) [] }))
+pub held_delete_is : IsStatement held_delete_text (Delete 5 (record { lets = []; body = simple 10 begun (col 1 0 ∷ []) [] }))
 unfolding understood everything
 held_delete_is = record { meant = refl; plain = (refl, refl) }
 
@@ -122,9 +144,13 @@ held_delete_is = record { meant = refl; plain = (refl, refl) }
 abbrev pub card_insert_text : List ℕ
 card_insert_text = codes "INSERT INTO card_spans (driver, start, past, mark) VALUES (?1, ?2, ?3, ?4)"
 
--- the text that reads the spans near a range
-abbrev pub card_near_text : List ℕ
-card_near_text = codes "SELECT start, past, mark FROM card_spans WHERE driver = ?1 AND start < ?3 AND ?2 < past ORDER BY start"
+-- the text that reads the latest span that begins before a minute
+abbrev pub card_before_text : List ℕ
+card_before_text = codes "SELECT start, past, mark FROM card_spans WHERE driver = ?1 AND start < ?2 ORDER BY start DESC LIMIT 1"
+
+-- the text that reads the spans that begin in a range
+abbrev pub card_begun_text : List ℕ
+card_begun_text = codes "SELECT start, past, mark FROM card_spans WHERE driver = ?1 AND ?2 <= start AND start < ?3 ORDER BY start"
 
 -- what the first means
 pub card_insert_is : IsStatement card_insert_text (Insert 3 (Values four 5))
@@ -132,9 +158,14 @@ unfolding understood everything
 card_insert_is = record { meant = refl; plain = (refl, refl) }
 
 -- what the second means
-pub card_near_is : IsReading card_near_text 6 near three_shown by_start span_names
+pub card_before_is : IsReadingFirst card_before_text 6 before three_shown by_start_down span_names
 unfolding understood everything
-card_near_is = record { meant = refl; unlisted = refl; plain = (refl, refl) }
+card_before_is = record { meant = refl; unlisted = refl; plain = (refl, refl) }
+
+-- what the third means
+pub card_begun_is : IsReading card_begun_text 6 begun three_shown by_start span_names
+unfolding understood everything
+card_begun_is = record { meant = refl; unlisted = refl; plain = (refl, refl) }
 
 -- ---- downloads
 

@@ -1,5 +1,5 @@
 -- The six tables as lists of typed rows, and what a call within a transaction makes of them.
-use Rattle.std.specs.Prelude.{◌≡◌, ℕ, pos, Bool, ◌&&◌, ◌==◌, nat_lt, if◌then◌else◌, List, [], ◌∷◌, bytes_eq}
+use Rattle.std.specs.Prelude.{◌≡◌, ℕ, ◌+◌, ◌≤◌, pos, Bool, ◌&&◌, ◌==◌, nat_lt, nat_le, Contains, All, if◌then◌else◌, List, [], ◌∷◌, bytes_eq}
 use Rattle.sqlite.specs.declared.types.Value.TheVariants.{Null, Int, Blob}
 use Rattle.sqlite.specs.Order.{Row}
 use Rattle.sqlite.specs.Tree.{Trees}
@@ -33,6 +33,18 @@ pub record Turns (old new : State) (step : Tables → Tables) : Type 0 where
 -- a row of the driver that has a minute in the range
 abbrev pub is_near : ℕ → ℕ → ℕ → SpanRow → Bool
 is_near driver start past r = (r.driver == driver) && (nat_lt r.start past && nat_lt start r.past)
+
+-- a row of the driver that begins before a minute, and one that begins in a range
+abbrev pub is_before : ℕ → ℕ → SpanRow → Bool
+is_before driver minute r = (r.driver == driver) && nat_lt r.start minute
+
+abbrev pub is_begun : ℕ → ℕ → ℕ → SpanRow → Bool
+is_begun driver start past r = (r.driver == driver) && (nat_le start r.start && nat_lt r.start past)
+
+-- it is among the rows, and none of them begins later
+pub record IsLatest (r : SpanRow) (rows : List SpanRow) : Type 0 where
+  pub one : Contains rows r
+  pub latest : All (λ (x : SpanRow). x.start ≤ r.start) rows
 
 -- a row of the driver
 abbrev pub is_of : ℕ → SpanRow → Bool
@@ -85,6 +97,11 @@ entry_span_of r = record { start = r.start; past = r.past; mark = r.mark }
 -- a driver's new entry with this number
 abbrev pub entered_row : ℕ → ℕ → StoredSpan → EntryRow
 entered_row driver number s = record { driver = driver; number = number; start = s.start; past = s.past; mark = s.mark; withdrawn = 0 }
+
+-- the entries of a batch, numbered from a number on
+abbrev pub entered_rows : ℕ → ℕ → List StoredSpan → List EntryRow
+entered_rows driver number [] = []
+entered_rows driver number (s ∷ spans) = entered_row driver number s ∷ entered_rows driver (number + 1) spans
 
 -- tests of drivers: by number, by key, by holder
 abbrev pub has_number : ℕ → DriverRow → Bool

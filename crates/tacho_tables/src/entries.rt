@@ -1,11 +1,12 @@
 //! The rows of `entries`: hours that were entered by hand.
 
-ghost use Rattle.std.specs.Prelude.{◌≡◌, [], ◌∷◌, map, filter, IfOk, OnOk, IsTrue, IsPermutation, Contains, MatchOption};
+ghost use Rattle.std.specs.Prelude.{◌≡◌, ◌+◌, ◌<◌, ◌^◌, ◌++◌, [], ◌∷◌, length, map, filter, IfOk, OnOk, IsTrue, IsPermutation, Contains, MatchOption, IsSorted};
+ghost use Rattle.std.specs.Ordering.{nat_cmp};
 ghost use Rattle.sqlite.specs.State.{HasCleanDisk, Survives, IsUnchanged, KeepsCommit};
 ghost use Rattle.sqlite.specs.Held.{state};
 ghost use Rattle.tacho_tables.specs.Schema.{archive_schema};
 ghost use Rattle.tacho_tables.specs.Rows.{EntryRow};
-ghost use Rattle.tacho_tables.specs.Tables.{Tables, Stand, Turns, is_entry, is_entry_of, is_kept_near, entry_of, entry_span_of, entered_row, with_withdrawn};
+ghost use Rattle.tacho_tables.specs.Tables.{Tables, Stand, Turns, is_entry, is_entry_of, is_kept_near, entry_of, entry_span_of, entered_row, entered_rows, with_withdrawn};
 
 use crate::fault::TableFault;
 use crate::rows::{StoredEntry, StoredSpan, first_entry, stored_entries, stored_spans};
@@ -33,6 +34,30 @@ pub fn insert<S: Alter>(
         "INSERT INTO entries (driver, number, start, past, mark, withdrawn) VALUES (?1, ?2, ?3, ?4, ?5, 0)",
         params![driver, number, span.start, span.past, span.mark],
     )
+}
+
+/// Adds entries of a driver, numbered from `first` on.
+pub fn insert_all<S: Alter>(
+    tx: &mut Transaction<'_, S>,
+    driver: u32,
+    first: u32,
+    spans: &[StoredSpan],
+) -> Result<(), TableFault>
+    requires { first + length spans.now < 2 ^ 32 }
+    ensures same_reference { tx.new.conn.ghost_name ≡ tx.old.conn.ghost_name }
+    ensures turned { HasCleanDisk (state S.Store tx.new.conn.now) → (state S.Store tx.old.conn.now).now.schema ≡ archive_schema
+        → OnOk result (Turns (state S.Store tx.old.conn.now) (state S.Store tx.new.conn.now) (λ a. record a { entries = entered_rows driver first spans.now ++ a.entries })) }
+    ensures clean { HasCleanDisk (state S.Store tx.new.conn.now) → HasCleanDisk (state S.Store tx.old.conn.now) }
+    ensures was_open { HasCleanDisk (state S.Store tx.new.conn.now) → IsTrue (state S.Store tx.new.conn.now).is_open → IsTrue (state S.Store tx.old.conn.now).is_open }
+    ensures keeps { HasCleanDisk (state S.Store tx.new.conn.now) → KeepsCommit (state S.Store tx.old.conn.now) (state S.Store tx.new.conn.now) }
+    ensures survives { Survives (state S.Store tx.old.conn.now) (state S.Store tx.new.conn.now) (λ _. ⊥) }
+{
+    let mut number = first;
+    for span in spans {
+        insert(tx, driver, number, span)?;
+        number += 1;
+    }
+    Ok(())
 }
 
 /// Marks an entry of a driver as withdrawn.
@@ -80,7 +105,7 @@ pub fn by_number<S: Alter>(
     first_entry(&rows)
 }
 
-/// All entries of a driver, those that were withdrawn among them.
+/// All entries of a driver by their numbers, those that were withdrawn among them.
 pub fn of_driver<S: Alter>(
     alloc: Global,
     tx: &mut Transaction<'_, S>,
@@ -90,6 +115,8 @@ pub fn of_driver<S: Alter>(
     ensures same { HasCleanDisk (state S.Store tx.new.conn.now) → (state S.Store tx.old.conn.now).now.schema ≡ archive_schema → OnOk result (IsUnchanged (state S.Store tx.old.conn.now) (state S.Store tx.new.conn.now)) }
     ensures found { HasCleanDisk (state S.Store tx.new.conn.now) → (state S.Store tx.old.conn.now).now.schema ≡ archive_schema
         → IfOk result (λ found. (a : Tables) → Stand (state S.Store tx.old.conn.now).now.trees a → IsPermutation (map entry_of (filter (is_entry_of driver) a.entries)) found.items) }
+    ensures sorted { HasCleanDisk (state S.Store tx.new.conn.now) → (state S.Store tx.old.conn.now).now.schema ≡ archive_schema → (a : Tables) → Stand (state S.Store tx.old.conn.now).now.trees a
+        → IfOk result (λ found. IsSorted (λ x y. nat_cmp x.number y.number) found.items) }
     ensures live { HasCleanDisk (state S.Store tx.new.conn.now) → OnOk result (IsTrue (state S.Store tx.new.conn.now).is_open) }
     ensures clean { HasCleanDisk (state S.Store tx.new.conn.now) → HasCleanDisk (state S.Store tx.old.conn.now) }
     ensures was_open { HasCleanDisk (state S.Store tx.new.conn.now) → IsTrue (state S.Store tx.new.conn.now).is_open → IsTrue (state S.Store tx.old.conn.now).is_open }

@@ -51,6 +51,17 @@ fn stored_span(row: &Row) -> Result<StoredSpan, TableFault>
     })
 }
 
+/// The span that the first of such rows shows, if there is one.
+pub(crate) fn first_span(rows: &[Row]) -> Result<Option<StoredSpan>, TableFault>
+    ensures none { IfOk result (λ found. IsNone found ↔ (rows.now ≡ [])) }
+    ensures some { IfOk result (λ found. IfSome found (λ s. (r : SpanRow) (more : List Values) → rows.now ≡ span_shown r ∷ more → s ≡ span_of r)) }
+{
+    match rows.first() {
+        None => Ok(None),
+        Some(row) => Ok(Some(stored_span(row)?)),
+    }
+}
+
 /// The spans that such rows show.
 pub(crate) fn stored_spans(alloc: Global, rows: &[Row]) -> Result<Vec<StoredSpan>, TableFault>
     ensures { IfOk result (λ spans. (shown : List SpanRow) → rows.now ≡ map span_shown shown → spans.items ≡ map span_of shown) }

@@ -61,8 +61,9 @@ fn is_driver(found: Option<StoredDriver>, holder: &[u8], base: u32, count: u32) 
 }
 
 #[test]
-fn held_spans_near_a_range(rt: HostRuntime) -> Result<(), Fail> {
-    let mut conn = Connection::open_in_memory(rt.alloc())?;
+fn held_spans_by_where_they_begin(rt: HostRuntime) -> Result<(), Fail> {
+    let alloc = rt.alloc();
+    let mut conn = Connection::open_in_memory(alloc)?;
     let mut tx = conn.transaction();
     making::make_all(&mut tx)?;
     drivers::insert(&mut tx, 17, &[0x0d, 0x44], "anna-key-1", 19_786, "Anna")?;
@@ -71,15 +72,45 @@ fn held_spans_near_a_range(rt: HostRuntime) -> Result<(), Fail> {
         17,
         &[span(300, 400, 1), span(100, 200, 3), span(200, 210, 2)],
     )?;
-    let middle = held::near(rt.alloc(), &mut tx, 17, 200, 300)?;
+    let middle = held::begun(alloc, &mut tx, 17, 200, 300)?;
     assert_eq!(rt; middle.as_slice(), [span(200, 210, 2)].as_slice());
-    let all = held::near(rt.alloc(), &mut tx, 17, 199, 301)?;
+    let all = held::begun(alloc, &mut tx, 17, 100, 301)?;
     assert_eq!(rt;
         all.as_slice(),
         [span(100, 200, 3), span(200, 210, 2), span(300, 400, 1)].as_slice()
     );
-    assert!(rt; held::near(rt.alloc(), &mut tx, 18, 199, 301)?.is_empty());
-    assert!(rt; card_spans::near(rt.alloc(), &mut tx, 17, 199, 301)?.is_empty());
+    assert!(rt; held::begun(alloc, &mut tx, 18, 100, 301)?.is_empty());
+    assert!(rt; card_spans::begun(alloc, &mut tx, 17, 100, 301)?.is_empty());
+    Ok(())
+}
+
+#[test]
+fn the_latest_span_before_a_minute(rt: HostRuntime) -> Result<(), Fail> {
+    let mut conn = Connection::open_in_memory(rt.alloc())?;
+    let mut tx = conn.transaction();
+    making::make_all(&mut tx)?;
+    drivers::insert(&mut tx, 17, &[0x0d, 0x44], "anna-key-1", 19_786, "Anna")?;
+    let spans = [span(300, 400, 1), span(100, 200, 3), span(200, 210, 2)];
+    held::insert_all(&mut tx, 17, &spans)?;
+    card_spans::insert_all(&mut tx, 17, &spans[1..])?;
+    assert_eq!(rt; held::last_before(&mut tx, 17, 100)?, None);
+    assert_eq!(rt;
+        held::last_before(&mut tx, 17, 101)?,
+        Some(span(100, 200, 3))
+    );
+    assert_eq!(rt;
+        held::last_before(&mut tx, 17, 300)?,
+        Some(span(200, 210, 2))
+    );
+    assert_eq!(rt;
+        held::last_before(&mut tx, 17, 900)?,
+        Some(span(300, 400, 1))
+    );
+    assert_eq!(rt; held::last_before(&mut tx, 18, 900)?, None);
+    assert_eq!(rt;
+        card_spans::last_before(&mut tx, 17, 900)?,
+        Some(span(200, 210, 2))
+    );
     Ok(())
 }
 
@@ -90,7 +121,7 @@ fn card_spans_and_a_download(rt: HostRuntime) -> Result<(), Fail> {
     making::make_all(&mut tx)?;
     drivers::insert(&mut tx, 17, &[0x0d, 0x44], "anna-key-1", 19_786, "Anna")?;
     card_spans::insert_all(&mut tx, 17, &[span(100, 200, 3), span(200, 210, 2)])?;
-    let first = card_spans::near(rt.alloc(), &mut tx, 17, 0, 200)?;
+    let first = card_spans::begun(rt.alloc(), &mut tx, 17, 0, 200)?;
     assert_eq!(rt; first.as_slice(), [span(100, 200, 3)].as_slice());
     downloads::insert(&mut tx, 17, 1, 0, &[1, 2, 3])?;
     downloads::insert(&mut tx, 17, 2, 2, &[4])?;
@@ -136,7 +167,7 @@ fn a_reading_is_right_or_fails(rt: HostRuntime) -> Result<(), Fail> {
 fn has_right_spans<S: Alter>(alloc: Global, tx: &mut Transaction<'_, S>) -> bool
     ensures { tx.new.conn.ghost_name ≡ tx.old.conn.ghost_name }
 {
-    match held::near(alloc, tx, 17, 199, 301) {
+    match held::begun(alloc, tx, 17, 100, 301) {
         Ok(spans) => spans.as_slice() == [span(100, 200, 3), span(300, 400, 1)].as_slice(),
         Err(_) => true,
     }
@@ -190,7 +221,7 @@ fn entry(number: u32, start: u32, past: u32, mark: u32, withdrawn: u32) -> Store
 }
 
 #[test]
-fn held_spans_near_a_range_are_deleted(rt: HostRuntime) -> Result<(), Fail> {
+fn held_spans_that_begin_in_a_range_are_deleted(rt: HostRuntime) -> Result<(), Fail> {
     let mut conn = Connection::open_in_memory(rt.alloc())?;
     let mut tx = conn.transaction();
     making::make_all(&mut tx)?;
@@ -200,7 +231,7 @@ fn held_spans_near_a_range_are_deleted(rt: HostRuntime) -> Result<(), Fail> {
         17,
         &[span(100, 200, 3), span(200, 210, 2), span(300, 400, 1)],
     )?;
-    held::delete_near(&mut tx, 17, 200, 300)?;
+    held::delete_begun(&mut tx, 17, 200, 300)?;
     let left = held::of_driver(rt.alloc(), &mut tx, 17)?;
     assert_eq!(rt;
         left.as_slice(),

@@ -1,0 +1,96 @@
+-- Entries are read in the order of their numbers.
+use Rattle.std.proofs.Common.{◌≡◌, ◌∙◌, ℕ, pos, ◌<◌, ◌+◌, Ordering, Less, Equal, Greater, List, [], ◌∷◌, map, filter, length, Bool, refl, sym, ap, subst, arith}
+use Rattle.std.specs.List.{slice_index_or}
+use Rattle.std.specs.List.Sorted.{IsSorted, IsSortedBy}
+use Rattle.std.specs.Ordering.{is_lt, nat_cmp, int_cmp, ordering_then}
+use Rattle.std.proofs.lemmas.Int.{ints}
+use Rattle.std.proofs.lemmas.List.{get_or-map, length-map}
+use Rattle.std.proofs.lemmas.List.Sorted.{IsPermutation-trans}
+use Rattle.sqlite.specs.declared.types.Value.TheVariants.{Null, Int}
+use Rattle.sqlite_value.specs.Order.{value_cmp}
+use Rattle.sqlite_value.proofs.OrderLemmas.{value_cmp-Int}
+use Rattle.sqlite_trees.proofs.ListLemmas.{pull_back, map-map}
+use Rattle.sqlite_sql.specs.Query.{Query, Output, output, output_cmp}
+use Rattle.sqlite.specs.Order.{Row}
+use Rattle.sqlite.specs.Program.{overlay}
+use Rattle.sqlite.specs.State.{State, Shown}
+use Rattle.sqlite.proofs.Callers.{reads_as}
+use Rattle.tacho_tables.specs.Schema.{archive_schema}
+use Rattle.tacho_tables.specs.Rows.{Stands, EntryRow, entry_columns}
+use Rattle.tacho_tables.specs.declared.rows.StoredEntry.{StoredEntry}
+use Rattle.tacho_tables.specs.Tables.{is_entry_of, entry_of, entry_shown}
+use Rattle.tacho_tables.proofs.Answers.{simple, passes, listed}
+use Rattle.tacho_tables.proofs.EntryLemmas.{own_test}
+use Rattle.tacho_tables.proofs.SpanLemmas.{none_given}
+use Rattle.tacho_tables.proofs.Statements.{own, five_shown, by_number, entries_text, entries_is}
+use Rattle.tacho_tables.proofs.Stored.{shown_of}
+
+-- a query over one table, sorted by number
+abbrev asked : Query
+asked = simple 8 own five_shown by_number
+
+-- what an entry is sorted by, and what it shows
+abbrev shown_as : EntryRow → Output
+shown_as x = (Int (pos x.number) ∷ [], entry_shown x)
+
+-- entries are sorted by their numbers
+by_numbers : (x y : EntryRow) → is_lt (output_cmp asked (shown_as x) (shown_as y)) ≡ is_lt (nat_cmp x.number y.number)
+by_numbers x y =
+    ap is_lt (then_equal (value_cmp (Int (pos x.number)) (Int (pos y.number))) ∙ value_cmp-Int (pos x.number) (pos y.number))
+    ∙ same x.number y.number where
+      then_equal : (o : Ordering) → ordering_then o Equal ≡ o
+      then_equal Less = refl
+      then_equal Equal = refl
+      then_equal Greater = refl
+
+      same : (a b : ℕ) → is_lt (int_cmp (pos a) (pos b)) ≡ is_lt (nat_cmp a b)
+      same a b = grind (arith, ints)
+
+-- what is sorted is so by what it was made of
+pub sorted_before : {X Y : Type 0} (f : X → Y) (less : Y → Y → Bool) (lt : X → X → Bool) (xs : List X) → ((x y : X) → less (f x) (f y) ≡ lt x y)
+    → IsSortedBy less (map f xs) → IsSortedBy lt xs
+sorted_before f less lt xs same h k d low high =
+    let high_2 : k + 1 < length (map f xs) = (let as_many = length-map xs f in omega (arith, high, as_many)) in
+    sym (same (slice_index_or xs (k + 1) d) (slice_index_or xs k d))
+    ∙ sym (ap (λ y. less y (f (slice_index_or xs k d))) (get_or-map f xs (k + 1) d (f d) high))
+    ∙ sym (ap (λ y. less (slice_index_or (map f xs) (k + 1) (f d)) y) (get_or-map f xs k d (f d) (omega (arith, high))))
+    ∙ h k (f d) low high_2
+
+-- and so is what it becomes
+sorted_after : {X Y : Type 0} (f : X → Y) (less : Y → Y → Bool) (lt : X → X → Bool) (xs : List X) → X → ((x y : X) → less (f x) (f y) ≡ lt x y)
+    → IsSortedBy lt xs → IsSortedBy less (map f xs)
+sorted_after f less lt xs none same h k d low high =
+    let high_2 : k + 1 < length xs = (let as_many = length-map xs f in omega (arith, high, as_many)) in
+    ap (λ y. less y (slice_index_or (map f xs) k d)) (get_or-map f xs (k + 1) none d high_2)
+    ∙ ap (λ y. less (f (slice_index_or xs (k + 1) none)) y) (get_or-map f xs k none d (omega (arith, high_2)))
+    ∙ same (slice_index_or xs (k + 1) none) (slice_index_or xs k none)
+    ∙ h k none low high_2
+
+-- the rows of a reading of all entries of a driver show his entries in the order of their numbers
+pub shows_sorted : (driver : ℕ) (old new : State) (rows : List Row) → old.now.schema ≡ archive_schema
+    → Shown entries_text (Int (pos driver) ∷ []) old new rows → (all : List EntryRow) → Stands entry_columns (old.now.trees 8) all
+    → (shown : List EntryRow) × (rows ≡ map entry_shown shown) × IsSorted (λ x y. nat_cmp x.number y.number) shown
+shows_sorted driver old new rows has h all s =
+    let db = old.now.trees in
+    let params = Int (pos driver) ∷ [] in
+    let out = λ (r : Row). output asked (params ∷ r ∷ []) in
+    let got = reads_as entries_text params old new archive_schema has _ entries_is.meant entries_is.plain entries_is.unlisted rows h in
+    let l = listed 8 own five_shown by_number (overlay db []) params rows (got.answer Null) in
+    let passed = shown_of entry_columns (db 8) all s (passes own params) (is_entry_of driver) (own_test driver) out shown_as (λ v x. refl) in
+    let same = IsPermutation-trans _ _ _ passed (rw (none_given db 8) at l.same) in
+    let back = pull_back shown_as _ l.all same (filter (is_entry_of driver) all) refl in (
+      back.0,
+      l.shown_is ∙ ap (map (λ (o : Output). o.1)) back.2 ∙ map-map (λ (o : Output). o.1) shown_as back.0,
+      sorted_before shown_as (λ a b. is_lt (output_cmp asked a b)) (λ x y. is_lt (nat_cmp x.number y.number)) back.0 by_numbers (subst (IsSorted (output_cmp asked)) back.2 l.sorted),
+    )
+
+-- so they are read in that order
+pub read_sorted : (driver : ℕ) (old new : State) (rows : List Row) (found : List StoredEntry) → old.now.schema ≡ archive_schema
+    → Shown entries_text (Int (pos driver) ∷ []) old new rows → (all : List EntryRow) → Stands entry_columns (old.now.trees 8) all
+    → ((shown : List EntryRow) → rows ≡ map entry_shown shown → found ≡ map entry_of shown)
+    → IsSorted (λ x y. nat_cmp x.number y.number) found
+read_sorted driver old new rows found has h all s reads =
+    let it = shows_sorted driver old new rows has h all s in
+    subst (IsSorted (λ x y. nat_cmp x.number y.number)) (sym (reads it.0 it.1))
+    (sorted_after entry_of (λ x y. is_lt (nat_cmp x.number y.number)) (λ x y. is_lt (nat_cmp x.number y.number)) it.0
+    (record { driver = 0; number = 0; start = 0; past = 0; mark = 0; withdrawn = 0 }) (λ x y. refl) it.2)
