@@ -1,7 +1,6 @@
 -- What is near a file's spans decides their import.
-use Rattle.std.proofs.Common.{◌≡◌, inl, inr, ℕ, ◌+◌, List, [], length, map, filter, Option, Some, None, Result, Ok, Err, sym, ap, subst}
+use Rattle.std.proofs.Common.{◌≡◌, inl, inr, ℕ, ◌+◌, List, [], length, map, Option, Some, None, Result, Ok, Err, sym, ap, subst}
 use Rattle.std.specs.Prelude.{MatchOption, MatchResult, IsErr, IsErrAnd}
-use Rattle.std.specs.List.Sorted.{IsPermutation}
 use Rattle.sqlite.specs.Effect.{Database}
 use Rattle.sqlite.specs.State.{State as Sqlite, IsUnchanged}
 use Rattle.sqlite.specs.Tree.{Trees}
@@ -20,9 +19,11 @@ use Rattle.tacho_state.specs.State.{Driver, State, driver_of, put, with_download
 use Rattle.tacho_state.proofs.StepLemmas.{repeated_import, contradicted_import, added_import, full_import}
 use Rattle.tacho_tables.specs.declared.rows.StoredSpan.{StoredSpan}
 use Rattle.tacho_tables.specs.Rows.{SpanRow}
-use Rattle.tacho_tables.specs.Tables.{Tables, Stand, is_near, span_of}
+use Rattle.tacho_tables.specs.Tables.{Tables, Stand}
 use Rattle.tacho_store.specs.declared.news.News.{News}
-use Rattle.tacho_store.specs.Standing.{StandsFor, IsOf, spans_of, stored_span}
+use Rattle.tacho_store.specs.Standing.{StandsFor, IsOf, spans_of, stored_span, IsReadNear}
+use Rattle.tacho_store.specs.Apart.{AreApart, rows_of}
+use Rattle.tacho_store.proofs.ApartLemmas.{card_apart, held_apart}
 use Rattle.tacho_store.specs.News.{AreNews, IsRefused}
 use Rattle.tacho_store.specs.Importing.{AreAdded, AreDecided}
 use Rattle.tacho_store.proofs.NearRowLemmas.{read_line, card_kept, held_kept}
@@ -33,7 +34,7 @@ use Rattle.tacho_store.proofs.FoundLemmas.{handed_on}
 
 -- rows of a table that were read near a range
 abbrev pub AreRead : (Tables → List SpanRow) → Trees → ℕ → ℕ → ℕ → List StoredSpan → Type 0
-AreRead get db n a b found = (t : Tables) → Stand db t → IsPermutation (map span_of (filter (is_near n a b) (get t))) found
+AreRead get db n a b found = (t : Tables) → Stand db t → AreApart (rows_of n (get t)) → IsReadNear (get t) n a b found
 
 module _ (db : Trees) (s : State) (n : ℕ) (d : Driver) (a b : ℕ) (spans : List Span) (is : driver_of n s ≡ Some d)
     (within : AreInRange a b spans) (t : Tables) (stand : Stand db t) (of : IsOf t s)
@@ -83,8 +84,8 @@ pub decided : (db : Trees) (s : State) (n : ℕ) (d : Driver) (a b : ℕ) (spans
 unfolding StandsFor
 decided db s n d a b spans cards helds card_line line r (t, stand, of) is card_read read card_of held_of within h =
     by_lines db s n d a b spans is within t stand of card_line line
-    (read_line t.card_spans n a b cards card_line (card_read t stand) card_of)
-    (read_line t.held n a b helds line (read t stand) held_of) r h
+    (read_line t.card_spans n a b cards card_line (card_read t stand (card_apart t s n d of is)) card_of)
+    (read_line t.held n a b helds line (read t stand (held_apart t s n d of is)) held_of) r h
 
 -- a fault that is handed on answers the import
 pub handed_fault : (db : Trees) (s : State) (n : ℕ) (d : Driver) (spans : List Span) (fault : StoreFault) (r : Result Imported StoreFault)

@@ -35,6 +35,7 @@ number_found db s n (Some it) (t, stand, is) h =
         holder = found.2 ∙ ap (λ (r : DriverRow). r.holder) d.2;
         downloads = found.4
             ∙ ap (λ (r : DriverRow). r.downloads) d.2;
+        entries = found.5 ∙ ap (λ (r : DriverRow). r.entries) d.2;
       },
     )
 

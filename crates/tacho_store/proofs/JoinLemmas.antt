@@ -1,14 +1,15 @@
 -- What joins a command's writes: one step after another, and rows that stand in front where the tables have them behind.
-use Rattle.std.proofs.Common.{◌≡◌, ℕ, List, ◌∷◌, ◌++◌, map, subst}
+use Rattle.std.proofs.Common.{◌≡◌, ℕ, List, ◌∷◌, ◌++◌, map, filter, not, subst}
 use Rattle.std.proofs.lemmas.List.Sorted.{IsPermutation-refl, IsPermutation-sym, IsPermutation-append_comm, IsPermutation-to_front}
 use Rattle.sqlite.specs.State.{State as StoreState}
 use Rattle.sqlite.specs.Tree.{Trees}
 use Rattle.tacho_time.specs.declared.span.Span.{Span}
-use Rattle.tacho_state.specs.State.{State}
+use Rattle.tacho_state.specs.State.{Entry, State}
 use Rattle.tacho_tables.specs.Rows.{SpanRow, DriverRow}
-use Rattle.tacho_tables.specs.Tables.{Tables, Stand, Turns, row_of, with_downloads}
+use Rattle.tacho_tables.specs.Tables.{Tables, Stand, Turns, is_near, row_of, with_downloads, with_entries, with_withdrawn}
 use Rattle.tacho_tables.specs.declared.rows.StoredSpan.{StoredSpan}
-use Rattle.tacho_store.specs.Standing.{IsOf, StandsFor, SameRows, span_row, with_driver, with_imported, kept}
+use Rattle.tacho_store.specs.Standing.{IsOf, StandsFor, SameRows, span_row, entry_rows, with_driver, with_imported, with_entered, with_renewed, kept}
+use Rattle.tacho_store.specs.Entering.{batched}
 use Rattle.tacho_store.proofs.OrderedLemmas.{any_order_stands}
 
 -- ---- steps
@@ -98,3 +99,52 @@ pub kept_stands : (db : Trees) (n number part : ℕ) (file : List ℕ) (card_gai
 kept_stands db n number part file card_gains gains t s stands is =
     same_stands db (kept n number part file card_gains gains t) (with_imported n number part file card_gains gains t) s
     (same_kept n number part file card_gains gains t) stands is
+
+-- ---- a batch
+
+-- the rows of a batch in front or behind
+same_batched : (n first count : ℕ) (batch : List Entry) (gains : List Span) (t : Tables)
+    → SameRows (with_entered n first count batch gains t) (batched n count (entry_rows n first batch) (map (span_row n) gains) t)
+same_batched n first count batch gains t = record {
+  drivers = IsPermutation-refl (map (with_entries n count) t.drivers);
+  downloads = IsPermutation-refl t.downloads;
+  card_spans = IsPermutation-refl t.card_spans;
+  entries = IsPermutation-append_comm t.entries (entry_rows n first batch);
+  held = IsPermutation-append_comm t.held (map (span_row n) gains);
+}
+
+-- what was written of a batch stands for the state after it
+pub batch_stands : (db : Trees) (n first count : ℕ) (batch : List Entry) (gains : List Span) (t : Tables) (s : State)
+    → Stand db (batched n count (entry_rows n first batch) (map (span_row n) gains) t)
+    → IsOf (with_entered n first count batch gains t) s → StandsFor db s
+batch_stands db n first count batch gains t s stands is =
+    same_stands db (batched n count (entry_rows n first batch) (map (span_row n) gains) t) (with_entered n first count batch gains t) s
+    (same_batched n first count batch gains t) stands is
+
+-- ---- a withdrawal
+
+-- the tables of a withdrawal's writes, by the rows that they put in front
+abbrev pub renewed : ℕ → ℕ → ℕ → ℕ → List SpanRow → Tables → Tables
+renewed n number start past rows t = record t {
+  entries = map (with_withdrawn n number) t.entries;
+  held = rows ++ filter (λ r. not (is_near n start past r)) t.held;
+}
+
+-- the rows of a withdrawal in front or behind
+pub same_renewed : (n number start past : ℕ) (spans : List Span) (t : Tables)
+    → SameRows (with_renewed n number start past spans t) (renewed n number start past (map (span_row n) spans) t)
+same_renewed n number start past spans t = record {
+  drivers = IsPermutation-refl t.drivers;
+  downloads = IsPermutation-refl t.downloads;
+  card_spans = IsPermutation-refl t.card_spans;
+  entries = IsPermutation-refl (map (with_withdrawn n number) t.entries);
+  held = IsPermutation-append_comm (filter (λ r. not (is_near n start past r)) t.held) (map (span_row n) spans);
+}
+
+-- what was written of a withdrawal stands for the state after it
+pub renewed_stands : (db : Trees) (n number start past : ℕ) (spans : List Span) (t : Tables) (s : State)
+    → Stand db (renewed n number start past (map (span_row n) spans) t)
+    → IsOf (with_renewed n number start past spans t) s → StandsFor db s
+renewed_stands db n number start past spans t s stands is =
+    same_stands db (renewed n number start past (map (span_row n) spans) t) (with_renewed n number start past spans t) s
+    (same_renewed n number start past spans t) stands is

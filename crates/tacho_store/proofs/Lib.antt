@@ -6,6 +6,8 @@ mod RegisterLemmas
 mod NearRowLemmas
 mod DownloadLemmas
 mod ImportLemmas
+mod EntryLemmas
+mod WithdrawLemmas
 mod MappedLemmas
 mod FoundLemmas
 mod RegistrationLemmas
@@ -21,3 +23,7 @@ mod DecisionLemmas
 mod AdditionLemmas
 mod EmptyLemmas
 mod FileLemmas
+mod WithdrawalLemmas
+mod ApartLemmas
+mod EnteringLemmas
+mod ListedLemmas

@@ -5,14 +5,14 @@ use Rattle.tacho_time.specs.declared.span.Span.{Span}
 use Rattle.tacho_time.specs.Spans.{IsCanonical}
 use Rattle.tacho_line.specs.declared.line.LineFault.{LineFault}
 use Rattle.tacho_line.specs.declared.line.LineFault.TheVariants as line_fault
-use Rattle.tacho_line.specs.Line.{empty_from, AreGains, IsGainFault}
+use Rattle.tacho_line.specs.Line.{empty_from, first_empty, AreGains, IsGainFault}
 use Rattle.tacho_state.specs.declared.fault.StoreFault.{StoreFault}
 use Rattle.tacho_state.specs.declared.fault.StoreFault.TheVariants.{Contradiction, Memory}
 use Rattle.tacho_state.specs.Disjoint.{IsNew}
 use Rattle.tacho_store.specs.News.{AreNews, IsContradicted, IsRefused}
 
 -- no canonical span is empty
-none_empty : (place : ℕ) (spans : List Span) → IsCanonical spans → empty_from place spans ≡ None
+pub none_empty : (place : ℕ) (spans : List Span) → IsCanonical spans → empty_from place spans ≡ None
 none_empty place [] h = refl
 none_empty place (s ∷ spans) h =
     let start = s.start in
@@ -21,14 +21,14 @@ none_empty place (s ∷ spans) h =
     let full : nat_le past start ≡ false = grind (arith, nat_tests) in
     ap (λ b. cond b (Some place) (empty_from (place + 1) spans)) full ∙ none_empty (place + 1) spans h.2
 
--- so canonical spans have no gains for want of memory, or because they contradict the line
-pub fault_is : (line spans : List Span) (fault : LineFault) (found : StoreFault) → IsCanonical spans
+-- so spans that aren't empty have no gains for want of memory, or because they contradict the line
+pub fault_is : (line spans : List Span) (fault : LineFault) (found : StoreFault) → first_empty spans ≡ None
     → ((m : ℕ) → fault ≡ line_fault.Contradiction m → found ≡ Contradiction m) → (fault ≡ line_fault.Memory → found ≡ Memory)
     → IsGainFault line spans fault
     → (found ≡ Memory) ⊎ IsContradicted line spans found
-fault_is line spans (line_fault.Contradiction m) found h conflict memory g = inr (m, conflict m refl, g.1)
-fault_is line spans (line_fault.EmptySpan place) found h conflict memory g = let none = none_empty 0 spans h in cc
-fault_is line spans line_fault.Memory found h conflict memory g = inl (memory refl)
+fault_is line spans (line_fault.Contradiction m) found full conflict memory g = inr (m, conflict m refl, g.1)
+fault_is line spans (line_fault.EmptySpan place) found full conflict memory g = let none = full in cc
+fault_is line spans line_fault.Memory found full conflict memory g = inl (memory refl)
 
 -- new spans that contradict what the driver holds are refused
 refused : (card_line line spans : List Span) (fault : StoreFault) → IsNew card_line spans

@@ -16,6 +16,7 @@ Refuses fault told = told ≡ Err fault
 pub record IsStored (it : StoredDriver) (d : Driver) : Type 0 where
   pub holder : it.holder.items ≡ d.holder
   pub downloads : it.downloads ≡ length d.downloads
+  pub entries : it.entries ≡ length d.entries
 
 -- the driver with the number is there, and so stored; or nobody has it: S4; or a call gave up
 unfoldable pub IsDriver : State → ℕ → Result StoredDriver StoreFault → Type 0

@@ -4,3 +4,6 @@ pub mod Faults
 pub mod News
 pub mod Importing
 pub mod Finding
+pub mod Withdrawing
+pub mod Entering
+pub mod Apart

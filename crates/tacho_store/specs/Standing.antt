@@ -1,17 +1,19 @@
 -- What the archive's tables stand for: rows by driver, and the state of all drivers.
-use Rattle.std.specs.Prelude.{◌≡◌, ◌≢◌, ℕ, ◌+◌, ◌==◌, nat_lt, true, false, List, [], ◌∷◌, ◌++◌, length, map, filter, IsPermutation, Ok, if◌then◌else◌}
+use Rattle.std.specs.Prelude.{◌≡◌, ◌≢◌, ℕ, ◌+◌, ◌==◌, nat_lt, true, false, List, [], ◌∷◌, ◌++◌, length, map, filter, not, IsPermutation, Ok, if◌then◌else◌}
 use Rattle.sqlite.specs.Tree.{Trees}
 use Rattle.tacho_time.specs.declared.span.Span.{Span}
 use Rattle.tacho_time.specs.declared.span.Mark.{Mark}
 use Rattle.tacho_time.specs.declared.span.Activity.{Activity}
 use Rattle.tacho_time.specs.declared.span.Activity.TheVariants.{Rest, Available, Work, Drive}
 use Rattle.tacho_card.specs.declared.file.Part.{Part}
+use Rattle.tacho_state.specs.declared.entry.Entry.{Entry as Listed}
 use Rattle.tacho_state.specs.State.{Download, Entry, Driver, State, Given, Held, AreFull}
 use Rattle.tacho_state.specs.Disjoint.{Keeps}
 use Rattle.tacho_state.specs.Content.{Tells, part_number}
 use Rattle.tacho_tables.specs.Rows.{SpanRow, DownloadRow, EntryRow, DriverRow}
 use Rattle.tacho_tables.specs.declared.rows.StoredSpan.{StoredSpan}
-use Rattle.tacho_tables.specs.Tables.{Tables, Stand, is_near, span_of, with_base, with_downloads}
+use Rattle.tacho_tables.specs.declared.rows.StoredEntry.{StoredEntry}
+use Rattle.tacho_tables.specs.Tables.{Tables, Stand, is_near, is_kept_near, span_of, entry_span_of, with_base, with_downloads, with_entries, with_withdrawn}
 
 -- ---- marks as numbers: 0 rest, 1 available, 2 work, 3 drive, and 4 more for crew
 
@@ -153,6 +155,21 @@ kept n number part file card_gains gains t = record t {
   held = map (span_row n) gains ++ t.held;
 }
 
+-- a batch goes in: its rows by the numbers that come next, the count of numbers, and what it gives that the driver didn't hold
+abbrev pub with_entered : ℕ → ℕ → ℕ → List Entry → List Span → Tables → Tables
+with_entered n first count batch gains t = record t {
+  drivers = map (with_entries n count) t.drivers;
+  entries = t.entries ++ entry_rows n first batch;
+  held = t.held ++ map (span_row n) gains;
+}
+
+-- an entry is withdrawn: its row is marked; of the driver's held rows those near it go, and these spans come
+abbrev pub with_renewed : ℕ → ℕ → ℕ → ℕ → List Span → Tables → Tables
+with_renewed n number start past spans t = record t {
+  entries = map (with_withdrawn n number) t.entries;
+  held = filter (λ r. not (is_near n start past r)) t.held ++ map (span_row n) spans;
+}
+
 -- the same rows in another order
 pub record SameRows (t u : Tables) : Type 0 where
   pub drivers : IsPermutation t.drivers u.drivers
@@ -167,3 +184,12 @@ stored_span s = record { start = s.start; past = s.past; mark = numbered_mark s.
 
 abbrev pub IsReadNear : List SpanRow → ℕ → ℕ → ℕ → List StoredSpan → Type 0
 IsReadNear rows n start past found = IsPermutation (map span_of (filter (is_near n start past) rows)) found
+
+-- and of the entries that are not withdrawn
+abbrev pub IsKeptNear : List EntryRow → ℕ → ℕ → ℕ → List StoredSpan → Type 0
+IsKeptNear rows n start past found = IsPermutation (map entry_span_of (filter (is_kept_near n start past) rows)) found
+
+-- an entry as it is listed
+abbrev pub listed_as : StoredEntry → Listed
+listed_as it =
+    record { number = it.number; line = record { start = it.start; past = it.past; activity = numbered_activity it.mark }; withdrawn = not (it.withdrawn == 0) }

@@ -13,15 +13,17 @@ ghost use Rattle.tacho_store.specs.Kept.{IsBlank, Holds, Shows, Leaves, IsGivenU
 
 use crate::base::rebase;
 use crate::content::content_of;
+use crate::entering::enter;
 use crate::fault::store_fault;
 use crate::import::import;
-use crate::reading::{download, line};
+use crate::reading::{download, entries, line};
 use crate::registration::register;
+use crate::withdrawal::withdraw;
 use sqlite::{Alter, Connection, MemStore, Transaction};
 use std::alloc::Global;
 use tacho_card::Part;
 use tacho_line::Line;
-use tacho_state::{Caller, Driver, Imported, Keeper, StoreFault};
+use tacho_state::{Caller, Driver, Entered, Entry, EntryLine, Imported, Keeper, StoreFault};
 use tacho_tables::{making, opening};
 use tacho_time::Day;
 
@@ -202,12 +204,29 @@ impl<S: Alter> Keeper for Archive<S> {
         import(alloc, &mut self.conn, caller, part, file, &content)
     }
 
+    fn enter(
+        &mut self,
+        alloc: Global,
+        driver: u32,
+        lines: &[EntryLine],
+    ) -> Result<Entered, StoreFault> {
+        enter(alloc, &mut self.conn, driver, lines)
+    }
+
+    fn withdraw(&mut self, alloc: Global, driver: u32, number: u32) -> Result<(), StoreFault> {
+        withdraw(alloc, &mut self.conn, driver, number)
+    }
+
     fn rebase(&mut self, driver: u32, base: Day) -> Result<(), StoreFault> {
         rebase(&mut self.conn, driver, base)
     }
 
     fn line(&mut self, alloc: Global, driver: u32) -> Result<Line, StoreFault> {
         line(alloc, &mut self.conn, driver)
+    }
+
+    fn entries(&mut self, alloc: Global, driver: u32) -> Result<Vec<Entry>, StoreFault> {
+        entries(alloc, &mut self.conn, driver)
     }
 
     fn download(&mut self, alloc: Global, driver: u32, number: u32) -> Result<Vec<u8>, StoreFault> {

@@ -16,6 +16,7 @@ ghost use Rattle.tacho_store.specs.Importing.{importer, IsImporterOf, IsImporter
 use crate::content::CardContent;
 use crate::fault::store_fault;
 use crate::finding::driver_with;
+use crate::near::{cards_near, helds_near};
 use crate::news::{News, news_of};
 use crate::spans::{line_of_stored, range_of, stored};
 use sqlite::{Alter, Connection, Transaction};
@@ -127,8 +128,8 @@ fn news_near<S: Alter>(
     ensures survives { Survives (state S.Store tx.old.conn.now) (state S.Store tx.new.conn.now) (λ _. ⊥) }
 {
     let (start, past) = range_of(spans);
-    let cards = card_spans::near(alloc, tx, driver, start, past).map_err(store_fault)?;
-    let helds = held::near(alloc, tx, driver, start, past).map_err(store_fault)?;
+    let cards = cards_near(alloc, tx, driver, start, past).map_err(store_fault)?;
+    let helds = helds_near(alloc, tx, driver, start, past).map_err(store_fault)?;
     let card_line = line_of_stored(alloc, &cards)?;
     let line = line_of_stored(alloc, &helds)?;
     news_of(alloc, &card_line, &line, spans)

@@ -5,16 +5,16 @@ ghost use Rattle.std.specs.Prelude.{◌≡◌, ◌↔◌, ℕ, ◌+◌, ◌++◌
 ghost use Rattle.sqlite.specs.Tree.{Trees};
 ghost use Rattle.tacho_time.specs.Spans.{Gives, IsCanonicalOf};
 ghost use Rattle.tacho_time.specs.declared.span.Span.{Span};
-ghost use Rattle.tacho_line.specs.Line.{AreGains};
+ghost use Rattle.tacho_line.specs.Line.{AreGains, IsWithin};
 ghost use Rattle.tacho_card.specs.declared.file.Part.{Part as PartValue};
 ghost use Rattle.tacho_state.specs.Content.{Tells, part_number};
-ghost use Rattle.tacho_state.specs.Disjoint.{Keeps, AreInRange, near};
-ghost use Rattle.tacho_state.specs.State.{Driver, State, Given, Held, driver_of, keyed, holding, download_from, put, with_base, with_download};
+ghost use Rattle.tacho_state.specs.Disjoint.{Keeps, AreInRange, near, outside};
+ghost use Rattle.tacho_state.specs.State.{Driver, Entry, State, Given, Held, AreFull, driver_of, keyed, holding, download_from, entry_from, entered_spans, put, with_base, with_download, with_batch, with_marked};
 ghost use Rattle.tacho_state.specs.Steps.{Content, file_of};
 ghost use Rattle.tacho_tables.specs.declared.rows.StoredSpan.{StoredSpan as StoredValue};
-ghost use Rattle.tacho_tables.specs.Rows.{DriverRow, DownloadRow};
-ghost use Rattle.tacho_tables.specs.Tables.{Tables, Stand, no_rows, has_number, has_secret, has_holder, is_download};
-ghost use Rattle.tacho_store.specs.Standing.{IsOf, SameRows, spans_of, driver_columns, with_driver, with_rebased, with_imported, stored_span, IsReadNear};
+ghost use Rattle.tacho_tables.specs.Rows.{DriverRow, DownloadRow, EntryRow};
+ghost use Rattle.tacho_tables.specs.Tables.{Tables, Stand, no_rows, has_number, has_secret, has_holder, is_download, is_entry, is_entry_of, with_withdrawn};
+ghost use Rattle.tacho_store.specs.Standing.{IsOf, SameRows, spans_of, driver_columns, with_driver, with_rebased, entry_row, entry_rows, with_imported, with_entered, with_renewed, stored_span, IsReadNear, IsKeptNear};
 
 /// What is stored stands for lists of rows in any order.
 pub fn any_order()
@@ -75,4 +75,32 @@ pub fn downloads_are_found()
         → (filter (is_download n number) t.downloads ≡ []) ↔ (download_from 1 number d.downloads ≡ None) }
     ensures some { (t : Tables) (s : State) (n number : ℕ) (d : Driver) (row : DownloadRow) → IsOf t s → driver_of n s ≡ Some d
         → Contains (filter (is_download n number) t.downloads) row → file_of (download_from 1 number d.downloads) ≡ Ok row.file }
+{}
+
+/// Entries are found in the tables by their numbers as in the state.
+pub fn entries_are_found()
+    ensures none { (t : Tables) (s : State) (n number : ℕ) (d : Driver) → IsOf t s → driver_of n s ≡ Some d
+        → (filter (is_entry n number) t.entries ≡ []) ↔ (entry_from 1 number d.entries ≡ None) }
+    ensures some { (t : Tables) (s : State) (n number : ℕ) (d : Driver) (row : EntryRow) → IsOf t s → driver_of n s ≡ Some d
+        → Contains (filter (is_entry n number) t.entries) row → (e : Entry) × (entry_from 1 number d.entries ≡ Some e) × (row ≡ entry_row n number e) }
+    ensures all { (t : Tables) (s : State) (n : ℕ) (d : Driver) → IsOf t s → driver_of n s ≡ Some d → filter (is_entry_of n) t.entries ≡ entry_rows n 1 d.entries }
+{}
+
+/// A batch of entries, on the tables: its rows are added, and its gains against held rows near it.
+pub fn entered_tables_stand()
+    ensures { (t : Tables) (s : State) (n : ℕ) (d : Driver) (batch : List Entry) (line gains : List Span) (start past : ℕ)
+        → IsOf t s → driver_of n s ≡ Some d → AreFull batch → AreInRange start past (entered_spans batch)
+        → IsCanonicalOf (Gives (near start past (spans_of n t.held))) line → AreGains line (entered_spans batch) gains
+        → IsOf (with_entered n (1 + length d.entries) (length d.entries + length batch) batch gains t) (put (with_batch batch d) s) }
+{}
+
+/// A withdrawal, on the tables: the entry's row is marked; of the driver's held rows those near the entry go, and their parts outside
+/// it come, with what card spans and the other entries near it give inside it.
+pub fn withdrawn_tables_stand()
+    ensures { (t : Tables) (s : State) (n : ℕ) (d : Driver) (number : ℕ) (e : Entry) (cards others helds : List StoredValue) (inside : List Span)
+        → IsOf t s → driver_of n s ≡ Some d → entry_from 1 number d.entries ≡ Some e
+        → IsReadNear t.card_spans n e.start e.past cards → IsKeptNear (map (with_withdrawn n number) t.entries) n e.start e.past others
+        → IsReadNear t.held n e.start e.past helds
+        → IsCanonicalOf (λ m k. IsWithin e.start e.past m × Gives (map stored_span cards ++ map stored_span others) m k) inside
+        → IsOf (with_renewed n number e.start e.past (outside e.start e.past (map stored_span helds) ++ inside) t) (put (with_marked number d) s) }
 {}

@@ -4,18 +4,22 @@
 mod archive;
 mod base;
 mod content;
+mod entering;
 mod fault;
 mod finding;
 mod import;
 pub mod laws;
+mod near;
 mod news;
 mod reading;
 mod registration;
 mod spans;
 #[cfg(test)]
 mod tests;
+mod withdrawal;
 
 pub use archive::{Archive, open_memory};
 pub use tacho_state::{
-    Caller, Column, Driver, Imported, Keeper, StoreFault, first_number, is_key, is_name,
+    Caller, Column, Driver, Entered, Entry, EntryLine, Imported, Keeper, StoreFault, first_number,
+    is_key, is_name,
 };

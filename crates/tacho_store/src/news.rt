@@ -1,6 +1,6 @@
-ghost use Rattle.std.specs.Prelude.{◌≡◌, ◌⊎◌, ℕ, [], MatchOption, MatchResult};
+ghost use Rattle.std.specs.Prelude.{◌≡◌, ◌⊎◌, ℕ, [], None, MatchOption, MatchResult};
 ghost use Rattle.tacho_time.specs.Spans.{IsCanonical};
-ghost use Rattle.tacho_line.specs.Line.{AreGains};
+ghost use Rattle.tacho_line.specs.Line.{AreGains, first_empty};
 ghost use Rattle.tacho_store.specs.News.{AreNews, IsContradicted, IsRefused};
 
 use std::alloc::Global;
@@ -43,8 +43,8 @@ pub fn news_of(
 }
 
 /// The gains of spans against a line; S6 where they contradict it.
-fn gains_of(alloc: Global, line: &Line, spans: &[Span]) -> Result<Vec<Span>, StoreFault>
-    requires { IsCanonical spans.now }
+pub fn gains_of(alloc: Global, line: &Line, spans: &[Span]) -> Result<Vec<Span>, StoreFault>
+    requires { first_empty spans.now ≡ None }
     ensures { MatchResult result (λ gains. AreGains line.now spans.now gains.items) (λ fault. (fault ≡ StoreFault.Memory) ⊎ IsContradicted line.now spans.now fault) }
 {
     match line.gains(alloc, spans) {
@@ -53,7 +53,7 @@ fn gains_of(alloc: Global, line: &Line, spans: &[Span]) -> Result<Vec<Span>, Sto
     }
 }
 
-/// The fault of an archive by that of a line to which canonical spans were to be added.
+/// The fault of an archive by that of a line to which spans were to be added, none of which is empty.
 fn fault_of_line(fault: LineFault) -> StoreFault
     ensures contradiction { (m : ℕ) → fault ≡ LineFault.Contradiction m → result ≡ StoreFault.Contradiction m }
     ensures memory { fault ≡ LineFault.Memory → result ≡ StoreFault.Memory }

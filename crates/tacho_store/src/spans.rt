@@ -2,12 +2,12 @@ ghost use Rattle.std.specs.Prelude.{◌≡◌, ◌⊎◌, ◌↔◌, ◌<◌, �
 ghost use Rattle.tacho_time.specs.Spans.{Gives, IsCanonical, IsCanonicalOf};
 ghost use Rattle.tacho_state.specs.Disjoint.{AreInRange};
 ghost use Rattle.tacho_tables.specs.Tables.{row_of};
-ghost use Rattle.tacho_store.specs.Standing.{activity_number, mark_number, numbered_activity, numbered_mark, stored_span, span_row};
+ghost use Rattle.tacho_store.specs.Standing.{activity_number, mark_number, numbered_activity, numbered_mark, stored_span, span_row, listed_as};
 
 use std::alloc::{AllocError, Global};
 use tacho_line::Line;
-use tacho_state::{StoreFault, line_of};
-use tacho_tables::StoredSpan;
+use tacho_state::{Entry, EntryLine, StoreFault, line_of};
+use tacho_tables::{StoredEntry, StoredSpan};
 use tacho_time::{Activity, Mark, Minute, Span, SpanFault};
 
 /// The last number of a minute.
@@ -60,7 +60,7 @@ fn mark_of(number: u32) -> Option<Mark>
 }
 
 /// The minute with this number, if there is one.
-fn minute_of(number: u32) -> Option<Minute>
+pub fn minute_of(number: u32) -> Option<Minute>
     ensures some { IfSome result (λ minute. minute ≡ number) }
     ensures none { IsNone result ↔ (LAST < number) }
 {
@@ -82,7 +82,7 @@ fn span_of(row: &StoredSpan) -> Option<Span>
 }
 
 /// The spans of stored rows; a row that no archive writes is a fault of the store.
-fn spans_of(alloc: Global, rows: &[StoredSpan]) -> Result<Vec<Span>, StoreFault>
+pub fn spans_of(alloc: Global, rows: &[StoredSpan]) -> Result<Vec<Span>, StoreFault>
     ensures spans { IfOk result (λ spans. spans.items ≡ map stored_span rows.now) }
     ensures fault { IfErr result (λ fault. (fault ≡ StoreFault.Memory) ⊎ (fault ≡ StoreFault.Store)) }
 {
@@ -97,7 +97,7 @@ fn spans_of(alloc: Global, rows: &[StoredSpan]) -> Result<Vec<Span>, StoreFault>
 }
 
 /// The fault of stored rows whose spans have that fault.
-fn fault_of_rows(fault: SpanFault) -> StoreFault
+pub fn fault_of_rows(fault: SpanFault) -> StoreFault
     ensures { (result ≡ StoreFault.Memory) ⊎ (result ≡ StoreFault.Store) }
 {
     match fault {
@@ -117,6 +117,36 @@ pub fn line_of_stored(alloc: Global, rows: &[StoredSpan]) -> Result<Line, StoreF
         Ok(line) => Ok(line),
         Err(fault) => Err(fault_of_rows(fault)),
     }
+}
+
+/// The entry of a stored row, where an archive writes such a row.
+fn listed_entry(row: &StoredEntry) -> Option<Entry>
+    ensures { IfSome result (λ entry. entry ≡ listed_as row.now) }
+{
+    Some(Entry {
+        number: row.number,
+        line: EntryLine {
+            start: minute_of(row.start)?,
+            past: minute_of(row.past)?,
+            activity: activity_of(row.mark),
+        },
+        withdrawn: row.withdrawn != 0,
+    })
+}
+
+/// The entries of stored rows; a row that no archive writes is a fault of the store.
+pub fn listed_entries(alloc: Global, rows: &[StoredEntry]) -> Result<Vec<Entry>, StoreFault>
+    ensures entries { IfOk result (λ entries. entries.items ≡ map listed_as rows.now) }
+    ensures fault { IfErr result (λ fault. (fault ≡ StoreFault.Memory) ⊎ (fault ≡ StoreFault.Store)) }
+{
+    let mut entries = Vec::new(alloc);
+    for row in rows {
+        let Some(entry) = listed_entry(row) else {
+            return Err(StoreFault::Store);
+        };
+        entries.push(entry)?;
+    }
+    Ok(entries)
 }
 
 /// A span as it is stored.

@@ -1,6 +1,12 @@
 use Rattle.std.proofs.Common.{sym}
-use Rattle.tacho_store.proofs.NewsLemmas.{handed_on, some_first, are_news, is_new}
+use Rattle.tacho_store.proofs.NewsLemmas.{none_empty, handed_on, some_first, are_news, is_new}
 use Rattle.tacho_store.proofs.news.news_of.Goals as goal
+
+pub gains_of-requires : goal.gains_of-requires
+gains_of-requires c = none_empty 0 c.args.spans.now c.requires
+
+pub gains_of-requires-in-Err-Contradiction : goal.gains_of-requires-in-Err-Contradiction
+gains_of-requires-in-Err-Contradiction c = none_empty 0 c.args.spans.now c.requires
 
 pub returns-in_err-gains_of-in-Ok-2 : goal.returns-in_err-gains_of-in-Ok-2
 returns-in_err-gains_of-in-Ok-2 c =

@@ -1,0 +1,278 @@
+-- What a batch gives, what entering it answers, and what its writes stand for.
+use Rattle.std.proofs.Common.{◌≡◌, ◌∙◌, ℕ, zero, suc, ◌+◌, ◌-◌, ◌<◌, ◌≤◌, ◌⊎◌, inl, inr, Bool, true, false, cond, List, [], ◌∷◌, length, map, Some, None, Result, Ok, Err, refl, sym, ap, subst, arith}
+use Rattle.std.specs.Prelude.{MatchResult, IsErr, IsErrAnd, nat_le}
+use Rattle.std.specs.List.{slice_get, slice_index_or, AllByRecursion}
+use Rattle.std.proofs.lemmas.Bool.Decides.{nat_tests}
+use Rattle.std.proofs.lemmas.List.Elements.{recursion_from_All}
+use Rattle.std.proofs.lemmas.Option.{slice_get_within, get_or_from_slice_get}
+use Rattle.sqlite.specs.Effect.{Database}
+use Rattle.sqlite.specs.State.{State as Sqlite, IsUnchanged}
+use Rattle.sqlite.specs.Tree.{Trees}
+use Rattle.tacho_time.specs.declared.span.Span.{Span}
+use Rattle.tacho_time.specs.declared.span.Mark.{Mark}
+use Rattle.tacho_time.specs.Spans.{Gives, IsCanonicalOf}
+use Rattle.tacho_line.specs.Line.{empty_from, first_empty, AreGains}
+use Rattle.tacho_state.specs.declared.fault.StoreFault.{StoreFault}
+use Rattle.tacho_state.specs.declared.fault.StoreFault.TheVariants.{Memory, Store, UnknownDriver, Full}
+use Rattle.tacho_state.specs.declared.entry.EntryLine.{EntryLine}
+use Rattle.tacho_state.specs.Acts.{Answers}
+use Rattle.tacho_state.specs.Batch.{IsEntryLine, AreInOrder, IsBatch, entry_of, batch_of}
+use Rattle.tacho_state.specs.Disjoint.{AreInRange, near}
+use Rattle.tacho_state.specs.Limits.{next_number}
+use Rattle.tacho_state.specs.State.{Driver, Entry, State, AreFull, driver_of, entry_span, entered_spans, put, with_batch}
+use Rattle.tacho_state.specs.Steps.{Turn, settled, enter_own, entered, most}
+use Rattle.tacho_state.proofs.StepLemmas.{contradicted_batch, entered_batch, full_batch}
+use Rattle.tacho_tables.specs.declared.rows.StoredSpan.{StoredSpan}
+use Rattle.tacho_tables.specs.Rows.{SpanRow, EntryRow}
+use Rattle.tacho_tables.specs.Tables.{Tables, Stand, entered_rows, row_of}
+use Rattle.tacho_store.specs.Standing.{StandsFor, IsOf, activity_number, spans_of, span_row, entry_row, entry_rows, stored_span}
+use Rattle.tacho_store.specs.Entering.{AreNumbered, batched}
+use Rattle.tacho_store.specs.Finding.{Refuses}
+use Rattle.tacho_store.specs.News.{IsContradicted}
+use Rattle.tacho_store.proofs.ApartLemmas.{held_apart}
+use Rattle.tacho_store.proofs.DecisionLemmas.{AreRead}
+use Rattle.tacho_store.proofs.EntryLemmas.{entered_is}
+use Rattle.tacho_store.proofs.FoundLemmas.{handed_on}
+use Rattle.tacho_store.proofs.JoinLemmas.{batch_stands}
+use Rattle.tacho_store.proofs.NearRowLemmas.{read_line, held_kept}
+
+-- ---- the spans of a batch's lines
+
+-- there are as many as entries
+pub spans_counted : (lines : List EntryLine) → length (entered_spans (batch_of lines)) ≡ length (batch_of lines)
+spans_counted [] = refl
+spans_counted (l ∷ ls) = ap suc (spans_counted ls)
+
+-- and as lines
+pub lines_counted : (lines : List EntryLine) → length (entered_spans (batch_of lines)) ≡ length lines
+lines_counted [] = refl
+lines_counted (l ∷ ls) = ap suc (lines_counted ls)
+
+-- none is empty
+full_lines : (lines : List EntryLine) → AllByRecursion IsEntryLine lines → AreFull (batch_of lines)
+full_lines [] h = tt
+full_lines (l ∷ ls) h = (h.0.full, full_lines ls h.1)
+
+pub batch_full : (lines : List EntryLine) → IsBatch lines → AreFull (batch_of lines)
+batch_full lines h = full_lines lines (recursion_from_All IsEntryLine lines h.each)
+
+none_empty_from : (place : ℕ) (lines : List EntryLine) → AllByRecursion IsEntryLine lines
+    → empty_from place (entered_spans (batch_of lines)) ≡ None
+none_empty_from place [] h = refl
+none_empty_from place (l ∷ ls) h =
+    let start = l.start in
+    let past = l.past in
+    let some = h.0.full in
+    let full : nat_le past start ≡ false = grind (arith, nat_tests) in
+    ap (λ b. cond b (Some place) (empty_from (place + 1) (entered_spans (batch_of ls)))) full ∙ none_empty_from (place + 1) ls h.1
+
+pub none_empty_line : (lines : List EntryLine) → IsBatch lines → first_empty (entered_spans (batch_of lines)) ≡ None
+none_empty_line lines h = none_empty_from 0 lines (recursion_from_All IsEntryLine lines h.each)
+
+-- no minute is before the start of the first
+first_line : (l : EntryLine) (ls : List EntryLine) (m : ℕ) (k : Mark) → AllByRecursion IsEntryLine (l ∷ ls) → AreInOrder (l ∷ ls)
+    → Gives (entered_spans (batch_of (l ∷ ls))) m k → l.start ≤ m
+first_line l ls m k h o (inl c) = c.0.0
+first_line l [] m k h o (inr g) = absurd g
+first_line l (next ∷ ls) m k h o (inr g) =
+    let more = first_line next ls m k h.1 o.1 g in
+    let full = h.0.full in
+    let apart = o.0 in
+    omega (arith, more, full, apart)
+
+-- and all are before the past of the last
+last_line : (lines : List EntryLine) (i m : ℕ) (k : Mark) (none : EntryLine) → AllByRecursion IsEntryLine lines → AreInOrder lines
+    → length lines ≡ i + 1 → Gives (entered_spans (batch_of lines)) m k → m < (slice_index_or lines i none).past
+last_line [] i m k none h o e g = absurd g
+last_line (l ∷ []) zero m k none h o e (inl c) = c.0.1
+last_line (l ∷ []) zero m k none h o e (inr g) = absurd g
+last_line (l ∷ []) (suc i) m k none h o e g = absurd (omega (arith, e))
+last_line (l ∷ next ∷ ls) zero m k none h o e g = absurd (omega (arith, e))
+last_line (l ∷ next ∷ ls) (suc i) m k none h o e (inl c) =
+    let start = next.start in
+    let full = h.1.0.full in
+    let more = last_line (next ∷ ls) i start (entry_span (entry_of next)).mark none h.1 o.1 (omega (arith, e))
+    (inl ((omega arith, full), refl)) in
+    let apart = o.0 in
+    let before = c.0.1 in
+    omega (arith, more, apart, before)
+last_line (l ∷ next ∷ ls) (suc i) m k none h o e (inr g) = last_line (next ∷ ls) i m k none h.1 o.1 (omega (arith, e)) g
+
+-- so the range from the first start to the last past has them all
+pub lines_in_range : (lines : List EntryLine) (first last : EntryLine) → IsBatch lines → slice_get lines 0 ≡ Some first
+    → slice_get lines (length lines - 1) ≡ Some last → AreInRange first.start last.past (entered_spans (batch_of lines))
+lines_in_range lines first last h from to m k g =
+    let all = recursion_from_All IsEntryLine lines h.each in
+    let some = slice_get_within lines 0 first from in
+    let end = get_or_from_slice_get lines (length lines - 1) last last to in (
+      begins lines all h.order from g,
+      subst (λ (l : EntryLine). m < l.past) end (last_line lines (length lines - 1) m k last all h.order (omega (arith, some)) g),
+    ) where
+      begins : (ls : List EntryLine) → AllByRecursion IsEntryLine ls → AreInOrder ls → slice_get ls 0 ≡ Some first
+          → Gives (entered_spans (batch_of ls)) m k → first.start ≤ m
+      begins [] all order from g = absurd g
+      begins (l ∷ ls) all order from g =
+          let same : l ≡ first = (let both = from in cc) in
+          subst (λ (x : EntryLine). x.start ≤ m) same (first_line l ls m k all order g)
+
+-- ---- the rows of a batch
+
+-- stored rows of the spans are, numbered, those of the entries
+abbrev entry_as : ℕ → SpanRow → EntryRow
+entry_as i x = record { driver = x.driver; number = i; start = x.start; past = x.past; mark = x.mark; withdrawn = 0 }
+
+entry_as_is : (n i : ℕ) (l : EntryLine) → entry_as i (span_row n (entry_span (entry_of l))) ≡ entry_row n i (entry_of l)
+entry_as_is n i l =
+    let same : activity_number l.activity + 0 ≡ activity_number l.activity = omega arith in
+    ap (λ (k : ℕ). record { driver = n; number = i; start = l.start; past = l.past; mark = k; withdrawn = 0 }) same
+
+pub rows_entered : (n i : ℕ) (lines : List EntryLine) (rows : List StoredSpan)
+    → map (row_of n) rows ≡ map (span_row n) (entered_spans (batch_of lines)) → entered_rows n i rows ≡ entry_rows n i (batch_of lines)
+rows_entered n i [] [] e = refl
+rows_entered n i [] (r ∷ rows) e = absurd (let wrong = e in cc)
+rows_entered n i (l ∷ ls) [] e = absurd (let wrong = e in cc)
+rows_entered n i (l ∷ ls) (r ∷ rows) e =
+    let head : row_of n r ≡ span_row n (entry_span (entry_of l)) = (let both = e in cc) in
+    let tail : map (row_of n) rows ≡ map (span_row n) (entered_spans (batch_of ls)) = (let both = e in cc) in
+    ap (λ (x : EntryRow). x ∷ entered_rows n (i + 1) rows) (ap (entry_as i) head ∙ entry_as_is n i l)
+    ∙ ap (λ (x : List EntryRow). entry_row n i (entry_of l) ∷ x) (rows_entered n (i + 1) ls rows tail)
+
+-- and there are as many
+pub rows_counted : (n : ℕ) (rows : List StoredSpan) (spans : List Span) → map (row_of n) rows ≡ map (span_row n) spans
+    → length rows ≡ length spans
+rows_counted n [] [] e = refl
+rows_counted n [] (s ∷ spans) e = absurd (let wrong = e in cc)
+rows_counted n (r ∷ rows) [] e = absurd (let wrong = e in cc)
+rows_counted n (r ∷ rows) (s ∷ spans) e =
+    let tail : map (row_of n) rows ≡ map (span_row n) spans = (let both = e in cc) in ap suc (rows_counted n rows spans tail)
+
+-- ---- numbers
+
+-- where numbers are given out there are enough, and the first is the next one
+pub numbers_left : (given count first : ℕ) → next_number given count ≡ Some first → (given + count ≤ most) × (first ≡ 1 + given)
+numbers_left given count first is = go (nat_le (given + count) 1000000) refl is where
+  go : (b : Bool) → nat_le (given + count) 1000000 ≡ b → cond b (Some (given + 1)) None ≡ Some first
+      → (given + count ≤ most) × (first ≡ 1 + given)
+  go true room e = (grind (arith, nat_tests), (let both : given + 1 ≡ first = (let same = e in cc) in omega (arith, both)))
+  go false full e = absurd (let same = e in cc)
+
+-- and where none are there are too few
+pub no_numbers : (given count : ℕ) → next_number given count ≡ None → most < given + count
+no_numbers given count is = go (nat_le (given + count) 1000000) refl is where
+  go : (b : Bool) → nat_le (given + count) 1000000 ≡ b → cond b (Some (given + 1)) None ≡ None → most < given + count
+  go true room e = absurd (let same = e in cc)
+  go false full e = grind (arith, nat_tests)
+
+-- ---- what is near a batch decides it
+
+module _ (db : Trees) (s : State) (n : ℕ) (d : Driver) (a b : ℕ) (lines : List EntryLine) (is : driver_of n s ≡ Some d)
+    (batch : IsBatch lines) (within : AreInRange a b (entered_spans (batch_of lines))) (t : Tables) (stand : Stand db t)
+    (of : IsOf t s) (line : List Span) (held_near : IsCanonicalOf (Gives (near a b (spans_of n t.held))) line) where
+  -- it goes in
+  are_numbered : (gains : List Span) → AreGains line (entered_spans (batch_of lines)) gains → AreNumbered db s n d (batch_of lines) gains
+  are_numbered gains gained =
+      let held = held_kept t s n d of is in
+      record {
+        numbered = λ room. entered_batch d (batch_of lines) (spans_of n t.held) line gains a b held within held_near gained room;
+        full = λ over. full_batch d (batch_of lines) (spans_of n t.held) line gains a b held within held_near gained over;
+        stands = λ next written. batch_stands next n (1 + length d.entries) (length d.entries + length (batch_of lines))
+            (batch_of lines) gains t (put (with_batch (batch_of lines) d) s) (written t stand)
+            (entered_is t s n d (batch_of lines) line gains a b of is (batch_full lines batch) within held_near gained);
+      }
+
+  -- or it is refused
+  is_refused : (fault : StoreFault) → (fault ≡ Memory) ⊎ IsContradicted line (entered_spans (batch_of lines)) fault
+      → Refuses fault (enter_own (batch_of lines) d)
+  is_refused fault (inl e) = subst (λ (f : StoreFault). Refuses f (enter_own (batch_of lines) d)) (sym e) tt
+  is_refused fault (inr c) = subst (λ (f : StoreFault). Refuses f (enter_own (batch_of lines) d)) (sym c.1)
+      (contradicted_batch d (batch_of lines) (spans_of n t.held) line a b c.0 (held_kept t s n d of is) within held_near c.2)
+
+  -- by what its gains are
+  by_gains : {V : Type 0} (items : V → List Span) (r : Result V StoreFault)
+      → MatchResult r (λ gains. AreGains line (entered_spans (batch_of lines)) (items gains))
+      (λ fault. (fault ≡ Memory) ⊎ IsContradicted line (entered_spans (batch_of lines)) fault)
+      → MatchResult r (λ gains. AreNumbered db s n d (batch_of lines) (items gains)) (λ fault. Refuses fault (enter_own (batch_of lines) d))
+  by_gains items (Ok gains) h = are_numbered (items gains) h
+  by_gains items (Err fault) h = is_refused fault h
+
+-- by the rows that were read near it
+pub gained : (db : Trees) (s : State) (n : ℕ) (d : Driver) (a b : ℕ) (lines : List EntryLine) (spans : List Span)
+    (helds : List StoredSpan) (line : List Span) {V : Type 0} (items : V → List Span) (r : Result V StoreFault) → StandsFor db s
+    → driver_of n s ≡ Some d → IsBatch lines → spans ≡ entered_spans (batch_of lines)
+    → AreInRange a b (entered_spans (batch_of lines)) → AreRead (λ t. t.held) db n a b helds
+    → IsCanonicalOf (Gives (map stored_span helds)) line
+    → MatchResult r (λ gains. AreGains line spans (items gains)) (λ fault. (fault ≡ Memory) ⊎ IsContradicted line spans fault)
+    → MatchResult r (λ gains. AreNumbered db s n d (batch_of lines) (items gains)) (λ fault. Refuses fault (enter_own (batch_of lines) d))
+unfolding StandsFor
+gained db s n d a b lines spans helds line items r (t, stand, of) is batch same within read canonical h =
+    by_gains db s n d a b lines is batch within t stand of line (read_line t.held n a b helds line (read t stand (held_apart t s n d of is)) canonical) items r
+    (subst (λ (x : List Span). MatchResult r (λ gains. AreGains line x (items gains)) (λ fault. (fault ≡ Memory) ⊎ IsContradicted line x fault))
+    same h)
+
+-- what is new of it stays so while nothing changes
+pub still_numbered : (old now : Sqlite) (s : State) (n : ℕ) (d : Driver) (batch : List Entry) (gains : List Span) → IsUnchanged old now
+    → AreNumbered old.now.trees s n d batch gains → AreNumbered now.now.trees s n d batch gains
+still_numbered old now s n d batch gains same = subst (λ (w : Database). AreNumbered w.trees s n d batch gains) (sym same.0.now_is)
+
+-- ---- what the step answers
+
+module _ (db : Trees) (s : State) (n : ℕ) (d : Driver) (lines : List EntryLine) (gains : List Span)
+    (new : AreNumbered db s n d (batch_of lines) gains) (given : ℕ) (is : given ≡ length d.entries)
+    (spans : List Span) (all : spans ≡ entered_spans (batch_of lines)) where
+  -- there are as many spans as entries
+  counted : length spans ≡ length (batch_of lines)
+  counted = ap length all ∙ spans_counted lines
+
+  -- S14
+  pub too_many : most < given + length spans → (settled s (enter_own (batch_of lines) d)).answer ≡ Err Full
+  too_many over = ap (λ r. (settled s r).answer) (new.full (let a = is in let b = counted in omega (arith, a, b, over)))
+
+  -- the batch's own step
+  own : given + length spans ≤ most → enter_own (batch_of lines) d ≡ Ok (1 + length d.entries, with_batch (batch_of lines) d)
+  own room = new.numbered (let a = is in let b = counted in omega (arith, a, b, room))
+
+  -- it is numbered on
+  pub batch_answer : (first : ℕ) → given + length spans ≤ most → first ≡ 1 + given
+      → (settled s (enter_own (batch_of lines) d)).answer ≡ Ok first
+  batch_answer first room next = ap (λ r. (settled s r).answer) (own room)
+      ∙ ap Ok (let a = is in (let same : 1 + length d.entries ≡ first = omega (arith, a, next) in same))
+
+  -- and what its writes leave stands for the state after it
+  pub batch_written : (first count : ℕ) (rows helds : List StoredSpan) (next : Trees) → given + length spans ≤ most → first ≡ 1 + given
+      → count ≡ given + length spans
+      → map (row_of n) rows ≡ map (span_row n) spans → map (row_of n) helds ≡ map (span_row n) gains
+      → ((t : Tables) → Stand db t → Stand next (batched n count (entered_rows n first rows) (map (row_of n) helds) t))
+      → StandsFor next (settled s (enter_own (batch_of lines) d)).after
+  batch_written first count rows helds next room one counts same_rows same_helds written =
+      let first_is : first ≡ 1 + length d.entries = (let a = is in omega (arith, a, one)) in
+      let count_is : count ≡ length d.entries + length (batch_of lines) = (let a = is in let b = counted in omega (arith, a, b, counts)) in
+      let entries_are : entered_rows n first rows ≡ entry_rows n (1 + length d.entries) (batch_of lines) =
+      ap (λ i. entered_rows n i rows) first_is
+      ∙ rows_entered n (1 + length d.entries) lines rows (same_rows ∙ ap (λ (x : List Span). map (span_row n) x) all) in
+      subst (λ (x : State). StandsFor next x) (sym (ap (λ r. (settled s r).after) (own room)))
+      (new.stands next (λ t stand. subst (λ (x : List SpanRow). Stand next
+      (batched n (length d.entries + length (batch_of lines)) (entry_rows n (1 + length d.entries) (batch_of lines)) x t)) same_helds
+      (subst (λ (x : List EntryRow). Stand next (batched n (length d.entries + length (batch_of lines)) x (map (row_of n) helds) t)) entries_are
+      (subst (λ (x : ℕ). Stand next (batched n x (entered_rows n first rows) (map (row_of n) helds) t)) count_is (written t stand)))))
+
+-- ---- the driver's step
+
+-- S4
+pub nobody_enters : (n : ℕ) (s : State) (batch : List Entry) → driver_of n s ≡ None → (entered n batch s).answer ≡ Err UnknownDriver
+nobody_enters n s batch none = rw none refl
+
+-- the step is the driver's
+pub enters : (n : ℕ) (s : State) (batch : List Entry) (d : Driver) → driver_of n s ≡ Some d
+    → entered n batch s ≡ settled s (enter_own batch d)
+enters n s batch d some = rw some refl
+
+-- a fault that is handed on answers the batch
+pub handed_refusal : {A : Type 0} (view : A → ℕ) (n : ℕ) (s : State) (batch : List Entry) (d : Driver) (fault : StoreFault)
+    (r : Result A StoreFault) → driver_of n s ≡ Some d → Refuses fault (enter_own batch d)
+    → IsErr r × IsErrAnd r (λ found. found ≡ fault) → Answers view r (entered n batch s).answer
+handed_refusal view n s batch d fault r some h = handed_on view fault r (entered n batch s).answer
+    (subst (λ (x : Turn ℕ). Refuses fault x.answer) (sym (enters n s batch d some)) (go fault h)) where
+      go : (f : StoreFault) → Refuses f (enter_own batch d) → Refuses f (settled s (enter_own batch d)).answer
+      go Memory h = tt
+      go Store h = tt
+      go f h = ap (λ o. (settled s o).answer) h

@@ -1,0 +1,5 @@
+use Rattle.tacho_store.proofs.EntryLemmas.{entered_is}
+use Rattle.tacho_store.proofs.laws.entered_tables_stand.Goals as goal
+
+pub returns : goal.returns
+returns c = entered_is

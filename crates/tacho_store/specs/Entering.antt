@@ -1,0 +1,27 @@
+-- What entering a batch is made of: what it adds to what the driver holds, and its rows.
+use Rattle.std.specs.Prelude.{◌≡◌, ℕ, ◌+◌, ◌<◌, ◌≤◌, ◌++◌, List, map, length, Ok, Err}
+use Rattle.sqlite.specs.Tree.{Trees}
+use Rattle.tacho_time.specs.declared.span.Span.{Span}
+use Rattle.tacho_state.specs.declared.fault.StoreFault.TheVariants.{Full}
+use Rattle.tacho_state.specs.State.{Driver, Entry, State, put, with_batch}
+use Rattle.tacho_state.specs.Steps.{enter_own, most}
+use Rattle.tacho_tables.specs.Rows.{SpanRow, EntryRow}
+use Rattle.tacho_tables.specs.Tables.{Tables, Stand, with_entries}
+use Rattle.tacho_store.specs.Standing.{StandsFor, entry_rows, span_row}
+
+-- the tables as the writes of a batch leave them: the count of the driver's entries, and rows in front of what was there
+abbrev pub batched : ℕ → ℕ → List EntryRow → List SpanRow → Tables → Tables
+batched n count rows helds t = record t {
+  drivers = map (with_entries n count) t.drivers;
+  entries = rows ++ t.entries;
+  held = helds ++ t.held;
+}
+
+-- the driver's batch, of which these are new to what he holds: it goes in where there are numbers for all its lines, and with its rows
+-- in the tables they stand for the state after it
+pub record AreNumbered (db : Trees) (s : State) (n : ℕ) (d : Driver) (batch : List Entry) (gains : List Span) : Type 0 where
+  pub numbered : length d.entries + length batch ≤ most → enter_own batch d ≡ Ok (1 + length d.entries, with_batch batch d)
+  pub full : most < length d.entries + length batch → enter_own batch d ≡ Err Full
+  pub stands : (next : Trees)
+      → ((t : Tables) → Stand db t → Stand next (batched n (length d.entries + length batch) (entry_rows n (1 + length d.entries) batch) (map (span_row n) gains) t))
+      → StandsFor next (put (with_batch batch d) s)

@@ -1,0 +1,42 @@
+-- What a withdrawal is made of: the entry, and the rows that come where it was.
+use Rattle.std.specs.Prelude.{◌≡◌, ℕ, ◌++◌, List, map, false, Some, Result, Ok, Err}
+use Rattle.tacho_time.specs.declared.span.Span.{Span}
+use Rattle.tacho_time.specs.Spans.{Gives, IsCanonicalOf}
+use Rattle.tacho_line.specs.Line.{IsWithin}
+use Rattle.tacho_state.specs.declared.fault.StoreFault.{StoreFault}
+use Rattle.tacho_state.specs.Disjoint.{outside}
+use Rattle.tacho_state.specs.State.{Driver, Entry, State, driver_of, entry_from}
+use Rattle.tacho_state.specs.Steps.{withdrawn}
+use Rattle.tacho_tables.specs.declared.rows.StoredSpan.{StoredSpan}
+use Rattle.tacho_tables.specs.declared.rows.StoredEntry.{StoredEntry}
+use Rattle.tacho_tables.specs.Tables.{Tables, row_of, entry_of, with_withdrawn}
+use Rattle.tacho_store.specs.Standing.{span_row, stored_span, entry_row, IsReadNear, IsKeptNear}
+use Rattle.tacho_store.specs.Finding.{Refuses}
+
+-- a driver's entry that is not withdrawn, as it is stored
+pub record IsThere (s : State) (n number : ℕ) (it : StoredEntry) (d : Driver) (e : Entry) : Type 0 where
+  pub driver : driver_of n s ≡ Some d
+  pub entry : entry_from 1 number d.entries ≡ Some e
+  pub kept : e.withdrawn ≡ false
+  pub row : it ≡ entry_of (entry_row n number e)
+
+-- the entry is there and not withdrawn; or the withdrawal is refused: S4, S7, S8; or a call gave up
+unfoldable pub IsEntry : State → ℕ → ℕ → Result StoredEntry StoreFault → Type 0
+IsEntry s n number (Ok it) = (d : Driver) × (e : Entry) × IsThere s n number it d e
+IsEntry s n number (Err fault) = Refuses fault (withdrawn n number s).answer
+
+-- rows of what lies outside a range of held spans, and of what card spans and entries give inside it
+pub record AreRowsFor (cards others helds : List StoredSpan) (start past : ℕ) (rows : List StoredSpan) : Type 0 where
+  pub inside : List Span
+  pub given : IsCanonicalOf (λ m k. IsWithin start past m × Gives (map stored_span cards ++ map stored_span others) m k) inside
+  pub all : (n : ℕ) → map (row_of n) rows ≡ map (span_row n) (outside start past (map stored_span helds) ++ inside)
+
+-- rows that come where a driver's entry was, by what the tables keep near it
+pub record AreRenewed (t : Tables) (n number start past : ℕ) (rows : List StoredSpan) : Type 0 where
+  pub cards : List StoredSpan
+  pub others : List StoredSpan
+  pub helds : List StoredSpan
+  pub cards_near : IsReadNear t.card_spans n start past cards
+  pub others_near : IsKeptNear (map (with_withdrawn n number) t.entries) n start past others
+  pub helds_near : IsReadNear t.held n start past helds
+  pub are_rows : AreRowsFor cards others helds start past rows

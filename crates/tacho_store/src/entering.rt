@@ -1,0 +1,199 @@
+ghost use Rattle.std.specs.Prelude.{◌≡◌, ℕ, ◌+◌, ◌<◌, ◌≤◌, ◌^◌, ◌∷◌, ◌++◌, None, Some, List, length, map, false, IsTrue, IfOk, OnOk, MatchResult};
+ghost use Rattle.sqlite.specs.State.{HasCleanDisk, Survives, KeepsCommit, IsUnchanged};
+ghost use Rattle.sqlite.specs.Held.{state};
+ghost use Rattle.tacho_line.specs.Line.{first_empty};
+ghost use Rattle.tacho_state.specs.Batch.{IsBatch, entry_of, batch_of};
+ghost use Rattle.tacho_state.specs.Disjoint.{AreInRange};
+ghost use Rattle.tacho_state.specs.State.{Driver, Entry, State, driver_of, entry_span, entered_spans};
+ghost use Rattle.tacho_state.specs.Steps.{settled, enter_own, entered};
+ghost use Rattle.tacho_state.specs.Acts.{Acts, Answers};
+ghost use Rattle.tacho_tables.specs.Schema.{archive_schema};
+ghost use Rattle.tacho_tables.specs.Tables.{Turns, entered_rows, row_of};
+ghost use Rattle.tacho_store.specs.Standing.{StandsFor};
+ghost use Rattle.tacho_store.specs.Kept.{Shows, Leaves, IsAnswered};
+ghost use Rattle.tacho_store.specs.Finding.{Refuses};
+ghost use Rattle.tacho_store.specs.Entering.{AreNumbered, batched};
+
+use crate::fault::store_fault;
+use crate::finding::driver_with;
+use crate::near::helds_near;
+use crate::news::gains_of;
+use crate::spans::{line_of_stored, stored};
+use sqlite::{Alter, Connection, Transaction};
+use std::alloc::{AllocError, Global};
+use tacho_state::{Entered, EntryLine, StoreFault, first_number};
+use tacho_tables::{StoredSpan, TableFault, drivers, entries, held};
+use tacho_time::{Mark, Span};
+
+/// What a line gives: nobody drives with him.
+fn span_of_line(line: &EntryLine) -> Span
+    ensures { result ≡ entry_span (entry_of line.now) }
+{
+    Span {
+        start: line.start,
+        past: line.past,
+        mark: Mark {
+            activity: line.activity,
+            crew: false,
+        },
+    }
+}
+
+/// What the lines of a batch give, a span for each.
+fn spans_of_lines(alloc: Global, lines: &[EntryLine]) -> Result<Vec<Span>, AllocError>
+    ensures { IfOk result (λ spans. spans.items ≡ entered_spans (batch_of lines.now)) }
+{
+    let mut spans = Vec::new(alloc);
+    for line in lines {
+        spans.push(span_of_line(line))?;
+    }
+    Ok(spans)
+}
+
+/// From the first minute of a batch to before its last past, or from 0 to before 0 where it has no lines.
+fn range_of_lines(lines: &[EntryLine]) -> (u32, u32)
+    requires { IsBatch lines.now }
+    ensures { AreInRange result.0 result.1 (entered_spans (batch_of lines.now)) }
+{
+    match (lines.first(), lines.last()) {
+        (Some(first), Some(last)) => (first.start.number(), last.past.number()),
+        _ => (0, 0),
+    }
+}
+
+/// What a batch gives that the driver doesn't hold, by the rows near it: S6.
+fn gains_near<S: Alter>(
+    alloc: Global,
+    tx: &mut Transaction<'_, S>,
+    driver: u32,
+    lines: &[EntryLine],
+    spans: &[Span],
+) -> Result<Vec<Span>, StoreFault>
+    requires batch { IsBatch lines.now }
+    requires spans { spans.now ≡ entered_spans (batch_of lines.now) }
+    ensures same_reference { tx.new.conn.ghost_name ≡ tx.old.conn.ghost_name }
+    ensures gained { HasCleanDisk (state S.Store tx.new.conn.now) → (state S.Store tx.old.conn.now).now.schema ≡ archive_schema → (s : State) → StandsFor (state S.Store tx.old.conn.now).now.trees s
+        → (d : Driver) → driver_of driver s ≡ Some d
+        → MatchResult result (λ gains. AreNumbered (state S.Store tx.old.conn.now).now.trees s driver d (batch_of lines.now) gains.items) (λ fault. Refuses fault (enter_own (batch_of lines.now) d)) }
+    ensures same { HasCleanDisk (state S.Store tx.new.conn.now) → (state S.Store tx.old.conn.now).now.schema ≡ archive_schema → OnOk result (IsUnchanged (state S.Store tx.old.conn.now) (state S.Store tx.new.conn.now)) }
+    ensures clean { HasCleanDisk (state S.Store tx.new.conn.now) → HasCleanDisk (state S.Store tx.old.conn.now) }
+    ensures was_open { HasCleanDisk (state S.Store tx.new.conn.now) → IsTrue (state S.Store tx.new.conn.now).is_open → IsTrue (state S.Store tx.old.conn.now).is_open }
+    ensures keeps { HasCleanDisk (state S.Store tx.new.conn.now) → (state S.Store tx.old.conn.now).now.schema ≡ archive_schema → KeepsCommit (state S.Store tx.old.conn.now) (state S.Store tx.new.conn.now) }
+    ensures survives { Survives (state S.Store tx.old.conn.now) (state S.Store tx.new.conn.now) (λ _. ⊥) }
+{
+    let (start, past) = range_of_lines(lines);
+    let helds = helds_near(alloc, tx, driver, start, past).map_err(store_fault)?;
+    let line = line_of_stored(alloc, &helds)?;
+    gains_of(alloc, &line, spans)
+}
+
+/// Writes a batch: how many entries the driver has then, the rows of its lines, numbered from `first` on, and the rows of what he
+/// holds more.
+fn write_batch<S: Alter>(
+    tx: &mut Transaction<'_, S>,
+    driver: u32,
+    first: u32,
+    count: u32,
+    rows: &[StoredSpan],
+    helds: &[StoredSpan],
+) -> Result<(), TableFault>
+    requires { first + length rows.now < 2 ^ 32 }
+    ensures same_reference { tx.new.conn.ghost_name ≡ tx.old.conn.ghost_name }
+    ensures turned { HasCleanDisk (state S.Store tx.new.conn.now) → (state S.Store tx.old.conn.now).now.schema ≡ archive_schema
+        → OnOk result (Turns (state S.Store tx.old.conn.now) (state S.Store tx.new.conn.now) (batched driver count (entered_rows driver first rows.now) (map (row_of driver) helds.now))) }
+    ensures clean { HasCleanDisk (state S.Store tx.new.conn.now) → HasCleanDisk (state S.Store tx.old.conn.now) }
+    ensures was_open { HasCleanDisk (state S.Store tx.new.conn.now) → IsTrue (state S.Store tx.new.conn.now).is_open → IsTrue (state S.Store tx.old.conn.now).is_open }
+    ensures keeps { HasCleanDisk (state S.Store tx.new.conn.now) → KeepsCommit (state S.Store tx.old.conn.now) (state S.Store tx.new.conn.now) }
+    ensures survives { Survives (state S.Store tx.old.conn.now) (state S.Store tx.new.conn.now) (λ _. ⊥) }
+{
+    drivers::set_entries(tx, driver, count)?;
+    entries::insert_all(tx, driver, first, rows)?;
+    held::insert_all(tx, driver, helds)
+}
+
+/// Adds the lines of a batch to a driver who has `given` entries: S14. All memory is taken before the first write.
+fn add_batch<S: Alter>(
+    alloc: Global,
+    tx: &mut Transaction<'_, S>,
+    driver: u32,
+    given: u32,
+    spans: &[Span],
+    gains: &[Span],
+) -> Result<Entered, StoreFault>
+    ensures same_reference { tx.new.conn.ghost_name ≡ tx.old.conn.ghost_name }
+    ensures answer { (s : State) (d : Driver) (lines : List EntryLine) → given ≡ length d.entries → spans.now ≡ entered_spans (batch_of lines)
+        → AreNumbered (state S.Store tx.old.conn.now).now.trees s driver d (batch_of lines) gains.now
+        → Answers (λ done. done.first) result (settled s (enter_own (batch_of lines) d)).answer }
+    ensures made { HasCleanDisk (state S.Store tx.new.conn.now) → (state S.Store tx.old.conn.now).now.schema ≡ archive_schema → (s : State) (d : Driver) (lines : List EntryLine)
+        → given ≡ length d.entries → spans.now ≡ entered_spans (batch_of lines)
+        → AreNumbered (state S.Store tx.old.conn.now).now.trees s driver d (batch_of lines) gains.now
+        → OnOk result (((state S.Store tx.new.conn.now).now.schema ≡ archive_schema) × StandsFor (state S.Store tx.new.conn.now).now.trees (settled s (enter_own (batch_of lines) d)).after) }
+    ensures count { IfOk result (λ done. done.count ≡ length spans.now) }
+    ensures clean { HasCleanDisk (state S.Store tx.new.conn.now) → HasCleanDisk (state S.Store tx.old.conn.now) }
+    ensures was_open { HasCleanDisk (state S.Store tx.new.conn.now) → IsTrue (state S.Store tx.new.conn.now).is_open → IsTrue (state S.Store tx.old.conn.now).is_open }
+    ensures keeps { HasCleanDisk (state S.Store tx.new.conn.now) → (state S.Store tx.old.conn.now).now.schema ≡ archive_schema → KeepsCommit (state S.Store tx.old.conn.now) (state S.Store tx.new.conn.now) }
+    ensures survives { Survives (state S.Store tx.old.conn.now) (state S.Store tx.new.conn.now) (λ _. ⊥) }
+{
+    let Ok(count) = u32::try_from(spans.len()) else {
+        return Err(StoreFault::Full);
+    };
+    let Some(first) = first_number(given, count) else {
+        return Err(StoreFault::Full);
+    };
+    let rows = stored(alloc, spans)?;
+    let helds = stored(alloc, gains)?;
+    write_batch(tx, driver, first, given + count, &rows, &helds).map_err(store_fault)?;
+    Ok(Entered { first, count })
+}
+
+/// Enters a batch, within a transaction: S4, S6, S14.
+fn enter_in<S: Alter>(
+    alloc: Global,
+    tx: &mut Transaction<'_, S>,
+    driver: u32,
+    lines: &[EntryLine],
+) -> Result<Entered, StoreFault>
+    requires { IsBatch lines.now }
+    ensures same_reference { tx.new.conn.ghost_name ≡ tx.old.conn.ghost_name }
+    ensures answer { HasCleanDisk (state S.Store tx.new.conn.now) → (state S.Store tx.old.conn.now).now.schema ≡ archive_schema → (s : State) → StandsFor (state S.Store tx.old.conn.now).now.trees s
+        → Answers (λ done. done.first) result (entered driver (batch_of lines.now) s).answer }
+    ensures made { HasCleanDisk (state S.Store tx.new.conn.now) → (state S.Store tx.old.conn.now).now.schema ≡ archive_schema → (s : State) → StandsFor (state S.Store tx.old.conn.now).now.trees s
+        → OnOk result (((state S.Store tx.new.conn.now).now.schema ≡ archive_schema) × StandsFor (state S.Store tx.new.conn.now).now.trees (entered driver (batch_of lines.now) s).after) }
+    ensures count { IfOk result (λ done. done.count ≡ length lines.now) }
+    ensures live { HasCleanDisk (state S.Store tx.new.conn.now) → IsAnswered result → IsTrue (state S.Store tx.old.conn.now).is_open }
+    ensures clean { HasCleanDisk (state S.Store tx.new.conn.now) → HasCleanDisk (state S.Store tx.old.conn.now) }
+    ensures was_open { HasCleanDisk (state S.Store tx.new.conn.now) → IsTrue (state S.Store tx.new.conn.now).is_open → IsTrue (state S.Store tx.old.conn.now).is_open }
+    ensures keeps { HasCleanDisk (state S.Store tx.new.conn.now) → (state S.Store tx.old.conn.now).now.schema ≡ archive_schema → KeepsCommit (state S.Store tx.old.conn.now) (state S.Store tx.new.conn.now) }
+    ensures survives { Survives (state S.Store tx.old.conn.now) (state S.Store tx.new.conn.now) (λ _. ⊥) }
+{
+    let found = driver_with(tx, driver)?;
+    let spans = spans_of_lines(alloc, lines)?;
+    let gains = gains_near(alloc, tx, driver, lines, &spans)?;
+    add_batch(alloc, tx, driver, found.entries, &spans, &gains)
+}
+
+/// Enters a batch of hours: S4, S6, S14.
+pub fn enter<S: Alter>(
+    alloc: Global,
+    conn: &mut Connection<S>,
+    driver: u32,
+    lines: &[EntryLine],
+) -> Result<Entered, StoreFault>
+    requires open { conn.old.in_transaction ≡ false }
+    requires batch { IsBatch lines.now }
+    ensures autocommit { conn.new.in_transaction ≡ false }
+    ensures acts { Acts (λ c. Shows (state S.Store c)) (λ c. HasCleanDisk (state S.Store c)) (λ c. IsTrue (state S.Store c).is_open) (λ c. Leaves (state S.Store c)) (λ done. done.first) conn.old conn.new result
+        (entered driver (batch_of lines.now)) }
+    ensures count { IfOk result (λ done. done.count ≡ length lines.now) }
+{
+    let _settled = conn.is_autocommit();
+    let mut tx = conn.transaction();
+    let done = enter_in(alloc, &mut tx, driver, lines)?;
+    match tx.commit() {
+        Ok(()) => Ok(done),
+        Err(_) => {
+            let _undone = conn.is_autocommit();
+            Err(StoreFault::Store)
+        }
+    }
+}

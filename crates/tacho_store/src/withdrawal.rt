@@ -1,0 +1,206 @@
+ghost use Rattle.std.specs.Prelude.{◌≡◌, ◌⊎◌, ◌++◌, map, filter, not, false, IfOk, IfErr, IsTrue, OnOk};
+ghost use Rattle.sqlite.specs.State.{HasCleanDisk, Survives, KeepsCommit, IsUnchanged};
+ghost use Rattle.sqlite.specs.Held.{state};
+ghost use Rattle.tacho_time.specs.Spans.{Gives, IsCanonicalOf};
+ghost use Rattle.tacho_line.specs.Line.{IsWithin};
+ghost use Rattle.tacho_state.specs.State.{State};
+ghost use Rattle.tacho_state.specs.Disjoint.{outside};
+ghost use Rattle.tacho_state.specs.Steps.{withdrawn};
+ghost use Rattle.tacho_state.specs.Acts.{Acts, Answers};
+ghost use Rattle.tacho_tables.specs.Schema.{archive_schema};
+ghost use Rattle.tacho_tables.specs.Tables.{Tables, Stand, Turns, is_near, row_of, with_withdrawn};
+ghost use Rattle.tacho_store.specs.Standing.{StandsFor, stored_span};
+ghost use Rattle.tacho_store.specs.Kept.{Shows, Leaves, IsAnswered};
+ghost use Rattle.tacho_store.specs.Apart.{AreApart, rows_of};
+ghost use Rattle.tacho_store.specs.Withdrawing.{IsEntry, AreRowsFor, AreRenewed};
+
+use crate::fault::store_fault;
+use crate::finding::driver_with;
+use crate::near::{cards_near, delete_near, helds_near};
+use crate::spans::{fault_of_rows, minute_of, spans_of, stored};
+use sqlite::{Alter, Connection, Transaction};
+use std::alloc::Global;
+use tacho_state::{StoreFault, inside_of, outside_of};
+use tacho_tables::{StoredEntry, StoredSpan, TableFault, entries, held};
+use tacho_time::{Minute, Span};
+
+/// A driver's entry that is not withdrawn: S4, S7, S8.
+#[tactic(auto, unfolding(crate::specs::Withdrawing::IsEntry))]
+fn entry_with<S: Alter>(
+    tx: &mut Transaction<'_, S>,
+    driver: u32,
+    number: u32,
+) -> Result<StoredEntry, StoreFault>
+    ensures same_reference { tx.new.conn.ghost_name ≡ tx.old.conn.ghost_name }
+    ensures found { HasCleanDisk (state S.Store tx.new.conn.now) → (state S.Store tx.old.conn.now).now.schema ≡ archive_schema → (s : State) → StandsFor (state S.Store tx.old.conn.now).now.trees s
+        → IsEntry s driver number result }
+    ensures same { HasCleanDisk (state S.Store tx.new.conn.now) → (state S.Store tx.old.conn.now).now.schema ≡ archive_schema → OnOk result (IsUnchanged (state S.Store tx.old.conn.now) (state S.Store tx.new.conn.now)) }
+    ensures live { HasCleanDisk (state S.Store tx.new.conn.now) → IsAnswered result → IsTrue (state S.Store tx.old.conn.now).is_open }
+    ensures clean { HasCleanDisk (state S.Store tx.new.conn.now) → HasCleanDisk (state S.Store tx.old.conn.now) }
+    ensures was_open { HasCleanDisk (state S.Store tx.new.conn.now) → IsTrue (state S.Store tx.new.conn.now).is_open → IsTrue (state S.Store tx.old.conn.now).is_open }
+    ensures keeps { HasCleanDisk (state S.Store tx.new.conn.now) → (state S.Store tx.old.conn.now).now.schema ≡ archive_schema → KeepsCommit (state S.Store tx.old.conn.now) (state S.Store tx.new.conn.now) }
+    ensures survives { Survives (state S.Store tx.old.conn.now) (state S.Store tx.new.conn.now) (λ _. ⊥) }
+{
+    driver_with(tx, driver)?;
+    let found = entries::by_number(tx, driver, number).map_err(store_fault)?;
+    let Some(entry) = found else {
+        return Err(StoreFault::UnknownEntry);
+    };
+    if entry.withdrawn != 0 {
+        return Err(StoreFault::AlreadyWithdrawn);
+    }
+    Ok(entry)
+}
+
+/// The parts of stored rows outside a range that they overlap.
+fn parts_outside(
+    alloc: Global,
+    helds: &[StoredSpan],
+    start: Minute,
+    past: Minute,
+) -> Result<Vec<Span>, StoreFault>
+    ensures parts { IfOk result (λ parts. parts.items ≡ outside start past (map stored_span helds.now)) }
+    ensures fault { IfErr result (λ fault. (fault ≡ StoreFault.Memory) ⊎ (fault ≡ StoreFault.Store)) }
+{
+    let spans = spans_of(alloc, helds)?;
+    Ok(outside_of(alloc, &spans, start, past)?)
+}
+
+/// What stored rows of cards and of entries give in a range; two that contradict are a fault of
+/// the store.
+fn given_inside(
+    alloc: Global,
+    cards: &[StoredSpan],
+    others: &[StoredSpan],
+    start: Minute,
+    past: Minute,
+) -> Result<Vec<Span>, StoreFault>
+    ensures inside { IfOk result (λ inside. IsCanonicalOf (λ m k. IsWithin start past m × Gives (map stored_span cards.now ++ map stored_span others.now) m k) inside.items) }
+    ensures fault { IfErr result (λ fault. (fault ≡ StoreFault.Memory) ⊎ (fault ≡ StoreFault.Store)) }
+{
+    let card_spans = spans_of(alloc, cards)?;
+    let entered = spans_of(alloc, others)?;
+    match inside_of(alloc, &card_spans, &entered, start, past) {
+        Ok(inside) => Ok(inside),
+        Err(fault) => Err(fault_of_rows(fault)),
+    }
+}
+
+/// The rows that come where an entry was, by the rows near it: parts of held rows outside it, and
+/// inside it what cards and other entries give.
+fn rows_for(
+    alloc: Global,
+    cards: &[StoredSpan],
+    others: &[StoredSpan],
+    helds: &[StoredSpan],
+    start: u32,
+    past: u32,
+) -> Result<Vec<StoredSpan>, StoreFault>
+    ensures rows { IfOk result (λ rows. AreRowsFor cards.now others.now helds.now start past rows.items) }
+    ensures fault { IfErr result (λ fault. (fault ≡ StoreFault.Memory) ⊎ (fault ≡ StoreFault.Store)) }
+{
+    let Some(first) = minute_of(start) else {
+        return Err(StoreFault::Store);
+    };
+    let Some(end) = minute_of(past) else {
+        return Err(StoreFault::Store);
+    };
+    let mut spans = parts_outside(alloc, helds, first, end)?;
+    let inside = given_inside(alloc, cards, others, first, end)?;
+    spans.extend_from_slice(&inside)?;
+    Ok(stored(alloc, &spans)?)
+}
+
+/// Marks a driver's entry as withdrawn, and tells the rows that come where it was.
+fn mark<S: Alter>(
+    alloc: Global,
+    tx: &mut Transaction<'_, S>,
+    driver: u32,
+    number: u32,
+    start: u32,
+    past: u32,
+) -> Result<Vec<StoredSpan>, StoreFault>
+    ensures same_reference { tx.new.conn.ghost_name ≡ tx.old.conn.ghost_name }
+    ensures marked { HasCleanDisk (state S.Store tx.new.conn.now) → (state S.Store tx.old.conn.now).now.schema ≡ archive_schema → OnOk result (Turns (state S.Store tx.old.conn.now) (state S.Store tx.new.conn.now) (λ a. record a { entries = map (with_withdrawn driver number) a.entries })) }
+    ensures renewed { HasCleanDisk (state S.Store tx.new.conn.now) → (state S.Store tx.old.conn.now).now.schema ≡ archive_schema → IfOk result (λ rows. (a : Tables) → Stand (state S.Store tx.old.conn.now).now.trees a → AreApart (rows_of driver a.card_spans) → AreApart (rows_of driver a.held)
+        → AreRenewed a driver number start past rows.items) }
+    ensures fault { IfErr result (λ fault. (fault ≡ StoreFault.Memory) ⊎ (fault ≡ StoreFault.Store)) }
+    ensures clean { HasCleanDisk (state S.Store tx.new.conn.now) → HasCleanDisk (state S.Store tx.old.conn.now) }
+    ensures was_open { HasCleanDisk (state S.Store tx.new.conn.now) → IsTrue (state S.Store tx.new.conn.now).is_open → IsTrue (state S.Store tx.old.conn.now).is_open }
+    ensures keeps { HasCleanDisk (state S.Store tx.new.conn.now) → (state S.Store tx.old.conn.now).now.schema ≡ archive_schema → KeepsCommit (state S.Store tx.old.conn.now) (state S.Store tx.new.conn.now) }
+    ensures survives { Survives (state S.Store tx.old.conn.now) (state S.Store tx.new.conn.now) (λ _. ⊥) }
+{
+    entries::withdraw(tx, driver, number).map_err(store_fault)?;
+    let cards = cards_near(alloc, tx, driver, start, past).map_err(store_fault)?;
+    let others = entries::kept_near(alloc, tx, driver, start, past).map_err(store_fault)?;
+    let helds = helds_near(alloc, tx, driver, start, past).map_err(store_fault)?;
+    rows_for(alloc, &cards, &others, &helds, start, past)
+}
+
+/// Puts rows in the place of a driver's held rows near a range.
+fn rewrite<S: Alter>(
+    tx: &mut Transaction<'_, S>,
+    driver: u32,
+    start: u32,
+    past: u32,
+    rows: &[StoredSpan],
+) -> Result<(), TableFault>
+    ensures same_reference { tx.new.conn.ghost_name ≡ tx.old.conn.ghost_name }
+    ensures written { HasCleanDisk (state S.Store tx.new.conn.now) → (state S.Store tx.old.conn.now).now.schema ≡ archive_schema → (a : Tables) → Stand (state S.Store tx.old.conn.now).now.trees a → AreApart (rows_of driver a.held)
+        → OnOk result (((state S.Store tx.new.conn.now).now.schema ≡ archive_schema)
+        × Stand (state S.Store tx.new.conn.now).now.trees (record a { held = map (row_of driver) rows.now ++ filter (λ r. not (is_near driver start past r)) a.held })) }
+    ensures clean { HasCleanDisk (state S.Store tx.new.conn.now) → HasCleanDisk (state S.Store tx.old.conn.now) }
+    ensures was_open { HasCleanDisk (state S.Store tx.new.conn.now) → IsTrue (state S.Store tx.new.conn.now).is_open → IsTrue (state S.Store tx.old.conn.now).is_open }
+    ensures keeps { HasCleanDisk (state S.Store tx.new.conn.now) → (state S.Store tx.old.conn.now).now.schema ≡ archive_schema → KeepsCommit (state S.Store tx.old.conn.now) (state S.Store tx.new.conn.now) }
+    ensures survives { Survives (state S.Store tx.old.conn.now) (state S.Store tx.new.conn.now) (λ _. ⊥) }
+{
+    delete_near(tx, driver, start, past)?;
+    held::insert_all(tx, driver, rows)
+}
+
+/// Withdraws a driver's entry, within a transaction: S4, S7, S8.
+fn withdraw_in<S: Alter>(
+    alloc: Global,
+    tx: &mut Transaction<'_, S>,
+    driver: u32,
+    number: u32,
+) -> Result<(), StoreFault>
+    ensures same_reference { tx.new.conn.ghost_name ≡ tx.old.conn.ghost_name }
+    ensures answer { HasCleanDisk (state S.Store tx.new.conn.now) → (state S.Store tx.old.conn.now).now.schema ≡ archive_schema → (s : State) → StandsFor (state S.Store tx.old.conn.now).now.trees s
+        → Answers (λ _. tt) result (withdrawn driver number s).answer }
+    ensures made { HasCleanDisk (state S.Store tx.new.conn.now) → (state S.Store tx.old.conn.now).now.schema ≡ archive_schema → (s : State) → StandsFor (state S.Store tx.old.conn.now).now.trees s
+        → OnOk result (((state S.Store tx.new.conn.now).now.schema ≡ archive_schema) × StandsFor (state S.Store tx.new.conn.now).now.trees (withdrawn driver number s).after) }
+    ensures live { HasCleanDisk (state S.Store tx.new.conn.now) → IsAnswered result → IsTrue (state S.Store tx.old.conn.now).is_open }
+    ensures clean { HasCleanDisk (state S.Store tx.new.conn.now) → HasCleanDisk (state S.Store tx.old.conn.now) }
+    ensures was_open { HasCleanDisk (state S.Store tx.new.conn.now) → IsTrue (state S.Store tx.new.conn.now).is_open → IsTrue (state S.Store tx.old.conn.now).is_open }
+    ensures keeps { HasCleanDisk (state S.Store tx.new.conn.now) → (state S.Store tx.old.conn.now).now.schema ≡ archive_schema → KeepsCommit (state S.Store tx.old.conn.now) (state S.Store tx.new.conn.now) }
+    ensures survives { Survives (state S.Store tx.old.conn.now) (state S.Store tx.new.conn.now) (λ _. ⊥) }
+{
+    let entry = entry_with(tx, driver, number)?;
+    let rows = mark(alloc, tx, driver, number, entry.start, entry.past)?;
+    rewrite(tx, driver, entry.start, entry.past, &rows).map_err(store_fault)
+}
+
+/// Withdraws a driver's entry: S4, S7, S8.
+pub fn withdraw<S: Alter>(
+    alloc: Global,
+    conn: &mut Connection<S>,
+    driver: u32,
+    number: u32,
+) -> Result<(), StoreFault>
+    requires { conn.old.in_transaction ≡ false }
+    ensures autocommit { conn.new.in_transaction ≡ false }
+    ensures acts { Acts (λ c. Shows (state S.Store c)) (λ c. HasCleanDisk (state S.Store c)) (λ c. IsTrue (state S.Store c).is_open) (λ c. Leaves (state S.Store c)) (λ _. tt) conn.old conn.new result
+        (withdrawn driver number) }
+{
+    let _settled = conn.is_autocommit();
+    let mut tx = conn.transaction();
+    withdraw_in(alloc, &mut tx, driver, number)?;
+    match tx.commit() {
+        Ok(()) => Ok(()),
+        Err(_) => {
+            let _undone = conn.is_autocommit();
+            Err(StoreFault::Store)
+        }
+    }
+}
