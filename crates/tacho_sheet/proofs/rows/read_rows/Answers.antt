@@ -1,0 +1,26 @@
+use Rattle.std.proofs.Common.{Bor, List, ℕ, ◌≡◌, ◌∙◌, sym, refl, rules, inl, true, map, Some, ◌∷◌, []}
+use Rattle.std.specs.Result.{is_ok}
+use Rattle.std.proofs.lemmas.List.{map-append}
+use Rattle.csv.specs.Reading.{Reached, default_config, strip_bom}
+use Rattle.csv.specs.Records.{fields_of}
+use Rattle.csv.specs.declared.parser.State.TheVariants as st
+use Rattle.csv.proofs.ReadFacts.{rows-more}
+use Rattle.tacho_sheet.proofs.rows.read_rows.Goals as goal
+
+pub loop-row-init : goal.loop-row-init
+unfolding Reached
+loop-row-init c =
+    let left = c.row_reader.ensures.text in
+    let start = c.into_iter-row-iterator.ensures.into_iter_gives ∙ refl in
+    let rdr = c.into_byte_records-row-items.ensures.rdr in
+    rw (start, rdr, c.new-rows.ensures.items)
+    (left.trims, left.ready, c.into_byte_records-row-items.ensures.left, left.config, strip_bom c.args.text.now, left.source, (sym c.row_reader.ensures.state, refl))
+
+pub loop-row-preserved : goal.loop-row-preserved
+loop-row-preserved c =
+    let inv = c.loop-row.invariant in
+    let s = rw (c.in-Some.is, c.in_ok-row.was) at ((c.next.ensures.steps inv.2 inv.0).0 inv.1) in
+    let good : is_ok c.push.result ≡ true = search rules in
+    let items = rw good at c.push.ensures.items in
+    let m = rows-more (λ (s : Bor (List ℕ)). Some s.now) c.loop-row.row-iterator.rdr c.next.new.self.rdr (fields_of c.in_ok-row.field-0) default_config st.StartRecord (strip_bom c.args.text.now) inv.4 (map fields_of c.loop-row.rows.items) inv.3 inv.5 inv.6 s.0 in
+    (s.0.3 ∙ inv.0, inl s.1, s.2, s.0.2 ∙ inv.3, m.0, m.1, rw (items, map-append fields_of c.loop-row.rows.items (c.in_ok-row.field-0 ∷ [])) m.2)

@@ -1,0 +1,102 @@
+-- The driver that a text of CSV registers, or the first fault: the columns from left to right.
+use Rattle.std.specs.Prelude.{◌≡◌, ◌⊎◌, ◌&&◌, ℕ, Bool, true, false, List, [], ◌∷◌, length, Option, Some, None, Result, Ok, Err, bytes_eq, codes}
+use Rattle.std.specs.Str.{IsUtf8}
+use Rattle.hex.specs.Hex.{encode_lower, IsBytes}
+use Rattle.tacho_time.specs.Reading.{day_at}
+use Rattle.tacho_state.specs.Limits.{IsKey, IsName}
+use Rattle.tacho_state.specs.Registration.{Registration}
+use Rattle.tacho_state.specs.declared.driver.Column.{Column}
+use Rattle.tacho_state.specs.declared.driver.Column.TheVariants as column
+use Rattle.tacho_sheet.specs.Number.{IsNumberText, HasNoNumber}
+use Rattle.tacho_sheet.specs.Rows.{Row, AreRows}
+use Rattle.tacho_sheet.specs.declared.fault.SheetFault.{SheetFault}
+use Rattle.tacho_sheet.specs.declared.fault.SheetFault.TheVariants as fault
+
+-- ---- the texts of columns
+
+-- no fifteen bytes are written so, in thirty hexadecimal digits without capitals
+abbrev pub HasNoHolder : List ℕ → Type 0
+HasNoHolder text = (holder : List ℕ) → length holder ≡ 15 → IsBytes holder → ¬ (text ≡ encode_lower holder)
+
+abbrev pub IsKeyText : List ℕ → Type 0
+IsKeyText text = IsUtf8 text × IsKey text
+
+abbrev pub IsNameText : List ℕ → Type 0
+IsNameText text = IsUtf8 text × IsName text
+
+-- number, holder, key, base and name
+pub record Five : Type 0 where
+  pub driver : List ℕ
+  pub holder : List ℕ
+  pub key : List ℕ
+  pub base : List ℕ
+  pub name : List ℕ
+
+-- the texts say this, each within its column's limits
+pub record IsDriverText (f : Five) (r : Registration) : Type 0 where
+  pub driver : IsNumberText 999999 f.driver r.number
+  pub holder : f.holder ≡ encode_lower r.holder
+  pub key : (r.key ≡ f.key) × IsKey r.key
+  pub base : day_at f.base ≡ Ok r.base
+  pub name : (r.name ≡ f.name) × IsName r.name
+
+abbrev pub HasNumber : List ℕ → Type 0
+HasNumber text = (n : ℕ) × IsNumberText 999999 text n
+
+abbrev pub HasHolder : List ℕ → Type 0
+HasHolder text = (holder : List ℕ) × (text ≡ encode_lower holder)
+
+abbrev pub HasDay : List ℕ → Type 0
+HasDay text = (day : ℕ) × (day_at text ≡ Ok day)
+
+-- E9: the column's text is out of its limits, and those before it are within theirs
+abbrev pub IsFirstBadText : Five → Column → Type 0
+IsFirstBadText f column.Driver = HasNoNumber 999999 f.driver
+IsFirstBadText f column.Holder = HasNumber f.driver × HasNoHolder f.holder
+IsFirstBadText f column.Key = HasNumber f.driver × HasHolder f.holder × ¬ (IsKeyText f.key)
+IsFirstBadText f column.Base = HasNumber f.driver × HasHolder f.holder × IsKeyText f.key × ¬ (HasDay f.base)
+IsFirstBadText f column.Name = HasNumber f.driver × HasHolder f.holder × IsKeyText f.key × HasDay f.base × ¬ (IsNameText f.name)
+
+abbrev pub IsColumnFault : Five → SheetFault → Type 0
+IsColumnFault f (fault.Column c) = IsFirstBadText f c
+IsColumnFault f _ = ⊥
+
+-- ---- rows
+
+-- five fields, where there are just five
+abbrev pub five_of : Row → Option Five
+five_of (a ∷ b ∷ c ∷ d ∷ e ∷ []) = Some (record { driver = a; holder = b; key = c; base = d; name = e })
+five_of _ = None
+
+-- `driver,holder,key,base,name`
+abbrev pub is_driver_head_of : Option Five → Bool
+is_driver_head_of (Some h) =
+    bytes_eq h.driver (codes "driver") && (bytes_eq h.holder (codes "holder") && (bytes_eq h.key (codes "key")
+    && (bytes_eq h.base (codes "base") && bytes_eq h.name (codes "name"))))
+is_driver_head_of None = false
+
+abbrev pub is_driver_head : Row → Bool
+is_driver_head row = is_driver_head_of (five_of row)
+
+-- what the rows after the head answer: E2 and E9 of row 2, and then E2 where there is a third row
+abbrev pub IsRowAnswer : Option Five → Result Registration SheetFault → Type 0
+IsRowAnswer None answer = answer ≡ Err (fault.Fields 2)
+IsRowAnswer (Some f) (Ok r) = IsDriverText f r
+IsRowAnswer (Some f) (Err e) = IsColumnFault f e
+
+abbrev pub IsBodyAnswer : List Row → Result Registration SheetFault → Type 0
+IsBodyAnswer [] answer = answer ≡ Err (fault.Fields 2)
+IsBodyAnswer (row ∷ []) answer = IsRowAnswer (five_of row) answer
+IsBodyAnswer (row ∷ more) (Ok r) = ⊥
+IsBodyAnswer (row ∷ more) (Err e) =
+    IsRowAnswer (five_of row) (Err e) ⊎ ((e ≡ fault.Fields 3) × ((r : Registration) × IsRowAnswer (five_of row) (Ok r)))
+
+-- E1
+abbrev pub IsDriverAnswer : List Row → Result Registration SheetFault → Type 0
+IsDriverAnswer [] answer = answer ≡ Err fault.Head
+IsDriverAnswer (head ∷ body) answer =
+    (is_driver_head head ≡ true → IsBodyAnswer body answer) × (is_driver_head head ≡ false → answer ≡ Err fault.Head)
+
+-- what is read of a text, where neither memory nor the reader of CSV fails
+abbrev pub IsDriverRead : List ℕ → Result Registration SheetFault → Type 0
+IsDriverRead text answer = (rows : List Row) × AreRows text rows × IsDriverAnswer rows answer

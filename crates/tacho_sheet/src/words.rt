@@ -1,0 +1,39 @@
+ghost use Rattle.std.specs.Prelude.{◌≡◌};
+ghost use Rattle.tacho_sheet.specs.Words.{activity_of, left_out_of};
+
+use crate::fault::LeftOut;
+use tacho_time::Activity;
+
+/// The activity of a word.
+pub(crate) fn read_activity(word: &[u8]) -> Option<Activity>
+    ensures { result ≡ activity_of word.now }
+{
+    if word == b"rest".as_slice() {
+        Some(Activity::Rest)
+    } else if word == b"available".as_slice() {
+        Some(Activity::Available)
+    } else if word == b"work".as_slice() {
+        Some(Activity::Work)
+    } else if word == b"drive".as_slice() {
+        Some(Activity::Drive)
+    } else {
+        None
+    }
+}
+
+/// The activity that is left out, by its word.
+pub(crate) fn read_left_out(word: &[u8]) -> Option<LeftOut>
+    ensures { result ≡ left_out_of word.now }
+{
+    if word == b"crew".as_slice() {
+        Some(LeftOut::Crew)
+    } else if word == b"ferry".as_slice() {
+        Some(LeftOut::Ferry)
+    } else if word == b"out".as_slice() {
+        Some(LeftOut::Out)
+    } else if word == b"derogation".as_slice() {
+        Some(LeftOut::Derogation)
+    } else {
+        None
+    }
+}
