@@ -2,8 +2,8 @@
 use Rattle.std.specs.Prelude.{◌≡◌, ℕ, ◌<◌, ◌≤◌, ◌⊎◌, List, ◌++◌, Result, Ok, Err, length, codes, flat_map}
 use Rattle.tacho_card.specs.declared.fault.CardFault.{CardFault}
 use Rattle.tacho_card.specs.CardFile.{FileBlock, card_file, file_holder}
+use Rattle.tacho_sheet.specs.Lines.{byte_digits}
 use Rattle.tacho_cli.specs.declared.fault.Fault.TheVariants as fault
-use Rattle.tacho_cli.specs.Fault.{byte_digits}
 use Rattle.tacho_cli.specs.Command.{Reply, fault_reply, card_reply}
 
 -- the digits of a holder, and a line feed

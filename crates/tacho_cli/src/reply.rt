@@ -1,9 +1,10 @@
 ghost use Rattle.std.specs.Prelude.{◌≡◌};
 ghost use Rattle.tacho_cli.specs.Command.{Tells, TellsCardFault, fault_reply};
 
-use crate::fault::{Fault, line_of_card, status_of_card};
+use crate::fault::{Fault, status_of_card};
 use std::alloc::Global;
 use tacho_card::CardFault;
+use tacho_sheet::{Fault as ToldFault, fault_line};
 use tacho_time::{Sink, write_all};
 
 /// Writes a text, and answers the status, or 3 where the writer failed.
@@ -27,7 +28,7 @@ pub(crate) fn tell_fault<W: Sink>(writer: &mut W, fault: Fault) -> u8
 pub(crate) fn tell_card_fault<W: Sink>(alloc: Global, writer: &mut W, fault: CardFault) -> u8
     ensures { TellsCardFault fault (W.has_failed writer.new) (W.written writer.old) (W.written writer.new) result }
 {
-    match line_of_card(alloc, fault) {
+    match fault_line(alloc, ToldFault::Card(fault)) {
         Ok(line) => tell(writer, line.as_bytes(), status_of_card(&fault)),
         Err(_) => tell_fault(writer, Fault::Memory),
     }

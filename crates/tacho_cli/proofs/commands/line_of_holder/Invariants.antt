@@ -1,6 +1,6 @@
 use Rattle.std.proofs.Common.{◌≡◌, take, string_bytes}
 use Rattle.std.specs.List.{flat_map}
-use Rattle.tacho_cli.specs.Fault.{byte_digits}
+use Rattle.tacho_sheet.specs.Lines.{byte_digits}
 use Rattle.tacho_cli.proofs.commands.line_of_holder.Given as goal
 
 -- the digits so far are those of the bytes so far
