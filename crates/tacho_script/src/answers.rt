@@ -1,8 +1,11 @@
+ghost use Rattle.std.specs.Prelude.{◌<◌};
+
 use crate::command::{Command, CommandFault, read};
 use std::alloc::Global;
 use std::io;
 use tacho_line::Line;
-use tacho_state::{Imported, Keeper, StoreFault};
+use tacho_sheet::{SheetFault, read_entries};
+use tacho_state::{Entered, Entry, Imported, Keeper, StoreFault};
 use tacho_time::{Activity, Mark};
 
 /// Prints why an archive refused a command.
@@ -22,6 +25,22 @@ fn tell_fault(rt: &impl Print, fault: StoreFault) -> io::Result<()> {
         StoreFault::Store => println!(rt; "S12"),
         StoreFault::Full => println!(rt; "S14"),
         StoreFault::Memory => println!(rt; "Memory"),
+    }
+}
+
+/// Prints why hours are no batch, by the code of the fault.
+fn tell_sheet_fault(rt: &impl Print, fault: SheetFault) -> io::Result<()> {
+    match fault {
+        SheetFault::Head => println!(rt; "E1"),
+        SheetFault::Fields(row) => println!(rt; "E2 {row}"),
+        SheetFault::Time(row) => println!(rt; "E3 {row}"),
+        SheetFault::Order(row) => println!(rt; "E4 {row}"),
+        SheetFault::LeftOut(row, word) => println!(rt; "E5 {row} {word:?}"),
+        SheetFault::Activity(row) => println!(rt; "E6 {row}"),
+        SheetFault::TooLong(row) => println!(rt; "E7 {row}"),
+        SheetFault::Csv => println!(rt; "E8"),
+        SheetFault::Column(column) => println!(rt; "E9 {column:?}"),
+        SheetFault::Memory => println!(rt; "Memory"),
     }
 }
 
@@ -53,14 +72,43 @@ fn tell_imported(rt: &impl Print, done: Result<Imported, StoreFault>) -> io::Res
     }
 }
 
-/// The number of a mark: 0 rest, 1 available, 2 work, 3 drive, and 4 more for crew.
-fn number_of(mark: Mark) -> u32 {
-    let activity = match mark.activity {
+/// Prints the number of the first of hours that were entered, and how many there are.
+fn tell_entered(rt: &impl Print, done: Result<Entered, StoreFault>) -> io::Result<()> {
+    match done {
+        Ok(entered) => println!(rt; "entered {} count {}", entered.first, entered.count),
+        Err(fault) => tell_fault(rt, fault),
+    }
+}
+
+/// Enters the hours of a text of CSV, and prints what that did.
+fn enter<K: Keeper>(
+    rt: &impl Print,
+    alloc: Global,
+    keeper: &mut K,
+    driver: u32,
+    text: &[u8],
+) -> io::Result<()> {
+    match read_entries(alloc, text) {
+        Ok(lines) => tell_entered(rt, keeper.enter(alloc, driver, &lines)),
+        Err(fault) => tell_sheet_fault(rt, fault),
+    }
+}
+
+/// The number of an activity: 0 rest, 1 available, 2 work, 3 drive.
+fn number_of_activity(activity: Activity) -> u32
+    ensures { result < 4 }
+{
+    match activity {
         Activity::Rest => 0,
         Activity::Available => 1,
         Activity::Work => 2,
         Activity::Drive => 3,
-    };
+    }
+}
+
+/// The number of a mark: that of its activity, and 4 more for crew.
+fn number_of(mark: Mark) -> u32 {
+    let activity = number_of_activity(mark.activity);
     if mark.crew { activity + 4 } else { activity }
 }
 
@@ -74,6 +122,22 @@ fn tell_line(rt: &impl Print, line: Result<Line, StoreFault>) -> io::Result<()> 
     for span in line.spans() {
         let (start, past) = (span.start.number(), span.past.number());
         print!(rt; " {start} {past} {}", number_of(span.mark))?;
+    }
+    println!(rt; "")
+}
+
+/// Prints entries: number, start, past and activity of each, and whether it was withdrawn.
+fn tell_entries(rt: &impl Print, entries: Result<Vec<Entry>, StoreFault>) -> io::Result<()> {
+    let entries = match entries {
+        Ok(entries) => entries,
+        Err(fault) => return tell_fault(rt, fault),
+    };
+    print!(rt; "entries")?;
+    for entry in &entries {
+        let (start, past) = (entry.line.start.number(), entry.line.past.number());
+        let activity = number_of_activity(entry.line.activity);
+        let word = if entry.withdrawn { "withdrawn" } else { "kept" };
+        print!(rt; " {} {start} {past} {activity} {word}", entry.number)?;
     }
     println!(rt; "")
 }
@@ -106,8 +170,13 @@ fn obey<K: Keeper>(
         Command::Import { caller, part, file } => {
             tell_imported(rt, keeper.import(alloc, caller, part, &file))
         }
+        Command::Enter { driver, text } => enter(rt, alloc, keeper, driver, &text),
+        Command::Withdraw { driver, number } => {
+            tell_done(rt, "withdrawn", keeper.withdraw(alloc, driver, number))
+        }
         Command::Rebase { driver, base } => tell_done(rt, "rebased", keeper.rebase(driver, base)),
         Command::Line { driver } => tell_line(rt, keeper.line(alloc, driver)),
+        Command::Entries { driver } => tell_entries(rt, keeper.entries(alloc, driver)),
         Command::Download { driver, number } => {
             tell_download(rt, alloc, keeper.download(alloc, driver, number))
         }

@@ -15,11 +15,22 @@ pub(crate) enum Command {
         part: Part,
         file: Vec<u8>,
     },
+    Enter {
+        driver: u32,
+        text: Vec<u8>,
+    },
+    Withdraw {
+        driver: u32,
+        number: u32,
+    },
     Rebase {
         driver: u32,
         base: Day,
     },
     Line {
+        driver: u32,
+    },
+    Entries {
         driver: u32,
     },
     Download {
@@ -144,11 +155,22 @@ pub(crate) fn read(alloc: Global, line: &str) -> Result<Command, CommandFault> {
             part: part(part_word)?,
             file: bytes(alloc, file)?,
         }),
+        ["enter", driver, text] => Ok(Command::Enter {
+            driver: number(driver)?,
+            text: bytes(alloc, text)?,
+        }),
+        ["withdraw", driver, entry] => Ok(Command::Withdraw {
+            driver: number(driver)?,
+            number: number(entry)?,
+        }),
         ["rebase", driver, base] => Ok(Command::Rebase {
             driver: number(driver)?,
             base: day(base)?,
         }),
         ["line", driver] => Ok(Command::Line {
+            driver: number(driver)?,
+        }),
+        ["entries", driver] => Ok(Command::Entries {
             driver: number(driver)?,
         }),
         ["download", driver, download] => Ok(Command::Download {

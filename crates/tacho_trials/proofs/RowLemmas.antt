@@ -1,5 +1,5 @@
 -- What one driver of a shelf has.
-use Rattle.std.proofs.Common.{◌≡◌, ◌≢◌, ℕ, zero, suc, ◌+◌, ◌<◌, ◌≤◌, ◌⊎◌, inl, inr, ◌==◌, nat_lt, true, false, cond, Bor, List, [], ◌∷◌, length, get_or, slice_get, Option, Some, None, Ok, Err, is_some, IfSome, refl, sym, ap, ◌∙◌, subst, arith}
+use Rattle.std.proofs.Common.{◌≡◌, ◌≢◌, ℕ, zero, suc, ◌+◌, ◌<◌, ◌≤◌, ◌⊎◌, inl, inr, ◌==◌, nat_lt, true, false, cond, Bor, List, [], ◌∷◌, ◌++◌, length, get_or, slice_get, Option, Some, None, Ok, Err, is_some, IfSome, refl, sym, ap, ◌∙◌, arith}
 use Rattle.std.proofs.Math.Path.{fun_ext}
 use Rattle.std.proofs.lemmas.Bool.{eq-eqb}
 use Rattle.std.proofs.lemmas.Bool.Decides.{nat_tests}
@@ -9,23 +9,23 @@ use Rattle.tacho_time.specs.declared.span.Span.{Span}
 use Rattle.tacho_time.specs.declared.span.Mark.{Mark}
 use Rattle.tacho_time.specs.declared.canonical.SpanFault.{SpanFault}
 use Rattle.tacho_time.specs.declared.canonical.SpanFault.TheVariants.{Contradiction as SpanContradiction, Memory as SpanMemory}
-use Rattle.tacho_time.specs.Spans.{Gives, SamePairs, IsCanonicalOf, Conflicts}
+use Rattle.tacho_time.specs.Spans.{Gives, IsCanonicalOf, Conflicts}
 use Rattle.tacho_time.specs.Merge.{IsFirstFault}
 use Rattle.tacho_card.specs.declared.fault.CardFault.{CardFault}
 use Rattle.tacho_card.specs.declared.fault.CardFault.TheVariants.{Memory as CardMemory}
 use Rattle.tacho_card.specs.declared.file.Part.{Part}
 use Rattle.tacho_line.specs.Line.{mark_at}
 use Rattle.tacho_line.proofs.LineLemmas.{held_given, given_held as given_held_in}
-use Rattle.tacho_line.proofs.MergeLemmas.{append_gives, front_gives}
+use Rattle.tacho_line.proofs.MergeLemmas.{front_gives}
 use Rattle.tacho_state.specs.declared.fault.StoreFault.{StoreFault}
 use Rattle.tacho_state.specs.declared.fault.StoreFault.TheVariants.{Memory, Card}
 use Rattle.tacho_state.specs.Content.{Tells}
 use Rattle.tacho_state.specs.Disjoint.{Keeps}
-use Rattle.tacho_state.specs.State.{Download, Entry, Driver, State, driver_of, Given, Held, given_spans, entered_spans, held_spans, held_mark, download_from}
+use Rattle.tacho_state.specs.State.{Download, Entry, Driver, State, driver_of, Held, given_spans, entered_spans, held_spans, held_mark, download_from}
 use Rattle.tacho_state.specs.Steps.{told_of, lined}
 use Rattle.tacho_state.proofs.DisjointLemmas.{disjoint_canonical}
 use Rattle.tacho_state.proofs.MapLemmas.{held_map}
-use Rattle.tacho_trials.specs.Shelf.{IsCardFault}
+use Rattle.tacho_trials.specs.Shelf.{AreKept, IsCardFault}
 
 -- ---- downloads by number
 
@@ -47,39 +47,21 @@ download_at i number (suc k) (d ∷ ds) e =
     ap (λ b. cond b (Some d) (download_from (i + 1) number ds)) t ∙ download_at (i + 1) number k ds (omega (arith, e))
 
 -- the element that was lent of a list
-pub looked_up : (xs : List Download) (i : ℕ) (r : Option (Bor Download)) → is_some r ≡ nat_lt i (length xs)
+pub looked_up : {A : Type 0} (xs : List A) (i : ℕ) (r : Option (Bor A)) → is_some r ≡ nat_lt i (length xs)
     → IfSome r (λ y. y.now ≡ get_or xs i y.now) → option_copied r ≡ slice_get xs i
 looked_up xs i None e h = let l : length xs ≤ i = grind (arith, nat_tests) in sym (slice_get_past xs i l)
 looked_up xs i (Some y) e h = let l : i < length xs = grind (arith, nat_tests) in sym (slice_get_read xs (length xs) i y.now refl l h)
 
 -- ---- what he holds
 
--- without entries he holds what his downloads give
-pub given_held : (d : Driver) → d.entries ≡ [] → SamePairs (Given d) (Held d)
-given_held d e m k = (front_gives given entered m k, λ g. go (append_gives given entered m k g)) where
-  given : List Span
-  given = given_spans d.downloads
+-- what his downloads give gives no minute two marks
+pub given_agreed : (downloads : List Download) (entries : List Entry) → AreKept downloads entries → (m : ℕ)
+    → ¬ (Conflicts (Gives (given_spans downloads)) m)
+given_agreed downloads entries h m c = h.agreed m (c.0, c.1, more c.0 c.2, more c.1 c.3, c.4) where
+  more : (k : Mark) → Gives (given_spans downloads) m k → Gives (given_spans downloads ++ entered_spans entries) m k
+  more k g = front_gives (given_spans downloads) (entered_spans entries) m k g
 
-  entered : List Span
-  entered = entered_spans d.entries
-
-  go : Gives given m k ⊎ Gives entered m k → Gives given m k
-  go (inl x) = x
-  go (inr y) = absurd (subst (λ (es : List Entry). Gives (entered_spans es) m k) e y)
-
--- the line of what his downloads give is that of what he holds
-pub held_line : (d : Driver) (line : List Span) → d.entries ≡ [] → IsCanonicalOf (Given d) line → IsCanonicalOf (Held d) line
-held_line d line e h =
-    record {
-      canonical = h.canonical;
-      same = (λ m k. (
-        λ g. (given_held d e m k).0 ((h.same m k).0 g),
-        λ g. (h.same m k).1
-            ((given_held d e m k).1 g),
-      ));
-    }
-
--- a line of it gives each minute the mark that he holds it with
+-- a line of what he holds gives each minute the mark that he holds it with
 pub line_marks : (d : Driver) (line : List Span) → IsCanonicalOf (Held d) line → mark_at line ≡ held_mark d
 line_marks d line h = fun_ext (λ m. go m (mark_at line m) refl (held_mark d m) refl) where
   go : (m : ℕ) (a : Option Mark) → mark_at line m ≡ a → (b : Option Mark) → held_mark d m ≡ b → mark_at line m ≡ held_mark d m

@@ -1,5 +1,6 @@
 -- What an import answers, by whose card the file is.
-use Rattle.std.proofs.Common.{◌≡◌, ℕ, zero, suc, ◌⊎◌, inl, inr, Bool, true, false, cond, List, [], ◌∷◌, Option, Some, None, Result, Ok, Err, MatchResult, OnErr, slice_get, slice_set, bytes_eq, refl, sym, ap, ◌∙◌}
+use Rattle.std.proofs.Common.{◌≡◌, ℕ, zero, suc, ◌⊎◌, inl, inr, Bool, true, false, cond, List, [], ◌∷◌, Option, Some, None, Result, Ok, Err, MatchResult, OnErr, length, get_or, slice_get, slice_set, bytes_eq, refl, sym, ap, ◌∙◌}
+use Rattle.std.proofs.lemmas.Option.{slice_get_read}
 use Rattle.tacho_card.specs.declared.fault.CardFault.{CardFault}
 use Rattle.tacho_card.specs.declared.file.Part.{Part}
 use Rattle.tacho_state.specs.declared.fault.StoreFault.{StoreFault}
@@ -7,10 +8,10 @@ use Rattle.tacho_state.specs.declared.fault.StoreFault.TheVariants.{UnknownDrive
 use Rattle.tacho_state.specs.declared.imported.Imported.{Imported}
 use Rattle.tacho_state.specs.State.{Driver, State, driver_of, holding, put}
 use Rattle.tacho_state.specs.Content.{Tells, part_number}
-use Rattle.tacho_state.specs.Steps.{Turn, Content, refused, settled, own_turn, import_own, import_his, imported}
+use Rattle.tacho_state.specs.Steps.{Turn, Own, Content, refused, settled, own_turn, import_own, import_his, imported}
 use Rattle.tacho_state.specs.Acts.{Answers}
 use Rattle.tacho_state.proofs.ContentLemmas.{one_content}
-use Rattle.tacho_trials.specs.Shelf.{AreNumbered, IsFaultOf, IsCardFault, IsOwnerAt, known, known_by, owner_of, Turns}
+use Rattle.tacho_trials.specs.Shelf.{AreNumbered, IsPlaceOf, IsFaultOf, IsCardFault, IsOwnerAt, known, known_by, owner_of, Turns}
 use Rattle.tacho_trials.proofs.ShelfLemmas.{put_at}
 
 -- ---- refusals
@@ -95,25 +96,34 @@ set_same (y ∷ s) zero x e = let same : y ≡ x = cc in ap (λ z. z ∷ s) (sym
 set_same (y ∷ s) (suc i) x e = ap (λ t. y ∷ t) (set_same s i x e)
 
 -- a call of one driver's, who stands at a place
-own_turns : (step : State
-    → Turn Imported) (s : State) (i : ℕ) (x d : Driver) (told : Result (Imported × Driver) StoreFault) (result : Result Imported StoreFault)
-    → AreNumbered s → slice_get s i ≡ Some x → d.number ≡ x.number → step s ≡ settled s told
-    → MatchResult result (λ done. told ≡ Ok (done, d)) (IsFaultOf told) → OnErr result (d ≡ x) → Turns (λ (done : Imported). done) s
-    (slice_set s i d) result step
-own_turns step s i x d told (Ok done) h at n e t kept =
-    let after : step s ≡ record { answer = Ok done; after = put d s } = e ∙ ap (settled s) t in
+own_turns : {A B : Type 0} (view : A → B) (step : State → Turn B) (s : State) (i : ℕ) (x d : Driver)
+    (told : Result (B × Driver) StoreFault) (result : Result A StoreFault) → AreNumbered s → slice_get s i ≡ Some x → d.number ≡ x.number → step s ≡ settled s told
+    → MatchResult result (λ done. told ≡ Ok (view done, d)) (IsFaultOf told) → OnErr result (d ≡ x)
+    → Turns view s (slice_set s i d) result step
+own_turns view step s i x d told (Ok done) h at n e t kept =
+    let after : step s ≡ record { answer = Ok (view done); after = put d s } = e ∙ ap (settled s) t in
     record {
-      answer = ap (λ (u : Turn Imported). u.answer) after;
-      state = put_at s i d x h at n ∙ sym (ap (λ (u : Turn Imported). u.after) after);
+      answer = ap (λ (u : Turn _). u.answer) after;
+      state = put_at s i d x h at n ∙ sym (ap (λ (u : Turn _). u.after) after);
     }
-own_turns step s i x d told (Err fault) h at n e t kept =
+own_turns view step s i x d told (Err fault) h at n e t kept =
     record {
-      answer = fault_answers (λ done. done) fault (step s).answer (refusal t);
+      answer = fault_answers view fault (step s).answer (refusal t);
       state = ap (slice_set s i) kept ∙ set_same s i x at;
     } where
       refusal : IsFaultOf told fault → IsFaultOf (step s).answer fault
       refusal (inl m) = inl m
-      refusal (inr f) = inr (ap (λ (u : Turn Imported). u.answer) (e ∙ ap (settled s) f))
+      refusal (inr f) = inr (ap (λ (u : Turn _). u.answer) (e ∙ ap (settled s) f))
+
+-- a call of the driver's who was found by his number
+pub found_turns : {A B : Type 0} (view : A → B) (own : Own B) (n i : ℕ) (s : State) (x d : Driver) (result : Result A StoreFault)
+    → AreNumbered s → IsPlaceOf s (driver_of n s) (Some i) → x ≡ get_or s i x → d.number ≡ x.number
+    → MatchResult result (λ done. own x ≡ Ok (view done, d)) (IsFaultOf (own x)) → OnErr result (d ≡ x)
+    → Turns view s (slice_set s i d) result (λ t. own_turn own t (driver_of n t))
+found_turns view own n i s x d result h place read same told kept =
+    let at : slice_get s i ≡ Some x = slice_get_read s (length s) i x refl place.0 read in
+    own_turns view (λ t. own_turn own t (driver_of n t)) s i x d (own x) result h at same
+    (ap (own_turn own s) (sym place.1 ∙ at)) told kept
 
 -- the import of a driver's card
 pub import_turns : (caller : Option ℕ) (part : Part) (bytes : List ℕ) (s : State) (i : ℕ) (x d : Driver) (read : Content) (content : Result Content CardFault) (result : Result Imported StoreFault)
@@ -124,6 +134,6 @@ pub import_turns : (caller : Option ℕ) (part : Part) (bytes : List ℕ) (s : S
 import_turns caller part bytes s i x d read content result h owner at n tells told kept t =
     let same : content ≡ Ok read = one_content part bytes content (Ok read) t tells in
     let his : owner.0 ≡ x = cc (sym owner.1 ∙ at) in
-    own_turns (imported caller (part_number part) bytes content) s i x d (import_own (part_number part) bytes read.spans x) result h at n
+    own_turns (λ done. done) (imported caller (part_number part) bytes content) s i x d (import_own (part_number part) bytes read.spans x) result h at n
     (ap (λ (c : Result Content CardFault). imported caller (part_number part) bytes c s) same
     ∙ import_owned caller (part_number part) bytes read s x (owner.2 ∙ ap Ok his)) told kept

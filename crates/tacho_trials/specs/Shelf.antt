@@ -1,22 +1,28 @@
 -- What the functions of a shelf do to the drivers that it holds.
-use Rattle.std.specs.Prelude.{◌≡◌, ℕ, ◌<◌, ◌⊎◌, List, [], ◌∷◌, length, Option, None, Some, Result, Ok, Err, bytes_eq, slice_get, if◌then◌else◌}
+use Rattle.std.specs.Prelude.{◌≡◌, ℕ, ◌+◌, ◌<◌, ◌≤◌, ◌⊎◌, false, List, [], ◌∷◌, ◌++◌, length, Option, None, Some, Result, Ok, Err, bytes_eq, slice_get, if◌then◌else◌}
 use Rattle.tacho_time.specs.declared.span.Span.{Span}
+use Rattle.tacho_time.specs.Spans.{Gives, Conflicts}
 use Rattle.tacho_card.specs.declared.fault.CardFault.{CardFault}
 use Rattle.tacho_card.specs.declared.file.Part.{Part}
 use Rattle.tacho_state.specs.declared.fault.StoreFault.{StoreFault}
-use Rattle.tacho_state.specs.declared.fault.StoreFault.TheVariants.{Memory, UnknownDriver, NotYourCard, Card}
+use Rattle.tacho_state.specs.declared.fault.StoreFault.TheVariants.{Memory, UnknownDriver, NotYourCard, Contradiction, Card}
 use Rattle.tacho_state.specs.declared.imported.Imported.{Imported}
 use Rattle.tacho_state.specs.declared.imported.Imported.TheVariants.{Added, Repeated}
 use Rattle.tacho_state.specs.Content.{Tells}
 use Rattle.tacho_state.specs.Registration.{Registration}
-use Rattle.tacho_state.specs.State.{Driver, State, driver_of, holding, with_download}
-use Rattle.tacho_state.specs.Steps.{Turn}
+use Rattle.tacho_state.specs.State.{Download, Entry, Driver, State, driver_of, holding, given_spans, entered_spans, with_download}
+use Rattle.tacho_state.specs.Steps.{Turn, most}
 use Rattle.tacho_state.specs.Acts.{Answers, left}
 
 -- no two drivers have one number
 abbrev pub AreNumbered : State → Type 0
 AreNumbered [] = Unit {0}
 AreNumbered (d ∷ s) = (driver_of d.number s ≡ None) × AreNumbered s
+
+-- what a driver has: it gives no minute two marks, and he has no more entries than he may
+pub record AreKept (downloads : List Download) (entries : List Entry) : Type 0 where
+  pub agreed : (m : ℕ) → ¬ (Conflicts (Gives (given_spans downloads ++ entered_spans entries)) m)
+  pub few : length entries ≤ most
 
 -- the place of a driver who was looked for, or no place where there is none
 abbrev pub IsPlaceOf : State → Option Driver → Option ℕ → Type 0
@@ -26,6 +32,14 @@ IsPlaceOf s sought None = sought ≡ None
 -- a fault is want of memory, or it is what the step answers
 abbrev pub IsFaultOf : {A : Type 0} → Result A StoreFault → StoreFault → Type 0
 IsFaultOf told fault = (fault ≡ Memory) ⊎ (told ≡ Err fault)
+
+-- a fault is want of memory, or the least minute that is contradicted
+abbrev pub IsLeast : Option ℕ → StoreFault → Type 0
+IsLeast least fault = (fault ≡ Memory) ⊎ ((m : ℕ) × (fault ≡ Contradiction m) × (least ≡ Some m))
+
+-- at the place stands the entry with the number, and it isn't withdrawn
+abbrev pub IsEnteredAt : List Entry → ℕ → ℕ → Type 0
+IsEnteredAt entries number i = (number ≡ 1 + i) × ((e : Entry) × (slice_get entries i ≡ Some e) × (e.withdrawn ≡ false))
 
 -- a fault is want of memory, or the first fault that a card file has, read by a part
 abbrev pub IsCardFault : Part → List ℕ → StoreFault → Type 0

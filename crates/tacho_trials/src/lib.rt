@@ -3,6 +3,7 @@
 #![tactic(auto)]
 
 mod content;
+mod hours;
 mod row;
 mod shelf;
 

@@ -1,7 +1,11 @@
 //! Rows: what an archive without drivers answers, step by step.
 
-use crate::step::Step::{Adds, Has, HasNoLine, Holds, Lacks, Rebase, Refuses, Register, Repeats};
-use crate::step::{Code, Pieces, Step};
+use crate::step::Standing::{Kept, Withdrawn};
+use crate::step::Step::{
+    Adds, Enter, Has, HasNoEntries, HasNoLine, Holds, Lacks, Lists, Rebase, Refuses, Register,
+    Repeats, Withdraw,
+};
+use crate::step::{Code, Listed, Pieces, Step};
 use tacho_card::Part;
 use tacho_state::Caller;
 use tacho_time::Activity;
@@ -41,6 +45,9 @@ const NIGHT: &str = "0504000014000000000000001065e50f00000100000000012c";
 /// A block of Tuesday's morning alone, to 08:30.
 const TUESDAY: &str = "0504000016000000000000001265e6608000020000000011e019fe";
 
+/// A block of Saturday's first ten hours alone.
+const SATURDAY: &str = "0504000016000000000000001265eba68000010000600071e06258";
+
 /// A block of activity data without records.
 const EMPTY: &str = "050400001000000000000000000000000000000000";
 
@@ -71,6 +78,15 @@ const BOTH_MORNINGS: Pieces = &[
     (1920, 1950, Activity::Work),
 ];
 
+/// What `SATURDAY` gives.
+const THE_SATURDAY: Pieces = &[(7200, 7680, Activity::Rest), (7680, 7800, Activity::Work)];
+
+/// Two entries: Monday's first five hours, and the hour behind them.
+const NIGHT_AND_WAIT: Listed = &[
+    (1, 0, 300, Activity::Rest, Kept),
+    (2, 300, 360, Activity::Available, Kept),
+];
+
 /// What `DAY` and `TUESDAY` give.
 const TWO_DAYS: Pieces = &[
     (0, 480, Activity::Rest),
@@ -80,8 +96,22 @@ const TWO_DAYS: Pieces = &[
     (1920, 1950, Activity::Work),
 ];
 
+/// Hours without lines.
+const NO_HOURS: &str = "start,past,activity\n";
+
+/// Monday's first five hours.
+pub(crate) const NIGHT_HOURS: &str =
+    "start,past,activity\n2024-03-04 00:00,2024-03-04 05:00,rest\n";
+
+/// The hours that `DAY` gives.
+const DAY_HOURS: &str = "start,past,activity\n\
+    2024-03-04 00:00,2024-03-04 08:00,rest\n\
+    2024-03-04 08:00,2024-03-04 08:30,work\n\
+    2024-03-04 08:30,2024-03-04 17:00,drive\n\
+    2024-03-05 00:00,2024-03-05 08:00,rest\n";
+
 /// Anna is registered, as driver 17.
-const REGISTER_ANNA: Step = Register(17, ANNAS_HOLDER, "anna-key-1", 0, Ok(()));
+pub(crate) const REGISTER_ANNA: Step = Register(17, ANNAS_HOLDER, "anna-key-1", 0, Ok(()));
 
 /// Bert is registered, as driver 18.
 const REGISTER_BERT: Step = Register(18, BERTS_HOLDER, "bert-key-1", 7, Ok(()));
@@ -391,8 +421,223 @@ const WHAT_IS_UNKNOWN_IS_NOT_READ: &[Step] = &[
     HasNoLine(0, Code::S4),
 ];
 
+/// Hours that contradict a file stand in its way until they are withdrawn: S6, S8.
+const HOURS_GIVE_WAY_TO_A_FILE: &[Step] = &[
+    REGISTER_ANNA,
+    Enter(
+        17,
+        "start,past,activity\n2024-03-09 00:00,2024-03-11 00:00,rest\n",
+        Ok((1, 1)),
+    ),
+    Holds(17, &[(7200, 10080, Activity::Rest)]),
+    Refuses(
+        Caller::Office,
+        Part::Both,
+        &[ANNA, SATURDAY],
+        Code::S6(7680),
+    ),
+    Withdraw(17, 1, Ok(())),
+    Adds(Caller::Office, Part::Both, &[ANNA, SATURDAY], 17, 1),
+    Holds(17, THE_SATURDAY),
+    Withdraw(17, 1, Err(Code::S8)),
+    Holds(17, THE_SATURDAY),
+    Lists(17, &[(1, 7200, 10080, Activity::Rest, Withdrawn)]),
+];
+
+/// What two entries gave is held while one of them gives it.
+const ENTRIES_OVERLAP: &[Step] = &[
+    REGISTER_ANNA,
+    Enter(
+        17,
+        "start,past,activity\n2024-03-04 00:00,2024-03-04 12:00,rest\n",
+        Ok((1, 1)),
+    ),
+    Enter(
+        17,
+        "start,past,activity\n2024-03-04 06:00,2024-03-04 18:00,rest\n",
+        Ok((2, 1)),
+    ),
+    Holds(17, &[(0, 1080, Activity::Rest)]),
+    Withdraw(17, 1, Ok(())),
+    Holds(17, &[(360, 1080, Activity::Rest)]),
+    Lists(
+        17,
+        &[
+            (1, 0, 720, Activity::Rest, Withdrawn),
+            (2, 360, 1080, Activity::Rest, Kept),
+        ],
+    ),
+];
+
+/// Entries don't count for whether a file is repeated, nor their numbers for its own.
+const A_FILE_OF_ENTERED_HOURS_IS_ADDED: &[Step] = &[
+    REGISTER_ANNA,
+    Enter(17, DAY_HOURS, Ok((1, 4))),
+    Holds(17, THE_DAY),
+    Adds(Caller::Office, Part::Both, &[ANNA, FIRST, DAY], 17, 1),
+    Holds(17, THE_DAY),
+    Withdraw(17, 1, Ok(())),
+    Withdraw(17, 2, Ok(())),
+    Withdraw(17, 3, Ok(())),
+    Withdraw(17, 4, Ok(())),
+    Holds(17, THE_DAY),
+    Repeats(Caller::Office, Part::Both, &[ANNA, FIRST, DAY], 17),
+    Lists(
+        17,
+        &[
+            (1, 0, 480, Activity::Rest, Withdrawn),
+            (2, 480, 510, Activity::Work, Withdrawn),
+            (3, 510, 1020, Activity::Drive, Withdrawn),
+            (4, 1440, 1920, Activity::Rest, Withdrawn),
+        ],
+    ),
+];
+
+/// A batch without lines takes no number.
+const NO_HOURS_ARE_ENTERED: &[Step] = &[
+    REGISTER_ANNA,
+    Enter(17, NO_HOURS, Ok((1, 0))),
+    Lists(17, &[]),
+    Enter(
+        17,
+        "start,past,activity\n\
+        2024-03-04 00:00,2024-03-04 05:00,rest\n\
+        2024-03-04 05:00,2024-03-04 06:00,available\n",
+        Ok((1, 2)),
+    ),
+    Enter(17, NO_HOURS, Ok((3, 0))),
+    Lists(17, NIGHT_AND_WAIT),
+    Holds(
+        17,
+        &[(0, 300, Activity::Rest), (300, 360, Activity::Available)],
+    ),
+];
+
+/// A batch goes in whole or not at all, and takes no number where it doesn't: S6.
+const A_BATCH_THAT_CONTRADICTS_CHANGES_NOTHING: &[Step] = &[
+    REGISTER_ANNA,
+    Adds(Caller::Office, Part::Both, &[ANNA, FIRST, DAY], 17, 1),
+    Enter(
+        17,
+        "start,past,activity\n\
+        2024-03-04 17:00,2024-03-04 18:00,work\n\
+        2024-03-05 07:00,2024-03-05 09:00,drive\n",
+        Err(Code::S6(1860)),
+    ),
+    Holds(17, THE_DAY),
+    Lists(17, &[]),
+    Enter(17, NIGHT_HOURS, Ok((1, 1))),
+    Enter(
+        17,
+        "start,past,activity\n2024-03-04 18:00,2024-03-04 20:00,available\n",
+        Ok((2, 1)),
+    ),
+    Enter(
+        17,
+        "start,past,activity\n\
+        2024-03-04 17:00,2024-03-04 18:00,work\n\
+        2024-03-04 19:59,2024-03-04 20:01,rest\n",
+        Err(Code::S6(1199)),
+    ),
+    Lists(
+        17,
+        &[
+            (1, 0, 300, Activity::Rest, Kept),
+            (2, 1080, 1200, Activity::Available, Kept),
+        ],
+    ),
+    Withdraw(17, 2, Ok(())),
+    Holds(17, THE_DAY),
+    Enter(17, NIGHT_HOURS, Ok((3, 1))),
+];
+
+/// Hours that agree with a file are joined with it, and it keeps what it gave.
+const HOURS_AGREE_WITH_A_FILE: &[Step] = &[
+    REGISTER_ANNA,
+    Adds(Caller::Office, Part::Both, &[ANNA, FIRST, DAY], 17, 1),
+    Enter(
+        17,
+        "start,past,activity\n\
+        2024-03-04 06:00,2024-03-04 07:00,rest\n\
+        2024-03-04 16:30,2024-03-04 18:00,drive\n\
+        2024-03-04 23:00,2024-03-05 00:00,rest\n",
+        Ok((1, 3)),
+    ),
+    Holds(
+        17,
+        &[
+            (0, 480, Activity::Rest),
+            (480, 510, Activity::Work),
+            (510, 1080, Activity::Drive),
+            (1380, 1920, Activity::Rest),
+        ],
+    ),
+    Withdraw(17, 1, Ok(())),
+    Withdraw(17, 3, Ok(())),
+    Holds(
+        17,
+        &[
+            (0, 480, Activity::Rest),
+            (480, 510, Activity::Work),
+            (510, 1080, Activity::Drive),
+            (1440, 1920, Activity::Rest),
+        ],
+    ),
+    Withdraw(17, 2, Ok(())),
+    Holds(17, THE_DAY),
+];
+
+/// Entries and drivers that there are not: S4, S7.
+const UNKNOWN_ENTRIES_ARE_NOT_WITHDRAWN: &[Step] = &[
+    Enter(17, NO_HOURS, Err(Code::S4)),
+    Withdraw(17, 1, Err(Code::S4)),
+    HasNoEntries(17, Code::S4),
+    REGISTER_ANNA,
+    Withdraw(17, 0, Err(Code::S7)),
+    Withdraw(17, 1, Err(Code::S7)),
+    Enter(17, NIGHT_HOURS, Ok((1, 1))),
+    Withdraw(17, 0, Err(Code::S7)),
+    Withdraw(17, 2, Err(Code::S7)),
+    Withdraw(17, 4_294_967_295, Err(Code::S7)),
+    Enter(18, NIGHT_HOURS, Err(Code::S4)),
+    Enter(0, NIGHT_HOURS, Err(Code::S4)),
+    Enter(4_294_967_295, NIGHT_HOURS, Err(Code::S4)),
+    Withdraw(18, 1, Err(Code::S4)),
+    Withdraw(4_294_967_295, 0, Err(Code::S4)),
+    HasNoEntries(18, Code::S4),
+    Lists(17, &[(1, 0, 300, Activity::Rest, Kept)]),
+];
+
+/// Each driver has his own entries and numbers.
+const ENTRIES_OF_TWO_DRIVERS_INTERLEAVE: &[Step] = &[
+    REGISTER_BERT,
+    REGISTER_ANNA,
+    Enter(17, NIGHT_HOURS, Ok((1, 1))),
+    Lists(18, &[]),
+    Holds(18, &[]),
+    Withdraw(18, 1, Err(Code::S7)),
+    Enter(
+        18,
+        "start,past,activity\n2024-03-04 00:00,2024-03-04 05:00,work\n",
+        Ok((1, 1)),
+    ),
+    Enter(
+        17,
+        "start,past,activity\n2024-03-04 05:00,2024-03-04 06:00,available\n",
+        Ok((2, 1)),
+    ),
+    Withdraw(18, 1, Ok(())),
+    Lists(17, NIGHT_AND_WAIT),
+    Lists(18, &[(1, 0, 300, Activity::Work, Withdrawn)]),
+    Holds(18, &[]),
+    Holds(
+        17,
+        &[(0, 300, Activity::Rest), (300, 360, Activity::Available)],
+    ),
+];
+
 /// Each row, with its name.
-pub(crate) const ROWS: [(&str, &[Step]); 17] = [
+pub(crate) const ROWS: [(&str, &[Step]); 25] = [
     ("a day is added", A_DAY_IS_ADDED),
     ("empty data are repeated", EMPTY_DATA_ARE_REPEATED),
     (
@@ -434,4 +679,24 @@ pub(crate) const ROWS: [(&str, &[Step]); 17] = [
     ("a card has its owner", A_CARD_HAS_ITS_OWNER),
     ("a file's fault comes first", A_FILES_FAULT_COMES_FIRST),
     ("what is unknown is not read", WHAT_IS_UNKNOWN_IS_NOT_READ),
+    ("hours give way to a file", HOURS_GIVE_WAY_TO_A_FILE),
+    ("entries overlap", ENTRIES_OVERLAP),
+    (
+        "a file of entered hours is added",
+        A_FILE_OF_ENTERED_HOURS_IS_ADDED,
+    ),
+    ("no hours are entered", NO_HOURS_ARE_ENTERED),
+    (
+        "a batch that contradicts changes nothing",
+        A_BATCH_THAT_CONTRADICTS_CHANGES_NOTHING,
+    ),
+    ("hours agree with a file", HOURS_AGREE_WITH_A_FILE),
+    (
+        "unknown entries are not withdrawn",
+        UNKNOWN_ENTRIES_ARE_NOT_WITHDRAWN,
+    ),
+    (
+        "entries of two drivers interleave",
+        ENTRIES_OF_TWO_DRIVERS_INTERLEAVE,
+    ),
 ];

@@ -1,9 +1,10 @@
-ghost use Rattle.std.specs.Prelude.{◌≡◌, ◌++◌, [], ◌∷◌, Result, Ok, Err, None, MatchOption, MatchResult, IfNone, OnOk, OnErr};
+ghost use Rattle.std.specs.Prelude.{◌≡◌, ◌++◌, [], ◌∷◌, Result, Ok, Err, None, MatchOption, MatchResult, IfNone, IfOk, OnOk, OnErr, length};
 ghost use Rattle.tacho_card.specs.declared.fault.CardFault.{CardFault};
 ghost use Rattle.tacho_line.specs.Line.{mark_at};
 ghost use Rattle.tacho_state.specs.State.{driver_of, holding};
 ghost use Rattle.tacho_state.specs.Content.{Tells, part_number};
-ghost use Rattle.tacho_state.specs.Steps.{Content, registered, imported, rebased, refused, lined, downloaded};
+ghost use Rattle.tacho_state.specs.Batch.{IsBatch, batch_of};
+ghost use Rattle.tacho_state.specs.Steps.{Content, registered, imported, entered, withdrawn, rebased, refused, lined, listed, downloaded};
 ghost use Rattle.tacho_state.specs.Acts.{Answers, caller_number};
 ghost use Rattle.tacho_trials.specs.Shelf.{Turns, IsOwnerAt, known, known_by, owner_of, new_driver};
 
@@ -13,7 +14,7 @@ use std::alloc::{AllocError, Global};
 use std::marker::Model;
 use tacho_card::Part;
 use tacho_line::Line;
-use tacho_state::{Caller, Driver, Imported, Keeper, StoreFault};
+use tacho_state::{Caller, Driver, Entered, Entry, EntryLine, Imported, Keeper, StoreFault};
 use tacho_time::Day;
 
 /// An archive in memory. No two of its drivers have one number.
@@ -97,6 +98,33 @@ impl Shelf {
         Ok(())
     }
 
+    /// Enters a batch of hours, whole or not at all: S4, S6, S14.
+    fn enter_lines(
+        &mut self,
+        alloc: Global,
+        driver: u32,
+        lines: &[EntryLine],
+    ) -> Result<Entered, StoreFault>
+        requires { IsBatch lines.now }
+        ensures entered { Turns (λ done. done.first) self.old self.new result (entered driver (batch_of lines.now)) }
+        ensures count { IfOk result (λ done. done.count ≡ length lines.now) }
+    {
+        let Some(place) = place_of(&self.drivers, driver) else {
+            return Err(StoreFault::UnknownDriver);
+        };
+        self.drivers[place].enter(alloc, lines)
+    }
+
+    /// Withdraws an entry of a driver: S4, S7, S8.
+    fn withdraw_entry(&mut self, driver: u32, number: u32) -> Result<(), StoreFault>
+        ensures { Turns (λ _. tt) self.old self.new result (withdrawn driver number) }
+    {
+        let Some(place) = place_of(&self.drivers, driver) else {
+            return Err(StoreFault::UnknownDriver);
+        };
+        self.drivers[place].withdraw(number)
+    }
+
     /// Sets the day from which a driver is examined: S4, S9.
     fn set_base(&mut self, driver: u32, base: Day) -> Result<(), StoreFault>
         ensures { Turns (λ _. tt) self.old self.new result (rebased driver base) }
@@ -120,6 +148,19 @@ impl Shelf {
         };
         match self.drivers[place].line(alloc) {
             Ok(line) => Ok(line),
+            Err(_) => Err(StoreFault::Memory),
+        }
+    }
+
+    /// The entries of a driver by their numbers: S4.
+    fn entries_of(&self, alloc: Global, driver: u32) -> Result<Vec<Entry>, StoreFault>
+        ensures { Answers (λ entries. entries.items) result (listed driver self.now) }
+    {
+        let Some(place) = place_of(&self.drivers, driver) else {
+            return Err(StoreFault::UnknownDriver);
+        };
+        match self.drivers[place].entries(alloc) {
+            Ok(entries) => Ok(entries),
             Err(_) => Err(StoreFault::Memory),
         }
     }
@@ -223,12 +264,29 @@ impl Keeper for Shelf {
         self.add_file(alloc, caller, part, file)
     }
 
+    fn enter(
+        &mut self,
+        alloc: Global,
+        driver: u32,
+        lines: &[EntryLine],
+    ) -> Result<Entered, StoreFault> {
+        self.enter_lines(alloc, driver, lines)
+    }
+
+    fn withdraw(&mut self, alloc: Global, driver: u32, number: u32) -> Result<(), StoreFault> {
+        self.withdraw_entry(driver, number)
+    }
+
     fn rebase(&mut self, driver: u32, base: Day) -> Result<(), StoreFault> {
         self.set_base(driver, base)
     }
 
     fn line(&mut self, alloc: Global, driver: u32) -> Result<Line, StoreFault> {
         self.line_of(alloc, driver)
+    }
+
+    fn entries(&mut self, alloc: Global, driver: u32) -> Result<Vec<Entry>, StoreFault> {
+        self.entries_of(alloc, driver)
     }
 
     fn download(&mut self, alloc: Global, driver: u32, number: u32) -> Result<Vec<u8>, StoreFault> {

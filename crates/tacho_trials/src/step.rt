@@ -4,7 +4,9 @@ use std::alloc::Global;
 use std::process::Abort;
 use std::test::Fail;
 use tacho_card::{CardFault, Part};
-use tacho_state::{Caller, Driver, Imported, Keeper, StoreFault};
+use tacho_line::Line;
+use tacho_sheet::read_entries;
+use tacho_state::{Caller, Driver, Entered, Entry, EntryLine, Imported, Keeper, StoreFault};
 use tacho_time::{Activity, Day, Mark, Minute, Span};
 
 /// Monday 2024-03-04, from which the days of steps are counted.
@@ -15,6 +17,18 @@ pub(crate) type Blocks = &'static [&'static str];
 
 /// Spans of a driver who is alone: each from a minute to before another one, counted from Monday 00:00.
 pub(crate) type Pieces = &'static [(u16, u16, Activity)];
+
+/// Whether an entry gives its hours.
+#[derive(Clone, Copy, Debug)]
+pub(crate) enum Standing {
+    /// It does.
+    Kept,
+    /// It was withdrawn.
+    Withdrawn,
+}
+
+/// Entries of a driver: number, start, past and activity of each, with minutes counted from Monday 00:00.
+pub(crate) type Listed = &'static [(u32, u16, u16, Activity, Standing)];
 
 /// Why an archive refuses, by its code. Minutes are counted from Monday 00:00.
 #[derive(Clone, Copy, Debug)]
@@ -31,10 +45,16 @@ pub(crate) enum Code {
     S5,
     /// This minute would have two marks, and none before it.
     S6(u16),
+    /// No entry has the number.
+    S7,
+    /// The entry is withdrawn already.
+    S8,
     /// The day isn't a Monday.
     S9,
     /// No download has the number.
     S10,
+    /// There is no number for it any more.
+    S14,
     /// S11: the block at this offset goes past the file's end.
     C1(usize),
     /// S11: the file has no identification.
@@ -56,14 +76,22 @@ pub(crate) enum Step {
     Repeats(Caller, Part, Blocks, u32),
     /// An import is refused.
     Refuses(Caller, Part, Blocks, Code),
+    /// The hours of a text of CSV are entered for a driver: the number of the first, and how many there are.
+    Enter(u32, &'static str, Result<(u32, u32), Code>),
+    /// An entry of a driver is withdrawn.
+    Withdraw(u32, u32, Result<(), Code>),
     /// A driver is examined from another day.
     Rebase(u32, u8, Result<(), Code>),
     /// A driver's timeline is exactly these spans.
     Holds(u32, Pieces),
+    /// A driver's entries are exactly these.
+    Lists(u32, Listed),
     /// A driver has a download with this number: a file of these blocks.
     Has(u32, u32, Blocks),
     /// Of a driver no timeline is read.
     HasNoLine(u32, Code),
+    /// Of a driver no entries are read.
+    HasNoEntries(u32, Code),
     /// Of a driver no download with this number is read.
     Lacks(u32, u32, Code),
 }
@@ -90,65 +118,140 @@ fn take_one<K: Keeper>(
     row: &str,
     step: Step,
 ) -> Result<(), Fail> {
+    let place = format!(in alloc; "{row}: {step:?}")?;
+    let place = place.as_str();
     match step {
         Step::Register(number, holder, key, day, wanted) => {
             let driver = driver(alloc, number, holder, key, day)?;
-            assert_eq!(rt;
-                keeper.register(&driver),
-                wanted.map_err(refusal_of),
-                "{row}: {step:?}"
-            );
+            assert_done(rt, place, keeper.register(&driver), wanted);
         }
         Step::Adds(caller, part, blocks, driver, number) => {
             let answer = keeper.import(alloc, caller, part, &file(alloc, blocks)?);
-            assert_eq!(rt;
-                answer,
-                Ok(Imported::Added { driver, number }),
-                "{row}: {step:?}"
-            );
+            assert_imported(rt, place, answer, Ok(Imported::Added { driver, number }));
         }
         Step::Repeats(caller, part, blocks, driver) => {
             let answer = keeper.import(alloc, caller, part, &file(alloc, blocks)?);
-            assert_eq!(rt;
-                answer,
-                Ok(Imported::Repeated { driver }),
-                "{row}: {step:?}"
-            );
+            assert_imported(rt, place, answer, Ok(Imported::Repeated { driver }));
         }
         Step::Refuses(caller, part, blocks, code) => {
             let answer = keeper.import(alloc, caller, part, &file(alloc, blocks)?);
-            assert_eq!(rt; answer, Err(refusal_of(code)), "{row}: {step:?}");
+            assert_imported(rt, place, answer, Err(refusal_of(code)));
         }
-        Step::Rebase(number, day, wanted) => {
-            assert_eq!(rt;
-                keeper.rebase(number, day_of(day)),
-                wanted.map_err(refusal_of),
-                "{row}: {step:?}"
-            );
+        Step::Enter(driver, text, wanted) => {
+            let lines = read_entries(alloc, text.as_bytes())?;
+            assert_entered(rt, place, keeper.enter(alloc, driver, &lines), wanted);
         }
-        Step::Holds(number, pieces) => {
-            let line = keeper.line(alloc, number)?;
-            let spans = spans_of(alloc, pieces)?;
-            assert_eq!(rt; line.spans(), spans.as_slice(), "{row}: {step:?}");
+        Step::Withdraw(driver, number, wanted) => {
+            assert_done(rt, place, keeper.withdraw(alloc, driver, number), wanted);
         }
-        Step::Has(number, download, blocks) => {
-            let read = keeper.download(alloc, number, download)?;
-            let file = file(alloc, blocks)?;
-            assert_eq!(rt; read.as_slice(), file.as_slice(), "{row}: {step:?}");
+        Step::Rebase(driver, day, wanted) => {
+            assert_done(rt, place, keeper.rebase(driver, day_of(day)), wanted);
         }
-        Step::HasNoLine(number, code) => {
-            assert_eq!(rt;
-                keeper.line(alloc, number).err(),
-                Some(refusal_of(code)),
-                "{row}: {step:?}"
-            );
+        Step::Holds(driver, pieces) => {
+            assert_held(rt, alloc, place, &keeper.line(alloc, driver)?, pieces)?;
         }
-        Step::Lacks(number, download, code) => {
-            let found = keeper.download(alloc, number, download);
-            assert_eq!(rt; found.err(), Some(refusal_of(code)), "{row}: {step:?}");
+        Step::Lists(driver, listed) => {
+            assert_listed(rt, alloc, place, &keeper.entries(alloc, driver)?, listed)?;
+        }
+        Step::Has(driver, number, blocks) => {
+            assert_read(
+                rt,
+                alloc,
+                place,
+                &keeper.download(alloc, driver, number)?,
+                blocks,
+            )?;
+        }
+        Step::HasNoLine(driver, code) => {
+            assert_refused(rt, place, keeper.line(alloc, driver).err(), code);
+        }
+        Step::HasNoEntries(driver, code) => {
+            assert_refused(rt, place, keeper.entries(alloc, driver).err(), code);
+        }
+        Step::Lacks(driver, number, code) => {
+            let found = keeper.download(alloc, driver, number);
+            assert_refused(rt, place, found.err(), code);
         }
     }
     Ok(())
+}
+
+/// A command that tells nothing was done, or refused by a code.
+fn assert_done(
+    rt: &impl Abort,
+    place: &str,
+    answer: Result<(), StoreFault>,
+    wanted: Result<(), Code>,
+) {
+    assert_eq!(rt; answer, wanted.map_err(refusal_of), "{place}");
+}
+
+/// An import did what was wanted.
+fn assert_imported(
+    rt: &impl Abort,
+    place: &str,
+    answer: Result<Imported, StoreFault>,
+    wanted: Result<Imported, StoreFault>,
+) {
+    assert_eq!(rt; answer, wanted, "{place}");
+}
+
+/// Hours were entered with these numbers, or refused by a code.
+fn assert_entered(
+    rt: &impl Abort,
+    place: &str,
+    answer: Result<Entered, StoreFault>,
+    wanted: Result<(u32, u32), Code>,
+) {
+    let wanted = match wanted {
+        Ok((first, count)) => Ok(Entered { first, count }),
+        Err(code) => Err(refusal_of(code)),
+    };
+    assert_eq!(rt; answer, wanted, "{place}");
+}
+
+/// A timeline is that of pieces.
+fn assert_held(
+    rt: &impl Abort,
+    alloc: Global,
+    place: &str,
+    line: &Line,
+    pieces: Pieces,
+) -> Result<(), Fail> {
+    let spans = spans_of(alloc, pieces)?;
+    assert_eq!(rt; line.spans(), spans.as_slice(), "{place}");
+    Ok(())
+}
+
+/// Entries are those of a list.
+fn assert_listed(
+    rt: &impl Abort,
+    alloc: Global,
+    place: &str,
+    found: &[Entry],
+    listed: Listed,
+) -> Result<(), Fail> {
+    let entries = entries_of(alloc, listed)?;
+    assert_eq!(rt; found, entries.as_slice(), "{place}");
+    Ok(())
+}
+
+/// A download is a file of blocks.
+fn assert_read(
+    rt: &impl Abort,
+    alloc: Global,
+    place: &str,
+    found: &[u8],
+    blocks: Blocks,
+) -> Result<(), Fail> {
+    let file = file(alloc, blocks)?;
+    assert_eq!(rt; found, file.as_slice(), "{place}");
+    Ok(())
+}
+
+/// A reading was refused by a code.
+fn assert_refused(rt: &impl Abort, place: &str, fault: Option<StoreFault>, code: Code) {
+    assert_eq!(rt; fault, Some(refusal_of(code)), "{place}");
 }
 
 /// A driver as he is registered.
@@ -189,6 +292,23 @@ fn spans_of(alloc: Global, pieces: Pieces) -> Result<Vec<Span>, Fail> {
     Ok(spans)
 }
 
+/// The entries of a list.
+fn entries_of(alloc: Global, listed: Listed) -> Result<Vec<Entry>, Fail> {
+    let mut entries = Vec::new(alloc);
+    for &(number, start, past, activity, standing) in listed {
+        entries.push(Entry {
+            number,
+            line: EntryLine {
+                start: minute_of(start),
+                past: minute_of(past),
+                activity,
+            },
+            withdrawn: matches!(standing, Standing::Withdrawn),
+        })?;
+    }
+    Ok(entries)
+}
+
 /// The refusal that has a code.
 fn refusal_of(code: Code) -> StoreFault {
     match code {
@@ -198,8 +318,11 @@ fn refusal_of(code: Code) -> StoreFault {
         Code::S4 => StoreFault::UnknownDriver,
         Code::S5 => StoreFault::NotYourCard,
         Code::S6(minute) => StoreFault::Contradiction(minute_of(minute)),
+        Code::S7 => StoreFault::UnknownEntry,
+        Code::S8 => StoreFault::AlreadyWithdrawn,
         Code::S9 => StoreFault::NotMonday,
         Code::S10 => StoreFault::UnknownDownload,
+        Code::S14 => StoreFault::Full,
         Code::C1(offset) => StoreFault::Card(CardFault::Truncated(offset)),
         Code::C3 => StoreFault::Card(CardFault::NoIdentification),
         Code::C6 => StoreFault::Card(CardFault::NoActivity),

@@ -1,7 +1,7 @@
 ghost use Rattle.std.specs.Prelude.{◌≡◌, false, IfOk, IfErr};
 
 use crate::Shelf;
-use crate::rows::{A_DAY_IS_ADDED, ROWS};
+use crate::rows::{A_DAY_IS_ADDED, NIGHT_HOURS, REGISTER_ANNA, ROWS};
 use crate::step::{Step, take};
 use sqlite::{Alter, Connection, FileStore};
 use sqlite_disk::Disk;
@@ -9,14 +9,18 @@ use std::alloc::Global;
 use std::fs;
 use std::process::Abort;
 use std::test::Fail;
-use tacho_state::StoreFault;
+use tacho_state::{Keeper, StoreFault};
 use tacho_store::{Archive, open_memory};
+use tacho_time::Activity;
 
 /// The folder of a test's files.
 const FOLDER: &str = "tacho_trials_test";
 
 /// A file of a test.
 const PATH: &str = "tacho_trials_test/archive.db";
+
+/// How many entries of the same hours a test makes.
+const SAME: u32 = 1_000;
 
 /// The archive that a store has.
 fn adopted<S: Alter + Drop>(conn: Connection<S>) -> Result<Archive<S>, StoreFault>
@@ -148,4 +152,35 @@ fn a_store_with_other_tables_has_no_archive(rt: HostRuntime) -> Result<(), Fail>
     let count: i64 = row.get(0)?;
     assert_eq!(rt; count, 1);
     Ok(())
+}
+
+/// Enters the same hours many times, and withdraws them in another order: they are held until the last.
+fn withdraw_one_by_one<K: Keeper>(
+    rt: &impl Abort,
+    alloc: Global,
+    keeper: &mut K,
+) -> Result<(), Fail> {
+    let row = "the same hours";
+    take(rt, alloc, keeper, row, &[REGISTER_ANNA])?;
+    for number in 1..=SAME {
+        let enter = Step::Enter(17, NIGHT_HOURS, Ok((number, 1)));
+        take(rt, alloc, keeper, row, &[enter])?;
+    }
+    let held = Step::Holds(17, &[(0, 300, Activity::Rest)]);
+    for place in 0..SAME {
+        // Each number comes once, as 387 and the count have no divisor in common.
+        let withdraw = Step::Withdraw(17, place * 387 % SAME + 1, Ok(()));
+        take(rt, alloc, keeper, row, &[held, withdraw])?;
+    }
+    take(rt, alloc, keeper, row, &[Step::Holds(17, &[])])
+}
+
+#[test]
+fn the_same_hours_over_a_shelf(rt: HostRuntime) -> Result<(), Fail> {
+    withdraw_one_by_one(&rt, rt.alloc(), &mut Shelf::new(rt.alloc()))
+}
+
+#[test]
+fn the_same_hours_over_an_archive(rt: HostRuntime) -> Result<(), Fail> {
+    withdraw_one_by_one(&rt, rt.alloc(), &mut open_memory(rt.alloc())?)
 }

@@ -1,24 +1,26 @@
-use Rattle.std.proofs.Common.{◌≡◌, ◌∙◌, ◌++◌, ◌∷◌, [], List, ℕ, ap, sym, subst}
+use Rattle.std.proofs.Common.{◌≡◌, ◌∙◌, ◌++◌, ◌∷◌, [], List, ap, sym, subst}
 use Rattle.tacho_time.specs.declared.span.Span.{Span}
-use Rattle.tacho_time.specs.Spans.{Gives, Conflicts}
-use Rattle.tacho_state.specs.State.{Download, Driver, given_spans}
+use Rattle.tacho_time.specs.Spans.{IsCanonical}
+use Rattle.tacho_state.specs.State.{Download, Driver}
 use Rattle.tacho_state.specs.Content.{part_number}
-use Rattle.tacho_trials.proofs.ImportLemmas.{given_push}
+use Rattle.tacho_trials.specs.Shelf.{AreKept}
+use Rattle.tacho_trials.proofs.GainLemmas.{none_empty}
+use Rattle.tacho_trials.proofs.ImportLemmas.{kept_download}
 use Rattle.tacho_trials.proofs.row.Row.import.Goals as goal
 
-pub invariant_of-self : goal.invariant_of-self
-invariant_of-self c =
-    let same : c.push.new.self.items ≡ c.self.inside.downloads.items = c.in_default-push.ensures.items in
-    subst (λ (ds : List Download). (m : ℕ) → ¬ (Conflicts (Gives (given_spans ds)) m)) (sym same) c.self.invariant
+pub number_for-requires : goal.number_for-requires
+number_for-requires c = none_empty c.deref.result.now (subst IsCanonical (sym c.deref.ensures.value) c.requires)
 
 pub invariant_of-self-2 : goal.invariant_of-self-2
 invariant_of-self-2 c =
     let downloads = c.self.inside.downloads.items in
-    let added : Download = record { part = part_number c.args.part; file = c.in-Ok.file.items; spans = c.args.spans.items } in
-    let after : c.push.new.self.items ≡ downloads ++ added ∷ [] = c.in-Ok-push.ensures.items in
-    let all : given_spans c.push.new.self.items ≡ given_spans c.args.self.now.downloads ++ c.deref.result.now =
-    ap given_spans after ∙ given_push downloads added ∙ ap (λ (d : Driver). given_spans d.downloads ++ c.args.spans.items) c.self.view_is
-    ∙ ap (λ (xs : List Span). given_spans c.args.self.now.downloads ++ xs) (sym c.deref.ensures.value)
-    in
+    let added : List Span → Download = λ spans. record { part = part_number c.args.part; file = c.in-Ok.file.items; spans = spans } in
+    let kept = subst (λ (d : Driver). AreKept d.downloads d.entries) c.self.view_is c.self.invariant in
     let agreed = rw c.in-Some.is at c.in_ok-number.ensures.agreed in
-    subst (λ (xs : List Span). (m : ℕ) → ¬ (Conflicts (Gives xs) m)) (sym all) agreed
+    let more = kept_download c.args.self.now (part_number c.args.part) c.in-Ok.file.items c.deref.result.now kept agreed in
+    let after : c.push.new.self.items ≡ downloads ++ added c.args.spans.items ∷ [] = c.in-Ok-push.ensures.items in
+    let same : downloads ++ added c.deref.result.now ∷ [] ≡ c.push.new.self.items =
+    ap (λ (xs : List Span). downloads ++ added xs ∷ []) c.deref.ensures.value ∙ sym after
+    in
+    subst (λ (ds : List Download). AreKept ds c.self.inside.entries.items) same
+    (subst (λ (d : Driver). AreKept (d.downloads ++ added c.deref.result.now ∷ []) d.entries) (sym c.self.view_is) more)

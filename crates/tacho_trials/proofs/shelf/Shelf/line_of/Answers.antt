@@ -13,4 +13,4 @@ returns-in-Ok c =
     let place = subst (λ (t : State). IsPlaceOf t (driver_of c.args.driver t) (Some c.in-Some.place)) c.deref.ensures.value c.in-Some.ensures in
     let at = slice_get_read s (length s) c.in-Some.place c.index.result.now refl place.0 c.index.ensures in
     subst (λ (t : State). lined c.args.driver t ≡ Ok (mark_at c.in-Ok.line)) c.self.view_is
-    (lined_at c.args.driver s c.index.result.now c.in-Ok.line (sym place.1 ∙ at) c.in-Ok.ensures.held)
+    (lined_at c.args.driver s c.index.result.now c.in-Ok.line (sym place.1 ∙ at) c.in-Ok.ensures)
