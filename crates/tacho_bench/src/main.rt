@@ -1,18 +1,34 @@
-//! Work on timelines, to be measured. Two numbers make a line of so many spans, and then add so many days to it, one at
-//! a time. The word `examine` and three numbers make a line of so many working days with shifts of so many pieces, and
-//! examine it so many times.
+//! Work on timelines and on texts, to be measured. Two numbers make a line of so many spans, and then add so many days to
+//! it, one at a time. The word `examine` and three numbers make a line of so many working days with shifts of so many
+//! pieces, and examine it so many times. The word `entries` and a number read the hours that standard input enters, as CSV,
+//! so many times.
 #![tactic(auto)]
 
+mod sheet;
 mod years;
 
 use std::alloc::Global;
 use std::rt::Env;
 use std::{env, io};
 use tacho_line::{Line, LineFault};
-use tacho_time::{Activity, Mark, Minute, Span};
+use tacho_time::{Activity, Device, Mark, Minute, Span, read_all};
 
 /// The first minute of 3 January 2000.
 pub(crate) const START: u32 = 15_780_960;
+
+/// How many bytes an input has at the most.
+const LIMIT: usize = 1_048_576;
+
+/// What is measured.
+#[derive(Clone, Copy)]
+enum Work {
+    /// The adding of days to a timeline.
+    Adding,
+    /// The examination of a timeline.
+    Examining,
+    /// The reading of entered hours.
+    Reading,
+}
 
 /// The span of an hour, from so many hours after the start on. Two that touch have different marks.
 fn hour(number: u32) -> Span {
@@ -93,17 +109,21 @@ fn number(rt: &(impl Env + Alloc), place: usize) -> u32 {
     24
 }
 
-/// Whether the first word of the command line is `examine`.
-fn is_to_examine(rt: &(impl Env + Alloc)) -> bool {
+/// The work that the first word of the command line names.
+fn asked(rt: &(impl Env + Alloc)) -> Work {
     let Ok(words) = env::args(rt) else {
-        return false;
+        return Work::Adding;
     };
     for (i, word) in words.enumerate() {
         if i == 1 {
-            return word.as_str() == "examine";
+            return match word.as_str() {
+                "examine" => Work::Examining,
+                "entries" => Work::Reading,
+                _ => Work::Adding,
+            };
         }
     }
-    false
+    Work::Adding
 }
 
 /// Adds days to a line, and prints how many spans it has then.
@@ -127,10 +147,26 @@ fn tell_examined(rt: &(impl Env + Alloc + Print), alloc: Global) -> io::Result<(
     }
 }
 
+/// Reads entered hours, and prints what was found.
+fn tell_entered(rt: &(impl Env + Alloc + Print), alloc: Global, bytes: &[u8]) -> io::Result<()> {
+    match sheet::entered(alloc, bytes, number(rt, 2)) {
+        Ok(count) => {
+            println!(rt;
+                "{} lines, {} minutes, {} rests",
+                count.lines, count.minutes, count.rests
+            )
+        }
+        Err(fault) => println!(rt; "{fault}"),
+    }
+}
+
 fn main(rt: HostRuntime) -> io::Result<()> {
-    if is_to_examine(&rt) {
-        tell_examined(&rt, rt.alloc())
-    } else {
-        tell_added(&rt, rt.alloc())
+    match asked(&rt) {
+        Work::Adding => tell_added(&rt, rt.alloc()),
+        Work::Examining => tell_examined(&rt, rt.alloc()),
+        Work::Reading => match read_all(rt.alloc(), &mut Device::new(rt.stdin()), LIMIT) {
+            Ok(bytes) => tell_entered(&rt, rt.alloc(), &bytes),
+            Err(_) => println!(rt; "not read"),
+        },
     }
 }

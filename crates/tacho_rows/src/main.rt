@@ -4,6 +4,7 @@
 mod card;
 mod reports;
 mod rules;
+mod sheet;
 mod timeline;
 
 use std::alloc::Global;
@@ -26,6 +27,10 @@ enum Question {
     Rules,
     /// The reports of timelines, a line of words each.
     Reports,
+    /// The hours that a text of CSV enters.
+    Entries,
+    /// The driver that a text of CSV registers.
+    Driver,
 }
 
 /// The question that the word of the command line names.
@@ -37,6 +42,8 @@ fn asked(rt: &(impl Env + Alloc)) -> io::Result<Question> {
             "second" => return Ok(Question::Card(Part::Second)),
             "rules" => return Ok(Question::Rules),
             "reports" => return Ok(Question::Reports),
+            "entries" => return Ok(Question::Entries),
+            "driver" => return Ok(Question::Driver),
             _ => (),
         }
     }
@@ -50,6 +57,8 @@ fn answer(rt: &impl Print, alloc: Global, question: Question, bytes: &[u8]) -> i
         Question::Timeline => timeline::answer(rt, alloc, bytes),
         Question::Rules => rules::answer(rt, alloc, bytes),
         Question::Reports => reports::answer(rt, alloc, bytes),
+        Question::Entries => sheet::tell_entries(rt, alloc, bytes),
+        Question::Driver => sheet::tell_driver(rt, alloc, bytes),
     }
 }
 
