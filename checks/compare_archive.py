@@ -18,9 +18,10 @@ import counting
 import programs
 import random_cards
 import slow_archive
+import slow_reader
 
 SEEDS = 160
-COMMANDS = 30
+COMMANDS = 40
 PROCESSES = 2
 
 HOLDER = "0d4431323334353637383930313233"
@@ -31,6 +32,7 @@ OTHER_VALUE = "00000014" "0000001465e50f0000010064000011ea1a0823f2" "0014001065e
 DAY = CARD + "0504000028" + VALUE
 OTHER_DAY = CARD + "0504000028" + OTHER_VALUE
 NOON = CARD + "0504000016" "00000000" "0000001265e50f0000010000000011e019fe"
+SATURDAY = CARD + "0504000016" "00000000" "0000001265eba68000010000600071e06258"
 NOTHING = CARD + "0504000010" + "00" * 16
 BOTH = DAY + "0504020028" + OTHER_VALUE
 
@@ -38,6 +40,7 @@ ADDED = "added driver 17 number 1"
 REPEATED = "repeated driver 17"
 MORNING = "line 28491840 28492320 0 28492320 28492350 2"
 WHOLE_DAY = f"{MORNING} 28492350 28492860 3 28493280 28493760 0"
+DAY_HOURS = "28491840 28492320 0 28492320 28492350 2 28492350 28492860 3 28493280 28493760 0"
 
 # Commands and what they answer, in an archive that has Anna.
 ROWS = {
@@ -78,6 +81,63 @@ ROWS = {
         ("rebase 17 19787", "S9"),
         ("rebase 19 19787", "S4"),
     ],
+    "hours that give way to a file": [
+        ("enter 17 28499040 28501920 0", "entered 1 count 1"),
+        (f"import office both {SATURDAY}", "S6 28499520"),
+        ("withdraw 17 1", "withdrawn"),
+        (f"import office both {SATURDAY}", ADDED),
+        ("line 17", "line 28499040 28499520 0 28499520 28499640 2"),
+        ("withdraw 17 1", "S8"),
+        ("entries 17", "entries 1 28499040 28501920 0 withdrawn"),
+    ],
+    "entries that overlap": [
+        ("enter 17 28491840 28492560 0", "entered 1 count 1"),
+        ("enter 17 28492200 28492920 0", "entered 2 count 1"),
+        ("withdraw 17 1", "withdrawn"),
+        ("line 17", "line 28492200 28492920 0"),
+        ("entries 17", "entries 1 28491840 28492560 0 withdrawn 2 28492200 28492920 0 kept"),
+    ],
+    "a file of entered hours": [
+        (f"enter 17 {DAY_HOURS}", "entered 1 count 4"),
+        ("line 17", WHOLE_DAY),
+        (f"import office both {DAY}", ADDED),
+        *[(f"withdraw 17 {number}", "withdrawn") for number in [1, 2, 3, 4]],
+        ("line 17", WHOLE_DAY),
+        (f"import office both {DAY}", REPEATED),
+    ],
+    "no hours": [
+        ("enter 17", "entered 1 count 0"),
+        ("enter 17 28491840 28492320 0 28492320 28492350 2", "entered 1 count 2"),
+        ("enter 17", "entered 3 count 0"),
+        ("line 17", MORNING),
+        ("enter 18", "S4"),
+    ],
+    "a batch that contradicts": [
+        (f"import office both {DAY}", ADDED),
+        ("enter 17 28492860 28492920 2 28493700 28493820 3", "S6 28493700"),
+        ("line 17", WHOLE_DAY),
+        ("entries 17", "entries"),
+        ("enter 17 28491840 28492140 0", "entered 1 count 1"),
+    ],
+    "hours that agree": [
+        (f"import office both {DAY}", ADDED),
+        ("enter 17 28492200 28492260 0 28492830 28492920 3 28493220 28493280 0", "entered 1 count 3"),
+        ("line 17", f"{MORNING} 28492350 28492920 3 28493220 28493760 0"),
+        ("withdraw 17 1", "withdrawn"),
+        ("withdraw 17 3", "withdrawn"),
+        ("line 17", f"{MORNING} 28492350 28492920 3 28493280 28493760 0"),
+        ("withdraw 17 2", "withdrawn"),
+        ("line 17", WHOLE_DAY),
+    ],
+    "unknown entries": [
+        ("withdraw 17 0", "S7"),
+        ("withdraw 17 1", "S7"),
+        ("enter 18 28491840 28492140 0", "S4"),
+        ("withdraw 18 1", "S4"),
+        ("entries 18", "S4"),
+        ("enter 17 28491840 28492140 0", "entered 1 count 1"),
+        ("withdraw 17 2", "S7"),
+    ],
 }
 
 
@@ -102,15 +162,18 @@ BAD_NUMBERS = [0, 1_000_000]
 BAD_KEYS = ["short-1", "under_score", "k" * 65]
 BAD_NAMES = [b"", b"Berg, Anna", b'Anna "A"', b"Anna\x7f", b"n" * 65]
 OTHER_BASES = [19_787, 19_792, 10_958, 47_482, 0]
+LENGTHS = [1, 2, 30, 60, 300, 1440, 2880]
+MINUTES = range(1440 * slow_reader.READ_DAYS.start, 1440 * slow_reader.READ_DAYS.stop)
 
 
 class Commands:
-    """Commands of a seed, on a few drivers and their cards."""
+    """Commands of a seed, on a few drivers and their cards, and on what these hold after the commands before."""
 
     def __init__(self, seed):
         self.chance = random.Random(seed)
         self.cards = [random_cards.Card(self.chance, holder) for holder in random_cards.HOLDERS]
         self.imports = []
+        self.archive = slow_archive.Archive()
 
     def one_of(self, usual, others=()):
         """A usual value, or rarely another one."""
@@ -155,11 +218,66 @@ class Commands:
         """A download that is there or not."""
         return f"download {self.one_of(NUMBERS, [16])} {self.chance.randrange(4)}"
 
+    def driver(self):
+        """A driver's number, and what he holds: start, past and mark of each run of minutes."""
+        number = self.one_of(NUMBERS, [0, 16])
+        driver = self.archive.drivers.get(number)
+        return number, slow_reader.runs(driver.held().items()) if driver else []
+
+    def start(self, runs):
+        """A minute from which hours are: one where held minutes begin or end, or close to it, or any of a card's days."""
+        if runs and self.chance.random() < 0.8:
+            return self.chance.choice(self.chance.choice(runs)[:2]) + self.one_of([-30, -1, 0, 0, 0, 1, 30])
+        return 1440 * self.chance.choice(self.chance.choice(self.cards).days)[0] + self.chance.randrange(1440)
+
+    def activity(self, runs, start, past):
+        """The number of an activity: mostly one that a held minute has among these, or beside them, if there is any."""
+        near = [mark for a, b, mark in runs if a <= past and b >= start]
+        if near and self.chance.random() < 0.9:
+            return slow_reader.ACTIVITIES.index(self.chance.choice(near)[0])
+        return self.chance.randrange(4)
+
+    def hours(self, runs, start, past):
+        """A line of hours within some minutes, which may end where others of what is held begin or end."""
+        ends = [end for run in runs for end in run[:2] if start < end <= past]
+        if ends and self.chance.random() < 0.5:
+            past = self.chance.choice(ends)
+        return f"{start} {past} {self.activity(runs, start, past)}"
+
+    def enter(self):
+        """A batch of hours, or of none: lines that agree with what the driver holds, or touch it, or contradict it."""
+        number, runs = self.driver()
+        starts = sorted({self.start(runs) for _ in range(self.one_of([1, 1, 2, 3, 4], [0]))})
+        lines = [
+            self.hours(runs, start, min(start + self.chance.choice(LENGTHS), limit))
+            for start, limit in zip(starts, [*starts[1:], MINUTES[-1]])
+            if start in MINUTES and start < limit
+        ]
+        return " ".join([f"enter {number}", *lines])
+
+    def withdraw(self):
+        """A withdrawal of an entry that is kept or withdrawn, or of one that there isn't."""
+        drivers = [driver for driver in self.archive.drivers.values() if driver.entries]
+        if not drivers or self.chance.random() < 0.1:
+            return f"withdraw {self.one_of(NUMBERS, [0, 16])} {self.chance.randrange(4)}"
+        driver = self.chance.choice(drivers)
+        return f"withdraw {driver.number} {self.chance.randrange(1, len(driver.entries) + 1)}"
+
+    def entries(self):
+        """A driver's entries."""
+        return f"entries {self.one_of(NUMBERS, [0, 16])}"
+
     def all(self):
         """The commands: some drivers first, and then anything."""
+        kinds = [self.import_new] * 7 + [self.enter] * 7 + [self.withdraw] * 4
+        kinds += [self.import_again, self.line, self.entries, self.download, self.rebase, self.register]
         commands = self.registrations()
-        kinds = [self.import_new] * 7 + [self.import_again, self.line, self.download, self.rebase, self.register]
-        return commands + [self.chance.choice(kinds)() for _ in range(COMMANDS - len(commands))]
+        for command in commands:
+            self.archive.answer(command)
+        while len(commands) < COMMANDS:
+            commands.append(self.chance.choice(kinds)())
+            self.archive.answer(commands[-1])
+        return commands
 
 
 # What is told
@@ -171,9 +289,24 @@ def line_of(told):
     return f"S11 {compare_files.line_of(fault).strip()}" if code == "S11" else told
 
 
+def sheet_of(words):
+    """The text of CSV for lines of hours, three words each."""
+    rows = ["start,past,activity"]
+    for start, past, activity in zip(words[::3], words[1::3], words[2::3]):
+        times = [slow_reader.minute_text(int(minute)) for minute in (start, past)]
+        rows.append(",".join([*times, slow_reader.ACTIVITIES[int(activity)]]))
+    return "".join(row + "\n" for row in rows)
+
+
+def line_for(command):
+    """The line by which the program is given a command."""
+    words = command.split()
+    return f"enter {words[1]} {sheet_of(words[2:]).encode().hex()}" if words[0] == "enter" else command
+
+
 def given(commands):
     """The input with commands."""
-    return "".join(command + "\n" for command in commands).encode()
+    return "".join(line_for(command) + "\n" for command in commands).encode()
 
 
 def lines_of(text, status):

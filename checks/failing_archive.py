@@ -28,6 +28,8 @@ NOT_OPENED = [
 ]
 
 WITH_DAY = [ANNA, f"import office both {DAY}"]
+HOURS = "28492260 28492320 0 28492830 28492920 3"
+WITH_HOURS = [*WITH_DAY, f"enter 17 {HOURS}"]
 
 # What an archive has before, and the command.
 CASES = {
@@ -37,8 +39,13 @@ CASES = {
     "a second download": ([ANNA, f"import office both {NOON}"], f"import 17 both {DAY}"),
     "a repeated file": (WITH_DAY, f"import 17 both {NOON}"),
     "a contradiction": (WITH_DAY, f"import office both {OTHER_DAY}"),
+    "first hours": ([ANNA], f"enter 17 {HOURS}"),
+    "hours beside a download": (WITH_DAY, f"enter 17 {HOURS}"),
+    "hours that contradict": (WITH_HOURS, "enter 17 28492860 28492900 3 28492900 28493000 2"),
+    "a withdrawal": (WITH_HOURS, "withdraw 17 2"),
     "another base": ([ANNA], "rebase 17 19793"),
     "a timeline": (WITH_DAY, "line 17"),
+    "entries": (WITH_HOURS, "entries 17"),
     "a file": (WITH_DAY, "download 17 1"),
 }
 

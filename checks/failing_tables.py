@@ -19,10 +19,10 @@ def tests(program):
     return re.findall(r"^(.+): test$", listed, re.MULTILINE)
 
 
-def told(run):
+def told(run, faults=FAULTS):
     """How a test ended: by a fault, by passing, or with what it said."""
     said = run.stderr.decode(errors="backslashreplace").splitlines()
-    return next((line for line in said if line in FAULTS), "passed" if run.returncode == 0 else said)
+    return next((line for line in said if line in faults), "passed" if run.returncode == 0 else said)
 
 
 def comparisons(program, compiler):

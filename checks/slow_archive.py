@@ -1,13 +1,19 @@
-"""A slow archive of drivers, written from the definitions and not from the program: it keeps the mark of each minute.
-`docs/TABLES.md` says what the tables are.
+"""A slow archive of drivers, written from the definitions and not from the program: a driver has a list of downloads and a list
+of entries, and the minutes that he holds, each with its mark, are found from these. `docs/TABLES.md` says what the tables are.
 
 A command is a line of words, and so is its answer (`Archive.answer`). Bytes are hexadecimal, `-` where there are none:
 
     register NUMBER HOLDER KEY BASE NAME    registered
     import office|NUMBER PART FILE          added driver NUMBER number NUMBER, repeated driver NUMBER
+    enter NUMBER and lines of hours         entered NUMBER count COUNT
+    withdraw NUMBER NUMBER                  withdrawn
     rebase NUMBER BASE                      rebased
     line NUMBER                             line, and start, past and mark of each span
+    entries NUMBER                          entries; number, start, past and activity of each, and kept or withdrawn
     download NUMBER NUMBER                  download, and the file
+
+A line of hours is three words: start and past, by their minutes, and the number of the activity. The program is given a text of
+CSV in their place (`sheet_of` in `compare_archive.py`).
 
 A refusal answers its code, S6 with the minute, and S11 with the line of the file's fault. A registration with a column out
 of its limits answers the first of these, before any archive is asked.
@@ -23,12 +29,26 @@ MOST = 1_000_000
 Download = namedtuple("Download", "part file marks")
 
 
+class Entry:
+    """Hours of one activity that were entered by hand: the minutes from start to before past."""
+
+    def __init__(self, start, past, activity):
+        self.start = start
+        self.past = past
+        self.mark = slow_reader.ACTIVITIES[activity], "single"
+        self.is_withdrawn = False
+
+    def marks(self):
+        """What it gives: the mark of each of its minutes, or nothing where it was withdrawn."""
+        return {} if self.is_withdrawn else dict.fromkeys(range(self.start, self.past), self.mark)
+
+
 class Refusal(Exception):
     """The answer of a command that does nothing."""
 
 
 class Driver:
-    """A driver: his downloads in the order of their numbers, and the mark of each minute that he holds."""
+    """A driver: his downloads and his entries, each in the order of their numbers."""
 
     def __init__(self, number, holder, key, base, name):
         self.number = number
@@ -37,7 +57,21 @@ class Driver:
         self.base = base
         self.name = name
         self.downloads = []
-        self.held = {}
+        self.entries = []
+
+    def held(self):
+        """The mark of each minute that he holds: what downloads give, and entries that aren't withdrawn."""
+        held = {}
+        for given in [download.marks for download in self.downloads] + [entry.marks() for entry in self.entries]:
+            held.update(given)
+        return held
+
+    def check(self, marks):
+        """Refuses marks that contradict what he holds, for the least minute: S6."""
+        held = self.held()
+        contradicted = [minute for minute, mark in marks.items() if held.get(minute, mark) != mark]
+        if contradicted:
+            raise Refusal(f"S6 {min(contradicted)}")
 
     def gives(self, minute, mark):
         """Whether a download gives the minute this mark."""
@@ -47,14 +81,31 @@ class Driver:
         """Takes a file, unless downloads give all its minutes already."""
         if all(self.gives(minute, mark) for minute, mark in marks.items()):
             return f"repeated driver {self.number}"
-        contradicted = [minute for minute, mark in marks.items() if self.held.get(minute, mark) != mark]
-        if contradicted:
-            raise Refusal(f"S6 {min(contradicted)}")
+        self.check(marks)
         if len(self.downloads) == MOST:
             raise Refusal("S14")
         self.downloads.append(Download(part, file, marks))
-        self.held.update(marks)
         return f"added driver {self.number} number {len(self.downloads)}"
+
+    def enter(self, batch):
+        """Takes all entries of a batch, or none: S6, S14. No two of them have a minute in common."""
+        for entry in sorted(batch, key=lambda entry: entry.start):
+            self.check(entry.marks())
+        if len(self.entries) + len(batch) > MOST:
+            raise Refusal("S14")
+        first = len(self.entries) + 1
+        self.entries.extend(batch)
+        return f"entered {first} count {len(batch)}"
+
+    def withdraw(self, number):
+        """Withdraws an entry: S7, S8."""
+        if not 1 <= number <= len(self.entries):
+            raise Refusal("S7")
+        entry = self.entries[number - 1]
+        if entry.is_withdrawn:
+            raise Refusal("S8")
+        entry.is_withdrawn = True
+        return "withdrawn"
 
 
 # Words
@@ -130,8 +181,11 @@ class Archive:
         commands = {
             "register": self.register,
             "import": self.import_file,
+            "enter": self.enter,
+            "withdraw": self.withdraw,
             "rebase": self.rebase,
             "line": self.line,
+            "entries": self.entries,
             "download": self.download,
         }
         try:
@@ -175,6 +229,15 @@ class Archive:
             raise Refusal("S5")
         return driver.take(part, file, marks)
 
+    def enter(self, number, *lines):
+        """S4, S6, S14."""
+        numbers = [int(word) for word in lines]
+        return self.driver(int(number)).enter([Entry(*numbers[place : place + 3]) for place in range(0, len(numbers), 3)])
+
+    def withdraw(self, number, entry):
+        """S4, S7, S8."""
+        return self.driver(int(number)).withdraw(int(entry))
+
     def rebase(self, number, base):
         """S4, S9."""
         driver = self.driver(int(number))
@@ -184,8 +247,16 @@ class Archive:
 
     def line(self, number):
         """S4."""
-        held = slow_reader.runs(self.driver(int(number)).held.items())
+        held = slow_reader.runs(self.driver(int(number)).held().items())
         return " ".join(["line"] + [f"{start} {past} {mark_number(mark)}" for start, past, mark in held])
+
+    def entries(self, number):
+        """S4."""
+        words = ["entries"]
+        for place, entry in enumerate(self.driver(int(number)).entries, 1):
+            standing = "withdrawn" if entry.is_withdrawn else "kept"
+            words.append(f"{place} {entry.start} {entry.past} {mark_number(entry.mark)} {standing}")
+        return " ".join(words)
 
     def download(self, number, download):
         """S4, S10."""
@@ -199,13 +270,19 @@ class Archive:
         drivers = sorted(self.drivers.values(), key=lambda driver: driver.number)
         return {
             "meta": [(1, 1)],
-            "drivers": [(d.number, d.holder, d.key, d.base, d.name.decode(), len(d.downloads), 0) for d in drivers],
+            "drivers": [
+                (d.number, d.holder, d.key, d.base, d.name.decode(), len(d.downloads), len(d.entries)) for d in drivers
+            ],
             "downloads": [
                 (driver.number, number, PARTS.index(download.part), download.file)
                 for driver in drivers
                 for number, download in enumerate(driver.downloads, 1)
             ],
-            "entries": [],
+            "entries": [
+                (driver.number, number, entry.start, entry.past, mark_number(entry.mark), int(entry.is_withdrawn))
+                for driver in drivers
+                for number, entry in enumerate(driver.entries, 1)
+            ],
             "card_spans": sorted(
                 {
                     (driver.number, minute, mark_number(mark))
@@ -214,5 +291,5 @@ class Archive:
                     for minute, mark in download.marks.items()
                 }
             ),
-            "held": sorted((d.number, minute, mark_number(mark)) for d in drivers for minute, mark in d.held.items()),
+            "held": sorted((d.number, minute, mark_number(mark)) for d in drivers for minute, mark in d.held().items()),
         }
