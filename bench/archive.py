@@ -3,8 +3,9 @@
 Each of the two is a running program that is told commands, a line each. The processor time that it has had is asked of
 the system before a command and after its answer, so that neither the opening of an archive nor what filled it counts;
 what the command `nothing` takes is taken out. Each time is the least of some rounds. Before the first measure a program
-registers a driver and imports a card of one day, so that it has met each statement. At the end both files have to have
-the same tables."""
+registers a driver, imports a card of one day, and enters and withdraws hours, so that it has met each statement. At the
+end both files have to have the same tables."""
+import datetime
 import json
 import os
 import shutil
@@ -19,7 +20,17 @@ import cards
 ROUNDS = 12
 SPARE, OLD, NEW = 999_999, 1, range(100, 110)  # the drivers of the one day, of ten years, and who are registered anew
 YEARS, DRIVERS = 10, 50
-ARCHIVES = ["empty", "ten years", "fifty drivers"]
+ENTRIES, ENTERED = [10, 1_000, 10_000], 10  # entries that are there, and those that are entered and withdrawn
+ARCHIVES = {  # beside each the one from which its growth is told
+    "empty": "empty",
+    "ten years": "empty",
+    "fifty drivers": "empty",
+    "10 entries": "10 entries",
+    "ten years, 10 entries": "10 entries",
+    "ten years, 1000 entries": "ten years, 10 entries",
+    "ten years, 10000 entries": "ten years, 10 entries",
+}
+DAY, SHIFT, WORK = 1440, (480, 960), cards.mark_number(("work", ""))  # minutes of a day, an entry's hours, and its mark
 STOCK = [sys.executable, os.path.join(cards.TOP, "bench", "stock.py")]
 
 
@@ -64,17 +75,18 @@ class Program:
             sys.exit(f"{self.words} failed")
 
 
-# Cards, and what is done with them: commands with their answers
+# Cards and hours, and what is done with them: commands with their answers
 
 
-class Cards:
-    """Card files in a folder, each with the rows that an archive keeps of it beside it."""
+class Files:
+    """Card files and texts of hours in a folder, each with the rows that an archive keeps of it beside it."""
 
     def __init__(self, folder):
         self.folder = folder
         self.year = cards.year_of(cards.read("examples", "driver-year.ddd"))
         self.day = cards.read("crates", "tacho_archive_bench", "data", "card.ddd")
         self.year_rows = cards.rows_of(self.year)
+        self.past = self.year_rows[-1][1] // DAY  # the day after it
 
     def written(self, driver, file, rows):
         """The path of a driver's card file of these rows."""
@@ -94,6 +106,23 @@ class Cards:
         """The path of a driver's card of a day."""
         return self.written(driver, self.day, cards.rows_of(self.day))
 
+    def sheet(self, first, count):
+        """The path of a text of hours: a shift of work on each of so many days, from a first one on."""
+        path = os.path.join(self.folder, f"{first}-{count}.csv")
+        rows = [(*(day * DAY + minute for minute in SHIFT), WORK) for day in range(first, first + count)]
+        with open(path, "w", encoding="utf-8") as written:
+            written.write("start,past,activity\n")
+            for start, past, _ in rows:
+                written.write(f"{time_text(start)},{time_text(past)},work\n")
+        with open(path + ".rows", "w", encoding="utf-8") as written:
+            json.dump({"spans": rows}, written)
+        return path
+
+
+def time_text(minute):
+    """A minute as a text of hours writes it."""
+    return f"{datetime.datetime(1970, 1, 1) + datetime.timedelta(minutes=minute):%Y-%m-%d %H:%M}"
+
 
 def registering(driver, path):
     return [(f"card {path}", f"card {path}"), (f"register {driver}", f"registered {driver}")]
@@ -103,16 +132,26 @@ def importing(driver, number, path):
     return [(f"card {path}", f"card {path}"), ("import", f"added {driver} {number}")]
 
 
+def entering(driver, first, count, path):
+    return [(f"sheet {path}", f"sheet {path}"), (f"enter {driver}", f"entered {first} {count}")]
+
+
+def withdrawing(driver, number):
+    return [(f"withdraw {driver} {number}", "withdrawn")]
+
+
 def filling(files):
-    """What fills each archive."""
-    years = registering(OLD, files.a_year(OLD))
+    """What fills each archive. Its entries are of the days after the cards'."""
+    alone = registering(OLD, files.a_year(OLD))
+    years = list(alone)
     for number in range(1, YEARS + 1):
         years += importing(OLD, number, files.a_year(OLD, number - 1 - YEARS))
     drivers = []
     for driver in range(1, DRIVERS + 1):
         path = files.a_year(driver)
         drivers += registering(driver, path) + importing(driver, 1, path)
-    return dict(zip(ARCHIVES, [[], years, drivers]))
+    entries = [entering(OLD, 1, count, files.sheet(files.past, count)) for count in ENTRIES]
+    return dict(zip(ARCHIVES, [[], years, drivers, alone + entries[0], *(years + entered for entered in entries)]))
 
 
 def measuring(files):
@@ -120,7 +159,12 @@ def measuring(files):
     registers = [registering(driver, files.a_year(driver)) for driver in NEW]
     first = importing(NEW[0], 1, files.a_year(NEW[0]))
     next_year = importing(OLD, YEARS + 1, files.a_year(OLD))
-    return {name: {"register": registers, "import": [work]} for name, work in zip(ARCHIVES, [first, next_year, first])}
+    works = [{"register": registers, "import": [work]} for work in (first, next_year, first)]
+    for count in (ENTRIES[0], *ENTRIES):
+        numbers = range(count + 1, count + 1 + ENTERED)
+        enters = [entering(OLD, number, 1, files.sheet(files.past + number, 1)) for number in numbers]
+        works.append({"enter": enters, "withdraw": [withdrawing(OLD, number) for number in numbers]})
+    return dict(zip(ARCHIVES, works))
 
 
 # The times
@@ -214,29 +258,33 @@ def settings(folder):
 
 
 def tell(place, found):
-    """Prints the times of a place: the growth is that from the empty archive on."""
-    for work in ("register", "import"):
-        times = [{name: done[work] - done["nothing"] for name, done in found[side].items()} for side in ("tacho", "stock")]
-        for name in ARCHIVES:
+    """Prints the times of a place, with the growth from the archive that ARCHIVES names beside each."""
+    for work in ("register", "import", "enter", "withdraw"):
+        sides = [found[side].items() for side in ("tacho", "stock")]
+        times = [{name: done[work] - done["nothing"] for name, done in side if work in done} for side in sides]
+        for name in times[0]:
             ours, theirs = (side[name] for side in times)
-            grown = " ".join(f"{side[name] / side['empty']:7.2f}" for side in times)
-            print(f"{place:7} {work:9} {name:14} {ours:8.3f} {theirs:8.3f} {ours / theirs:6.2f} {grown}")
+            grown = " ".join(f"{side[name] / side[ARCHIVES[name]]:7.2f}" for side in times)
+            print(f"{place:7} {work:9} {name:25} {ours:8.3f} {theirs:8.3f} {ours / theirs:6.2f} {grown}")
 
 
 def archives(folder, program):
     """Measures the program with archives, and stock SQLite."""
-    sides, files = {"tacho": [program], "stock": STOCK}, Cards(folder)
+    sides, files = {"tacho": [program], "stock": STOCK}, Files(folder)
     fills, works = filling(files), measuring(files)
     card = files.a_day(SPARE)
     warm = registering(SPARE, card) + importing(SPARE, 1, card)
+    warm += entering(SPARE, 1, 1, files.sheet(files.past, 1)) + withdrawing(SPARE, 1)
     make_files(sides, fills, folder)
-    print(f"an archive: processor time in ms, the least of {ROUNDS} rounds, and its growth from the empty archive on")
+    print(f"an archive: processor time in ms, the least of {ROUNDS} rounds, and its growth")
     print(f"an import is of a year, {len(files.year_rows)} spans, by the office; ten years of that driver, or a year of fifty others")
+    print("enter is of one entry of eight hours, and withdraw of it, for a driver with other entries, and ten years or no cards")
+    print("the growth is from the empty archive on, from no cards on to 10 entries with ten years, and from these on to more")
     print("a file of the archive's SQLite: journal_mode wal, synchronous 2, one process, cache of 2000 pages, log of 1000 frames")
     print(f"a file of stock SQLite {sqlite3.sqlite_version}, by Python: {settings(folder)}")
-    print(f"{'':32} {'tacho':>8} {'stock':>8} {'ratio':>6} {'tacho':>7} {'stock':>7}")
+    print(f"{'':43} {'tacho':>8} {'stock':>8} {'ratio':>6} {'tacho':>7} {'stock':>7}")
     for place in ("memory", "file"):
         found = measured(sides, place, folder, fills, works, warm)
         tell(place, found)
-    starts = ", ".join(f"{found['tacho'][name]['start']:.0f} ({name})" for name in ARCHIVES)
-    print(f"the opening of a file, which is aside, takes tacho {starts} ms")
+    starts = "; ".join(f"{found['tacho'][name]['start']:.0f} ({name})" for name in ARCHIVES)
+    print(f"the opening of a file, which is aside, takes tacho so many ms: {starts}")

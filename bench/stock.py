@@ -1,8 +1,9 @@
 #!/usr/bin/env python3
 """What an archive makes of its tables, by stock SQLite: the same tables and statements, each command in one transaction.
 
-It takes the words and the commands of the program tacho_archive_bench, and answers the same. Beside a card file there
-are the rows that an archive keeps of it, so that no card is read here and nothing is decided: what is measured is SQLite."""
+It takes the words and the commands of the program tacho_archive_bench, and answers the same. Beside a card file, and beside a
+text of hours, there are the rows that an archive keeps of it, so that neither is read here and nothing is decided: what is
+measured is SQLite."""
 import json
 import sqlite3
 import sys
@@ -23,7 +24,12 @@ TABLES = [
     " past INTEGER NOT NULL, mark INTEGER NOT NULL, PRIMARY KEY (driver, start)) STRICT",
     "INSERT INTO meta (id, version) VALUES (1, 1)",
 ]
-NEAR = "SELECT start, past, mark FROM {} WHERE driver = ?1 AND start < ?3 AND ?2 < past ORDER BY start"
+DRIVER = "SELECT holder, base, downloads, entries FROM drivers WHERE driver = ?1"
+BEFORE = "SELECT start, past, mark FROM {} WHERE driver = ?1 AND start < ?2 ORDER BY start DESC LIMIT 1"
+BEGUN = "SELECT start, past, mark FROM {} WHERE driver = ?1 AND ?2 <= start AND start < ?3 ORDER BY start"
+KEPT_NEAR = (
+    "SELECT start, past, mark FROM entries WHERE driver = ?1 AND withdrawn = 0 AND start < ?3 AND ?2 < past ORDER BY start"
+)
 ADD = "INSERT INTO {} (driver, start, past, mark) VALUES (?1, ?2, ?3, ?4)"
 
 
@@ -57,9 +63,30 @@ class Card:
         self.spans = [(self.driver, *span) for span in rows["spans"]]
 
 
+class Sheet:
+    """The rows that an archive keeps of a text of hours."""
+
+    def __init__(self, path):
+        with open(path + ".rows", encoding="utf-8") as file:
+            self.spans = [tuple(span) for span in json.load(file)["spans"]]
+        self.range = (self.spans[0][0], self.spans[-1][1])
+
+
 def first(connection, text, *values):
     """The first row of an answer, or None."""
     return connection.execute(text, values).fetchone()
+
+
+def first_start(connection, table, driver, start, past):
+    """Where the first row near a range begins."""
+    before = first(connection, BEFORE.format(table), driver, start)
+    return before[0] if before and before[0] < past and start < before[1] else start
+
+
+def rows_near(connection, table, driver, start, past):
+    """The rows near a range."""
+    begin = first_start(connection, table, driver, start, past)
+    return connection.execute(BEGUN.format(table), (driver, begin, past)).fetchall()
 
 
 def register(connection, driver, card):
@@ -67,7 +94,7 @@ def register(connection, driver, card):
     key = f"driver-{driver}"
     connection.execute("BEGIN")
     taken = [
-        first(connection, "SELECT holder, base, downloads, entries FROM drivers WHERE driver = ?1", driver),
+        first(connection, DRIVER, driver),
         first(connection, "SELECT driver FROM drivers WHERE secret = ?1", key),
         first(connection, "SELECT driver FROM drivers WHERE holder = ?1", card.holder),
     ]
@@ -85,10 +112,8 @@ def import_card(connection, card):
     """Adds a download and its spans."""
     connection.execute("BEGIN")
     (driver,) = first(connection, "SELECT driver FROM drivers WHERE holder = ?1", card.holder)
-    found = first(connection, "SELECT holder, base, downloads, entries FROM drivers WHERE driver = ?1", driver)
-    number = found[2] + 1
-    near = [connection.execute(NEAR.format(table), card.range).fetchall() for table in ("card_spans", "held")]
-    if any(near):
+    number = first(connection, DRIVER, driver)[2] + 1
+    if any([rows_near(connection, table, *card.range) for table in ("card_spans", "held")]):
         raise ValueError("spans near those of the card are there")
     connection.execute("UPDATE drivers SET downloads = ?2 WHERE driver = ?1", (driver, number))
     connection.execute("INSERT INTO downloads (driver, number, part, file) VALUES (?1, ?2, ?3, ?4)", (driver, number, 0, card.file))
@@ -98,6 +123,41 @@ def import_card(connection, card):
     return f"added {driver} {number}"
 
 
+def enter(connection, driver, sheet):
+    """Adds entries and their spans."""
+    connection.execute("BEGIN")
+    number = first(connection, DRIVER, driver)[3] + 1
+    if rows_near(connection, "held", driver, *sheet.range):
+        raise ValueError("spans near the hours are there")
+    count = len(sheet.spans)
+    connection.execute("UPDATE drivers SET entries = ?2 WHERE driver = ?1", (driver, number - 1 + count))
+    connection.executemany(
+        "INSERT INTO entries (driver, number, start, past, mark, withdrawn) VALUES (?1, ?2, ?3, ?4, ?5, 0)",
+        [(driver, place, *span) for place, span in enumerate(sheet.spans, number)],
+    )
+    connection.executemany(ADD.format("held"), [(driver, *span) for span in sheet.spans])
+    connection.execute("COMMIT")
+    return f"entered {number} {count}"
+
+
+def withdraw(connection, driver, number):
+    """Marks an entry as withdrawn, and removes its span, which nothing else gives."""
+    key = (driver, number)
+    connection.execute("BEGIN")
+    first(connection, DRIVER, driver)
+    text = "SELECT number, start, past, mark, withdrawn FROM entries WHERE driver = ?1 AND number = ?2"
+    _, start, past, mark, _ = first(connection, text, *key)
+    connection.execute("UPDATE entries SET withdrawn = 1 WHERE driver = ?1 AND number = ?2", key)
+    cards = rows_near(connection, "card_spans", driver, start, past)
+    others = connection.execute(KEPT_NEAR, (driver, start, past)).fetchall()
+    if cards or others or rows_near(connection, "held", driver, start, past) != [(start, past, mark)]:
+        raise ValueError("other spans near the entry are there")
+    begin = first_start(connection, "held", driver, start, past)
+    connection.execute("DELETE FROM held WHERE driver = ?1 AND ?2 <= start AND start < ?3", (driver, begin, past))
+    connection.execute("COMMIT")
+    return "withdrawn"
+
+
 def settings(connection):
     """The settings that matter, as SQLite names them."""
     names = ["journal_mode", "synchronous", "locking_mode", "cache_size", "page_size", "foreign_keys", "wal_autocheckpoint"]
@@ -105,17 +165,23 @@ def settings(connection):
 
 
 def main(place="memory", path=None):
-    connection, card = opened(place, path), None
+    connection, card, sheet = opened(place, path), None, None
     print("ready", flush=True)
     for line in iter(sys.stdin.readline, ""):
         command, _, word = line.rstrip("\n").partition(" ")
         answer = command
         if command == "card":
             card, answer = Card(word), f"card {word}"
+        elif command == "sheet":
+            sheet, answer = Sheet(word), f"sheet {word}"
         elif command == "register":
             answer = register(connection, int(word), card)
         elif command == "import":
             answer = import_card(connection, card)
+        elif command == "enter":
+            answer = enter(connection, int(word), sheet)
+        elif command == "withdraw":
+            answer = withdraw(connection, *map(int, word.split()))
         elif command == "settings":
             answer = settings(connection)
         print(answer, flush=True)
