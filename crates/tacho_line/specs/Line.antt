@@ -27,6 +27,10 @@ Holds line m mark = mark_at line m ≡ Some mark
 abbrev pub IsWithin : ℕ → ℕ → ℕ → Type 0
 IsWithin start past m = (start ≤ m) × (m < past)
 
+-- two lines give each minute of the range the same mark
+abbrev pub AgreeWithin : ℕ → ℕ → List Span → List Span → Type 0
+AgreeWithin start past line other = (m : ℕ) → IsWithin start past m → mark_at line m ≡ mark_at other m
+
 -- ---- gains
 
 -- a span has no minute

@@ -13,6 +13,3 @@ mod slice;
 pub use gap::Gap;
 pub use horizon::{Cause, Horizon};
 pub use line::{Line, LineFault};
-
-#[cfg(test)]
-mod tests;

@@ -16,5 +16,4 @@ pub mod RestJoining
 pub mod Slicing
 pub mod Gathering
 pub mod Reporting
-pub mod Laying
 pub mod PageFacts

@@ -1,6 +1,8 @@
 -- A report is the only one, and where all is rest there is nothing to report.
 use Rattle.std.proofs.Common.{◌≡◌, ℕ, ◌-◌, ◌<◌, ◌≤◌, inl, inr, List, [], ◌∷◌, Option, None, Some, true, false, refl, sym, ap, subst, ◌∙◌, arith}
+use Rattle.std.specs.Prelude.{◌&&◌, nat_le, nat_lt, if◌then◌else◌}
 use Rattle.std.specs.List.{All, Contains}
+use Rattle.std.specs.Option.{option_map_or}
 use Rattle.std.proofs.lemmas.Bool.{cases_lt}
 use Rattle.std.proofs.lemmas.List.Elements.{All-contains}
 use Rattle.tacho_time.specs.declared.span.Activity.TheVariants.{Rest, Drive}
@@ -77,6 +79,30 @@ one_report held base horizon other found others debts owed a b =
     let equal : debts ≡ owed = one_debts (examined held base other.minute) other.minute debts owed a'.are_debts b.are_debts in
     let a'' : IsReport held base other found owed = subst (λ (ds : List Debt). IsReport held base other found ds) equal a' in
     (same, one_found held base other found others owed a'' b, equal)
+
+-- spans that hold the same marks have the same report
+pub report_by_marks : (held other : List Span) (base : ℕ) (horizon : Horizon) (found : List Breach) (debts : List Debt)
+    → ((m : ℕ) → mark_at held m ≡ mark_at other m)
+    → IsReport held base horizon found debts → IsReport other base horizon found debts
+report_by_marks held other base horizon found debts each r =
+    let marks : mark_at held ≡ mark_at other = λ i m. each m i in
+    let same : examined held base horizon.minute ≡ examined other base horizon.minute = ap
+    (λ (f : ℕ → Option Mark). λ m. if nat_le base m && nat_lt m horizon.minute then option_map_or (λ mark. mark.activity) (f m) Rest
+    else Rest) marks in
+    record {
+      is_horizon = record {
+        from = r.is_horizon.from;
+        single = λ m within. subst IsSingle (each m) (r.is_horizon.single m within);
+        cause = subst (λ (x : Option Mark). IsCause x horizon.cause) (each horizon.minute) r.is_horizon.cause;
+      };
+      runs = r.runs;
+      breaks = r.breaks;
+      are_runs = subst (λ (line : Line). AreRestRuns line r.runs) same r.are_runs;
+      are_breaks = r.are_breaks;
+      are_debts = subst (λ (line : Line). AreDebts line horizon.minute debts) same r.are_debts;
+      exactly = subst (λ (line : Line). AreExactly (λ breach. IsBreach line base horizon.minute r.breaks debts breach.kind breach) found)
+          same r.exactly;
+    }
 
 -- a list that contains nothing is empty
 empty : {A : Type 0} (xs : List A) → ((x : A) → Contains xs x → ⊥) → xs ≡ []

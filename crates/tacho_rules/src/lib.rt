@@ -10,8 +10,3 @@ pub use examination::examine;
 pub use found::{Found, Report};
 pub use tacho_hours::{Breach, Debt, Kind};
 pub use tacho_line::{Cause, Horizon};
-
-#[cfg(test)]
-mod report_tests;
-#[cfg(test)]
-mod tests;

@@ -6,4 +6,5 @@ pub mod Steps
 pub mod Limits
 pub mod Registration
 pub mod Content
+pub mod Reported
 pub mod Acts

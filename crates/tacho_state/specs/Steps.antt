@@ -152,3 +152,7 @@ file_of (Some d) = Ok d.file
 
 abbrev pub downloaded : ℕ → ℕ → State → Result (List ℕ) StoreFault
 downloaded n number s = told_of (λ d. file_of (download_from 1 number d.downloads)) (driver_of n s)
+
+-- whether there is a driver to report on
+abbrev pub reported : ℕ → State → Result (Unit {0}) StoreFault
+reported n s = told_of (λ d. Ok tt) (driver_of n s)

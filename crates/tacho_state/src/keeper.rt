@@ -1,11 +1,13 @@
-ghost use Rattle.std.specs.Prelude.{◌≡◌, ◌∷◌, ◌≤◌, List, Result, IfOk, length};
+ghost use Rattle.std.specs.Prelude.{◌≡◌, ◌⊎◌, ◌∷◌, ◌≤◌, List, Result, Err, IfOk, length, string_bytes};
 ghost use Rattle.tacho_line.specs.Line.{mark_at};
 ghost use Rattle.tacho_card.specs.declared.fault.CardFault.{CardFault};
 ghost use Rattle.tacho_state.specs.State.{State};
-ghost use Rattle.tacho_state.specs.Steps.{Content, registered, imported, entered, withdrawn, rebased, lined, listed, downloaded};
+ghost use Rattle.tacho_state.specs.Steps.{Content, registered, imported, entered, withdrawn, rebased, named, lined, listed, downloaded, reported};
+ghost use Rattle.tacho_state.specs.Reported.{IsHeldWithin, IsReportOf};
 ghost use Rattle.tacho_state.specs.Batch.{IsBatch, batch_of};
 ghost use Rattle.tacho_state.specs.Content.{Tells, part_number};
 ghost use Rattle.tacho_state.specs.Acts.{Acts, Reads, caller_number};
+ghost use Rattle.tacho_state.specs.declared.fault.StoreFault.TheVariants.{Memory};
 
 use crate::caller::Caller;
 use crate::driver::Driver;
@@ -15,7 +17,8 @@ use crate::imported::Imported;
 use std::alloc::Global;
 use tacho_card::Part;
 use tacho_line::Line;
-use tacho_time::Day;
+use tacho_rules::Report;
+use tacho_time::{Day, Minute};
 
 /// An archive, however it is kept. Each call is a step of its state (`Acts`) or reads it (`Reads`).
 pub trait Keeper {
@@ -47,7 +50,9 @@ pub trait Keeper {
         part: Part,
         file: &[u8],
     ) -> Result<Imported, StoreFault>
-        ensures { (content : Result Content CardFault) → Tells part file.now content
+        // The file was read, or there was no memory to read it, and nothing was asked of what is kept.
+        ensures read { ((content : Result Content CardFault) × Tells part file.now content) ⊎ ((result ≡ Err Memory) × (self.new ≡ self.old)) }
+        ensures imported { (content : Result Content CardFault) → Tells part file.now content
             → Acts stands is_clean is_live leaves (λ done. done) self.old self.new result (imported (caller_number caller) (part_number part) file.now content) };
 
     /// Enters a batch of hours, which goes in whole or not at all: S4, S6, S14. Its lines are numbered on from the driver's last
@@ -70,9 +75,25 @@ pub trait Keeper {
     fn rebase(&mut self, driver: u32, base: Day) -> Result<(), StoreFault>
         ensures { Acts stands is_clean is_live leaves (λ _. tt) self.old self.new result (rebased driver base) };
 
+    /// The name of a driver: S4.
+    fn name(&mut self, alloc: Global, driver: u32) -> Result<String, StoreFault>
+        ensures { Reads stands is_clean is_live leaves (λ name. string_bytes name) self.old self.new result (named driver) };
+
     /// The timeline of a driver: S4.
     fn line(&mut self, alloc: Global, driver: u32) -> Result<Line, StoreFault>
         ensures { Reads stands is_clean is_live leaves (λ line. mark_at line) self.old self.new result (lined driver) };
+
+    /// What a driver holds in a range: a timeline that gives each minute of it the mark that his own gives: S4. What it gives
+    /// other minutes says nothing, so that what lies far from the range needn't be read.
+    fn line_within(
+        &mut self,
+        alloc: Global,
+        driver: u32,
+        start: Minute,
+        past: Minute,
+    ) -> Result<Line, StoreFault>
+        ensures reads { Reads stands is_clean is_live leaves (λ _. tt) self.old self.new result (reported driver) }
+        ensures within { is_clean self.new → (s : State) → stands self.old s → IfOk result (IsHeldWithin driver start past s) };
 
     /// The entries of a driver by their numbers, withdrawn ones among them: S4.
     fn entries(&mut self, alloc: Global, driver: u32) -> Result<Vec<Entry>, StoreFault>
@@ -81,4 +102,9 @@ pub trait Keeper {
     /// The bytes of a driver's download: S4, S10.
     fn download(&mut self, alloc: Global, driver: u32, number: u32) -> Result<Vec<u8>, StoreFault>
         ensures { Reads stands is_clean is_live leaves (λ bytes. bytes.items) self.old self.new result (downloaded driver number) };
+
+    /// What the rules say of the timeline of a driver from his base on: S4.
+    fn report(&mut self, alloc: Global, driver: u32) -> Result<Report, StoreFault>
+        ensures reads { Reads stands is_clean is_live leaves (λ _. tt) self.old self.new result (reported driver) }
+        ensures report { is_clean self.new → (s : State) → stands self.old s → IfOk result (IsReportOf driver s) };
 }

@@ -10,6 +10,7 @@ mod keeper;
 pub mod laws;
 mod limits;
 mod parts;
+mod reports;
 
 pub use caller::Caller;
 pub use driver::{Column, Driver};
@@ -19,6 +20,4 @@ pub use imported::Imported;
 pub use keeper::Keeper;
 pub use limits::{first_number, is_key, is_name};
 pub use parts::{inside_of, line_of, outside_of};
-
-#[cfg(test)]
-mod tests;
+pub use reports::report_of;

@@ -11,7 +11,7 @@ use std::alloc::{AllocError, Global};
 use std::fmt;
 
 /// A line while it is put together: none here is longer.
-type Line = ArrayString<64>;
+pub type Line = ArrayString<64>;
 
 /// How many days before 1970-01-01 the calendar of `jiff` begins.
 const DAYS_TO_EPOCH: u32 = 4_371_587;
@@ -53,14 +53,22 @@ fn push_minute(line: &mut Line, minute: Minute)
     push_two_digits(line, minute.number() % 60);
 }
 
+/// A day as `YYYY-MM-DD`, without memory.
+pub fn day_line(day: Day) -> Line
+    ensures text { result.bytes ≡ day_text day }
+    ensures len { array_string_len result ≡ 10 }
+{
+    let mut line = Line::new();
+    push_day(&mut line, day);
+    line
+}
+
 /// Appends `YYYY-MM-DD`.
 pub fn write_day(text: &mut String, day: Day) -> Result<(), AllocError>
     ensures ok { OnOk result (string_bytes text.new ≡ string_bytes text.old ++ day_text day) }
     ensures err { OnErr result (string_bytes text.new ≡ string_bytes text.old) }
 {
-    let mut line = Line::new();
-    push_day(&mut line, day);
-    text.push_str(line.as_str())
+    text.push_str(day_line(day).as_str())
 }
 
 /// Appends `YYYY-MM-DD HH:MM`, in UTC.

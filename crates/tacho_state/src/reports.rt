@@ -1,0 +1,43 @@
+ghost use Rattle.std.specs.Prelude.{◌≡◌, ◌⊎◌, ◌*◌, ◌<◌, ◌≤◌, ◌↔◌, false, All, IfOk, IfErr, IfSome, IsNone, IsTrue};
+ghost use Rattle.tacho_hours.specs.Line.{IsBase};
+ghost use Rattle.tacho_rules.specs.Report.{IsReport};
+ghost use Rattle.tacho_state.specs.Steps.{is_monday};
+
+use crate::fault::StoreFault;
+use std::alloc::Global;
+use tacho_line::Line;
+use tacho_rules::{Report, examine};
+use tacho_time::{Minute, Span};
+
+/// The first minute of a day, where it is a Monday from 2000-01-03 to the end of 2099.
+fn base_of(day: u32) -> Option<Minute>
+    ensures some { IfSome result (λ base. (base ≡ 1440 * day) × IsBase base × (base ≤ 68374080)) }
+    ensures none { IsNone result → (day < 10959) ⊎ (47481 < day) ⊎ (is_monday day ≡ false) }
+{
+    if day < 10_959 || day > 47_481 || (day + 3) % 7 != 0 {
+        return None;
+    }
+    Some(Minute::new(day * 1440))
+}
+
+/// Whether no span goes past the end of 2099.
+fn are_early(spans: &[Span]) -> bool
+    ensures { IsTrue result ↔ All (λ span. span.past ≤ 68374080) spans.now }
+{
+    spans.iter().all(|span| span.past.number() <= 68_374_080)
+}
+
+/// The report of a line from the first minute of a day on. S12 where the day is no Monday from 2000-01-03 to the end of 2099, or
+/// the line goes past that end: no archive has such a base or such a line.
+pub fn report_of(alloc: Global, line: &Line, base: u32) -> Result<Report, StoreFault>
+    ensures report { IfOk result (λ report. IsReport line.now (1440 * base) report.horizon report.breaches.items report.debts.items) }
+    ensures fault { IfErr result (λ fault. (fault ≡ StoreFault.Memory) ⊎ (fault ≡ StoreFault.Store)) }
+{
+    let Some(first) = base_of(base) else {
+        return Err(StoreFault::Store);
+    };
+    if !are_early(line.spans()) {
+        return Err(StoreFault::Store);
+    }
+    Ok(examine(alloc, line, first)?)
+}
