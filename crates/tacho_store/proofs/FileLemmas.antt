@@ -1,5 +1,5 @@
 -- The import of a file's bytes, by what the file tells.
-use Rattle.std.proofs.Common.{◌≡◌, ◌∙◌, ◌⊎◌, inl, inr, ℕ, List, ◌∷◌, Option, Result, Ok, Err, refl, sym, subst}
+use Rattle.std.proofs.Common.{◌≡◌, ◌∙◌, ◌⊎◌, inl, inr, ℕ, List, ◌∷◌, Option, Result, Ok, Err, refl, sym, ap, subst}
 use Rattle.std.specs.Prelude.{IsErr, IsErrAnd}
 use Rattle.tacho_card.specs.declared.fault.CardFault.{CardFault}
 use Rattle.tacho_card.specs.declared.file.Part.{Part}
@@ -45,3 +45,11 @@ module _ {K : Type 0} (stands : K → State → Type 0) (is_clean is_live : K �
       (subst (λ g. Acts stands is_clean is_live leaves (λ done. done) k k (Err g) (imported caller (part_number part) file (Err it.0)))
       (sym (e.1 ∙ it.1))
       (record { clean = λ c. c; answer = λ _ s _. refl; state = λ _ s h. h; live = λ _. tt; crash = λ _ _ s past _ h. more k _ past h; kept = λ _ _ s _. tt }))
+
+-- the file was read, or there was no memory to read it and nothing was asked
+pub file_unread : {K : Type 0} (same : K) (part : Part) (file : List ℕ) (r : Result Imported StoreFault) (fault : StoreFault)
+    → (fault ≡ Memory) ⊎ ((f : CardFault) × (fault ≡ Card f) × Tells part file (Err f)) → IsErr r × IsErrAnd r (λ e. e ≡ fault)
+    → ((content : Result Content CardFault) × Tells part file content) ⊎ ((r ≡ Err Memory) × (same ≡ same))
+file_unread same part file (Ok x) fault told e = let wrong = e.0 in cc
+file_unread same part file (Err found) fault (inl is) e = inr (ap Err (e.1 ∙ is), refl)
+file_unread same part file (Err found) fault (inr told) e = inl (Err told.0, told.2)

@@ -1,6 +1,6 @@
 -- What look-ups find, by the state that the tables stand for.
 use Rattle.std.proofs.Common.{◌≡◌, ◌∙◌, ℕ, List, [], filter, false, Option, Some, None, Result, Ok, Err, sym, ap, subst}
-use Rattle.std.specs.Prelude.{Contains, MatchOption, is_some, ok_or, IsErr, IsErrAnd}
+use Rattle.std.specs.Prelude.{Contains, MatchOption, is_some, ok_or, IsErr, IsErrAnd, string_bytes}
 use Rattle.sqlite.specs.Tree.{Trees}
 use Rattle.tacho_state.specs.declared.fault.StoreFault.{StoreFault}
 use Rattle.tacho_state.specs.declared.fault.StoreFault.TheVariants.{Memory, Store, UnknownDriver}
@@ -22,7 +22,7 @@ pub record IsNumberOf (s : State) (n : ℕ) (d : Driver) : Type 0 where
 pub number_found : (db : Trees) (s : State) (n : ℕ) (found : Option StoredDriver) → StandsFor db s
     → ((a : Tables) → Stand db a → MatchOption found (filter (has_number n) a.drivers ≡ [])
     (λ it. (r : DriverRow) × Contains (filter (has_number n) a.drivers) r × (it.holder.items ≡ r.holder) × (it.base ≡ r.base)
-    × (it.downloads ≡ r.downloads) × (it.entries ≡ r.entries)))
+    × (string_bytes it.name ≡ r.name) × (it.downloads ≡ r.downloads) × (it.entries ≡ r.entries)))
     → MatchOption found (driver_of n s ≡ None) (λ it. (d : Driver) × (driver_of n s ≡ Some d) × IsStored it d)
 unfolding StandsFor
 number_found db s n None (t, stand, is) h = (number_none t s n is).0 (h t stand)
@@ -33,9 +33,11 @@ number_found db s n (Some it) (t, stand, is) h =
       d.1,
       record {
         holder = found.2 ∙ ap (λ (r : DriverRow). r.holder) d.2;
-        downloads = found.4
+        base = found.3 ∙ ap (λ (r : DriverRow). r.base) d.2;
+        name = found.4 ∙ ap (λ (r : DriverRow). r.name) d.2;
+        downloads = found.5
             ∙ ap (λ (r : DriverRow). r.downloads) d.2;
-        entries = found.5 ∙ ap (λ (r : DriverRow). r.entries) d.2;
+        entries = found.6 ∙ ap (λ (r : DriverRow). r.entries) d.2;
       },
     )
 

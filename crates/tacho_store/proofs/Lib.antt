@@ -27,3 +27,5 @@ mod WithdrawalLemmas
 mod ApartLemmas
 mod EnteringLemmas
 mod ListedLemmas
+mod ReportLemmas
+mod RangedLemmas

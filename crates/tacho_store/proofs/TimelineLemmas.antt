@@ -31,7 +31,7 @@ own_spans n (r ∷ rows) = go (r.driver == n) (own_spans n rows) where
   go false e = e
 
 -- two options that have the same values are one
-same_option : {X : Type 0} (a b : Option X) → ((x : X) → (a ≡ Some x) ↔ (b ≡ Some x)) → a ≡ b
+pub same_option : {X : Type 0} (a b : Option X) → ((x : X) → (a ≡ Some x) ↔ (b ≡ Some x)) → a ≡ b
 same_option None None same = refl
 same_option None (Some x) same = (same x).1 refl
 same_option (Some x) b same = sym ((same x).0 refl)

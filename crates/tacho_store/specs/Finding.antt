@@ -1,5 +1,5 @@
 -- What look-ups find, in terms of the state: a driver by his number, and that nobody has a new driver's number, key or holder.
-use Rattle.std.specs.Prelude.{◌≡◌, ℕ, List, length, Some, None, Result, Ok, Err}
+use Rattle.std.specs.Prelude.{◌≡◌, ℕ, List, length, Some, None, Result, Ok, Err, string_bytes}
 use Rattle.tacho_state.specs.declared.fault.StoreFault.{StoreFault}
 use Rattle.tacho_state.specs.declared.fault.StoreFault.TheVariants.{Memory, Store, UnknownDriver}
 use Rattle.tacho_state.specs.State.{Driver, State, driver_of, keyed, holding}
@@ -15,6 +15,8 @@ Refuses fault told = told ≡ Err fault
 -- what is stored of the driver
 pub record IsStored (it : StoredDriver) (d : Driver) : Type 0 where
   pub holder : it.holder.items ≡ d.holder
+  pub base : it.base ≡ d.base
+  pub name : string_bytes it.name ≡ d.name
   pub downloads : it.downloads ≡ length d.downloads
   pub entries : it.entries ≡ length d.entries
 

@@ -16,16 +16,17 @@ use crate::content::content_of;
 use crate::entering::enter;
 use crate::fault::store_fault;
 use crate::import::import;
-use crate::reading::{download, entries, line};
+use crate::reading::{download, entries, line, line_within, name, report};
 use crate::registration::register;
 use crate::withdrawal::withdraw;
 use sqlite::{Alter, Connection, MemStore, Transaction};
 use std::alloc::Global;
 use tacho_card::Part;
 use tacho_line::Line;
+use tacho_rules::Report;
 use tacho_state::{Caller, Driver, Entered, Entry, EntryLine, Imported, Keeper, StoreFault};
 use tacho_tables::{making, opening};
-use tacho_time::Day;
+use tacho_time::{Day, Minute};
 
 /// An archive in a store: drivers, what their cards told, and what they hold. Its calls are those of `Keeper`.
 #[derive(Drop)]
@@ -221,8 +222,22 @@ impl<S: Alter> Keeper for Archive<S> {
         rebase(&mut self.conn, driver, base)
     }
 
+    fn name(&mut self, alloc: Global, driver: u32) -> Result<String, StoreFault> {
+        name(&mut self.conn, driver)
+    }
+
     fn line(&mut self, alloc: Global, driver: u32) -> Result<Line, StoreFault> {
         line(alloc, &mut self.conn, driver)
+    }
+
+    fn line_within(
+        &mut self,
+        alloc: Global,
+        driver: u32,
+        start: Minute,
+        past: Minute,
+    ) -> Result<Line, StoreFault> {
+        line_within(alloc, &mut self.conn, driver, start, past)
     }
 
     fn entries(&mut self, alloc: Global, driver: u32) -> Result<Vec<Entry>, StoreFault> {
@@ -231,6 +246,10 @@ impl<S: Alter> Keeper for Archive<S> {
 
     fn download(&mut self, alloc: Global, driver: u32, number: u32) -> Result<Vec<u8>, StoreFault> {
         download(&mut self.conn, driver, number)
+    }
+
+    fn report(&mut self, alloc: Global, driver: u32) -> Result<Report, StoreFault> {
+        report(alloc, &mut self.conn, driver)
     }
 }
 

@@ -14,8 +14,6 @@ mod news;
 mod reading;
 mod registration;
 mod spans;
-#[cfg(test)]
-mod tests;
 mod withdrawal;
 
 pub use archive::{Archive, open_memory};

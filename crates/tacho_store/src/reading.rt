@@ -1,9 +1,10 @@
-ghost use Rattle.std.specs.Prelude.{◌≡◌, ◌∷◌, false, IsTrue, OnOk, OnErr, Err};
+ghost use Rattle.std.specs.Prelude.{◌≡◌, ◌∷◌, false, IsTrue, IfOk, OnOk, OnErr, Err, string_bytes};
 ghost use Rattle.sqlite.specs.State.{HasCleanDisk, Survives, KeepsCommit, IsUnchanged};
 ghost use Rattle.sqlite.specs.Held.{state};
 ghost use Rattle.tacho_line.specs.Line.{mark_at};
 ghost use Rattle.tacho_state.specs.State.{State};
-ghost use Rattle.tacho_state.specs.Steps.{lined, listed, downloaded};
+ghost use Rattle.tacho_state.specs.Steps.{named, lined, listed, downloaded, reported};
+ghost use Rattle.tacho_state.specs.Reported.{IsHeldWithin, IsReportOf};
 ghost use Rattle.tacho_state.specs.Acts.{Reads, Answers};
 ghost use Rattle.tacho_tables.specs.Schema.{archive_schema};
 ghost use Rattle.tacho_store.specs.Standing.{StandsFor};
@@ -11,12 +12,45 @@ ghost use Rattle.tacho_store.specs.Kept.{Shows, Leaves, IsAnswered};
 
 use crate::fault::store_fault;
 use crate::finding::driver_with;
+use crate::near::helds_near;
 use crate::spans::{line_of_stored, listed_entries};
 use sqlite::{Alter, Connection, Transaction};
 use std::alloc::Global;
 use tacho_line::Line;
-use tacho_state::{Entry, StoreFault};
+use tacho_rules::Report;
+use tacho_state::{Entry, StoreFault, report_of};
 use tacho_tables::{downloads, entries, held, opening};
+use tacho_time::Minute;
+
+/// A driver's name, within a transaction: S4.
+fn name_in<S: Alter>(tx: &mut Transaction<'_, S>, driver: u32) -> Result<String, StoreFault>
+    ensures same_reference { tx.new.conn.ghost_name ≡ tx.old.conn.ghost_name }
+    ensures answer { HasCleanDisk (state S.Store tx.new.conn.now) → (state S.Store tx.old.conn.now).now.schema ≡ archive_schema → (s : State) → StandsFor (state S.Store tx.old.conn.now).now.trees s
+        → Answers (λ name. string_bytes name) result (named driver s) }
+    ensures live { HasCleanDisk (state S.Store tx.new.conn.now) → IsAnswered result → IsTrue (state S.Store tx.old.conn.now).is_open }
+    ensures clean { HasCleanDisk (state S.Store tx.new.conn.now) → HasCleanDisk (state S.Store tx.old.conn.now) }
+    ensures was_open { HasCleanDisk (state S.Store tx.new.conn.now) → IsTrue (state S.Store tx.new.conn.now).is_open → IsTrue (state S.Store tx.old.conn.now).is_open }
+    ensures keeps { HasCleanDisk (state S.Store tx.new.conn.now) → (state S.Store tx.old.conn.now).now.schema ≡ archive_schema → KeepsCommit (state S.Store tx.old.conn.now) (state S.Store tx.new.conn.now) }
+    ensures survives { Survives (state S.Store tx.old.conn.now) (state S.Store tx.new.conn.now) (λ _. ⊥) }
+{
+    let stored = driver_with(tx, driver)?;
+    Ok(stored.name)
+}
+
+/// A driver's name: S4.
+pub fn name<S: Alter>(conn: &mut Connection<S>, driver: u32) -> Result<String, StoreFault>
+    requires { conn.old.in_transaction ≡ false }
+    ensures autocommit { conn.new.in_transaction ≡ false }
+    ensures reads { Reads (λ c. Shows (state S.Store c)) (λ c. HasCleanDisk (state S.Store c)) (λ c. IsTrue (state S.Store c).is_open) (λ c. Leaves (state S.Store c)) (λ name. string_bytes name) conn.old conn.new result
+        (named driver) }
+{
+    let _settled = conn.is_autocommit();
+    let mut tx = conn.transaction();
+    let found = name_in(&mut tx, driver)?;
+    tx.rollback();
+    opening::ask(conn).map_err(store_fault)?;
+    Ok(found)
+}
 
 /// The bytes of a driver's download, within a transaction: S4, S10.
 fn download_in<S: Alter>(
@@ -96,6 +130,52 @@ pub fn line<S: Alter>(
     Ok(line)
 }
 
+/// What a driver holds in a range, within a transaction: S4. The rows near the range alone are read.
+fn line_within_in<S: Alter>(
+    alloc: Global,
+    tx: &mut Transaction<'_, S>,
+    driver: u32,
+    start: Minute,
+    past: Minute,
+) -> Result<Line, StoreFault>
+    ensures same_reference { tx.new.conn.ghost_name ≡ tx.old.conn.ghost_name }
+    ensures answer { HasCleanDisk (state S.Store tx.new.conn.now) → (state S.Store tx.old.conn.now).now.schema ≡ archive_schema → (s : State) → StandsFor (state S.Store tx.old.conn.now).now.trees s
+        → Answers (λ _. tt) result (reported driver s) }
+    ensures within { HasCleanDisk (state S.Store tx.new.conn.now) → (state S.Store tx.old.conn.now).now.schema ≡ archive_schema → (s : State) → StandsFor (state S.Store tx.old.conn.now).now.trees s
+        → IfOk result (IsHeldWithin driver start past s) }
+    ensures live { HasCleanDisk (state S.Store tx.new.conn.now) → IsAnswered result → IsTrue (state S.Store tx.old.conn.now).is_open }
+    ensures clean { HasCleanDisk (state S.Store tx.new.conn.now) → HasCleanDisk (state S.Store tx.old.conn.now) }
+    ensures was_open { HasCleanDisk (state S.Store tx.new.conn.now) → IsTrue (state S.Store tx.new.conn.now).is_open → IsTrue (state S.Store tx.old.conn.now).is_open }
+    ensures keeps { HasCleanDisk (state S.Store tx.new.conn.now) → (state S.Store tx.old.conn.now).now.schema ≡ archive_schema → KeepsCommit (state S.Store tx.old.conn.now) (state S.Store tx.new.conn.now) }
+    ensures survives { Survives (state S.Store tx.old.conn.now) (state S.Store tx.new.conn.now) (λ _. ⊥) }
+{
+    driver_with(tx, driver)?;
+    let rows = helds_near(alloc, tx, driver, start.number(), past.number()).map_err(store_fault)?;
+    line_of_stored(alloc, &rows)
+}
+
+/// What a driver holds in a range: S4.
+pub fn line_within<S: Alter>(
+    alloc: Global,
+    conn: &mut Connection<S>,
+    driver: u32,
+    start: Minute,
+    past: Minute,
+) -> Result<Line, StoreFault>
+    requires { conn.old.in_transaction ≡ false }
+    ensures autocommit { conn.new.in_transaction ≡ false }
+    ensures reads { Reads (λ c. Shows (state S.Store c)) (λ c. HasCleanDisk (state S.Store c)) (λ c. IsTrue (state S.Store c).is_open) (λ c. Leaves (state S.Store c)) (λ _. tt) conn.old conn.new result
+        (reported driver) }
+    ensures within { HasCleanDisk (state S.Store conn.new) → (s : State) → Shows (state S.Store conn.old) s → IfOk result (IsHeldWithin driver start past s) }
+{
+    let _settled = conn.is_autocommit();
+    let mut tx = conn.transaction();
+    let line = line_within_in(alloc, &mut tx, driver, start, past)?;
+    tx.rollback();
+    opening::ask(conn).map_err(store_fault)?;
+    Ok(line)
+}
+
 /// A driver's entries, within a transaction: S4.
 fn entries_in<S: Alter>(
     alloc: Global,
@@ -130,6 +210,49 @@ pub fn entries<S: Alter>(
     let _settled = conn.is_autocommit();
     let mut tx = conn.transaction();
     let found = entries_in(alloc, &mut tx, driver)?;
+    tx.rollback();
+    opening::ask(conn).map_err(store_fault)?;
+    Ok(found)
+}
+
+/// The report of a driver, within a transaction: S4.
+fn report_in<S: Alter>(
+    alloc: Global,
+    tx: &mut Transaction<'_, S>,
+    driver: u32,
+) -> Result<Report, StoreFault>
+    ensures same_reference { tx.new.conn.ghost_name ≡ tx.old.conn.ghost_name }
+    ensures answer { HasCleanDisk (state S.Store tx.new.conn.now) → (state S.Store tx.old.conn.now).now.schema ≡ archive_schema → (s : State) → StandsFor (state S.Store tx.old.conn.now).now.trees s
+        → Answers (λ _. tt) result (reported driver s) }
+    ensures report { HasCleanDisk (state S.Store tx.new.conn.now) → (state S.Store tx.old.conn.now).now.schema ≡ archive_schema → (s : State) → StandsFor (state S.Store tx.old.conn.now).now.trees s
+        → IfOk result (IsReportOf driver s) }
+    ensures live { HasCleanDisk (state S.Store tx.new.conn.now) → IsAnswered result → IsTrue (state S.Store tx.old.conn.now).is_open }
+    ensures clean { HasCleanDisk (state S.Store tx.new.conn.now) → HasCleanDisk (state S.Store tx.old.conn.now) }
+    ensures was_open { HasCleanDisk (state S.Store tx.new.conn.now) → IsTrue (state S.Store tx.new.conn.now).is_open → IsTrue (state S.Store tx.old.conn.now).is_open }
+    ensures keeps { HasCleanDisk (state S.Store tx.new.conn.now) → (state S.Store tx.old.conn.now).now.schema ≡ archive_schema → KeepsCommit (state S.Store tx.old.conn.now) (state S.Store tx.new.conn.now) }
+    ensures survives { Survives (state S.Store tx.old.conn.now) (state S.Store tx.new.conn.now) (λ _. ⊥) }
+{
+    let stored = driver_with(tx, driver)?;
+    let helds = held::of_driver(alloc, tx, driver).map_err(store_fault)?;
+    let line = line_of_stored(alloc, &helds)?;
+    report_of(alloc, &line, stored.base)
+}
+
+/// The report of a driver from his base on: S4.
+pub fn report<S: Alter>(
+    alloc: Global,
+    conn: &mut Connection<S>,
+    driver: u32,
+) -> Result<Report, StoreFault>
+    requires { conn.old.in_transaction ≡ false }
+    ensures autocommit { conn.new.in_transaction ≡ false }
+    ensures reads { Reads (λ c. Shows (state S.Store c)) (λ c. HasCleanDisk (state S.Store c)) (λ c. IsTrue (state S.Store c).is_open) (λ c. Leaves (state S.Store c)) (λ _. tt) conn.old conn.new result
+        (reported driver) }
+    ensures report { HasCleanDisk (state S.Store conn.new) → (s : State) → Shows (state S.Store conn.old) s → IfOk result (IsReportOf driver s) }
+{
+    let _settled = conn.is_autocommit();
+    let mut tx = conn.transaction();
+    let found = report_in(alloc, &mut tx, driver)?;
     tx.rollback();
     opening::ask(conn).map_err(store_fault)?;
     Ok(found)

@@ -195,7 +195,7 @@ driver_insert_text = codes "INSERT INTO drivers (driver, holder, secret, base, n
 
 -- the text that reads a driver by number
 abbrev pub by_number_text : List ℕ
-by_number_text = codes "SELECT holder, base, downloads, entries FROM drivers WHERE driver = ?1"
+by_number_text = codes "SELECT holder, base, name, downloads, entries FROM drivers WHERE driver = ?1"
 
 -- by key
 abbrev pub by_secret_text : List ℕ
@@ -235,8 +235,8 @@ unfolding understood everything
 driver_insert_is = record { meant = refl; plain = (refl, refl) }
 
 -- a reading by number
-pub by_number_is : IsReading by_number_text 1 (column_is 0) (col 1 2 ∷ col 1 4 ∷ col 1 6 ∷ col 1 7 ∷ []) []
-    (codes "holder" ∷ codes "base" ∷ codes "downloads" ∷ codes "entries" ∷ [])
+pub by_number_is : IsReading by_number_text 1 (column_is 0) (col 1 2 ∷ col 1 4 ∷ col 1 5 ∷ col 1 6 ∷ col 1 7 ∷ []) []
+    (codes "holder" ∷ codes "base" ∷ codes "name" ∷ codes "downloads" ∷ codes "entries" ∷ [])
 unfolding understood everything
 by_number_is = record { meant = refl; unlisted = refl; plain = (refl, refl) }
 

@@ -1,6 +1,6 @@
 -- The six tables as lists of typed rows, and what a call within a transaction makes of them.
 use Rattle.std.specs.Prelude.{◌≡◌, ℕ, ◌+◌, ◌≤◌, pos, Bool, ◌&&◌, ◌==◌, nat_lt, nat_le, Contains, All, if◌then◌else◌, List, [], ◌∷◌, bytes_eq}
-use Rattle.sqlite.specs.declared.types.Value.TheVariants.{Null, Int, Blob}
+use Rattle.sqlite.specs.declared.types.Value.TheVariants.{Null, Int, Text, Blob}
 use Rattle.sqlite.specs.Order.{Row}
 use Rattle.sqlite.specs.Tree.{Trees}
 use Rattle.sqlite.specs.State.{State}
@@ -65,7 +65,7 @@ abbrev pub number_shown : DriverRow → Row
 number_shown r = Int (pos r.driver) ∷ []
 
 abbrev pub driver_shown : DriverRow → Row
-driver_shown r = Blob r.holder ∷ Int (pos r.base) ∷ Int (pos r.downloads) ∷ Int (pos r.entries) ∷ []
+driver_shown r = Blob r.holder ∷ Int (pos r.base) ∷ Text r.name ∷ Int (pos r.downloads) ∷ Int (pos r.entries) ∷ []
 
 abbrev pub entry_shown : EntryRow → Row
 entry_shown r = Int (pos r.number) ∷ Int (pos r.start) ∷ Int (pos r.past) ∷ Int (pos r.mark) ∷ Int (pos r.withdrawn) ∷ []

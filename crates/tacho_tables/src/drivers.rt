@@ -1,6 +1,6 @@
 //! The rows of `drivers`.
 
-ghost use Rattle.std.specs.Prelude.{◌≡◌, [], ◌∷◌, map, filter, IfOk, OnOk, IsTrue, Contains, MatchOption};
+ghost use Rattle.std.specs.Prelude.{◌≡◌, [], ◌∷◌, map, filter, IfOk, OnOk, IsTrue, Contains, MatchOption, string_bytes};
 ghost use Rattle.sqlite.specs.State.{HasCleanDisk, Survives, IsUnchanged, KeepsCommit};
 ghost use Rattle.sqlite.specs.Held.{state};
 ghost use Rattle.tacho_tables.specs.Schema.{archive_schema};
@@ -44,7 +44,7 @@ pub fn by_number<S: Alter>(
     ensures same_reference { tx.new.conn.ghost_name ≡ tx.old.conn.ghost_name }
     ensures same { HasCleanDisk (state S.Store tx.new.conn.now) → (state S.Store tx.old.conn.now).now.schema ≡ archive_schema → OnOk result (IsUnchanged (state S.Store tx.old.conn.now) (state S.Store tx.new.conn.now)) }
     ensures found { HasCleanDisk (state S.Store tx.new.conn.now) → (state S.Store tx.old.conn.now).now.schema ≡ archive_schema
-        → IfOk result (λ found. (a : Tables) → Stand (state S.Store tx.old.conn.now).now.trees a → MatchOption found (filter (has_number driver) a.drivers ≡ []) (λ d. (r : DriverRow) × Contains (filter (has_number driver) a.drivers) r × (d.holder.items ≡ r.holder) × (d.base ≡ r.base) × (d.downloads ≡ r.downloads) × (d.entries ≡ r.entries))) }
+        → IfOk result (λ found. (a : Tables) → Stand (state S.Store tx.old.conn.now).now.trees a → MatchOption found (filter (has_number driver) a.drivers ≡ []) (λ d. (r : DriverRow) × Contains (filter (has_number driver) a.drivers) r × (d.holder.items ≡ r.holder) × (d.base ≡ r.base) × (string_bytes d.name ≡ r.name) × (d.downloads ≡ r.downloads) × (d.entries ≡ r.entries))) }
     ensures live { HasCleanDisk (state S.Store tx.new.conn.now) → OnOk result (IsTrue (state S.Store tx.new.conn.now).is_open) }
     ensures clean { HasCleanDisk (state S.Store tx.new.conn.now) → HasCleanDisk (state S.Store tx.old.conn.now) }
     ensures was_open { HasCleanDisk (state S.Store tx.new.conn.now) → IsTrue (state S.Store tx.new.conn.now).is_open → IsTrue (state S.Store tx.old.conn.now).is_open }
@@ -53,7 +53,7 @@ pub fn by_number<S: Alter>(
 {
     let rows = read(
         tx,
-        "SELECT holder, base, downloads, entries FROM drivers WHERE driver = ?1",
+        "SELECT holder, base, name, downloads, entries FROM drivers WHERE driver = ?1",
         params![driver],
     )?;
     first_driver(&rows)

@@ -15,6 +15,3 @@ mod statement;
 
 pub use fault::TableFault;
 pub use rows::{StoredDriver, StoredEntry, StoredSpan};
-
-#[cfg(test)]
-mod tests;

@@ -1,4 +1,4 @@
-ghost use Rattle.std.specs.Prelude.{◌≡◌, ◌∷◌, [], ℕ, pos, List, map, IfOk, IfSome, IsNone, ◌↔◌};
+ghost use Rattle.std.specs.Prelude.{◌≡◌, ◌∷◌, [], ℕ, pos, List, map, IfOk, IfSome, IsNone, ◌↔◌, string_bytes};
 ghost use Rattle.sqlite.specs.declared.types.Value.TheVariants.{Int};
 ghost use Rattle.sqlite.specs.Order.{Row as Values};
 ghost use Rattle.tacho_tables.specs.Rows.{SpanRow, DownloadRow, EntryRow, DriverRow};
@@ -27,13 +27,14 @@ pub struct StoredEntry {
     pub withdrawn: u32,
 }
 
-/// What is stored of a driver, but for his key and his name.
+/// What is stored of a driver, but for his key.
 #[derive(Debug, Drop)]
 pub struct StoredDriver {
     /// The first 15 bytes of his card's identification.
     pub holder: Vec<u8>,
     /// The number of the day from which he is examined.
     pub base: u32,
+    pub name: String,
     /// How many numbers were given out to his downloads.
     pub downloads: u32,
     /// How many numbers were given out to his entries.
@@ -99,15 +100,16 @@ pub(crate) fn first_number(rows: &[Row]) -> Result<Option<u32>, TableFault>
 pub(crate) fn first_driver(rows: &[Row]) -> Result<Option<StoredDriver>, TableFault>
     ensures none { IfOk result (λ found. IsNone found ↔ (rows.now ≡ [])) }
     ensures some { IfOk result (λ found. IfSome found (λ d. (r : DriverRow) (more : List Values) → rows.now ≡ driver_shown r ∷ more
-        → (d.holder.items ≡ r.holder) × (d.base ≡ r.base) × (d.downloads ≡ r.downloads) × (d.entries ≡ r.entries))) }
+        → (d.holder.items ≡ r.holder) × (d.base ≡ r.base) × (string_bytes d.name ≡ r.name) × (d.downloads ≡ r.downloads) × (d.entries ≡ r.entries))) }
 {
     match rows.first() {
         None => Ok(None),
         Some(row) => Ok(Some(StoredDriver {
             holder: row.get(0)?,
             base: row.get(1)?,
-            downloads: row.get(2)?,
-            entries: row.get(3)?,
+            name: row.get(2)?,
+            downloads: row.get(3)?,
+            entries: row.get(4)?,
         })),
     }
 }

@@ -1,0 +1,145 @@
+-- What an import answers, by whose card the file is.
+use Rattle.std.proofs.Common.{◌≡◌, ℕ, zero, suc, ◌⊎◌, inl, inr, Bool, true, false, cond, List, [], ◌∷◌, Option, Some, None, Result, Ok, Err, MatchResult, OnErr, length, get_or, slice_get, slice_set, bytes_eq, refl, sym, ap, ◌∙◌}
+use Rattle.std.proofs.lemmas.Option.{slice_get_read}
+use Rattle.tacho_card.specs.declared.fault.CardFault.{CardFault}
+use Rattle.tacho_card.specs.declared.file.Part.{Part}
+use Rattle.tacho_state.specs.declared.fault.StoreFault.{StoreFault}
+use Rattle.tacho_state.specs.declared.fault.StoreFault.TheVariants.{UnknownDriver, NotYourCard, Store, Memory}
+use Rattle.tacho_state.specs.declared.imported.Imported.{Imported}
+use Rattle.tacho_state.specs.State.{Driver, State, driver_of, holding, put}
+use Rattle.tacho_state.specs.Content.{Tells, part_number}
+use Rattle.tacho_state.specs.Steps.{Turn, Own, Content, refused, settled, own_turn, import_own, import_his, imported}
+use Rattle.tacho_state.specs.Acts.{Answers}
+use Rattle.tacho_state.proofs.ContentLemmas.{one_content}
+use Rattle.tacho_shelf.specs.Shelf.{AreNumbered, IsPlaceOf, IsFaultOf, IsCardFault, IsOwnerAt, known, known_by, owner_of, Turns}
+use Rattle.tacho_shelf.proofs.ShelfLemmas.{put_at}
+
+-- ---- refusals
+
+-- the answer of a call that gave up, or was refused as the step is
+pub fault_answers : {A B : Type 0} (view : A → B) (fault : StoreFault) (told : Result B StoreFault) → IsFaultOf told fault
+    → Answers view (Err fault) told
+fault_answers view Memory told h = tt
+fault_answers view Store told h = tt
+fault_answers view fault told (inl e) = cc
+fault_answers view fault told (inr e) = e
+
+-- such a call changes nothing
+pub gave_up : {A B : Type 0} (view : A → B) (s : State) (fault : StoreFault) (step : State → Turn B)
+    → (fault ≡ Memory) ⊎ (step s ≡ refused fault s) → Turns view s s (Err fault) step
+gave_up view s fault step (inl e) = record { answer = fault_answers view fault (step s).answer (inl e); state = refl }
+gave_up view s fault step (inr e) = record { answer = fault_answers view fault (step s).answer (inr (ap (λ (t : Turn _). t.answer) e)); state = refl }
+
+-- ---- whose card it is
+
+-- the file was read, or there was no memory to read it
+pub unread : (part : Part) (file : List ℕ) (s : State) (fault : StoreFault) (r : Result Imported StoreFault) → r ≡ Err fault → IsCardFault part file fault
+    → ((content : Result Content CardFault) × Tells part file content) ⊎ ((r ≡ Err Memory) × (s ≡ s))
+unread part file s fault r told (inl is) = inr (told ∙ ap Err is, refl)
+unread part file s fault r told (inr card) = inl (Err card.0, card.2)
+
+-- a file that can't be read
+pub import_unread : (caller : Option ℕ) (part : Part) (bytes : List ℕ) (s : State) (fault : StoreFault) (content : Result Content CardFault) → IsCardFault part bytes fault → Tells part bytes content
+    → Turns (λ (done : Imported). done) s s (Err fault) (imported caller (part_number part) bytes content)
+import_unread caller part bytes s fault content (inl e) t = gave_up (λ done. done) s fault (imported caller (part_number part) bytes content) (inl e)
+import_unread caller part bytes s fault content (inr h) t =
+    let same : content ≡ Err h.0 = one_content part bytes content (Err h.0) t h.2 in
+    gave_up (λ done. done) s fault (imported caller (part_number part) bytes content)
+    (inr (ap (λ (c : Result Content CardFault). imported caller (part_number part) bytes c s) same ∙ ap (λ (f : StoreFault). refused f s) (sym h.1)))
+
+-- a file of nobody's card, or of another's than the caller's
+import_unowned : (caller : Option ℕ) (part : ℕ) (bytes : List ℕ) (content : Content) (s : State) (fault : StoreFault)
+    → owner_of caller content.holder s ≡ Err fault
+    → imported caller part bytes (Ok content) s ≡ refused fault s
+import_unowned None part bytes content s fault = go (holding content.holder s) where
+  go : (o : Option Driver) → known o ≡ Err fault → own_turn (import_own part bytes content.spans) s o ≡ refused fault s
+  go None e = let same : UnknownDriver ≡ fault = cc in ap (λ (f : StoreFault). refused f s) same
+  go (Some d) e = cc
+import_unowned (Some n) part bytes content s fault = go (driver_of n s) where
+  his : (d : Driver) (b : Bool) → cond b (Ok d) (Err NotYourCard) ≡ Err fault
+      → settled s (cond b (import_own part bytes content.spans d) (Err NotYourCard)) ≡ refused fault s
+  his d true e = cc
+  his d false e = let same : NotYourCard ≡ fault = cc in ap (λ (f : StoreFault). refused f s) same
+
+  go : (o : Option Driver) → known_by content.holder o ≡ Err fault → own_turn (import_his part bytes content) s o ≡ refused fault s
+  go None e = let same : UnknownDriver ≡ fault = cc in ap (λ (f : StoreFault). refused f s) same
+  go (Some d) e = his d (bytes_eq d.holder content.holder) e
+
+-- a file of a driver's card
+import_owned : (caller : Option ℕ) (part : ℕ) (bytes : List ℕ) (content : Content) (s : State) (d : Driver) → owner_of caller content.holder s ≡ Ok d
+    → imported caller part bytes (Ok content) s ≡ settled s (import_own part bytes content.spans d)
+import_owned None part bytes content s d = go (holding content.holder s) where
+  go : (o : Option Driver) → known o ≡ Ok d → own_turn (import_own part bytes content.spans) s o ≡ settled s (import_own part bytes content.spans d)
+  go None e = cc
+  go (Some x) e = let same : x ≡ d = cc in ap (λ (y : Driver). settled s (import_own part bytes content.spans y)) same
+import_owned (Some n) part bytes content s d = go (driver_of n s) where
+  his : (x : Driver) (b : Bool) → cond b (Ok x) (Err NotYourCard) ≡ Ok d
+      → settled s (cond b (import_own part bytes content.spans x) (Err NotYourCard)) ≡ settled s (import_own part bytes content.spans d)
+  his x true e = let same : x ≡ d = cc in ap (λ (y : Driver). settled s (import_own part bytes content.spans y)) same
+  his x false e = cc
+
+  go : (o : Option Driver) → known_by content.holder o ≡ Ok d
+      → own_turn (import_his part bytes content) s o ≡ settled s (import_own part bytes content.spans d)
+  go None e = cc
+  go (Some x) e = his x (bytes_eq x.holder content.holder) e
+
+-- the import of a file of nobody's card, or of another's
+pub import_refused : (caller : Option ℕ) (part : Part) (bytes : List ℕ) (s : State) (fault : StoreFault) (read : Content) (content : Result Content CardFault)
+    → Tells part bytes (Ok read) → owner_of caller read.holder s ≡ Err fault → Tells part bytes content
+    → Turns (λ (done : Imported). done) s s (Err fault) (imported caller (part_number part) bytes content)
+import_refused caller part bytes s fault read content h e t =
+    let same : content ≡ Ok read = one_content part bytes content (Ok read) t h in
+    gave_up (λ done. done) s fault (imported caller (part_number part) bytes content)
+    (inr (ap (λ (c : Result Content CardFault). imported caller (part_number part) bytes c s) same ∙ import_unowned caller
+    (part_number part) bytes read s fault e))
+
+-- ---- a driver's own import
+
+-- the list stays where the element is put back
+set_same : (s : State) (i : ℕ) (x : Driver) → slice_get s i ≡ Some x → slice_set s i x ≡ s
+set_same [] i x e = cc
+set_same (y ∷ s) zero x e = let same : y ≡ x = cc in ap (λ z. z ∷ s) (sym same)
+set_same (y ∷ s) (suc i) x e = ap (λ t. y ∷ t) (set_same s i x e)
+
+-- a call of one driver's, who stands at a place
+own_turns : {A B : Type 0} (view : A → B) (step : State → Turn B) (s : State) (i : ℕ) (x d : Driver)
+    (told : Result (B × Driver) StoreFault) (result : Result A StoreFault) → AreNumbered s → slice_get s i ≡ Some x → d.number ≡ x.number → step s ≡ settled s told
+    → MatchResult result (λ done. told ≡ Ok (view done, d)) (IsFaultOf told) → OnErr result (d ≡ x)
+    → Turns view s (slice_set s i d) result step
+own_turns view step s i x d told (Ok done) h at n e t kept =
+    let after : step s ≡ record { answer = Ok (view done); after = put d s } = e ∙ ap (settled s) t in
+    record {
+      answer = ap (λ (u : Turn _). u.answer) after;
+      state = put_at s i d x h at n ∙ sym (ap (λ (u : Turn _). u.after) after);
+    }
+own_turns view step s i x d told (Err fault) h at n e t kept =
+    record {
+      answer = fault_answers view fault (step s).answer (refusal t);
+      state = ap (slice_set s i) kept ∙ set_same s i x at;
+    } where
+      refusal : IsFaultOf told fault → IsFaultOf (step s).answer fault
+      refusal (inl m) = inl m
+      refusal (inr f) = inr (ap (λ (u : Turn _). u.answer) (e ∙ ap (settled s) f))
+
+-- a call of the driver's who was found by his number
+pub found_turns : {A B : Type 0} (view : A → B) (own : Own B) (n i : ℕ) (s : State) (x d : Driver) (result : Result A StoreFault)
+    → AreNumbered s → IsPlaceOf s (driver_of n s) (Some i) → x ≡ get_or s i x → d.number ≡ x.number
+    → MatchResult result (λ done. own x ≡ Ok (view done, d)) (IsFaultOf (own x)) → OnErr result (d ≡ x)
+    → Turns view s (slice_set s i d) result (λ t. own_turn own t (driver_of n t))
+found_turns view own n i s x d result h place read same told kept =
+    let at : slice_get s i ≡ Some x = slice_get_read s (length s) i x refl place.0 read in
+    own_turns view (λ t. own_turn own t (driver_of n t)) s i x d (own x) result h at same
+    (ap (own_turn own s) (sym place.1 ∙ at)) told kept
+
+-- the import of a driver's card
+pub import_turns : (caller : Option ℕ) (part : Part) (bytes : List ℕ) (s : State) (i : ℕ) (x d : Driver) (read : Content) (content : Result Content CardFault) (result : Result Imported StoreFault)
+    → AreNumbered s → IsOwnerAt s (owner_of caller read.holder s) i → slice_get s i ≡ Some x → d.number ≡ x.number → Tells part bytes (Ok read)
+    → MatchResult result (λ done. import_own (part_number part) bytes read.spans x ≡ Ok (done, d)) (IsFaultOf (import_own
+    (part_number part) bytes read.spans x)) → OnErr result (d ≡ x)
+    → Tells part bytes content → Turns (λ (done : Imported). done) s (slice_set s i d) result (imported caller (part_number part) bytes content)
+import_turns caller part bytes s i x d read content result h owner at n tells told kept t =
+    let same : content ≡ Ok read = one_content part bytes content (Ok read) t tells in
+    let his : owner.0 ≡ x = cc (sym owner.1 ∙ at) in
+    own_turns (λ done. done) (imported caller (part_number part) bytes content) s i x d (import_own (part_number part) bytes read.spans x) result h at n
+    (ap (λ (c : Result Content CardFault). imported caller (part_number part) bytes c s) same
+    ∙ import_owned caller (part_number part) bytes read s x (owner.2 ∙ ap Ok his)) told kept

@@ -1,0 +1,79 @@
+-- What the functions of a shelf do to the drivers that it holds.
+use Rattle.std.specs.Prelude.{◌≡◌, ℕ, ◌+◌, ◌<◌, ◌≤◌, ◌⊎◌, false, List, [], ◌∷◌, ◌++◌, length, Option, None, Some, Result, Ok, Err, bytes_eq, slice_get, if◌then◌else◌}
+use Rattle.tacho_time.specs.declared.span.Span.{Span}
+use Rattle.tacho_time.specs.Spans.{Gives, Conflicts}
+use Rattle.tacho_card.specs.declared.fault.CardFault.{CardFault}
+use Rattle.tacho_card.specs.declared.file.Part.{Part}
+use Rattle.tacho_state.specs.declared.fault.StoreFault.{StoreFault}
+use Rattle.tacho_state.specs.declared.fault.StoreFault.TheVariants.{Memory, UnknownDriver, NotYourCard, Contradiction, Card}
+use Rattle.tacho_state.specs.declared.imported.Imported.{Imported}
+use Rattle.tacho_state.specs.declared.imported.Imported.TheVariants.{Added, Repeated}
+use Rattle.tacho_state.specs.Content.{Tells}
+use Rattle.tacho_state.specs.Registration.{Registration}
+use Rattle.tacho_state.specs.State.{Download, Entry, Driver, State, driver_of, holding, given_spans, entered_spans, with_download}
+use Rattle.tacho_state.specs.Steps.{Turn, most}
+use Rattle.tacho_state.specs.Acts.{Answers, left}
+
+-- no two drivers have one number
+abbrev pub AreNumbered : State → Type 0
+AreNumbered [] = Unit {0}
+AreNumbered (d ∷ s) = (driver_of d.number s ≡ None) × AreNumbered s
+
+-- what a driver has: it gives no minute two marks, and he has no more entries than he may
+pub record AreKept (downloads : List Download) (entries : List Entry) : Type 0 where
+  pub agreed : (m : ℕ) → ¬ (Conflicts (Gives (given_spans downloads ++ entered_spans entries)) m)
+  pub few : length entries ≤ most
+
+-- the place of a driver who was looked for, or no place where there is none
+abbrev pub IsPlaceOf : State → Option Driver → Option ℕ → Type 0
+IsPlaceOf s sought (Some i) = (i < length s) × (slice_get s i ≡ sought)
+IsPlaceOf s sought None = sought ≡ None
+
+-- a fault is want of memory, or it is what the step answers
+abbrev pub IsFaultOf : {A : Type 0} → Result A StoreFault → StoreFault → Type 0
+IsFaultOf told fault = (fault ≡ Memory) ⊎ (told ≡ Err fault)
+
+-- a fault is want of memory, or the least minute that is contradicted
+abbrev pub IsLeast : Option ℕ → StoreFault → Type 0
+IsLeast least fault = (fault ≡ Memory) ⊎ ((m : ℕ) × (fault ≡ Contradiction m) × (least ≡ Some m))
+
+-- at the place stands the entry with the number, and it isn't withdrawn
+abbrev pub IsEnteredAt : List Entry → ℕ → ℕ → Type 0
+IsEnteredAt entries number i = (number ≡ 1 + i) × ((e : Entry) × (slice_get entries i ≡ Some e) × (e.withdrawn ≡ false))
+
+-- a fault is want of memory, or the first fault that a card file has, read by a part
+abbrev pub IsCardFault : Part → List ℕ → StoreFault → Type 0
+IsCardFault part bytes fault = (fault ≡ Memory) ⊎ ((f : CardFault) × (fault ≡ Card f) × Tells part bytes (Err f))
+
+-- the driver, if there is one: S4
+abbrev pub known : Option Driver → Result Driver StoreFault
+known None = Err UnknownDriver
+known (Some d) = Ok d
+
+-- a driver whose card has the holder: S4, S5
+abbrev pub known_by : List ℕ → Option Driver → Result Driver StoreFault
+known_by holder None = Err UnknownDriver
+known_by holder (Some d) = if bytes_eq d.holder holder then Ok d else Err NotYourCard
+
+-- whose card a file is by its holder, for the office (no number) or for a driver who imports it
+abbrev pub owner_of : Option ℕ → List ℕ → State → Result Driver StoreFault
+owner_of None holder s = known (holding holder s)
+owner_of (Some n) holder s = known_by holder (driver_of n s)
+
+-- at the place stands the driver who was looked for
+abbrev pub IsOwnerAt : State → Result Driver StoreFault → ℕ → Type 0
+IsOwnerAt s sought i = (d : Driver) × (slice_get s i ≡ Some d) × (sought ≡ Ok d)
+
+-- what an import does by the number of its download, if it has one
+abbrev pub numbered : ℕ → List ℕ → List Span → Driver → Option ℕ → Imported × Driver
+numbered part file spans d (Some n) = (Added d.number n, with_download part file spans d)
+numbered part file spans d None = (Repeated d.number, d)
+
+-- a call has answered as the step does, or given up, and left its state, or the one before
+pub record Turns {A B : Type 0} (view : A → B) (old new : State) (result : Result A StoreFault) (step : State → Turn B) : Type 0 where
+  pub answer : Answers view result (step old).answer
+  pub state : new ≡ left result old (step old).after
+
+-- a driver who was just registered
+abbrev pub new_driver : Registration → Driver
+new_driver r = record { number = r.number; holder = r.holder; key = r.key; base = r.base; name = r.name; downloads = []; entries = [] }

@@ -1,0 +1,60 @@
+ghost use Rattle.std.specs.Prelude.{◌≡◌, ◌≢◌, ◌⊎◌, Ok, Err, MatchResult};
+ghost use Rattle.tacho_card.specs.declared.fault.CardFault.TheVariants.{Memory as NoMemory};
+ghost use Rattle.tacho_state.specs.Content.{Tells};
+ghost use Rattle.tacho_shelf.specs.Shelf.{IsCardFault};
+
+use std::alloc::Global;
+use std::marker::Model;
+use tacho_card::{CardFault, CardFile, Part, spans};
+use tacho_state::StoreFault;
+use tacho_time::Span;
+
+/// What a card file tells: its holder, and the spans of its reading by a part.
+#[derive(Drop)]
+pub(crate) struct Content {
+    pub(crate) holder: [u8; 15],
+    pub(crate) spans: Vec<Span>,
+}
+
+impl Model for Content {
+    ghost use Rattle.tacho_time.specs.Spans.{IsCanonical};
+    ghost use Rattle.tacho_state.specs.Steps.{Content as Told};
+
+    ghost Value = { Told };
+
+    ghost view = { λ c. record { holder = c.holder; spans = c.spans.items } };
+
+    ghost invariant = { λ c. IsCanonical c.spans.items };
+}
+
+/// What a card file tells by a part, or its first fault: S11.
+pub(crate) fn read_content(alloc: Global, part: Part, file: &[u8]) -> Result<Content, StoreFault>
+    ensures { MatchResult result (λ content. Tells part file.now (Ok content)) (IsCardFault part file.now) }
+{
+    match read_card(alloc, part, file) {
+        Ok(content) => Ok(content),
+        Err(fault) => Err(card_fault(fault)),
+    }
+}
+
+/// What a card file tells by a part, or its first fault.
+fn read_card(alloc: Global, part: Part, file: &[u8]) -> Result<Content, CardFault>
+    ensures { MatchResult result (λ content. Tells part file.now (Ok content)) (λ fault. (fault ≡ NoMemory) ⊎ Tells part file.now (Err fault)) }
+{
+    let card = CardFile::read(file)?;
+    let spans = spans(alloc, &card, part)?;
+    Ok(Content {
+        holder: card.holder(),
+        spans,
+    })
+}
+
+/// The fault of an import of a card file that has that fault.
+fn card_fault(fault: CardFault) -> StoreFault
+    ensures { ((fault ≡ NoMemory) × (result ≡ StoreFault.Memory)) ⊎ ((fault ≢ NoMemory) × (result ≡ StoreFault.Card fault)) }
+{
+    match fault {
+        CardFault::Memory => StoreFault::Memory,
+        _ => StoreFault::Card(fault),
+    }
+}

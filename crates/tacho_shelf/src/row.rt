@@ -1,0 +1,424 @@
+ghost use Rattle.std.specs.Prelude.{◌≡◌, ◌≢◌, ℕ, false, MatchResult};
+ghost use Rattle.tacho_line.specs.declared.line.LineFault.TheVariants.{Memory as NoMemory};
+ghost use Rattle.tacho_state.specs.Limits.{next_number};
+ghost use Rattle.tacho_state.specs.State.{driver_of, keyed, holding};
+ghost use Rattle.tacho_state.specs.Steps.{is_monday as on_monday};
+ghost use Rattle.tacho_shelf.specs.Shelf.{IsPlaceOf};
+
+use crate::hours::{Hours, add_spans, hours_of};
+use std::alloc::{AllocError, Global};
+use std::marker::Model;
+use tacho_card::Part;
+use tacho_line::{Line, LineFault};
+use tacho_rules::Report;
+use tacho_state::{
+    Driver, Entered, Entry, EntryLine, Imported, StoreFault, first_number, line_of, report_of,
+};
+use tacho_time::{Day, Span, SpanFault};
+
+/// A card file that was accepted, and what it gives.
+#[derive(Drop)]
+pub(crate) struct Download {
+    pub(crate) part: Part,
+    pub(crate) file: Vec<u8>,
+    pub(crate) spans: Vec<Span>,
+}
+
+impl Model for Download {
+    ghost use Rattle.tacho_state.specs.State.{Download as Accepted};
+    ghost use Rattle.tacho_state.specs.Content.{part_number};
+
+    ghost Value = { Accepted };
+
+    ghost view = { λ d. record { part = part_number d.part; file = d.file.items; spans = d.spans.items } };
+}
+
+impl Download {
+    ghost use Rattle.std.specs.Prelude.{◌≡◌, IfOk};
+
+    /// A copy of the file's bytes.
+    pub(crate) fn copy_of_file(&self, alloc: Global) -> Result<Vec<u8>, AllocError>
+        ensures { IfOk result (λ bytes. bytes.items ≡ self.now.file) }
+    {
+        Vec::from_slice(alloc, &self.file)
+    }
+}
+
+/// A driver, with his downloads and entries in the order of their numbers. What they give
+/// contradicts nowhere, and he has no more entries than there are numbers.
+#[derive(Drop)]
+pub(crate) struct Row {
+    number: u32,
+    holder: Vec<u8>,
+    key: String,
+    base: Day,
+    name: String,
+    downloads: Vec<Download>,
+    entries: Vec<Hours>,
+}
+
+impl Model for Row {
+    ghost use Rattle.std.specs.Prelude.{string_bytes};
+    ghost use Rattle.tacho_state.specs.State.{Driver as Registered};
+    ghost use Rattle.tacho_shelf.specs.Shelf.{AreKept};
+
+    ghost Value = { Registered };
+
+    ghost view = { λ d. record { number = d.number; holder = d.holder.items; key = string_bytes d.key; base = d.base; name = string_bytes d.name; downloads = d.downloads.items; entries = d.entries.items } };
+
+    ghost invariant = { λ d. AreKept d.downloads.items d.entries.items };
+}
+
+impl Row {
+    ghost use Rattle.std.specs.Prelude.{◌≡◌, ◌⊎◌, ◌*◌, ℕ, List, ◌++◌, length, All, None, Ok, Err, bytes_eq, string_bytes, IfOk, IfErr, OnOk, OnSome, OnErr, MatchResult};
+    ghost use Rattle.std.specs.Option.{option_copied};
+    ghost use Rattle.tacho_time.specs.Spans.{Gives, IsCanonical, IsCanonicalOf, Conflicts};
+    ghost use Rattle.tacho_line.specs.Line.{first_empty};
+    ghost use Rattle.tacho_rules.specs.Report.{IsReport};
+    ghost use Rattle.tacho_state.specs.Batch.{IsEntryLine, batch_of};
+    ghost use Rattle.tacho_state.specs.Least.{least_conflict, is_within};
+    ghost use Rattle.tacho_state.specs.State.{Given, Held, AreFull, given_spans, held_spans, download_from, with_batch};
+    ghost use Rattle.tacho_state.specs.Steps.{import_own, enter_own, withdraw_own, numbered_from};
+    ghost use Rattle.tacho_state.specs.Limits.{next_number};
+    ghost use Rattle.tacho_state.specs.Content.{part_number};
+    ghost use Rattle.tacho_shelf.specs.Shelf.{IsFaultOf, IsLeast, IsEnteredAt, AreKept, new_driver, numbered};
+
+    /// A driver who is registered now.
+    pub(crate) fn new(alloc: Global, driver: &Driver) -> Result<Row, AllocError>
+        ensures { IfOk result (λ row. row ≡ new_driver driver.now) }
+    {
+        Ok(Row {
+            number: driver.number(),
+            holder: Vec::from_slice(alloc, driver.holder())?,
+            key: String::from_str(alloc, driver.key())?,
+            base: driver.base(),
+            name: String::from_str(alloc, driver.name())?,
+            downloads: Vec::new(alloc),
+            entries: Vec::new(alloc),
+        })
+    }
+
+    /// The spans of all his downloads.
+    fn given_spans(&self, alloc: Global) -> Result<Vec<Span>, AllocError>
+        ensures given { IfOk result (λ spans. spans.items ≡ given_spans self.now.downloads) }
+        ensures kept { AreKept self.now.downloads self.now.entries }
+    {
+        let mut spans = Vec::new(alloc);
+        for download in &self.downloads {
+            spans.extend_from_slice(&download.spans)?;
+        }
+        Ok(spans)
+    }
+
+    /// The spans of all that he holds.
+    fn held_spans(&self, alloc: Global) -> Result<Vec<Span>, AllocError>
+        ensures held { IfOk result (λ spans. spans.items ≡ held_spans self.now) }
+        ensures kept { IfOk result (λ _. AreKept self.now.downloads self.now.entries) }
+    {
+        let mut spans = self.given_spans(alloc)?;
+        add_spans(&mut spans, &self.entries)?;
+        Ok(spans)
+    }
+
+    /// The line of what his downloads give.
+    fn given_line(&self, alloc: Global) -> Result<Line, AllocError>
+        ensures { IfOk result (λ line. IsCanonicalOf (Given self.now) line) }
+    {
+        let spans = self.given_spans(alloc)?;
+        match line_of(alloc, &spans) {
+            Ok(line) => Ok(line),
+            Err(fault) => Err(no_memory(fault)),
+        }
+    }
+
+    /// The line of what he holds.
+    pub(crate) fn line(&self, alloc: Global) -> Result<Line, AllocError>
+        ensures { IfOk result (λ line. IsCanonicalOf (Held self.now) line) }
+    {
+        let spans = self.held_spans(alloc)?;
+        match line_of(alloc, &spans) {
+            Ok(line) => Ok(line),
+            Err(fault) => Err(no_memory(fault)),
+        }
+    }
+
+    /// The report of what he holds, from his base on.
+    pub(crate) fn report(&self, alloc: Global) -> Result<Report, StoreFault>
+        ensures report { IfOk result (λ report. IsReport (held_spans self.now) (1440 * self.now.base) report.horizon report.breaches.items report.debts.items) }
+        ensures fault { IfErr result (λ fault. (fault ≡ StoreFault.Memory) ⊎ (fault ≡ StoreFault.Store)) }
+    {
+        let Ok(line) = self.line(alloc) else {
+            return Err(StoreFault::Memory);
+        };
+        report_of(alloc, &line, self.base.number())
+    }
+
+    /// A copy of his name.
+    pub(crate) fn copy_of_name(&self, alloc: Global) -> Result<String, AllocError>
+        ensures { IfOk result (λ name. string_bytes name ≡ self.now.name) }
+    {
+        String::from_str(alloc, &self.name)
+    }
+
+    /// His download with a number.
+    pub(crate) fn download(&self, number: u32) -> Option<&Download>
+        ensures { option_copied result ≡ download_from 1 number self.now.downloads }
+    {
+        let place = number.checked_sub(1)?;
+        self.downloads.get(place as usize)
+    }
+
+    /// Whether his downloads give all that spans give.
+    fn has_given(&self, alloc: Global, spans: &[Span]) -> Result<bool, AllocError>
+        requires { first_empty spans.now ≡ None }
+        ensures { IfOk result (λ given. is_within spans.now (given_spans self.now.downloads) ≡ given) }
+    {
+        let line = self.given_line(alloc)?;
+        match line.gains(alloc, spans) {
+            Ok(gains) => Ok(gains.is_empty()),
+            Err(fault) => differs(fault),
+        }
+    }
+
+    /// Fails for the least minute of spans that contradict what he holds, or each other: S6.
+    fn check(&self, alloc: Global, spans: &[Span]) -> Result<(), StoreFault>
+        requires { first_empty spans.now ≡ None }
+        ensures told { MatchResult result (λ _. least_conflict (held_spans self.now ++ spans.now) ≡ None) (IsLeast (least_conflict (held_spans self.now ++ spans.now))) }
+        ensures agreed { OnOk result ((m : ℕ) → ¬ (Conflicts (Gives (held_spans self.now ++ spans.now)) m)) }
+    {
+        let Ok(line) = self.line(alloc) else {
+            return Err(StoreFault::Memory);
+        };
+        match line.gains(alloc, spans) {
+            Ok(_) => Ok(()),
+            Err(fault) => Err(gain_fault(fault)),
+        }
+    }
+
+    /// The number of a download that gives these spans, or none where his downloads give them all:
+    /// S6, S14.
+    fn number_for(&self, alloc: Global, spans: &[Span]) -> Result<Option<u32>, StoreFault>
+        requires { first_empty spans.now ≡ None }
+        ensures told { (part : ℕ) (file : List ℕ) → MatchResult result (λ number. import_own part file spans.now self.now ≡ Ok (numbered part file spans.now self.now number)) (IsFaultOf (import_own part file spans.now self.now)) }
+        ensures agreed { IfOk result (λ number. OnSome number ((m : ℕ) → ¬ (Conflicts (Gives (held_spans self.now ++ spans.now)) m))) }
+    {
+        let Ok(repeated) = self.has_given(alloc, spans) else {
+            return Err(StoreFault::Memory);
+        };
+        if repeated {
+            return Ok(None);
+        }
+        self.check(alloc, spans)?;
+        match first_of(self.downloads.len(), 1) {
+            Some(number) => Ok(Some(number)),
+            None => Err(StoreFault::Full),
+        }
+    }
+
+    /// Imports a file that gives these spans by a part: S6, S14. All that takes memory comes before
+    /// he changes.
+    pub(crate) fn import(
+        &mut self,
+        alloc: Global,
+        part: Part,
+        file: &[u8],
+        spans: Vec<Span>,
+    ) -> Result<Imported, StoreFault>
+        requires { IsCanonical spans.items }
+        ensures told { MatchResult result (λ done. import_own (part_number part) file.now spans.items self.old ≡ Ok (done, self.new)) (IsFaultOf (import_own (part_number part) file.now spans.items self.old)) }
+        ensures number { self.new.number ≡ self.old.number }
+        ensures err { OnErr result (self.new ≡ self.old) }
+    {
+        let Some(number) = self.number_for(alloc, &spans)? else {
+            return Ok(Imported::Repeated {
+                driver: self.number,
+            });
+        };
+        let Ok(file) = Vec::from_slice(alloc, file) else {
+            return Err(StoreFault::Memory);
+        };
+        let Ok(()) = self.downloads.push(Download { part, file, spans }) else {
+            return Err(StoreFault::Memory);
+        };
+        Ok(Imported::Added {
+            driver: self.number,
+            number,
+        })
+    }
+
+    /// The numbers of hours that are to be entered: S6, S14.
+    fn numbers_for(&self, alloc: Global, batch: &[Hours]) -> Result<Entered, StoreFault>
+        requires { AreFull batch.now }
+        ensures told { MatchResult result (λ done. enter_own batch.now self.now ≡ Ok (done.first, with_batch batch.now self.now)) (IsFaultOf (enter_own batch.now self.now)) }
+        ensures count { IfOk result (λ done. done.count ≡ length batch.now) }
+        ensures kept { OnOk result (AreKept self.now.downloads (self.now.entries ++ batch.now)) }
+    {
+        let mut spans = Vec::new(alloc);
+        let Ok(()) = add_spans(&mut spans, batch) else {
+            return Err(StoreFault::Memory);
+        };
+        self.check(alloc, &spans)?;
+        let Ok(count) = u32::try_from(batch.len()) else {
+            return Err(StoreFault::Full);
+        };
+        match first_of(self.entries.len(), count) {
+            Some(first) => Ok(Entered { first, count }),
+            None => Err(StoreFault::Full),
+        }
+    }
+
+    /// Enters a batch, whole or not at all: S6, S14. All that takes memory comes before he changes.
+    pub(crate) fn enter(
+        &mut self,
+        alloc: Global,
+        lines: &[EntryLine],
+    ) -> Result<Entered, StoreFault>
+        requires { All IsEntryLine lines.now }
+        ensures told { MatchResult result (λ done. enter_own (batch_of lines.now) self.old ≡ Ok (done.first, self.new)) (IsFaultOf (enter_own (batch_of lines.now) self.old)) }
+        ensures count { IfOk result (λ done. done.count ≡ length lines.now) }
+        ensures number { self.new.number ≡ self.old.number }
+        ensures err { OnErr result (self.new ≡ self.old) }
+    {
+        let Ok(batch) = hours_of(alloc, lines) else {
+            return Err(StoreFault::Memory);
+        };
+        let entered = self.numbers_for(alloc, &batch)?;
+        let Ok(()) = self.entries.extend_from_slice(&batch) else {
+            return Err(StoreFault::Memory);
+        };
+        Ok(entered)
+    }
+
+    /// The place of an entry that can be withdrawn: S7, S8.
+    fn entered_place(&self, number: u32) -> Result<usize, StoreFault>
+        ensures { MatchResult result (IsEnteredAt self.now.entries number) (λ fault. withdraw_own number self.now ≡ Err fault) }
+    {
+        let Some(place) = number.checked_sub(1) else {
+            return Err(StoreFault::UnknownEntry);
+        };
+        let Some(hours) = self.entries.get(place as usize) else {
+            return Err(StoreFault::UnknownEntry);
+        };
+        if hours.is_withdrawn() {
+            return Err(StoreFault::AlreadyWithdrawn);
+        }
+        Ok(place as usize)
+    }
+
+    /// Withdraws an entry: S7, S8.
+    pub(crate) fn withdraw(&mut self, number: u32) -> Result<(), StoreFault>
+        ensures told { MatchResult result (λ _. withdraw_own number self.old ≡ Ok (tt, self.new)) (IsFaultOf (withdraw_own number self.old)) }
+        ensures number { self.new.number ≡ self.old.number }
+        ensures err { OnErr result (self.new ≡ self.old) }
+    {
+        let place = match self.entered_place(number) {
+            Ok(place) => place,
+            Err(fault) => return Err(fault),
+        };
+        self.entries[place].withdraw();
+        Ok(())
+    }
+
+    /// His entries by their numbers, withdrawn ones among them.
+    pub(crate) fn entries(&self, alloc: Global) -> Result<Vec<Entry>, AllocError>
+        ensures { IfOk result (λ entries. entries.items ≡ numbered_from 1 self.now.entries) }
+    {
+        let mut entries = Vec::new(alloc);
+        let mut number = 1u32;
+        for hours in &self.entries {
+            entries.push(Entry {
+                number,
+                line: hours.line(),
+                withdrawn: hours.is_withdrawn(),
+            })?;
+            number += 1;
+        }
+        Ok(entries)
+    }
+
+    /// Whether his card has a holder.
+    pub(crate) fn has_holder(&self, holder: &[u8]) -> bool
+        ensures { result ≡ bytes_eq self.now.holder holder.now }
+    {
+        self.holder.as_slice() == holder
+    }
+
+    /// Has him examined from a day on.
+    pub(crate) fn set_base(&mut self, base: Day)
+        ensures { self.new ≡ record self.old { base = base } }
+    {
+        self.base = base;
+    }
+}
+
+/// The first of so many numbers more, where so many were given out: S14.
+fn first_of(given: usize, count: u32) -> Option<u32>
+    ensures { result ≡ next_number given count }
+{
+    let Ok(given) = u32::try_from(given) else {
+        return None;
+    };
+    first_number(given, count)
+}
+
+/// What is told of spans that have no gains for a fault: they differ from what is there, but where
+/// there was no memory.
+fn differs(fault: LineFault) -> Result<bool, AllocError>
+    ensures { MatchResult result (λ given. (given ≡ false) × (fault ≢ NoMemory)) (λ _. fault ≡ NoMemory) }
+{
+    match fault {
+        LineFault::Memory => Err(AllocError),
+        _ => Ok(false),
+    }
+}
+
+/// The fault of spans, none of them empty, that have no gains.
+fn gain_fault(fault: LineFault) -> StoreFault
+    requires { (place : ℕ) → fault ≢ LineFault.EmptySpan place }
+    ensures contradiction { (m : ℕ) → fault ≡ LineFault.Contradiction m → result ≡ StoreFault.Contradiction m }
+    ensures memory { fault ≡ LineFault.Memory → result ≡ StoreFault.Memory }
+{
+    match fault {
+        LineFault::Contradiction(minute) => StoreFault::Contradiction(minute),
+        LineFault::EmptySpan(_) => unreachable!(),
+        LineFault::Memory => StoreFault::Memory,
+    }
+}
+
+/// What spans that contradict nowhere fail for: there was no memory.
+fn no_memory(fault: SpanFault) -> AllocError
+    requires { fault ≡ SpanFault.Memory }
+{
+    match fault {
+        SpanFault::Memory => AllocError,
+        SpanFault::Contradiction(_) => unreachable!(),
+    }
+}
+
+/// The place of the driver with a number.
+pub(crate) fn place_of(rows: &[Row], number: u32) -> Option<usize>
+    ensures { IsPlaceOf rows.now (driver_of number rows.now) result }
+{
+    rows.iter().position(|row| row.number == number)
+}
+
+/// The place of the driver with a key.
+pub(crate) fn place_of_key(rows: &[Row], key: &str) -> Option<usize>
+    ensures { IsPlaceOf rows.now (keyed key.now rows.now) result }
+{
+    rows.iter().position(|row| row.key.as_str() == key)
+}
+
+/// The place of the driver whose card has a holder.
+pub(crate) fn place_of_holder(rows: &[Row], holder: &[u8]) -> Option<usize>
+    ensures { IsPlaceOf rows.now (holding holder.now rows.now) result }
+{
+    rows.iter().position(|row| row.holder.as_slice() == holder)
+}
+
+/// Whether a day is a Monday: day 0 was a Thursday.
+pub(crate) fn is_monday(day: Day) -> bool
+    ensures { result ≡ on_monday day }
+{
+    (day.number() + 3) % 7 == 0
+}

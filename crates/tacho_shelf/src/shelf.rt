@@ -1,0 +1,354 @@
+ghost use Rattle.std.specs.Prelude.{◌≡◌, ◌⊎◌, ◌++◌, [], ◌∷◌, Result, Ok, Err, None, MatchOption, MatchResult, IfNone, IfOk, OnOk, OnErr, length, string_bytes};
+ghost use Rattle.tacho_card.specs.declared.fault.CardFault.{CardFault};
+ghost use Rattle.tacho_line.specs.Line.{mark_at};
+ghost use Rattle.tacho_state.specs.State.{driver_of, holding};
+ghost use Rattle.tacho_state.specs.Content.{Tells, part_number};
+ghost use Rattle.tacho_state.specs.Batch.{IsBatch, batch_of};
+ghost use Rattle.tacho_state.specs.Steps.{Content, registered, imported, entered, withdrawn, rebased, refused, named, lined, listed, downloaded, reported};
+ghost use Rattle.tacho_state.specs.Reported.{IsHeldWithin, IsReportOf};
+ghost use Rattle.tacho_state.specs.Acts.{Answers, caller_number};
+ghost use Rattle.tacho_shelf.specs.Shelf.{Turns, IsOwnerAt, known, known_by, owner_of, new_driver};
+
+use crate::content::read_content;
+use crate::row::{Row, is_monday, place_of, place_of_holder, place_of_key};
+use std::alloc::{AllocError, Global};
+use std::marker::Model;
+use tacho_card::Part;
+use tacho_line::Line;
+use tacho_rules::Report;
+use tacho_state::{Caller, Driver, Entered, Entry, EntryLine, Imported, Keeper, StoreFault};
+use tacho_time::{Day, Minute};
+
+/// An archive in memory. No two of its drivers have one number.
+#[derive(Drop)]
+pub struct Shelf {
+    alloc: Global,
+    drivers: Vec<Row>,
+}
+
+impl Model for Shelf {
+    ghost use Rattle.tacho_state.specs.State.{State};
+    ghost use Rattle.tacho_shelf.specs.Shelf.{AreNumbered};
+
+    ghost Value = { State };
+
+    ghost view = { λ shelf. shelf.drivers.items };
+
+    ghost invariant = { λ shelf. AreNumbered shelf.drivers.items };
+}
+
+impl Shelf {
+    /// An archive without drivers. It takes the allocator for all that it will hold, and no memory
+    /// yet.
+    pub fn new(alloc: Global) -> Shelf
+        ensures { result ≡ [] }
+    {
+        Shelf {
+            alloc,
+            drivers: Vec::new(alloc),
+        }
+    }
+
+    /// Why a driver can't be added: the first of S1, S2, S3 and S9.
+    fn refusal(&self, driver: &Driver) -> Option<StoreFault>
+        ensures new { IfNone result (driver_of driver.now.number self.now ≡ None) }
+        ensures told { MatchOption result
+            (registered driver.now.number driver.now.holder driver.now.key driver.now.base driver.now.name self.now
+            ≡ record { answer = Ok tt; after = self.now ++ new_driver driver.now ∷ [] })
+            (λ fault. registered driver.now.number driver.now.holder driver.now.key driver.now.base driver.now.name self.now
+            ≡ refused fault self.now) }
+    {
+        if place_of(&self.drivers, driver.number()).is_some() {
+            return Some(StoreFault::DriverTaken);
+        }
+        if place_of_key(&self.drivers, driver.key()).is_some() {
+            return Some(StoreFault::KeyTaken);
+        }
+        if place_of_holder(&self.drivers, driver.holder()).is_some() {
+            return Some(StoreFault::HolderTaken);
+        }
+        if !is_monday(driver.base()) {
+            return Some(StoreFault::NotMonday);
+        }
+        None
+    }
+
+    /// Adds a driver: S1, S2, S3, S9.
+    fn add_driver(&mut self, driver: &Driver) -> Result<(), StoreFault>
+        ensures { Turns (λ _. tt) self.old self.new result
+            (registered driver.now.number driver.now.holder driver.now.key driver.now.base driver.now.name) }
+    {
+        if let Some(fault) = self.refusal(driver) {
+            return Err(fault);
+        }
+        let Ok(row) = Row::new(self.alloc, driver) else {
+            return Err(StoreFault::Memory);
+        };
+        match self.push(row) {
+            Ok(()) => Ok(()),
+            Err(_) => Err(StoreFault::Memory),
+        }
+    }
+
+    /// Puts a driver with a new number behind the others.
+    fn push(&mut self, row: Row) -> Result<(), AllocError>
+        requires { driver_of row.number self.old ≡ None }
+        ensures ok { OnOk result (self.new ≡ self.old ++ row ∷ []) }
+        ensures err { OnErr result (self.new ≡ self.old) }
+    {
+        self.drivers.push(row)?;
+        Ok(())
+    }
+
+    /// Enters a batch of hours, whole or not at all: S4, S6, S14.
+    fn enter_lines(
+        &mut self,
+        alloc: Global,
+        driver: u32,
+        lines: &[EntryLine],
+    ) -> Result<Entered, StoreFault>
+        requires { IsBatch lines.now }
+        ensures entered { Turns (λ done. done.first) self.old self.new result (entered driver (batch_of lines.now)) }
+        ensures count { IfOk result (λ done. done.count ≡ length lines.now) }
+    {
+        let Some(place) = place_of(&self.drivers, driver) else {
+            return Err(StoreFault::UnknownDriver);
+        };
+        self.drivers[place].enter(alloc, lines)
+    }
+
+    /// Withdraws an entry of a driver: S4, S7, S8.
+    fn withdraw_entry(&mut self, driver: u32, number: u32) -> Result<(), StoreFault>
+        ensures { Turns (λ _. tt) self.old self.new result (withdrawn driver number) }
+    {
+        let Some(place) = place_of(&self.drivers, driver) else {
+            return Err(StoreFault::UnknownDriver);
+        };
+        self.drivers[place].withdraw(number)
+    }
+
+    /// Sets the day from which a driver is examined: S4, S9.
+    fn set_base(&mut self, driver: u32, base: Day) -> Result<(), StoreFault>
+        ensures { Turns (λ _. tt) self.old self.new result (rebased driver base) }
+    {
+        let Some(place) = place_of(&self.drivers, driver) else {
+            return Err(StoreFault::UnknownDriver);
+        };
+        if !is_monday(base) {
+            return Err(StoreFault::NotMonday);
+        }
+        self.drivers[place].set_base(base);
+        Ok(())
+    }
+
+    /// The name of a driver: S4.
+    fn name_of(&self, alloc: Global, driver: u32) -> Result<String, StoreFault>
+        ensures { Answers (λ name. string_bytes name) result (named driver self.now) }
+    {
+        let Some(place) = place_of(&self.drivers, driver) else {
+            return Err(StoreFault::UnknownDriver);
+        };
+        match self.drivers[place].copy_of_name(alloc) {
+            Ok(name) => Ok(name),
+            Err(_) => Err(StoreFault::Memory),
+        }
+    }
+
+    /// The timeline of a driver: S4.
+    fn line_of(&self, alloc: Global, driver: u32) -> Result<Line, StoreFault>
+        ensures { Answers (λ line. mark_at line) result (lined driver self.now) }
+    {
+        let Some(place) = place_of(&self.drivers, driver) else {
+            return Err(StoreFault::UnknownDriver);
+        };
+        match self.drivers[place].line(alloc) {
+            Ok(line) => Ok(line),
+            Err(_) => Err(StoreFault::Memory),
+        }
+    }
+
+    /// What a driver holds in a range, as his whole timeline: S4.
+    fn line_for(
+        &self,
+        alloc: Global,
+        driver: u32,
+        start: Minute,
+        past: Minute,
+    ) -> Result<Line, StoreFault>
+        ensures answer { Answers (λ _. tt) result (reported driver self.now) }
+        ensures within { IfOk result (IsHeldWithin driver start past self.now) }
+    {
+        self.line_of(alloc, driver)
+    }
+
+    /// The entries of a driver by their numbers: S4.
+    fn entries_of(&self, alloc: Global, driver: u32) -> Result<Vec<Entry>, StoreFault>
+        ensures { Answers (λ entries. entries.items) result (listed driver self.now) }
+    {
+        let Some(place) = place_of(&self.drivers, driver) else {
+            return Err(StoreFault::UnknownDriver);
+        };
+        match self.drivers[place].entries(alloc) {
+            Ok(entries) => Ok(entries),
+            Err(_) => Err(StoreFault::Memory),
+        }
+    }
+
+    /// The bytes of a driver's download: S4, S10.
+    fn file_of(&self, alloc: Global, driver: u32, number: u32) -> Result<Vec<u8>, StoreFault>
+        ensures { Answers (λ bytes. bytes.items) result (downloaded driver number self.now) }
+    {
+        let Some(place) = place_of(&self.drivers, driver) else {
+            return Err(StoreFault::UnknownDriver);
+        };
+        let Some(download) = self.drivers[place].download(number) else {
+            return Err(StoreFault::UnknownDownload);
+        };
+        match download.copy_of_file(alloc) {
+            Ok(file) => Ok(file),
+            Err(_) => Err(StoreFault::Memory),
+        }
+    }
+
+    /// What the rules say of a driver from his base on: S4.
+    fn report_of(&self, alloc: Global, driver: u32) -> Result<Report, StoreFault>
+        ensures answer { Answers (λ _. tt) result (reported driver self.now) }
+        ensures report { IfOk result (IsReportOf driver self.now) }
+    {
+        let Some(place) = place_of(&self.drivers, driver) else {
+            return Err(StoreFault::UnknownDriver);
+        };
+        self.drivers[place].report(alloc)
+    }
+
+    /// The place of the driver whose card it is: of him who has the holder, or of the caller, if he
+    /// has it: S4, S5.
+    fn owner(&self, caller: Caller, holder: &[u8]) -> Result<usize, StoreFault>
+        ensures { MatchResult result (IsOwnerAt self.now (owner_of (caller_number caller) holder.now self.now))
+            (λ fault. owner_of (caller_number caller) holder.now self.now ≡ Err fault) }
+    {
+        match caller {
+            Caller::Office => self.place_of_holder(holder),
+            Caller::Driver(number) => self.own_place(number, holder),
+        }
+    }
+
+    /// The place of the driver whose card has a holder: S4.
+    fn place_of_holder(&self, holder: &[u8]) -> Result<usize, StoreFault>
+        ensures { MatchResult result (IsOwnerAt self.now (known (holding holder.now self.now)))
+            (λ fault. known (holding holder.now self.now) ≡ Err fault) }
+    {
+        match place_of_holder(&self.drivers, holder) {
+            Some(place) => Ok(place),
+            None => Err(StoreFault::UnknownDriver),
+        }
+    }
+
+    /// The place of the driver with a number, if his card has a holder: S4, S5.
+    fn own_place(&self, number: u32, holder: &[u8]) -> Result<usize, StoreFault>
+        ensures { MatchResult result (IsOwnerAt self.now (known_by holder.now (driver_of number self.now)))
+            (λ fault. known_by holder.now (driver_of number self.now) ≡ Err fault) }
+    {
+        let Some(place) = place_of(&self.drivers, number) else {
+            return Err(StoreFault::UnknownDriver);
+        };
+        if !self.drivers[place].has_holder(holder) {
+            return Err(StoreFault::NotYourCard);
+        }
+        Ok(place)
+    }
+
+    /// Imports a card file by a part: S11 first; then S4, S5, S6, S14.
+    fn add_file(
+        &mut self,
+        alloc: Global,
+        caller: Caller,
+        part: Part,
+        file: &[u8],
+    ) -> Result<Imported, StoreFault>
+        ensures read { ((content : Result Content CardFault) × Tells part file.now content) ⊎ ((result ≡ Err StoreFault.Memory) × (self.new ≡ self.old)) }
+        ensures turns { (content : Result Content CardFault) → Tells part file.now content
+            → Turns (λ done. done) self.old self.new result (imported (caller_number caller) (part_number part) file.now content) }
+    {
+        let content = read_content(alloc, part, file)?;
+        let place = self.owner(caller, &content.holder)?;
+        self.drivers[place].import(alloc, part, file, content.spans)
+    }
+}
+
+impl Keeper for Shelf {
+    ghost use Rattle.std.specs.Prelude.{◌≡◌};
+    ghost use Rattle.std.proofs.Common.{inr};
+    ghost use Rattle.tacho_shelf.specs.Among.{StandsAmong};
+
+    ghost stands = { λ shelf s. shelf ≡ s };
+
+    ghost is_clean = { λ _. Unit {0} };
+
+    ghost is_live = { λ _. Unit {0} };
+
+    ghost leaves = { StandsAmong };
+
+    ghost leaves_more = { λ shelf s states among. inr among };
+
+    fn register(&mut self, driver: &Driver) -> Result<(), StoreFault> {
+        self.add_driver(driver)
+    }
+
+    fn import(
+        &mut self,
+        alloc: Global,
+        caller: Caller,
+        part: Part,
+        file: &[u8],
+    ) -> Result<Imported, StoreFault> {
+        self.add_file(alloc, caller, part, file)
+    }
+
+    fn enter(
+        &mut self,
+        alloc: Global,
+        driver: u32,
+        lines: &[EntryLine],
+    ) -> Result<Entered, StoreFault> {
+        self.enter_lines(alloc, driver, lines)
+    }
+
+    fn withdraw(&mut self, alloc: Global, driver: u32, number: u32) -> Result<(), StoreFault> {
+        self.withdraw_entry(driver, number)
+    }
+
+    fn rebase(&mut self, driver: u32, base: Day) -> Result<(), StoreFault> {
+        self.set_base(driver, base)
+    }
+
+    fn name(&mut self, alloc: Global, driver: u32) -> Result<String, StoreFault> {
+        self.name_of(alloc, driver)
+    }
+
+    fn line(&mut self, alloc: Global, driver: u32) -> Result<Line, StoreFault> {
+        self.line_of(alloc, driver)
+    }
+
+    fn line_within(
+        &mut self,
+        alloc: Global,
+        driver: u32,
+        start: Minute,
+        past: Minute,
+    ) -> Result<Line, StoreFault> {
+        self.line_for(alloc, driver, start, past)
+    }
+
+    fn entries(&mut self, alloc: Global, driver: u32) -> Result<Vec<Entry>, StoreFault> {
+        self.entries_of(alloc, driver)
+    }
+
+    fn download(&mut self, alloc: Global, driver: u32, number: u32) -> Result<Vec<u8>, StoreFault> {
+        self.file_of(alloc, driver, number)
+    }
+
+    fn report(&mut self, alloc: Global, driver: u32) -> Result<Report, StoreFault> {
+        self.report_of(alloc, driver)
+    }
+}
