@@ -4,3 +4,6 @@ pub mod TextLemmas
 pub mod NumberLemmas
 pub mod DriverLemmas
 pub mod RowLemmas
+pub mod AmountLemmas
+pub mod SheetLemmas
+pub mod MarkLemmas

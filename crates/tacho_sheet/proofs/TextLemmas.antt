@@ -1,8 +1,10 @@
 -- Lines that are written one after the other.
-use Rattle.std.proofs.Common.{◌≡◌, ◌<◌, ◌+◌, ◌++◌, ◌∷◌, ◌∙◌, ℕ, List, [], length, get_or, take, sym, ap, arith}
+use Rattle.std.proofs.Common.{◌≡◌, ◌<◌, ◌+◌, ◌++◌, ◌∷◌, ◌∙◌, ℕ, List, [], length, get_or, take, refl, sym, ap, append_assoc, arith, Result, Ok, Err, OnOk, Bool, true, false, if◌then◌else◌}
+use Rattle.std.specs.Result.{is_ok}
 use Rattle.std.proofs.lemmas.Grind.{flat_map-append, common_steps}
 use Rattle.std.proofs.lemmas.List.{append-nil}
-use Rattle.std.specs.List.{flat_map}
+use Rattle.std.proofs.lemmas.List.Elements.{filter_more}
+use Rattle.std.specs.List.{filter, flat_map}
 
 take_more : {X : Type 0} (xs : List X) (i : ℕ) (d : X) → i < length xs → take (i + 1) xs ≡ take i xs ++ get_or xs i d ∷ []
 take_more xs i d h = grind (arith, common_steps)
@@ -15,3 +17,30 @@ one_more_line f xs i d before after h e g =
     ∙ ap (λ (t : List ℕ). flat_map f (take i xs) ++ t) (sym (append-nil (f (get_or xs i d))))
     ∙ sym (flat_map-append f (take i xs) (get_or xs i d ∷ []))
     ∙ sym (ap (λ t. flat_map f t) (take_more xs i d h))
+
+-- the same behind a head
+pub one_more_row : {X : Type 0} (f : X → List ℕ) (xs : List X) (i : ℕ) (d : X) (head before after : List ℕ) → i < length xs
+    → before ≡ head ++ flat_map f (take i xs) → after ≡ before ++ f (get_or xs i d) → after ≡ head ++ flat_map f (take (i + 1) xs)
+one_more_row f xs i d head before after h e g =
+    g ∙ ap (λ (t : List ℕ). t ++ f (get_or xs i d)) e ∙ append_assoc head (flat_map f (take i xs)) (f (get_or xs i d))
+    ∙ ap (λ (t : List ℕ). head ++ t) (one_more_line f xs i d (flat_map f (take i xs)) (flat_map f (take i xs) ++ f (get_or xs i d)) h refl refl)
+
+-- what was pushed where there was memory
+pub on_pushed : {A E Q : Type 0} (r : Result A E) {t : List ℕ} (pushed old : List ℕ) → t ≡ (if is_ok r then pushed else old) → (t ≡ pushed → Q) → OnOk r Q
+on_pushed (Ok a) pushed old e f = f e
+on_pushed (Err x) pushed old e f = tt
+
+-- what was written of those that pass a test, and a line more
+pub one_more_kept : {X : Type 0} (f : X → List ℕ) (p : X → Bool) (xs : List X) (i : ℕ) (d : X) (t before after : List ℕ) → i < length xs → p (get_or xs i d) ≡ true
+    → before ≡ t ++ flat_map f (filter p (take i xs)) → after ≡ before ++ f (get_or xs i d) → after ≡ t ++ flat_map f (filter p (take (i + 1) xs))
+one_more_kept f p xs i d t before after h k e g =
+    let x = get_or xs i d in
+    let front = filter p (take i xs) in
+    simp (g, e, filter_more p xs i d h, k, flat_map-append f front (x ∷ []), append-nil (f x), append_assoc) refl
+
+-- and none for one that doesn't
+pub none_more_kept : {X : Type 0} (f : X → List ℕ) (p : X → Bool) (xs : List X) (i : ℕ) (d : X) (t before after : List ℕ) → i < length xs → p (get_or xs i d) ≡ false
+    → before ≡ t ++ flat_map f (filter p (take i xs)) → after ≡ before → after ≡ t ++ flat_map f (filter p (take (i + 1) xs))
+none_more_kept f p xs i d t before after h k e g =
+    let front = filter p (take i xs) in
+    simp (g, e, filter_more p xs i d h, k, append-nil front) refl

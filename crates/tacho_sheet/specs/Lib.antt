@@ -5,3 +5,6 @@ pub mod Lines
 pub mod Text
 pub mod Number
 pub mod Driver
+pub mod Reports
+pub mod Done
+pub mod Amounts

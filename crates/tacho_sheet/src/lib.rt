@@ -1,21 +1,26 @@
 //! CSV that comes in, the texts that go out, and the lines of faults.
 #![tactic(auto)]
 
+mod amounts;
+mod done;
 mod driver;
 mod entries;
 mod fault;
+pub mod laws;
 mod lines;
 mod number;
+mod reports;
 mod rows;
+mod sheet;
 mod text;
 mod words;
 
+pub use done::{DoneLine, base_line, entered_line, imported_line, registered_line, withdrawn_line};
 pub use driver::{read_driver, read_holder};
 pub use entries::read_entries;
 pub use fault::{Fault, LeftOut, SheetFault};
 pub use lines::{fault_line, push_byte};
 pub use number::read_number;
+pub use reports::{breach_text, gap_text, owed_text, span_csv};
+pub use sheet::month_sheet;
 pub use text::entry_text;
-
-#[cfg(test)]
-mod tests;

@@ -1,0 +1,92 @@
+-- The texts of a line depend on the marks that it gives the minutes, and on nothing else.
+use Rattle.std.proofs.Common.{◌≡◌, ℕ, zero, suc, ◌+◌, ◌*◌, ◌++◌, ◌%◌, List, Option, codes, decimal, flat_map, refl, sym, ap, ◌∙◌}
+use Rattle.tacho_time.specs.declared.span.Mark.{Mark}
+use Rattle.tacho_time.specs.declared.span.Span.{Span}
+use Rattle.tacho_time.specs.Spans.{IsCanonicalOf}
+use Rattle.tacho_time.specs.Text.{day_text, month_text}
+use Rattle.tacho_line.specs.declared.gap.Gap.{Gap}
+use Rattle.tacho_line.specs.declared.horizon.Horizon.{Horizon}
+use Rattle.tacho_line.specs.Line.{mark_at, AgreeWithin, AreGaps, HoldsWithin}
+use Rattle.tacho_hours.specs.declared.report.Breach.{Breach}
+use Rattle.tacho_sheet.specs.Reports.{amount_text, amounts_text, breach_line, breaches_within, columns, count_from, day_line, day_lines, horizon_line, right, weekday_name, AgreeIn, IsGapText, IsMonthSheet, IsSpanCsv}
+
+-- ---- gaps, and spans as CSV
+
+gaps_same : (a b : List Span) (start past : ℕ) (gaps : List Gap) → AgreeWithin start past a b
+    → AreGaps a start past gaps → AreGaps b start past gaps
+gaps_same a b start past gaps e h = record {
+  apart = h.apart;
+  lacking = λ m. (
+    (λ g. let w = (h.lacking m).0 g in (w.0, sym (e m w.0) ∙ w.1)),
+    (λ g. (h.lacking m).1 (g.0, e m g.0 ∙ g.1)),
+  );
+}
+
+held_same : (a b : List Span) (start past : ℕ) (spans : List Span) → AgreeWithin start past a b → IsCanonicalOf (HoldsWithin a start past) spans
+    → IsCanonicalOf (HoldsWithin b start past) spans
+held_same a b start past spans e h = record {
+  canonical = h.canonical;
+  same = λ m k. (
+    (λ g. let w = (h.same m k).0 g in (w.0, sym (e m w.0) ∙ w.1)),
+    (λ g. (h.same m k).1 (g.0, e m g.0 ∙ g.1)),
+  );
+}
+
+pub gap_text_same : (a b : List Span) (month : ℕ) (text : List ℕ) → AgreeIn month a b → IsGapText a month text → IsGapText b month text
+gap_text_same a b month text e h = record {
+  start = h.start;
+  past = h.past;
+  bounds = h.bounds;
+  gaps = h.gaps;
+  lacking = gaps_same a b h.start h.past h.gaps (e h.start h.past h.bounds) h.lacking;
+  is = h.is;
+}
+
+pub span_csv_same : (a b : List Span) (month : ℕ) (text : List ℕ) → AgreeIn month a b → IsSpanCsv a month text → IsSpanCsv b month text
+span_csv_same a b month text e h = record {
+  start = h.start;
+  past = h.past;
+  bounds = h.bounds;
+  spans = h.spans;
+  held = held_same a b h.start h.past h.spans (e h.start h.past h.bounds) h.held;
+  is = h.is;
+}
+
+-- ---- the sheet of a month
+
+amounts_same : (a b : List Span) (m n : ℕ) → mark_at a ≡ mark_at b → amounts_text a m n ≡ amounts_text b m n
+amounts_same a b m n e =
+    ap (λ (f : ℕ → Option Mark). flat_map (λ column. right (amount_text (count_from (λ k. column (f k)) m n))) columns) e
+
+day_same : (a b : List Span) (day : ℕ) → mark_at a ≡ mark_at b → day_line a day ≡ day_line b day
+day_same a b day e =
+    ap (λ (t : List ℕ). day_text day ++ (codes " " ++ (weekday_name ((day + 3) % 7) ++ (t ++ codes "\n"))))
+    (amounts_same a b (1440 * day) 1440 e)
+
+days_same : (a b : List Span) (day n : ℕ) → mark_at a ≡ mark_at b → day_lines a day n ≡ day_lines b day n
+days_same a b day zero e = refl
+days_same a b day (suc n) e =
+    ap (λ (t : List ℕ). t ++ day_lines a (day + 1) n) (day_same a b day e)
+    ∙ ap (λ (t : List ℕ). day_line b day ++ t) (days_same a b (day + 1) n e)
+
+-- a sheet of equal days and equal sums
+abbrev sheet_text : ℕ → List ℕ → List Breach → Horizon → ℕ → ℕ → ℕ → List ℕ → List ℕ → List ℕ
+sheet_text number name breaches horizon month start past days sums =
+    codes "DRIVER " ++ (decimal number ++ (codes " " ++ (name ++ (codes "\nMONTH " ++ (month_text month
+    ++ (codes "\nDATE       DAY   REST  AVAIL   WORK  DRIVE   CREW   NONE\n"
+    ++ (days ++ (codes "TOTAL         " ++ (sums ++ (codes "\n"
+    ++ (flat_map breach_line (breaches_within start past breaches) ++ horizon_line horizon)))))))))))
+
+pub month_sheet_same : (number : ℕ) (name : List ℕ) (a b : List Span) (breaches : List Breach) (horizon : Horizon)
+    (month : ℕ) (text : List ℕ) → mark_at a ≡ mark_at b → IsMonthSheet number name a breaches horizon month text
+    → IsMonthSheet number name b breaches horizon month text
+month_sheet_same number name a b breaches horizon month text e h =
+    let sheet : List ℕ → List ℕ → List ℕ = sheet_text number name breaches horizon month (1440 * h.day) (1440 * (h.day + h.days)) in
+    record {
+      day = h.day;
+      days = h.days;
+      bounds = h.bounds;
+      is = h.is
+          ∙ ap (λ (t : List ℕ). sheet t (amounts_text a (1440 * h.day) (1440 * h.days))) (days_same a b h.day h.days e)
+          ∙ ap (λ (t : List ℕ). sheet (day_lines b h.day h.days) t) (amounts_same a b (1440 * h.day) (1440 * h.days) e);
+    }
