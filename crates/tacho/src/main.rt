@@ -1,6 +1,8 @@
 //! The program `tacho`.
 #![tactic(auto)]
 
+mod archive;
+
 use std::env;
 use std::io::{self, ErrorKind};
 use std::process::ExitCode;
@@ -25,18 +27,32 @@ fn usage(rt: &impl Eprint, text: &str) -> ExitCode {
     ExitCode::from(2)
 }
 
-fn main(rt: HostRuntime) -> ExitCode {
+/// Does a job, and answers the program's status.
+fn run(rt: &HostRuntime, job: Job<'_>) -> u8 {
     let alloc = rt.alloc();
+    if job.at_desk() {
+        return archive::perform(rt, job);
+    }
+    if let Job::Init { archive } = job {
+        return archive::init(rt, archive);
+    }
+    let mut reader = Device::new(rt.stdin());
+    let mut writer = Device::new(rt.stdout());
+    if matches!(job, Job::Holder) {
+        tacho_cli::holder(alloc, &mut reader, &mut writer)
+    } else {
+        tacho_cli::dump(alloc, &mut reader, &mut writer)
+    }
+}
+
+fn main(rt: HostRuntime) -> ExitCode {
     let words = match words(&rt) {
         Ok(words) => words,
         Err(error) if error.kind() == ErrorKind::OutOfMemory => return no_memory(&rt),
         Err(_) => return usage(&rt, "the words of the command line are not all UTF-8\n"),
     };
-    let mut reader = Device::new(rt.stdin());
-    let mut writer = Device::new(rt.stdout());
-    match tacho_cli::parse(alloc, &words) {
-        Ok(Job::Dump) => ExitCode::from(tacho_cli::dump(alloc, &mut reader, &mut writer)),
-        Ok(Job::Holder) => ExitCode::from(tacho_cli::holder(alloc, &mut reader, &mut writer)),
+    match tacho_cli::parse(rt.alloc(), &words) {
+        Ok(job) => ExitCode::from(run(&rt, job)),
         Err(Usage::Words(text)) => usage(&rt, text.as_str()),
         Err(Usage::Parser) => usage(&rt, "no memory to read the words of the command line\n"),
         Err(Usage::Memory) => no_memory(&rt),

@@ -1,2 +1,5 @@
 mod CommandLemmas
+mod DeskLemmas
+mod ShownLemmas
 mod WordsLemmas
+mod TableLemmas

@@ -10,14 +10,14 @@ use Rattle.clap.specs.declared.error.kind.ErrorKind.{ErrorKind}
 use Rattle.clap.specs.declared.error.kind.ErrorKind.TheVariants.{OutOfMemory}
 use Rattle.tacho_cli.specs.declared.words.Usage.{Usage}
 use Rattle.tacho_cli.specs.declared.words.Usage.TheVariants as usage
-use Rattle.tacho_cli.specs.Words.{tacho_app, IsRefusal, IsUsage}
+use Rattle.tacho_cli.specs.Words.{tacho_app, with_table, with_words, IsRefusal, IsUsage}
 
 pub tacho_is_simple : is_simple tacho_app ≡ true
-unfolding clap_on_literals
+unfolding clap_on_literals tacho_app with_table with_words
 tacho_is_simple = refl
 
 pub tacho_is_simple_and_free : is_simple_and_free tacho_app ≡ true
-unfolding clap_on_literals
+unfolding clap_on_literals tacho_app with_table with_words
 tacho_is_simple_and_free = refl
 
 pub told : {Z : Type 0} (o : Option (Box SubCommand Z)) (name : Text) (rows : List Row)

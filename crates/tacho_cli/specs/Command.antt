@@ -2,23 +2,21 @@
 use Rattle.std.specs.Prelude.{◌≡◌, ℕ, ◌⊎◌, List, Option, Bool, true, false, take, IfSome}
 use Rattle.std.specs.Io.KnownBytes.{Appends}
 use Rattle.tacho_card.specs.declared.fault.CardFault.{CardFault}
-use Rattle.tacho_sheet.specs.Lines.{card_line}
 use Rattle.tacho_cli.specs.declared.fault.Fault.{Fault}
 use Rattle.tacho_cli.specs.declared.fault.Fault.TheVariants as fault
-use Rattle.tacho_cli.specs.Fault.{fault_line, fault_status, card_status}
+use Rattle.tacho_cli.specs.Fault.{fault_line, fault_status, card_fault}
 
 -- the text that is written, and the status that the program ends with
 pub record Reply : Type 0 where
   pub text : List ℕ
   pub status : ℕ
 
--- the reply of a fault of the command
+-- the reply of a fault of the command, and of a card's
 abbrev pub fault_reply : Fault → Reply
 fault_reply f = record { text = fault_line f; status = fault_status f }
 
--- the reply of a card's fault
 abbrev pub card_reply : CardFault → Reply
-card_reply f = record { text = card_line f; status = card_status f }
+card_reply f = fault_reply (card_fault f)
 
 -- The reply, by whether the reader failed: that of a failed device; or else the one that is wanted, or want of
 -- memory in its place.
@@ -32,10 +30,11 @@ abbrev pub Tells : Bool → Option (List ℕ) → Option (List ℕ) → Reply �
 Tells true old new reply status = ((n : ℕ) × Appends old new (take n reply.text)) × (status ≡ 3)
 Tells false old new reply status = Appends old new reply.text × (status ≡ reply.status)
 
--- what is written of the line of a card's fault, or of that of want of memory in its place
-abbrev pub TellsCardFault : CardFault → Bool → Option (List ℕ) → Option (List ℕ) → ℕ → Type 0
-TellsCardFault f failed old new status =
-    Tells failed old new (card_reply f) status ⊎ Tells failed old new (fault_reply fault.Memory) status
+-- what is written of a fault's line, or of that of want of memory where a line of its own could not be made
+abbrev pub TellsFault : Fault → Bool → Option (List ℕ) → Option (List ℕ) → ℕ → Type 0
+TellsFault (fault.Told f) failed old new status =
+    Tells failed old new (fault_reply (fault.Told f)) status ⊎ Tells failed old new (fault_reply fault.Memory) status
+TellsFault f failed old new status = Tells failed old new (fault_reply f) status
 
 -- The input is all that the reader had, where it tells its bytes, and some input where it doesn't.
 pub record Leaves (Wanted : List ℕ → Reply → Type 0) (unread : Option (List ℕ)) (reader_failed writer_failed : Bool) (old new : Option (List ℕ)) (status : ℕ) : Type 0 where

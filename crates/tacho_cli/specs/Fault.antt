@@ -2,32 +2,58 @@
 use Rattle.std.specs.Prelude.{ℕ, List, codes}
 use Rattle.tacho_card.specs.declared.fault.CardFault.{CardFault}
 use Rattle.tacho_card.specs.declared.fault.CardFault.TheVariants as card
+use Rattle.tacho_time.specs.declared.fault.TimeFault.{TimeFault}
 use Rattle.tacho_time.specs.declared.whole.ReadFault.{ReadFault}
 use Rattle.tacho_time.specs.declared.whole.ReadFault.TheVariants as read
+use Rattle.tacho_state.specs.declared.fault.StoreFault.{StoreFault}
+use Rattle.tacho_state.specs.declared.fault.StoreFault.TheVariants as store
 use Rattle.tacho_sheet.specs.Lines.{no_memory_line, fault_line as told_line}
+use Rattle.tacho_sheet.specs.declared.fault.Fault.{Fault as Told}
 use Rattle.tacho_sheet.specs.declared.fault.Fault.TheVariants as told
+use Rattle.tacho_sheet.specs.declared.fault.SheetFault.{SheetFault}
+use Rattle.tacho_sheet.specs.declared.fault.SheetFault.TheVariants as sheet
 use Rattle.tacho_cli.specs.declared.fault.Fault.{Fault}
 use Rattle.tacho_cli.specs.declared.fault.Fault.TheVariants as fault
 
 -- the line of a command's fault
 abbrev pub fault_line : Fault → List ℕ
-fault_line fault.TooLarge = told_line told.TooLarge
+fault_line (fault.Told f) = told_line f
 fault_line fault.Device = codes "X2 device failed\n"
 fault_line fault.Memory = no_memory_line
 
--- 1 after a refusal, 3 where memory or a device failed
-abbrev pub card_status : CardFault → ℕ
-card_status card.Memory = 3
-card_status f = 1
+-- 3 where memory or the store failed, or else 1
+abbrev pub told_status : Told → ℕ
+told_status (told.Card card.Memory) = 3
+told_status (told.Store store.Store) = 3
+told_status (told.Store store.Memory) = 3
+told_status (told.Store (store.Card card.Memory)) = 3
+told_status (told.Sheet sheet.Memory) = 3
+told_status f = 1
 
--- the same of a command's fault
+-- 1 after a refusal, 3 where memory, the store or a device failed
 abbrev pub fault_status : Fault → ℕ
-fault_status fault.TooLarge = 1
+fault_status (fault.Told f) = told_status f
 fault_status fault.Device = 3
 fault_status fault.Memory = 3
 
 -- why an input was not read
 abbrev pub read_fault : ReadFault → Fault
-read_fault read.TooLarge = fault.TooLarge
+read_fault read.TooLarge = fault.Told told.TooLarge
 read_fault read.Failed = fault.Device
 read_fault read.Memory = fault.Memory
+
+-- the fault of a card, of an archive, of a text of CSV, of a date
+abbrev pub card_fault : CardFault → Fault
+card_fault card.Memory = fault.Memory
+card_fault f = fault.Told (told.Card f)
+
+abbrev pub store_fault : StoreFault → Fault
+store_fault store.Memory = fault.Memory
+store_fault f = fault.Told (told.Store f)
+
+abbrev pub sheet_fault : SheetFault → Fault
+sheet_fault sheet.Memory = fault.Memory
+sheet_fault f = fault.Told (told.Sheet f)
+
+abbrev pub time_fault : TimeFault → Fault
+time_fault f = fault.Told (told.Time f)

@@ -3,6 +3,7 @@ use Rattle.std.specs.Prelude.{◌≡◌, ℕ, ◌<◌, ◌≤◌, ◌⊎◌, Lis
 use Rattle.tacho_card.specs.declared.fault.CardFault.{CardFault}
 use Rattle.tacho_card.specs.CardFile.{FileBlock, card_file, file_holder}
 use Rattle.tacho_sheet.specs.Lines.{byte_digits}
+use Rattle.tacho_sheet.specs.declared.fault.Fault.TheVariants as told
 use Rattle.tacho_cli.specs.declared.fault.Fault.TheVariants as fault
 use Rattle.tacho_cli.specs.Command.{Reply, fault_reply, card_reply}
 
@@ -31,5 +32,5 @@ IsHeld bytes text = (holder : List ℕ) × (card_holder bytes ≡ Ok holder) × 
 -- the reply to an input: its holder's, unless it is too large
 abbrev pub IsHolder : List ℕ → Reply → Type 0
 IsHolder input reply =
-    ((262144 < length input) × (reply ≡ fault_reply fault.TooLarge))
+    ((262144 < length input) × (reply ≡ fault_reply (fault.Told told.TooLarge)))
     ⊎ ((length input ≤ 262144) × (reply ≡ holder_reply (card_holder input)))

@@ -3,3 +3,5 @@ pub mod Command
 pub mod Dump
 pub mod Holder
 pub mod Words
+pub mod Text
+pub mod Desk

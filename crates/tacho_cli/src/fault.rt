@@ -1,14 +1,17 @@
 ghost use Rattle.std.specs.Prelude.{◌≡◌};
-ghost use Rattle.tacho_cli.specs.Fault.{card_status};
+ghost use Rattle.tacho_cli.specs.Fault.{told_status};
 
+use std::alloc::AllocError;
 use tacho_card::CardFault;
-use tacho_time::ReadFault;
+use tacho_sheet::{Fault as ToldFault, SheetFault};
+use tacho_state::StoreFault;
+use tacho_time::{ReadFault, TimeFault};
 
-/// Why a command did not do its work, beside the faults of a card.
+/// Why a command did not do its work.
 #[derive(Clone, Copy, Debug, PartialEq, Eq)]
 pub(crate) enum Fault {
-    /// X1: the input is over the limit.
-    TooLarge,
+    /// It was refused, and this has the line.
+    Told(ToldFault),
     /// X2: the reader or the writer has failed.
     Device,
     /// M1: there was no memory.
@@ -23,45 +26,87 @@ impl From<ReadFault> for Fault {
 
     fn from(fault: ReadFault) -> Fault {
         match fault {
-            ReadFault::TooLarge => Fault::TooLarge,
+            ReadFault::TooLarge => Fault::Told(ToldFault::TooLarge),
             ReadFault::Failed => Fault::Device,
             ReadFault::Memory => Fault::Memory,
         }
     }
 }
 
-impl Fault {
+impl From<CardFault> for Fault {
     ghost use Rattle.std.specs.Prelude.{◌≡◌};
-    ghost use Rattle.tacho_cli.specs.Fault.{fault_line, fault_status};
+    ghost use Rattle.tacho_cli.specs.Fault.{card_fault};
 
-    /// Its line, which takes no memory.
-    pub(crate) fn line(&self) -> &'static str
-        ensures { result.now ≡ fault_line self.now }
-    {
-        match self {
-            Fault::TooLarge => "X1 too large\n",
-            Fault::Device => "X2 device failed\n",
-            Fault::Memory => "M1 no memory\n",
-        }
-    }
+    ghost from_gives = { λ fault gives. gives ≡ card_fault fault };
 
-    /// The program's status after it.
-    pub(crate) fn status(&self) -> u8
-        ensures { result ≡ fault_status self.now }
-    {
-        match self {
-            Fault::TooLarge => 1,
-            Fault::Device | Fault::Memory => 3,
+    fn from(fault: CardFault) -> Fault {
+        match fault {
+            CardFault::Memory => Fault::Memory,
+            fault => Fault::Told(ToldFault::Card(fault)),
         }
     }
 }
 
-/// The program's status after a card's fault.
-pub(crate) fn status_of_card(fault: &CardFault) -> u8
-    ensures { result ≡ card_status fault.now }
+impl From<StoreFault> for Fault {
+    ghost use Rattle.std.specs.Prelude.{◌≡◌};
+    ghost use Rattle.tacho_cli.specs.Fault.{store_fault};
+
+    ghost from_gives = { λ fault gives. gives ≡ store_fault fault };
+
+    fn from(fault: StoreFault) -> Fault {
+        match fault {
+            StoreFault::Memory => Fault::Memory,
+            fault => Fault::Told(ToldFault::Store(fault)),
+        }
+    }
+}
+
+impl From<SheetFault> for Fault {
+    ghost use Rattle.std.specs.Prelude.{◌≡◌};
+    ghost use Rattle.tacho_cli.specs.Fault.{sheet_fault};
+
+    ghost from_gives = { λ fault gives. gives ≡ sheet_fault fault };
+
+    fn from(fault: SheetFault) -> Fault {
+        match fault {
+            SheetFault::Memory => Fault::Memory,
+            fault => Fault::Told(ToldFault::Sheet(fault)),
+        }
+    }
+}
+
+impl From<TimeFault> for Fault {
+    ghost use Rattle.std.specs.Prelude.{◌≡◌};
+    ghost use Rattle.tacho_cli.specs.Fault.{time_fault};
+
+    ghost from_gives = { λ fault gives. gives ≡ time_fault fault };
+
+    fn from(fault: TimeFault) -> Fault {
+        Fault::Told(ToldFault::Time(fault))
+    }
+}
+
+impl From<AllocError> for Fault {
+    ghost use Rattle.std.specs.Prelude.{◌≡◌};
+    ghost use Rattle.tacho_cli.specs.declared.fault.Fault.TheVariants.{Memory};
+
+    ghost from_gives = { λ _ gives. gives ≡ Memory };
+
+    fn from(_: AllocError) -> Fault {
+        Fault::Memory
+    }
+}
+
+/// The program's status after a refusal: 3 where memory or the store failed, or else 1.
+pub(crate) fn status_of(fault: &ToldFault) -> u8
+    ensures { result ≡ told_status fault.now }
 {
     match fault {
-        CardFault::Memory => 3,
+        ToldFault::Card(CardFault::Memory) => 3,
+        ToldFault::Store(StoreFault::Store) => 3,
+        ToldFault::Store(StoreFault::Memory) => 3,
+        ToldFault::Store(StoreFault::Card(CardFault::Memory)) => 3,
+        ToldFault::Sheet(SheetFault::Memory) => 3,
         _ => 1,
     }
 }

@@ -2,12 +2,16 @@
 #![tactic(auto)]
 
 mod commands;
+mod desk;
 mod fault;
+mod job;
+mod office;
+mod readings;
 mod reply;
+mod text;
 mod words;
 
 pub use commands::{dump, holder};
-pub use words::{Job, Usage, parse};
-
-#[cfg(test)]
-mod tests;
+pub use job::Job;
+pub use office::perform;
+pub use words::{Usage, parse};

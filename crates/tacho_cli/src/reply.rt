@@ -1,10 +1,8 @@
-ghost use Rattle.std.specs.Prelude.{◌≡◌};
-ghost use Rattle.tacho_cli.specs.Command.{Tells, TellsCardFault, fault_reply};
+ghost use Rattle.tacho_cli.specs.Command.{Tells, TellsFault};
 
-use crate::fault::{Fault, status_of_card};
+use crate::fault::{Fault, status_of};
 use std::alloc::Global;
-use tacho_card::CardFault;
-use tacho_sheet::{Fault as ToldFault, fault_line};
+use tacho_sheet::fault_line;
 use tacho_time::{Sink, write_all};
 
 /// Writes a text, and answers the status, or 3 where the writer failed.
@@ -17,19 +15,17 @@ pub(crate) fn tell<W: Sink>(writer: &mut W, text: &[u8], status: u8) -> u8
     }
 }
 
-/// Writes the line of a fault. It takes no memory.
-pub(crate) fn tell_fault<W: Sink>(writer: &mut W, fault: Fault) -> u8
-    ensures { Tells (W.has_failed writer.new) (W.written writer.old) (W.written writer.new) (fault_reply fault) result }
+/// Writes the line of a fault, or that of want of memory where there is none for it.
+pub(crate) fn tell_fault<W: Sink>(alloc: Global, writer: &mut W, fault: Fault) -> u8
+    ensures { TellsFault fault (W.has_failed writer.new) (W.written writer.old) (W.written writer.new) result }
 {
-    tell(writer, fault.line().as_bytes(), fault.status())
-}
-
-/// Writes the line of a card's fault, or that of want of memory where there is none for it.
-pub(crate) fn tell_card_fault<W: Sink>(alloc: Global, writer: &mut W, fault: CardFault) -> u8
-    ensures { TellsCardFault fault (W.has_failed writer.new) (W.written writer.old) (W.written writer.new) result }
-{
-    match fault_line(alloc, ToldFault::Card(fault)) {
-        Ok(line) => tell(writer, line.as_bytes(), status_of_card(&fault)),
-        Err(_) => tell_fault(writer, Fault::Memory),
+    let told = match fault {
+        Fault::Told(told) => told,
+        Fault::Device => return tell(writer, b"X2 device failed\n", 3),
+        Fault::Memory => return tell(writer, b"M1 no memory\n", 3),
+    };
+    match fault_line(alloc, told) {
+        Ok(line) => tell(writer, line.as_bytes(), status_of(&told)),
+        Err(_) => tell(writer, b"M1 no memory\n", 3),
     }
 }

@@ -17,8 +17,8 @@ returns-in-Some-job_of-clause-job c =
     let built = c.in_ok-command.ensures in
     let met = c.in-Ok.ensures.matches (ap is_simple built ∙ tacho_is_simple) in
     let sub = met.1 ∙ ap (λ (a : App). subcommand_of a words) built in
-    let here = told (out-ArgMatches c.in-Ok.matches).subcommand c.in-Some.name.now (rows_of (found_of c.in-Some.field-0-1.now)) c.in-Some.ensures.name c.in-Some.ensures.rows in
-    (c.in-Some.name.now, rows_of (found_of c.in-Some.field-0-1.now), sym sub ∙ here, c.in-Some-job_of.ensures)
+    let here = told (out-ArgMatches c.in-Ok.matches).subcommand c.in-Some.name.now (rows_of (found_of c.in-Some.inner.now)) c.in-Some.ensures.name c.in-Some.ensures.rows in
+    (c.in-Some.name.now, rows_of (found_of c.in-Some.inner.now), sym sub ∙ here, c.in-Some-job_of.ensures)
 
 pub returns-in-Err-clause-usage : goal.returns-in-Err-clause-usage
 returns-in-Err-clause-usage c =

@@ -1,0 +1,99 @@
+//! The file of an archive.
+
+ghost use Rattle.std.specs.Prelude.{◌≡◌, true};
+ghost use Rattle.tacho_cli.specs.Words.{at_desk};
+
+use sqlite::{Connection, Error, ErrorCode, File, FileStore};
+use std::fs;
+use tacho_cli::Job;
+use tacho_state::StoreFault;
+use tacho_store::Archive;
+use tacho_time::Device;
+
+/// A connection to a file.
+type FileConnection = Connection<FileStore<File>>;
+
+/// An archive in a file.
+type FileArchive = Archive<FileStore<File>>;
+
+/// Tells that the store failed, or that there was no memory, and answers the program's status.
+fn refuse(rt: &impl Print, fault: StoreFault) -> u8 {
+    let _ = match fault {
+        StoreFault::Memory => print!(rt; "M1 no memory\n"),
+        _ => print!(rt; "S12 store failed\n"),
+    };
+    3
+}
+
+/// Opens a file. One that is new gets sums of its pages, by which a later open finds what has changed in it.
+fn open(rt: &HostRuntime, path: &str) -> Result<FileConnection, StoreFault> {
+    match Connection::open_with_sums(rt, path) {
+        Ok(conn) => Ok(conn),
+        Err(Error::SqliteFailure(ErrorCode::OutOfMemory)) => Err(StoreFault::Memory),
+        Err(_) => Err(StoreFault::Store),
+    }
+}
+
+/// Makes an archive of no drivers in a file.
+fn create(rt: &HostRuntime, path: &str) -> Result<FileArchive, StoreFault> {
+    let conn = open(rt, path)?;
+    if !conn.is_autocommit() {
+        return Err(StoreFault::Store);
+    }
+    match Archive::create(conn) {
+        Ok(archive) => Ok(archive),
+        Err(refused) => Err(refused.0),
+    }
+}
+
+/// Opens the archive of a file that is there.
+fn adopt(rt: &HostRuntime, path: &str) -> Result<FileArchive, StoreFault> {
+    let Ok(true) = fs::exists(rt, path) else {
+        return Err(StoreFault::Store);
+    };
+    let conn = open(rt, path)?;
+    if !conn.is_autocommit() {
+        return Err(StoreFault::Store);
+    }
+    match Archive::adopt(conn) {
+        Ok(archive) => Ok(archive),
+        Err(refused) => Err(refused.0),
+    }
+}
+
+/// `tacho init`: makes an archive of no drivers in a file that isn't there, and answers the program's status.
+pub fn init(rt: &HostRuntime, path: &str) -> u8 {
+    match create(rt, path) {
+        Ok(archive) => {
+            close(archive);
+            match print!(rt; "created\n") {
+                Ok(()) => 0,
+                Err(_) => 3,
+            }
+        }
+        Err(fault) => refuse(rt, fault),
+    }
+}
+
+/// Does a job at the archive of its file, and answers the program's status.
+pub fn perform(rt: &HostRuntime, job: Job<'_>) -> u8
+    requires { at_desk job ≡ true }
+{
+    let Some(path) = job.archive() else {
+        return refuse(rt, StoreFault::Store);
+    };
+    let mut archive = match adopt(rt, path) {
+        Ok(archive) => archive,
+        Err(fault) => return refuse(rt, fault),
+    };
+    let mut reader = Device::new(rt.stdin());
+    let mut writer = Device::new(rt.stdout());
+    let status = tacho_cli::perform(rt.alloc(), job, &mut archive, &mut reader, &mut writer);
+    close(archive);
+    status
+}
+
+/// Closes an archive's file. What was done is kept, also where its log can't be taken into the file now: the next open does so.
+fn close(archive: FileArchive) {
+    let _ = archive.close().close();
+}
