@@ -19,8 +19,3 @@ pub use reading::{spans, spans_of};
 pub use record::Record;
 pub use records::Records;
 pub use word::Word;
-
-#[cfg(test)]
-mod file_tests;
-#[cfg(test)]
-mod tests;

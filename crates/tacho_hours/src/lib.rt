@@ -21,6 +21,3 @@ pub use portions::{has_portion, is_reduced, is_regular};
 pub use report::{Breach, Debt, Kind};
 pub use run::{FAR, Run};
 pub use runs::rest_runs;
-
-#[cfg(test)]
-mod tests;

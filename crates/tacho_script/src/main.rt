@@ -1,18 +1,21 @@
-//! Runs commands on an archive and prints what they answer, for the check beside a slow archive.
-//! A command is a line of standard input, and its answer a line. The words say which archive:
-//! `archive FILE` is that of a file, which is made where it isn't there, and `shelf` one in memory.
+//! Runs commands on an archive and prints what they answer. A command is a line of standard input, and its answer a line.
+//! The words say which archive, and which commands there are. For the check beside a slow archive: `archive FILE` is that of
+//! a file, which is made where it isn't there, and `shelf` one in memory without SQL. For the benchmark: `make FILE` is
+//! a file that has none yet, `open FILE` one that has one, and `memory` an archive in memory.
 #![tactic(auto)]
 
 mod answers;
 mod command;
+mod timed;
 
 use sqlite::{Connection, File, FileStore};
 use std::rt::Env;
 use std::{env, io};
+use tacho_shelf::Shelf;
 use tacho_state::{Keeper, StoreFault};
 use tacho_store::Archive;
 use tacho_tables::opening;
-use tacho_trials::Shelf;
+use timed::Opening;
 
 /// A connection to a file.
 type FileConnection = Connection<FileStore<File>>;
@@ -72,9 +75,15 @@ fn run_file(rt: &HostRuntime, path: &str) -> io::Result<()> {
 
 fn main(rt: HostRuntime) -> io::Result<()> {
     let words = words(&rt)?;
-    match (words.get(1), words.get(2)) {
-        (Some(word), None) if word.as_str() == "shelf" => run(&rt, &mut Shelf::new(rt.alloc())),
-        (Some(word), Some(path)) if word.as_str() == "archive" => run_file(&rt, path.as_str()),
+    match (
+        words.get(1).map(String::as_str),
+        words.get(2).map(String::as_str),
+    ) {
+        (Some("shelf"), None) => run(&rt, &mut Shelf::new(rt.alloc())),
+        (Some("archive"), Some(path)) => run_file(&rt, path),
+        (Some("memory"), None) => timed::work_in_memory(&rt),
+        (Some("make"), Some(path)) => timed::work_in_file(&rt, Opening::Make, path),
+        (Some("open"), Some(path)) => timed::work_in_file(&rt, Opening::Open, path),
         _ => println!(rt; "no archive is named"),
     }
 }

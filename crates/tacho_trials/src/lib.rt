@@ -1,17 +1,15 @@
-//! An archive in memory, and tests that cross crates: what each archive answers that keeps what
-//! `Keeper` promises.
+//! Tests of archives: what each answers that keeps what `Keeper` promises, and what a command line does at one.
 #![tactic(auto)]
 
-mod content;
-mod hours;
-mod row;
-mod shelf;
-
-pub use shelf::Shelf;
-
+#[cfg(test)]
+mod office_tests;
 #[cfg(test)]
 mod rows;
 #[cfg(test)]
 mod step;
+#[cfg(test)]
+mod stored_tests;
+#[cfg(test)]
+mod table_tests;
 #[cfg(test)]
 mod tests;

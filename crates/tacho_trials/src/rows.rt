@@ -2,11 +2,12 @@
 
 use crate::step::Standing::{Kept, Withdrawn};
 use crate::step::Step::{
-    Adds, Enter, Has, HasNoEntries, HasNoLine, Holds, Lacks, Lists, Rebase, Refuses, Register,
-    Repeats, Withdraw,
+    Adds, Enter, Has, HasName, HasNoEntries, HasNoLine, HasNoName, HasNoReport, Holds, Lacks,
+    Lists, Rebase, Refuses, Register, Repeats, Reports, Withdraw,
 };
 use crate::step::{Code, Listed, Pieces, Step};
 use tacho_card::Part;
+use tacho_rules::Kind;
 use tacho_state::Caller;
 use tacho_time::Activity;
 
@@ -17,19 +18,19 @@ const ANNAS_HOLDER: [u8; 15] = *b"\x0dD1234567890123";
 const BERTS_HOLDER: [u8; 15] = *b"\x0dD1234567890124";
 
 /// The identification of Anna's card.
-const ANNA: &str = "05200000110d44313233343536373839303132333030";
+pub(crate) const ANNA: &str = "05200000110d44313233343536373839303132333030";
 
 /// That of Bert's.
 const BERT: &str = "05200000110d44313233343536373839303132343030";
 
 /// The head of a block of activity data of the first generation, of 40 bytes.
-const FIRST: &str = "0504000028";
+pub(crate) const FIRST: &str = "0504000028";
 
 /// That of the second one.
 const SECOND: &str = "0504020028";
 
 /// Activity data from Monday 00:00 to Tuesday 08:00.
-const DAY: &str =
+pub(crate) const DAY: &str =
     "000000140000001465e50f0000010000000011e019fe23fc0014001065e6608000020000000011e0";
 
 /// Activity data of the same time, which are others from Monday 08:00 on, and all Tuesday.
@@ -636,8 +637,67 @@ const ENTRIES_OF_TWO_DRIVERS_INTERLEAVE: &[Step] = &[
     ),
 ];
 
+/// Each driver has his name, and who isn't registered has neither a name nor a report: S4.
+const DRIVERS_HAVE_THEIR_NAMES: &[Step] = &[
+    HasNoName(17, Code::S4),
+    HasNoReport(17, Code::S4),
+    REGISTER_ANNA,
+    HasName(17, "Driver 17"),
+    HasNoName(18, Code::S4),
+    HasNoReport(18, Code::S4),
+    REGISTER_BERT,
+    Rebase(17, 7, Ok(())),
+    HasName(18, "Driver 18"),
+    HasName(17, "Driver 17"),
+    HasNoName(0, Code::S4),
+    HasNoReport(4_294_967_295, Code::S4),
+];
+
+/// A report is from the driver's base on: the eight and a half hours of driving of `DAY` have no break after four and a half.
+const A_REPORT_IS_FROM_THE_BASE: &[Step] = &[
+    REGISTER_ANNA,
+    Reports(17, 0, &[]),
+    Adds(Caller::Office, Part::Both, &[ANNA, FIRST, DAY], 17, 1),
+    Reports(17, 1020, &[(Kind::B1, 780)]),
+    Enter(
+        17,
+        "start,past,activity\n2024-03-11 00:00,2024-03-12 00:00,rest\n",
+        Ok((1, 1)),
+    ),
+    Rebase(17, 7, Ok(())),
+    Reports(17, 11_520, &[]),
+    Rebase(17, 1, Err(Code::S9)),
+    Reports(17, 11_520, &[]),
+    Rebase(17, 0, Ok(())),
+    Reports(17, 1020, &[(Kind::B1, 780)]),
+];
+
+/// A report is of what is held now: five hours of driving without a break are withdrawn, and were work.
+const A_WITHDRAWAL_CHANGES_THE_REPORT: &[Step] = &[
+    REGISTER_ANNA,
+    REGISTER_BERT,
+    Enter(
+        17,
+        "start,past,activity\n\
+        2024-03-04 00:00,2024-03-04 08:00,rest\n\
+        2024-03-04 08:00,2024-03-04 13:00,drive\n\
+        2024-03-04 13:00,2024-03-04 14:00,rest\n",
+        Ok((1, 3)),
+    ),
+    Reports(17, 840, &[(Kind::B1, 750)]),
+    Reports(18, 10_080, &[]),
+    Withdraw(17, 2, Ok(())),
+    Reports(17, 480, &[]),
+    Enter(
+        17,
+        "start,past,activity\n2024-03-04 08:00,2024-03-04 13:00,work\n",
+        Ok((4, 1)),
+    ),
+    Reports(17, 840, &[]),
+];
+
 /// Each row, with its name.
-pub(crate) const ROWS: [(&str, &[Step]); 25] = [
+pub(crate) const ROWS: [(&str, &[Step]); 28] = [
     ("a day is added", A_DAY_IS_ADDED),
     ("empty data are repeated", EMPTY_DATA_ARE_REPEATED),
     (
@@ -698,5 +758,11 @@ pub(crate) const ROWS: [(&str, &[Step]); 25] = [
     (
         "entries of two drivers interleave",
         ENTRIES_OF_TWO_DRIVERS_INTERLEAVE,
+    ),
+    ("drivers have their names", DRIVERS_HAVE_THEIR_NAMES),
+    ("a report is from the base", A_REPORT_IS_FROM_THE_BASE),
+    (
+        "a withdrawal changes the report",
+        A_WITHDRAWAL_CHANGES_THE_REPORT,
     ),
 ];

@@ -5,6 +5,7 @@ use std::process::Abort;
 use std::test::Fail;
 use tacho_card::{CardFault, Part};
 use tacho_line::Line;
+use tacho_rules::{Cause, Horizon, Kind, Report};
 use tacho_sheet::read_entries;
 use tacho_state::{Caller, Driver, Entered, Entry, EntryLine, Imported, Keeper, StoreFault};
 use tacho_time::{Activity, Day, Mark, Minute, Span};
@@ -29,6 +30,9 @@ pub(crate) enum Standing {
 
 /// Entries of a driver: number, start, past and activity of each, with minutes counted from Monday 00:00.
 pub(crate) type Listed = &'static [(u32, u16, u16, Activity, Standing)];
+
+/// Breaches of the rules: the kind and the moment of each, a minute counted from Monday 00:00.
+pub(crate) type Breaches = &'static [(Kind, u16)];
 
 /// Why an archive refuses, by its code. Minutes are counted from Monday 00:00.
 #[derive(Clone, Copy, Debug)]
@@ -82,16 +86,24 @@ pub(crate) enum Step {
     Withdraw(u32, u32, Result<(), Code>),
     /// A driver is examined from another day.
     Rebase(u32, u8, Result<(), Code>),
+    /// A driver has this name.
+    HasName(u32, &'static str),
     /// A driver's timeline is exactly these spans.
     Holds(u32, Pieces),
     /// A driver's entries are exactly these.
     Lists(u32, Listed),
     /// A driver has a download with this number: a file of these blocks.
     Has(u32, u32, Blocks),
+    /// A driver is examined up to this minute, counted from Monday 00:00 and not held, and has exactly these breaches, and no debts.
+    Reports(u32, u16, Breaches),
+    /// Of a driver no name is read.
+    HasNoName(u32, Code),
     /// Of a driver no timeline is read.
     HasNoLine(u32, Code),
     /// Of a driver no entries are read.
     HasNoEntries(u32, Code),
+    /// Of a driver there is no report.
+    HasNoReport(u32, Code),
     /// Of a driver no download with this number is read.
     Lacks(u32, u32, Code),
 }
@@ -147,6 +159,9 @@ fn take_one<K: Keeper>(
         Step::Rebase(driver, day, wanted) => {
             assert_done(rt, place, keeper.rebase(driver, day_of(day)), wanted);
         }
+        Step::HasName(driver, name) => {
+            assert_eq!(rt; keeper.name(alloc, driver)?.as_str(), name, "{place}");
+        }
         Step::Holds(driver, pieces) => {
             assert_held(rt, alloc, place, &keeper.line(alloc, driver)?, pieces)?;
         }
@@ -162,11 +177,21 @@ fn take_one<K: Keeper>(
                 blocks,
             )?;
         }
+        Step::Reports(driver, until, breaches) => {
+            let report = keeper.report(alloc, driver)?;
+            assert_reported(rt, alloc, place, &report, until, breaches)?;
+        }
+        Step::HasNoName(driver, code) => {
+            assert_refused(rt, place, keeper.name(alloc, driver).err(), code);
+        }
         Step::HasNoLine(driver, code) => {
             assert_refused(rt, place, keeper.line(alloc, driver).err(), code);
         }
         Step::HasNoEntries(driver, code) => {
             assert_refused(rt, place, keeper.entries(alloc, driver).err(), code);
+        }
+        Step::HasNoReport(driver, code) => {
+            assert_refused(rt, place, keeper.report(alloc, driver).err(), code);
         }
         Step::Lacks(driver, number, code) => {
             let found = keeper.download(alloc, driver, number);
@@ -249,12 +274,45 @@ fn assert_read(
     Ok(())
 }
 
+/// A report ends at a minute that is not held, and has breaches and no debts.
+fn assert_reported(
+    rt: &impl Abort,
+    alloc: Global,
+    place: &str,
+    report: &Report,
+    until: u16,
+    breaches: Breaches,
+) -> Result<(), Fail> {
+    let horizon = Horizon {
+        minute: minute_of(until),
+        cause: Cause::Unknown,
+    };
+    assert_eq!(rt; report.horizon, horizon, "{place}");
+    let mut found = Vec::new(alloc);
+    for breach in &report.breaches {
+        found.push((breach.kind, breach.moment))?;
+    }
+    let wanted = moments_of(alloc, breaches)?;
+    assert_eq!(rt; found.as_slice(), wanted.as_slice(), "{place}");
+    assert!(rt; report.debts.is_empty(), "{place}");
+    Ok(())
+}
+
+/// The kinds and the moments of breaches.
+fn moments_of(alloc: Global, breaches: Breaches) -> Result<Vec<(Kind, Minute)>, Fail> {
+    let mut moments = Vec::new(alloc);
+    for &(kind, moment) in breaches {
+        moments.push((kind, minute_of(moment)))?;
+    }
+    Ok(moments)
+}
+
 /// A reading was refused by a code.
 fn assert_refused(rt: &impl Abort, place: &str, fault: Option<StoreFault>, code: Code) {
     assert_eq!(rt; fault, Some(refusal_of(code)), "{place}");
 }
 
-/// A driver as he is registered.
+/// A driver as he is registered. His name has his number.
 fn driver(
     alloc: Global,
     number: u32,
@@ -263,12 +321,12 @@ fn driver(
     day: u8,
 ) -> Result<Driver, Fail> {
     let key = String::from_str(alloc, key)?;
-    let name = String::from_str(alloc, "Anna Berg")?;
+    let name = format!(in alloc; "Driver {number}")?;
     Ok(Driver::new(number, holder, key, day_of(day), name)?)
 }
 
 /// The bytes of blocks.
-fn file(alloc: Global, blocks: &[&str]) -> Result<Vec<u8>, Fail> {
+pub(crate) fn file(alloc: Global, blocks: &[&str]) -> Result<Vec<u8>, Fail> {
     let mut bytes = Vec::new(alloc);
     for block in blocks {
         bytes.extend_from_slice(&hex::decode(alloc, *block)?)?;

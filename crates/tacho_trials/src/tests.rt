@@ -1,6 +1,5 @@
 ghost use Rattle.std.specs.Prelude.{◌≡◌, false, IfOk, IfErr};
 
-use crate::Shelf;
 use crate::rows::{A_DAY_IS_ADDED, NIGHT_HOURS, REGISTER_ANNA, ROWS};
 use crate::step::{Step, take};
 use sqlite::{Alter, Connection, FileStore};
@@ -9,6 +8,7 @@ use std::alloc::Global;
 use std::fs;
 use std::process::Abort;
 use std::test::Fail;
+use tacho_shelf::Shelf;
 use tacho_state::{Keeper, StoreFault};
 use tacho_store::{Archive, open_memory};
 use tacho_time::Activity;
@@ -23,7 +23,7 @@ const PATH: &str = "tacho_trials_test/archive.db";
 const SAME: u32 = 1_000;
 
 /// The archive that a store has.
-fn adopted<S: Alter + Drop>(conn: Connection<S>) -> Result<Archive<S>, StoreFault>
+pub(crate) fn adopted<S: Alter + Drop>(conn: Connection<S>) -> Result<Archive<S>, StoreFault>
     requires { conn.in_transaction ≡ false }
 {
     match Archive::adopt(conn) {

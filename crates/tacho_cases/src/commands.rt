@@ -1,0 +1,501 @@
+use crate::faulty::Faulty;
+use std::alloc::{AllocError, Global};
+use std::process::Abort;
+use std::test::Fail;
+use tacho_cli::{Job, Usage, dump, holder, parse};
+use tacho_time::Device;
+
+/// Two days: rest, work and drive on 4 March 2024, and rest on the 5th, whose last word is still open.
+const TWO_DAYS: &str =
+    "00000014 0000001465e50f0000010064000011e019fe23fc 0014001065e6608000020000000011e0";
+
+const TWO_DAYS_LINES: &str = "\
+2024-03-04 00:00 2024-03-04 08:00 rest single
+2024-03-04 08:00 2024-03-04 08:30 work single
+2024-03-04 08:30 2024-03-04 17:00 drive single
+2024-03-05 00:00 2024-03-05 08:00 rest single
+";
+
+const ONE_REST: &str = "2024-03-04 00:00 2024-03-04 08:00 rest single\n";
+
+/// The bytes that hexadecimal digits spell, blanks aside.
+fn bytes_of(rt: &impl Abort, alloc: Global, digits: &str) -> Vec<u8> {
+    let mut bytes = Vec::new(alloc);
+    let mut high = None;
+    for digit in digits.chars() {
+        let Some(value) = digit.to_digit(16) else {
+            continue;
+        };
+        match high {
+            None => high = Some(value),
+            Some(first) => {
+                let byte = (first % 16 * 16 + value % 16) as u8;
+                bytes.push(byte).expect(rt, "memory");
+                high = None;
+            }
+        }
+    }
+    bytes
+}
+
+/// What `dump` writes of an input over memory, and its status.
+fn dumped(alloc: Global, input: &[u8]) -> (Vec<u8>, u8) {
+    let mut reader = Device::new(input);
+    let mut writer = Device::new(Vec::new(alloc));
+    let status = dump(alloc, &mut reader, &mut writer);
+    (writer.into_inner(), status)
+}
+
+#[test]
+fn values_are_dumped(rt: HostRuntime) -> Result<(), Fail> {
+    let rows = [
+        (TWO_DAYS, TWO_DAYS_LINES, 0),
+        // A word at the last minute of the day, and one behind it.
+        (
+            "00000000 0000001065e50f00000100000000059f",
+            "2024-03-04 00:00 2024-03-04 23:59 rest single\n",
+            0,
+        ),
+        (
+            "00000000 0000001065e50f0000010000000005a0",
+            "C12 word minute at 14\n",
+            1,
+        ),
+        // Two words of one minute, of which the later holds; and words that go back.
+        (
+            "00000000 0000001465e50f0000010000000011e019e001fe",
+            "2024-03-04 00:00 2024-03-04 08:00 rest single\n2024-03-04 08:00 2024-03-04 08:30 drive single\n",
+            0,
+        ),
+        (
+            "00000000 0000001265e50f0000010000000011fe19e0",
+            "C13 word order at 16\n",
+            1,
+        ),
+        // A record that straddles the buffer's end within its date, and within a word.
+        ("000a000a 0f0000010000000011e00000001065e5", ONE_REST, 0),
+        ("00010001 e00000001065e50f0000010000000011", ONE_REST, 0),
+        // The oldest record stands behind the newest.
+        (
+            "00100000 0014001065e6608000020000000011e0 0000001465e50f0000010064000011e019fe23fc",
+            TWO_DAYS_LINES,
+            0,
+        ),
+        // No records.
+        ("00000000000000000000000000000000", "", 0),
+        // A newest record that the chain doesn't reach, an odd length, and a wrong previous length, which isn't read.
+        (
+            "00000002 0000001465e50f0000010064000011e019fe23fc 0014001065e6608000020000000011e0",
+            "C10 chain broken at 0\n",
+            1,
+        ),
+        (
+            "00000014 0000001465e50f0000010064000011e019fe23fc 0014000d65e6608000020000000011e0",
+            "C9 record length at 20\n",
+            1,
+        ),
+        (
+            "00000014 0000001465e50f0000010064000011e019fe23fc 0012001065e6608000020000000011e0",
+            TWO_DAYS_LINES,
+            0,
+        ),
+        // Two records of one day, of which the second contradicts the first from midnight on.
+        (
+            "00000010 0000001065e50f0000010000000011e0 0010001065e50f0000020000180011e0",
+            "C14 file contradicts itself at 2024-03-04 00:00\n",
+            1,
+        ),
+        // A day before 3 January 2000.
+        (
+            "00000000 00000010000000000001000000001000",
+            "C11 day out of range at 0\n",
+            1,
+        ),
+        (
+            "000000000000000000000000000000",
+            "C7 activity data too short\n",
+            1,
+        ),
+        (
+            "000c0000000000000000000000000000",
+            "C8 pointer out of the buffer\n",
+            1,
+        ),
+    ];
+    for (digits, lines, status) in rows {
+        let (text, answered) = dumped(rt.alloc(), &bytes_of(&rt, rt.alloc(), digits));
+        assert_eq!(rt; text.as_slice(), lines.as_bytes(), "of {digits}");
+        assert_eq!(rt; answered, status, "of {digits}");
+    }
+    Ok(())
+}
+
+#[test]
+fn inputs_have_a_limit(rt: HostRuntime) -> Result<(), Fail> {
+    let mut input = vec![in rt.alloc(); 0u8; 65_535]?;
+    let (text, status) = dumped(rt.alloc(), &input);
+    assert_eq!(rt; text.as_slice(), b"".as_slice());
+    assert_eq!(rt; status, 0);
+    input.push(0)?;
+    let (text, status) = dumped(rt.alloc(), &input);
+    assert_eq!(rt; text.as_slice(), b"X1 too large\n".as_slice());
+    assert_eq!(rt; status, 1);
+
+    let mut file = bytes_of(&rt, rt.alloc(), IDENTIFICATION);
+    file.resize(262_144, 0)?;
+    let (text, status) = held(rt.alloc(), &file);
+    assert_eq!(rt;
+        text.as_slice(),
+        b"C1 truncated block at 262142\n".as_slice()
+    );
+    assert_eq!(rt; status, 1);
+    file.push(0)?;
+    let (text, status) = held(rt.alloc(), &file);
+    assert_eq!(rt; text.as_slice(), b"X1 too large\n".as_slice());
+    assert_eq!(rt; status, 1);
+    Ok(())
+}
+
+/// The identification of a card, in its block: `D1234567890123`, and two indices.
+const IDENTIFICATION: &str = "05200000110d44313233343536373839303132333030";
+
+const HOLDER_LINE: &str = "0d4431323334353637383930313233\n";
+
+/// What `holder` writes of an input over memory, and its status.
+fn held(alloc: Global, input: &[u8]) -> (Vec<u8>, u8) {
+    let mut reader = Device::new(input);
+    let mut writer = Device::new(Vec::new(alloc));
+    let status = holder(alloc, &mut reader, &mut writer);
+    (writer.into_inner(), status)
+}
+
+#[test]
+fn holders_are_told(rt: HostRuntime) -> Result<(), Fail> {
+    let rows = [
+        // The identification, and two days of activity; the identification alone; and twice.
+        (
+            "0504000028 00000014 0000001465e50f0000010064000011e019fe23fc 0014001065e6608000020000000011e0",
+            HOLDER_LINE,
+            0,
+        ),
+        ("", HOLDER_LINE, 0),
+        (IDENTIFICATION, "C2 block 0520 00 twice\n", 1),
+        // The same holder in the second generation, and another one.
+        (
+            "0520020011 0d44313233343536373839303132333131",
+            HOLDER_LINE,
+            0,
+        ),
+        (
+            "0520020011 0d44313233343536373839303132343030",
+            "C5 two cards\n",
+            1,
+        ),
+        (
+            "0520020010 0d443132333435363738393031323330",
+            "C4 identification too short\n",
+            1,
+        ),
+        // A signature is no data, and may come twice; a block whose value passes the end.
+        ("0520010001ff 0520010001ff", HOLDER_LINE, 0),
+        ("05040100", "C1 truncated block at 22\n", 1),
+        // A truncated block is told before a block that comes twice, and that before a short one.
+        (
+            "05200000110d44313233343536373839303132333030 05",
+            "C1 truncated block at 44\n",
+            1,
+        ),
+        ("0520000001ff", "C2 block 0520 00 twice\n", 1),
+    ];
+    for (digits, lines, status) in rows {
+        let mut input = bytes_of(&rt, rt.alloc(), IDENTIFICATION);
+        input.extend_from_slice(&bytes_of(&rt, rt.alloc(), digits))?;
+        let (text, answered) = held(rt.alloc(), &input);
+        assert_eq!(rt; text.as_slice(), lines.as_bytes(), "of {digits}");
+        assert_eq!(rt; answered, status, "of {digits}");
+    }
+    let (text, status) = held(rt.alloc(), b"");
+    assert_eq!(rt; text.as_slice(), b"C3 no identification\n".as_slice());
+    assert_eq!(rt; status, 1);
+    Ok(())
+}
+
+#[test]
+fn readers_fail_at_each_call(rt: HostRuntime) -> Result<(), Fail> {
+    let input = bytes_of(&rt, rt.alloc(), TWO_DAYS);
+    // Forty bytes in pieces of seven take six calls, and one more for the end.
+    for calls in 0..9 {
+        let mut reader = Faulty::new(rt.alloc(), &input, 7, calls);
+        let mut writer = Device::new(Vec::new(rt.alloc()));
+        let status = dump(rt.alloc(), &mut reader, &mut writer);
+        let (lines, wanted) = if calls < 7 {
+            ("X2 device failed\n", 3)
+        } else {
+            (TWO_DAYS_LINES, 0)
+        };
+        assert_eq!(rt;
+            writer.into_inner().as_slice(),
+            lines.as_bytes(),
+            "of {calls} calls"
+        );
+        assert_eq!(rt; status, wanted, "of {calls} calls");
+    }
+    let input = bytes_of(&rt, rt.alloc(), IDENTIFICATION);
+    // Twenty-two bytes in pieces of seven take four calls, and one more for the end.
+    for calls in 0..7 {
+        let mut reader = Faulty::new(rt.alloc(), &input, 7, calls);
+        let mut writer = Device::new(Vec::new(rt.alloc()));
+        let status = holder(rt.alloc(), &mut reader, &mut writer);
+        let (lines, wanted) = if calls < 5 {
+            ("X2 device failed\n", 3)
+        } else {
+            (HOLDER_LINE, 0)
+        };
+        assert_eq!(rt;
+            writer.into_inner().as_slice(),
+            lines.as_bytes(),
+            "of {calls} calls"
+        );
+        assert_eq!(rt; status, wanted, "of {calls} calls");
+    }
+    Ok(())
+}
+
+#[test]
+fn writers_fail_at_each_call(rt: HostRuntime) -> Result<(), Fail> {
+    let input = bytes_of(&rt, rt.alloc(), TWO_DAYS);
+    let lines = TWO_DAYS_LINES.as_bytes();
+    // The lines in pieces of fifty bytes take four calls.
+    for calls in 0..6 {
+        let mut reader = Device::new(input.as_slice());
+        let mut writer = Faulty::new(rt.alloc(), b"", 50, calls);
+        let status = dump(rt.alloc(), &mut reader, &mut writer);
+        let front = lines.len().min(calls * 50);
+        assert_eq!(rt;
+            writer.written.as_slice(),
+            &lines[..front],
+            "of {calls} calls"
+        );
+        assert_eq!(rt; status, if calls < 4 { 3 } else { 0 }, "of {calls} calls");
+    }
+    Ok(())
+}
+
+/// Words, and the job that they name.
+static JOBS: [(&[&str], Job<'static>); 15] = [
+    (&["tacho", "dump"], Job::Dump),
+    (&["tacho", "holder"], Job::Holder),
+    (&["tacho", "init", "a.db"], Job::Init { archive: "a.db" }),
+    (
+        &["tacho", "register", "a.db"],
+        Job::Register { archive: "a.db" },
+    ),
+    (
+        &["tacho", "import", "a.db", "second"],
+        Job::Import {
+            archive: "a.db",
+            part: "second",
+        },
+    ),
+    (
+        &["tacho", "enter", "a.db", "17"],
+        Job::Enter {
+            archive: "a.db",
+            driver: "17",
+        },
+    ),
+    (
+        &["tacho", "withdraw", "a.db", "17", "3"],
+        Job::Withdraw {
+            archive: "a.db",
+            driver: "17",
+            number: "3",
+        },
+    ),
+    (
+        &["tacho", "base", "a.db", "17", "2024-03-11"],
+        Job::Base {
+            archive: "a.db",
+            driver: "17",
+            date: "2024-03-11",
+        },
+    ),
+    (
+        &["tacho", "spans", "a.db", "17", "2024-03"],
+        Job::Spans {
+            archive: "a.db",
+            driver: "17",
+            month: "2024-03",
+        },
+    ),
+    (
+        &["tacho", "gaps", "a.db", "17", "2024-03"],
+        Job::Gaps {
+            archive: "a.db",
+            driver: "17",
+            month: "2024-03",
+        },
+    ),
+    (
+        &["tacho", "sheet", "a.db", "17", "2024-03"],
+        Job::Sheet {
+            archive: "a.db",
+            driver: "17",
+            month: "2024-03",
+        },
+    ),
+    (
+        &["tacho", "breaches", "a.db", "17"],
+        Job::Breaches {
+            archive: "a.db",
+            driver: "17",
+        },
+    ),
+    (
+        &["tacho", "owed", "a.db", "17"],
+        Job::Owed {
+            archive: "a.db",
+            driver: "17",
+        },
+    ),
+    (
+        &["tacho", "entries", "a.db", "17"],
+        Job::Entries {
+            archive: "a.db",
+            driver: "17",
+        },
+    ),
+    (
+        &["tacho", "file", "a.db", "17", "3"],
+        Job::File {
+            archive: "a.db",
+            driver: "17",
+            number: "3",
+        },
+    ),
+];
+
+/// The words of a command line.
+fn strings(alloc: Global, words: &[&str]) -> Result<Vec<String>, AllocError> {
+    let mut given = Vec::new(alloc);
+    for word in words {
+        given.push(String::from_str(alloc, *word)?)?;
+    }
+    Ok(given)
+}
+
+#[test]
+fn words_name_jobs(rt: HostRuntime) -> Result<(), Fail> {
+    let alloc = rt.alloc();
+    for (words, job) in JOBS {
+        let given = strings(alloc, words)?;
+        let named = parse(alloc, &given).map_err(|_| "words that name a job")?;
+        assert_eq!(rt; named, job);
+        let has_archive = !matches!(job, Job::Dump | Job::Holder);
+        assert_eq!(rt; named.archive(), has_archive.then_some("a.db"));
+        assert_eq!(rt;
+            named.at_desk(),
+            has_archive && words.get(1) != Some(&"init")
+        );
+    }
+    Ok(())
+}
+
+const HELP: &str = "\
+Keeps the driving and rest times that driver cards tell
+
+Usage: tacho <COMMAND>
+
+Commands:
+  dump      Prints the spans of the value of an EF Driver_Activity_Data (0504), a line each: tacho dump < FILE
+  holder    Prints the holder of a whole card download file in hexadecimal digits: tacho holder < FILE
+  init      Makes an archive of no drivers in a file that isn't there
+  register  Adds a driver: tacho register ARCHIVE < CSV with the head driver,holder,key,base,name
+  import    Keeps a card download file of a driver: tacho import ARCHIVE PART < FILE, of which PART is both, first or second
+  enter     Enters hours of a driver by hand: tacho enter ARCHIVE DRIVER < CSV with the head start,past,activity
+  withdraw  Withdraws an entry, which stays listed
+  base      Sets the Monday from which a driver is examined: DATE is YYYY-MM-DD
+  spans     Prints what a driver holds in a month as CSV: MONTH is YYYY-MM
+  gaps      Prints the minutes of a month that a driver doesn't hold
+  sheet     Prints the sheet of a driver's month
+  breaches  Prints the breaches of the rules on driving and rest hours
+  owed      Prints the weekly rests that are owed
+  entries   Prints the hours that were entered by hand
+  file      Prints a card download file that was kept
+  help      Print this message or the help of the given subcommand(s)
+
+Options:
+  -h, --help  Print help
+";
+
+const HELP_OF_DUMP: &str = "\
+Prints the spans of the value of an EF Driver_Activity_Data (0504), a line each: tacho dump < FILE
+
+Usage: tacho dump
+
+Options:
+  -h, --help  Print help
+";
+
+const HELP_OF_HOLDER: &str = "\
+Prints the holder of a whole card download file in hexadecimal digits: tacho holder < FILE
+
+Usage: tacho holder
+
+Options:
+  -h, --help  Print help
+";
+
+const NO_COMMAND: &str = "\
+error: 'tacho' requires a subcommand but one was not provided
+  [subcommands: dump, holder, init, register, import, enter, withdraw, base, spans, gaps, sheet, breaches, owed, entries, file, help]
+
+Usage: tacho <COMMAND>
+
+For more information, try '--help'.
+";
+
+const OTHER_COMMAND: &str = "\
+error: unrecognized subcommand 'weigh'
+
+Usage: tacho <COMMAND>
+
+For more information, try '--help'.
+";
+
+const ONE_WORD_MORE: &str = "\
+error: unexpected argument 'more' found
+
+Usage: tacho dump
+
+For more information, try '--help'.
+";
+
+/// What is told of words that name no job.
+fn told(rt: &impl Abort, alloc: Global, words: &[&str]) -> Result<String, AllocError> {
+    let given = strings(alloc, words)?;
+    match parse(alloc, &given) {
+        Err(Usage::Words(text)) => Ok(text),
+        _ => panic!(rt; "words that name a job"),
+    }
+}
+
+#[test]
+fn other_words_tell_how_they_are_used(rt: HostRuntime) -> Result<(), Fail> {
+    let alloc = rt.alloc();
+    let help = told(&rt, alloc, &["tacho", "--help"])?;
+    assert_eq!(rt; help.as_str(), HELP);
+    let help = told(&rt, alloc, &["tacho", "help"])?;
+    assert_eq!(rt; help.as_str(), HELP);
+    let help_of_dump = told(&rt, alloc, &["tacho", "dump", "--help"])?;
+    assert_eq!(rt; help_of_dump.as_str(), HELP_OF_DUMP);
+    let help_of_holder = told(&rt, alloc, &["tacho", "help", "holder"])?;
+    assert_eq!(rt; help_of_holder.as_str(), HELP_OF_HOLDER);
+    let no_command = told(&rt, alloc, &["tacho"])?;
+    assert_eq!(rt; no_command.as_str(), NO_COMMAND);
+    let other_command = told(&rt, alloc, &["tacho", "weigh"])?;
+    assert_eq!(rt; other_command.as_str(), OTHER_COMMAND);
+    let one_word_more = told(&rt, alloc, &["tacho", "dump", "more"])?;
+    assert_eq!(rt; one_word_more.as_str(), ONE_WORD_MORE);
+    Ok(())
+}

@@ -1,0 +1,142 @@
+//! Jobs at an archive, whose reader or writer fails at each of its calls.
+
+ghost use Rattle.std.specs.Prelude.{◌≡◌, false};
+
+use crate::faulty::Faulty;
+use std::alloc::Global;
+use std::test::Fail;
+use tacho_cli::{Job, perform};
+use tacho_shelf::Shelf;
+use tacho_time::{Device, Sink, Source};
+
+/// A job, its input, its text, and its text when it is done once more.
+type Case = (Job<'static>, &'static [u8], &'static str, &'static str);
+
+/// Jobs that read, one after the other.
+static CASES: [Case; 3] = [
+    (
+        Job::Register { archive: "a.db" },
+        b"driver,holder,key,base,name\n17,0d4431323334353637383930313233,anna-key-1,2024-03-04,Anna Berg\n",
+        "registered 17\n",
+        "S1 driver taken\n",
+    ),
+    (
+        Job::Import {
+            archive: "a.db",
+            part: "both",
+        },
+        b"\x05\x20\x00\x00\x11\x0dD123456789012300\x05\x04\x00\x00\x28\x00\x00\x00\x14\x00\x00\x00\x14\x65\xe5\x0f\x00\x00\x01\x00\x64\x00\x00\x11\xe0\x19\xfe\x23\xfc\x00\x14\x00\x10\x65\xe6\x60\x80\x00\x02\x00\x00\x00\x00\x11\xe0",
+        "added driver 17 number 1\n",
+        "repeated driver 17\n",
+    ),
+    (
+        Job::Enter {
+            archive: "a.db",
+            driver: "17",
+        },
+        b"start,past,activity\n2024-03-06 00:00,2024-03-06 08:00,rest\n",
+        "entered 1 to 1\n",
+        "entered 2 to 2\n",
+    ),
+];
+
+/// What a job at the desk answers.
+fn performed<R: Source, W: Sink>(
+    alloc: Global,
+    shelf: &mut Shelf,
+    job: Job<'_>,
+    reader: &mut R,
+    writer: &mut W,
+) -> Result<u8, Fail>
+    requires reader { R.has_failed reader.old ≡ false }
+    requires writer { W.has_failed writer.old ≡ false }
+{
+    if !job.at_desk() {
+        return Err("a job at an archive")?;
+    }
+    Ok(perform(alloc, job, shelf, reader, writer))
+}
+
+/// What a job with this input writes, and its status, where no device fails.
+fn answer(
+    alloc: Global,
+    shelf: &mut Shelf,
+    job: Job<'_>,
+    input: &[u8],
+) -> Result<(Vec<u8>, u8), Fail> {
+    let mut writer = Device::new(Vec::new(alloc));
+    let status = performed(alloc, shelf, job, &mut Device::new(input), &mut writer)?;
+    Ok((writer.into_inner(), status))
+}
+
+/// An archive at which the first so many of the cases were done.
+fn archive_after(alloc: Global, count: usize) -> Result<Shelf, Fail> {
+    let mut shelf = Shelf::new(alloc);
+    for (job, input, _, _) in CASES.iter().take(count) {
+        answer(alloc, &mut shelf, *job, *input)?;
+    }
+    Ok(shelf)
+}
+
+#[test]
+fn readers_fail_at_each_call(rt: HostRuntime) -> Result<(), Fail> {
+    for (place, (job, input, text, _)) in CASES.iter().enumerate() {
+        // Each seven bytes take a call, the last ones too, and the end takes one.
+        let needed = input.len().div_ceil(7) + 1;
+        for calls in 0..needed + 2 {
+            let mut shelf = archive_after(rt.alloc(), place)?;
+            let mut reader = Faulty::new(rt.alloc(), *input, 7, calls);
+            let mut writer = Device::new(Vec::new(rt.alloc()));
+            let status = performed(rt.alloc(), &mut shelf, *job, &mut reader, &mut writer)?;
+            let written = writer.into_inner();
+            if calls >= needed {
+                assert_eq!(rt; written.as_slice(), text.as_bytes(), "of {calls} calls");
+                assert_eq!(rt; status, 0, "of {calls} calls");
+                continue;
+            }
+            assert_eq!(rt;
+                written.as_slice(),
+                b"X2 device failed\n".as_slice(),
+                "of {calls} calls"
+            );
+            assert_eq!(rt; status, 3, "of {calls} calls");
+            // The archive is as before: the job can be done.
+            let (written, status) = answer(rt.alloc(), &mut shelf, *job, *input)?;
+            assert_eq!(rt; written.as_slice(), text.as_bytes(), "after {calls} calls");
+            assert_eq!(rt; status, 0, "after {calls} calls");
+        }
+    }
+    Ok(())
+}
+
+#[test]
+fn writers_fail_at_each_call(rt: HostRuntime) -> Result<(), Fail> {
+    for (place, (job, input, text, again)) in CASES.iter().enumerate() {
+        let needed = text.len().div_ceil(5);
+        for calls in 0..needed + 2 {
+            let mut shelf = archive_after(rt.alloc(), place)?;
+            let mut writer = Faulty::new(rt.alloc(), b"", 5, calls);
+            let status = performed(
+                rt.alloc(),
+                &mut shelf,
+                *job,
+                &mut Device::new(*input),
+                &mut writer,
+            )?;
+            let wanted = text.as_bytes().iter().take(5 * calls).copied();
+            assert!(rt;
+                wanted.eq(writer.written.iter().copied()),
+                "of {calls} calls"
+            );
+            assert_eq!(rt;
+                status,
+                if calls < needed { 3 } else { 0 },
+                "of {calls} calls"
+            );
+            // The job has acted.
+            let (written, _) = answer(rt.alloc(), &mut shelf, *job, *input)?;
+            assert_eq!(rt; written.as_slice(), again.as_bytes(), "after {calls} calls");
+        }
+    }
+    Ok(())
+}

@@ -1,0 +1,365 @@
+ghost use Rattle.std.specs.Prelude.{◌≤◌, All, IsTrue};
+
+use std::alloc::{AllocError, Global};
+use std::test::Fail;
+use tacho_line::{Line, LineFault};
+use tacho_rules::{Breach, Cause, Debt, Kind, Report, examine};
+use tacho_time::{Activity, Mark, Minute, Span, Week, first_minute};
+
+/// 2024-03-04 00:00, a Monday's first minute.
+const BASE: u32 = 28_491_840;
+
+/// The week of that Monday.
+const WEEK: u32 = 2826;
+
+/// 2100-01-01 00:00, which no span passes.
+const LAST: u32 = 68_374_080;
+
+/// What is done on days of March 2024, from one minute of the day to another. April goes on with the 32nd.
+#[derive(Clone, Copy)]
+struct Piece {
+    first: u32,
+    last: u32,
+    from: u32,
+    to: u32,
+    activity: Activity,
+}
+
+/// A minute of a day of March 2024, from the 4th to the 60th.
+fn at(day: u32, minute: u32) -> Minute {
+    Minute::new(BASE + 1440 * (day.min(60).saturating_sub(4)) + minute.min(1440))
+}
+
+/// Work on some days.
+fn work(first: u32, last: u32, from: u32, to: u32) -> Piece {
+    Piece {
+        first,
+        last,
+        from,
+        to,
+        activity: Activity::Work,
+    }
+}
+
+/// Driving on some days.
+fn drive(first: u32, last: u32, from: u32, to: u32) -> Piece {
+    Piece {
+        first,
+        last,
+        from,
+        to,
+        activity: Activity::Drive,
+    }
+}
+
+/// The mark of a driver who is alone.
+fn alone(activity: Activity) -> Mark {
+    Mark {
+        activity,
+        crew: false,
+    }
+}
+
+/// A line with more spans.
+fn add(alloc: Global, line: &mut Line, spans: &[Span]) -> Result<(), LineFault> {
+    let gains = line.gains(alloc, spans)?;
+    if line.add(&gains).is_err() {
+        return Err(LineFault::Memory);
+    }
+    Ok(())
+}
+
+/// The spans of a piece, one for each of its days.
+fn spans_of(alloc: Global, piece: Piece) -> Result<Vec<Span>, AllocError> {
+    let mut spans = Vec::new(alloc);
+    for day in piece.first..piece.last.min(60) + 1 {
+        spans.push(Span {
+            start: at(day, piece.from),
+            past: at(day, piece.to),
+            mark: alone(piece.activity),
+        })?;
+    }
+    Ok(spans)
+}
+
+/// A line with rest where it holds nothing, from the base to a horizon.
+fn add_rest(alloc: Global, line: &mut Line, horizon: Minute) -> Result<(), LineFault> {
+    let gaps = line.gaps(alloc, Minute::new(BASE), horizon)?;
+    for gap in &gaps {
+        let rest = Span {
+            start: gap.start,
+            past: gap.past,
+            mark: alone(Activity::Rest),
+        };
+        add(alloc, line, &[rest])?;
+    }
+    Ok(())
+}
+
+/// The line of pieces, with rest between them, from the base to a horizon.
+fn line_of(alloc: Global, pieces: &[Piece], horizon: Minute) -> Result<Line, LineFault> {
+    let mut line = Line::empty(alloc);
+    for piece in pieces {
+        add(alloc, &mut line, &spans_of(alloc, *piece)?)?;
+    }
+    add_rest(alloc, &mut line, horizon)?;
+    Ok(line)
+}
+
+/// Whether no span passes the last minute.
+fn are_early(spans: &[Span]) -> bool
+    ensures { IsTrue result → All (λ span. span.past ≤ 68374080) spans.now }
+{
+    spans.iter().all(|span| span.past.number() <= LAST)
+}
+
+/// The report of a line from the base's week or the next.
+fn report_of(alloc: Global, line: &Line, week: u32) -> Result<Report, Fail>
+    requires { week ≤ 1 }
+{
+    if !are_early(line.spans()) {
+        return Err(Fail::new("a late span"));
+    }
+    Ok(examine(alloc, line, first_minute(Week::new(WEEK + week)))?)
+}
+
+/// Whether the report of pieces with rest between them has a horizon that isn't held, these breaches and these debts.
+fn finds(
+    alloc: Global,
+    pieces: &[Piece],
+    horizon: Minute,
+    breaches: &[Breach],
+    debts: &[Debt],
+) -> Result<bool, Fail> {
+    let line = line_of(alloc, pieces, horizon)?;
+    let report = report_of(alloc, &line, 0)?;
+    Ok(
+        report.horizon.minute == horizon
+            && report.horizon.cause == Cause::Unknown
+            && report.breaches.as_slice() == breaches
+            && report.debts.as_slice() == debts,
+    )
+}
+
+/// A breach.
+fn breach(kind: Kind, moment: Minute, since: Minute, amount: u32) -> Breach {
+    Breach {
+        kind,
+        moment,
+        since,
+        amount,
+    }
+}
+
+/// The debt of the base's week.
+fn debt(amount: u32, paid_by: Option<Minute>) -> Debt {
+    Debt {
+        week: Week::new(WEEK),
+        amount,
+        deadline: at(32, 0),
+        paid_by,
+    }
+}
+
+#[test]
+fn six_days_between_weekly_rests(rt: HostRuntime) -> Result<(), Fail> {
+    let pieces = [work(4, 9, 360, 1080), work(10, 10, 300, 360)];
+    assert!(rt; finds(rt.alloc(), &pieces, at(12, 0), &[], &[])?);
+    Ok(())
+}
+
+#[test]
+fn six_days_and_a_minute(rt: HostRuntime) -> Result<(), Fail> {
+    let pieces = [work(4, 9, 360, 1080), work(10, 10, 300, 361)];
+    let late = breach(Kind::B8, at(10, 360), at(4, 360), 1);
+    assert!(rt; finds(rt.alloc(), &pieces, at(12, 0), &[late], &[])?);
+    Ok(())
+}
+
+#[test]
+fn a_late_rest_before_a_long_week(rt: HostRuntime) -> Result<(), Fail> {
+    let pieces = [
+        drive(4, 10, 360, 600),
+        drive(4, 9, 645, 885),
+        drive(10, 10, 645, 886),
+    ];
+    let late = breach(Kind::B8, at(10, 360), at(4, 360), 526);
+    let long = breach(Kind::B6, at(10, 885), at(4, 0), 1);
+    assert!(rt; finds(rt.alloc(), &pieces, at(12, 0), &[late, long], &[])?);
+    Ok(())
+}
+
+#[test]
+fn a_rest_of_975_minutes_pays_345(rt: HostRuntime) -> Result<(), Fail> {
+    let pieces = [
+        drive(4, 9, 360, 600),
+        drive(4, 9, 645, 885),
+        drive(11, 16, 360, 600),
+        drive(11, 16, 645, 825),
+    ];
+    let paid = debt(345, Some(at(11, 825)));
+    assert!(rt; finds(rt.alloc(), &pieces, at(18, 0), &[], &[paid])?);
+    Ok(())
+}
+
+/// The pieces of a week whose main rest has 24 hours, and some more.
+fn short_week(alloc: Global, more: &[Piece]) -> Result<Vec<Piece>, AllocError> {
+    let mut pieces = Vec::new(alloc);
+    pieces.push(work(4, 9, 360, 420))?;
+    pieces.push(work(10, 10, 420, 480))?;
+    pieces.extend_from_slice(more)?;
+    Ok(pieces)
+}
+
+#[test]
+fn a_main_rest_of_66_hours_pays(rt: HostRuntime) -> Result<(), Fail> {
+    let alloc = rt.alloc();
+    let pieces = short_week(alloc, &[work(11, 15, 360, 420), work(18, 18, 60, 120)])?;
+    let paid = debt(1260, Some(at(15, 420)));
+    assert!(rt; finds(alloc, &pieces, at(18, 120), &[], &[paid])?);
+    Ok(())
+}
+
+#[test]
+fn a_main_rest_of_a_minute_less_does_not(rt: HostRuntime) -> Result<(), Fail> {
+    let alloc = rt.alloc();
+    let pieces = short_week(alloc, &[work(11, 15, 360, 420), work(18, 18, 59, 120)])?;
+    assert!(rt; finds(alloc, &pieces, at(18, 120), &[], &[debt(1260, None)])?);
+    Ok(())
+}
+
+#[test]
+fn a_rest_of_30_hours_beside_the_main_one_pays(rt: HostRuntime) -> Result<(), Fail> {
+    let alloc = rt.alloc();
+    let pieces = short_week(
+        alloc,
+        &[
+            work(11, 12, 360, 420),
+            work(13, 13, 780, 840),
+            work(14, 15, 360, 420),
+            work(17, 17, 240, 300),
+            work(18, 18, 360, 420),
+        ],
+    )?;
+    let paid = debt(1260, Some(at(12, 420)));
+    assert!(rt; finds(alloc, &pieces, at(18, 420), &[], &[paid])?);
+    Ok(())
+}
+
+/// The pieces of three weeks behind the short one in which nothing pays, and of a last night.
+fn unpaid(alloc: Global, end: u32) -> Result<Vec<Piece>, AllocError> {
+    short_week(
+        alloc,
+        &[
+            work(11, 15, 360, 420),
+            work(17, 17, 240, 300),
+            work(18, 22, 360, 420),
+            work(24, 24, 240, 300),
+            work(25, 29, 360, 420),
+            work(31, 31, 240, 300),
+            work(31, 31, 1380, end),
+        ],
+    )
+}
+
+#[test]
+fn a_debt_is_overdue(rt: HostRuntime) -> Result<(), Fail> {
+    let alloc = rt.alloc();
+    let pieces = unpaid(alloc, 1440)?;
+    let late = breach(Kind::B10, at(32, 0), at(4, 0), 1260);
+    assert!(rt; finds(alloc, &pieces, at(32, 0), &[late], &[debt(1260, None)])?);
+    Ok(())
+}
+
+#[test]
+fn a_debt_is_due_in_a_minute(rt: HostRuntime) -> Result<(), Fail> {
+    let alloc = rt.alloc();
+    let pieces = unpaid(alloc, 1439)?;
+    assert!(rt; finds(alloc, &pieces, at(31, 1439), &[], &[debt(1260, None)])?);
+    Ok(())
+}
+
+#[test]
+fn two_weeks_without_weekly_rests(rt: HostRuntime) -> Result<(), Fail> {
+    let pieces = [
+        work(4, 4, 0, 60),
+        work(4, 17, 360, 420),
+        work(17, 17, 1380, 1440),
+    ];
+    let late = breach(Kind::B8, at(10, 0), at(4, 0), 11_520);
+    let lacking = breach(Kind::B9, at(18, 0), at(4, 0), 0);
+    assert!(rt; finds(rt.alloc(), &pieces, at(18, 0), &[late, lacking], &[])?);
+    Ok(())
+}
+
+#[test]
+fn two_weeks_that_are_not_over(rt: HostRuntime) -> Result<(), Fail> {
+    let pieces = [
+        work(4, 4, 0, 60),
+        work(4, 17, 360, 420),
+        work(17, 17, 1380, 1439),
+    ];
+    let late = breach(Kind::B8, at(10, 0), at(4, 0), 11_519);
+    assert!(rt; finds(rt.alloc(), &pieces, at(17, 1439), &[late], &[])?);
+    Ok(())
+}
+
+#[test]
+fn two_weeks_with_short_weekly_rests(rt: HostRuntime) -> Result<(), Fail> {
+    let pieces = [
+        work(4, 4, 0, 60),
+        work(4, 9, 360, 420),
+        work(10, 10, 420, 480),
+        work(11, 16, 360, 420),
+        work(17, 17, 420, 480),
+        work(17, 17, 1380, 1440),
+    ];
+    let lacking = breach(Kind::B9, at(18, 0), at(4, 0), 0);
+    let next = Debt {
+        week: Week::new(WEEK + 1),
+        amount: 1260,
+        deadline: at(39, 0),
+        paid_by: None,
+    };
+    assert!(rt;
+        finds(
+            rt.alloc(),
+            &pieces,
+            at(18, 0),
+            &[lacking],
+            &[debt(1260, None), next]
+        )?
+    );
+    Ok(())
+}
+
+#[test]
+fn nothing_is_examined_behind_the_held_minutes(rt: HostRuntime) -> Result<(), Fail> {
+    let alloc = rt.alloc();
+    let line = line_of(alloc, &[drive(4, 4, 480, 510)], at(4, 1020))?;
+    let report = report_of(alloc, &line, 1)?;
+    assert_eq!(rt; report.horizon.minute, at(11, 0));
+    assert_eq!(rt; report.horizon.cause, Cause::Unknown);
+    assert_eq!(rt; (report.breaches.len(), report.debts.len()), (0, 0));
+    Ok(())
+}
+
+#[test]
+fn a_crew_ends_the_examination(rt: HostRuntime) -> Result<(), Fail> {
+    let alloc = rt.alloc();
+    let mut line = line_of(alloc, &[], at(4, 720))?;
+    let crew = Span {
+        start: at(4, 720),
+        past: at(5, 720),
+        mark: Mark {
+            activity: Activity::Drive,
+            crew: true,
+        },
+    };
+    add(alloc, &mut line, &[crew])?;
+    let report = report_of(alloc, &line, 0)?;
+    assert_eq!(rt; report.horizon.minute, at(4, 720));
+    assert_eq!(rt; report.horizon.cause, Cause::Crew);
+    assert_eq!(rt; (report.breaches.len(), report.debts.len()), (0, 0));
+    Ok(())
+}

@@ -1,0 +1,132 @@
+use std::alloc::{AllocError, Global};
+use std::test::Fail;
+use tacho_card::{CardFault, CardFile, Part, spans};
+use tacho_time::Minute;
+
+/// An identification of kind 00: the card's number ends in 00.
+const IDENTIFIED: &[u8] = b"\x05\x20\x00\x00\x11\x0dD123456789012300";
+
+const OTHER_HOLDER: &[u8] = b"\x05\x20\x02\x00\x11\x0dD123456789012400";
+
+/// Activity data of kind 00 without records: both pointers are 0.
+const ACTIVITY: &[u8] =
+    b"\x05\x04\x00\x00\x10\x00\x00\x00\x00\x00\x00\x00\x00\x00\x00\x00\x00\x00\x00\x00\x00";
+
+const SHORT: &[u8] = b"\x05\x20\x00\x00\x10\x0dD12345678901230";
+
+/// The holder that a file of these bytes names.
+fn holder_of(bytes: &[u8]) -> Result<[u8; 15], CardFault> {
+    Ok(CardFile::read(bytes)?.holder())
+}
+
+fn joined(alloc: Global, first: &[u8], second: &[u8]) -> Result<Vec<u8>, AllocError> {
+    let mut bytes = Vec::from_slice(alloc, first)?;
+    bytes.extend_from_slice(second)?;
+    Ok(bytes)
+}
+
+#[test]
+fn reads_the_holder(rt: HostRuntime) {
+    assert_eq!(rt; holder_of(IDENTIFIED), Ok(*b"\x0dD1234567890123"));
+}
+
+#[test]
+fn names_the_first_fault(rt: HostRuntime) -> Result<(), Fail> {
+    assert_eq!(rt; holder_of(&[]), Err(CardFault::NoIdentification));
+    assert_eq!(rt; holder_of(SHORT), Err(CardFault::ShortIdentification));
+    for (more, fault) in [
+        (IDENTIFIED, CardFault::Twice(0x0520, 0)),
+        (OTHER_HOLDER, CardFault::TwoCards),
+        (b"\x05\x04\x01\x00", CardFault::Truncated(22)),
+    ] {
+        let bytes = joined(rt.alloc(), IDENTIFIED, more)?;
+        assert_eq!(rt; holder_of(&bytes), Err(fault));
+    }
+    Ok(())
+}
+
+#[test]
+fn finds_the_cut(rt: HostRuntime) {
+    for length in 1..IDENTIFIED.len() {
+        let cut = &IDENTIFIED[..length];
+        assert_eq!(rt; holder_of(cut), Err(CardFault::Truncated(0)), "at {length}");
+    }
+}
+
+#[test]
+fn goes_over_the_blocks(rt: HostRuntime) -> Result<(), Fail> {
+    let file = CardFile::read(IDENTIFIED)?;
+    let mut blocks = file.blocks();
+    let block = blocks.next().ok_or("a block")?;
+    assert_eq!(rt; block.identifier(), 0x0520);
+    assert_eq!(rt; block.kind(), 0);
+    assert_eq!(rt; block.value().len(), 17);
+    assert!(rt; blocks.next().is_none());
+    Ok(())
+}
+
+#[test]
+fn wants_activity(rt: HostRuntime) -> Result<(), Fail> {
+    let file = CardFile::read(IDENTIFIED)?;
+    assert_eq!(rt;
+        file.activity(Part::Both).err(),
+        Some(CardFault::NoActivity)
+    );
+    Ok(())
+}
+
+#[test]
+fn chooses_the_activity(rt: HostRuntime) -> Result<(), Fail> {
+    let bytes = joined(rt.alloc(), IDENTIFIED, ACTIVITY)?;
+    let file = CardFile::read(&bytes)?;
+    for part in [Part::First, Part::Both] {
+        let chosen = file.activity(part)?;
+        assert!(rt; chosen[0].is_some());
+        assert!(rt; chosen[1].is_none());
+    }
+    assert_eq!(rt;
+        file.activity(Part::Second).err(),
+        Some(CardFault::NoActivity)
+    );
+    Ok(())
+}
+
+/// Two days of activity of the first generation, and other words for them of the second.
+const TWO_GENERATIONS: &[u8] = &[
+    0x05, 0x04, 0x00, 0x00, 0x28, 0x00, 0x00, 0x00, 0x14, 0x00, 0x00, 0x00, 0x14, 0x65, 0xe5, 0x0f,
+    0x00, 0x00, 0x01, 0x00, 0x64, 0x00, 0x00, 0x11, 0xe0, 0x19, 0xfe, 0x23, 0xfc, 0x00, 0x14, 0x00,
+    0x10, 0x65, 0xe6, 0x60, 0x80, 0x00, 0x02, 0x00, 0x00, 0x00, 0x00, 0x11, 0xe0, 0x05, 0x04, 0x02,
+    0x00, 0x28, 0x00, 0x00, 0x00, 0x14, 0x00, 0x00, 0x00, 0x14, 0x65, 0xe5, 0x0f, 0x00, 0x00, 0x01,
+    0x00, 0x64, 0x00, 0x00, 0x11, 0xea, 0x1a, 0x08, 0x23, 0xf2, 0x00, 0x14, 0x00, 0x10, 0x65, 0xe6,
+    0x60, 0x80, 0x00, 0x02, 0x00, 0x00, 0x08, 0x00, 0x11, 0xe0,
+];
+
+#[test]
+fn reads_each_generation(rt: HostRuntime) -> Result<(), Fail> {
+    let bytes = joined(rt.alloc(), IDENTIFIED, TWO_GENERATIONS)?;
+    let file = CardFile::read(&bytes)?;
+    // 4 March 2024, 08:00: the first generation has work from then on, and the second still rest.
+    let contradiction = CardFault::SelfContradiction(Minute::new(28_492_320));
+    assert_eq!(rt;
+        spans(rt.alloc(), &file, Part::Both).err(),
+        Some(contradiction)
+    );
+    // Until when each of the four spans lasts. Both generations end alike.
+    for (part, pasts) in [
+        (
+            Part::First,
+            [28_492_320, 28_492_350, 28_492_860, 28_493_760],
+        ),
+        (
+            Part::Second,
+            [28_492_330, 28_492_360, 28_492_850, 28_493_760],
+        ),
+    ] {
+        let spans = spans(rt.alloc(), &file, part)?;
+        assert_eq!(rt; spans.len(), 4);
+        for (span, past) in spans.iter().zip(pasts) {
+            assert_eq!(rt; span.past.number(), past);
+        }
+    }
+    Ok(())
+}

@@ -1,0 +1,263 @@
+ghost use Rattle.std.specs.Prelude.{◌≡◌, ◌+◌, ◌≤◌, ◌<◌, All, AllPairs, false};
+ghost use Rattle.tacho_hours.specs.Line.{Joined, Before};
+
+use std::alloc::{AllocError, Global};
+use std::test::Fail;
+use tacho_hours::{
+    Breach, DutyDay, FAR, Kind, Run, complete_breaks, driving_minute, driving_minutes, duty_days,
+    has_portion, is_reduced, is_regular, long_rests, put_in_order, rest_runs,
+};
+use tacho_time::{Activity, Mark, Minute, Span};
+
+/// 2024-03-04 00:00, a Monday's first minute.
+const BASE: u32 = 28_491_840;
+
+/// 2024-03-05 00:00.
+const HORIZON: u32 = 28_493_280;
+
+/// What a driver who is alone does, in minutes from the base.
+fn single(start: u32, past: u32, activity: Activity) -> Span
+    requires start { start ≤ 1440 }
+    requires past { past ≤ 1440 }
+    ensures { result ≡ record { start = 28491840 + start; past = 28491840 + past; mark = record { activity = activity; crew = false } } }
+{
+    Span {
+        start: Minute::new(BASE + start),
+        past: Minute::new(BASE + past),
+        mark: Mark {
+            activity,
+            crew: false,
+        },
+    }
+}
+
+/// A day with two times of driving, in which availability is between a rest and work.
+fn day() -> [Span; 6]
+    ensures joined { Joined result 28491840 28493280 }
+    ensures single { All (λ span. span.mark.crew ≡ false) result }
+{
+    [
+        single(0, 360, Activity::Rest),
+        single(360, 630, Activity::Drive),
+        single(630, 675, Activity::Rest),
+        single(675, 700, Activity::Available),
+        single(700, 970, Activity::Drive),
+        single(970, 1440, Activity::Rest),
+    ]
+}
+
+/// The rest runs of the day's spans.
+fn runs_of_day(alloc: Global, spans: &[Span]) -> Result<Vec<Run>, AllocError>
+    requires joined { Joined spans.now 28491840 28493280 }
+    requires single { All (λ span. span.mark.crew ≡ false) spans.now }
+{
+    rest_runs(alloc, spans, Minute::new(BASE), Minute::new(HORIZON))
+}
+
+/// How many minutes of the day's spans are driving, from one minute of the day to before another.
+fn driven(spans: &[Span], from: u32, to: u32) -> u32
+    requires joined { Joined spans.now 28491840 28493280 }
+    requires single { All (λ span. span.mark.crew ≡ false) spans.now }
+    requires from { from ≤ 1440 }
+    requires to { to ≤ 1440 }
+{
+    let (base, past) = (Minute::new(BASE), Minute::new(HORIZON));
+    driving_minutes(spans, base, past, BASE + from, BASE + to)
+}
+
+/// The k-th driving minute of the day's spans.
+fn driven_minute(spans: &[Span], k: u32) -> Option<u32>
+    requires joined { Joined spans.now 28491840 28493280 }
+    requires single { All (λ span. span.mark.crew ≡ false) spans.now }
+    requires first { 0 < k }
+{
+    let (base, past) = (Minute::new(BASE), Minute::new(HORIZON));
+    driving_minute(spans, base, past, BASE, HORIZON, k)
+}
+
+#[test]
+fn runs_are_as_long_as_they_can_be(rt: HostRuntime) -> Result<(), Fail> {
+    let runs = runs_of_day(rt.alloc(), &day())?;
+    let expected = [
+        Run {
+            start: 0,
+            past: BASE + 360,
+        },
+        Run {
+            start: BASE + 630,
+            past: BASE + 675,
+        },
+        Run {
+            start: BASE + 970,
+            past: FAR,
+        },
+    ];
+    assert_eq!(rt; runs.as_slice(), expected.as_slice());
+    Ok(())
+}
+
+#[test]
+fn driving_is_counted(rt: HostRuntime) {
+    let spans = day();
+    assert_eq!(rt; driven(&spans, 0, 1440), 540);
+    assert_eq!(rt; driven(&spans, 629, 701), 2);
+    assert_eq!(rt; driven(&spans, 630, 700), 0);
+    assert_eq!(rt; driven(&spans, 800, 700), 0);
+    assert_eq!(rt; driven_minute(&spans, 1), Some(BASE + 360));
+    assert_eq!(rt; driven_minute(&spans, 270), Some(BASE + 629));
+    assert_eq!(rt; driven_minute(&spans, 271), Some(BASE + 700));
+    assert_eq!(rt; driven_minute(&spans, 541), None);
+}
+
+#[test]
+fn breaks_have_45_minutes_or_15_and_then_30(rt: HostRuntime) -> Result<(), Fail> {
+    let runs = [
+        Run {
+            start: 0,
+            past: 100,
+        },
+        Run {
+            start: 110,
+            past: 125,
+        },
+        Run {
+            start: 200,
+            past: 230,
+        },
+        Run {
+            start: 300,
+            past: 344,
+        },
+        Run {
+            start: 400,
+            past: 414,
+        },
+        Run {
+            start: 500,
+            past: 545,
+        },
+        Run {
+            start: 600,
+            past: 630,
+        },
+    ];
+    let breaks = complete_breaks(rt.alloc(), &runs)?;
+    let expected = [runs[0], runs[2], runs[5]];
+    assert_eq!(rt; breaks.as_slice(), expected.as_slice());
+    Ok(())
+}
+
+/// The runs of two duty days, the first with a rest of three hours in it.
+fn two_days() -> [Run; 4]
+    ensures some { All (λ run. run.start < run.past) result }
+    ensures in_order { AllPairs Before result }
+{
+    [
+        Run {
+            start: 0,
+            past: 600,
+        },
+        Run {
+            start: 840,
+            past: 1020,
+        },
+        Run {
+            start: 1500,
+            past: 2040,
+        },
+        Run {
+            start: 2100,
+            past: FAR,
+        },
+    ]
+}
+
+#[test]
+fn duty_days_lie_between_rests_of_nine_hours(rt: HostRuntime) -> Result<(), Fail> {
+    let runs = two_days();
+    let days = duty_days(rt.alloc(), &runs)?;
+    let expected = [
+        DutyDay {
+            start: 600,
+            past: 1500,
+            rest: runs[2],
+        },
+        DutyDay {
+            start: 2040,
+            past: 2100,
+            rest: runs[3],
+        },
+    ];
+    assert_eq!(rt; days.as_slice(), expected.as_slice());
+    Ok(())
+}
+
+#[test]
+fn long_rests_have_so_many_minutes(rt: HostRuntime) -> Result<(), Fail> {
+    let runs = two_days();
+    assert_eq!(rt;
+        long_rests(rt.alloc(), &runs, 180)?.as_slice(),
+        runs.as_slice()
+    );
+    let expected = [runs[0], runs[2], runs[3]];
+    assert_eq!(rt;
+        long_rests(rt.alloc(), &runs, 181)?.as_slice(),
+        expected.as_slice()
+    );
+    Ok(())
+}
+
+#[test]
+fn a_rest_of_three_and_of_nine_hours_is_regular(rt: HostRuntime) {
+    let day = DutyDay {
+        start: 360,
+        past: 1260,
+        rest: Run {
+            start: 1260,
+            past: 1801,
+        },
+    };
+    assert!(rt; has_portion(day, 540));
+    assert!(rt; !has_portion(day, 541));
+    let within = [Run {
+        start: 600,
+        past: 780,
+    }];
+    assert!(rt; is_regular(day, &within));
+    assert!(rt; !is_reduced(day, &within));
+    let before = [Run {
+        start: 180,
+        past: 360,
+    }];
+    assert!(rt; !is_regular(day, &before));
+    assert!(rt; is_reduced(day, &before));
+}
+
+/// A breach of a kind with these minutes.
+fn breach(kind: Kind, moment: u32, since: u32) -> Breach
+    requires moment { moment ≤ 1440 }
+    requires since { since ≤ 1440 }
+    ensures { result ≡ record { kind = kind; moment = moment; since = since; amount = 1 } }
+{
+    Breach {
+        kind,
+        moment: Minute::new(moment),
+        since: Minute::new(since),
+        amount: 1,
+    }
+}
+
+#[test]
+fn breaches_are_in_order(rt: HostRuntime) -> Result<(), Fail> {
+    let breaches = [
+        breach(Kind::B1, 8, 3),
+        breach(Kind::B10, 7, 1),
+        breach(Kind::B2, 7, 5),
+        breach(Kind::B2, 7, 4),
+    ];
+    let mut found = Vec::from_slice(rt.alloc(), &breaches)?;
+    put_in_order(&mut found);
+    let expected = [breaches[3], breaches[2], breaches[1], breaches[0]];
+    assert_eq!(rt; found.as_slice(), expected.as_slice());
+    Ok(())
+}

@@ -1,0 +1,32 @@
+//! Worked cases of the crates from `tacho_time` to `tacho_cli`, as tests: all of them are proved once for these, where tests in
+//! each crate would have it proved twice.
+#![tactic(auto)]
+
+#[cfg(test)]
+mod commands;
+#[cfg(test)]
+mod desk;
+#[cfg(test)]
+mod devices;
+#[cfg(test)]
+mod drivers;
+#[cfg(test)]
+mod examinations;
+#[cfg(test)]
+mod faulty;
+#[cfg(test)]
+mod files;
+#[cfg(test)]
+mod hours;
+#[cfg(test)]
+mod lines;
+#[cfg(test)]
+mod passes;
+#[cfg(test)]
+mod reports;
+#[cfg(test)]
+mod sheets;
+#[cfg(test)]
+mod time;
+#[cfg(test)]
+mod values;

@@ -1,0 +1,540 @@
+use std::alloc::Global;
+use std::test::Fail;
+use tacho_card::CardFault;
+use tacho_sheet::{
+    Fault, LeftOut, SheetFault, base_line, entered_line, entry_text, fault_line, imported_line,
+    read_driver, read_entries, read_number, registered_line, withdrawn_line,
+};
+use tacho_state::{Column, Entered, Entry, EntryLine, Imported, StoreFault};
+use tacho_time::{Activity, Day, Minute, TimeFault};
+
+// `checks/failing_sheet.py` runs each test with each of its allocations refused in turn. So a test hands on want of memory by
+// `?`, and asserts everything else.
+
+/// Monday, 4 March 2024, 00:00.
+const MONDAY: u32 = 28_491_840;
+
+/// A line of rest.
+fn rest(start: u32, past: u32) -> EntryLine {
+    EntryLine {
+        start: Minute::new(start % 68_428_801),
+        past: Minute::new(past % 68_428_801),
+        activity: Activity::Rest,
+    }
+}
+
+/// The fault of a text. An Err is want of memory.
+fn fault_of(alloc: Global, text: &str) -> Result<Option<SheetFault>, SheetFault> {
+    match read_entries(alloc, text.as_bytes()) {
+        Ok(_) => Ok(None),
+        Err(SheetFault::Memory) => Err(SheetFault::Memory),
+        Err(fault) => Ok(Some(fault)),
+    }
+}
+
+/// The fault of a driver's text. An Err is want of memory.
+fn driver_fault_of(alloc: Global, text: &str) -> Result<Option<SheetFault>, SheetFault> {
+    match read_driver(alloc, text.as_bytes()) {
+        Ok(_) => Ok(None),
+        Err(SheetFault::Memory) => Err(SheetFault::Memory),
+        Err(fault) => Ok(Some(fault)),
+    }
+}
+
+#[test]
+fn entries_are_read(rt: HostRuntime) -> Result<(), Fail> {
+    let alloc = rt.alloc();
+    let wanted = [rest(MONDAY, MONDAY + 720), rest(MONDAY + 720, MONDAY + 721)];
+    let texts = [
+        "start,past,activity\n2024-03-04 00:00,2024-03-04 12:00,rest\n2024-03-04 12:00,2024-03-04 12:01,rest\n",
+        // As a spreadsheet saves it: a byte order mark, CR LF, quotes; and blank lines.
+        "\u{feff}start,past,activity\r\n2024-03-04 00:00,2024-03-04 12:00,rest\r\n2024-03-04 12:00,2024-03-04 12:01,rest\r\n",
+        "\"start\",\"past\",\"activity\"\n\"2024-03-04 00:00\",\"2024-03-04 12:00\",\"rest\"\n\n2024-03-04 12:00,2024-03-04 12:01,rest",
+        "\u{feff}\r\n\"start\",\"past\",\"activity\"\r\n\r\n\"2024-03-04 00:00\",\"2024-03-04 12:00\",\"rest\"\r\n\r\n\"2024-03-04 12:00\",\"2024-03-04 12:01\",\"rest\"\r\n\r\n",
+        // CR alone as the line's end.
+        "start,past,activity\r2024-03-04 00:00,2024-03-04 12:00,rest\r\r2024-03-04 12:00,2024-03-04 12:01,rest\r",
+        // A quote that is never closed ends with the text.
+        "start,past,activity\n2024-03-04 00:00,2024-03-04 12:00,rest\n2024-03-04 12:00,2024-03-04 12:01,\"rest",
+    ];
+    for text in texts {
+        let lines = read_entries(alloc, text.as_bytes())?;
+        assert_eq!(rt; lines.as_slice(), wanted.as_slice(), "of {text}");
+    }
+    // 366 days.
+    let text = "start,past,activity\n2024-01-01 00:00,2025-01-01 00:00,rest\n";
+    let lines = read_entries(alloc, text.as_bytes())?;
+    assert_eq!(rt; lines.as_slice(), [rest(28_401_120, 28_928_160)].as_slice());
+    Ok(())
+}
+
+#[test]
+fn many_entries_are_read(rt: HostRuntime) -> Result<(), Fail> {
+    let alloc = rt.alloc();
+    let mut text = String::from_str(alloc, "start,past,activity\n")?;
+    for i in 0..40_u32 {
+        let line = rest(MONDAY + 720 * i, MONDAY + 720 * i + 720);
+        let start = line.start;
+        let past = line.past;
+        writeln!(text, "{start},{past},rest")?;
+    }
+    let lines = read_entries(alloc, text.as_bytes())?;
+    assert_eq!(rt; lines.len(), 40);
+    for i in 0..40_u32 {
+        let line = rest(MONDAY + 720 * i, MONDAY + 720 * i + 720);
+        assert_eq!(rt; lines.get(i as usize).copied(), Some(line));
+    }
+    Ok(())
+}
+
+#[test]
+fn a_head_alone_is_an_empty_batch(rt: HostRuntime) -> Result<(), Fail> {
+    let texts = [
+        "start,past,activity\n",
+        "start,past,activity",
+        "\u{feff}start,past,activity\r\n\r\n",
+    ];
+    for text in texts {
+        assert!(rt;
+            read_entries(rt.alloc(), text.as_bytes())?.is_empty(),
+            "of {text}"
+        );
+    }
+    Ok(())
+}
+
+#[test]
+fn the_first_fault_is_told(rt: HostRuntime) -> Result<(), Fail> {
+    let alloc = rt.alloc();
+    let heads = [
+        "",
+        "\n\r\n\r",
+        "\u{feff}",
+        "start,past\n",
+        "start,past,Activity\n",
+        "start,past,activity,\n",
+        "start;past;activity\n",
+        "past,start,activity\n",
+        // The second byte order mark is part of the first field.
+        "\u{feff}\u{feff}start,past,activity\n",
+        // A quote that is never closed takes all the rest into its field.
+        "start,past,\"activity\n2024-03-04 00:00,2024-03-04 12:00,rest\n",
+    ];
+    for text in heads {
+        assert_eq!(rt; fault_of(alloc, text)?, Some(SheetFault::Head), "of {text}");
+    }
+    let rows = [
+        (
+            "2024-03-04 00:00,2024-03-04 12:00,rest,work\n",
+            SheetFault::Fields(2),
+        ),
+        ("2024-03-04 00:00,2024-03-04 12:00\n", SheetFault::Fields(2)),
+        // A line with a blank isn't blank.
+        (" \n", SheetFault::Fields(2)),
+        ("2024-03-04,2024-03-04 12:00,rest\n", SheetFault::Time(2)),
+        (
+            "2024-03-04 00:00,2024-02-30 12:00,crew\n",
+            SheetFault::Time(2),
+        ),
+        // A comma and a line's end within quotes are the field's.
+        (
+            "\"2024-03-04 00:00,x\",2024-03-04 12:00,rest\n",
+            SheetFault::Time(2),
+        ),
+        (
+            "2024-03-04 00:00,\"2024-03-04 12:00\r\n\",rest\n",
+            SheetFault::Time(2),
+        ),
+        (
+            "2024-03-04 00:00,2024-03-04 12:00,\"re\nst\"\n",
+            SheetFault::Activity(2),
+        ),
+        // Two quotes within quotes are one.
+        (
+            "2024-03-04 00:00,2024-03-04 12:00,\"re\"\"st\"\n",
+            SheetFault::Activity(2),
+        ),
+        // A quote that is never closed takes the line's end into its field.
+        (
+            "2024-03-04 00:00,2024-03-04 12:00,\"rest\n",
+            SheetFault::Activity(2),
+        ),
+        (
+            "2024-03-04 00:00,2024-03-04 00:00,rest\n",
+            SheetFault::Order(2),
+        ),
+        // A time that can't be read comes before the order, also where the start is before the past of the row before.
+        (
+            "2024-03-04 00:00,2024-03-04 12:00,rest\n2024-03-04 11:59,noon,rest\n",
+            SheetFault::Time(3),
+        ),
+        // A start one minute before the past of the row before; a word that is left out comes behind that.
+        (
+            "2024-03-04 00:00,2024-03-04 12:00,rest\n2024-03-04 11:59,2024-03-04 12:01,crew\n",
+            SheetFault::Order(3),
+        ),
+        // The blank line isn't counted.
+        (
+            "\n2024-03-04 00:00,2024-03-04 12:00,rest\n2024-03-04 12:00,2024-03-04 12:01,lunch\n",
+            SheetFault::Activity(3),
+        ),
+        (
+            "2024-03-04 00:00,2024-03-04 12:00,Rest\n",
+            SheetFault::Activity(2),
+        ),
+        (
+            "2024-03-04 00:00,2024-03-04 12:00, rest\n",
+            SheetFault::Activity(2),
+        ),
+        (
+            "2024-01-01 00:00,2026-01-01 00:00,ferry\n",
+            SheetFault::LeftOut(2, LeftOut::Ferry),
+        ),
+        (
+            "2024-03-04 00:00,2024-03-04 12:00,crew\n",
+            SheetFault::LeftOut(2, LeftOut::Crew),
+        ),
+        (
+            "2024-03-04 00:00,2024-03-04 12:00,out\n",
+            SheetFault::LeftOut(2, LeftOut::Out),
+        ),
+        (
+            "2024-03-04 00:00,2024-03-04 12:00,derogation\n",
+            SheetFault::LeftOut(2, LeftOut::Derogation),
+        ),
+        (
+            "2024-01-01 00:00,2025-01-01 00:01,rest\n",
+            SheetFault::TooLong(2),
+        ),
+    ];
+    for (row, fault) in rows {
+        let text = format!(in alloc; "start,past,activity\n{row}")?;
+        assert_eq!(rt; fault_of(alloc, &text)?, Some(fault), "of {row}");
+    }
+    Ok(())
+}
+
+#[test]
+fn a_fault_of_a_text_has_its_line(rt: HostRuntime) -> Result<(), Fail> {
+    let alloc = rt.alloc();
+    let rows = [
+        (
+            "start,past,activity\n2024-01-01 00:00,2025-01-01 00:01,rest\n",
+            "E7 too long in row 2\n",
+        ),
+        (
+            "start,past,activity\n2024-01-01 00:00,2024-01-01 00:01,ferry\n",
+            "E5 left out in row 2: ferry\n",
+        ),
+    ];
+    for (text, line) in rows {
+        let fault = fault_of(alloc, text)?;
+        assert!(rt; fault.is_some());
+        if let Some(fault) = fault {
+            assert_eq!(rt; fault_line(alloc, Fault::Sheet(fault))?.as_str(), line);
+        }
+    }
+    Ok(())
+}
+
+#[test]
+fn a_driver_is_read(rt: HostRuntime) -> Result<(), Fail> {
+    let text =
+        "driver,holder,key,base,name\n17,010203040506070809000102030405,anna-key-1,2024-03-04,Anna Berg\n";
+    let driver = read_driver(rt.alloc(), text.as_bytes())?;
+    assert_eq!(rt; driver.number(), 17);
+    assert_eq!(rt;
+        driver.holder(),
+        [1, 2, 3, 4, 5, 6, 7, 8, 9, 0, 1, 2, 3, 4, 5].as_slice()
+    );
+    assert_eq!(rt; driver.key(), "anna-key-1");
+    assert_eq!(rt; driver.base().number(), 19_786);
+    assert_eq!(rt; driver.name(), "Anna Berg");
+    Ok(())
+}
+
+#[test]
+fn the_leftmost_bad_column_is_told(rt: HostRuntime) -> Result<(), Fail> {
+    let alloc = rt.alloc();
+    let holder = "010203040506070809000102030405";
+    let rows = [
+        (
+            "017",
+            holder,
+            "anna",
+            "Monday",
+            "",
+            SheetFault::Column(Column::Driver),
+        ),
+        (
+            "1000000",
+            holder,
+            "anna-key-1",
+            "2024-03-04",
+            "Anna",
+            SheetFault::Column(Column::Driver),
+        ),
+        (
+            "17",
+            "0102030405060708090001020304AF",
+            "anna",
+            "Monday",
+            "",
+            SheetFault::Column(Column::Holder),
+        ),
+        (
+            "17",
+            "01020304050607080900010203040",
+            "anna",
+            "Monday",
+            "",
+            SheetFault::Column(Column::Holder),
+        ),
+        (
+            "17",
+            holder,
+            "anna",
+            "Monday",
+            "",
+            SheetFault::Column(Column::Key),
+        ),
+        (
+            "17",
+            holder,
+            "anna-key-1",
+            "Monday",
+            "",
+            SheetFault::Column(Column::Base),
+        ),
+        (
+            "17",
+            holder,
+            "anna-key-1",
+            "2024-03-04",
+            "",
+            SheetFault::Column(Column::Name),
+        ),
+    ];
+    for (number, holder, key, base, name, fault) in rows {
+        let text = format!(in alloc;
+            "driver,holder,key,base,name\n{number},{holder},{key},{base},{name}\n"
+        )?;
+        assert_eq!(rt; driver_fault_of(alloc, &text)?, Some(fault));
+    }
+    let texts = [
+        ("", SheetFault::Head),
+        ("driver,holder,key,base\n", SheetFault::Head),
+        ("driver,holder,key,base,name\n", SheetFault::Fields(2)),
+        ("driver,holder,key,base,name\n17\n", SheetFault::Fields(2)),
+        (
+            "driver,holder,key,base,name\n17,010203040506070809000102030405,anna-key-1,2024-03-04,Anna Berg\n18\n",
+            SheetFault::Fields(3),
+        ),
+        (
+            "driver,holder,key,base,name\n17,01,anna-key-1,2024-03-04,Anna Berg\n18\n",
+            SheetFault::Column(Column::Holder),
+        ),
+    ];
+    for (text, fault) in texts {
+        assert_eq!(rt; driver_fault_of(alloc, text)?, Some(fault), "of {text}");
+    }
+    Ok(())
+}
+
+#[test]
+fn numbers_are_read(rt: HostRuntime) -> Result<(), Fail> {
+    let rows = [
+        ("1", Some(1)),
+        ("999999", Some(999_999)),
+        ("1000000", None),
+        ("0", None),
+        ("01", None),
+        ("+1", None),
+        ("", None),
+        (" 1", None),
+        ("99999999999999999999", None),
+    ];
+    for (text, number) in rows {
+        assert_eq!(rt; read_number(text.as_bytes(), 999_999), number);
+    }
+    Ok(())
+}
+
+#[test]
+fn commands_that_were_done_have_lines(rt: HostRuntime) {
+    let added = Imported::Added {
+        driver: 17,
+        number: u32::MAX,
+    };
+    let many = Entered {
+        first: u32::MAX,
+        count: u32::MAX,
+    };
+    let rows = [
+        (registered_line(17), "registered 17\n"),
+        (withdrawn_line(1), "withdrawn 1\n"),
+        (imported_line(added), "added driver 17 number 4294967295\n"),
+        (
+            imported_line(Imported::Repeated { driver: 0 }),
+            "repeated driver 0\n",
+        ),
+        (
+            entered_line(Entered { first: 1, count: 3 }),
+            "entered 1 to 3\n",
+        ),
+        (
+            entered_line(Entered { first: 4, count: 1 }),
+            "entered 4 to 4\n",
+        ),
+        (
+            entered_line(Entered { first: 9, count: 0 }),
+            "entered none\n",
+        ),
+        (entered_line(many), "entered 4294967295 to 8589934589\n"),
+        (base_line(Day::new(19_786)), "base 2024-03-04\n"),
+    ];
+    for (line, text) in &rows {
+        assert_eq!(rt; line.as_slice(), text.as_bytes());
+    }
+}
+
+#[test]
+fn entries_are_printed(rt: HostRuntime) -> Result<(), Fail> {
+    let entries = [
+        Entry {
+            number: 1,
+            line: rest(MONDAY, MONDAY + 720),
+            withdrawn: true,
+        },
+        Entry {
+            number: 2,
+            line: rest(MONDAY + 360, MONDAY + 1_080),
+            withdrawn: false,
+        },
+    ];
+    let text = entry_text(rt.alloc(), &entries)?;
+    assert_eq!(rt;
+        text.as_str(),
+        "1 2024-03-04 00:00 2024-03-04 12:00 rest withdrawn\n2 2024-03-04 06:00 2024-03-04 18:00 rest kept\n"
+    );
+    Ok(())
+}
+
+#[test]
+fn faults_have_lines(rt: HostRuntime) -> Result<(), Fail> {
+    let alloc = rt.alloc();
+    let times = [
+        (TimeFault::Shape, "Z1 not of the shape\n"),
+        (TimeFault::NoSuchDate, "Z2 no such date\n"),
+        (TimeFault::OutOfRange, "Z3 out of range\n"),
+    ];
+    for (fault, line) in times {
+        assert_eq!(rt; fault_line(alloc, Fault::Time(fault))?.as_str(), line);
+    }
+    let cards = [
+        (CardFault::Truncated(261), "C1 truncated block at 261\n"),
+        (CardFault::Twice(0x0504, 0), "C2 block 0504 00 twice\n"),
+        (CardFault::Twice(0x9abc, 0xef), "C2 block 9abc ef twice\n"),
+        (CardFault::NoIdentification, "C3 no identification\n"),
+        (
+            CardFault::ShortIdentification,
+            "C4 identification too short\n",
+        ),
+        (CardFault::TwoCards, "C5 two cards\n"),
+        (CardFault::NoActivity, "C6 no activity data\n"),
+        (CardFault::ShortActivity, "C7 activity data too short\n"),
+        (CardFault::Pointer, "C8 pointer out of the buffer\n"),
+        (CardFault::RecordLength(0), "C9 record length at 0\n"),
+        (CardFault::Chain(20), "C10 chain broken at 20\n"),
+        (
+            CardFault::DayRange(65_530),
+            "C11 day out of range at 65530\n",
+        ),
+        (CardFault::WordMinute(14), "C12 word minute at 14\n"),
+        (CardFault::WordOrder(16), "C13 word order at 16\n"),
+        (
+            CardFault::SelfContradiction(Minute::new(MONDAY)),
+            "C14 file contradicts itself at 2024-03-04 00:00\n",
+        ),
+        (CardFault::Memory, "M1 no memory\n"),
+    ];
+    for (fault, line) in cards {
+        assert_eq!(rt; fault_line(alloc, Fault::Card(fault))?.as_str(), line);
+        assert_eq!(rt;
+            fault_line(alloc, Fault::Store(StoreFault::Card(fault)))?.as_str(),
+            line
+        );
+    }
+    let refusals = [
+        (StoreFault::DriverTaken, "S1 driver taken\n"),
+        (StoreFault::KeyTaken, "S2 key taken\n"),
+        (StoreFault::HolderTaken, "S3 holder taken\n"),
+        (StoreFault::UnknownDriver, "S4 unknown driver\n"),
+        (StoreFault::NotYourCard, "S5 not your card\n"),
+        (
+            StoreFault::Contradiction(Minute::new(MONDAY + 719)),
+            "S6 contradiction at 2024-03-04 11:59\n",
+        ),
+        (StoreFault::UnknownEntry, "S7 unknown entry\n"),
+        (StoreFault::AlreadyWithdrawn, "S8 already withdrawn\n"),
+        (StoreFault::NotMonday, "S9 not a Monday\n"),
+        (StoreFault::UnknownDownload, "S10 unknown download\n"),
+        (StoreFault::Store, "S12 store failed\n"),
+        (StoreFault::Full, "S14 full\n"),
+        (StoreFault::Memory, "M1 no memory\n"),
+    ];
+    for (fault, line) in refusals {
+        assert_eq!(rt; fault_line(alloc, Fault::Store(fault))?.as_str(), line);
+    }
+    let sheets = [
+        (SheetFault::Head, "E1 wrong head\n"),
+        (SheetFault::Fields(2), "E2 wrong fields in row 2\n"),
+        (SheetFault::Time(3), "E3 bad time in row 3\n"),
+        (SheetFault::Order(10), "E4 wrong order in row 10\n"),
+        (
+            SheetFault::LeftOut(2, LeftOut::Crew),
+            "E5 left out in row 2: crew\n",
+        ),
+        (
+            SheetFault::LeftOut(2, LeftOut::Ferry),
+            "E5 left out in row 2: ferry\n",
+        ),
+        (
+            SheetFault::LeftOut(2, LeftOut::Out),
+            "E5 left out in row 2: out\n",
+        ),
+        (
+            SheetFault::LeftOut(2, LeftOut::Derogation),
+            "E5 left out in row 2: derogation\n",
+        ),
+        (
+            SheetFault::Activity(100),
+            "E6 no such activity in row 100\n",
+        ),
+        (SheetFault::TooLong(2), "E7 too long in row 2\n"),
+        (SheetFault::Csv, "E8 csv refused\n"),
+        (
+            SheetFault::Column(Column::Driver),
+            "E9 bad value for driver\n",
+        ),
+        (
+            SheetFault::Column(Column::Holder),
+            "E9 bad value for holder\n",
+        ),
+        (SheetFault::Column(Column::Key), "E9 bad value for key\n"),
+        (SheetFault::Column(Column::Base), "E9 bad value for base\n"),
+        (SheetFault::Column(Column::Name), "E9 bad value for name\n"),
+        (SheetFault::Memory, "M1 no memory\n"),
+    ];
+    for (fault, line) in sheets {
+        assert_eq!(rt; fault_line(alloc, Fault::Sheet(fault))?.as_str(), line);
+    }
+    let others = [
+        (Fault::Number, "N1 bad number\n"),
+        (Fault::Part, "P1 bad part\n"),
+        (Fault::TooLarge, "X1 too large\n"),
+    ];
+    for (fault, line) in others {
+        assert_eq!(rt; fault_line(alloc, fault)?.as_str(), line);
+    }
+    Ok(())
+}

@@ -1,7 +1,0 @@
-pub mod PlaceLemmas
-pub mod RowLemmas
-pub mod GainLemmas
-pub mod ImportLemmas
-pub mod EntryLemmas
-pub mod ShelfLemmas
-pub mod TurnLemmas

@@ -1,7 +1,0 @@
-use Rattle.std.proofs.Common.{◌≡◌, ◌++◌, drop}
-use Rattle.tacho_state.specs.State.{entered_spans}
-use Rattle.tacho_trials.proofs.hours.add_spans.Given as goal
-
-abbrev pub invariant-loop-hours : goal.invariant-loop-hours
-invariant-loop-hours l =
-    l.spans.items ++ entered_spans (drop l.hours-index l.entries) ≡ l.initial.spans.items ++ entered_spans l.entries

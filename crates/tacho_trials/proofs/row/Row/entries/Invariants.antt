@@ -1,9 +1,0 @@
-use Rattle.std.proofs.Common.{◌≡◌, ◌+◌, ◌≤◌, ◌++◌, drop, length}
-use Rattle.tacho_state.specs.Steps.{numbered_from}
-use Rattle.tacho_trials.proofs.row.Row.entries.Given as goal
-
--- the entries of the rest, behind those that were listed, and the number of the next one
-abbrev pub invariant-loop-hours : goal.invariant-loop-hours
-invariant-loop-hours l =
-    (l.entries.items ++ numbered_from l.number (drop l.hours-index l.hours-items) ≡ numbered_from 1 l.self.entries)
-    × (l.number ≡ l.hours-index + 1) × (length l.hours-items ≤ 1000000)

@@ -1,0 +1,380 @@
+//! Rows of command lines at an archive in memory: what each is given, what it writes, and its status.
+
+use std::alloc::{AllocError, Global};
+use std::process::Abort;
+use std::test::Fail;
+use tacho_cli::{parse, perform};
+use tacho_shelf::Shelf;
+use tacho_state::Keeper;
+use tacho_store::open_memory;
+use tacho_time::Device;
+
+/// A command line without the program's name and the archive's, its input, what it writes, and its status. An input that begins
+/// with `hex:` is of the bytes that the digits spell.
+type Command = (&'static str, &'static str, &'static str, u8);
+
+/// A card file of 4 and 5 March 2024.
+const A_DAY: &str =
+    "hex:05200000110d443132333435363738393031323330300504000028000000140000001465e50f0000010064000011e019fe23fc0014001065e6608000020000000011e0";
+
+/// One of the same days that contradicts it from 08:00 on the 4th.
+const ANOTHER_DAY: &str =
+    "hex:05200000110d443132333435363738393031323330300504000028000000140000001465e50f0000010064000011ea1a0823f20014001065e6608000020000080011e0";
+
+/// What the first card told at 08:30 on the 4th.
+const NOON: &str =
+    "hex:05200000110d443132333435363738393031323330300504000016000000000000001265e50f0000010000000011e019fe";
+
+/// Saturday, 9 March: rest, then work from 08:00 to 10:00.
+const SATURDAY: &str =
+    "hex:05200000110d443132333435363738393031323330300504000016000000000000001265eba68000010000600071e06258";
+
+/// A file without records.
+const NO_RECORDS: &str =
+    "hex:05200000110d44313233343536373839303132333030050400001000000000000000000000000000000000";
+
+/// Both days in the blocks of both generations.
+const TWO_BLOCKS: &str =
+    "hex:05200000110d443132333435363738393031323330300504000028000000140000001465e50f0000010064000011e019fe23fc0014001065e6608000020000000011e00504020028000000140000001465e50f0000010064000011ea1a0823f20014001065e6608000020000080011e0";
+
+/// A file whose last block is cut.
+const CUT: &str =
+    "hex:05200000110d443132333435363738393031323330300504000028000000140000001465e50f0000010064000011e019fe23fc0014001065e6608000020000000011e005040100";
+
+/// A driver, registered.
+const ANNA: Command = (
+    "register",
+    "driver,holder,key,base,name\n17,0d4431323334353637383930313233,anna-key-1,2024-03-04,Anna Berg\n",
+    "registered 17\n",
+    0,
+);
+
+/// His day, imported.
+const IMPORT: Command = ("import both", A_DAY, "added driver 17 number 1\n", 0);
+
+/// What the rules say of it.
+const BREACHES: &str = "\
+B1 Art 7 at 2024-03-04 13:00 since 2024-03-04 08:30 amount 240
+EXAMINED TO 2024-03-04 17:00 unknown
+";
+
+const SPANS: &str = "\
+start,past,activity,manning
+2024-03-04 00:00,2024-03-04 08:00,rest,single
+2024-03-04 08:00,2024-03-04 08:30,work,single
+2024-03-04 08:30,2024-03-04 17:00,drive,single
+2024-03-05 00:00,2024-03-05 08:00,rest,single
+";
+
+const GAPS: &str = "\
+2024-03-01 00:00 2024-03-04 00:00
+2024-03-04 17:00 2024-03-05 00:00
+2024-03-05 08:00 2024-04-01 00:00
+";
+
+const SHEET: &str = "\
+DRIVER 17 Anna Berg
+MONTH 2024-03
+DATE       DAY   REST  AVAIL   WORK  DRIVE   CREW   NONE
+2024-03-01 Fri   0:00   0:00   0:00   0:00   0:00  24:00
+2024-03-02 Sat   0:00   0:00   0:00   0:00   0:00  24:00
+2024-03-03 Sun   0:00   0:00   0:00   0:00   0:00  24:00
+2024-03-04 Mon   8:00   0:00   0:30   8:30   0:00   7:00
+2024-03-05 Tue   8:00   0:00   0:00   0:00   0:00  16:00
+2024-03-06 Wed   0:00   0:00   0:00   0:00   0:00  24:00
+2024-03-07 Thu   0:00   0:00   0:00   0:00   0:00  24:00
+2024-03-08 Fri   0:00   0:00   0:00   0:00   0:00  24:00
+2024-03-09 Sat   0:00   0:00   0:00   0:00   0:00  24:00
+2024-03-10 Sun   0:00   0:00   0:00   0:00   0:00  24:00
+2024-03-11 Mon   0:00   0:00   0:00   0:00   0:00  24:00
+2024-03-12 Tue   0:00   0:00   0:00   0:00   0:00  24:00
+2024-03-13 Wed   0:00   0:00   0:00   0:00   0:00  24:00
+2024-03-14 Thu   0:00   0:00   0:00   0:00   0:00  24:00
+2024-03-15 Fri   0:00   0:00   0:00   0:00   0:00  24:00
+2024-03-16 Sat   0:00   0:00   0:00   0:00   0:00  24:00
+2024-03-17 Sun   0:00   0:00   0:00   0:00   0:00  24:00
+2024-03-18 Mon   0:00   0:00   0:00   0:00   0:00  24:00
+2024-03-19 Tue   0:00   0:00   0:00   0:00   0:00  24:00
+2024-03-20 Wed   0:00   0:00   0:00   0:00   0:00  24:00
+2024-03-21 Thu   0:00   0:00   0:00   0:00   0:00  24:00
+2024-03-22 Fri   0:00   0:00   0:00   0:00   0:00  24:00
+2024-03-23 Sat   0:00   0:00   0:00   0:00   0:00  24:00
+2024-03-24 Sun   0:00   0:00   0:00   0:00   0:00  24:00
+2024-03-25 Mon   0:00   0:00   0:00   0:00   0:00  24:00
+2024-03-26 Tue   0:00   0:00   0:00   0:00   0:00  24:00
+2024-03-27 Wed   0:00   0:00   0:00   0:00   0:00  24:00
+2024-03-28 Thu   0:00   0:00   0:00   0:00   0:00  24:00
+2024-03-29 Fri   0:00   0:00   0:00   0:00   0:00  24:00
+2024-03-30 Sat   0:00   0:00   0:00   0:00   0:00  24:00
+2024-03-31 Sun   0:00   0:00   0:00   0:00   0:00  24:00
+TOTAL           16:00   0:00   0:30   8:30   0:00 719:00
+B1 Art 7 at 2024-03-04 13:00 since 2024-03-04 08:30 amount 240
+EXAMINED TO 2024-03-04 17:00 unknown
+";
+
+/// Rows that begin with the driver registered.
+static ROWS: [(&str, &[Command]); 8] = [
+    (
+        "a day",
+        &[
+            IMPORT,
+            ("breaches 17", "", BREACHES, 0),
+            ("spans 17 2024-03", "", SPANS, 0),
+            ("gaps 17 2024-03", "", GAPS, 0),
+            ("sheet 17 2024-03", "", SHEET, 0),
+            ("owed 17", "", "EXAMINED TO 2024-03-04 17:00 unknown\n", 0),
+            ("entries 17", "", "", 0),
+            ("import both", A_DAY, "repeated driver 17\n", 0),
+            ("file 17 1", "", A_DAY, 0),
+        ],
+    ),
+    (
+        "words",
+        &[
+            IMPORT,
+            ("import whole", A_DAY, "P1 bad part\n", 1),
+            ("breaches 017", "", "N1 bad number\n", 1),
+            ("sheet 17 2024-13", "", "Z2 no such date\n", 1),
+            ("sheet 017 2024-13", "", "N1 bad number\n", 1),
+            ("breaches 18", "", "S4 unknown driver\n", 1),
+            ("spans 17 2024-3", "", "Z1 not of the shape\n", 1),
+            ("gaps 17 2100-01", "", "Z3 out of range\n", 1),
+            ("withdraw 17 1000001", "", "N1 bad number\n", 1),
+            ("withdraw 17 1000000", "", "S7 unknown entry\n", 1),
+            ("file 17 2", "", "S10 unknown download\n", 1),
+            ("base 17 2024-03-05", "", "S9 not a Monday\n", 1),
+            ("base 1000000 2024-03-04", "", "N1 bad number\n", 1),
+            ("breaches 17", "", BREACHES, 0),
+        ],
+    ),
+    (
+        "files with faults",
+        &[
+            ("import both", CUT, "C1 truncated block at 67\n", 1),
+            ("import both", "", "C3 no identification\n", 1),
+            ("import both", NO_RECORDS, "repeated driver 17\n", 0),
+            ("file 17 1", "", "S10 unknown download\n", 1),
+            (
+                "import both",
+                TWO_BLOCKS,
+                "C14 file contradicts itself at 2024-03-04 08:00\n",
+                1,
+            ),
+            ("import first", TWO_BLOCKS, "added driver 17 number 1\n", 0),
+        ],
+    ),
+    (
+        "noon, and the day",
+        &[
+            ("import both", NOON, "added driver 17 number 1\n", 0),
+            ("import both", A_DAY, "added driver 17 number 2\n", 0),
+            ("import both", NOON, "repeated driver 17\n", 0),
+            ("spans 17 2024-03", "", SPANS, 0),
+        ],
+    ),
+    (
+        "a day that contradicts",
+        &[
+            IMPORT,
+            (
+                "import both",
+                ANOTHER_DAY,
+                "S6 contradiction at 2024-03-04 08:00\n",
+                1,
+            ),
+            ("spans 17 2024-03", "", SPANS, 0),
+        ],
+    ),
+    (
+        "an entry that is withdrawn",
+        &[
+            (
+                "enter 17",
+                "start,past,activity\n2024-03-09 00:00,2024-03-11 00:00,rest\n",
+                "entered 1 to 1\n",
+                0,
+            ),
+            (
+                "import both",
+                SATURDAY,
+                "S6 contradiction at 2024-03-09 08:00\n",
+                1,
+            ),
+            ("withdraw 17 1", "", "withdrawn 1\n", 0),
+            (
+                "entries 17",
+                "",
+                "1 2024-03-09 00:00 2024-03-11 00:00 rest withdrawn\n",
+                0,
+            ),
+            ("import both", SATURDAY, "added driver 17 number 1\n", 0),
+            (
+                "spans 17 2024-03",
+                "",
+                "start,past,activity,manning\n2024-03-09 00:00,2024-03-09 08:00,rest,single\n2024-03-09 08:00,2024-03-09 10:00,work,single\n",
+                0,
+            ),
+            ("withdraw 17 1", "", "S8 already withdrawn\n", 1),
+        ],
+    ),
+    (
+        "batches",
+        &[
+            ("enter 17", "start,past,activity\n", "entered none\n", 0),
+            (
+                "enter 17",
+                "start,past,activity\n2024-01-01 00:00,2025-01-01 00:00,rest\n",
+                "entered 1 to 1\n",
+                0,
+            ),
+            (
+                "enter 17",
+                "start,past,activity\n2024-01-01 00:00,2025-01-01 00:01,rest\n",
+                "E7 too long in row 2\n",
+                1,
+            ),
+            (
+                "enter 17",
+                "start,past,activity\n2024-01-01 00:00,2024-01-01 01:00,ferry\n",
+                "E5 left out in row 2: ferry\n",
+                1,
+            ),
+            (
+                "enter 17",
+                "start,past,activity\n2025-01-01 00:00,2025-01-01 01:00,work\n2025-01-02 00:00,2025-01-02 01:00,drive\n",
+                "entered 2 to 3\n",
+                0,
+            ),
+            (
+                "enter 18",
+                "start,past,activity\n",
+                "S4 unknown driver\n",
+                1,
+            ),
+        ],
+    ),
+    (
+        "long days, withdrawn and examined from another day",
+        &[
+            (
+                "enter 17",
+                "start,past,activity\n2024-03-04 00:00,2024-03-04 06:00,rest\n2024-03-04 06:00,2024-03-04 10:30,drive\n2024-03-04 10:30,2024-03-04 11:15,rest\n2024-03-04 11:15,2024-03-04 15:45,drive\n2024-03-04 15:45,2024-03-04 16:30,rest\n2024-03-04 16:30,2024-03-04 16:31,drive\n2024-03-04 16:31,2024-03-05 00:00,rest\n2024-03-05 00:00,2024-03-05 06:00,rest\n2024-03-05 06:00,2024-03-05 10:30,drive\n2024-03-05 10:30,2024-03-05 11:15,rest\n2024-03-05 11:15,2024-03-05 15:45,drive\n2024-03-05 15:45,2024-03-05 16:30,rest\n2024-03-05 16:30,2024-03-05 16:31,drive\n2024-03-05 16:31,2024-03-06 00:00,rest\n2024-03-06 00:00,2024-03-06 06:00,rest\n2024-03-06 06:00,2024-03-06 10:30,drive\n2024-03-06 10:30,2024-03-06 11:15,rest\n2024-03-06 11:15,2024-03-06 15:45,drive\n2024-03-06 15:45,2024-03-06 16:30,rest\n2024-03-06 16:30,2024-03-06 17:31,drive\n2024-03-06 17:31,2024-03-07 00:00,rest\n",
+                "entered 1 to 21\n",
+                0,
+            ),
+            (
+                "breaches 17",
+                "",
+                "B5 Art 6(1) at 2024-03-06 16:30 since 2024-03-06 06:00 amount 61\nB4 Art 6(1) at 2024-03-06 17:30 since 2024-03-06 06:00 amount 1\nEXAMINED TO 2024-03-07 00:00 unknown\n",
+                0,
+            ),
+            ("base 17 2024-03-11", "", "base 2024-03-11\n", 0),
+            (
+                "breaches 17",
+                "",
+                "EXAMINED TO 2024-03-11 00:00 unknown\n",
+                0,
+            ),
+            ("base 17 2024-03-04", "", "base 2024-03-04\n", 0),
+            ("withdraw 17 20", "", "withdrawn 20\n", 0),
+            (
+                "breaches 17",
+                "",
+                "EXAMINED TO 2024-03-06 16:30 unknown\n",
+                0,
+            ),
+        ],
+    ),
+];
+
+/// The bytes of an input, or of what is written.
+fn bytes_of(rt: &impl Abort, alloc: Global, text: &str) -> Vec<u8> {
+    let mut bytes = Vec::new(alloc);
+    let Some(digits) = text.strip_prefix("hex:") else {
+        bytes
+            .extend_from_slice(text.as_bytes())
+            .expect(rt, "memory");
+        return bytes;
+    };
+    bytes.resize(digits.len() / 2, 0).expect(rt, "memory");
+    hex::decode_to_slice(digits.as_bytes(), &mut bytes).expect(rt, "digits");
+    bytes
+}
+
+/// The words of a command line, with the program's name and the archive's.
+fn words_of(alloc: Global, line: &str) -> Result<Vec<String>, AllocError> {
+    let mut words = Vec::new(alloc);
+    words.push(String::from_str(alloc, "tacho")?)?;
+    for (place, word) in line.split(' ').enumerate() {
+        words.push(String::from_str(alloc, word)?)?;
+        if place == 0 {
+            words.push(String::from_str(alloc, "a.db")?)?;
+        }
+    }
+    Ok(words)
+}
+
+/// Performs a command, and compares what it writes and its status.
+fn take_command<K: Keeper>(
+    rt: &impl Abort,
+    alloc: Global,
+    keeper: &mut K,
+    row: &str,
+    command: Command,
+) -> Result<(), Fail> {
+    let (line, input, output, status) = command;
+    let words = words_of(alloc, line)?;
+    let job = parse(alloc, &words).map_err(|_| "words that name a job")?;
+    if !job.at_desk() {
+        return Err("a job at an archive")?;
+    }
+    let input = bytes_of(rt, alloc, input);
+    let mut reader = Device::new(input.as_slice());
+    let mut writer = Device::new(Vec::new(alloc));
+    let answered = perform(alloc, job, keeper, &mut reader, &mut writer);
+    let output = bytes_of(rt, alloc, output);
+    assert_eq!(rt;
+        writer.into_inner().as_slice(),
+        output.as_slice(),
+        "of {row}: {line}"
+    );
+    assert_eq!(rt; answered, status, "of {row}: {line}");
+    Ok(())
+}
+
+/// Performs a row's commands, the driver registered first.
+fn take_row<K: Keeper>(
+    rt: &impl Abort,
+    alloc: Global,
+    keeper: &mut K,
+    row: &str,
+    commands: &[Command],
+) -> Result<(), Fail> {
+    take_command(rt, alloc, keeper, row, ANNA)?;
+    for command in commands {
+        take_command(rt, alloc, keeper, row, *command)?;
+    }
+    Ok(())
+}
+
+#[test]
+fn command_lines_at_an_archive(rt: HostRuntime) -> Result<(), Fail> {
+    for (row, commands) in ROWS {
+        take_row(
+            &rt,
+            rt.alloc(),
+            &mut open_memory(rt.alloc())?,
+            row,
+            commands,
+        )?;
+    }
+    Ok(())
+}
+
+#[test]
+fn command_lines_at_a_shelf(rt: HostRuntime) -> Result<(), Fail> {
+    for (row, commands) in ROWS {
+        take_row(&rt, rt.alloc(), &mut Shelf::new(rt.alloc()), row, commands)?;
+    }
+    Ok(())
+}

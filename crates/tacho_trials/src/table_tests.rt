@@ -1,0 +1,264 @@
+ghost use Rattle.std.specs.Prelude.{◌≡◌};
+
+use sqlite::{Alter, Connection, Transaction};
+use std::alloc::Global;
+use std::test::Fail;
+use tacho_tables::{
+    StoredDriver, StoredEntry, StoredSpan, TableFault, card_spans, downloads, drivers, entries,
+    held, making,
+};
+
+/// A span of the test.
+fn span(start: u32, past: u32, mark: u32) -> StoredSpan
+    ensures { result ≡ record { start = start; past = past; mark = mark } }
+{
+    StoredSpan { start, past, mark }
+}
+
+#[test]
+fn version_is_one_once_made(rt: HostRuntime) -> Result<(), Fail> {
+    let mut conn = Connection::open_in_memory(rt.alloc())?;
+    let mut tx = conn.transaction();
+    assert_eq!(rt; making::version(&mut tx), Err(TableFault::Store));
+    making::make_all(&mut tx)?;
+    assert_eq!(rt; making::version(&mut tx)?, Some(1));
+    Ok(())
+}
+
+#[test]
+fn drivers_are_found_and_changed(rt: HostRuntime) -> Result<(), Fail> {
+    let mut conn = Connection::open_in_memory(rt.alloc())?;
+    let mut tx = conn.transaction();
+    making::make_all(&mut tx)?;
+    drivers::insert(&mut tx, 17, &[0x0d, 0x44], "anna-key-1", 19_786, "Anna")?;
+    drivers::insert(&mut tx, 18, &[0x0d, 0x45], "bert-key-1", 19_787, "Bert")?;
+    assert_eq!(rt; drivers::number_by_secret(&mut tx, "bert-key-1")?, Some(18));
+    assert_eq!(rt; drivers::number_by_secret(&mut tx, "bert-key-2")?, None);
+    assert_eq!(rt;
+        drivers::number_by_holder(&mut tx, &[0x0d, 0x44])?,
+        Some(17)
+    );
+    assert_eq!(rt; drivers::number_by_holder(&mut tx, &[0x0d])?, None);
+    drivers::set_base(&mut tx, 17, 19_790)?;
+    drivers::set_downloads(&mut tx, 18, 2)?;
+    assert!(rt;
+        is_driver(
+            drivers::by_number(&mut tx, 17)?,
+            &[0x0d, 0x44],
+            19_790,
+            "Anna",
+            0
+        )
+    );
+    assert!(rt;
+        is_driver(
+            drivers::by_number(&mut tx, 18)?,
+            &[0x0d, 0x45],
+            19_787,
+            "Bert",
+            2
+        )
+    );
+    assert!(rt; drivers::by_number(&mut tx, 19)?.is_none());
+    Ok(())
+}
+
+/// Whether there is a driver with these, and without entries.
+fn is_driver(
+    found: Option<StoredDriver>,
+    holder: &[u8],
+    base: u32,
+    name: &str,
+    count: u32,
+) -> bool {
+    match found {
+        None => false,
+        Some(driver) => {
+            driver.holder.as_slice() == holder
+                && driver.base == base
+                && driver.name.as_str() == name
+                && driver.downloads == count
+                && driver.entries == 0
+        }
+    }
+}
+
+#[test]
+fn held_spans_by_where_they_begin(rt: HostRuntime) -> Result<(), Fail> {
+    let alloc = rt.alloc();
+    let mut conn = Connection::open_in_memory(alloc)?;
+    let mut tx = conn.transaction();
+    making::make_all(&mut tx)?;
+    drivers::insert(&mut tx, 17, &[0x0d, 0x44], "anna-key-1", 19_786, "Anna")?;
+    held::insert_all(
+        &mut tx,
+        17,
+        &[span(300, 400, 1), span(100, 200, 3), span(200, 210, 2)],
+    )?;
+    let middle = held::begun(alloc, &mut tx, 17, 200, 300)?;
+    assert_eq!(rt; middle.as_slice(), [span(200, 210, 2)].as_slice());
+    let all = held::begun(alloc, &mut tx, 17, 100, 301)?;
+    assert_eq!(rt;
+        all.as_slice(),
+        [span(100, 200, 3), span(200, 210, 2), span(300, 400, 1)].as_slice()
+    );
+    assert!(rt; held::begun(alloc, &mut tx, 18, 100, 301)?.is_empty());
+    assert!(rt; card_spans::begun(alloc, &mut tx, 17, 100, 301)?.is_empty());
+    Ok(())
+}
+
+#[test]
+fn the_latest_span_before_a_minute(rt: HostRuntime) -> Result<(), Fail> {
+    let mut conn = Connection::open_in_memory(rt.alloc())?;
+    let mut tx = conn.transaction();
+    making::make_all(&mut tx)?;
+    drivers::insert(&mut tx, 17, &[0x0d, 0x44], "anna-key-1", 19_786, "Anna")?;
+    let spans = [span(300, 400, 1), span(100, 200, 3), span(200, 210, 2)];
+    held::insert_all(&mut tx, 17, &spans)?;
+    card_spans::insert_all(&mut tx, 17, &spans[1..])?;
+    assert_eq!(rt; held::last_before(&mut tx, 17, 100)?, None);
+    assert_eq!(rt;
+        held::last_before(&mut tx, 17, 101)?,
+        Some(span(100, 200, 3))
+    );
+    assert_eq!(rt;
+        held::last_before(&mut tx, 17, 300)?,
+        Some(span(200, 210, 2))
+    );
+    assert_eq!(rt;
+        held::last_before(&mut tx, 17, 900)?,
+        Some(span(300, 400, 1))
+    );
+    assert_eq!(rt; held::last_before(&mut tx, 18, 900)?, None);
+    assert_eq!(rt;
+        card_spans::last_before(&mut tx, 17, 900)?,
+        Some(span(200, 210, 2))
+    );
+    Ok(())
+}
+
+#[test]
+fn card_spans_and_a_download(rt: HostRuntime) -> Result<(), Fail> {
+    let mut conn = Connection::open_in_memory(rt.alloc())?;
+    let mut tx = conn.transaction();
+    making::make_all(&mut tx)?;
+    drivers::insert(&mut tx, 17, &[0x0d, 0x44], "anna-key-1", 19_786, "Anna")?;
+    card_spans::insert_all(&mut tx, 17, &[span(100, 200, 3), span(200, 210, 2)])?;
+    let first = card_spans::begun(rt.alloc(), &mut tx, 17, 0, 200)?;
+    assert_eq!(rt; first.as_slice(), [span(100, 200, 3)].as_slice());
+    downloads::insert(&mut tx, 17, 1, 0, &[1, 2, 3])?;
+    downloads::insert(&mut tx, 17, 2, 2, &[4])?;
+    assert!(rt; is_file(downloads::file(&mut tx, 17, 1)?, &[1, 2, 3]));
+    assert!(rt; is_file(downloads::file(&mut tx, 17, 2)?, &[4]));
+    assert!(rt; downloads::file(&mut tx, 17, 3)?.is_none());
+    assert_eq!(rt;
+        downloads::insert(&mut tx, 18, 1, 0, &[1]),
+        Err(TableFault::Store)
+    );
+    Ok(())
+}
+
+/// Whether there is a file, of these bytes.
+fn is_file(found: Option<Vec<u8>>, bytes: &[u8]) -> bool {
+    match found {
+        None => false,
+        Some(file) => file.as_slice() == bytes,
+    }
+}
+
+// `checks/failing_tables.py` runs it with each allocation refused in turn.
+#[test]
+fn a_reading_is_right_or_fails(rt: HostRuntime) -> Result<(), Fail> {
+    let mut conn = Connection::open_in_memory(rt.alloc())?;
+    let mut tx = conn.transaction();
+    making::make_all(&mut tx)?;
+    drivers::insert(&mut tx, 17, &[0x0d, 0x44], "anna-key-1", 19_786, "Anna")?;
+    held::insert_all(&mut tx, 17, &[span(300, 400, 1), span(100, 200, 3)])?;
+    downloads::insert(&mut tx, 17, 1, 0, &[1, 2, 3])?;
+    tx.commit()?;
+    let mut tx = conn.transaction();
+    assert!(rt; has_right_spans(rt.alloc(), &mut tx));
+    assert!(rt; has_right_file(&mut tx));
+    tx.rollback();
+    let mut tx = conn.transaction();
+    assert!(rt; has_right_spans(rt.alloc(), &mut tx));
+    assert!(rt; has_right_file(&mut tx));
+    Ok(())
+}
+
+/// Whether the spans that are read are those of the test, or can't be read.
+fn has_right_spans<S: Alter>(alloc: Global, tx: &mut Transaction<'_, S>) -> bool
+    ensures { tx.new.conn.ghost_name ≡ tx.old.conn.ghost_name }
+{
+    match held::begun(alloc, tx, 17, 100, 301) {
+        Ok(spans) => spans.as_slice() == [span(100, 200, 3), span(300, 400, 1)].as_slice(),
+        Err(_) => true,
+    }
+}
+
+/// Whether the file that is read is that of the test, or can't be read.
+fn has_right_file<S: Alter>(tx: &mut Transaction<'_, S>) -> bool
+    ensures { tx.new.conn.ghost_name ≡ tx.old.conn.ghost_name }
+{
+    match downloads::file(tx, 17, 1) {
+        Ok(found) => is_file(found, &[1, 2, 3]),
+        Err(_) => true,
+    }
+}
+
+#[test]
+fn entries_are_found_and_withdrawn(rt: HostRuntime) -> Result<(), Fail> {
+    let mut conn = Connection::open_in_memory(rt.alloc())?;
+    let mut tx = conn.transaction();
+    making::make_all(&mut tx)?;
+    drivers::insert(&mut tx, 17, &[0x0d, 0x44], "anna-key-1", 19_786, "Anna")?;
+    drivers::insert(&mut tx, 18, &[0x0d, 0x45], "bert-key-1", 19_787, "Bert")?;
+    entries::insert(&mut tx, 17, 1, &span(100, 200, 0))?;
+    entries::insert(&mut tx, 17, 2, &span(200, 300, 2))?;
+    entries::insert(&mut tx, 18, 1, &span(150, 250, 1))?;
+    drivers::set_entries(&mut tx, 17, 2)?;
+    entries::withdraw(&mut tx, 17, 1)?;
+    let first = entries::by_number(&mut tx, 17, 1)?;
+    assert_eq!(rt; first, Some(entry(1, 100, 200, 0, 1)));
+    assert_eq!(rt; entries::by_number(&mut tx, 17, 3)?, None);
+    let all = entries::of_driver(rt.alloc(), &mut tx, 17)?;
+    assert_eq!(rt;
+        all.as_slice(),
+        [entry(1, 100, 200, 0, 1), entry(2, 200, 300, 2, 0)].as_slice()
+    );
+    let near = entries::kept_near(rt.alloc(), &mut tx, 17, 0, 201)?;
+    assert_eq!(rt; near.as_slice(), [span(200, 300, 2)].as_slice());
+    assert!(rt; entries::kept_near(rt.alloc(), &mut tx, 17, 0, 200)?.is_empty());
+    Ok(())
+}
+
+/// An entry of the test.
+fn entry(number: u32, start: u32, past: u32, mark: u32, withdrawn: u32) -> StoredEntry {
+    StoredEntry {
+        number,
+        start,
+        past,
+        mark,
+        withdrawn,
+    }
+}
+
+#[test]
+fn held_spans_that_begin_in_a_range_are_deleted(rt: HostRuntime) -> Result<(), Fail> {
+    let mut conn = Connection::open_in_memory(rt.alloc())?;
+    let mut tx = conn.transaction();
+    making::make_all(&mut tx)?;
+    drivers::insert(&mut tx, 17, &[0x0d, 0x44], "anna-key-1", 19_786, "Anna")?;
+    held::insert_all(
+        &mut tx,
+        17,
+        &[span(100, 200, 3), span(200, 210, 2), span(300, 400, 1)],
+    )?;
+    held::delete_begun(&mut tx, 17, 200, 300)?;
+    let left = held::of_driver(rt.alloc(), &mut tx, 17)?;
+    assert_eq!(rt;
+        left.as_slice(),
+        [span(100, 200, 3), span(300, 400, 1)].as_slice()
+    );
+    Ok(())
+}
