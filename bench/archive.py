@@ -62,6 +62,13 @@ class Program:
         self.wants(answer)
         return (time.clock_gettime_ns(self.clock) - before) / 1e6
 
+    def time_and_answer(self, command):
+        """Tells it a command, and gives the processor time that it took, in milliseconds, and the answer."""
+        before = time.clock_gettime_ns(self.clock)
+        self.tell(command)
+        answer = self.running.stdout.readline().rstrip("\n")
+        return (time.clock_gettime_ns(self.clock) - before) / 1e6, answer
+
     def time_of_last(self, commands):
         """Tells it commands, and gives the time of the last one."""
         return [self.time_of(*command) for command in commands][-1]
@@ -84,7 +91,7 @@ class Files:
     def __init__(self, folder):
         self.folder = folder
         self.year = cards.year_of(cards.read("examples", "driver-year.ddd"))
-        self.day = cards.read("crates", "tacho_archive_bench", "data", "card.ddd")
+        self.day = cards.read("bench", "day.ddd")
         self.year_rows = cards.rows_of(self.year)
         self.past = self.year_rows[-1][1] // DAY  # the day after it
 
@@ -198,7 +205,7 @@ def begun(words, place, fill, path):
     """A program with a filled archive: in memory it is filled first, in a file it is there."""
     if place == "file":
         return Program([*words, "open", path])
-    program = Program(words)
+    program = Program([*words, "memory"])
     for command in fill:
         program.time_of(*command)
     return program

@@ -1,7 +1,7 @@
 #!/usr/bin/env python3
 """What an archive makes of its tables, by stock SQLite: the same tables and statements, each command in one transaction.
 
-It takes the words and the commands of the program tacho_archive_bench, and answers the same. Beside a card file, and beside a
+It takes the words and the commands of the program tacho_script for the benchmark, and answers the same. Beside a card file, and beside a
 text of hours, there are the rows that an archive keeps of it, so that neither is read here and nothing is decided: what is
 measured is SQLite."""
 import json

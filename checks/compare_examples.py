@@ -1,6 +1,6 @@
 #!/usr/bin/env python3
 """Runs the program on the examples, and compares what it prints with the slow reader, and with the files that lie beside
-them.
+them; and runs the tour, and compares what it shows with what lies beside it.
 
 The words are the program and the folder of the examples. The last line is 'N passed, M failed'."""
 import os
@@ -33,6 +33,8 @@ def comparisons(program, folder):
         yield f"{word} of {name}", told, slow(given)
         if name not in ALONE:
             yield f"{word} of {name}, and {stem}{beside}", told, (read(folder, stem + beside).decode(), 0)
+    told, status = programs.answer([os.path.join(folder, "tour"), program], b"")
+    yield "the tour", told.splitlines() + [status], read(folder, "tour.expected").decode().splitlines() + [0]
 
 
 if __name__ == "__main__":

@@ -1,7 +1,7 @@
 #!/usr/bin/env python3
 """Runs each test of the archive's tables with each of its allocations refused in turn, and looks for an answer that changes.
 
-The words are the program of the tests and the compiler of C. A test whose allocation is refused has to pass, or to end by the
+The words are the program of the tests that cross crates and the compiler of C. A test whose allocation is refused has to pass, or to end by the
 fault of a call, and never by an answer that it didn't want. The last line is 'N passed, M failed'."""
 import re
 import subprocess
@@ -11,12 +11,16 @@ import counting
 import programs
 
 FAULTS = ["error: Memory", "error: Store"]
+MODULES = ["table_tests"]
 
 
-def tests(program):
-    """The names of the tests."""
+def tests(program, modules):
+    """The names of the tests of some modules, each of which has some."""
     listed = subprocess.run([program, "--list"], capture_output=True, check=True, text=True).stdout
-    return re.findall(r"^(.+): test$", listed, re.MULTILINE)
+    found = re.findall(r"^((.+)::.+): test$", listed, re.MULTILINE)
+    if {module for _, module in found}.isdisjoint(modules):
+        raise RuntimeError(f"{program} has no tests of {modules}")
+    return [name for name, module in found if module in modules]
 
 
 def told(run, faults=FAULTS):
@@ -26,7 +30,7 @@ def told(run, faults=FAULTS):
 
 
 def comparisons(program, compiler):
-    for test in tests(program):
+    for test in tests(program, MODULES):
         for number, run in programs.runs_without_memory(compiler, [program, test], b""):
             end = told(run)
             wanted = end if end in [*FAULTS, "passed"] else "passed"

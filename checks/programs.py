@@ -19,20 +19,22 @@ def built(compiler, folder):
     return refuser
 
 
-def run_without(refuser, number, words, given):
-    """A run of a program with the allocation of that number refused, and whether it asked for so many."""
-    environment = dict(os.environ, LD_PRELOAD=refuser, REFUSED_ALLOCATION=str(number))
+def run_without(refuser, number, words, given, in_a_row=1):
+    """A run of a program with so many allocations in a row refused, from that number on, and whether it asked for the first
+    of them."""
+    refused = {"REFUSED_ALLOCATION": str(number), "REFUSED_IN_A_ROW": str(in_a_row)}
+    environment = dict(os.environ, LD_PRELOAD=refuser, **refused)
     run = subprocess.run(words, input=given, capture_output=True, env=environment)
     return run, b"refused\n" in run.stderr
 
 
-def runs_without_memory(compiler, words, given, numbers=range(1, 1_000_000)):
+def runs_without_memory(compiler, words, given, numbers=range(1, 1_000_000), in_a_row=1):
     """The runs of a program with each of its allocations refused in turn, or those of some numbers, up to the first run
-    that asks for fewer: the allocation's number, counted from 1, and the run."""
+    that asks for fewer: the allocation's number, counted from 1, and the run. With each, the next ones may be refused too."""
     with tempfile.TemporaryDirectory() as folder:
         refuser = built(compiler, folder)
         for number in numbers:
-            run, is_refused = run_without(refuser, number, words, given)
+            run, is_refused = run_without(refuser, number, words, given, in_a_row)
             if not is_refused:
                 if number == numbers[0]:
                     raise RuntimeError(f"no allocation of {words} was refused")

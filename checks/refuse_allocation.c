@@ -1,4 +1,5 @@
-/* Refuses the allocation whose number the environment's REFUSED_ALLOCATION tells, and says so on standard error.
+/* Refuses the allocation whose number the environment's REFUSED_ALLOCATION tells, and says so on standard error. Where there
+   is a REFUSED_IN_A_ROW too, it refuses so many from that one on.
    It is loaded before the C library by LD_PRELOAD. */
 extern void *__libc_malloc(unsigned long size);
 extern void *__libc_realloc(void *old, unsigned long size);
@@ -7,12 +8,19 @@ extern long write(int file, const void *bytes, unsigned long count);
 
 static unsigned long asked;
 
-static int is_refused(void) {
-    const char *digits = getenv("REFUSED_ALLOCATION");
+static unsigned long number_of(const char *name, unsigned long otherwise) {
+    const char *digits = getenv(name);
     unsigned long number = 0;
-    if (!digits) return 0;
+    if (!digits) return otherwise;
     while (*digits) number = number * 10 + (unsigned long)(*digits++ - '0');
-    if (++asked != number) return 0;
+    return number;
+}
+
+static int is_refused(void) {
+    unsigned long first = number_of("REFUSED_ALLOCATION", 0);
+    if (!first) return 0;
+    asked++;
+    if (asked < first || asked >= first + number_of("REFUSED_IN_A_ROW", 1)) return 0;
     write(2, "refused\n", 8);
     return 1;
 }

@@ -1,0 +1,99 @@
+"""Measures the program's commands on archives in files.
+
+An archive has so many drivers, each with card files of so many years; tacho_script fills it, in one process. What a start and
+the opening of the archive take is measured by the program with a number that is refused when the archive is open. The commands
+are measured behind an opening: tacho_script does each job on an archive that it has opened, and what the command `nothing` takes
+is taken out. It has to write as many bytes as the program. Each time is the least of some rounds, in which the commands take
+turns."""
+import datetime
+import os
+import resource
+import subprocess
+import sys
+
+import cards
+from archive import Program
+
+ROUNDS, OPENINGS = 12, 3
+ARCHIVES = [(1, 1), (1, 10), (10, 1), (10, 10), (50, 1), (50, 10)]  # drivers, and years of each
+DRIVER = 1  # the one who is asked for
+DAY = 1440
+
+
+def told(words, given=b""):
+    """What the program prints. It has to have done its work, or to have refused it."""
+    run = subprocess.run(words, input=given, capture_output=True)
+    if run.returncode not in (0, 1):
+        sys.exit(f"{words} ended with status {run.returncode}")
+    return run.stdout
+
+
+def date_of(day):
+    """A day as the program writes it."""
+    return f"{datetime.date(1970, 1, 1) + datetime.timedelta(days=day)}"
+
+
+def commands_of(drivers, years):
+    """What fills an archive, with the answers, and a day of the month that is asked for. The last year is that of the example's card."""
+    year = cards.year_of(cards.read("examples", "driver-year.ddd"))
+    last = cards.rows_of(year)[-1][0] // DAY
+    base = (last - cards.YEAR * years + 3) // 7 * 7 + 4
+    commands = []
+    for driver in range(1, drivers + 1):
+        file = cards.of_holder(year, driver)
+        name = f"Driver {driver}".encode().hex()
+        commands.append((f"register {driver} {cards.holder_of(file).hex()} key-of-{driver:04} {base} {name}", "registered"))
+        for ago in range(years):
+            commands.append((f"import office both {cards.years_later(file, -ago).hex()}", f"added driver {driver} number {ago + 1}"))
+    return commands, last - 40
+
+
+def fill(script, path, drivers, years):
+    """Makes an archive, and gives a day of the month that is asked for."""
+    commands, day = commands_of(drivers, years)
+    answers = told([script, "archive", path], "".join(f"{command}\n" for command, _ in commands).encode()).decode().splitlines()
+    if answers != [answer for _, answer in commands]:
+        sys.exit(f"the archive {path} could not be filled")
+    return day
+
+
+def processor_time(words):
+    """The processor time of a run, in milliseconds."""
+    before = resource.getrusage(resource.RUSAGE_CHILDREN)
+    told(words)
+    after = resource.getrusage(resource.RUSAGE_CHILDREN)
+    return 1000 * (after.ru_utime + after.ru_stime - before.ru_utime - before.ru_stime)
+
+
+def times_of(program, script, path, month):
+    """What the opening takes, and each command behind it."""
+    commands = {
+        "spans": ["spans", path, str(DRIVER), month],
+        "gaps": ["gaps", path, str(DRIVER), month],
+        "sheet": ["sheet", path, str(DRIVER), month],
+        "breaches": ["breaches", path, str(DRIVER)],
+        "owed": ["owed", path, str(DRIVER)],
+    }
+    wanted = {name: f"status 0 of {len(told([program, *words]))} bytes" for name, words in commands.items()}
+    opening = min(processor_time([program, "breaches", path, "0"]) for _ in range(OPENINGS))
+    running, least = Program([script, "open", path]), {}
+    for _ in range(ROUNDS):
+        for name, words in [("nothing", []), *commands.items()]:
+            time, answer = running.time_and_answer(" ".join(["desk", *words]) if words else "nothing")
+            if answer != wanted.get(name, "nothing"):
+                sys.exit(f"{words} answered {answer!r}")
+            least[name] = min(least.get(name, 1e9), time)
+    running.end(["closed"])
+    return opening, {name: least[name] - least["nothing"] for name in commands}
+
+
+def offices(folder, program, script):
+    print("commands at an archive in a file: processor time in milliseconds, of the commands behind the opening")
+    print(f"{'drivers':>8} {'years':>6} {'megabytes':>10} {'open':>8} {'spans':>8} {'gaps':>8} {'sheet':>8} {'breaches':>9} {'owed':>8}")
+    for drivers, years in ARCHIVES:
+        path = os.path.join(folder, f"{drivers}-{years}.db")
+        month = date_of(fill(script, path, drivers, years))[:7]
+        opening, found = times_of(program, script, path, month)
+        size = os.path.getsize(path) / 1e6
+        print(f"{drivers:8} {years:6} {size:10.1f} {opening:8.1f} {found['spans']:8.2f} {found['gaps']:8.2f} {found['sheet']:8.2f}"
+              f" {found['breaches']:9.2f} {found['owed']:8.2f}", flush=True)

@@ -1,0 +1,135 @@
+#!/usr/bin/env python3
+"""Runs the program's commands on an archive in a file with each of their allocations refused in turn, and looks for an answer or
+a table that changes.
+
+A run whose allocation is refused answers as without, or says that there was no memory (M1), that the store had none (S12), or
+nothing, where the reader of the command line had none. In the last three the archive is as before: the same command, given
+again, answers as the first would have. Of the allocations of an opening some are refused. The words are the program and the compiler of
+C. The last line is 'N passed, M failed'."""
+import multiprocessing
+import os
+import sqlite3
+import sys
+import tempfile
+
+import counting
+import programs
+from compare_archive import DAY, HOLDER, NOON, OTHER_DAY
+
+PROCESSES = 2
+STEP = 43  # one in so many of the allocations of an opening is refused
+GIVEN_UP = [("M1 no memory\n", 3), ("S12 store failed\n", 3), ("", 2)]
+
+ANNA = (["register"], f"driver,holder,key,base,name\n17,{HOLDER},anna-key-1,2024-03-04,Anna Berg\n".encode())
+BERT = (["register"], f"driver,holder,key,base,name\n18,{HOLDER},bert-key-1,2024-03-04,Bert Holm\n".encode())
+ENTER = (["enter", "17"], b"start,past,activity\n2024-03-04 07:00,2024-03-04 08:00,rest\n2024-03-04 16:30,2024-03-04 18:00,drive\n")
+CONTRADICT = (["enter", "17"], b"start,past,activity\n2024-03-04 17:00,2024-03-04 18:00,rest\n2024-03-04 16:00,2024-03-04 17:30,work\n")
+WITH_DAY = [ANNA, (["import", "both"], bytes.fromhex(DAY))]
+WITH_HOURS = [*WITH_DAY, ENTER]
+
+# What an archive was given before, and the command.
+CASES = {
+    "a first driver": ([], ANNA),
+    "a driver with a taken holder": ([ANNA], BERT),
+    "a first download": ([ANNA], WITH_DAY[1]),
+    "a second download": ([ANNA, (["import", "both"], bytes.fromhex(NOON))], WITH_DAY[1]),
+    "a contradiction": (WITH_DAY, (["import", "both"], bytes.fromhex(OTHER_DAY))),
+    "hours": (WITH_DAY, ENTER),
+    "hours in another order": (WITH_DAY, CONTRADICT),
+    "a withdrawal": (WITH_HOURS, (["withdraw", "17", "2"], b"")),
+    "another base": (WITH_DAY, (["base", "17", "2024-03-11"], b"")),
+    "spans": (WITH_HOURS, (["spans", "17", "2024-03"], b"")),
+    "gaps": (WITH_HOURS, (["gaps", "17", "2024-03"], b"")),
+    "a sheet": (WITH_HOURS, (["sheet", "17", "2024-03"], b"")),
+    "breaches": (WITH_HOURS, (["breaches", "17"], b"")),
+    "what is owed": (WITH_HOURS, (["owed", "17"], b"")),
+    "entries": (WITH_HOURS, (["entries", "17"], b"")),
+    "a file": (WITH_HOURS, (["file", "17", "1"], b"")),
+    "a bad month": (WITH_HOURS, (["sheet", "17", "2024-13"], b"")),
+}
+
+
+class Office:
+    """An archive in a folder, to which some commands were given."""
+
+    def __init__(self, program, folder, commands):
+        self.program = program
+        self.path = os.path.join(folder, "archive.db")
+        for command in [(["init"], b""), *commands]:
+            self.answer(command)
+        with open(self.path, "rb") as file:
+            self.bytes = file.read()
+
+    def words(self, command):
+        """The command line of a command."""
+        name, *others = command[0]
+        return [self.program, name, self.path, *others]
+
+    def answer(self, command):
+        """What the program answers."""
+        return programs.answer(self.words(command), command[1])
+
+    def restore(self):
+        """Makes the file what it was, without a log."""
+        if os.path.exists(self.path + "-wal"):
+            os.remove(self.path + "-wal")
+        with open(self.path, "wb") as file:
+            file.write(self.bytes)
+
+    def tables(self):
+        """All that SQLite finds in the archive."""
+        connection = sqlite3.connect(self.path)
+        try:
+            return list(connection.iterdump())
+        finally:
+            connection.close()
+
+
+def undisturbed(office, command):
+    """What a command answers, given twice, and what the archive has after each of them."""
+    office.restore()
+    told = []
+    for _ in range(2):
+        told.append((office.answer(command), office.tables()))
+    return told
+
+
+def numbers_of(office, compiler, command):
+    """The allocations that are refused: some of the opening, and all after it."""
+    opening = programs.allocations(compiler, office.words((["entries", "0"], b"")), b"") - 20
+    return [*range(1, opening, STEP), *range(max(1, opening), programs.allocations(compiler, office.words(command), command[1]) + 1)]
+
+
+def of_case(question):
+    """The comparisons of a case, each of its allocations refused in turn."""
+    program, compiler, case = question
+    before, command = CASES[case]
+    return list(of_command(program, compiler, case, before, command))
+
+
+def of_command(program, compiler, case, before, command):
+    """The comparisons of a command after others."""
+    with tempfile.TemporaryDirectory() as folder:
+        office = Office(program, folder, before)
+        wanted = undisturbed(office, command)
+        office.restore()
+        numbers = numbers_of(office, compiler, command)
+        refuser = programs.built(compiler, folder)
+        for number in numbers:
+            office.restore()
+            run, _ = programs.run_without(refuser, number, office.words(command), command[1])
+            told = run.stdout.decode(errors="backslashreplace"), run.returncode
+            name = f"{case}, allocation {number} refused"
+            gave_up = told in GIVEN_UP
+            yield name, told, told if gave_up else wanted[0][0]
+            yield f"{name}, and again", (office.answer(command), office.tables()), wanted[0 if gave_up else 1]
+
+
+def comparisons(program, compiler):
+    with multiprocessing.Pool(PROCESSES) as pool:
+        for found in pool.imap(of_case, [(program, compiler, case) for case in CASES]):
+            yield from found
+
+
+if __name__ == "__main__":
+    sys.exit(counting.count(comparisons(*sys.argv[1:])))

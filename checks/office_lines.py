@@ -1,0 +1,152 @@
+"""Random command lines of the office, from a seed: three drivers and their cards, weeks near the limits of the rules that are
+entered for one of them, and readings after what was done before."""
+import datetime
+
+import compare_archive
+import hard_timelines
+import slow_archive
+import slow_csv
+import slow_office
+import slow_reader
+
+LINES = 30
+FIRST_DAY = 10_957  # 2000-01-01, the first day of a month that is read
+READINGS = ["spans", "gaps", "sheet", "sheet", "breaches", "breaches", "owed", "owed", "entries", "file"]
+BAD_DRIVERS = ["017", "0", "1000000", "", "+17", "1e3", "\u0661\u0667"]
+BAD_NUMBERS = ["0", "01", "1000001", "x", "99999999999999999999"]
+BAD_MONTHS = ["2024-13", "2024-00", "2024-3", "1999-12", "2100-01", "0000-01", "2024-03-04", "2024/03"]
+BAD_DATES = ["2024-02-30", "2023-02-29", "1999-12-31", "2100-01-01", "0000-02-29", "2024-03", "2024-3-4"]
+BAD_PARTS = ["whole", "BOTH", "", "0"]
+
+# By the command: what its words, without the archive, are changed to.
+BAD = {
+    "register": [],
+    "import": [BAD_PARTS],
+    "withdraw": [BAD_DRIVERS, BAD_NUMBERS],
+    "base": [BAD_DRIVERS, BAD_DATES],
+    "spans": [BAD_DRIVERS, BAD_MONTHS],
+    "gaps": [BAD_DRIVERS, BAD_MONTHS],
+    "sheet": [BAD_DRIVERS, BAD_MONTHS],
+    "file": [BAD_DRIVERS, BAD_NUMBERS],
+}
+
+
+def date_text(day):
+    """The date of a day's number."""
+    return (slow_office.EPOCH + datetime.timedelta(days=day)).isoformat()
+
+
+def field(text):
+    """A field of CSV, in quotes where it needs them."""
+    return b'"' + text.replace(b'"', b'""') + b'"' if b"," in text or b'"' in text else text
+
+
+def driver_csv(number, holder, key, base, name):
+    """The CSV of a registration."""
+    columns = [number.encode(), holder.encode(), key.encode(), date_text(int(base)).encode(), field(slow_archive.bytes_of(name))]
+    return b",".join(slow_csv.DRIVER_HEAD) + b"\n" + b",".join(columns) + b"\n"
+
+
+def line_of(command):
+    """The words and the input of a command of the archive."""
+    word, *words = command.split()
+    if word == "register":
+        return ["register"], driver_csv(*words)
+    if word == "import":
+        return ["import", words[1]], slow_archive.bytes_of(words[2])
+    if word == "enter":
+        return ["enter", words[0]], compare_archive.sheet_of(words[1:]).encode()
+    if word == "rebase":
+        return ["base", words[0], date_text(int(words[1]))], b""
+    return [word, *words], b""
+
+
+def from_week(command, day):
+    """A registration with the Monday of a day's week as its base."""
+    word, number, holder, key, _, name = command.split()
+    return f"{word} {number} {holder} {key} {day - (day - 4) % 7} {name}"
+
+
+class Lines(compare_archive.Commands):
+    """Command lines of a seed: words and an input each."""
+
+    def __init__(self, seed):
+        super().__init__(seed)
+        hard = hard_timelines.weekly_timeline(seed) if seed % 3 == 0 else hard_timelines.timeline(seed, 1 + seed % 2)
+        self.hard, self.base, _ = hard
+
+    def from_card(self, command):
+        """A registration with the Monday of the card's first week as its base."""
+        holder = slow_archive.bytes_of(command.split()[2])
+        return from_week(command, next(card.days[0][0] for card in self.cards if card.holder == holder))
+
+    def registrations(self):
+        """All drivers: the last of them from the Monday of the hard weeks on, and the others from that of their card on."""
+        *commands, last = super().registrations()
+        self.examined = int(last.split()[1])
+        return [*map(self.from_card, commands), from_week(last, self.base // 1440)]
+
+    def import_new(self):
+        """The import of a new file by the office."""
+        word, _, *words = super().import_new().split()
+        self.imports[-1] = " ".join([word, "office", *words])
+        return self.imports[-1]
+
+    def weeks(self):
+        """The entry of some of the hard weeks' hours that are left."""
+        count = self.chance.choice([len(self.hard), len(self.hard), len(self.hard) // 2])
+        taken, self.hard = self.hard[:count], self.hard[count:]
+        hours = [f"{start} {past} {slow_reader.ACTIVITIES.index(activity)}" for start, past, activity in taken]
+        return " ".join([f"enter {self.examined}", *hours])
+
+    def month(self, driver):
+        """A month of which a driver holds something or the next to it, or a word that is none."""
+        held = [minute // 1440 for minute in driver.held()] if driver else []
+        day = self.chance.choice(held or [self.base // 1440]) + self.chance.choice([-31, 0, 0, 0, 31])
+        return self.one_of([date_text(max(day, FIRST_DAY))[:7]], BAD_MONTHS)
+
+    def number(self):
+        """A driver's number: that of the hard weeks, one with downloads, if there is any, or any other."""
+        with_downloads = [number for number, driver in self.archive.drivers.items() if driver.downloads]
+        return self.chance.choice([self.examined, self.one_of(with_downloads or [self.examined]), self.one_of(compare_archive.NUMBERS)])
+
+    def reading(self):
+        """A reading of a driver."""
+        word, number = self.chance.choice(READINGS), self.number()
+        driver = self.archive.drivers.get(number)
+        if word in ("spans", "gaps", "sheet"):
+            return [word, str(number), self.month(driver)], b""
+        if word == "file":
+            count = len(driver.downloads) if driver else 0
+            return [word, str(number), str(self.one_of(range(1, count + 1) or [1], [count + 1]))], b""
+        return [word, str(number)], b""
+
+    def spoiled(self, words, given):
+        """The same with another word, or with an input that is too large, or as a spreadsheet saves it."""
+        places = BAD.get(words[0], [BAD_DRIVERS])
+        if places and self.chance.random() < 0.6:
+            place = self.chance.randrange(len(places))
+            words = [*words[: place + 1], self.chance.choice(places[place]), *words[place + 2 :]]
+        elif self.chance.random() < 0.2:
+            given += b"\n" * (slow_office.INPUT_LIMIT + 1 - len(given))
+        elif words[0] in ("register", "enter"):
+            given = slow_csv.MARK + given.replace(b"\n", b"\r\n")
+        return words, given
+
+    def lines(self):
+        """The command lines: some drivers first, then the weeks, and then anything."""
+        kinds = [self.import_new] * 4 + [self.enter] * 4 + [self.withdraw] * 3 + [self.weeks] * 2
+        kinds += [self.import_again, self.rebase, self.register]
+        commands = [*self.registrations(), self.weeks()]
+        for command in commands:
+            self.archive.answer(command)
+        lines = [line_of(command) for command in commands]
+        while len(lines) < LINES:
+            command = None if self.chance.random() < 0.5 else self.chance.choice(kinds)()
+            line = line_of(command) if command else self.reading()
+            if self.chance.random() < 0.1:
+                line = self.spoiled(*line)
+            elif command:
+                self.archive.answer(command)
+            lines.append(line)
+        return lines

@@ -1,0 +1,239 @@
+"""Worked rows of the office: in an archive that has Anna, what each command prints for an input, and its status."""
+from collections import namedtuple
+
+HOLDER = "0d4431323334353637383930313233"
+DRIVER_HEAD = "driver,holder,key,base,name\n"
+ANNA = f"{DRIVER_HEAD}17,{HOLDER},anna-key-1,2024-03-04,Anna Berg\n".encode()
+BERT = f"{DRIVER_HEAD}18,{HOLDER[:-1]}4,bert-key-1,2024-02-05,Bert\n".encode()
+
+CARD = "0520000011" + HOLDER + "3030"
+VALUE = "00000014" "0000001465e50f0000010064000011e019fe23fc" "0014001065e6608000020000000011e0"
+OTHER_VALUE = "00000014" "0000001465e50f0000010064000011ea1a0823f2" "0014001065e6608000020000080011e0"
+DAY = bytes.fromhex(CARD + "0504000028" + VALUE)
+OTHER_DAY = bytes.fromhex(CARD + "0504000028" + OTHER_VALUE)
+CREW_DAY = bytes.fromhex(CARD + "0504000028" + VALUE.replace("19fe", "59fe"))
+BOTH = DAY + bytes.fromhex("0504020028" + OTHER_VALUE)
+OTHER_CARD = bytes.fromhex(CARD.replace(HOLDER, HOLDER[:-1] + "9") + "0504000028" + VALUE)
+SATURDAY = bytes.fromhex(CARD + "0504000016" "00000000" "0000001265eba68000010000600071e06258")
+NOTHING = bytes.fromhex(CARD + "0504000010" + "00" * 16)
+
+LIMIT = 262_144
+TOO_LARGE = bytes(LIMIT + 1)
+LARGEST_DAY = DAY + 3 * (bytes.fromhex("050100ffff") + bytes(65_535))
+LARGEST_DAY += bytes.fromhex("050100") + (LIMIT - len(LARGEST_DAY) - 5).to_bytes(2, "big") + bytes(LIMIT - len(LARGEST_DAY) - 5)
+
+HOURS_HEAD = b"start,past,activity\n"
+FREE_DAYS = HOURS_HEAD + b"2024-03-09 00:00,2024-03-11 00:00,rest\n"
+MORNING = HOURS_HEAD + b"2024-03-05 08:00,2024-03-05 08:30,work\n2024-03-05 08:30,2024-03-05 12:00,drive\n"
+DRIVEN = HOURS_HEAD + b"2024-03-04 08:00,2024-03-04 08:30,work\n2024-03-04 08:30,2024-03-04 17:00,drive\n"
+LARGEST_HOURS = FREE_DAYS + b"\n" * (LIMIT - len(FREE_DAYS))
+
+HEAD = "DATE       DAY   REST  AVAIL   WORK  DRIVE   CREW   NONE\n"
+BREACH = "B1 Art 7 at 2024-03-04 13:00 since 2024-03-04 08:30 amount 240\n"
+EXAMINED = "EXAMINED TO 2024-03-04 17:00 unknown\n"
+UNEXAMINED = "EXAMINED TO 2024-03-04 00:00 unknown\n"
+NONE = "   0:00   0:00   0:00   0:00   0:00  24:00\n"
+
+LENGTHS = {"2023-02": 28, "2024-02": 29, "2024-03": 31, "2024-04": 30}
+FROM_MONDAY = ["Mon", "Tue", "Wed", "Thu", "Fri", "Sat", "Sun"]
+FROM_WEDNESDAY = FROM_MONDAY[2:] + FROM_MONDAY[:2]
+FROM_THURSDAY = FROM_MONDAY[3:] + FROM_MONDAY[:3]
+FROM_FRIDAY = FROM_MONDAY[4:] + FROM_MONDAY[:4]
+
+Row = namedtuple("Row", "words given text status")
+
+
+def row(words, text, given, status):
+    """A row whose words stand between blanks."""
+    text = text if isinstance(text, bytes) else text.encode()
+    return Row(words.split(" "), given, text, status)
+
+
+def done(words, text, given=b""):
+    """A command that is done."""
+    return row(words, text, given, 0)
+
+
+def refused(words, line, given=b""):
+    """A command that is refused."""
+    return row(words, f"{line}\n", given, 1)
+
+
+def days(month, weekdays, first=1):
+    """The lines of days of which nothing is held, up to the month's last; its first day is the first of the days of the week."""
+    return "".join(f"{month}-{day:02} {weekdays[(day - 1) % 7]}{NONE}" for day in range(first, LENGTHS[month] + 1))
+
+
+MARCH = (
+    f"DRIVER 17 Anna Berg\nMONTH 2024-03\n{HEAD}"
+    f"2024-03-01 Fri{NONE}2024-03-02 Sat{NONE}2024-03-03 Sun{NONE}"
+    "2024-03-04 Mon   8:00   0:00   0:30   8:30   0:00   7:00\n"
+    "2024-03-05 Tue   8:00   0:00   0:00   0:00   0:00  16:00\n"
+    + days("2024-03", FROM_FRIDAY, 6)
+    + "TOTAL           16:00   0:00   0:30   8:30   0:00 719:00\n"
+    + BREACH
+    + EXAMINED
+)
+CREWED = "EXAMINED TO 2024-03-04 08:30 crew\n"
+CREW_MARCH = MARCH.replace("8:30   0:00   7:00\n", "0:00   8:30   7:00\n").replace("8:30   0:00 719", "0:00   8:30 719")
+CREW_MARCH = CREW_MARCH.replace(BREACH + EXAMINED, CREWED)
+APRIL = (
+    f"DRIVER 17 Anna Berg\nMONTH 2024-04\n{HEAD}"
+    + days("2024-04", FROM_MONDAY)
+    + f"TOTAL            0:00   0:00   0:00   0:00   0:00 720:00\n{EXAMINED}"
+)
+LEAP = (
+    f"DRIVER 17 Anna Berg\nMONTH 2024-02\n{HEAD}"
+    + days("2024-02", FROM_THURSDAY)
+    + f"TOTAL            0:00   0:00   0:00   0:00   0:00 696:00\n{EXAMINED}"
+)
+SHORTEST = (
+    f"DRIVER 17 Anna Berg\nMONTH 2023-02\n{HEAD}"
+    + days("2023-02", FROM_WEDNESDAY)
+    + f"TOTAL            0:00   0:00   0:00   0:00   0:00 672:00\n{EXAMINED}"
+)
+SPANS = (
+    "start,past,activity,manning\n"
+    "2024-03-04 00:00,2024-03-04 08:00,rest,single\n"
+    "2024-03-04 08:00,2024-03-04 08:30,work,single\n"
+    "2024-03-04 08:30,2024-03-04 17:00,drive,single\n"
+    "2024-03-05 00:00,2024-03-05 08:00,rest,single\n"
+)
+GAPS = "2024-03-01 00:00 2024-03-04 00:00\n2024-03-04 17:00 2024-03-05 00:00\n2024-03-05 08:00 2024-04-01 00:00\n"
+
+ADDED = done("import both", "added driver 17 number 1\n", DAY)
+
+ROWS = {
+    "a day": [
+        ADDED,
+        done("import both", "repeated driver 17\n", DAY),
+        done("breaches 17", BREACH + EXAMINED),
+        done("owed 17", EXAMINED),
+        done("spans 17 2024-03", SPANS),
+        done("gaps 17 2024-03", GAPS),
+        done("sheet 17 2024-03", MARCH),
+        done("sheet 17 2024-04", APRIL),
+        done("sheet 17 2024-02", LEAP),
+        done("sheet 17 2023-02", SHORTEST),
+        done("spans 17 2024-04", "start,past,activity,manning\n"),
+        done("gaps 17 2024-04", "2024-04-01 00:00 2024-05-01 00:00\n"),
+        done("entries 17", ""),
+        done("file 17 1", DAY),
+        refused("file 17 2", "S10 unknown download"),
+    ],
+    "words": [
+        refused("import whole", "P1 bad part", DAY),
+        refused("import Both", "P1 bad part", DAY),
+        refused("import whole", "P1 bad part", TOO_LARGE),
+        refused("breaches 017", "N1 bad number"),
+        refused("breaches 0", "N1 bad number"),
+        refused("breaches 1000000", "N1 bad number"),
+        refused("breaches 4294967313", "N1 bad number"),
+        refused("breaches +17", "N1 bad number"),
+        refused("breaches ", "N1 bad number"),
+        refused("enter 017", "N1 bad number", TOO_LARGE),
+        refused("enter 017", "N1 bad number", b"nothing"),
+        refused("withdraw 17 01", "N1 bad number"),
+        refused("withdraw 17 1000001", "N1 bad number"),
+        refused("withdraw 17 1000000", "S7 unknown entry"),
+        refused("withdraw 18 0", "N1 bad number"),
+        refused("file 17 0", "N1 bad number"),
+        refused("file 17 1000000", "S10 unknown download"),
+        refused("sheet 17 2024-13", "Z2 no such date"),
+        refused("gaps 17 2024-00", "Z2 no such date"),
+        refused("spans 17 2024-3", "Z1 not of the shape"),
+        refused("spans 17 1999-12", "Z3 out of range"),
+        refused("sheet 17 2100-01", "Z3 out of range"),
+        refused("sheet 17 2100-13", "Z2 no such date"),
+        refused("sheet 017 2024-13", "N1 bad number"),
+        refused("base 017 2024-13-01", "N1 bad number"),
+        refused("base 17 2024-02-30", "Z2 no such date"),
+        refused("base 17 2000-01-02", "Z3 out of range"),
+        refused("base 17 11.3.2024", "Z1 not of the shape"),
+        refused("base 17 2024-03-12", "S9 not a Monday"),
+        refused("base 18 2024-03-12", "S4 unknown driver"),
+        refused("sheet 18 2024-13", "Z2 no such date"),
+        *[refused(f"{word} 18", "S4 unknown driver") for word in ["breaches", "owed", "entries"]],
+        *[refused(f"{word} 18 2024-03", "S4 unknown driver") for word in ["spans", "gaps", "sheet"]],
+        *[refused(f"{word} 18 1", "S4 unknown driver") for word in ["withdraw", "file"]],
+        refused("enter 18", "S4 unknown driver", FREE_DAYS),
+    ],
+    "inputs": [
+        refused("register", "X1 too large", TOO_LARGE),
+        refused("import both", "X1 too large", TOO_LARGE),
+        refused("enter 17", "X1 too large", TOO_LARGE),
+        refused("enter 18", "X1 too large", TOO_LARGE),
+        refused("register", "E1 wrong head"),
+        refused("register", "E9 bad value for driver", ANNA.replace(b"17,", b"017,")),
+        refused("register", "E2 wrong fields in row 3", BERT + BERT.splitlines(keepends=True)[1]),
+        refused("register", "S1 driver taken", ANNA),
+        refused("register", "S2 key taken", BERT.replace(b"bert", b"anna")),
+        refused("register", "S3 holder taken", BERT.replace(HOLDER[:-1].encode() + b"4", HOLDER.encode())),
+        refused("register", "S9 not a Monday", BERT.replace(b"2024-02-05", b"2024-02-06")),
+        refused("enter 17", "E1 wrong head"),
+        refused("enter 17", "E5 left out in row 2: crew", FREE_DAYS.replace(b"rest", b"crew")),
+        refused("enter 18", "E6 no such activity in row 2", FREE_DAYS.replace(b"rest", b"Rest")),
+        refused("import both", "C3 no identification"),
+        refused("import both", "C1 truncated block at 22", DAY[:-1]),
+        refused("import second", "C6 no activity data", DAY),
+        refused("import both", "C14 file contradicts itself at 2024-03-04 08:00", BOTH),
+        refused("import both", "S4 unknown driver", OTHER_CARD),
+        done("import both", "repeated driver 17\n", NOTHING),
+        done("import both", "added driver 17 number 1\n", LARGEST_DAY),
+        done("file 17 1", LARGEST_DAY),
+        done("enter 17", "entered 1 to 1\n", LARGEST_HOURS),
+        refused("enter 17", "X1 too large", LARGEST_HOURS + b"\n"),
+        done("import both", "repeated driver 17\n", DAY),
+        refused("import both", "S6 contradiction at 2024-03-04 08:00", OTHER_DAY),
+        done("register", "registered 18\n", BERT),
+        done("breaches 18", "EXAMINED TO 2024-02-05 00:00 unknown\n"),
+    ],
+    "a second driver": [
+        done("import both", "added driver 17 number 1\n", CREW_DAY),
+        done("breaches 17", CREWED),
+        done("owed 17", CREWED),
+        done("sheet 17 2024-03", CREW_MARCH),
+        done("spans 17 2024-03", SPANS.replace("drive,single", "drive,crew")),
+        done("gaps 17 2024-03", GAPS),
+        refused("enter 17", "S6 contradiction at 2024-03-04 08:30", DRIVEN),
+        refused("withdraw 17 1", "S7 unknown entry"),
+    ],
+    "entered hours": [
+        ADDED,
+        done("enter 17", "entered none\n", HOURS_HEAD),
+        done("enter 17", "entered 1 to 1\n", FREE_DAYS),
+        refused("import both", "S6 contradiction at 2024-03-09 08:00", SATURDAY),
+        done("withdraw 17 1", "withdrawn 1\n"),
+        done("import both", "added driver 17 number 2\n", SATURDAY),
+        refused("withdraw 17 1", "S8 already withdrawn"),
+        refused("withdraw 17 2", "S7 unknown entry"),
+        done("entries 17", "1 2024-03-09 00:00 2024-03-11 00:00 rest withdrawn\n"),
+        done("file 17 2", SATURDAY),
+        refused("enter 17", "S6 contradiction at 2024-03-09 08:00", FREE_DAYS),
+        done("enter 17", "entered 2 to 3\n", MORNING),
+        done(
+            "entries 17",
+            "1 2024-03-09 00:00 2024-03-11 00:00 rest withdrawn\n"
+            "2 2024-03-05 08:00 2024-03-05 08:30 work kept\n"
+            "3 2024-03-05 08:30 2024-03-05 12:00 drive kept\n",
+        ),
+    ],
+    "a report after each change": [
+        done("breaches 17", UNEXAMINED),
+        ADDED,
+        done("breaches 17", BREACH + EXAMINED),
+        done("enter 17", "entered 1 to 1\n", HOURS_HEAD + b"2024-03-04 17:00,2024-03-05 00:00,rest\n"),
+        done("breaches 17", BREACH + "EXAMINED TO 2024-03-05 08:00 unknown\n"),
+        done("enter 17", "entered 2 to 3\n", MORNING),
+        done("owed 17", "EXAMINED TO 2024-03-05 12:00 unknown\n"),
+        done("withdraw 17 2", "withdrawn 2\n"),
+        done("breaches 17", BREACH + "EXAMINED TO 2024-03-05 08:00 unknown\n"),
+        done("base 17 2024-03-11", "base 2024-03-11\n"),
+        done("breaches 17", "EXAMINED TO 2024-03-11 00:00 unknown\n"),
+        done("owed 17", "EXAMINED TO 2024-03-11 00:00 unknown\n"),
+        done("base 17 2024-03-04", "base 2024-03-04\n"),
+        done("withdraw 17 1", "withdrawn 1\n"),
+        done("breaches 17", BREACH + EXAMINED),
+        done("sheet 17 2024-04", APRIL),
+    ],
+}

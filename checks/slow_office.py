@@ -1,0 +1,341 @@
+"""A slow office over an archive, written from the definitions and not from the program: what each command line prints for an
+input, and its status. Its texts are written a minute at a time. `docs/FORMATS.md` says what they are.
+
+`Office.answer` is given the words without the archive's path (`["spans", "17", "2024-03"]`) and the input's bytes."""
+import datetime
+import functools
+import re
+
+import slow_archive
+import slow_csv
+import slow_reader
+import slow_rules
+from slow_archive import Refusal
+
+INPUT_LIMIT = 262_144
+LAST_DRIVER = 999_999
+LAST_NUMBER = 1_000_000
+EPOCH = datetime.date(1970, 1, 1)
+WEEKDAYS = ["Mon", "Tue", "Wed", "Thu", "Fri", "Sat", "Sun"]
+HEAD = "DATE       DAY   REST  AVAIL   WORK  DRIVE   CREW   NONE\n"
+
+ARTICLES = {
+    1: "Art 7",
+    2: "Art 8(2)",
+    3: "Art 8(4)",
+    4: "Art 6(1)",
+    5: "Art 6(1)",
+    6: "Art 6(2)",
+    7: "Art 6(3)",
+    8: "Art 8(6)",
+    9: "Art 8(6)",
+    10: "Art 8(6b)",
+}
+FAULTS = {
+    "S1": "driver taken",
+    "S2": "key taken",
+    "S3": "holder taken",
+    "S4": "unknown driver",
+    "S5": "not your card",
+    "S7": "unknown entry",
+    "S8": "already withdrawn",
+    "S9": "not a Monday",
+    "S10": "unknown download",
+    "S14": "full",
+}
+
+
+# The words of a command
+
+
+def number_of(text, most):
+    """The number that a word is: N1."""
+    if not re.fullmatch("[1-9][0-9]*", text) or int(text) > most:
+        raise slow_reader.Fault("N1 bad number")
+    return int(text)
+
+
+def date_of(year, month, day):
+    """The date of three numbers, or nothing where the calendar has none. Of the year 0, which Python hasn't, that of the year 400,
+    which has the same months."""
+    try:
+        return datetime.date(year or 400, month, day)
+    except ValueError:
+        return None
+
+
+def day_number(date):
+    """The number of a date."""
+    return (date - EPOCH).days
+
+
+def day_of(text):
+    """The day that a word is: Z1, Z2, Z3."""
+    if not re.fullmatch("[0-9]{4}-[0-9]{2}-[0-9]{2}", text):
+        raise slow_reader.Fault("Z1 not of the shape")
+    date = date_of(*[int(part) for part in text.split("-")])
+    if date is None:
+        raise slow_reader.Fault("Z2 no such date")
+    if day_number(date) not in slow_reader.READ_DAYS:
+        raise slow_reader.Fault("Z3 out of range")
+    return day_number(date)
+
+
+def month_of(text):
+    """The year and the month that a word is: Z1, Z2, Z3."""
+    if not re.fullmatch("[0-9]{4}-[0-9]{2}", text):
+        raise slow_reader.Fault("Z1 not of the shape")
+    year, month = [int(part) for part in text.split("-")]
+    if not 1 <= month <= 12:
+        raise slow_reader.Fault("Z2 no such date")
+    if not 2000 <= year <= 2099:
+        raise slow_reader.Fault("Z3 out of range")
+    return year, month
+
+
+def part_of(text):
+    """The part of a card file that a word names: P1."""
+    if text not in slow_archive.PARTS:
+        raise slow_reader.Fault("P1 bad part")
+    return text
+
+
+# The texts of a month
+
+
+def days_of(month):
+    """The days of a month, by their dates."""
+    year, number = month
+    first = datetime.date(year, number, 1)
+    return [day for day in (first + datetime.timedelta(days=place) for place in range(31)) if day.month == number]
+
+
+def minutes_of(date):
+    """The minutes of a date."""
+    first = 1440 * day_number(date)
+    return range(first, first + 1440)
+
+
+def month_minutes(month):
+    """The minutes of a month."""
+    days = days_of(month)
+    return range(minutes_of(days[0]).start, minutes_of(days[-1]).stop)
+
+
+def spans_text(held, month):
+    """What is held in a month, as CSV."""
+    runs = slow_reader.runs((minute, held[minute]) for minute in month_minutes(month) if minute in held)
+    rows = [",".join([slow_reader.minute_text(a), slow_reader.minute_text(b), *mark]) for a, b, mark in runs]
+    return "".join(row + "\n" for row in ["start,past,activity,manning", *rows])
+
+
+def gaps_text(held, month):
+    """What isn't held in a month."""
+    runs = slow_reader.runs((minute, "") for minute in month_minutes(month) if minute not in held)
+    return "".join(f"{slow_reader.minute_text(a)} {slow_reader.minute_text(b)}\n" for a, b, _ in runs)
+
+
+def column_of(mark):
+    """The column in which a minute counts."""
+    if mark is None:
+        return "none"
+    activity, manning = mark
+    return "crew" if manning == "crew" else activity
+
+
+def amounts_text(held, minutes):
+    """The six amounts of some minutes."""
+    found = [column_of(held.get(minute)) for minute in minutes]
+    counts = [found.count(column) for column in [*slow_reader.ACTIVITIES, "crew", "none"]]
+    return "".join(f"{count // 60}:{count % 60:02}".rjust(7) for count in counts)
+
+
+def day_text(held, date):
+    """The line of a day."""
+    return f"{date.isoformat()} {WEEKDAYS[date.weekday()]}{amounts_text(held, minutes_of(date))}\n"
+
+
+def sheet_text(number, name, held, report, month):
+    """The sheet of a month."""
+    horizon, cause, breaches, _ = report
+    year, place = month
+    minutes = month_minutes(month)
+    head = f"DRIVER {number} {name}\nMONTH {year:04}-{place:02}\n{HEAD}"
+    days = "".join(day_text(held, date) for date in days_of(month))
+    total = f"TOTAL         {amounts_text(held, minutes)}\n"
+    return head + days + total + breaches_text(horizon, cause, [breach for breach in breaches if breach[1] in minutes])
+
+
+# The texts of a report
+
+
+def horizon_text(horizon, cause):
+    """Where the examination ends."""
+    return f"EXAMINED TO {slow_reader.minute_text(horizon)} {cause.lower()}\n"
+
+
+def breaches_text(horizon, cause, breaches):
+    """Breaches, and where the examination ends."""
+    lines = [
+        f"B{kind} {ARTICLES[kind]} at {slow_reader.minute_text(moment)} since {slow_reader.minute_text(since)} amount {amount}\n"
+        for kind, moment, since, amount in breaches
+    ]
+    return "".join(lines) + horizon_text(horizon, cause)
+
+
+def standing_of(horizon, deadline, payer):
+    """What became of a debt."""
+    if payer is not None:
+        return f"paid {slow_reader.minute_text(payer)}"
+    return "late" if deadline <= horizon else "open"
+
+
+def owed_text(horizon, cause, debts):
+    """Debts, and where the examination ends."""
+    lines = [
+        f"WEEK {slow_reader.minute_text(slow_rules.week_start(week))[:10]} owes {amount} "
+        f"by {slow_reader.minute_text(deadline)} {standing_of(horizon, deadline, payer)}\n"
+        for week, amount, deadline, payer in debts
+    ]
+    return "".join(lines) + horizon_text(horizon, cause)
+
+
+@functools.lru_cache(maxsize=1_000)
+def report_of_runs(runs, base):
+    """The report of runs of minutes, each with its mark, from a minute on."""
+    return slow_rules.report([(start, past, activity, manning == "crew") for start, past, (activity, manning) in runs], base)
+
+
+def report_of(held, base):
+    """The report of what is held, from a day on: horizon, cause, breaches and debts."""
+    return report_of_runs(tuple(tuple(run) for run in slow_reader.runs(held.items())), 1440 * base)
+
+
+# The office
+
+
+def line_of(refusal):
+    """The line of a refusal of the archive."""
+    code, _, rest = str(refusal).partition(" ")
+    if code == "S11":
+        return rest
+    return f"S6 contradiction at {slow_reader.minute_text(int(rest))}" if code == "S6" else f"{code} {FAULTS[code]}"
+
+
+def within(given):
+    """An input, if it isn't too large: X1."""
+    return slow_reader.within(given, INPUT_LIMIT)
+
+
+class Office:
+    """The commands on an archive that is there."""
+
+    def __init__(self):
+        self.archive = slow_archive.Archive()
+
+    def answer(self, words, given=b""):
+        """What a command line prints for an input, as bytes, and its status. After a refusal nothing has changed."""
+        command, *others = words
+        commands = {
+            "register": lambda: self.register(given),
+            "import": lambda: self.import_file(given, *others),
+            "enter": lambda: self.enter(given, *others),
+            "withdraw": lambda: self.withdraw(*others),
+            "base": lambda: self.rebase(*others),
+            "spans": lambda: self.spans(*others),
+            "gaps": lambda: self.gaps(*others),
+            "sheet": lambda: self.sheet(*others),
+            "breaches": lambda: self.breaches(*others),
+            "owed": lambda: self.owed(*others),
+            "entries": lambda: self.entries(*others),
+            "file": lambda: self.file(*others),
+        }
+        try:
+            told = commands[command]()
+        except Refusal as refusal:
+            return f"{line_of(refusal)}\n".encode(), 1
+        except slow_reader.Fault as fault:
+            return f"{fault}\n".encode(), 1
+        return told if isinstance(told, bytes) else told.encode(), 0
+
+    def driver(self, number):
+        """The driver whose number a word is: N1, S4."""
+        return self.archive.driver(number_of(number, LAST_DRIVER))
+
+    def register(self, given):
+        """X1, E1, E2, E9, S1, S2, S3, S9."""
+        number, holder, key, base, name = slow_csv.driver_of(within(given))
+        self.archive.register(number.decode(), holder.decode(), key.decode(), slow_csv.day_of(base), name.hex())
+        return f"registered {number.decode()}\n"
+
+    def import_file(self, given, part):
+        """P1, X1, C1 to C14, S4, S6, S14."""
+        part = part_of(part)
+        return self.archive.import_file("office", part, slow_archive.word_of(within(given))) + "\n"
+
+    def enter(self, given, number):
+        """N1, X1, E1 to E7, S4, S6, S14."""
+        number = number_of(number, LAST_DRIVER)
+        lines = slow_csv.entries_of(within(given))
+        words = [word for start, past, activity in lines for word in (start, past, slow_reader.ACTIVITIES.index(activity))]
+        first = int(self.archive.enter(number, *words).split()[1])
+        return f"entered {first} to {first + len(lines) - 1}\n" if lines else "entered none\n"
+
+    def withdraw(self, number, entry):
+        """N1, S4, S7, S8."""
+        number, entry = number_of(number, LAST_DRIVER), number_of(entry, LAST_NUMBER)
+        self.archive.withdraw(number, entry)
+        return f"withdrawn {entry}\n"
+
+    def rebase(self, number, date):
+        """N1, Z1, Z2, Z3, S4, S9."""
+        number, day = number_of(number, LAST_DRIVER), day_of(date)
+        self.archive.rebase(number, day)
+        return f"base {date}\n"
+
+    def month(self, number, month):
+        """A driver and a month: N1, Z1, Z2, Z3, S4."""
+        number, month = number_of(number, LAST_DRIVER), month_of(month)
+        return self.archive.driver(number), month
+
+    def spans(self, number, month):
+        """What is held in a month."""
+        driver, month = self.month(number, month)
+        return spans_text(driver.held(), month)
+
+    def gaps(self, number, month):
+        """What isn't held in a month."""
+        driver, month = self.month(number, month)
+        return gaps_text(driver.held(), month)
+
+    def sheet(self, number, month):
+        """The sheet of a month."""
+        driver, month = self.month(number, month)
+        held = driver.held()
+        return sheet_text(driver.number, driver.name.decode(), held, report_of(held, driver.base), month)
+
+    def breaches(self, number):
+        """The breaches of a driver."""
+        driver = self.driver(number)
+        horizon, cause, breaches, _ = report_of(driver.held(), driver.base)
+        return breaches_text(horizon, cause, breaches)
+
+    def owed(self, number):
+        """What a driver is owed."""
+        driver = self.driver(number)
+        horizon, cause, _, debts = report_of(driver.held(), driver.base)
+        return owed_text(horizon, cause, debts)
+
+    def entries(self, number):
+        """The entries of a driver."""
+        lines = [
+            f"{place} {slow_reader.minute_text(entry.start)} {slow_reader.minute_text(entry.past)} {entry.mark[0]} "
+            f"{'withdrawn' if entry.is_withdrawn else 'kept'}\n"
+            for place, entry in enumerate(self.driver(number).entries, 1)
+        ]
+        return "".join(lines)
+
+    def file(self, number, download):
+        """A card file of a driver: N1, S4, S10."""
+        number, download = number_of(number, LAST_DRIVER), number_of(download, LAST_NUMBER)
+        return slow_archive.bytes_of(self.archive.download(number, download).split()[1])
