@@ -14,7 +14,7 @@ import sys
 import cards
 from archive import Program
 
-ROUNDS, OPENINGS = 12, 3
+ROUNDS, OPENINGS = 40, 3
 ARCHIVES = [(1, 1), (1, 10), (10, 1), (10, 10), (50, 1), (50, 10)]  # drivers, and years of each
 DRIVER = 1  # the one who is asked for
 DAY = 1440

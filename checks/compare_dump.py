@@ -2,12 +2,14 @@
 """Runs `tacho dump` on every single-byte change of one value, and compares it with the slow reader.
 
 The word is the program. The last line is 'N passed, M failed'."""
+import multiprocessing
 import sys
 
 import counting
 import programs
 import slow_reader
 
+PROCESSES = 2
 VALUE = bytes.fromhex(
     "00000014"
     "0000001465e50f0000010064000011e019fe23fc"
@@ -22,9 +24,15 @@ def changes(value):
                 yield f"byte {place} changed to {byte:02x}", value[:place] + bytes([byte]) + value[place + 1 :]
 
 
+def of_change(question):
+    """The comparison of a changed value."""
+    program, name, value = question
+    return name, programs.answer([program, "dump"], value), slow_reader.dump(value)
+
+
 def comparisons(program):
-    for name, value in changes(VALUE):
-        yield name, programs.answer([program, "dump"], value), slow_reader.dump(value)
+    with multiprocessing.Pool(PROCESSES) as pool:
+        yield from pool.imap(of_change, [(program, name, value) for name, value in changes(VALUE)], chunksize=100)
 
 
 if __name__ == "__main__":

@@ -3,6 +3,7 @@
 each byte changed to a few other values, and compares them with the slow reader.
 
 The words are the programs `tacho` and `tacho_rows`. The last line is 'N passed, M failed'."""
+import multiprocessing
 import re
 import sys
 
@@ -10,6 +11,7 @@ import counting
 import programs
 import slow_reader
 
+PROCESSES = 2
 IDENTIFICATION = "0520000011" "0d44313233343536373839303132333030"
 FIRST = "0504000028" "00000014" "0000001465e50f0000010064000011e019fe23fc" "0014001065e6608000020000000011e0"
 SIGNATURE = "0504010001" "ff"
@@ -60,12 +62,20 @@ def files():
             yield f"byte {place} changed to {value:02x}", FILE[:place] + bytes([value]) + FILE[place + 1 :]
 
 
+def of_file(question):
+    """The comparisons of a file."""
+    tacho, rows, name, file = question
+    found = [(f"{name}: holder", programs.answer([tacho, "holder"], file), slow_reader.holder(file))]
+    for part in ("both", "first", "second"):
+        told, status = programs.answer([rows, part], file)
+        found.append((f"{name}: {part}", (line_of(told), status), (slow_reader.spans(file, part), 0)))
+    return found
+
+
 def comparisons(tacho, rows):
-    for name, file in files():
-        yield f"{name}: holder", programs.answer([tacho, "holder"], file), slow_reader.holder(file)
-        for part in ("both", "first", "second"):
-            told, status = programs.answer([rows, part], file)
-            yield f"{name}: {part}", (line_of(told), status), (slow_reader.spans(file, part), 0)
+    with multiprocessing.Pool(PROCESSES) as pool:
+        for found in pool.imap(of_file, [(tacho, rows, name, file) for name, file in files()], chunksize=20):
+            yield from found
 
 
 if __name__ == "__main__":
