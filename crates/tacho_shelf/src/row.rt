@@ -160,6 +160,13 @@ impl Row {
         String::from_str(alloc, &self.name)
     }
 
+    /// His number.
+    pub(crate) fn number(&self) -> u32
+        ensures { result ≡ self.now.number }
+    {
+        self.number
+    }
+
     /// His download with a number.
     pub(crate) fn download(&self, number: u32) -> Option<&Download>
         ensures { option_copied result ≡ download_from 1 number self.now.downloads }
@@ -402,11 +409,11 @@ pub(crate) fn place_of(rows: &[Row], number: u32) -> Option<usize>
     rows.iter().position(|row| row.number == number)
 }
 
-/// The place of the driver with a key.
-pub(crate) fn place_of_key(rows: &[Row], key: &str) -> Option<usize>
+/// The place of the driver whose key has these bytes.
+pub(crate) fn place_of_key(rows: &[Row], key: &[u8]) -> Option<usize>
     ensures { IsPlaceOf rows.now (keyed key.now rows.now) result }
 {
-    rows.iter().position(|row| row.key.as_str() == key)
+    rows.iter().position(|row| row.key.as_bytes() == key)
 }
 
 /// The place of the driver whose card has a holder.

@@ -4,7 +4,7 @@ ghost use Rattle.tacho_line.specs.Line.{mark_at};
 ghost use Rattle.tacho_state.specs.State.{driver_of, holding};
 ghost use Rattle.tacho_state.specs.Content.{Tells, part_number};
 ghost use Rattle.tacho_state.specs.Batch.{IsBatch, batch_of};
-ghost use Rattle.tacho_state.specs.Steps.{Content, registered, imported, entered, withdrawn, rebased, refused, named, lined, listed, downloaded, reported};
+ghost use Rattle.tacho_state.specs.Steps.{Content, registered, imported, entered, withdrawn, rebased, refused, owner, named, lined, listed, downloaded, reported};
 ghost use Rattle.tacho_state.specs.Reported.{IsHeldWithin, IsReportOf};
 ghost use Rattle.tacho_state.specs.Acts.{Answers, caller_number};
 ghost use Rattle.tacho_shelf.specs.Shelf.{Turns, IsOwnerAt, known, known_by, owner_of, new_driver};
@@ -61,7 +61,7 @@ impl Shelf {
         if place_of(&self.drivers, driver.number()).is_some() {
             return Some(StoreFault::DriverTaken);
         }
-        if place_of_key(&self.drivers, driver.key()).is_some() {
+        if place_of_key(&self.drivers, driver.key().as_bytes()).is_some() {
             return Some(StoreFault::KeyTaken);
         }
         if place_of_holder(&self.drivers, driver.holder()).is_some() {
@@ -139,6 +139,14 @@ impl Shelf {
         }
         self.drivers[place].set_base(base);
         Ok(())
+    }
+
+    /// The number of the driver whose key this is, if there is one.
+    fn number_with_key(&self, key: &[u8]) -> Option<u32>
+        ensures { owner key.now self.now ≡ Ok result }
+    {
+        let place = place_of_key(&self.drivers, key)?;
+        Some(self.drivers[place].number())
     }
 
     /// The name of a driver: S4.
@@ -320,6 +328,10 @@ impl Keeper for Shelf {
 
     fn rebase(&mut self, driver: u32, base: Day) -> Result<(), StoreFault> {
         self.set_base(driver, base)
+    }
+
+    fn who(&mut self, key: &[u8]) -> Result<Option<u32>, StoreFault> {
+        Ok(self.number_with_key(key))
     }
 
     fn name(&mut self, alloc: Global, driver: u32) -> Result<String, StoreFault> {

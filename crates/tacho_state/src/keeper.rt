@@ -2,7 +2,7 @@ ghost use Rattle.std.specs.Prelude.{◌≡◌, ◌⊎◌, ◌∷◌, ◌≤◌, 
 ghost use Rattle.tacho_line.specs.Line.{mark_at};
 ghost use Rattle.tacho_card.specs.declared.fault.CardFault.{CardFault};
 ghost use Rattle.tacho_state.specs.State.{State};
-ghost use Rattle.tacho_state.specs.Steps.{Content, registered, imported, entered, withdrawn, rebased, named, lined, listed, downloaded, reported};
+ghost use Rattle.tacho_state.specs.Steps.{Content, registered, imported, entered, withdrawn, rebased, owner, named, lined, listed, downloaded, reported};
 ghost use Rattle.tacho_state.specs.Reported.{IsHeldWithin, IsReportOf};
 ghost use Rattle.tacho_state.specs.Batch.{IsBatch, batch_of};
 ghost use Rattle.tacho_state.specs.Content.{Tells, part_number};
@@ -74,6 +74,10 @@ pub trait Keeper {
     /// Sets the day from which a driver is examined: S4, S9.
     fn rebase(&mut self, driver: u32, base: Day) -> Result<(), StoreFault>
         ensures { Acts stands is_clean is_live leaves (λ _. tt) self.old self.new result (rebased driver base) };
+
+    /// The driver whose key this is, if there is one.
+    fn who(&mut self, key: &[u8]) -> Result<Option<u32>, StoreFault>
+        ensures { Reads stands is_clean is_live leaves (λ found. found) self.old self.new result (owner key.now) };
 
     /// The name of a driver: S4.
     fn name(&mut self, alloc: Global, driver: u32) -> Result<String, StoreFault>

@@ -4,8 +4,8 @@ use Rattle.std.specs.Prelude.{MatchOption, Contains, ok_or}
 use Rattle.sqlite.specs.Tree.{Trees}
 use Rattle.tacho_state.specs.declared.fault.StoreFault.{StoreFault}
 use Rattle.tacho_state.specs.declared.fault.StoreFault.TheVariants.{UnknownDriver, UnknownDownload}
-use Rattle.tacho_state.specs.State.{Driver, State, driver_of, download_from}
-use Rattle.tacho_state.specs.Steps.{told_of, file_of, downloaded}
+use Rattle.tacho_state.specs.State.{Driver, State, driver_of, keyed, download_from}
+use Rattle.tacho_state.specs.Steps.{told_of, owner, file_of, downloaded}
 use Rattle.tacho_state.specs.Acts.{Answers}
 use Rattle.tacho_tables.specs.Rows.{DownloadRow}
 use Rattle.tacho_tables.specs.Tables.{Tables, Stand, is_download}
@@ -16,6 +16,12 @@ use Rattle.tacho_store.proofs.DownloadLemmas.{download_none, download_some}
 pub nobody : {A : Type 0} (n : ℕ) (s : State) (f : Driver → Result A StoreFault) → driver_of n s ≡ None
     → told_of f (driver_of n s) ≡ Err UnknownDriver
 nobody n s f none = ap (told_of f) none
+
+-- the driver whose key it is, if there is one
+pub owner_told : (key : List ℕ) (s : State) (found : Option ℕ)
+    → MatchOption found (keyed key s ≡ None) (λ n. (d : Driver) × (keyed key s ≡ Some d) × (n ≡ d.number)) → owner key s ≡ Ok found
+owner_told key s None none = rw none refl
+owner_told key s (Some n) (d, is, number) = rw (is, number) refl
 
 -- S10, or the file
 pub file_told : {X : Type 0} (items : X → List ℕ) (db : Trees) (n number : ℕ) (s : State) (found : Option X) (d : Driver)

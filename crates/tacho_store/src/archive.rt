@@ -16,7 +16,7 @@ use crate::content::content_of;
 use crate::entering::enter;
 use crate::fault::store_fault;
 use crate::import::import;
-use crate::reading::{download, entries, line, line_within, name, report};
+use crate::reading::{download, entries, line, line_within, name, report, who};
 use crate::registration::register;
 use crate::withdrawal::withdraw;
 use sqlite::{Alter, Connection, MemStore, Transaction};
@@ -220,6 +220,10 @@ impl<S: Alter> Keeper for Archive<S> {
 
     fn rebase(&mut self, driver: u32, base: Day) -> Result<(), StoreFault> {
         rebase(&mut self.conn, driver, base)
+    }
+
+    fn who(&mut self, key: &[u8]) -> Result<Option<u32>, StoreFault> {
+        who(&mut self.conn, key)
     }
 
     fn name(&mut self, alloc: Global, driver: u32) -> Result<String, StoreFault> {

@@ -49,7 +49,7 @@ pub fn ask_free<S: Alter>(tx: &mut Transaction<'_, S>, driver: &Driver) -> Resul
     if by_number.is_some() {
         return Err(StoreFault::DriverTaken);
     }
-    let by_key = drivers::number_by_secret(tx, driver.key()).map_err(store_fault)?;
+    let by_key = drivers::number_by_secret(tx, driver.key().as_bytes()).map_err(store_fault)?;
     if by_key.is_some() {
         return Err(StoreFault::KeyTaken);
     }

@@ -3,7 +3,7 @@ ghost use Rattle.sqlite.specs.State.{HasCleanDisk, Survives, KeepsCommit, IsUnch
 ghost use Rattle.sqlite.specs.Held.{state};
 ghost use Rattle.tacho_line.specs.Line.{mark_at};
 ghost use Rattle.tacho_state.specs.State.{State};
-ghost use Rattle.tacho_state.specs.Steps.{named, lined, listed, downloaded, reported};
+ghost use Rattle.tacho_state.specs.Steps.{owner, named, lined, listed, downloaded, reported};
 ghost use Rattle.tacho_state.specs.Reported.{IsHeldWithin, IsReportOf};
 ghost use Rattle.tacho_state.specs.Acts.{Reads, Answers};
 ghost use Rattle.tacho_tables.specs.Schema.{archive_schema};
@@ -19,8 +19,37 @@ use std::alloc::Global;
 use tacho_line::Line;
 use tacho_rules::Report;
 use tacho_state::{Entry, StoreFault, report_of};
-use tacho_tables::{downloads, entries, held, opening};
+use tacho_tables::{downloads, drivers, entries, held, opening};
 use tacho_time::Minute;
+
+/// The driver whose key this is, within a transaction.
+fn who_in<S: Alter>(tx: &mut Transaction<'_, S>, key: &[u8]) -> Result<Option<u32>, StoreFault>
+    ensures same_reference { tx.new.conn.ghost_name ≡ tx.old.conn.ghost_name }
+    ensures answer { HasCleanDisk (state S.Store tx.new.conn.now) → (state S.Store tx.old.conn.now).now.schema ≡ archive_schema → (s : State) → StandsFor (state S.Store tx.old.conn.now).now.trees s
+        → Answers (λ found. found) result (owner key.now s) }
+    ensures live { HasCleanDisk (state S.Store tx.new.conn.now) → IsAnswered result → IsTrue (state S.Store tx.old.conn.now).is_open }
+    ensures clean { HasCleanDisk (state S.Store tx.new.conn.now) → HasCleanDisk (state S.Store tx.old.conn.now) }
+    ensures was_open { HasCleanDisk (state S.Store tx.new.conn.now) → IsTrue (state S.Store tx.new.conn.now).is_open → IsTrue (state S.Store tx.old.conn.now).is_open }
+    ensures keeps { HasCleanDisk (state S.Store tx.new.conn.now) → (state S.Store tx.old.conn.now).now.schema ≡ archive_schema → KeepsCommit (state S.Store tx.old.conn.now) (state S.Store tx.new.conn.now) }
+    ensures survives { Survives (state S.Store tx.old.conn.now) (state S.Store tx.new.conn.now) (λ _. ⊥) }
+{
+    drivers::number_by_secret(tx, key).map_err(store_fault)
+}
+
+/// The driver whose key this is, if there is one.
+pub fn who<S: Alter>(conn: &mut Connection<S>, key: &[u8]) -> Result<Option<u32>, StoreFault>
+    requires { conn.old.in_transaction ≡ false }
+    ensures autocommit { conn.new.in_transaction ≡ false }
+    ensures reads { Reads (λ c. Shows (state S.Store c)) (λ c. HasCleanDisk (state S.Store c)) (λ c. IsTrue (state S.Store c).is_open) (λ c. Leaves (state S.Store c)) (λ found. found) conn.old conn.new result
+        (owner key.now) }
+{
+    let _settled = conn.is_autocommit();
+    let mut tx = conn.transaction();
+    let found = who_in(&mut tx, key)?;
+    tx.rollback();
+    opening::ask(conn).map_err(store_fault)?;
+    Ok(found)
+}
 
 /// A driver's name, within a transaction: S4.
 fn name_in<S: Alter>(tx: &mut Transaction<'_, S>, driver: u32) -> Result<String, StoreFault>

@@ -11,6 +11,7 @@ use crate::fault::TableFault;
 use crate::rows::{StoredDriver, first_driver, first_number};
 use crate::statement::{read, run};
 use sqlite::{Alter, Transaction, params};
+use sqlite_value::value::ValueRef;
 
 /// Adds a driver, without downloads and entries.
 pub fn insert<S: Alter>(
@@ -59,10 +60,10 @@ pub fn by_number<S: Alter>(
     first_driver(&rows)
 }
 
-/// The number of the driver with this key, if there is one.
+/// The number of the driver whose key has these bytes, if there is one. They may be any bytes.
 pub fn number_by_secret<S: Alter>(
     tx: &mut Transaction<'_, S>,
-    secret: &str,
+    secret: &[u8],
 ) -> Result<Option<u32>, TableFault>
     ensures same_reference { tx.new.conn.ghost_name ≡ tx.old.conn.ghost_name }
     ensures same { HasCleanDisk (state S.Store tx.new.conn.now) → (state S.Store tx.old.conn.now).now.schema ≡ archive_schema → OnOk result (IsUnchanged (state S.Store tx.old.conn.now) (state S.Store tx.new.conn.now)) }
@@ -77,7 +78,7 @@ pub fn number_by_secret<S: Alter>(
     let rows = read(
         tx,
         "SELECT driver FROM drivers WHERE secret = ?1",
-        params![secret],
+        &[ValueRef::Text(secret)],
     )?;
     first_number(&rows)
 }

@@ -2,7 +2,7 @@
 
 use crate::step::Standing::{Kept, Withdrawn};
 use crate::step::Step::{
-    Adds, Enter, Has, HasName, HasNoEntries, HasNoLine, HasNoName, HasNoReport, Holds, Lacks,
+    Adds, Enter, Has, HasName, HasNoEntries, HasNoLine, HasNoName, HasNoReport, Holds, IsOf, Lacks,
     Lists, Rebase, Refuses, Register, Repeats, Reports, Withdraw,
 };
 use crate::step::{Code, Listed, Pieces, Step};
@@ -653,6 +653,24 @@ const DRIVERS_HAVE_THEIR_NAMES: &[Step] = &[
     HasNoReport(4_294_967_295, Code::S4),
 ];
 
+/// A key is of the driver who was registered with these very bytes, and any other bytes are of nobody.
+const KEYS_ARE_OF_THEIR_DRIVERS: &[Step] = &[
+    IsOf(b"anna-key-1", None),
+    REGISTER_ANNA,
+    IsOf(b"anna-key-1", Some(17)),
+    IsOf(b"bert-key-1", None),
+    REGISTER_BERT,
+    IsOf(b"bert-key-1", Some(18)),
+    IsOf(b"anna-key-1", Some(17)),
+    IsOf(b"anna-key-2", None),
+    IsOf(b"Anna-key-1", None),
+    IsOf(b"anna-key-", None),
+    IsOf(b"anna-key-1\0", None),
+    IsOf(b"", None),
+    IsOf(b"\xff", None),
+    IsOf(b"anna-key-1\xff", None),
+];
+
 /// A report is from the driver's base on: the eight and a half hours of driving of `DAY` have no break after four and a half.
 const A_REPORT_IS_FROM_THE_BASE: &[Step] = &[
     REGISTER_ANNA,
@@ -697,7 +715,7 @@ const A_WITHDRAWAL_CHANGES_THE_REPORT: &[Step] = &[
 ];
 
 /// Each row, with its name.
-pub(crate) const ROWS: [(&str, &[Step]); 28] = [
+pub(crate) const ROWS: [(&str, &[Step]); 29] = [
     ("a day is added", A_DAY_IS_ADDED),
     ("empty data are repeated", EMPTY_DATA_ARE_REPEATED),
     (
@@ -760,6 +778,7 @@ pub(crate) const ROWS: [(&str, &[Step]); 28] = [
         ENTRIES_OF_TWO_DRIVERS_INTERLEAVE,
     ),
     ("drivers have their names", DRIVERS_HAVE_THEIR_NAMES),
+    ("keys are of their drivers", KEYS_ARE_OF_THEIR_DRIVERS),
     ("a report is from the base", A_REPORT_IS_FROM_THE_BASE),
     (
         "a withdrawal changes the report",

@@ -86,6 +86,8 @@ pub(crate) enum Step {
     Withdraw(u32, u32, Result<(), Code>),
     /// A driver is examined from another day.
     Rebase(u32, u8, Result<(), Code>),
+    /// A key is of this driver, or of none.
+    IsOf(&'static [u8], Option<u32>),
     /// A driver has this name.
     HasName(u32, &'static str),
     /// A driver's timeline is exactly these spans.
@@ -158,6 +160,9 @@ fn take_one<K: Keeper>(
         }
         Step::Rebase(driver, day, wanted) => {
             assert_done(rt, place, keeper.rebase(driver, day_of(day)), wanted);
+        }
+        Step::IsOf(key, wanted) => {
+            assert_eq!(rt; keeper.who(key)?, wanted, "{place}");
         }
         Step::HasName(driver, name) => {
             assert_eq!(rt; keeper.name(alloc, driver)?.as_str(), name, "{place}");

@@ -32,8 +32,11 @@ fn drivers_are_found_and_changed(rt: HostRuntime) -> Result<(), Fail> {
     making::make_all(&mut tx)?;
     drivers::insert(&mut tx, 17, &[0x0d, 0x44], "anna-key-1", 19_786, "Anna")?;
     drivers::insert(&mut tx, 18, &[0x0d, 0x45], "bert-key-1", 19_787, "Bert")?;
-    assert_eq!(rt; drivers::number_by_secret(&mut tx, "bert-key-1")?, Some(18));
-    assert_eq!(rt; drivers::number_by_secret(&mut tx, "bert-key-2")?, None);
+    assert_eq!(rt;
+        drivers::number_by_secret(&mut tx, b"bert-key-1")?,
+        Some(18)
+    );
+    assert_eq!(rt; drivers::number_by_secret(&mut tx, b"bert-key-2")?, None);
     assert_eq!(rt;
         drivers::number_by_holder(&mut tx, &[0x0d, 0x44])?,
         Some(17)

@@ -25,7 +25,7 @@ returns-then-is_some-2-clause-free g c clean schema s stands base name =
     (c.by_number.ensures.same clean_1 schema)) schema stands in
     let free = not_found c.in_ok-by_number.by_number _ _ (sym c.is_some.ensures ∙ c.if-is_some.false) number in
     let key = key_found _ s _ c.in_ok-by_key.by_key seen_1.1
-    (rw c.key.ensures at (was_ok c.number_by_secret.result c.in_ok-by_key.by_key _ c.in_ok-by_key.ensures.cases
+    (rw (c.as_bytes.ensures.value, c.key.ensures) at (was_ok c.number_by_secret.result c.in_ok-by_key.by_key _ c.in_ok-by_key.ensures.cases
     (c.number_by_secret.ensures.found clean seen_1.0))) in
     key_taken _ _ _ _ _ s c.in_ok-by_key.by_key _ free (sym c.is_some-2.ensures ∙ c.if-is_some-2.true) key
 
@@ -41,7 +41,7 @@ returns-then-is_some-3-clause-free g c clean schema s stands base name =
     (c.by_number.ensures.same clean_1 schema)) schema stands in
     let free = not_found c.in_ok-by_number.by_number _ _ (sym c.is_some.ensures ∙ c.if-is_some.false) number in
     let key = key_found _ s _ c.in_ok-by_key.by_key seen_1.1
-    (rw c.key.ensures at (was_ok c.number_by_secret.result c.in_ok-by_key.by_key _ c.in_ok-by_key.ensures.cases
+    (rw (c.as_bytes.ensures.value, c.key.ensures) at (was_ok c.number_by_secret.result c.in_ok-by_key.by_key _ c.in_ok-by_key.ensures.cases
     (c.number_by_secret.ensures.found clean_2 seen_1.0))) in
     let seen_2 = still_seen _ _ s (was_ok c.number_by_secret.result c.in_ok-by_key.by_key _ c.in_ok-by_key.ensures.cases
     (c.number_by_secret.ensures.same clean_2 seen_1.0)) seen_1.0 seen_1.1 in
@@ -63,7 +63,7 @@ returns-clause-free g c clean schema s stands =
     (c.by_number.ensures.same clean_1 schema)) schema stands in
     let free = not_found c.in_ok-by_number.by_number _ _ (sym c.is_some.ensures ∙ c.if-is_some.false) number in
     let key = key_found _ s _ c.in_ok-by_key.by_key seen_1.1
-    (rw c.key.ensures at (was_ok c.number_by_secret.result c.in_ok-by_key.by_key _ c.in_ok-by_key.ensures.cases
+    (rw (c.as_bytes.ensures.value, c.key.ensures) at (was_ok c.number_by_secret.result c.in_ok-by_key.by_key _ c.in_ok-by_key.ensures.cases
     (c.number_by_secret.ensures.found clean_2 seen_1.0))) in
     let seen_2 = still_seen _ _ s (was_ok c.number_by_secret.result c.in_ok-by_key.by_key _ c.in_ok-by_key.ensures.cases
     (c.number_by_secret.ensures.same clean_2 seen_1.0)) seen_1.0 seen_1.1 in

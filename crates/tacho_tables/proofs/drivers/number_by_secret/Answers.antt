@@ -15,7 +15,7 @@ pub returns-clause-found : goal.returns-clause-found
 returns-clause-found g c clean schema =
     let old = state g.S.Store c.args.tx.now.conn.now in
     let new = state g.S.Store c.read.new.tx.conn.now in
-    let shown = rw c.params-to_sql.ensures at (c.in_ok-rows.ensures.shown clean) in
+    let shown = c.in_ok-rows.ensures.shown clean in
     ok_both c.first_number.result (λ found none some a s.
     let wanted = filter (has_secret c.args.secret.now) a.drivers in
     first_found number_shown (λ it r. it ≡ r.driver) found c.deref.result.now wanted
