@@ -7,9 +7,9 @@ use Rattle.tacho_time.specs.declared.whole.ReadFault.TheVariants as read
 use Rattle.tacho_card.specs.declared.fault.CardFault.{CardFault}
 use Rattle.tacho_card.specs.declared.fault.CardFault.TheVariants as card
 use Rattle.tacho_sheet.specs.declared.fault.Fault.TheVariants as told
-use Rattle.tacho_cli.specs.declared.fault.Fault.{Fault}
-use Rattle.tacho_cli.specs.declared.fault.Fault.TheVariants as fault
-use Rattle.tacho_cli.specs.Fault.{read_fault, card_fault}
+use Rattle.tacho_desk.specs.declared.fault.Fault.{Fault}
+use Rattle.tacho_desk.specs.declared.fault.Fault.TheVariants as fault
+use Rattle.tacho_desk.specs.Fault.{read_fault, card_fault}
 use Rattle.tacho_cli.specs.Dump.{IsDump, IsDumped, ReadsValue}
 use Rattle.tacho_cli.specs.Holder.{IsHolder, card_holder, holder_reply}
 use Rattle.tacho_cli.specs.Command.{Reply, fault_reply, card_reply, Replies, Tells, TellsFault, Leaves}

@@ -1,5 +1,4 @@
 mod CommandLemmas
-mod DeskLemmas
-mod ShownLemmas
+mod OfficeLemmas
 mod WordsLemmas
 mod TableLemmas

@@ -2,9 +2,10 @@
 use Rattle.std.specs.Prelude.{◌≡◌, ℕ, ◌⊎◌, List, Option, Bool, true, false, take, IfSome}
 use Rattle.std.specs.Io.KnownBytes.{Appends}
 use Rattle.tacho_card.specs.declared.fault.CardFault.{CardFault}
-use Rattle.tacho_cli.specs.declared.fault.Fault.{Fault}
-use Rattle.tacho_cli.specs.declared.fault.Fault.TheVariants as fault
-use Rattle.tacho_cli.specs.Fault.{fault_line, fault_status, card_fault}
+use Rattle.tacho_desk.specs.declared.fault.Fault.{Fault}
+use Rattle.tacho_desk.specs.declared.fault.Fault.TheVariants as fault
+use Rattle.tacho_desk.specs.Fault.{card_fault}
+use Rattle.tacho_cli.specs.Fault.{fault_line, fault_status}
 
 -- the text that is written, and the status that the program ends with
 pub record Reply : Type 0 where

@@ -6,7 +6,7 @@ use Rattle.tacho_card.specs.declared.fault.CardFault.{CardFault}
 use Rattle.tacho_card.specs.DriverActivity.{DriverActivity, driver_activity}
 use Rattle.tacho_card.specs.Reading.{IsReading}
 use Rattle.tacho_sheet.specs.declared.fault.Fault.TheVariants as told
-use Rattle.tacho_cli.specs.declared.fault.Fault.TheVariants as fault
+use Rattle.tacho_desk.specs.declared.fault.Fault.TheVariants as fault
 use Rattle.tacho_cli.specs.Command.{Reply, fault_reply, card_reply}
 
 -- the reading of activity data, if its pointers are sound

@@ -1,19 +1,13 @@
 -- The lines of a command's faults, and the program's status after a fault.
 use Rattle.std.specs.Prelude.{ℕ, List, codes}
-use Rattle.tacho_card.specs.declared.fault.CardFault.{CardFault}
 use Rattle.tacho_card.specs.declared.fault.CardFault.TheVariants as card
-use Rattle.tacho_time.specs.declared.fault.TimeFault.{TimeFault}
-use Rattle.tacho_time.specs.declared.whole.ReadFault.{ReadFault}
-use Rattle.tacho_time.specs.declared.whole.ReadFault.TheVariants as read
-use Rattle.tacho_state.specs.declared.fault.StoreFault.{StoreFault}
 use Rattle.tacho_state.specs.declared.fault.StoreFault.TheVariants as store
 use Rattle.tacho_sheet.specs.Lines.{no_memory_line, fault_line as told_line}
 use Rattle.tacho_sheet.specs.declared.fault.Fault.{Fault as Told}
 use Rattle.tacho_sheet.specs.declared.fault.Fault.TheVariants as told
-use Rattle.tacho_sheet.specs.declared.fault.SheetFault.{SheetFault}
 use Rattle.tacho_sheet.specs.declared.fault.SheetFault.TheVariants as sheet
-use Rattle.tacho_cli.specs.declared.fault.Fault.{Fault}
-use Rattle.tacho_cli.specs.declared.fault.Fault.TheVariants as fault
+use Rattle.tacho_desk.specs.declared.fault.Fault.{Fault}
+use Rattle.tacho_desk.specs.declared.fault.Fault.TheVariants as fault
 
 -- the line of a command's fault
 abbrev pub fault_line : Fault → List ℕ
@@ -35,25 +29,3 @@ abbrev pub fault_status : Fault → ℕ
 fault_status (fault.Told f) = told_status f
 fault_status fault.Device = 3
 fault_status fault.Memory = 3
-
--- why an input was not read
-abbrev pub read_fault : ReadFault → Fault
-read_fault read.TooLarge = fault.Told told.TooLarge
-read_fault read.Failed = fault.Device
-read_fault read.Memory = fault.Memory
-
--- the fault of a card, of an archive, of a text of CSV, of a date
-abbrev pub card_fault : CardFault → Fault
-card_fault card.Memory = fault.Memory
-card_fault f = fault.Told (told.Card f)
-
-abbrev pub store_fault : StoreFault → Fault
-store_fault store.Memory = fault.Memory
-store_fault f = fault.Told (told.Store f)
-
-abbrev pub sheet_fault : SheetFault → Fault
-sheet_fault sheet.Memory = fault.Memory
-sheet_fault f = fault.Told (told.Sheet f)
-
-abbrev pub time_fault : TimeFault → Fault
-time_fault f = fault.Told (told.Time f)

@@ -4,7 +4,7 @@ use Rattle.tacho_card.specs.declared.fault.CardFault.{CardFault}
 use Rattle.tacho_card.specs.CardFile.{FileBlock, card_file, file_holder}
 use Rattle.tacho_sheet.specs.Lines.{byte_digits}
 use Rattle.tacho_sheet.specs.declared.fault.Fault.TheVariants as told
-use Rattle.tacho_cli.specs.declared.fault.Fault.TheVariants as fault
+use Rattle.tacho_desk.specs.declared.fault.Fault.TheVariants as fault
 use Rattle.tacho_cli.specs.Command.{Reply, fault_reply, card_reply}
 
 -- the digits of a holder, and a line feed

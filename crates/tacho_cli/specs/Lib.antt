@@ -3,5 +3,4 @@ pub mod Command
 pub mod Dump
 pub mod Holder
 pub mod Words
-pub mod Text
-pub mod Desk
+pub mod Office

@@ -5,10 +5,10 @@ ghost use Rattle.tacho_cli.specs.Command.{Leaves};
 ghost use Rattle.tacho_cli.specs.Dump.{IsDump, IsDumped, ReadsValue};
 ghost use Rattle.tacho_cli.specs.Holder.{IsHolder, IsHeld, card_holder, holder_line};
 
-use crate::fault::Fault;
 use crate::reply::{tell, tell_fault};
 use std::alloc::{AllocError, Global};
 use tacho_card::{CardFault, CardFile, Cyclic, spans_of};
+use tacho_desk::Fault;
 use tacho_sheet::push_byte;
 use tacho_time::{Sink, Source, Span, read_all, write_span};
 

@@ -2,13 +2,9 @@
 #![tactic(auto)]
 
 mod commands;
-mod desk;
-mod fault;
 mod job;
 mod office;
-mod readings;
 mod reply;
-mod text;
 mod words;
 
 pub use commands::{dump, holder};

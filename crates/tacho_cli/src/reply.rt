@@ -1,8 +1,12 @@
+ghost use Rattle.std.specs.Prelude.{◌≡◌};
 ghost use Rattle.tacho_cli.specs.Command.{Tells, TellsFault};
+ghost use Rattle.tacho_cli.specs.Fault.{told_status};
 
-use crate::fault::{Fault, status_of};
 use std::alloc::Global;
-use tacho_sheet::fault_line;
+use tacho_card::CardFault;
+use tacho_desk::Fault;
+use tacho_sheet::{Fault as ToldFault, SheetFault, fault_line};
+use tacho_state::StoreFault;
 use tacho_time::{Sink, write_all};
 
 /// Writes a text, and answers the status, or 3 where the writer failed.
@@ -27,5 +31,19 @@ pub(crate) fn tell_fault<W: Sink>(alloc: Global, writer: &mut W, fault: Fault) -
     match fault_line(alloc, told) {
         Ok(line) => tell(writer, line.as_bytes(), status_of(&told)),
         Err(_) => tell(writer, b"M1 no memory\n", 3),
+    }
+}
+
+/// The program's status after a refusal: 3 where memory or the store failed, or else 1.
+fn status_of(fault: &ToldFault) -> u8
+    ensures { result ≡ told_status fault.now }
+{
+    match fault {
+        ToldFault::Card(CardFault::Memory) => 3,
+        ToldFault::Store(StoreFault::Store) => 3,
+        ToldFault::Store(StoreFault::Memory) => 3,
+        ToldFault::Store(StoreFault::Card(CardFault::Memory)) => 3,
+        ToldFault::Sheet(SheetFault::Memory) => 3,
+        _ => 1,
     }
 }

@@ -1,7 +1,7 @@
 use Rattle.std.proofs.Common.{◌≡◌, ◌⊎◌, ◌↔◌, true, inl, List, ℕ, refl, ap, subst, sym, string_bytes, Err}
 use Rattle.tacho_time.specs.declared.whole.ReadFault.TheVariants as read
 use Rattle.tacho_card.specs.declared.fault.CardFault.TheVariants as card
-use Rattle.tacho_cli.specs.declared.fault.Fault.{Fault}
+use Rattle.tacho_desk.specs.declared.fault.Fault.{Fault}
 use Rattle.tacho_cli.specs.Command.{TellsFault}
 use Rattle.tacho_cli.specs.Dump.{IsDump, IsDumped, ReadsValue}
 use Rattle.tacho_cli.proofs.CommandLemmas.{replied, unread_leaves, refused, dumped, not_dumped}

@@ -1,7 +1,7 @@
 use Rattle.std.proofs.Common.{◌≡◌, ◌⊎◌, ◌↔◌, true, inl, List, ℕ, refl, ap, subst, Err}
 use Rattle.tacho_time.specs.declared.whole.ReadFault.TheVariants as read
 use Rattle.tacho_card.specs.declared.fault.CardFault.TheVariants as card
-use Rattle.tacho_cli.specs.declared.fault.Fault.{Fault}
+use Rattle.tacho_desk.specs.declared.fault.Fault.{Fault}
 use Rattle.tacho_cli.specs.Command.{TellsFault}
 use Rattle.tacho_cli.specs.Holder.{IsHolder, card_holder}
 use Rattle.tacho_cli.proofs.CommandLemmas.{unread_leaves, refused, not_held}

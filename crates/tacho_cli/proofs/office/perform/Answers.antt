@@ -1,8 +1,8 @@
 use Rattle.std.proofs.Common.{subst, List, ℕ}
 use Rattle.tacho_cli.specs.Command.{Tells}
-use Rattle.tacho_cli.specs.Desk.{Performs}
-use Rattle.tacho_cli.specs.Text.{text_bytes}
-use Rattle.tacho_cli.proofs.DeskLemmas.{told_fault, told_text}
+use Rattle.tacho_desk.specs.Told.{told_of}
+use Rattle.tacho_cli.specs.Office.{Performs}
+use Rattle.tacho_cli.proofs.OfficeLemmas.{told_fault, told_text}
 use Rattle.tacho_cli.proofs.office.perform.Goals as goal
 
 pub returns-in-Ok-clause-performed : goal.returns-in-Ok-clause-performed
@@ -11,7 +11,7 @@ returns-in-Ok-clause-performed g c clean s stands =
     let old = g.W.Sink.written c.args.writer.now in
     let new = g.W.Sink.written c.tell.new.writer in
     told_text (g.K.Keeper.stands c.answer.new.keeper) s (λ input. Performs c.args.job input s) (g.R.Source.unread c.args.reader.now) (g.R.Source.has_failed c.answer.new.reader)
-    failed old new c.tell.result (text_bytes c.in-Ok.text) (c.in-Ok.ensures.answered clean s stands)
+    failed old new c.tell.result (told_of c.in-Ok.text) (c.in-Ok.ensures.answered clean s stands)
     (subst (λ (text : List ℕ). Tells failed old new (record { text = text; status = 0 }) c.tell.result) c.bytes.ensures c.tell.ensures)
 
 pub returns-in-Err-clause-performed : goal.returns-in-Err-clause-performed

@@ -1,0 +1,3 @@
+mod StepLemmas
+mod ServeLemmas
+mod ShownLemmas

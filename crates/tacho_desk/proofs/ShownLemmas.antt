@@ -1,0 +1,71 @@
+-- The texts of a driver, by what was read of him.
+use Rattle.std.proofs.Common.{◌≡◌, ℕ, ◌*◌, List, Option, Some, None, Result, Ok, sym, subst}
+use Rattle.std.specs.Prelude.{IfSome}
+use Rattle.tacho_time.specs.declared.span.Mark.{Mark}
+use Rattle.tacho_time.specs.declared.span.Span.{Span}
+use Rattle.tacho_line.specs.Line.{mark_at, AgreeWithin}
+use Rattle.tacho_rules.specs.Report.{IsReport}
+use Rattle.tacho_rules.specs.declared.found.Report.{Report}
+use Rattle.tacho_state.specs.Reported.{IsHeldWithin, IsReportOf}
+use Rattle.tacho_state.specs.State.{Driver, State, driver_of, held_mark, held_spans}
+use Rattle.tacho_state.specs.Steps.{lined, named, reported, told_of}
+use Rattle.tacho_state.specs.declared.fault.StoreFault.{StoreFault}
+use Rattle.tacho_sheet.specs.Reports.{AgreeIn, AreBounds, IsGapText, IsMonthSheet, IsSpanCsv}
+use Rattle.tacho_sheet.proofs.MarkLemmas.{gap_text_same, month_sheet_same, span_csv_same}
+use Rattle.tacho_desk.specs.Doing.{IsTextOf}
+use Rattle.tacho_desk.specs.Tasks.{OfReport}
+use Rattle.tacho_desk.specs.Told.{Long}
+
+-- a line that is told of a driver has the marks that he holds
+abbrev told_marks : (ℕ → Option Mark) → Result (ℕ → Option Mark) StoreFault
+told_marks marks = Ok marks
+
+same_marks : (d : Driver) (line : List Span) → told_marks (held_mark d) ≡ told_marks (mark_at line) → mark_at line ≡ mark_at (held_spans d)
+same_marks d line e = let same : mark_at (held_spans d) ≡ mark_at line = cc in sym same
+
+-- lines that agree between the bounds of a month agree in it
+agree_in : (month start past : ℕ) (a b : List Span) → AreBounds month start past → AgreeWithin start past a b → AgreeIn month a b
+agree_in month start past a b bounds e first end others =
+    let same_start : start ≡ first = let x = bounds.first in let y = others.first in cc in
+    let same_end : past ≡ end = let x = bounds.end in let y = others.end in cc in
+    subst (λ (m : ℕ). AgreeWithin m end a b) same_start (subst (λ (m : ℕ). AgreeWithin start m a b) same_end e)
+
+-- a text of a line with the marks of a month is one of what the driver holds
+module _ (month start past : ℕ) (bounds : AreBounds month start past) where
+  month_shown : (Is : List Span → List ℕ → Type 0) → ((a b : List Span) (text : List ℕ) → AgreeIn month a b → Is a text → Is b text)
+      → (o : Option Driver) (line : List Span) (text : List ℕ) → told_of {A = Unit {0}} (λ d. Ok tt) o ≡ Ok tt
+      → IfSome o (λ d. AgreeWithin start past line (held_spans d)) → Is line text → IsTextOf (λ d. Is (held_spans d)) o (Ok (Long text))
+  month_shown Is same None line text e within is = cc
+  month_shown Is same (Some d) line text e within is =
+      same line (held_spans d) text (agree_in month start past line (held_spans d) bounds within) is
+
+  pub spans_shown : (n : ℕ) (s : State) (line : List Span) (text : List ℕ) → reported n s ≡ Ok tt → IsHeldWithin n start past s line
+      → IsSpanCsv line month text → IsTextOf (λ d. IsSpanCsv (held_spans d) month) (driver_of n s) (Ok (Long text))
+  spans_shown n s line text = month_shown (λ line. IsSpanCsv line month) (λ a b. span_csv_same a b month) (driver_of n s) line text
+
+  pub gaps_shown : (n : ℕ) (s : State) (line : List Span) (text : List ℕ) → reported n s ≡ Ok tt → IsHeldWithin n start past s line
+      → IsGapText line month text → IsTextOf (λ d. IsGapText (held_spans d) month) (driver_of n s) (Ok (Long text))
+  gaps_shown n s line text = month_shown (λ line. IsGapText line month) (λ a b. gap_text_same a b month) (driver_of n s) line text
+
+-- the sheet of his name, of the line and of the report is the driver's
+sheet_of : (n month : ℕ) (o : Option Driver) (name : List ℕ) (line : List Span) (report : Report) (text : List ℕ)
+    → told_of (λ d. Ok d.name) o ≡ Ok name → told_of (λ d. Ok (held_mark d)) o ≡ Ok (mark_at line)
+    → IfSome o (λ d. IsReport (held_spans d) (1440 * d.base) report.horizon report.breaches.items report.debts.items)
+    → IsMonthSheet n name line report.breaches.items report.horizon month text
+    → IsTextOf (λ d. OfReport (λ breaches debts horizon. IsMonthSheet n d.name (held_spans d) breaches horizon month) d) o (Ok (Long text))
+sheet_of n month None name line report text named lined r is = cc
+sheet_of n month (Some d) name line report text named lined r is =
+    let his : name ≡ d.name = cc in (
+      report.horizon,
+      report.breaches.items,
+      report.debts.items,
+      r,
+      month_sheet_same n d.name line (held_spans d) report.breaches.items report.horizon month text (same_marks d line lined)
+          (subst (λ (name : List ℕ). IsMonthSheet n name line report.breaches.items report.horizon month text) his is),
+    )
+
+pub sheet_shown : (n month : ℕ) (s : State) (name : List ℕ) (line : List Span) (report : Report) (text : List ℕ)
+    → named n s ≡ Ok name → lined n s ≡ Ok (mark_at line) → IsReportOf n s report
+    → IsMonthSheet n name line report.breaches.items report.horizon month text
+    → IsTextOf (λ d. OfReport (λ breaches debts horizon. IsMonthSheet n d.name (held_spans d) breaches horizon month) d) (driver_of n s) (Ok (Long text))
+sheet_shown n month s name line report text = sheet_of n month (driver_of n s) name line report text

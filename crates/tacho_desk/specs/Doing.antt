@@ -1,0 +1,63 @@
+-- What is wanted of a task: what it tells, or its fault, and the state of the archive after it.
+use Rattle.std.specs.Prelude.{◌≡◌, ◌⊎◌, ◌∷◌, List, Option, None, Some, Result, Ok, Err, ℕ}
+use Rattle.tacho_state.specs.declared.fault.StoreFault.{StoreFault}
+use Rattle.tacho_state.specs.declared.fault.StoreFault.TheVariants as store
+use Rattle.tacho_state.specs.State.{Driver, State, driver_of}
+use Rattle.tacho_state.specs.Steps.{Turn}
+use Rattle.tacho_desk.specs.declared.fault.Fault.{Fault}
+use Rattle.tacho_desk.specs.Fault.{IsGivenUp, store_fault}
+use Rattle.tacho_desk.specs.Told.{Answer, Told, Long}
+
+-- the answer, and the state after it
+abbrev pub Doing : Type 1
+Doing = Answer → State → Type 0
+
+-- the fault is answered, and nothing changes
+abbrev pub Refuses : Fault → State → Doing
+Refuses f s answer after = (answer ≡ Err f) × (after ≡ s)
+
+-- what the archive answered, in these words
+abbrev pub in_words : {A : Type 0} → (A → Told) → Result A StoreFault → Answer
+in_words words (Ok x) = Ok (words x)
+in_words words (Err f) = Err (store_fault f)
+
+-- a step of the archive, its answer in these words; a step that is refused leaves the state before
+abbrev pub Steps : {A : Type 0} → (A → Told) → Turn A → Doing
+Steps words turn answer after = (answer ≡ in_words words turn.answer) × (after ≡ turn.after)
+
+-- what a reading answered, in these words; the state stays
+abbrev pub Lists : {A : Type 0} → (A → Told) → State → Result A StoreFault → Doing
+Lists words s read answer after = (answer ≡ in_words words read) × (after ≡ s)
+
+-- the answer is a text that is so
+abbrev pub IsText : (List ℕ → Type 0) → Answer → Type 0
+IsText Is (Ok (Long text)) = Is text
+IsText Is answer = ⊥
+
+-- a text of the driver, if there is one: S4
+abbrev pub IsTextOf : (Driver → List ℕ → Type 0) → Option Driver → Answer → Type 0
+IsTextOf Is None answer = answer ≡ Err (store_fault store.UnknownDriver)
+IsTextOf Is (Some d) answer = IsText (Is d) answer
+
+-- a text of the driver with the number; the state stays
+abbrev pub Shows : (Driver → List ℕ → Type 0) → ℕ → State → Doing
+Shows Is n s answer after = IsTextOf Is (driver_of n s) answer × (after ≡ s)
+
+-- ---- what is left
+
+-- The answer is wanted, and the state after it stands; or it was given up, and the state before stands. A refusal changes
+-- nothing.
+abbrev pub Done : (State → Type 0) → State → Doing → Answer → Type 0
+Done stands s Does (Ok told) = (after : State) × stands after × Does (Ok told) after
+Done stands s Does (Err f) = stands s × (Does (Err f) s ⊎ IsGivenUp f)
+
+-- a stop leaves what could be left before, or also the state after some answer that is wanted
+abbrev pub Stops : (List State → Type 0) → List State → Doing → Type 0
+Stops leaves past Does = leaves past ⊎ ((answer : Answer) × (after : State) × Does answer after × leaves (after ∷ past))
+
+-- A call does what is wanted at the archive, which has not become clean by it.
+pub record Serves {K : Type 0} (stands : K → State → Type 0) (is_clean is_live : K → Type 0) (leaves : K → List State → Type 0)
+    (old new : K) (answer : Answer) (Does : State → Doing) : Type 0 where
+  pub clean : is_clean new → is_clean old
+  pub done : is_clean new → (s : State) → stands old s → Done (stands new) s (Does s) answer
+  pub crash : is_clean new → is_live old → (s : State) (past : List State) → stands old s → leaves old past → Stops (leaves new) past (Does s)

@@ -1,0 +1,42 @@
+-- The fault of a task, by what refused it.
+use Rattle.tacho_card.specs.declared.fault.CardFault.{CardFault}
+use Rattle.tacho_card.specs.declared.fault.CardFault.TheVariants as card
+use Rattle.tacho_time.specs.declared.fault.TimeFault.{TimeFault}
+use Rattle.tacho_time.specs.declared.whole.ReadFault.{ReadFault}
+use Rattle.tacho_time.specs.declared.whole.ReadFault.TheVariants as read
+use Rattle.tacho_state.specs.declared.fault.StoreFault.{StoreFault}
+use Rattle.tacho_state.specs.declared.fault.StoreFault.TheVariants as store
+use Rattle.tacho_sheet.specs.declared.fault.Fault.TheVariants as told
+use Rattle.tacho_sheet.specs.declared.fault.SheetFault.{SheetFault}
+use Rattle.tacho_sheet.specs.declared.fault.SheetFault.TheVariants as sheet
+use Rattle.tacho_desk.specs.declared.fault.Fault.{Fault}
+use Rattle.tacho_desk.specs.declared.fault.Fault.TheVariants as fault
+
+-- why an input was not read
+abbrev pub read_fault : ReadFault → Fault
+read_fault read.TooLarge = fault.Told told.TooLarge
+read_fault read.Failed = fault.Device
+read_fault read.Memory = fault.Memory
+
+-- the fault of a card, of an archive, of a text of CSV, of a date
+abbrev pub card_fault : CardFault → Fault
+card_fault card.Memory = fault.Memory
+card_fault f = fault.Told (told.Card f)
+
+abbrev pub store_fault : StoreFault → Fault
+store_fault store.Memory = fault.Memory
+store_fault f = fault.Told (told.Store f)
+
+abbrev pub sheet_fault : SheetFault → Fault
+sheet_fault sheet.Memory = fault.Memory
+sheet_fault f = fault.Told (told.Sheet f)
+
+abbrev pub time_fault : TimeFault → Fault
+time_fault f = fault.Told (told.Time f)
+
+-- memory, the store or the reader of CSV failed
+abbrev pub IsGivenUp : Fault → Type 0
+IsGivenUp fault.Memory = Unit {0}
+IsGivenUp (fault.Told (told.Store store.Store)) = Unit {0}
+IsGivenUp (fault.Told (told.Sheet sheet.Csv)) = Unit {0}
+IsGivenUp f = ⊥

@@ -1,0 +1,5 @@
+pub mod Fault
+pub mod Told
+pub mod Doing
+pub mod Tasks
+pub mod Words

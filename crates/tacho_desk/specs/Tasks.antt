@@ -1,0 +1,120 @@
+-- What each task tells of an archive, and the state after it.
+use Rattle.std.specs.Prelude.{◌≡◌, ℕ, ◌*◌, ◌==◌, List, Result, Ok, Err, Bool, true, false, codes, flat_map, if◌then◌else◌, length}
+use Rattle.tacho_line.specs.declared.horizon.Horizon.{Horizon}
+use Rattle.tacho_card.specs.declared.fault.CardFault.{CardFault}
+use Rattle.tacho_card.specs.declared.file.Part.{Part}
+use Rattle.tacho_hours.specs.declared.report.Breach.{Breach}
+use Rattle.tacho_hours.specs.declared.report.Debt.{Debt}
+use Rattle.tacho_rules.specs.Report.{IsReport}
+use Rattle.tacho_state.specs.Acts.{caller_number}
+use Rattle.tacho_state.specs.Batch.{batch_of}
+use Rattle.tacho_state.specs.Content.{Tells as FileTells, part_number}
+use Rattle.tacho_state.specs.Registration.{Registration}
+use Rattle.tacho_state.specs.State.{Driver, State, held_spans}
+use Rattle.tacho_state.specs.Steps.{Content, registered, imported, entered, withdrawn, rebased, listed, downloaded}
+use Rattle.tacho_state.specs.declared.caller.Caller.{Caller}
+use Rattle.tacho_state.specs.declared.imported.Imported.{Imported}
+use Rattle.tacho_state.specs.declared.imported.Imported.TheVariants as imported
+use Rattle.tacho_sheet.specs.declared.fault.SheetFault.{SheetFault}
+use Rattle.tacho_sheet.specs.Done.{base_line, entered_text, imported_text, number_line}
+use Rattle.tacho_sheet.specs.Driver.{IsDriverRead}
+use Rattle.tacho_sheet.specs.Entries.{IsRead, Lines}
+use Rattle.tacho_sheet.specs.Reports.{breach_text, owed_text, IsGapText, IsMonthSheet, IsSpanCsv}
+use Rattle.tacho_sheet.specs.Text.{entry_line}
+use Rattle.tacho_desk.specs.Doing.{Doing, Lists, Refuses, Shows, Steps}
+use Rattle.tacho_desk.specs.Fault.{sheet_fault}
+use Rattle.tacho_desk.specs.Told.{Told, Added, Line, Long, File}
+use Rattle.tacho_desk.specs.declared.task.Task.{Task}
+use Rattle.tacho_desk.specs.declared.task.Task.TheVariants as task
+
+-- ---- commands
+
+-- E1, E2 or E9, or the step of the registration
+abbrev pub RegistersRead : State → Result Registration SheetFault → Doing
+RegistersRead s (Err f) = Refuses (sheet_fault f) s
+RegistersRead s (Ok r) = Steps (λ _. Added (number_line (codes "registered ") r.number)) (registered r.number r.holder r.key r.base r.name s)
+
+abbrev pub Registers : List ℕ → State → Doing
+Registers input s answer after = (read : Result Registration SheetFault) × IsDriverRead input read × RegistersRead s read answer after
+
+-- a file that was kept, or one that was there
+abbrev pub imported_told : Imported → Told
+imported_told (imported.Added driver number) = Added (imported_text (imported.Added driver number))
+imported_told (imported.Repeated driver) = Line (imported_text (imported.Repeated driver))
+
+-- the step of an import by a caller
+abbrev pub Imports : Caller → Part → List ℕ → State → Doing
+Imports caller p input s answer after =
+    (content : Result Content CardFault) × FileTells p input content
+    × Steps imported_told (imported (caller_number caller) (part_number p) input content s) answer after
+
+-- the entries of a batch that was not empty, or none
+abbrev pub entered_told : ℕ → ℕ → Told
+entered_told first count = if count == 0 then Line (entered_text first count) else Added (entered_text first count)
+
+-- one of E1 to E8, or the step of the batch
+abbrev pub EntersRead : ℕ → State → Lines → Doing
+EntersRead n s (Err f) = Refuses (sheet_fault f) s
+EntersRead n s (Ok lines) = Steps (λ first. entered_told first (length lines)) (entered n (batch_of lines) s)
+
+abbrev pub Enters : ℕ → List ℕ → State → Doing
+Enters n input s answer after = (read : Lines) × IsRead input read × EntersRead n s read answer after
+
+abbrev pub Withdraws : ℕ → ℕ → State → Doing
+Withdraws n number s = Steps (λ _. Line (number_line (codes "withdrawn ") number)) (withdrawn n number s)
+
+abbrev pub Rebases : ℕ → ℕ → State → Doing
+Rebases n day s = Steps (λ _. Line (base_line day)) (rebased n day s)
+
+-- ---- readings
+
+-- a text of the report of what the driver holds, from his base on
+abbrev pub OfReport : (List Breach → List Debt → Horizon → List ℕ → Type 0) → Driver → List ℕ → Type 0
+OfReport Is d text =
+    (horizon : Horizon) × (breaches : List Breach) × (debts : List Debt) × IsReport (held_spans d) (1440 * d.base) horizon breaches debts
+    × Is breaches debts horizon text
+
+abbrev pub ShowsSpans : ℕ → ℕ → State → Doing
+ShowsSpans month = Shows (λ d. IsSpanCsv (held_spans d) month)
+
+abbrev pub ShowsGaps : ℕ → ℕ → State → Doing
+ShowsGaps month = Shows (λ d. IsGapText (held_spans d) month)
+
+abbrev pub ShowsSheet : ℕ → ℕ → State → Doing
+ShowsSheet month n = Shows (λ d. OfReport (λ breaches debts horizon. IsMonthSheet n d.name (held_spans d) breaches horizon month) d) n
+
+abbrev pub ShowsBreaches : ℕ → State → Doing
+ShowsBreaches = Shows (OfReport (λ breaches debts horizon text. text ≡ breach_text breaches horizon))
+
+abbrev pub ShowsOwed : ℕ → State → Doing
+ShowsOwed = Shows (OfReport (λ breaches debts horizon text. text ≡ owed_text debts horizon))
+
+abbrev pub ShowsEntries : ℕ → State → Doing
+ShowsEntries n s = Lists (λ entries. Long (flat_map entry_line entries)) s (listed n s)
+
+abbrev pub ShowsFile : ℕ → ℕ → State → Doing
+ShowsFile n number s = Lists (λ file. File file) s (downloaded n number s)
+
+-- ---- tasks
+
+-- a task that has an input
+abbrev pub takes_input : Task → Bool
+takes_input task.Register = true
+takes_input (task.Import caller part) = true
+takes_input (task.Enter driver) = true
+takes_input other = false
+
+-- what is wanted of a task, over its input
+abbrev pub Does : Task → List ℕ → State → Doing
+Does task.Register input s = Registers input s
+Does (task.Import caller part) input s = Imports caller part input s
+Does (task.Enter n) input s = Enters n input s
+Does (task.Withdraw n number) input s = Withdraws n number s
+Does (task.Base n day) input s = Rebases n day s
+Does (task.Spans n month) input s = ShowsSpans month n s
+Does (task.Gaps n month) input s = ShowsGaps month n s
+Does (task.Sheet n month) input s = ShowsSheet month n s
+Does (task.Breaches n) input s = ShowsBreaches n s
+Does (task.Owed n) input s = ShowsOwed n s
+Does (task.Entries n) input s = ShowsEntries n s
+Does (task.File n number) input s = ShowsFile n number s

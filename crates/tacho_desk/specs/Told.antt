@@ -1,0 +1,33 @@
+-- What is told of a task that was done.
+use Rattle.std.specs.Prelude.{ℕ, List, Result, Ok, Err, string_bytes}
+use Rattle.tacho_desk.specs.declared.fault.Fault.{Fault}
+use Rattle.tacho_desk.specs.declared.text.Text.{Text}
+use Rattle.tacho_desk.specs.declared.text.Text.TheVariants as text
+
+-- a line of a command that added something, or of one that didn't; a text; the bytes of a file
+pub data Told : Type 0 where
+  Added : List ℕ → Told
+  Line : List ℕ → Told
+  Long : List ℕ → Told
+  File : List ℕ → Told
+
+-- the bytes that are written
+abbrev pub bytes_of : Told → List ℕ
+bytes_of (Added line) = line
+bytes_of (Line line) = line
+bytes_of (Long text) = text
+bytes_of (File bytes) = bytes
+
+abbrev pub told_of : Text → Told
+told_of (text.Added line) = Added line.items
+told_of (text.Line line) = Line line.items
+told_of (text.Long string) = Long (string_bytes string)
+told_of (text.File bytes) = File bytes.items
+
+-- what is told, or why nothing is
+abbrev pub Answer : Type 0
+Answer = Result Told Fault
+
+abbrev pub answer_of : Result Text Fault → Answer
+answer_of (Ok text) = Ok (told_of text)
+answer_of (Err f) = Err f

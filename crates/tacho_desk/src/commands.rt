@@ -1,0 +1,123 @@
+//! The commands, over their numbers and their input.
+
+ghost use Rattle.std.specs.Prelude.{◌≡◌, Ok};
+ghost use Rattle.tacho_state.specs.Batch.{IsBatch};
+ghost use Rattle.tacho_desk.specs.Doing.{Serves};
+ghost use Rattle.tacho_desk.specs.Tasks.{Enters, EntersRead, Imports, Rebases, Registers, RegistersRead, Withdraws, entered_told, imported_told};
+ghost use Rattle.tacho_desk.specs.Told.{answer_of, told_of};
+
+use crate::fault::Fault;
+use crate::text::Text;
+use std::alloc::Global;
+use tacho_card::Part;
+use tacho_sheet::{
+    base_line, entered_line, imported_line, read_driver, read_entries, registered_line,
+    withdrawn_line,
+};
+use tacho_state::{Caller, Driver, Entered, EntryLine, Imported, Keeper};
+use tacho_time::Day;
+
+/// Adds the driver of a text of CSV.
+pub(crate) fn register<K: Keeper>(
+    alloc: Global,
+    keeper: &mut K,
+    input: &[u8],
+) -> Result<Text, Fault>
+    ensures { Serves K.stands K.is_clean K.is_live K.leaves keeper.old keeper.new (answer_of result) (Registers input.now) }
+{
+    let driver = read_driver(alloc, input)?;
+    register_driver(keeper, &driver)
+}
+
+/// Adds a driver.
+fn register_driver<K: Keeper>(keeper: &mut K, driver: &Driver) -> Result<Text, Fault>
+    ensures { Serves K.stands K.is_clean K.is_live K.leaves keeper.old keeper.new (answer_of result) (λ s. RegistersRead s (Ok driver.now)) }
+{
+    keeper.register(driver)?;
+    Ok(Text::Added(registered_line(driver.number())))
+}
+
+/// Keeps a card file.
+pub(crate) fn import<K: Keeper>(
+    alloc: Global,
+    keeper: &mut K,
+    caller: Caller,
+    part: Part,
+    input: &[u8],
+) -> Result<Text, Fault>
+    ensures { Serves K.stands K.is_clean K.is_live K.leaves keeper.old keeper.new (answer_of result) (Imports caller part input.now) }
+{
+    let imported = keeper.import(alloc, caller, part, input)?;
+    Ok(imported_text(imported))
+}
+
+/// The line of an import, by whether the file was kept or was there.
+fn imported_text(imported: Imported) -> Text
+    ensures { told_of result ≡ imported_told imported }
+{
+    let line = imported_line(imported);
+    match imported {
+        Imported::Added { .. } => Text::Added(line),
+        Imported::Repeated { .. } => Text::Line(line),
+    }
+}
+
+/// Enters the hours of a text of CSV.
+pub(crate) fn enter<K: Keeper>(
+    alloc: Global,
+    keeper: &mut K,
+    driver: u32,
+    input: &[u8],
+) -> Result<Text, Fault>
+    ensures { Serves K.stands K.is_clean K.is_live K.leaves keeper.old keeper.new (answer_of result) (Enters driver input.now) }
+{
+    let lines = read_entries(alloc, input)?;
+    enter_lines(alloc, keeper, driver, &lines)
+}
+
+/// Enters hours.
+fn enter_lines<K: Keeper>(
+    alloc: Global,
+    keeper: &mut K,
+    driver: u32,
+    lines: &[EntryLine],
+) -> Result<Text, Fault>
+    requires { IsBatch lines.now }
+    ensures { Serves K.stands K.is_clean K.is_live K.leaves keeper.old keeper.new (answer_of result) (λ s. EntersRead driver s (Ok lines.now)) }
+{
+    let entered = keeper.enter(alloc, driver, lines)?;
+    Ok(entered_text(entered))
+}
+
+/// The line of a batch, by whether it had hours.
+fn entered_text(entered: Entered) -> Text
+    ensures { told_of result ≡ entered_told entered.first entered.count }
+{
+    let line = entered_line(entered);
+    if entered.count == 0 {
+        Text::Line(line)
+    } else {
+        Text::Added(line)
+    }
+}
+
+/// Withdraws an entry.
+pub(crate) fn withdraw<K: Keeper>(
+    alloc: Global,
+    keeper: &mut K,
+    driver: u32,
+    number: u32,
+) -> Result<Text, Fault>
+    ensures { Serves K.stands K.is_clean K.is_live K.leaves keeper.old keeper.new (answer_of result) (Withdraws driver number) }
+{
+    keeper.withdraw(alloc, driver, number)?;
+    Ok(Text::Line(withdrawn_line(number)))
+}
+
+/// Sets the day from which a driver is examined.
+pub(crate) fn rebase<K: Keeper>(keeper: &mut K, driver: u32, day: Day) -> Result<Text, Fault>
+    ensures { Serves K.stands K.is_clean K.is_live K.leaves keeper.old keeper.new (answer_of result) (Rebases driver day) }
+{
+    keeper.rebase(driver, day)?;
+    Ok(Text::Line(base_line(day)))
+}

@@ -1,0 +1,31 @@
+use tacho_sheet::DoneLine;
+
+/// What a task tells where it was done.
+#[derive(Drop)]
+pub enum Text {
+    /// The line of a command that added a driver, a download or entries. It took no memory.
+    Added(DoneLine),
+    /// The line of a command that added nothing. It took no memory.
+    Line(DoneLine),
+    /// A text.
+    Long(String),
+    /// The bytes of a file.
+    File(Vec<u8>),
+}
+
+impl Text {
+    ghost use Rattle.std.specs.Prelude.{◌≡◌};
+    ghost use Rattle.tacho_desk.specs.Told.{bytes_of, told_of};
+
+    /// Its bytes.
+    pub fn bytes(&self) -> &[u8]
+        ensures { result.now ≡ bytes_of (told_of self.now) }
+    {
+        match self {
+            Text::Added(line) => line.as_slice(),
+            Text::Line(line) => line.as_slice(),
+            Text::Long(text) => text.as_bytes(),
+            Text::File(bytes) => bytes.as_slice(),
+        }
+    }
+}
