@@ -1,0 +1,40 @@
+-- The head of a request (RFC 9112, in the grammar of httparse): which one an input begins with, and why it has none.
+use Rattle.std.specs.Prelude.{◌<◌, ◌≤◌, ◌⊎◌, ℕ, List, length, take, ⊤}
+use Rattle.httparse.specs.Grammar.{RequestHead, print_request, ReadsRequest, HasNoRequest, NeverHasRequest, MayBecomeRequest}
+use Rattle.httparse.specs.Spans.{IsRequestAt, IsRequestWithin, RequestExceeds}
+use Rattle.httparse.specs.declared.spans.HeaderSpan.{HeaderSpan}
+use Rattle.httparse.specs.declared.spans.RequestSpans.{RequestSpans}
+use Rattle.tacho_message.specs.declared.head.HeadFault.{HeadFault}
+use Rattle.tacho_message.specs.declared.head.HeadFault.TheVariants.{Bad, TooLarge, Read}
+
+-- the input begins with this head, of at most so many bytes and fields
+pub record BeginsWith (limit room : ℕ) (input : List ℕ) (h : RequestHead) (rest : List ℕ) : Type 0 where
+  pub reads : ReadsRequest input h rest
+  pub size : length (print_request h) ≤ limit
+  pub fields : length h.fields ≤ room
+
+-- the input begins with no such head
+abbrev pub HasNoHead : ℕ → ℕ → List ℕ → Type 0
+HasNoHead limit room input = (h : RequestHead) (rest : List ℕ) → BeginsWith limit room input h rest → ⊥
+
+-- so many bytes came and more are wanted, or there are too many fields
+abbrev pub IsTooLarge : ℕ → ℕ → List ℕ → Type 0
+IsTooLarge limit room input =
+    ((limit ≤ length input) × HasNoRequest (take limit input) × MayBecomeRequest (take limit input))
+    ⊎ RequestExceeds room (take limit input)
+
+-- the input ended while more bytes are wanted, or none can make a head of it
+abbrev pub IsBad : ℕ → ℕ → List ℕ → Type 0
+IsBad limit room input =
+    ((length input < limit) × HasNoRequest input × MayBecomeRequest input)
+    ⊎ NeverHasRequest (take limit input)
+
+-- why a head is refused
+abbrev pub Refuses : ℕ → ℕ → List ℕ → HeadFault → Type 0
+Refuses limit room input Bad = HasNoHead limit room input × IsBad limit room input
+Refuses limit room input TooLarge = HasNoHead limit room input × IsTooLarge limit room input
+Refuses limit room input Read = ⊤
+
+-- the spans lie in the bytes, and are those of a head
+abbrev pub IsHeadAt : List ℕ → ℕ → List HeaderSpan → RequestSpans → Type 0
+IsHeadAt bytes room fields spans = IsRequestWithin bytes fields spans × ((h : RequestHead) × IsRequestAt bytes fields spans h)

@@ -1,0 +1,96 @@
+ghost use Rattle.std.specs.Prelude.{◌≡◌, ◌≤◌, ◌↔◌, ℕ, true, false, length, take, IfOk, IfErr, IfSome, IsErrOf};
+ghost use Rattle.std.specs.Io.KnownBytes.{Consumes};
+ghost use Rattle.tacho_message.specs.Head.{IsHeadAt, Refuses};
+ghost use Rattle.tacho_message.specs.Look.{IsLook};
+
+use httparse::Status;
+use httparse::spans::{HeaderSpan, RequestSpans, parse_request};
+use tacho_time::{Failed, Source};
+
+/// Why an input has no head.
+#[derive(Clone, Copy, Debug, PartialEq, Eq)]
+pub enum HeadFault {
+    /// 400: the input ended, or no bytes that follow can make a head of it.
+    Bad,
+    /// 431: there is no end of a head in as many bytes as there is room for, or there are more fields.
+    TooLarge,
+    /// The reader failed.
+    Read,
+}
+
+impl From<Failed> for HeadFault {
+    ghost use Rattle.tacho_message.specs.declared.head.HeadFault.{HeadFault};
+
+    ghost from_gives = { λ _ fault. fault ≡ HeadFault.Read };
+
+    fn from(_: Failed) -> HeadFault {
+        HeadFault::Read
+    }
+}
+
+/// What the bytes so far are.
+#[derive(Clone, Copy, Debug)]
+enum Look {
+    /// A head, and maybe bytes behind it.
+    Complete(RequestSpans),
+    /// The beginning of a head, or of none: more bytes tell.
+    More,
+    /// No bytes that follow make a head of them.
+    Never,
+    /// A head of more fields than there is room for.
+    TooMany,
+}
+
+/// Looks for a head at the front of bytes.
+fn look_at(bytes: &[u8], fields: &mut [HeaderSpan]) -> Look
+    ensures { IsLook bytes.now (length fields.old) fields.new result }
+{
+    match parse_request(bytes, fields) {
+        Ok(Status::Complete(spans)) => Look::Complete(spans),
+        Ok(Status::Partial) => Look::More,
+        Err(httparse::Error::TooManyHeaders) => Look::TooMany,
+        Err(_) => Look::Never,
+    }
+}
+
+/// Where the parts of a request's head lie in a buffer.
+#[derive(Clone, Copy, Debug)]
+pub struct Head {
+    /// Method, target, version and fields.
+    pub spans: RequestSpans,
+    /// How many bytes of the buffer were read: the head's, and maybe some behind it.
+    pub filled: usize,
+}
+
+/// Reads the head of a request into a buffer, its fields' places into another, and asks the reader for no more once the head is
+/// there. The lengths of the two are the most that a head may have. It takes no memory.
+pub fn read_head<R: Source>(
+    reader: &mut R,
+    buffer: &mut [u8],
+    fields: &mut [HeaderSpan],
+) -> Result<Head, HeadFault>
+    requires { R.has_failed reader.old ≡ false }
+    ensures filled { IfOk result (λ head. head.filled ≤ length buffer.new) }
+    ensures head { IfOk result (λ head. IsHeadAt (take head.filled buffer.new) (length fields.old) fields.new head.spans) }
+    ensures read { IfOk result (λ head. Consumes (R.unread reader.old) (R.unread reader.new) (take head.filled buffer.new)) }
+    ensures refused { IfErr result (λ fault. IfSome (R.unread reader.old) (λ input. Refuses (length buffer.old) (length fields.old) input fault)) }
+    ensures failed { IsErrOf result HeadFault.Read ↔ (R.has_failed reader.new ≡ true) }
+{
+    let mut filled = 0;
+    loop {
+        match look_at(&buffer[..filled], fields) {
+            Look::Complete(spans) => return Ok(Head { spans, filled }),
+            Look::TooMany => return Err(HeadFault::TooLarge),
+            Look::Never => return Err(HeadFault::Bad),
+            Look::More => {}
+        }
+        if filled == buffer.len() {
+            return Err(HeadFault::TooLarge);
+        }
+        let count = reader.take(&mut buffer[filled..])?;
+        if count == 0 {
+            return Err(HeadFault::Bad);
+        }
+        filled += count;
+    }
+}
