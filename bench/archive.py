@@ -1,10 +1,10 @@
 """Measures an archive beside stock SQLite, which makes the same rows of the same tables (stock.py).
 
-Each of the two is a running program that is told commands, a line each. The processor time that it has had is asked of
-the system before a command and after its answer, so that neither the opening of an archive nor what filled it counts;
-what the command `nothing` takes is taken out. Each time is the least of some rounds. Before the first measure a program
-registers a driver, imports a card of one day, and enters and withdraws hours, so that it has met each statement. At the
-end both files have to have the same tables."""
+Each of the two is a running program that is told commands, a line each, as tacho_script takes them. The processor time that it has
+had is asked of the system before a command and after its answer, so that neither the opening of an archive nor what filled it
+counts; what a command takes that is refused at its first word is taken out. Each time is the least of some rounds. Before the first
+measure a program registers a driver, imports a card of one day, and enters and withdraws hours, so that it has met each statement.
+At the end both files have to have the same tables."""
 import datetime
 import json
 import os
@@ -21,6 +21,7 @@ ROUNDS = 12
 SPARE, OLD, NEW = 999_999, 1, range(100, 110)  # the drivers of the one day, of ten years, and who are registered anew
 YEARS, DRIVERS = 10, 50
 ENTRIES, ENTERED = [10, 1_000, 10_000], 10  # entries that are there, and those that are entered and withdrawn
+BATCH = 5_000  # entries that a text has at the most, so that it isn't too large
 ARCHIVES = {  # beside each the one from which its growth is told
     "empty": "empty",
     "ten years": "empty",
@@ -31,6 +32,8 @@ ARCHIVES = {  # beside each the one from which its growth is told
     "ten years, 10000 entries": "ten years, 10 entries",
 }
 DAY, SHIFT, WORK = 1440, (480, 960), cards.mark_number(("work", ""))  # minutes of a day, an entry's hours, and its mark
+DONE, REFUSED, NO_COMMAND = "status 0\n", "status 1\n", "status 2\n"
+NOTHING = ("enter - 0", "N1 bad number\n" + REFUSED)  # what is taken out
 STOCK = [sys.executable, os.path.join(cards.TOP, "bench", "stock.py")]
 
 
@@ -41,44 +44,42 @@ class Program:
         self.words = words
         self.running = subprocess.Popen(words, stdin=subprocess.PIPE, stdout=subprocess.PIPE, text=True)
         self.clock = ~self.running.pid << 3 | 2  # the clock of its processor time, as clock_getcpuclockid(3) names it
-        self.wants("ready")
+        self.wants(DONE)
         self.start = time.clock_gettime_ns(self.clock) / 1e6  # what it took to be ready, in milliseconds
 
-    def wants(self, answer):
+    def answer(self):
+        """Its next answer: what it prints, and the line of its status."""
+        lines = []
+        while not lines or lines[-1] and not lines[-1].startswith("status "):
+            lines.append(self.running.stdout.readline())
+        return "".join(lines)
+
+    def wants(self, wanted):
         """Its next answer has to be this."""
-        given = self.running.stdout.readline()
-        if given != answer + "\n":
-            sys.exit(f"{self.words} answered {given!r} and not {answer!r}")
+        answer = self.answer()
+        if answer != wanted:
+            sys.exit(f"{self.words} answered {answer!r} and not {wanted!r}")
 
     def tell(self, command):
         """Tells it a command."""
         self.running.stdin.write(command + "\n")
         self.running.stdin.flush()
 
-    def time_of(self, command, answer):
+    def time_of(self, command, wanted):
         """Tells it a command that has this answer, and gives the processor time that it took, in milliseconds."""
         before = time.clock_gettime_ns(self.clock)
         self.tell(command)
-        self.wants(answer)
+        self.wants(wanted)
         return (time.clock_gettime_ns(self.clock) - before) / 1e6
-
-    def time_and_answer(self, command):
-        """Tells it a command, and gives the processor time that it took, in milliseconds, and the answer."""
-        before = time.clock_gettime_ns(self.clock)
-        self.tell(command)
-        answer = self.running.stdout.readline().rstrip("\n")
-        return (time.clock_gettime_ns(self.clock) - before) / 1e6, answer
 
     def time_of_last(self, commands):
         """Tells it commands, and gives the time of the last one."""
         return [self.time_of(*command) for command in commands][-1]
 
-    def end(self, answers):
-        """Ends it, after these answers more."""
+    def end(self):
+        """Ends it."""
         self.running.stdin.close()
-        for answer in answers:
-            self.wants(answer)
-        if self.running.wait():
+        if self.running.stdout.read() or self.running.wait():
             sys.exit(f"{self.words} failed")
 
 
@@ -95,35 +96,40 @@ class Files:
         self.year_rows = cards.rows_of(self.year)
         self.past = self.year_rows[-1][1] // DAY  # the day after it
 
-    def written(self, driver, file, rows):
-        """The path of a driver's card file of these rows."""
-        path = os.path.join(self.folder, f"{driver}-{rows[0][0]}.ddd")
-        file = cards.of_holder(file, driver)
-        with open(path, "wb") as written:
-            written.write(file)
-        with open(path + ".rows", "w", encoding="utf-8") as written:
-            json.dump({"driver": driver, "holder": cards.holder_of(file).hex(), "spans": rows}, written)
+    def written(self, name, content, rows):
+        """The path of a file with this content, beside which lies what an archive keeps of it."""
+        path = os.path.join(self.folder, name)
+        with open(path, "wb") as file:
+            file.write(content)
+        with open(path + ".rows", "w", encoding="utf-8") as file:
+            json.dump(rows, file)
         return path
+
+    def a_driver(self, driver):
+        """The path of a driver's registration."""
+        holder, key = cards.holder_of(cards.of_holder(self.day, driver)).hex(), f"driver-{driver}"
+        text = f"driver,holder,key,base,name\n{driver},{holder},{key},2000-01-03,Anna Berg\n"
+        return self.written(f"{driver}.csv", text.encode(), {"driver": driver, "holder": holder, "key": key})
+
+    def a_card(self, driver, file, rows):
+        """The path of a driver's card file of these rows."""
+        file = cards.of_holder(file, driver)
+        kept = {"driver": driver, "holder": cards.holder_of(file).hex(), "spans": rows}
+        return self.written(f"{driver}-{rows[0][0]}.ddd", file, kept)
 
     def a_year(self, driver, years=0):
         """The path of a driver's card of a year, so many years later than the example."""
-        return self.written(driver, cards.years_later(self.year, years), cards.rows_later(self.year_rows, years))
+        return self.a_card(driver, cards.years_later(self.year, years), cards.rows_later(self.year_rows, years))
 
     def a_day(self, driver):
         """The path of a driver's card of a day."""
-        return self.written(driver, self.day, cards.rows_of(self.day))
+        return self.a_card(driver, self.day, cards.rows_of(self.day))
 
     def sheet(self, first, count):
         """The path of a text of hours: a shift of work on each of so many days, from a first one on."""
-        path = os.path.join(self.folder, f"{first}-{count}.csv")
         rows = [(*(day * DAY + minute for minute in SHIFT), WORK) for day in range(first, first + count)]
-        with open(path, "w", encoding="utf-8") as written:
-            written.write("start,past,activity\n")
-            for start, past, _ in rows:
-                written.write(f"{time_text(start)},{time_text(past)},work\n")
-        with open(path + ".rows", "w", encoding="utf-8") as written:
-            json.dump({"spans": rows}, written)
-        return path
+        lines = [f"{time_text(start)},{time_text(past)},work\n" for start, past, _ in rows]
+        return self.written(f"{first}-{count}.csv", "".join(["start,past,activity\n", *lines]).encode(), {"spans": rows})
 
 
 def time_text(minute):
@@ -131,39 +137,54 @@ def time_text(minute):
     return f"{datetime.datetime(1970, 1, 1) + datetime.timedelta(minutes=minute):%Y-%m-%d %H:%M}"
 
 
+def reading(words, path, text):
+    """A command that reads a file, which is done. Before it comes a line that has the file and no archive: by this the program of stock
+    SQLite learns the rows."""
+    name = words.split()[0]
+    return [(f"{name} < {path}", NO_COMMAND), (f"{words} < {path}", text + DONE)]
+
+
 def registering(driver, path):
-    return [(f"card {path}", f"card {path}"), (f"register {driver}", f"registered {driver}")]
+    return reading("register -", path, f"registered {driver}\n")
 
 
 def importing(driver, number, path):
-    return [(f"card {path}", f"card {path}"), ("import", f"added {driver} {number}")]
+    return reading("import - both", path, f"added driver {driver} number {number}\n")
 
 
 def entering(driver, first, count, path):
-    return [(f"sheet {path}", f"sheet {path}"), (f"enter {driver}", f"entered {first} {count}")]
+    return reading(f"enter - {driver}", path, f"entered {first} to {first + count - 1}\n")
+
+
+def entering_many(files, count):
+    """So many entries of a day each, after the days of the cards."""
+    commands = []
+    for first in range(1, count + 1, BATCH):
+        days = min(BATCH, count + 1 - first)
+        commands += entering(OLD, first, days, files.sheet(files.past + first - 1, days))
+    return commands
 
 
 def withdrawing(driver, number):
-    return [(f"withdraw {driver} {number}", "withdrawn")]
+    return [(f"withdraw - {driver} {number}", f"withdrawn {number}\n" + DONE)]
 
 
 def filling(files):
-    """What fills each archive. Its entries are of the days after the cards'."""
-    alone = registering(OLD, files.a_year(OLD))
+    """What fills each archive."""
+    alone = registering(OLD, files.a_driver(OLD))
     years = list(alone)
     for number in range(1, YEARS + 1):
         years += importing(OLD, number, files.a_year(OLD, number - 1 - YEARS))
     drivers = []
     for driver in range(1, DRIVERS + 1):
-        path = files.a_year(driver)
-        drivers += registering(driver, path) + importing(driver, 1, path)
-    entries = [entering(OLD, 1, count, files.sheet(files.past, count)) for count in ENTRIES]
+        drivers += registering(driver, files.a_driver(driver)) + importing(driver, 1, files.a_year(driver))
+    entries = [entering_many(files, count) for count in ENTRIES]
     return dict(zip(ARCHIVES, [[], years, drivers, alone + entries[0], *(years + entered for entered in entries)]))
 
 
 def measuring(files):
     """What is measured in each archive, as often as it is there: of each list of commands the last one."""
-    registers = [registering(driver, files.a_year(driver)) for driver in NEW]
+    registers = [registering(driver, files.a_driver(driver)) for driver in NEW]
     first = importing(NEW[0], 1, files.a_year(NEW[0]))
     next_year = importing(OLD, YEARS + 1, files.a_year(OLD))
     works = [{"register": registers, "import": [work]} for work in (first, next_year, first)]
@@ -186,10 +207,10 @@ def make_files(sides, fills, folder):
     """Makes the file of each archive, by each side."""
     for side, words in sides.items():
         for name, fill in fills.items():
-            program = Program([*words, "make", path_of(folder, side, name)])
+            program = Program([*words, "archive", path_of(folder, side, name)])
             for command in fill:
                 program.time_of(*command)
-            program.end(["closed"])
+            program.end()
 
 
 def copied(folder, side, name):
@@ -204,7 +225,7 @@ def copied(folder, side, name):
 def begun(words, place, fill, path):
     """A program with a filled archive: in memory it is filled first, in a file it is there."""
     if place == "file":
-        return Program([*words, "open", path])
+        return Program([*words, "archive", path])
     program = Program([*words, "memory"])
     for command in fill:
         program.time_of(*command)
@@ -215,7 +236,7 @@ def times_of(program, warm, works):
     """The time of a program's start, the median one of each work, and that of a command which is nothing but a command.
     No least one: of a short work the system at times counts nothing where the machine is a virtual one."""
     program.time_of_last(warm)
-    works = {"nothing": [[("nothing", "nothing")] for _ in NEW], **works}
+    works = {"nothing": [[NOTHING] for _ in NEW], **works}
     return {"start": program.start, **{work: median(map(program.time_of_last, times)) for work, times in works.items()}}
 
 
@@ -249,7 +270,7 @@ def measured(sides, place, folder, fills, works, warm):
                 path = copied(folder, side, name) if place == "file" else None
                 program = begun(words, place, fills[name], path)
                 found[side][name] = least(found[side][name], times_of(program, warm, works[name]))
-                program.end(["closed"] if place == "file" else [])
+                program.end()
             if place == "file":
                 compare(folder, name)
     return found
@@ -257,10 +278,10 @@ def measured(sides, place, folder, fills, works, warm):
 
 def settings(folder):
     """The settings of stock SQLite."""
-    program = Program([*STOCK, "open", copied(folder, "stock", "empty")])
+    program = Program([*STOCK, "archive", copied(folder, "stock", "empty")])
     program.tell("settings")
-    told = program.running.stdout.readline().rstrip("\n")
-    program.end(["closed"])
+    told = program.answer().split("\n")[0]
+    program.end()
     return told
 
 
@@ -279,15 +300,14 @@ def archives(folder, program):
     """Measures the program with archives, and stock SQLite."""
     sides, files = {"tacho": [program], "stock": STOCK}, Files(folder)
     fills, works = filling(files), measuring(files)
-    card = files.a_day(SPARE)
-    warm = registering(SPARE, card) + importing(SPARE, 1, card)
+    warm = registering(SPARE, files.a_driver(SPARE)) + importing(SPARE, 1, files.a_day(SPARE))
     warm += entering(SPARE, 1, 1, files.sheet(files.past, 1)) + withdrawing(SPARE, 1)
     make_files(sides, fills, folder)
     print(f"an archive: processor time in ms, the least of {ROUNDS} rounds, and its growth")
     print(f"an import is of a year, {len(files.year_rows)} spans, by the office; ten years of that driver, or a year of fifty others")
     print("enter is of one entry of eight hours, and withdraw of it, for a driver with other entries, and ten years or no cards")
     print("the growth is from the empty archive on, from no cards on to 10 entries with ten years, and from these on to more")
-    print("a file of the archive's SQLite: journal_mode wal, synchronous 2, one process, cache of 2000 pages, log of 1000 frames")
+    print("a file of the archive's SQLite, with sums of its pages: journal_mode wal, synchronous 2, one process, cache of 2000 pages, log of 1000 frames")
     print(f"a file of stock SQLite {sqlite3.sqlite_version}, by Python: {settings(folder)}")
     print(f"{'':43} {'tacho':>8} {'stock':>8} {'ratio':>6} {'tacho':>7} {'stock':>7}")
     for place in ("memory", "file"):

@@ -2,9 +2,8 @@
 
 An archive has so many drivers, each with card files of so many years; tacho_script fills it, in one process. What a start and
 the opening of the archive take is measured by the program with a number that is refused when the archive is open. The commands
-are measured behind an opening: tacho_script does each job on an archive that it has opened, and what the command `nothing` takes
-is taken out. It has to write as many bytes as the program. Each time is the least of some rounds, in which the commands take
-turns."""
+are measured behind an opening: tacho_script does each of them on an archive that it has opened, and has to print what the program
+prints. Each time is the least of some rounds, in which the commands take turns."""
 import datetime
 import os
 import resource
@@ -12,7 +11,7 @@ import subprocess
 import sys
 
 import cards
-from archive import Program
+from archive import DONE, Program
 
 ROUNDS, OPENINGS = 40, 3
 ARCHIVES = [(1, 1), (1, 10), (10, 1), (10, 10), (50, 1), (50, 10)]  # drivers, and years of each
@@ -33,7 +32,15 @@ def date_of(day):
     return f"{datetime.date(1970, 1, 1) + datetime.timedelta(days=day)}"
 
 
-def commands_of(drivers, years):
+def written(folder, name, content):
+    """The path of a file with this content."""
+    path = os.path.join(folder, name)
+    with open(path, "wb") as file:
+        file.write(content)
+    return path
+
+
+def commands_of(folder, drivers, years):
     """What fills an archive, with the answers, and a day of the month that is asked for. The last year is that of the example's card."""
     year = cards.year_of(cards.read("examples", "driver-year.ddd"))
     last = cards.rows_of(year)[-1][0] // DAY
@@ -41,19 +48,22 @@ def commands_of(drivers, years):
     commands = []
     for driver in range(1, drivers + 1):
         file = cards.of_holder(year, driver)
-        name = f"Driver {driver}".encode().hex()
-        commands.append((f"register {driver} {cards.holder_of(file).hex()} key-of-{driver:04} {base} {name}", "registered"))
+        columns = f"{driver},{cards.holder_of(file).hex()},key-of-{driver:04},{date_of(base)},Driver {driver}\n"
+        path = written(folder, f"{driver}.csv", f"driver,holder,key,base,name\n{columns}".encode())
+        commands.append((f"register - < {path}", f"registered {driver}\n" + DONE))
         for ago in range(years):
-            commands.append((f"import office both {cards.years_later(file, -ago).hex()}", f"added driver {driver} number {ago + 1}"))
+            path = written(folder, f"{driver}-{ago}.ddd", cards.years_later(file, -ago))
+            commands.append((f"import - both < {path}", f"added driver {driver} number {ago + 1}\n" + DONE))
     return commands, last - 40
 
 
-def fill(script, path, drivers, years):
+def fill(script, folder, path, drivers, years):
     """Makes an archive, and gives a day of the month that is asked for."""
-    commands, day = commands_of(drivers, years)
-    answers = told([script, "archive", path], "".join(f"{command}\n" for command, _ in commands).encode()).decode().splitlines()
-    if answers != [answer for _, answer in commands]:
-        sys.exit(f"the archive {path} could not be filled")
+    commands, day = commands_of(folder, drivers, years)
+    running = Program([script, "archive", path])
+    for command in commands:
+        running.time_of(*command)
+    running.end()
     return day
 
 
@@ -74,17 +84,14 @@ def times_of(program, script, path, month):
         "breaches": ["breaches", path, str(DRIVER)],
         "owed": ["owed", path, str(DRIVER)],
     }
-    wanted = {name: f"status 0 of {len(told([program, *words]))} bytes" for name, words in commands.items()}
+    wanted = {name: told([program, *words]).decode() + DONE for name, words in commands.items()}
     opening = min(processor_time([program, "breaches", path, "0"]) for _ in range(OPENINGS))
-    running, least = Program([script, "open", path]), {}
+    running, least = Program([script, "archive", path]), {}
     for _ in range(ROUNDS):
-        for name, words in [("nothing", []), *commands.items()]:
-            time, answer = running.time_and_answer(" ".join(["desk", *words]) if words else "nothing")
-            if answer != wanted.get(name, "nothing"):
-                sys.exit(f"{words} answered {answer!r}")
-            least[name] = min(least.get(name, 1e9), time)
-    running.end(["closed"])
-    return opening, {name: least[name] - least["nothing"] for name in commands}
+        for name, words in commands.items():
+            least[name] = min(least.get(name, 1e9), running.time_of(" ".join(words), wanted[name]))
+    running.end()
+    return opening, least
 
 
 def offices(folder, program, script):
@@ -92,7 +99,7 @@ def offices(folder, program, script):
     print(f"{'drivers':>8} {'years':>6} {'megabytes':>10} {'open':>8} {'spans':>8} {'gaps':>8} {'sheet':>8} {'breaches':>9} {'owed':>8}")
     for drivers, years in ARCHIVES:
         path = os.path.join(folder, f"{drivers}-{years}.db")
-        month = date_of(fill(script, path, drivers, years))[:7]
+        month = date_of(fill(script, folder, path, drivers, years))[:7]
         opening, found = times_of(program, script, path, month)
         size = os.path.getsize(path) / 1e6
         print(f"{drivers:8} {years:6} {size:10.1f} {opening:8.1f} {found['spans']:8.2f} {found['gaps']:8.2f} {found['sheet']:8.2f}"

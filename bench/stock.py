@@ -1,9 +1,10 @@
 #!/usr/bin/env python3
 """What an archive makes of its tables, by stock SQLite: the same tables and statements, each command in one transaction.
 
-It takes the words and the commands of the program tacho_script for the benchmark, and answers the same. Beside a card file, and beside a
-text of hours, there are the rows that an archive keeps of it, so that neither is read here and nothing is decided: what is
-measured is SQLite."""
+It takes words and commands of the program tacho_script, and answers the same. Beside the file that a command reads there are the rows
+that an archive keeps of it, so that no card and no text is read here and nothing is decided: what is measured is SQLite. A line
+that has the file and no archive is no command; by it the rows are learnt."""
+import functools
 import json
 import sqlite3
 import sys
@@ -33,7 +34,7 @@ KEPT_NEAR = (
 ADD = "INSERT INTO {} (driver, start, past, mark) VALUES (?1, ?2, ?3, ?4)"
 
 
-def opened(place, path):
+def opened(path):
     """A connection with the settings that the archive's SQLite has, as far as it can have them."""
     connection = sqlite3.connect(path or ":memory:", isolation_level=None)
     connection.execute("PRAGMA foreign_keys = ON")
@@ -42,7 +43,7 @@ def opened(place, path):
         connection.execute("PRAGMA journal_mode = WAL").fetchone()
         connection.execute("PRAGMA synchronous = FULL")
         connection.execute("PRAGMA cache_size = 2000")
-    if place != "open":
+    if not first(connection, "SELECT name FROM sqlite_schema"):
         connection.execute("BEGIN")
         for text in TABLES:
             connection.execute(text)
@@ -50,26 +51,25 @@ def opened(place, path):
     return connection
 
 
-class Card:
-    """A card file, with the rows that an archive keeps of it."""
+class Given:
+    """What a command reads: the bytes of its file, and what an archive keeps of it."""
 
     def __init__(self, path):
         with open(path, "rb") as file:
             self.file = file.read()
         with open(path + ".rows", encoding="utf-8") as file:
-            rows = json.load(file)
-        self.holder, self.driver = bytes.fromhex(rows["holder"]), rows["driver"]
-        self.range = (self.driver, rows["spans"][0][0], rows["spans"][-1][1])
-        self.spans = [(self.driver, *span) for span in rows["spans"]]
+            self.rows = json.load(file)
+        self.spans = [tuple(span) for span in self.rows.get("spans", [])]
+        self.of_driver = [(self.rows.get("driver"), *span) for span in self.spans]
+        self.holder = bytes.fromhex(self.rows.get("holder", ""))
+
+    def range(self, driver):
+        """A driver, and the range of the spans."""
+        return driver, self.spans[0][0], self.spans[-1][1]
 
 
-class Sheet:
-    """The rows that an archive keeps of a text of hours."""
-
-    def __init__(self, path):
-        with open(path + ".rows", encoding="utf-8") as file:
-            self.spans = [tuple(span) for span in json.load(file)["spans"]]
-        self.range = (self.spans[0][0], self.spans[-1][1])
+# The file at a path, which is read once.
+given_at = functools.lru_cache(maxsize=None)(Given)
 
 
 def first(connection, text, *values):
@@ -89,60 +89,61 @@ def rows_near(connection, table, driver, start, past):
     return connection.execute(BEGUN.format(table), (driver, begin, past)).fetchall()
 
 
-def register(connection, driver, card):
+def register(connection, given):
     """Adds a driver."""
-    key = f"driver-{driver}"
+    driver, key = given.rows["driver"], given.rows["key"]
     connection.execute("BEGIN")
     taken = [
         first(connection, DRIVER, driver),
         first(connection, "SELECT driver FROM drivers WHERE secret = ?1", key),
-        first(connection, "SELECT driver FROM drivers WHERE holder = ?1", card.holder),
+        first(connection, "SELECT driver FROM drivers WHERE holder = ?1", given.holder),
     ]
     if any(taken):
         raise ValueError("the driver is there")
     connection.execute(
         "INSERT INTO drivers (driver, holder, secret, base, name, downloads, entries) VALUES (?1, ?2, ?3, ?4, ?5, 0, 0)",
-        (driver, card.holder, key, BASE, "Anna Berg"),
+        (driver, given.holder, key, BASE, "Anna Berg"),
     )
     connection.execute("COMMIT")
     return f"registered {driver}"
 
 
-def import_card(connection, card):
+def import_card(connection, given, _):
     """Adds a download and its spans."""
     connection.execute("BEGIN")
-    (driver,) = first(connection, "SELECT driver FROM drivers WHERE holder = ?1", card.holder)
+    (driver,) = first(connection, "SELECT driver FROM drivers WHERE holder = ?1", given.holder)
     number = first(connection, DRIVER, driver)[2] + 1
-    if any([rows_near(connection, table, *card.range) for table in ("card_spans", "held")]):
+    if any([rows_near(connection, table, *given.range(driver)) for table in ("card_spans", "held")]):
         raise ValueError("spans near those of the card are there")
     connection.execute("UPDATE drivers SET downloads = ?2 WHERE driver = ?1", (driver, number))
-    connection.execute("INSERT INTO downloads (driver, number, part, file) VALUES (?1, ?2, ?3, ?4)", (driver, number, 0, card.file))
-    connection.executemany(ADD.format("card_spans"), card.spans)
-    connection.executemany(ADD.format("held"), card.spans)
+    connection.execute("INSERT INTO downloads (driver, number, part, file) VALUES (?1, ?2, ?3, ?4)", (driver, number, 0, given.file))
+    connection.executemany(ADD.format("card_spans"), given.of_driver)
+    connection.executemany(ADD.format("held"), given.of_driver)
     connection.execute("COMMIT")
-    return f"added {driver} {number}"
+    return f"added driver {driver} number {number}"
 
 
-def enter(connection, driver, sheet):
+def enter(connection, given, word):
     """Adds entries and their spans."""
+    driver = int(word)
     connection.execute("BEGIN")
     number = first(connection, DRIVER, driver)[3] + 1
-    if rows_near(connection, "held", driver, *sheet.range):
+    if rows_near(connection, "held", *given.range(driver)):
         raise ValueError("spans near the hours are there")
-    count = len(sheet.spans)
-    connection.execute("UPDATE drivers SET entries = ?2 WHERE driver = ?1", (driver, number - 1 + count))
+    last = number - 1 + len(given.spans)
+    connection.execute("UPDATE drivers SET entries = ?2 WHERE driver = ?1", (driver, last))
     connection.executemany(
         "INSERT INTO entries (driver, number, start, past, mark, withdrawn) VALUES (?1, ?2, ?3, ?4, ?5, 0)",
-        [(driver, place, *span) for place, span in enumerate(sheet.spans, number)],
+        [(driver, place, *span) for place, span in enumerate(given.spans, number)],
     )
-    connection.executemany(ADD.format("held"), [(driver, *span) for span in sheet.spans])
+    connection.executemany(ADD.format("held"), [(driver, *span) for span in given.spans])
     connection.execute("COMMIT")
-    return f"entered {number} {count}"
+    return f"entered {number} to {last}"
 
 
-def withdraw(connection, driver, number):
+def withdraw(connection, _, *words):
     """Marks an entry as withdrawn, and removes its span, which nothing else gives."""
-    key = (driver, number)
+    driver, number = key = tuple(map(int, words))
     connection.execute("BEGIN")
     first(connection, DRIVER, driver)
     text = "SELECT number, start, past, mark, withdrawn FROM entries WHERE driver = ?1 AND number = ?2"
@@ -155,7 +156,7 @@ def withdraw(connection, driver, number):
     begin = first_start(connection, "held", driver, start, past)
     connection.execute("DELETE FROM held WHERE driver = ?1 AND ?2 <= start AND start < ?3", (driver, begin, past))
     connection.execute("COMMIT")
-    return "withdrawn"
+    return f"withdrawn {number}"
 
 
 def settings(connection):
@@ -164,32 +165,31 @@ def settings(connection):
     return ", ".join(f"{name} {first(connection, f'PRAGMA {name}')[0]}" for name in names)
 
 
-def main(place="memory", path=None):
-    connection, card, sheet = opened(place, path), None, None
-    print("ready", flush=True)
+COMMANDS = {"register": register, "import": import_card, "enter": enter, "withdraw": withdraw}
+
+
+def answer(connection, line):
+    """The answer to a line: a text, and its status."""
+    words, _, path = line.partition(" < ")
+    name, *words = words.split()
+    given = given_at(path) if path else None
+    if name == "settings":
+        return f"{settings(connection)}\nstatus 0"
+    if not words:
+        return "status 2"
+    if words[1:] == ["0"]:
+        return "N1 bad number\nstatus 1"
+    return f"{COMMANDS[name](connection, given, *words[1:])}\nstatus 0"
+
+
+def main(_, path=None):
+    connection = opened(path)
+    print("status 0", flush=True)
     for line in iter(sys.stdin.readline, ""):
-        command, _, word = line.rstrip("\n").partition(" ")
-        answer = command
-        if command == "card":
-            card, answer = Card(word), f"card {word}"
-        elif command == "sheet":
-            sheet, answer = Sheet(word), f"sheet {word}"
-        elif command == "register":
-            answer = register(connection, int(word), card)
-        elif command == "import":
-            answer = import_card(connection, card)
-        elif command == "enter":
-            answer = enter(connection, int(word), sheet)
-        elif command == "withdraw":
-            answer = withdraw(connection, *map(int, word.split()))
-        elif command == "settings":
-            answer = settings(connection)
-        print(answer, flush=True)
+        print(answer(connection, line.rstrip("\n")), flush=True)
     if path:
         connection.execute("PRAGMA wal_checkpoint(TRUNCATE)").fetchone()
     connection.close()
-    if path:
-        print("closed", flush=True)
 
 
 if __name__ == "__main__":

@@ -1,142 +1,174 @@
 #!/usr/bin/env python3
-"""Gives an archive in a file random commands, and compares its answers with those of the slow archive and of the archive in
-memory; then it reads the file's tables by SQLite itself.
+"""Gives an archive in a file random commands, and compares what it prints of each and the status with the slow office, and with those of
+the archive in memory; then it reads the file's tables by SQLite itself.
 
 The file is closed after half of the commands, and opened again for the others. The word is the program `tacho_script`.
 The last line is 'N passed, M failed'."""
 import contextlib
 import multiprocessing
 import os
-import random
 import re
 import sqlite3
+import subprocess
 import sys
 import tempfile
 
-import compare_files
 import counting
-import programs
 import random_cards
-import slow_archive
-import slow_reader
+import random_commands
+import slow_office
+from office_rows import ADDED, ANNA, BOTH, DAY, FREE_DAYS, HOLDER, HOURS_HEAD, NOON, NOTHING, OTHER_DAY, SATURDAY, SPANS, done, refused
 
 SEEDS = 160
-COMMANDS = 40
 PROCESSES = 2
 
-HOLDER = "0d4431323334353637383930313233"
-ANNA = f"register 17 {HOLDER} anna-key-1 19786 {b'Anna Berg'.hex()}"
-CARD = "0520000011" + HOLDER + "3030"
-VALUE = "00000014" "0000001465e50f0000010064000011e019fe23fc" "0014001065e6608000020000000011e0"
-OTHER_VALUE = "00000014" "0000001465e50f0000010064000011ea1a0823f2" "0014001065e6608000020000080011e0"
-DAY = CARD + "0504000028" + VALUE
-OTHER_DAY = CARD + "0504000028" + OTHER_VALUE
-NOON = CARD + "0504000016" "00000000" "0000001265e50f0000010000000011e019fe"
-SATURDAY = CARD + "0504000016" "00000000" "0000001265eba68000010000600071e06258"
-NOTHING = CARD + "0504000010" + "00" * 16
-BOTH = DAY + "0504020028" + OTHER_VALUE
+# Worked rows: commands, and what they print.
 
-ADDED = "added driver 17 number 1"
-REPEATED = "repeated driver 17"
-MORNING = "line 28491840 28492320 0 28492320 28492350 2"
-WHOLE_DAY = f"{MORNING} 28492350 28492860 3 28493280 28493760 0"
-DAY_HOURS = "28491840 28492320 0 28492320 28492350 2 28492350 28492860 3 28493280 28493760 0"
+REST = "2024-03-04 00:00,2024-03-04 08:00,rest"
+WORK = "2024-03-04 08:00,2024-03-04 08:30,work"
+DRIVE = "2024-03-04 08:30,2024-03-04 17:00,drive"
+NIGHT = "2024-03-05 00:00,2024-03-05 08:00,rest"
+SPAN_HEAD = "start,past,activity,manning\n"
+MORNING = f"{SPAN_HEAD}{REST},single\n{WORK},single\n"
+LONG_DRIVE = "2024-03-04 08:30,2024-03-04 18:00,drive,single\n"
+LONG_NIGHT = "2024-03-04 23:00,2024-03-05 08:00,rest,single\n"
+REFUSED_DAY = "S6 contradiction at 2024-03-04 08:00"
 
-# Commands and what they answer, in an archive that has Anna.
+
+def hours(*rows):
+    """The text of CSV with rows of hours."""
+    return HOURS_HEAD + "".join(f"{row}\n" for row in rows).encode()
+
+
+def bert(key, holder=HOLDER, base="2024-03-05"):
+    """The text of CSV with another driver."""
+    return f"driver,holder,key,base,name\n18,{holder},{key},{base},Bert\n".encode()
+
+
+FILE_SPANS = done("spans 17 2024-03", SPANS)
+FILE_MORNING = done("spans 17 2024-03", MORNING)
+NO_SPANS = done("spans 17 2024-03", SPAN_HEAD)
+NO_SECOND = refused("file 17 2", "S10 unknown download")
+REPEATED = "repeated driver 17\n"
+OTHER_HOLDER = random_cards.HOLDERS[1].hex()
+
+# In an archive that has Anna.
 ROWS = {
-    "a day": [(f"import office both {DAY}", ADDED), ("line 17", WHOLE_DAY), ("download 17 1", f"download {DAY}")],
-    "no records": [(f"import office both {NOTHING}", REPEATED), ("line 17", "line"), ("download 17 1", "S10")],
+    "a day": [ADDED, FILE_SPANS, done("file 17 1", DAY), NO_SECOND],
+    "no records": [done("import both", REPEATED, NOTHING), NO_SPANS, refused("file 17 1", "S10 unknown download")],
     "a morning, and its day": [
-        (f"import office both {NOON}", ADDED),
-        ("line 17", MORNING),
-        (f"import office both {DAY}", "added driver 17 number 2"),
-        ("line 17", WHOLE_DAY),
-        (f"import office both {NOON}", REPEATED),
-        ("download 17 2", f"download {DAY}"),
-        ("download 17 3", "S10"),
+        done("import both", "added driver 17 number 1\n", NOON),
+        FILE_MORNING,
+        done("import both", "added driver 17 number 2\n", DAY),
+        FILE_SPANS,
+        done("import both", REPEATED, NOON),
+        done("file 17 2", DAY),
+        refused("file 17 3", "S10 unknown download"),
     ],
-    "another day": [
-        (f"import office both {DAY}", ADDED),
-        (f"import 17 both {OTHER_DAY}", "S6 28492320"),
-        ("line 17", WHOLE_DAY),
-        ("download 17 2", "S10"),
-    ],
+    "another day": [ADDED, refused("own 17 both", REFUSED_DAY, OTHER_DAY), FILE_SPANS, NO_SECOND],
     "two generations": [
-        (f"import office both {BOTH}", "S11 C14 file contradicts itself at 2024-03-04 08:00"),
-        ("line 17", "line"),
-        (f"import office first {BOTH}", ADDED),
-        (f"import 17 second {BOTH}", "S6 28492320"),
-        ("line 17", WHOLE_DAY),
+        refused("import both", "C14 file contradicts itself at 2024-03-04 08:00", BOTH),
+        NO_SPANS,
+        done("import first", "added driver 17 number 1\n", BOTH),
+        refused("own 17 second", REFUSED_DAY, BOTH),
+        FILE_SPANS,
+    ],
+    "a driver's own imports": [
+        done("own 17 both", "added driver 17 number 1\n", NOON),
+        done("own 17 first", "added driver 17 number 2\n", BOTH),
+        done("own 17 both", REPEATED, DAY),
+        refused("own 17 second", "C6 no activity data", DAY),
+        refused("own 18 both", "S4 unknown driver", DAY),
+        FILE_SPANS,
     ],
     "registrations": [
-        (ANNA, "S1"),
-        (f"register 18 {HOLDER} anna-key-1 19787 {b'Bert'.hex()}", "S2"),
-        (f"register 18 {HOLDER} bert-key-1 19787 {b'Bert'.hex()}", "S3"),
-        (f"register 18 {random_cards.HOLDERS[1].hex()} bert-key-1 19787 {b'Bert'.hex()}", "S9"),
-        (f"register 18 {random_cards.HOLDERS[1].hex()} bert-key-1 19786 {b'Bert'.hex()}", "registered"),
-        (f"import 18 both {DAY}", "S5"),
-        (f"import 19 both {DAY}", "S4"),
-        (f"import office both {DAY}", ADDED),
-        ("rebase 18 19793", "rebased"),
-        ("rebase 17 19787", "S9"),
-        ("rebase 19 19787", "S4"),
+        refused("register", "S1 driver taken", ANNA),
+        refused("register", "S2 key taken", bert("anna-key-1")),
+        refused("register", "S3 holder taken", bert("bert-key-1")),
+        refused("register", "S9 not a Monday", bert("bert-key-1", OTHER_HOLDER)),
+        refused("register", "E9 bad value for key", bert("bert_key_1", OTHER_HOLDER)),
+        done("register", "registered 18\n", bert("bert-key-1", OTHER_HOLDER, "2024-03-04")),
+        refused("own 18 both", "S5 not your card", DAY),
+        refused("own 19 both", "S4 unknown driver", DAY),
+        ADDED,
+        done("base 18 2024-03-11", "base 2024-03-11\n"),
+        refused("base 17 2024-03-05", "S9 not a Monday"),
+        refused("base 19 2024-03-05", "S4 unknown driver"),
     ],
     "hours that give way to a file": [
-        ("enter 17 28499040 28501920 0", "entered 1 count 1"),
-        (f"import office both {SATURDAY}", "S6 28499520"),
-        ("withdraw 17 1", "withdrawn"),
-        (f"import office both {SATURDAY}", ADDED),
-        ("line 17", "line 28499040 28499520 0 28499520 28499640 2"),
-        ("withdraw 17 1", "S8"),
-        ("entries 17", "entries 1 28499040 28501920 0 withdrawn"),
+        done("enter 17", "entered 1 to 1\n", FREE_DAYS),
+        refused("import both", "S6 contradiction at 2024-03-09 08:00", SATURDAY),
+        done("withdraw 17 1", "withdrawn 1\n"),
+        done("import both", "added driver 17 number 1\n", SATURDAY),
+        done(
+            "spans 17 2024-03",
+            f"{SPAN_HEAD}2024-03-09 00:00,2024-03-09 08:00,rest,single\n2024-03-09 08:00,2024-03-09 10:00,work,single\n",
+        ),
+        refused("withdraw 17 1", "S8 already withdrawn"),
+        done("entries 17", "1 2024-03-09 00:00 2024-03-11 00:00 rest withdrawn\n"),
     ],
     "entries that overlap": [
-        ("enter 17 28491840 28492560 0", "entered 1 count 1"),
-        ("enter 17 28492200 28492920 0", "entered 2 count 1"),
-        ("withdraw 17 1", "withdrawn"),
-        ("line 17", "line 28492200 28492920 0"),
-        ("entries 17", "entries 1 28491840 28492560 0 withdrawn 2 28492200 28492920 0 kept"),
+        done("enter 17", "entered 1 to 1\n", hours("2024-03-04 00:00,2024-03-04 12:00,rest")),
+        done("enter 17", "entered 2 to 2\n", hours("2024-03-04 06:00,2024-03-04 18:00,rest")),
+        done("withdraw 17 1", "withdrawn 1\n"),
+        done("spans 17 2024-03", f"{SPAN_HEAD}2024-03-04 06:00,2024-03-04 18:00,rest,single\n"),
+        done(
+            "entries 17",
+            "1 2024-03-04 00:00 2024-03-04 12:00 rest withdrawn\n2 2024-03-04 06:00 2024-03-04 18:00 rest kept\n",
+        ),
     ],
     "a file of entered hours": [
-        (f"enter 17 {DAY_HOURS}", "entered 1 count 4"),
-        ("line 17", WHOLE_DAY),
-        (f"import office both {DAY}", ADDED),
-        *[(f"withdraw 17 {number}", "withdrawn") for number in [1, 2, 3, 4]],
-        ("line 17", WHOLE_DAY),
-        (f"import office both {DAY}", REPEATED),
+        done("enter 17", "entered 1 to 4\n", hours(REST, WORK, DRIVE, NIGHT)),
+        FILE_SPANS,
+        ADDED,
+        *[done(f"withdraw 17 {number}", f"withdrawn {number}\n") for number in [1, 2, 3, 4]],
+        FILE_SPANS,
+        done("import both", REPEATED, DAY),
     ],
     "no hours": [
-        ("enter 17", "entered 1 count 0"),
-        ("enter 17 28491840 28492320 0 28492320 28492350 2", "entered 1 count 2"),
-        ("enter 17", "entered 3 count 0"),
-        ("line 17", MORNING),
-        ("enter 18", "S4"),
+        done("enter 17", "entered none\n", hours()),
+        done("enter 17", "entered 1 to 2\n", hours(REST, WORK)),
+        done("enter 17", "entered none\n", hours()),
+        FILE_MORNING,
+        refused("enter 18", "S4 unknown driver", hours()),
     ],
     "a batch that contradicts": [
-        (f"import office both {DAY}", ADDED),
-        ("enter 17 28492860 28492920 2 28493700 28493820 3", "S6 28493700"),
-        ("line 17", WHOLE_DAY),
-        ("entries 17", "entries"),
-        ("enter 17 28491840 28492140 0", "entered 1 count 1"),
+        ADDED,
+        refused(
+            "enter 17",
+            "S6 contradiction at 2024-03-05 07:00",
+            hours("2024-03-04 17:00,2024-03-04 18:00,work", "2024-03-05 07:00,2024-03-05 09:00,drive"),
+        ),
+        FILE_SPANS,
+        done("entries 17", ""),
+        done("enter 17", "entered 1 to 1\n", hours("2024-03-04 00:00,2024-03-04 05:00,rest")),
     ],
     "hours that agree": [
-        (f"import office both {DAY}", ADDED),
-        ("enter 17 28492200 28492260 0 28492830 28492920 3 28493220 28493280 0", "entered 1 count 3"),
-        ("line 17", f"{MORNING} 28492350 28492920 3 28493220 28493760 0"),
-        ("withdraw 17 1", "withdrawn"),
-        ("withdraw 17 3", "withdrawn"),
-        ("line 17", f"{MORNING} 28492350 28492920 3 28493280 28493760 0"),
-        ("withdraw 17 2", "withdrawn"),
-        ("line 17", WHOLE_DAY),
+        ADDED,
+        done(
+            "enter 17",
+            "entered 1 to 3\n",
+            hours(
+                "2024-03-04 06:00,2024-03-04 07:00,rest",
+                "2024-03-04 16:30,2024-03-04 18:00,drive",
+                "2024-03-04 23:00,2024-03-05 00:00,rest",
+            ),
+        ),
+        done("spans 17 2024-03", f"{MORNING}{LONG_DRIVE}{LONG_NIGHT}"),
+        done("withdraw 17 1", "withdrawn 1\n"),
+        done("withdraw 17 3", "withdrawn 3\n"),
+        done("spans 17 2024-03", f"{MORNING}{LONG_DRIVE}{NIGHT},single\n"),
+        done("withdraw 17 2", "withdrawn 2\n"),
+        FILE_SPANS,
     ],
     "unknown entries": [
-        ("withdraw 17 0", "S7"),
-        ("withdraw 17 1", "S7"),
-        ("enter 18 28491840 28492140 0", "S4"),
-        ("withdraw 18 1", "S4"),
-        ("entries 18", "S4"),
-        ("enter 17 28491840 28492140 0", "entered 1 count 1"),
-        ("withdraw 17 2", "S7"),
+        refused("withdraw 17 1", "S7 unknown entry"),
+        refused("withdraw 17 1000000", "S7 unknown entry"),
+        refused("enter 18", "S4 unknown driver", hours(REST)),
+        refused("withdraw 18 1", "S4 unknown driver"),
+        refused("entries 18", "S4 unknown driver"),
+        done("enter 17", "entered 1 to 1\n", hours(REST)),
+        refused("withdraw 17 2", "S7 unknown entry"),
     ],
 }
 
@@ -152,171 +184,33 @@ def documented():
 STATEMENTS = documented()
 
 
-# Random commands
-
-NUMBERS = [17, 18, 999_999]
-KEYS = ["anna-key-1", "bert-key-2", "Key3" * 16]
-NAMES = [b"Anna Berg", "Zo\u00eb".encode(), b"B" * 64]
-BASES = [19_786, 19_793, 10_959, 47_478]
-BAD_NUMBERS = [0, 1_000_000]
-BAD_KEYS = ["short-1", "under_score", "k" * 65]
-BAD_NAMES = [b"", b"Berg, Anna", b'Anna "A"', b"Anna\x7f", b"n" * 65]
-OTHER_BASES = [19_787, 19_792, 10_958, 47_482, 0]
-LENGTHS = [1, 2, 30, 60, 300, 1440, 2880]
-MINUTES = range(1440 * slow_reader.READ_DAYS.start, 1440 * slow_reader.READ_DAYS.stop)
-
-
-class Commands:
-    """Commands of a seed, on a few drivers and their cards, and on what these hold after the commands before."""
-
-    def __init__(self, seed):
-        self.chance = random.Random(seed)
-        self.cards = [random_cards.Card(self.chance, holder) for holder in random_cards.HOLDERS]
-        self.imports = []
-        self.archive = slow_archive.Archive()
-
-    def one_of(self, usual, others=()):
-        """A usual value, or rarely another one."""
-        return self.chance.choice(others if others and self.chance.random() < 0.05 else usual)
-
-    def registration(self, number, holder, key, name):
-        """A registration of these columns, from any base."""
-        return f"register {number} {holder.hex()} {key} {self.one_of(BASES, OTHER_BASES)} {slow_archive.word_of(name)}"
-
-    def register(self):
-        """A driver, who may have what another has, or a column out of its limits."""
-        number, key = self.one_of(NUMBERS, BAD_NUMBERS), self.one_of(KEYS, BAD_KEYS)
-        return self.registration(number, self.one_of(self.cards).holder, key, self.one_of(NAMES, BAD_NAMES))
-
-    def registrations(self):
-        """All drivers, or but one of them."""
-        cards = [card.holder for card in self.cards]
-        drivers = [self.registration(*columns) for columns in zip(NUMBERS, cards, KEYS, NAMES)]
-        return self.chance.sample(drivers, self.one_of([3, 3, 3, 2]))
-
-    def import_new(self):
-        """The import of a new file by the office or by a driver, mostly the one whose card it is."""
-        place = self.chance.randrange(len(self.cards))
-        caller = self.one_of(["office", "office", NUMBERS[place]], [*NUMBERS, 16])
-        part = self.one_of(["both"] * 8 + ["first", "second"])
-        self.imports.append(f"import {caller} {part} {slow_archive.word_of(self.cards[place].file())}")
-        return self.imports[-1]
-
-    def import_again(self):
-        """An import that there was before, if there was one."""
-        return self.one_of(self.imports) if self.imports else self.import_new()
-
-    def rebase(self):
-        """Another base, not always a Monday."""
-        return f"rebase {self.one_of(NUMBERS, [0, 16])} {self.one_of(BASES, OTHER_BASES)}"
-
-    def line(self):
-        """A driver's timeline."""
-        return f"line {self.one_of(NUMBERS, [0, 16])}"
-
-    def download(self):
-        """A download that is there or not."""
-        return f"download {self.one_of(NUMBERS, [16])} {self.chance.randrange(4)}"
-
-    def driver(self):
-        """A driver's number, and what he holds: start, past and mark of each run of minutes."""
-        number = self.one_of(NUMBERS, [0, 16])
-        driver = self.archive.drivers.get(number)
-        return number, slow_reader.runs(driver.held().items()) if driver else []
-
-    def start(self, runs):
-        """A minute from which hours are: one where held minutes begin or end, or close to it, or any of a card's days."""
-        if runs and self.chance.random() < 0.8:
-            return self.chance.choice(self.chance.choice(runs)[:2]) + self.one_of([-30, -1, 0, 0, 0, 1, 30])
-        return 1440 * self.chance.choice(self.chance.choice(self.cards).days)[0] + self.chance.randrange(1440)
-
-    def activity(self, runs, start, past):
-        """The number of an activity: mostly one that a held minute has among these, or beside them, if there is any."""
-        near = [mark for a, b, mark in runs if a <= past and b >= start]
-        if near and self.chance.random() < 0.9:
-            return slow_reader.ACTIVITIES.index(self.chance.choice(near)[0])
-        return self.chance.randrange(4)
-
-    def hours(self, runs, start, past):
-        """A line of hours within some minutes, which may end where others of what is held begin or end."""
-        ends = [end for run in runs for end in run[:2] if start < end <= past]
-        if ends and self.chance.random() < 0.5:
-            past = self.chance.choice(ends)
-        return f"{start} {past} {self.activity(runs, start, past)}"
-
-    def enter(self):
-        """A batch of hours, or of none: lines that agree with what the driver holds, or touch it, or contradict it."""
-        number, runs = self.driver()
-        starts = sorted({self.start(runs) for _ in range(self.one_of([1, 1, 2, 3, 4], [0]))})
-        lines = [
-            self.hours(runs, start, min(start + self.chance.choice(LENGTHS), limit))
-            for start, limit in zip(starts, [*starts[1:], MINUTES[-1]])
-            if start in MINUTES and start < limit
-        ]
-        return " ".join([f"enter {number}", *lines])
-
-    def withdraw(self):
-        """A withdrawal of an entry that is kept or withdrawn, or of one that there isn't."""
-        drivers = [driver for driver in self.archive.drivers.values() if driver.entries]
-        if not drivers or self.chance.random() < 0.1:
-            return f"withdraw {self.one_of(NUMBERS, [0, 16])} {self.chance.randrange(4)}"
-        driver = self.chance.choice(drivers)
-        return f"withdraw {driver.number} {self.chance.randrange(1, len(driver.entries) + 1)}"
-
-    def entries(self):
-        """A driver's entries."""
-        return f"entries {self.one_of(NUMBERS, [0, 16])}"
-
-    def all(self):
-        """The commands: some drivers first, and then anything."""
-        kinds = [self.import_new] * 7 + [self.enter] * 7 + [self.withdraw] * 4
-        kinds += [self.import_again, self.line, self.entries, self.download, self.rebase, self.register]
-        commands = self.registrations()
-        for command in commands:
-            self.archive.answer(command)
-        while len(commands) < COMMANDS:
-            commands.append(self.chance.choice(kinds)())
-            self.archive.answer(commands[-1])
-        return commands
-
-
 # What is told
 
 
-def line_of(told):
-    """What was told, with a card's fault as its line."""
-    code, _, fault = told.partition(" ")
-    return f"S11 {compare_files.line_of(fault).strip()}" if code == "S11" else told
+def line_for(folder, number, words, given):
+    """The line by which the program is given a command. Its input lies in a file of the folder."""
+    path = os.path.join(folder, f"input-{number}")
+    with open(path, "wb") as file:
+        file.write(given)
+    word, *others = words
+    return " ".join([word, "-", *others, "<", path]) + "\n"
 
 
-def sheet_of(words):
-    """The text of CSV for lines of hours, three words each."""
-    rows = ["start,past,activity"]
-    for start, past, activity in zip(words[::3], words[1::3], words[2::3]):
-        times = [slow_reader.minute_text(int(minute)) for minute in (start, past)]
-        rows.append(",".join([*times, slow_reader.ACTIVITIES[int(activity)]]))
-    return "".join(row + "\n" for row in rows)
-
-
-def line_for(command):
-    """The line by which the program is given a command."""
-    words = command.split()
-    return f"enter {words[1]} {sheet_of(words[2:]).encode().hex()}" if words[0] == "enter" else command
-
-
-def given(commands):
+def given(folder, commands):
     """The input with commands."""
-    return "".join(line_for(command) + "\n" for command in commands).encode()
+    return "".join(line_for(folder, number, *command) for number, command in enumerate(commands)).encode()
 
 
-def lines_of(text, status):
-    """The answers in what was printed, and then the status."""
-    return [line_of(line) for line in text.splitlines()] + [f"status {status}"]
+def answers_of(run):
+    """What a run of the program told: of the opening, and of each command, what it printed and its status, and at the end what was
+    printed behind, and the run's own status."""
+    *answers, rest = re.split(rb"status ([0-9])\n", run.stdout)
+    return [*zip(answers[::2], map(int, answers[1::2])), (rest, run.returncode)]
 
 
-def answers(words, commands):
-    """What the program answers to commands, line by line, and then its status."""
-    return lines_of(*programs.answer(words, given(commands)))
+def answers(words, folder, commands):
+    """What the program tells of commands."""
+    return answers_of(subprocess.run(words, input=given(folder, commands), capture_output=True))
 
 
 def minutes_of(rows):
@@ -352,9 +246,9 @@ def rows_of(found):
 # What has to be told
 
 
-def wanted_of(archive, commands):
-    """What the slow archive answers to commands, and the status."""
-    return [archive.answer(command) for command in commands] + ["status 0"]
+def wanted_of(office, commands):
+    """What has to be told of an opening, of commands, as the slow office answers them, and of the end."""
+    return [(b"", 0), *[office.answer(*command) for command in commands], (b"", 0)]
 
 
 def wanted_tables(archive):
@@ -373,28 +267,30 @@ def of_tables(name, path, archive):
 def of_commands(program, name, commands):
     """The comparisons of commands, the first half and then the others, on a new file and in memory."""
     half = len(commands) // 2
-    archive = slow_archive.Archive()
-    first, second = wanted_of(archive, commands[:half]), wanted_of(archive, commands[half:])
+    office = slow_office.Office()
+    first, second = wanted_of(office, commands[:half]), wanted_of(office, commands[half:])
     with tempfile.TemporaryDirectory() as folder:
         path = os.path.join(folder, "archive.db")
-        yield f"{name}, on a file", answers([program, "archive", path], commands[:half]), first
-        yield f"{name}, on that file again", answers([program, "archive", path], commands[half:]), second
-        yield of_tables(name, path, archive)
-    yield f"{name}, in memory", answers([program, "shelf"], commands), first[:-1] + second
+        yield f"{name}, on a file", answers([program, "archive", path], folder, commands[:half]), first
+        yield f"{name}, on that file again", answers([program, "archive", path], folder, commands[half:]), second
+        yield of_tables(name, path, office.archive)
+        yield f"{name}, in memory", answers([program, "shelf"], folder, commands), first[:-1] + second[1:]
 
 
 def of_rows(program):
-    """The comparisons of the worked rows, and of the slow archive with what they say."""
+    """The comparisons of the worked rows, and of the slow office with what they say."""
     for name, rows in ROWS.items():
-        commands, wanted = [ANNA] + [command for command, _ in rows], ["registered"] + [answer for _, answer in rows]
-        yield f"{name}, by the slow archive", wanted_of(slow_archive.Archive(), commands), wanted + ["status 0"]
+        rows = [done("register", "registered 17\n", ANNA), *rows]
+        commands = [(row.words, row.given) for row in rows]
+        wanted = [(b"", 0), *[(row.text, row.status) for row in rows], (b"", 0)]
+        yield f"{name}, by the slow office", wanted_of(slow_office.Office(), commands), wanted
         yield from of_commands(program, name, commands)
 
 
 def of_seed(question):
     """The comparisons of a seed's commands."""
     program, seed = question
-    return list(of_commands(program, f"seed {seed}", Commands(seed).all()))
+    return list(of_commands(program, f"seed {seed}", random_commands.Commands(seed).all()))
 
 
 def comparisons(program):

@@ -18,7 +18,7 @@ import office_lines
 import office_rows
 import rule_examples
 import slow_office
-import slow_reader
+from random_commands import hours_csv
 
 SEEDS = 80
 PROCESSES = 2
@@ -102,12 +102,6 @@ def write(path, given):
     """Writes a file."""
     with open(path, "wb") as file:
         file.write(given)
-
-
-def hours_csv(spans):
-    """The text of CSV with these hours."""
-    rows = [f"{slow_reader.minute_text(start)},{slow_reader.minute_text(past)},{activity}\n" for start, past, activity in spans]
-    return office_rows.HOURS_HEAD + "".join(rows).encode()
 
 
 class Desk:

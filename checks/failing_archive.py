@@ -1,11 +1,12 @@
 #!/usr/bin/env python3
-"""Runs commands on an archive in a file with each of their allocations refused in turn, and looks for an answer or a table
-that changes.
+"""Runs commands on an archive in a file with their allocations refused in turn, and looks for an answer or a table that changes.
 
-Each command is given twice. One of the two may find no memory: it answers `Memory`, or S12 where the store had none, and has
-no effect, so that the other gives the undisturbed answer, and SQLite finds what the slow archive holds. Some allocations
-are refused while a file is opened or made: then nothing is answered, and the next run opens it. The words are the program
-`tacho_script` and the compiler of C. The last line is 'N passed, M failed'."""
+Each command is given twice. One of the two may find no memory: it answers M1, or S12 where the store had none, or the status 2 alone,
+where its line couldn't be read, and has no effect, so that the other gives the undisturbed answer, and SQLite finds what the slow
+office's archive holds. Some allocations are refused while a file is opened or made: then nothing is done, and the next run opens it.
+Of those of the reader of a command's words, which knows no archive, some are refused too. The words are the program `tacho_script`
+and the compiler of C. The last line is 'N passed, M failed'."""
+import bisect
 import multiprocessing
 import os
 import sys
@@ -14,39 +15,42 @@ import tempfile
 import compare_archive
 import counting
 import programs
-import slow_archive
-from compare_archive import ANNA, DAY, HOLDER, NOON, OTHER_DAY
+import slow_office
+from compare_archive import bert, hours
+from office_rows import ANNA, DAY, NOON, OTHER_DAY
 
 PROCESSES = 2
-STEP = 43  # one in so many of the allocations of an opening is refused
-NO_MEMORY = ["Memory", "S12"]
-NOT_OPENED = [
-    ["not opened: SqliteFailure(OutOfMemory)", "status 0"],
-    ["no archive: Memory", "status 0"],
-    ["no archive: Store", "status 0"],
-    ["status 1"],
-]
+MOST = 100_000  # more allocations than any run asks for
+STEP = 43  # one in so many of the allocations of an opening, or of a reading of words, is refused
+MARGIN = 20  # allocations at the end of a reading of words that are all refused
+GIVEN_UP = [(b"M1 no memory\n", 3), (b"S12 store failed\n", 3), (b"", 2)]
+ENDED = [(b"", 1)]
+NOT_OPENED = [[(b"", 3), (b"", 0)], ENDED]
 
-WITH_DAY = [ANNA, f"import office both {DAY}"]
-HOURS = "28492260 28492320 0 28492830 28492920 3"
-WITH_HOURS = [*WITH_DAY, f"enter 17 {HOURS}"]
+REGISTER = (["register"], ANNA)
+ENTER = (["enter", "17"], hours("2024-03-04 07:00,2024-03-04 08:00,rest", "2024-03-04 16:30,2024-03-04 18:00,drive"))
+CONTRADICT = (["enter", "17"], hours("2024-03-04 17:00,2024-03-04 17:40,drive", "2024-03-04 17:40,2024-03-04 19:20,work"))
+WITH_DAY = [REGISTER, (["import", "both"], DAY)]
+WITH_HOURS = [*WITH_DAY, ENTER]
+REFUSED = (["entries", "0"], b"")  # a command that is refused when its words are read
 
 # What an archive has before, and the command.
 CASES = {
-    "a first driver": ([], ANNA),
-    "a driver with a taken holder": ([ANNA], f"register 18 {HOLDER} bert-key-1 19786 {b'Bert'.hex()}"),
-    "a first download": ([ANNA], f"import office both {DAY}"),
-    "a second download": ([ANNA, f"import office both {NOON}"], f"import 17 both {DAY}"),
-    "a repeated file": (WITH_DAY, f"import 17 both {NOON}"),
-    "a contradiction": (WITH_DAY, f"import office both {OTHER_DAY}"),
-    "first hours": ([ANNA], f"enter 17 {HOURS}"),
-    "hours beside a download": (WITH_DAY, f"enter 17 {HOURS}"),
-    "hours that contradict": (WITH_HOURS, "enter 17 28492860 28492900 3 28492900 28493000 2"),
-    "a withdrawal": (WITH_HOURS, "withdraw 17 2"),
-    "another base": ([ANNA], "rebase 17 19793"),
-    "a timeline": (WITH_DAY, "line 17"),
-    "entries": (WITH_HOURS, "entries 17"),
-    "a file": (WITH_DAY, "download 17 1"),
+    "a first driver": ([], REGISTER),
+    "a driver with a taken holder": ([REGISTER], (["register"], bert("bert-key-1", base="2024-03-04"))),
+    "a first download": ([REGISTER], (["import", "both"], DAY)),
+    "a second download": ([REGISTER, (["import", "both"], NOON)], (["own", "17", "both"], DAY)),
+    "a repeated file": (WITH_DAY, (["own", "17", "both"], NOON)),
+    "a contradiction": (WITH_DAY, (["import", "both"], OTHER_DAY)),
+    "first hours": ([REGISTER], ENTER),
+    "hours beside a download": (WITH_DAY, ENTER),
+    "hours that contradict": (WITH_HOURS, CONTRADICT),
+    "a withdrawal": (WITH_HOURS, (["withdraw", "17", "2"], b"")),
+    "another base": ([REGISTER], (["base", "17", "2024-03-11"], b"")),
+    "a timeline": (WITH_DAY, (["spans", "17", "2024-03"], b"")),
+    "a sheet": (WITH_DAY, (["sheet", "17", "2024-03"], b"")),
+    "entries": (WITH_HOURS, (["entries", "17"], b"")),
+    "a file": (WITH_DAY, (["file", "17", "1"], b"")),
 }
 
 
@@ -54,12 +58,17 @@ class Store:
     """The file of an archive in a folder, to which some commands were given."""
 
     def __init__(self, program, folder, commands):
+        self.folder = folder
         self.path = os.path.join(folder, "archive.db")
         self.words = [program, "archive", self.path]
         self.commands = commands
-        compare_archive.answers(self.words, commands)
+        self.answers(commands)
         with open(self.path, "rb") as file:
             self.bytes = file.read()
+
+    def answers(self, commands):
+        """What the program tells of commands."""
+        return compare_archive.answers(self.words, self.folder, commands)
 
     def restore(self):
         """Makes the file what it was, without a log."""
@@ -73,43 +82,58 @@ class Store:
             if os.path.exists(path):
                 os.remove(path)
 
-    def archive(self):
-        """The slow archive after the commands."""
-        archive = slow_archive.Archive()
-        compare_archive.wanted_of(archive, self.commands)
-        return archive
+    def office(self):
+        """The slow office after the commands."""
+        office = slow_office.Office()
+        compare_archive.wanted_of(office, self.commands)
+        return office
+
+    def allocations(self, refuser, commands):
+        """How many allocations the program asks for where it is given commands."""
+        given = compare_archive.given(self.folder, commands)
+
+        def is_more(number):
+            self.restore()
+            return not programs.run_without(refuser, number, self.words, given)[1]
+
+        return bisect.bisect_left(range(1, MOST), True, key=is_more)
 
 
-def lines_of(run):
-    """What a run told: its answers and its status."""
-    return compare_archive.lines_of(run.stdout.decode(errors="backslashreplace"), run.returncode)
-
-
-def wanted_without_memory(archive, commands, told):
+def wanted_without_memory(office, commands, told):
     """What has to be told where one command at the most found no memory, or the program ended for want of it."""
-    lines, is_refused = [], False
-    for place, command in enumerate(commands):
-        if not is_refused and told[place] in NO_MEMORY:
-            lines.append(told[place])
+    wanted, is_refused = [(b"", 0)], False
+    for place, command in enumerate(commands, 1):
+        if not is_refused and told[place] in GIVEN_UP:
+            wanted.append(told[place])
             is_refused = True
-        elif not is_refused and told[place:] == ["status 1"]:
-            return lines + ["status 1"]
+        elif not is_refused and told[place:] == ENDED:
+            return wanted + ENDED
         else:
-            lines.append(archive.answer(command))
-    return lines + ["status 0"]
+            wanted.append(office.answer(*command))
+    return wanted + [(b"", 0)]
+
+
+def numbers_of(store, refuser, command):
+    """The allocations that are refused of a command that is given twice: each time some of the reading of its words, and all behind."""
+    opening = store.allocations(refuser, [])
+    reading = store.allocations(refuser, [REFUSED]) - opening - MARGIN
+    first = store.allocations(refuser, [command])
+    once = [*range(opening + 1, opening + reading, STEP), *range(opening + reading, first + 1)]
+    return [*once, *range(first + 1, first + reading, STEP), *range(first + reading, MOST)]
 
 
 def of_command(program, compiler, case):
-    """The comparisons of a case: its command, given twice, with each allocation refused for which they ask."""
+    """The comparisons of a case: its command, given twice, with allocations refused for which they ask."""
     before, command = CASES[case]
     with tempfile.TemporaryDirectory() as folder:
         store = Store(program, folder, before)
-        opening = programs.allocations(compiler, store.words, b"")
-        given, numbers = compare_archive.given([command] * 2), range(opening + 1, 1_000_000)
+        numbers = numbers_of(store, programs.built(compiler, folder), command)
+        given = compare_archive.given(folder, [command] * 2)
+        store.restore()
         for number, run in programs.runs_without_memory(compiler, store.words, given, numbers):
-            name, told, archive = f"{case}, allocation {number} refused", lines_of(run), store.archive()
-            yield name, told, wanted_without_memory(archive, [command] * 2, told)
-            yield compare_archive.of_tables(name, store.path, archive)
+            name, told, office = f"{case}, allocation {number} refused", compare_archive.answers_of(run), store.office()
+            yield name, told, wanted_without_memory(office, [command] * 2, told)
+            yield compare_archive.of_tables(name, store.path, office.archive)
             store.restore()
 
 
@@ -117,14 +141,15 @@ def of_opening(program, compiler, case, is_new):
     """The comparisons of an opening with some of its allocations refused, and of the next one: of an archive, or of a file
     that isn't there yet."""
     with tempfile.TemporaryDirectory() as folder:
-        store = Store(program, folder, [ANNA])
+        store = Store(program, folder, [REGISTER])
         put_back = store.remove if is_new else store.restore
         put_back()
-        for number, run in programs.runs_without_memory(compiler, store.words, b"", range(1, 1_000_000, STEP)):
-            name, told, archive = f"{case}, allocation {number} refused", lines_of(run), store.archive()
-            yield name, told, told if told in NOT_OPENED else ["status 0"]
-            yield name, compare_archive.answers(store.words, [ANNA]), ["registered" if is_new else "S1", "status 0"]
-            yield compare_archive.of_tables(name, store.path, archive)
+        for number, run in programs.runs_without_memory(compiler, store.words, b"", range(1, MOST, STEP)):
+            name, told, office = f"{case}, allocation {number} refused", compare_archive.answers_of(run), store.office()
+            yield name, told, told if told in NOT_OPENED else [(b"", 0), (b"", 0)]
+            answer = (b"registered 17\n", 0) if is_new else (b"S1 driver taken\n", 1)
+            yield name, store.answers([REGISTER]), [(b"", 0), answer, (b"", 0)]
+            yield compare_archive.of_tables(name, store.path, office.archive)
             put_back()
 
 

@@ -14,7 +14,7 @@ import tempfile
 
 import counting
 import programs
-from compare_archive import DAY, HOLDER, NOON, OTHER_DAY
+from office_rows import DAY, HOLDER, NOON, OTHER_DAY
 
 PROCESSES = 2
 STEP = 43  # one in so many of the allocations of an opening is refused
@@ -24,7 +24,7 @@ ANNA = (["register"], f"driver,holder,key,base,name\n17,{HOLDER},anna-key-1,2024
 BERT = (["register"], f"driver,holder,key,base,name\n18,{HOLDER},bert-key-1,2024-03-04,Bert Holm\n".encode())
 ENTER = (["enter", "17"], b"start,past,activity\n2024-03-04 07:00,2024-03-04 08:00,rest\n2024-03-04 16:30,2024-03-04 18:00,drive\n")
 CONTRADICT = (["enter", "17"], b"start,past,activity\n2024-03-04 17:00,2024-03-04 18:00,rest\n2024-03-04 16:00,2024-03-04 17:30,work\n")
-WITH_DAY = [ANNA, (["import", "both"], bytes.fromhex(DAY))]
+WITH_DAY = [ANNA, (["import", "both"], DAY)]
 WITH_HOURS = [*WITH_DAY, ENTER]
 
 # What an archive was given before, and the command.
@@ -32,8 +32,8 @@ CASES = {
     "a first driver": ([], ANNA),
     "a driver with a taken holder": ([ANNA], BERT),
     "a first download": ([ANNA], WITH_DAY[1]),
-    "a second download": ([ANNA, (["import", "both"], bytes.fromhex(NOON))], WITH_DAY[1]),
-    "a contradiction": (WITH_DAY, (["import", "both"], bytes.fromhex(OTHER_DAY))),
+    "a second download": ([ANNA, (["import", "both"], NOON)], WITH_DAY[1]),
+    "a contradiction": (WITH_DAY, (["import", "both"], OTHER_DAY)),
     "hours": (WITH_DAY, ENTER),
     "hours in another order": (WITH_DAY, CONTRADICT),
     "a withdrawal": (WITH_HOURS, (["withdraw", "17", "2"], b"")),

@@ -1,13 +1,10 @@
 """Random command lines of the office, from a seed: three drivers and their cards, weeks near the limits of the rules that are
 entered for one of them, and readings after what was done before."""
-import datetime
-
-import compare_archive
 import hard_timelines
-import slow_archive
+import random_commands
 import slow_csv
 import slow_office
-import slow_reader
+from random_commands import date_text, hours_csv
 
 LINES = 30
 FIRST_DAY = 10_957  # 2000-01-01, the first day of a month that is read
@@ -31,43 +28,13 @@ BAD = {
 }
 
 
-def date_text(day):
-    """The date of a day's number."""
-    return (slow_office.EPOCH + datetime.timedelta(days=day)).isoformat()
+def from_week(columns, day):
+    """The columns of a driver with the Monday of a day's week as his base."""
+    number, holder, key, _, name = columns
+    return number, holder, key, day - (day - 4) % 7, name
 
 
-def field(text):
-    """A field of CSV, in quotes where it needs them."""
-    return b'"' + text.replace(b'"', b'""') + b'"' if b"," in text or b'"' in text else text
-
-
-def driver_csv(number, holder, key, base, name):
-    """The CSV of a registration."""
-    columns = [number.encode(), holder.encode(), key.encode(), date_text(int(base)).encode(), field(slow_archive.bytes_of(name))]
-    return b",".join(slow_csv.DRIVER_HEAD) + b"\n" + b",".join(columns) + b"\n"
-
-
-def line_of(command):
-    """The words and the input of a command of the archive."""
-    word, *words = command.split()
-    if word == "register":
-        return ["register"], driver_csv(*words)
-    if word == "import":
-        return ["import", words[1]], slow_archive.bytes_of(words[2])
-    if word == "enter":
-        return ["enter", words[0]], compare_archive.sheet_of(words[1:]).encode()
-    if word == "rebase":
-        return ["base", words[0], date_text(int(words[1]))], b""
-    return [word, *words], b""
-
-
-def from_week(command, day):
-    """A registration with the Monday of a day's week as its base."""
-    word, number, holder, key, _, name = command.split()
-    return f"{word} {number} {holder} {key} {day - (day - 4) % 7} {name}"
-
-
-class Lines(compare_archive.Commands):
+class Lines(random_commands.Commands):
     """Command lines of a seed: words and an input each."""
 
     def __init__(self, seed):
@@ -75,29 +42,28 @@ class Lines(compare_archive.Commands):
         hard = hard_timelines.weekly_timeline(seed) if seed % 3 == 0 else hard_timelines.timeline(seed, 1 + seed % 2)
         self.hard, self.base, _ = hard
 
-    def from_card(self, command):
-        """A registration with the Monday of the card's first week as its base."""
-        holder = slow_archive.bytes_of(command.split()[2])
-        return from_week(command, next(card.days[0][0] for card in self.cards if card.holder == holder))
+    def from_card(self, columns):
+        """The columns of a driver with the Monday of his card's first week as his base."""
+        _, holder, *_ = columns
+        return from_week(columns, next(card.days[0][0] for card in self.cards if card.holder == holder))
 
-    def registrations(self):
+    def first_drivers(self):
         """All drivers: the last of them from the Monday of the hard weeks on, and the others from that of their card on."""
-        *commands, last = super().registrations()
-        self.examined = int(last.split()[1])
-        return [*map(self.from_card, commands), from_week(last, self.base // 1440)]
+        *drivers, last = super().first_drivers()
+        self.examined = last[0]
+        return [*map(self.from_card, drivers), from_week(last, self.base // 1440)]
 
     def import_new(self):
         """The import of a new file by the office."""
-        word, _, *words = super().import_new().split()
-        self.imports[-1] = " ".join([word, "office", *words])
+        words, file = super().import_new()
+        self.imports[-1] = ["import", words[-1]], file
         return self.imports[-1]
 
     def weeks(self):
         """The entry of some of the hard weeks' hours that are left."""
         count = self.chance.choice([len(self.hard), len(self.hard), len(self.hard) // 2])
         taken, self.hard = self.hard[:count], self.hard[count:]
-        hours = [f"{start} {past} {slow_reader.ACTIVITIES.index(activity)}" for start, past, activity in taken]
-        return " ".join([f"enter {self.examined}", *hours])
+        return ["enter", str(self.examined)], hours_csv(taken)
 
     def month(self, driver):
         """A month of which a driver holds something or the next to it, or a word that is none."""
@@ -107,13 +73,13 @@ class Lines(compare_archive.Commands):
 
     def number(self):
         """A driver's number: that of the hard weeks, one with downloads, if there is any, or any other."""
-        with_downloads = [number for number, driver in self.archive.drivers.items() if driver.downloads]
-        return self.chance.choice([self.examined, self.one_of(with_downloads or [self.examined]), self.one_of(compare_archive.NUMBERS)])
+        with_downloads = [number for number, driver in self.drivers.items() if driver.downloads]
+        return self.chance.choice([self.examined, self.one_of(with_downloads or [self.examined]), self.one_of(random_commands.NUMBERS)])
 
     def reading(self):
         """A reading of a driver."""
         word, number = self.chance.choice(READINGS), self.number()
-        driver = self.archive.drivers.get(number)
+        driver = self.drivers.get(number)
         if word in ("spans", "gaps", "sheet"):
             return [word, str(number), self.month(driver)], b""
         if word == "file":
@@ -137,16 +103,15 @@ class Lines(compare_archive.Commands):
         """The command lines: some drivers first, then the weeks, and then anything."""
         kinds = [self.import_new] * 4 + [self.enter] * 4 + [self.withdraw] * 3 + [self.weeks] * 2
         kinds += [self.import_again, self.rebase, self.register]
-        commands = [*self.registrations(), self.weeks()]
-        for command in commands:
-            self.archive.answer(command)
-        lines = [line_of(command) for command in commands]
+        lines = [*self.registrations(), self.weeks()]
+        for line in lines:
+            self.office.answer(*line)
         while len(lines) < LINES:
             command = None if self.chance.random() < 0.5 else self.chance.choice(kinds)()
-            line = line_of(command) if command else self.reading()
+            line = command or self.reading()
             if self.chance.random() < 0.1:
                 line = self.spoiled(*line)
             elif command:
-                self.archive.answer(command)
+                self.office.answer(*command)
             lines.append(line)
         return lines

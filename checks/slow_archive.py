@@ -1,23 +1,8 @@
 """A slow archive of drivers, written from the definitions and not from the program: a driver has a list of downloads and a list
 of entries, and the minutes that he holds, each with its mark, are found from these. `docs/TABLES.md` says what the tables are.
 
-A command is a line of words, and so is its answer (`Archive.answer`). Bytes are hexadecimal, `-` where there are none:
-
-    register NUMBER HOLDER KEY BASE NAME    registered
-    import office|NUMBER PART FILE          added driver NUMBER number NUMBER, repeated driver NUMBER
-    enter NUMBER and lines of hours         entered NUMBER count COUNT
-    withdraw NUMBER NUMBER                  withdrawn
-    rebase NUMBER BASE                      rebased
-    line NUMBER                             line, and start, past and mark of each span
-    entries NUMBER                          entries; number, start, past and activity of each, and kept or withdrawn
-    download NUMBER NUMBER                  download, and the file
-
-A line of hours is three words: start and past, by their minutes, and the number of the activity. The program is given a text of
-CSV in their place (`sheet_of` in `compare_archive.py`).
-
-A refusal answers its code, S6 with the minute, and S11 with the line of the file's fault. A registration with a column out
-of its limits answers the first of these, before any archive is asked.
-"""
+Each command is a call. A refusal is its code, S6 with the minute, and S11 with the line of the file's fault; after it nothing has
+changed."""
 import functools
 from collections import namedtuple
 
@@ -44,7 +29,7 @@ class Entry:
 
 
 class Refusal(Exception):
-    """The answer of a command that does nothing."""
+    """Why a command does nothing."""
 
 
 class Driver:
@@ -78,7 +63,7 @@ class Driver:
         return any(download.marks.get(minute) == mark for download in self.downloads)
 
     def take(self, part, file, marks):
-        """Takes a file, unless downloads give all its minutes already."""
+        """Takes a file, unless downloads give all its minutes already, and tells what was done."""
         if all(self.gives(minute, mark) for minute, mark in marks.items()):
             return f"repeated driver {self.number}"
         self.check(marks)
@@ -88,14 +73,15 @@ class Driver:
         return f"added driver {self.number} number {len(self.downloads)}"
 
     def enter(self, batch):
-        """Takes all entries of a batch, or none: S6, S14. No two of them have a minute in common."""
+        """Takes all entries of a batch, or none, and gives the number of the first: S6, S14. No two of them have a minute in
+        common."""
         for entry in sorted(batch, key=lambda entry: entry.start):
             self.check(entry.marks())
         if len(self.entries) + len(batch) > MOST:
             raise Refusal("S14")
         first = len(self.entries) + 1
         self.entries.extend(batch)
-        return f"entered {first} count {len(batch)}"
+        return first
 
     def withdraw(self, number):
         """Withdraws an entry: S7, S8."""
@@ -105,52 +91,12 @@ class Driver:
         if entry.is_withdrawn:
             raise Refusal("S8")
         entry.is_withdrawn = True
-        return "withdrawn"
-
-
-# Words
-
-
-def bytes_of(word):
-    """The bytes of a word."""
-    return bytes.fromhex("" if word == "-" else word)
-
-
-def word_of(given):
-    """The word of bytes."""
-    return given.hex() or "-"
 
 
 def mark_number(mark):
     """The number of a mark: 0 rest, 1 available, 2 work, 3 drive, and 4 more with a second driver."""
     activity, crew = mark
     return slow_reader.ACTIVITIES.index(activity) + 4 * (crew == "crew")
-
-
-# What is given
-
-
-def is_key(text):
-    """Whether a text is a key: 8 to 64 letters, digits and hyphens."""
-    return 8 <= len(text) <= 64 and all(c.isascii() and c.isalnum() or c == "-" for c in text)
-
-
-def is_name(given):
-    """Whether bytes are a name: 1 to 64, without controls, commas and double quotes."""
-    return 1 <= len(given) <= 64 and all(byte >= 32 and byte not in b'\x7f,"' for byte in given)
-
-
-def check_columns(number, key, base, name):
-    """Refuses the first column that is out of its limits."""
-    limits = [
-        ("Driver", 1 <= number <= 999_999),
-        ("Key", is_key(key)),
-        ("Base", base in slow_reader.READ_DAYS),
-        ("Name", is_name(name)),
-    ]
-    for column, is_within in limits:
-        if not is_within:
-            raise Refusal(f"out of limits: {column}")
 
 
 def check_monday(day):
@@ -175,24 +121,6 @@ class Archive:
     def __init__(self):
         self.drivers = {}
 
-    def answer(self, line):
-        """The answer to a command. After a refusal nothing has changed."""
-        command, *words = line.split()
-        commands = {
-            "register": self.register,
-            "import": self.import_file,
-            "enter": self.enter,
-            "withdraw": self.withdraw,
-            "rebase": self.rebase,
-            "line": self.line,
-            "entries": self.entries,
-            "download": self.download,
-        }
-        try:
-            return commands[command](*words)
-        except Refusal as refusal:
-            return str(refusal)
-
     def driver(self, number):
         """The driver with a number: S4."""
         if number not in self.drivers:
@@ -206,10 +134,8 @@ class Archive:
                 return driver
         raise Refusal("S4")
 
-    def register(self, number, holder, key, base, name):
+    def register(self, driver):
         """S1, S2, S3, S9."""
-        driver = Driver(int(number), bytes_of(holder), key, int(base), bytes_of(name))
-        check_columns(driver.number, driver.key, driver.base, driver.name)
         if driver.number in self.drivers:
             raise Refusal("S1")
         if any(other.key == driver.key for other in self.drivers.values()):
@@ -218,52 +144,35 @@ class Archive:
             raise Refusal("S3")
         check_monday(driver.base)
         self.drivers[driver.number] = driver
-        return "registered"
 
     def import_file(self, caller, part, file):
-        """S11 before all; then S4, S5, S6, S14."""
-        file = bytes_of(file)
+        """The import of a file by a driver with a number, or by the office, which has none: S11 before all; then S4, S5, S6, S14."""
         holder, marks = content(part, file)
-        driver = self.owner(holder) if caller == "office" else self.driver(int(caller))
+        driver = self.owner(holder) if caller is None else self.driver(caller)
         if driver.holder != holder:
             raise Refusal("S5")
         return driver.take(part, file, marks)
 
-    def enter(self, number, *lines):
-        """S4, S6, S14."""
-        numbers = [int(word) for word in lines]
-        return self.driver(int(number)).enter([Entry(*numbers[place : place + 3]) for place in range(0, len(numbers), 3)])
+    def enter(self, number, lines):
+        """The entry of lines of hours, each a start, a past and the number of an activity: S4, S6, S14."""
+        return self.driver(number).enter([Entry(*line) for line in lines])
 
     def withdraw(self, number, entry):
         """S4, S7, S8."""
-        return self.driver(int(number)).withdraw(int(entry))
+        self.driver(number).withdraw(entry)
 
     def rebase(self, number, base):
         """S4, S9."""
-        driver = self.driver(int(number))
-        check_monday(int(base))
-        driver.base = int(base)
-        return "rebased"
-
-    def line(self, number):
-        """S4."""
-        held = slow_reader.runs(self.driver(int(number)).held().items())
-        return " ".join(["line"] + [f"{start} {past} {mark_number(mark)}" for start, past, mark in held])
-
-    def entries(self, number):
-        """S4."""
-        words = ["entries"]
-        for place, entry in enumerate(self.driver(int(number)).entries, 1):
-            standing = "withdrawn" if entry.is_withdrawn else "kept"
-            words.append(f"{place} {entry.start} {entry.past} {mark_number(entry.mark)} {standing}")
-        return " ".join(words)
+        driver = self.driver(number)
+        check_monday(base)
+        driver.base = base
 
     def download(self, number, download):
-        """S4, S10."""
-        downloads = self.driver(int(number)).downloads
-        if not 1 <= int(download) <= len(downloads):
+        """The bytes of a file: S4, S10."""
+        downloads = self.driver(number).downloads
+        if not 1 <= download <= len(downloads):
             raise Refusal("S10")
-        return f"download {word_of(downloads[int(download) - 1].file)}"
+        return downloads[download - 1].file
 
     def tables(self):
         """The rows of each table, in order; of spans the minutes, each with its driver and its mark."""

@@ -1,7 +1,8 @@
 """A slow office over an archive, written from the definitions and not from the program: what each command line prints for an
 input, and its status. Its texts are written a minute at a time. `docs/FORMATS.md` says what they are.
 
-`Office.answer` is given the words without the archive's path (`["spans", "17", "2024-03"]`) and the input's bytes."""
+`Office.answer` is given the words without the archive's path (`["spans", "17", "2024-03"]`) and the input's bytes. It takes one
+command more than the program, `own`: the import of a card file by the driver himself whose number it has."""
 import datetime
 import functools
 import re
@@ -238,7 +239,8 @@ class Office:
         command, *others = words
         commands = {
             "register": lambda: self.register(given),
-            "import": lambda: self.import_file(given, *others),
+            "import": lambda: self.import_file(given, None, *others),
+            "own": lambda: self.import_file(given, *others),
             "enter": lambda: self.enter(given, *others),
             "withdraw": lambda: self.withdraw(*others),
             "base": lambda: self.rebase(*others),
@@ -265,20 +267,22 @@ class Office:
     def register(self, given):
         """X1, E1, E2, E9, S1, S2, S3, S9."""
         number, holder, key, base, name = slow_csv.driver_of(within(given))
-        self.archive.register(number.decode(), holder.decode(), key.decode(), slow_csv.day_of(base), name.hex())
+        columns = int(number), bytes.fromhex(holder.decode()), key.decode(), slow_csv.day_of(base), name
+        self.archive.register(slow_archive.Driver(*columns))
         return f"registered {number.decode()}\n"
 
-    def import_file(self, given, part):
-        """P1, X1, C1 to C14, S4, S6, S14."""
+    def import_file(self, given, caller, part):
+        """P1, X1, C1 to C14, S4, S5, S6, S14."""
         part = part_of(part)
-        return self.archive.import_file("office", part, slow_archive.word_of(within(given))) + "\n"
+        caller = None if caller is None else number_of(caller, LAST_DRIVER)
+        return self.archive.import_file(caller, part, within(given)) + "\n"
 
     def enter(self, given, number):
         """N1, X1, E1 to E7, S4, S6, S14."""
         number = number_of(number, LAST_DRIVER)
         lines = slow_csv.entries_of(within(given))
-        words = [word for start, past, activity in lines for word in (start, past, slow_reader.ACTIVITIES.index(activity))]
-        first = int(self.archive.enter(number, *words).split()[1])
+        hours = [(start, past, slow_reader.ACTIVITIES.index(activity)) for start, past, activity in lines]
+        first = self.archive.enter(number, hours)
         return f"entered {first} to {first + len(lines) - 1}\n" if lines else "entered none\n"
 
     def withdraw(self, number, entry):
@@ -338,4 +342,4 @@ class Office:
     def file(self, number, download):
         """A card file of a driver: N1, S4, S10."""
         number, download = number_of(number, LAST_DRIVER), number_of(download, LAST_NUMBER)
-        return slow_archive.bytes_of(self.archive.download(number, download).split()[1])
+        return self.archive.download(number, download)

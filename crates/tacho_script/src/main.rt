@@ -1,89 +1,145 @@
-//! Runs commands on an archive and prints what they answer. A command is a line of standard input, and its answer a line.
-//! The words say which archive, and which commands there are. For the check beside a slow archive: `archive FILE` is that of
-//! a file, which is made where it isn't there, and `shelf` one in memory without SQL. For the benchmark: `make FILE` is
-//! a file that has none yet, `open FILE` one that has one, and `memory` an archive in memory.
+//! Does commands at an archive, for the checks and for the benchmark.
+//!
+//! The words of the command line say which archive: `archive FILE` is that of a file, which is made where it isn't there,
+//! `memory` one of SQLite in memory, and `shelf` one without SQL. `status 0` is told when it is open, and `status 3` where it
+//! can't be opened.
+//!
+//! A command is a line of standard input: the words of the program `tacho` behind its name, with any word for the archive, and
+//! then, where it reads something, ` < ` and the path of a file: `enter - 17 < hours.csv`. What it prints is told as it is, and
+//! then a line with its status: `status 2` where the line names no command, or its file can't be read. One command more imports a
+//! card file by a driver himself: `own - 17 both < day.ddd`.
 #![tactic(auto)]
 
-mod answers;
-mod command;
-mod timed;
-
 use sqlite::{Connection, File, FileStore};
-use std::rt::Env;
-use std::{env, io};
+use std::alloc::{AllocError, Global};
+use std::io::{self, BufRead, BufReader, Write};
+use std::{env, fs};
+use tacho_card::Part;
+use tacho_cli::{parse, perform};
+use tacho_sheet::{Fault, fault_line, imported_line};
 use tacho_shelf::Shelf;
-use tacho_state::{Keeper, StoreFault};
-use tacho_store::Archive;
+use tacho_state::{Caller, Keeper, StoreFault};
+use tacho_store::{Archive, open_memory};
 use tacho_tables::opening;
-use timed::Opening;
+use tacho_time::Device;
 
-/// A connection to a file.
-type FileConnection = Connection<FileStore<File>>;
-
-/// An archive in a file.
-type FileArchive = Archive<FileStore<File>>;
-
-/// The words of the command line, the program's name the first of them.
-fn words(rt: &(impl Env + AllocGlobal)) -> io::Result<Vec<String>> {
-    Ok(env::args(rt)?.collect(rt.alloc())?)
+/// Words between blanks, behind the program's name.
+fn words_of(alloc: Global, line: &str) -> Result<Vec<String>, AllocError> {
+    let mut words = Vec::new(alloc);
+    words.push(String::from_str(alloc, "tacho")?)?;
+    for word in line.split(' ') {
+        words.push(String::from_str(alloc, word)?)?;
+    }
+    Ok(words)
 }
 
-/// Answers the commands of standard input, a line each.
-fn run<K: Keeper>(rt: &(impl Input + Print + AllocGlobal), keeper: &mut K) -> io::Result<()> {
-    for line in rt.lines(rt.alloc()) {
-        answers::answer(rt, rt.alloc(), keeper, line?.as_str())?;
+/// Imports a card file by a driver, whose number and part these words are, and answers the status.
+fn import_own<K: Keeper>(
+    rt: &HostRuntime,
+    keeper: &mut K,
+    words: &str,
+    file: &[u8],
+) -> io::Result<u8> {
+    let (driver, part) = match words.split_once(' ') {
+        Some((driver, "first")) => (driver, Part::First),
+        Some((driver, "second")) => (driver, Part::Second),
+        Some((driver, "both")) => (driver, Part::Both),
+        _ => return Ok(2),
+    };
+    let Ok(driver) = driver.parse::<u32>() else {
+        return Ok(2);
+    };
+    match keeper.import(rt.alloc(), Caller::Driver(driver), part, file) {
+        Ok(imported) => {
+            rt.stdout().write_all(imported_line(imported).as_slice())?;
+            Ok(0)
+        }
+        Err(fault) => {
+            let has_failed = matches!(&fault, StoreFault::Store | StoreFault::Memory);
+            let line = fault_line(rt.alloc(), Fault::Store(fault))?;
+            print!(rt; "{line}")?;
+            Ok(if has_failed { 3 } else { 1 })
+        }
+    }
+}
+
+/// Does the command of a line, and answers its status.
+fn obey<K: Keeper>(rt: &HostRuntime, keeper: &mut K, line: &str) -> io::Result<u8> {
+    let (line, path) = line.split_once(" < ").unwrap_or((line, "/dev/null"));
+    let input = fs::read(rt, path)?;
+    if let Some(words) = line.strip_prefix("own - ") {
+        return import_own(rt, keeper, words, &input);
+    }
+    let words = words_of(rt.alloc(), line)?;
+    let Ok(job) = parse(rt.alloc(), &words) else {
+        return Ok(2);
+    };
+    if !job.at_desk() {
+        return Ok(2);
+    }
+    let mut reader = Device::new(input.as_slice());
+    let mut writer = Device::new(rt.stdout());
+    Ok(perform(rt.alloc(), job, keeper, &mut reader, &mut writer))
+}
+
+/// Does the commands of standard input, and tells the status of each.
+fn obey_all<K: Keeper>(rt: &HostRuntime, keeper: &mut K) -> io::Result<()> {
+    println!(rt; "status 0")?;
+    for line in BufReader::new(rt.alloc(), rt.reader())?.lines(rt.alloc()) {
+        let status = obey(rt, keeper, line?.as_str()).unwrap_or(2);
+        println!(rt; "status {status}")?;
     }
     Ok(())
 }
 
-/// The archive of a connection: the one that is there, or a new one where there are no tables.
-fn archive_of(conn: FileConnection) -> Result<FileArchive, (StoreFault, FileConnection)> {
-    if !conn.is_autocommit() {
-        return Err((StoreFault::Store, conn));
-    }
-    if opening::has_tables(&conn) {
-        return Archive::adopt(conn);
-    }
-    Archive::create(conn)
-}
-
-/// Closes an archive's file.
-fn close(rt: &impl Print, archive: FileArchive) -> io::Result<()> {
-    match archive.close().close() {
-        Ok(()) => Ok(()),
-        Err(fault) => println!(rt; "not closed: {fault:?}"),
-    }
-}
-
-/// Answers the commands on the archive of a file.
-fn run_file(rt: &HostRuntime, path: &str) -> io::Result<()> {
+/// The archive of a file: the one that is there, or a new one where there are no tables.
+fn archive_at(rt: &HostRuntime, path: &str) -> Option<Archive<FileStore<File>>> {
     let conn = match Connection::open_with_sums(rt, path) {
         Ok(conn) => conn,
-        Err(fault) => return println!(rt; "not opened: {fault:?}"),
+        Err(_) => return None,
     };
-    match archive_of(conn) {
-        Ok(mut archive) => {
-            run(rt, &mut archive)?;
-            close(rt, archive)
+    if !conn.is_autocommit() {
+        let _ = conn.close();
+        return None;
+    }
+    let taken = if opening::has_tables(&conn) {
+        Archive::adopt(conn)
+    } else {
+        Archive::create(conn)
+    };
+    match taken {
+        Ok(archive) => Some(archive),
+        Err(refused) => {
+            let _ = refused.1.close();
+            None
         }
-        Err((fault, conn)) => {
-            drop(conn);
-            println!(rt; "no archive: {fault:?}")
-        }
+    }
+}
+
+/// Does the commands at the archive of a file, which is closed then.
+fn obey_at(rt: &HostRuntime, path: &str) -> io::Result<()> {
+    let Some(mut archive) = archive_at(rt, path) else {
+        return println!(rt; "status 3");
+    };
+    let done = obey_all(rt, &mut archive);
+    match archive.close().close() {
+        Ok(()) => done,
+        Err(_) => println!(rt; "not closed"),
     }
 }
 
 fn main(rt: HostRuntime) -> io::Result<()> {
-    let words = words(&rt)?;
+    let words: Vec<String> = env::args(&rt)?.collect(rt.alloc())?;
     match (
         words.get(1).map(String::as_str),
         words.get(2).map(String::as_str),
     ) {
-        (Some("shelf"), None) => run(&rt, &mut Shelf::new(rt.alloc())),
-        (Some("archive"), Some(path)) => run_file(&rt, path),
-        (Some("memory"), None) => timed::work_in_memory(&rt),
-        (Some("make"), Some(path)) => timed::work_in_file(&rt, Opening::Make, path),
-        (Some("open"), Some(path)) => timed::work_in_file(&rt, Opening::Open, path),
-        _ => println!(rt; "no archive is named"),
+        (Some("archive"), Some(path)) => obey_at(&rt, path),
+        (Some("shelf"), None) => obey_all(&rt, &mut Shelf::new(rt.alloc())),
+        (Some("memory"), None) => match open_memory(rt.alloc()) {
+            Ok(mut archive) => obey_all(&rt, &mut archive),
+            Err(_) => println!(rt; "status 3"),
+        },
+        _ => println!(rt; "status 2"),
     }
 }

@@ -1,0 +1,180 @@
+"""Random commands of the office, from a seed: three drivers and their cards, files of these, whole or in part, and hours that agree
+with what is held, or touch it, or contradict it. A command is its words, without the archive's path, and its input."""
+import datetime
+import random
+
+import random_cards
+import slow_csv
+import slow_office
+import slow_reader
+
+COMMANDS = 40
+
+NUMBERS = [17, 18, 999_999]
+KEYS = ["anna-key-1", "bert-key-2", "Key3" * 16]
+NAMES = [b"Anna Berg", "Zo\u00eb".encode(), b"B" * 64]
+BASES = [19_786, 19_793, 10_959, 47_478]
+BAD_NUMBERS = [0, 1_000_000]
+BAD_KEYS = ["short-1", "under_score", "k" * 65]
+BAD_NAMES = [b"", b"Berg, Anna", b'Anna "A"', b"Anna\x7f", b"n" * 65]
+OTHER_BASES = [19_787, 19_792, 10_958, 47_482, 0]
+LENGTHS = [1, 2, 30, 60, 300, 1440, 2880]
+MINUTES = range(1440 * slow_reader.READ_DAYS.start, 1440 * slow_reader.READ_DAYS.stop)
+
+# The months in which the cards have their days, and the readings of all that a driver holds in them.
+MONTHS = ["2000-01", "2024-03", "2099-12"]
+TIMELINE = [*[("spans", month) for month in MONTHS], ("sheet", MONTHS[1])]
+
+
+# Texts of CSV
+
+
+def date_text(day):
+    """The date of a day's number."""
+    return (slow_office.EPOCH + datetime.timedelta(days=day)).isoformat()
+
+
+def field(text):
+    """A field of CSV, in quotes where it needs them."""
+    return b'"' + text.replace(b'"', b'""') + b'"' if b"," in text or b'"' in text else text
+
+
+def driver_csv(number, holder, key, base, name):
+    """The text of CSV with a driver."""
+    columns = [str(number).encode(), holder.hex().encode(), key.encode(), date_text(base).encode(), field(name)]
+    return b",".join(slow_csv.DRIVER_HEAD) + b"\n" + b",".join(columns) + b"\n"
+
+
+def hours_csv(spans):
+    """The text of CSV with hours: a start, a past and an activity each."""
+    rows = [f"{slow_reader.minute_text(start)},{slow_reader.minute_text(past)},{activity}\n" for start, past, activity in spans]
+    return b",".join(slow_csv.ENTRIES_HEAD) + b"\n" + "".join(rows).encode()
+
+
+# Commands
+
+
+class Commands:
+    """Commands of a seed, on a few drivers and their cards, and on what these hold after the commands before."""
+
+    def __init__(self, seed):
+        self.chance = random.Random(seed)
+        self.cards = [random_cards.Card(self.chance, holder) for holder in random_cards.HOLDERS]
+        self.imports = []
+        self.office = slow_office.Office()
+        self.drivers = self.office.archive.drivers
+
+    def one_of(self, usual, others=()):
+        """A usual value, or rarely another one."""
+        return self.chance.choice(others if others and self.chance.random() < 0.05 else usual)
+
+    def columns(self, number, holder, key, name):
+        """The columns of a driver, from any base."""
+        return number, holder, key, self.one_of(BASES, OTHER_BASES), name
+
+    def register(self):
+        """A driver, who may have what another has, or a column out of its limits."""
+        number, key = self.one_of(NUMBERS, BAD_NUMBERS), self.one_of(KEYS, BAD_KEYS)
+        columns = self.columns(number, self.one_of(self.cards).holder, key, self.one_of(NAMES, BAD_NAMES))
+        return ["register"], driver_csv(*columns)
+
+    def first_drivers(self):
+        """The columns of all drivers, or of all but one of them."""
+        holders = [card.holder for card in self.cards]
+        drivers = [self.columns(*given) for given in zip(NUMBERS, holders, KEYS, NAMES)]
+        return self.chance.sample(drivers, self.one_of([3, 3, 3, 2]))
+
+    def registrations(self):
+        """The registrations of these."""
+        return [(["register"], driver_csv(*columns)) for columns in self.first_drivers()]
+
+    def import_new(self):
+        """The import of a new file by the office or by a driver, mostly the one whose card it is."""
+        place = self.chance.randrange(len(self.cards))
+        caller = self.one_of(["office", "office", NUMBERS[place]], [*NUMBERS, 16])
+        part = self.one_of(["both"] * 8 + ["first", "second"])
+        words = ["import", part] if caller == "office" else ["own", str(caller), part]
+        self.imports.append((words, self.cards[place].file()))
+        return self.imports[-1]
+
+    def import_again(self):
+        """An import that there was before, if there was one."""
+        return self.one_of(self.imports) if self.imports else self.import_new()
+
+    def rebase(self):
+        """Another base, not always a Monday."""
+        return ["base", str(self.one_of(NUMBERS, [1, 16])), date_text(self.one_of(BASES, OTHER_BASES))], b""
+
+    def download(self):
+        """A file that is there or not."""
+        return ["file", str(self.one_of(NUMBERS, [16])), str(1 + self.chance.randrange(4))], b""
+
+    def driver(self):
+        """A driver's number, and what he holds: start, past and mark of each run of minutes."""
+        number = self.one_of(NUMBERS, [1, 16])
+        driver = self.drivers.get(number)
+        return number, slow_reader.runs(driver.held().items()) if driver else []
+
+    def start(self, runs):
+        """A minute from which hours are: one where held minutes begin or end, or close to it, or any of a card's days."""
+        if runs and self.chance.random() < 0.8:
+            return self.chance.choice(self.chance.choice(runs)[:2]) + self.one_of([-30, -1, 0, 0, 0, 1, 30])
+        return 1440 * self.chance.choice(self.chance.choice(self.cards).days)[0] + self.chance.randrange(1440)
+
+    def activity(self, runs, start, past):
+        """An activity: mostly one that a held minute has among these, or beside them, if there is any."""
+        near = [mark for a, b, mark in runs if a <= past and b >= start]
+        if near and self.chance.random() < 0.9:
+            return self.chance.choice(near)[0]
+        return slow_reader.ACTIVITIES[self.chance.randrange(4)]
+
+    def hours(self, runs, start, past):
+        """Hours within some minutes, which may end where others of what is held begin or end."""
+        ends = [end for run in runs for end in run[:2] if start < end <= past]
+        if ends and self.chance.random() < 0.5:
+            past = self.chance.choice(ends)
+        return start, past, self.activity(runs, start, past)
+
+    def enter(self):
+        """A batch of hours, or of none: lines that agree with what the driver holds, or touch it, or contradict it."""
+        number, runs = self.driver()
+        starts = sorted({self.start(runs) for _ in range(self.one_of([1, 1, 2, 3, 4], [0]))})
+        spans = [
+            self.hours(runs, start, min(start + self.chance.choice(LENGTHS), limit))
+            for start, limit in zip(starts, [*starts[1:], MINUTES[-1]])
+            if start in MINUTES and start < limit
+        ]
+        return ["enter", str(number)], hours_csv(spans)
+
+    def withdraw(self):
+        """A withdrawal of an entry that is kept or withdrawn, or of one that there isn't."""
+        drivers = [driver for driver in self.drivers.values() if driver.entries]
+        if not drivers or self.chance.random() < 0.1:
+            return ["withdraw", str(self.one_of(NUMBERS, [1, 16])), str(1 + self.chance.randrange(4))], b""
+        driver = self.chance.choice(drivers)
+        return ["withdraw", str(driver.number), str(self.chance.randrange(1, len(driver.entries) + 1))], b""
+
+    def entries(self):
+        """A driver's entries."""
+        return ["entries", str(self.one_of(NUMBERS, [1, 16]))], b""
+
+    def timeline(self):
+        """A driver's timeline: several commands."""
+        number = str(self.one_of(NUMBERS, [1, 16]))
+        return [([word, number, month], b"") for word, month in TIMELINE]
+
+    def all(self):
+        """The commands: some drivers first, and then anything."""
+        kinds = [self.import_new] * 7 + [self.enter] * 7 + [self.withdraw] * 4
+        kinds += [self.import_again, self.timeline, self.entries, self.download, self.rebase, self.register]
+        commands = self.registrations()
+        for command in commands:
+            self.office.answer(*command)
+        for _ in range(COMMANDS - len(commands)):
+            kind = self.chance.choice(kinds)
+            if kind == self.timeline:
+                commands += kind()
+            else:
+                commands.append(kind())
+                self.office.answer(*commands[-1])
+        return commands
