@@ -298,6 +298,8 @@ def comparisons(program):
     with multiprocessing.Pool(PROCESSES) as pool:
         for found in pool.imap(of_seed, [(program, seed) for seed in range(SEEDS)], chunksize=4):
             yield from found
+        pool.close()
+        pool.join()
 
 
 if __name__ == "__main__":

@@ -33,6 +33,8 @@ def of_change(question):
 def comparisons(program):
     with multiprocessing.Pool(PROCESSES) as pool:
         yield from pool.imap(of_change, [(program, name, value) for name, value in changes(VALUE)], chunksize=100)
+        pool.close()
+        pool.join()
 
 
 if __name__ == "__main__":

@@ -76,6 +76,8 @@ def comparisons(tacho, rows):
     with multiprocessing.Pool(PROCESSES) as pool:
         for found in pool.imap(of_file, [(tacho, rows, name, file) for name, file in files()], chunksize=20):
             yield from found
+        pool.close()
+        pool.join()
 
 
 if __name__ == "__main__":

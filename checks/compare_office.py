@@ -421,6 +421,8 @@ def comparisons(program):
     with multiprocessing.Pool(PROCESSES) as pool:
         for found in pool.imap(of_question, questions):
             yield from found
+        pool.close()
+        pool.join()
 
 
 if __name__ == "__main__":

@@ -157,6 +157,8 @@ def comparisons(program, compiler=None):
         lines = of_seeds(pool, near_limits, LINES)
         weekly_lines = of_seeds(pool, near_weekly_limits, WEEKLY_LINES)
         held_lines = of_seeds(pool, near_horizons, HELD_LINES)
+        pool.close()
+        pool.join()
     questions = lines + weekly_lines + held_lines + list(examples())
     for (word, given, expected), answer in answers(program, questions):
         yield f"{word} of {given.strip()}", answer, expected

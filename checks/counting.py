@@ -16,7 +16,8 @@ def difference(told, wanted):
 def count(comparisons):
     """The status of a check, whose comparisons are a name, what was told and what was wanted: 0 where some passed and none
     failed."""
-    # A check that is told to end leaves its `with` blocks, and so ends what it has started.
+    # A check that is told to end leaves its `with` blocks, and so ends what it has started. One that has a pool closes and joins it
+    # when it is done: a worker that is ended while it takes a lock doesn't hear of it, and the pool would wait for it for ever.
     signal.signal(signal.SIGTERM, lambda number, _: sys.exit(128 + number))
     passed = failed = 0
     for name, told, wanted in comparisons:

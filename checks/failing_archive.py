@@ -166,6 +166,8 @@ def comparisons(program, compiler):
     with multiprocessing.Pool(PROCESSES) as pool:
         for found in pool.imap(of_question, questions):
             yield from found
+        pool.close()
+        pool.join()
 
 
 if __name__ == "__main__":

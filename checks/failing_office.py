@@ -129,6 +129,8 @@ def comparisons(program, compiler):
     with multiprocessing.Pool(PROCESSES) as pool:
         for found in pool.imap(of_case, [(program, compiler, case) for case in CASES]):
             yield from found
+        pool.close()
+        pool.join()
 
 
 if __name__ == "__main__":

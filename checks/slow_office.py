@@ -51,7 +51,7 @@ FAULTS = {
 
 def number_of(text, most):
     """The number that a word is: N1."""
-    if not re.fullmatch("[1-9][0-9]*", text) or int(text) > most:
+    if not re.fullmatch("[1-9][0-9]{0,6}", text) or int(text) > most:
         raise slow_reader.Fault("N1 bad number")
     return int(text)
 
