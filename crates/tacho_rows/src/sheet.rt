@@ -4,11 +4,8 @@ use tacho_sheet::{Fault, SheetFault, fault_line, push_byte, read_driver, read_en
 use tacho_state::{Driver, EntryLine};
 
 /// Prints the line of a fault.
-fn tell_fault(rt: &impl Print, alloc: Global, fault: SheetFault) -> io::Result<()> {
-    match fault_line(alloc, Fault::Sheet(fault)) {
-        Ok(line) => print!(rt; "{line}"),
-        Err(_) => println!(rt; "M1 no memory"),
-    }
+fn tell_fault(rt: &impl Print, fault: SheetFault) -> io::Result<()> {
+    print!(rt; "{}", fault_line(Fault::Sheet(fault)).as_str())
 }
 
 /// Prints entered hours, a line each: start, past and activity.
@@ -24,7 +21,7 @@ fn print_lines(rt: &impl Print, lines: &[EntryLine]) -> io::Result<()> {
 pub(crate) fn tell_entries(rt: &impl Print, alloc: Global, bytes: &[u8]) -> io::Result<()> {
     match read_entries(alloc, bytes) {
         Ok(lines) => print_lines(rt, &lines),
-        Err(fault) => tell_fault(rt, alloc, fault),
+        Err(fault) => tell_fault(rt, fault),
     }
 }
 
@@ -54,6 +51,6 @@ fn print_driver(rt: &impl Print, alloc: Global, driver: &Driver) -> io::Result<(
 pub(crate) fn tell_driver(rt: &impl Print, alloc: Global, bytes: &[u8]) -> io::Result<()> {
     match read_driver(alloc, bytes) {
         Ok(driver) => print_driver(rt, alloc, &driver),
-        Err(fault) => tell_fault(rt, alloc, fault),
+        Err(fault) => tell_fault(rt, fault),
     }
 }

@@ -56,8 +56,7 @@ fn import_own<K: Keeper>(
         }
         Err(fault) => {
             let has_failed = matches!(&fault, StoreFault::Store | StoreFault::Memory);
-            let line = fault_line(rt.alloc(), Fault::Store(fault))?;
-            print!(rt; "{line}")?;
+            print!(rt; "{}", fault_line(Fault::Store(fault)).as_str())?;
             Ok(if has_failed { 3 } else { 1 })
         }
     }

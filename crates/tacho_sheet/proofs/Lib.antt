@@ -7,3 +7,4 @@ pub mod RowLemmas
 pub mod AmountLemmas
 pub mod SheetLemmas
 pub mod MarkLemmas
+pub mod OneLemmas

@@ -99,6 +99,9 @@ csv_line s =
     minute_text s.start ++ (codes "," ++ (minute_text s.past ++ (codes "," ++ (activity_name s.mark.activity ++ (codes ","
     ++ (manning_name s.mark.crew ++ codes "\n"))))))
 
+abbrev pub csv_text : List Span → List ℕ
+csv_text spans = codes "start,past,activity,manning\n" ++ flat_map csv_line spans
+
 -- a head, and the canonical spans of what is held in the month
 pub record IsSpanCsv (line : List Span) (month : ℕ) (text : List ℕ) : Type 0 where
   pub start : ℕ
@@ -106,7 +109,7 @@ pub record IsSpanCsv (line : List Span) (month : ℕ) (text : List ℕ) : Type 0
   pub bounds : AreBounds month start past
   pub spans : List Span
   pub held : IsCanonicalOf (HoldsWithin line start past) spans
-  pub is : text ≡ codes "start,past,activity,manning\n" ++ flat_map csv_line spans
+  pub is : text ≡ csv_text spans
 
 -- ---- the sheet of a month
 
@@ -170,12 +173,16 @@ abbrev pub breaches_within : ℕ → ℕ → List Breach → List Breach
 breaches_within start past breaches = filter (λ b. nat_le start b.moment && nat_lt b.moment past) breaches
 
 -- driver, month, head, a line for each day, the sums, the breaches of the month, and where the examination ends
+abbrev pub sheet_text : ℕ → List ℕ → List Span → List Breach → Horizon → ℕ → ℕ → ℕ → List ℕ
+sheet_text number name line breaches horizon month day days =
+    codes "DRIVER " ++ (decimal number ++ (codes " " ++ (name ++ (codes "\nMONTH " ++ (month_text month
+    ++ (codes "\nDATE       DAY   REST  AVAIL   WORK  DRIVE   CREW   NONE\n"
+    ++ (day_lines line day days ++ (codes "TOTAL         " ++ (amounts_text line (1440 * day) (1440 * days) ++ (codes "\n"
+    ++ (flat_map breach_line (breaches_within (1440 * day) (1440 * (day + days)) breaches) ++ horizon_line horizon)))))))))))
+
 pub record IsMonthSheet (number : ℕ) (name : List ℕ) (line : List Span) (breaches : List Breach) (horizon : Horizon) (month : ℕ)
     (text : List ℕ) : Type 0 where
   pub day : ℕ
   pub days : ℕ
   pub bounds : AreBounds month (1440 * day) (1440 * (day + days))
-  pub is : text ≡ codes "DRIVER " ++ (decimal number ++ (codes " " ++ (name ++ (codes "\nMONTH " ++ (month_text month
-      ++ (codes "\nDATE       DAY   REST  AVAIL   WORK  DRIVE   CREW   NONE\n"
-      ++ (day_lines line day days ++ (codes "TOTAL         " ++ (amounts_text line (1440 * day) (1440 * days) ++ (codes "\n"
-      ++ (flat_map breach_line (breaches_within (1440 * day) (1440 * (day + days)) breaches) ++ horizon_line horizon)))))))))))
+  pub is : text ≡ sheet_text number name line breaches horizon month day days

@@ -22,6 +22,6 @@ pub use jiff_core::civil::Weekday;
 pub use minute::Minute;
 pub use month::{Month, month_range};
 pub use span::{Activity, Mark, Span};
-pub use text::{day_line, write_day, write_minute, write_span};
+pub use text::{day_line, minute_line, write_day, write_minute, write_span};
 pub use week::{Week, first_minute, next_week, week_of, weekday};
 pub use whole::{ReadFault, read_all, write_all};

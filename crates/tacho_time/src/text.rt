@@ -63,6 +63,16 @@ pub fn day_line(day: Day) -> Line
     line
 }
 
+/// A minute as `YYYY-MM-DD HH:MM`, in UTC, without memory.
+pub fn minute_line(minute: Minute) -> Line
+    ensures text { result.bytes ≡ minute_text minute }
+    ensures len { array_string_len result ≡ 16 }
+{
+    let mut line = Line::new();
+    push_minute(&mut line, minute);
+    line
+}
+
 /// Appends `YYYY-MM-DD`.
 pub fn write_day(text: &mut String, day: Day) -> Result<(), AllocError>
     ensures ok { OnOk result (string_bytes text.new ≡ string_bytes text.old ++ day_text day) }
@@ -76,9 +86,7 @@ pub fn write_minute(text: &mut String, minute: Minute) -> Result<(), AllocError>
     ensures ok { OnOk result (string_bytes text.new ≡ string_bytes text.old ++ minute_text minute) }
     ensures err { OnErr result (string_bytes text.new ≡ string_bytes text.old) }
 {
-    let mut line = Line::new();
-    push_minute(&mut line, minute);
-    text.push_str(line.as_str())
+    text.push_str(minute_line(minute).as_str())
 }
 
 /// Appends the line of a span: start, past, activity and manning, with blanks between, and a line feed.
@@ -107,8 +115,6 @@ impl fmt::Display for Minute {
     ghost styled_output = { λ minute spec. Some (minute_text minute) };
 
     fn fmt<W: fmt::Write>(&self, f: &mut fmt::Formatter<W>) -> fmt::Result {
-        let mut line = Line::new();
-        push_minute(&mut line, *self);
-        f.write_str(line.as_str())
+        f.write_str(minute_line(*self).as_str())
     }
 }
