@@ -1,3 +1,4 @@
 mod StepLemmas
 mod ServeLemmas
 mod ShownLemmas
+mod OwnLemmas

@@ -20,7 +20,7 @@ use Rattle.tacho_sheet.specs.declared.fault.SheetFault.{SheetFault}
 use Rattle.tacho_sheet.specs.declared.fault.SheetFault.TheVariants as sheet
 use Rattle.tacho_desk.specs.Doing.{Doing, Done, Serves, Steps, Stops, in_words}
 use Rattle.tacho_desk.specs.Fault.{IsGivenUp, sheet_fault, store_fault}
-use Rattle.tacho_desk.specs.Tasks.{Enters, EntersRead, Imports, Registers, RegistersRead, imported_told}
+use Rattle.tacho_desk.specs.Tasks.{Enters, EntersRead, Imports, OrCsv, Registers, RegistersRead, imported_told}
 use Rattle.tacho_desk.specs.Told.{Answer, Told, answer_of}
 use Rattle.tacho_desk.specs.declared.fault.Fault.{Fault}
 use Rattle.tacho_desk.specs.declared.text.Text.{Text}
@@ -62,17 +62,20 @@ refusal_of view words store.NotMonday told h = inl h
 refusal_of view words store.UnknownDownload told h = inl h
 refusal_of view words store.Full told h = inl h
 
-given_up : (f : SheetFault) → IsReaderFault f → IsGivenUp (sheet_fault f)
-given_up sheet.Memory h = tt
-given_up sheet.Csv h = tt
-given_up sheet.Head h = absurd h
-given_up (sheet.Fields row) h = absurd h
-given_up (sheet.Time row) h = absurd h
-given_up (sheet.Order row) h = absurd h
-given_up (sheet.LeftOut row word) h = absurd h
-given_up (sheet.Activity row) h = absurd h
-given_up (sheet.TooLong row) h = absurd h
-given_up (sheet.Column column) h = absurd h
+-- a text of CSV that could not be read: for want of memory, or by E8, or by its first fault
+read_fault : {A : Type 0} (Is : Result A SheetFault → Type 0) (f : SheetFault) → IsReaderFault f ⊎ Is (Err f)
+    → OrCsv Is (Err f) ⊎ IsGivenUp (sheet_fault f)
+read_fault Is f (inr is) = inl (inl is)
+read_fault Is sheet.Memory (inl h) = inr tt
+read_fault Is sheet.Csv (inl h) = inl (inr refl)
+read_fault Is sheet.Head (inl h) = absurd h
+read_fault Is (sheet.Fields row) (inl h) = absurd h
+read_fault Is (sheet.Time row) (inl h) = absurd h
+read_fault Is (sheet.Order row) (inl h) = absurd h
+read_fault Is (sheet.LeftOut row word) (inl h) = absurd h
+read_fault Is (sheet.Activity row) (inl h) = absurd h
+read_fault Is (sheet.TooLong row) (inl h) = absurd h
+read_fault Is (sheet.Column column) (inl h) = absurd h
 
 module _ {K : Type 0} (stands : K → State → Type 0) (is_clean is_live : K → Type 0) (leaves : K → List State → Type 0) where
   pub served_as : (old new : K) (answer : Answer) (A B : State → Doing) → ((s : State) (answer : Answer) (after : State) → A s answer after → B s answer after)
@@ -157,25 +160,31 @@ module _ {K : Type 0} (stands : K → State → Type 0) (is_clean is_live : K �
 
   pub unread_lines : (keeper : K) (n : ℕ) (input : List ℕ) (f : SheetFault) → IsReaderFault f ⊎ IsRead input (Err f)
       → Serves stands is_clean is_live leaves keeper keeper (Err (sheet_fault f)) (Enters n input)
-  unread_lines keeper n input f (inl g) = nothing keeper (sheet_fault f) (Enters n input) (λ s. inr (given_up f g))
-  unread_lines keeper n input f (inr is) = nothing keeper (sheet_fault f) (Enters n input) (λ s. inl (Err f, is, (refl, refl)))
+  unread_lines keeper n input f h = nothing keeper (sheet_fault f) (Enters n input) (λ s. said s (read_fault (IsRead input) f h))
+    where
+      said : (s : State) → OrCsv (IsRead input) (Err f) ⊎ IsGivenUp (sheet_fault f) → Enters n input s (Err (sheet_fault f)) s ⊎ IsGivenUp (sheet_fault f)
+      said s (inl is) = inl (Err f, is, (refl, refl))
+      said s (inr g) = inr g
 
   pub read_lines : (old new : K) (answer : Answer) (n : ℕ) (input : List ℕ) (lines : List EntryLine)
       → IsRead input (Ok lines) → Serves stands is_clean is_live leaves old new answer (λ s. EntersRead n s (Ok lines))
       → Serves stands is_clean is_live leaves old new answer (Enters n input)
   read_lines old new answer n input lines is d =
-      served_as old new answer (λ s. EntersRead n s (Ok lines)) (Enters n input) (λ s answer after does. (Ok lines, is, does)) d
+      served_as old new answer (λ s. EntersRead n s (Ok lines)) (Enters n input) (λ s answer after does. (Ok lines, inl is, does)) d
 
   pub unread_driver : (keeper : K) (input : List ℕ) (f : SheetFault) → IsReaderFault f ⊎ IsDriverRead input (Err f)
       → Serves stands is_clean is_live leaves keeper keeper (Err (sheet_fault f)) (Registers input)
-  unread_driver keeper input f (inl g) = nothing keeper (sheet_fault f) (Registers input) (λ s. inr (given_up f g))
-  unread_driver keeper input f (inr is) = nothing keeper (sheet_fault f) (Registers input) (λ s. inl (Err f, is, (refl, refl)))
+  unread_driver keeper input f h = nothing keeper (sheet_fault f) (Registers input) (λ s. said s (read_fault (IsDriverRead input) f h))
+    where
+      said : (s : State) → OrCsv (IsDriverRead input) (Err f) ⊎ IsGivenUp (sheet_fault f) → Registers input s (Err (sheet_fault f)) s ⊎ IsGivenUp (sheet_fault f)
+      said s (inl is) = inl (Err f, is, (refl, refl))
+      said s (inr g) = inr g
 
   pub read_driver : (old new : K) (answer : Answer) (input : List ℕ) (r : Registration)
       → IsDriverRead input (Ok r) → Serves stands is_clean is_live leaves old new answer (λ s. RegistersRead s (Ok r))
       → Serves stands is_clean is_live leaves old new answer (Registers input)
   read_driver old new answer input r is d =
-      served_as old new answer (λ s. RegistersRead s (Ok r)) (Registers input) (λ s answer after does. (Ok r, is, does)) d
+      served_as old new answer (λ s. RegistersRead s (Ok r)) (Registers input) (λ s answer after does. (Ok r, inl is, does)) d
 
 pub lines_of : (input : List ℕ) (lines : List EntryLine) → ⊥ ⊎ IsRead input (Ok lines) → IsRead input (Ok lines)
 lines_of input lines (inl h) = absurd h

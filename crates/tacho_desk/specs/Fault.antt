@@ -34,9 +34,8 @@ sheet_fault f = fault.Told (told.Sheet f)
 abbrev pub time_fault : TimeFault → Fault
 time_fault f = fault.Told (told.Time f)
 
--- memory, the store or the reader of CSV failed
+-- memory or the store failed
 abbrev pub IsGivenUp : Fault → Type 0
 IsGivenUp fault.Memory = Unit {0}
 IsGivenUp (fault.Told (told.Store store.Store)) = Unit {0}
-IsGivenUp (fault.Told (told.Sheet sheet.Csv)) = Unit {0}
 IsGivenUp f = ⊥

@@ -3,3 +3,4 @@ pub mod Told
 pub mod Doing
 pub mod Tasks
 pub mod Words
+pub mod Own

@@ -1,5 +1,5 @@
 -- What each task tells of an archive, and the state after it.
-use Rattle.std.specs.Prelude.{◌≡◌, ℕ, ◌*◌, ◌==◌, List, Result, Ok, Err, Bool, true, false, codes, flat_map, if◌then◌else◌, length}
+use Rattle.std.specs.Prelude.{◌≡◌, ◌⊎◌, ℕ, ◌*◌, ◌==◌, List, Result, Ok, Err, Bool, true, false, codes, flat_map, if◌then◌else◌, length}
 use Rattle.tacho_line.specs.declared.horizon.Horizon.{Horizon}
 use Rattle.tacho_card.specs.declared.fault.CardFault.{CardFault}
 use Rattle.tacho_card.specs.declared.file.Part.{Part}
@@ -16,6 +16,7 @@ use Rattle.tacho_state.specs.declared.caller.Caller.{Caller}
 use Rattle.tacho_state.specs.declared.imported.Imported.{Imported}
 use Rattle.tacho_state.specs.declared.imported.Imported.TheVariants as imported
 use Rattle.tacho_sheet.specs.declared.fault.SheetFault.{SheetFault}
+use Rattle.tacho_sheet.specs.declared.fault.SheetFault.TheVariants as sheet
 use Rattle.tacho_sheet.specs.Done.{base_line, entered_text, imported_text, number_line}
 use Rattle.tacho_sheet.specs.Driver.{IsDriverRead}
 use Rattle.tacho_sheet.specs.Entries.{IsRead, Lines}
@@ -29,13 +30,17 @@ use Rattle.tacho_desk.specs.declared.task.Task.TheVariants as task
 
 -- ---- commands
 
--- E1, E2 or E9, or the step of the registration
+-- what a text of CSV is read as; or E8, since of no reader of CSV it is promised that it doesn't fail
+abbrev pub OrCsv : {A : Type 0} → (Result A SheetFault → Type 0) → Result A SheetFault → Type 0
+OrCsv Is read = Is read ⊎ (read ≡ Err sheet.Csv)
+
+-- E1, E2, E8 or E9, or the step of the registration
 abbrev pub RegistersRead : State → Result Registration SheetFault → Doing
 RegistersRead s (Err f) = Refuses (sheet_fault f) s
 RegistersRead s (Ok r) = Steps (λ _. Added (number_line (codes "registered ") r.number)) (registered r.number r.holder r.key r.base r.name s)
 
 abbrev pub Registers : List ℕ → State → Doing
-Registers input s answer after = (read : Result Registration SheetFault) × IsDriverRead input read × RegistersRead s read answer after
+Registers input s answer after = (read : Result Registration SheetFault) × OrCsv (IsDriverRead input) read × RegistersRead s read answer after
 
 -- a file that was kept, or one that was there
 abbrev pub imported_told : Imported → Told
@@ -58,7 +63,7 @@ EntersRead n s (Err f) = Refuses (sheet_fault f) s
 EntersRead n s (Ok lines) = Steps (λ first. entered_told first (length lines)) (entered n (batch_of lines) s)
 
 abbrev pub Enters : ℕ → List ℕ → State → Doing
-Enters n input s answer after = (read : Lines) × IsRead input read × EntersRead n s read answer after
+Enters n input s answer after = (read : Lines) × OrCsv (IsRead input) read × EntersRead n s read answer after
 
 abbrev pub Withdraws : ℕ → ℕ → State → Doing
 Withdraws n number s = Steps (λ _. Line (number_line (codes "withdrawn ") number)) (withdrawn n number s)

@@ -4,6 +4,7 @@
 
 mod commands;
 mod fault;
+pub mod laws;
 mod matter;
 mod readings;
 mod task;

@@ -1,0 +1,29 @@
+//! Laws about tasks. A law is a function that does nothing: what it ensures is proved, and holds for all that it names. Some call the laws
+//! on which they stand.
+
+ghost use Rattle.tacho_desk.specs.Own.{OneAnswer, OthersStay, RefusalsStay, SameAnswers};
+
+use tacho_rules::laws::one_report;
+use tacho_sheet::laws::{one_sheet_of_a_month, one_text_of_a_month};
+use tacho_state::laws::one_content;
+
+/// A refusal changes nothing.
+pub fn refusals_change_nothing()
+    ensures { RefusalsStay }
+{}
+
+/// What a driver's own task answers, and his rows after it, depend on his rows alone; and it changes nobody else's.
+pub fn own_tasks_stand_alone()
+    ensures same { SameAnswers }
+    ensures others { OthersStay }
+{}
+
+/// A driver's own task has one answer, and one state after it.
+pub fn own_tasks_have_one_answer()
+    ensures { OneAnswer }
+{
+    one_content();
+    one_report();
+    one_text_of_a_month();
+    one_sheet_of_a_month();
+}
