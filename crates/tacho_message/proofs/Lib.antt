@@ -4,3 +4,4 @@ pub mod FieldLemmas
 pub mod ReplyLemmas
 pub mod RouteLemmas
 pub mod RouteVectors
+pub mod AccessLemmas

@@ -4,3 +4,6 @@ pub mod Fields
 pub mod Reply
 pub mod Routes
 pub mod Asked
+pub mod Request
+pub mod Body
+pub mod Access

@@ -5,8 +5,10 @@ mod asked;
 mod body;
 mod fields;
 mod head;
+pub mod laws;
 mod places;
 mod reply;
+mod request;
 
 pub use asked::{Method, body_length_of, method_of, part_at, want_of, word_place_of};
 pub use body::{BodyFault, read_body};
@@ -14,3 +16,4 @@ pub use fields::{Values, length_of, values_of};
 pub use head::{Head, HeadFault, read_head};
 pub use places::{Asker, Place, Want, place_of, routes};
 pub use reply::{MediaType, Status, write_reply};
+pub use request::{Request, request_of};

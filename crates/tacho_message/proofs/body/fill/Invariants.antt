@@ -1,6 +1,6 @@
 use Rattle.std.proofs.Common.{◌≡◌, ◌≤◌, ◌-◌, false, length, take}
 use Rattle.std.specs.Io.KnownBytes.{Consumes}
-use Rattle.tacho_message.proofs.body.read_body.Given as goal
+use Rattle.tacho_message.proofs.body.fill.Given as goal
 
 -- the bytes so far, and no call has failed
 abbrev pub invariant-loop-filled : goal.invariant-loop-filled

@@ -1,6 +1,6 @@
 use Rattle.std.proofs.Common.{◌≤◌, length, arith}
 use Rattle.tacho_message.proofs.ReadLemmas.{two_reads, put_fits}
-use Rattle.tacho_message.proofs.body.read_body.Goals as goal
+use Rattle.tacho_message.proofs.body.fill.Goals as goal
 
 pub loop-filled-preserved : goal.loop-filled-preserved
 loop-filled-preserved g c =
