@@ -1,0 +1,4 @@
+mod RespondLemmas
+mod HeadLemmas
+mod RunLemmas
+mod LawLemmas

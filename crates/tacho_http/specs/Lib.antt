@@ -1,0 +1,5 @@
+pub mod Reply
+pub mod Serve
+pub mod Answer
+pub mod Run
+pub mod Laws

@@ -1,0 +1,110 @@
+-- The replies: what is told of a request, with the status and the kind of body.
+use Rattle.std.specs.Prelude.{ℕ, List, [], Ok, Err, codes}
+use Rattle.tacho_card.specs.declared.fault.CardFault.TheVariants as card
+use Rattle.tacho_state.specs.declared.fault.StoreFault.{StoreFault}
+use Rattle.tacho_state.specs.declared.fault.StoreFault.TheVariants as store
+use Rattle.tacho_sheet.specs.Lines.{fault_line}
+use Rattle.tacho_sheet.specs.declared.fault.Fault.{Fault as ToldFault}
+use Rattle.tacho_sheet.specs.declared.fault.Fault.TheVariants as told
+use Rattle.tacho_sheet.specs.declared.fault.SheetFault.TheVariants as sheet
+use Rattle.tacho_desk.specs.Told.{Answer, Told, Added, Line, Long, File, bytes_of, told_of}
+use Rattle.tacho_desk.specs.declared.fault.Fault.{Fault}
+use Rattle.tacho_desk.specs.declared.fault.Fault.TheVariants as fault
+use Rattle.tacho_message.specs.Reply.{reply_bytes}
+use Rattle.tacho_message.specs.declared.reply.MediaType.{MediaType}
+use Rattle.tacho_message.specs.declared.reply.MediaType.TheVariants as media
+use Rattle.tacho_message.specs.declared.reply.Status.{Status}
+use Rattle.tacho_message.specs.declared.reply.Status.TheVariants as status
+use Rattle.tacho_http.specs.declared.response.Body.{Body}
+use Rattle.tacho_http.specs.declared.response.Body.TheVariants as body
+use Rattle.tacho_http.specs.declared.response.Response.{Response}
+
+pub record Reply : Type 0 where
+  pub status : Status
+  pub media : MediaType
+  pub body : List ℕ
+
+-- what is written
+abbrev pub bytes_of_reply : Reply → List ℕ
+bytes_of_reply r = reply_bytes r.status r.media r.body
+
+abbrev pub text_reply : Status → List ℕ → Reply
+text_reply s text = record { status = s; media = media.Text; body = text }
+
+-- the body where no fault has a line
+abbrev pub fixed_text : Status → List ℕ
+fixed_text status.BadRequest = codes "bad request\n"
+fixed_text status.Forbidden = codes "forbidden\n"
+fixed_text status.NotFound = codes "not found\n"
+fixed_text status.MethodNotAllowed = codes "method not allowed\n"
+fixed_text status.LengthRequired = codes "length required\n"
+fixed_text status.PayloadTooLarge = codes "too large\n"
+fixed_text status.FieldsTooLarge = codes "head too large\n"
+fixed_text status.Unavailable = codes "unavailable\n"
+fixed_text status.Okay = []
+fixed_text status.Created = []
+fixed_text status.Conflict = []
+fixed_text status.UnprocessableEntity = []
+
+abbrev pub fixed : Status → Reply
+fixed s = text_reply s (fixed_text s)
+
+-- what refused a request: the words of a path, the archive, or the rows of its body
+abbrev pub store_status : StoreFault → Status
+store_status store.DriverTaken = status.Conflict
+store_status store.KeyTaken = status.Conflict
+store_status store.HolderTaken = status.Conflict
+store_status store.UnknownDriver = status.NotFound
+store_status store.NotYourCard = status.Forbidden
+store_status (store.Contradiction minute) = status.Conflict
+store_status store.UnknownEntry = status.NotFound
+store_status store.AlreadyWithdrawn = status.Conflict
+store_status store.NotMonday = status.UnprocessableEntity
+store_status store.UnknownDownload = status.NotFound
+store_status (store.Card card.Memory) = status.Unavailable
+store_status (store.Card f) = status.UnprocessableEntity
+store_status store.Store = status.Unavailable
+store_status store.Full = status.Conflict
+store_status store.Memory = status.Unavailable
+
+abbrev pub fault_status : ToldFault → Status
+fault_status (told.Time f) = status.BadRequest
+fault_status told.Number = status.BadRequest
+fault_status told.Part = status.BadRequest
+fault_status told.TooLarge = status.PayloadTooLarge
+fault_status (told.Card card.Memory) = status.Unavailable
+fault_status (told.Card f) = status.UnprocessableEntity
+fault_status (told.Store f) = store_status f
+fault_status (told.Sheet sheet.Memory) = status.Unavailable
+fault_status (told.Sheet f) = status.UnprocessableEntity
+
+-- the fault's line; but of want of memory and of a store that failed no more is told than that
+abbrev pub told_reply : Status → ToldFault → Reply
+told_reply status.Unavailable f = fixed status.Unavailable
+told_reply s f = text_reply s (fault_line f)
+
+abbrev pub fault_reply : Fault → Reply
+fault_reply (fault.Told f) = told_reply (fault_status f) f
+fault_reply fault.Device = fixed status.Unavailable
+fault_reply fault.Memory = fixed status.Unavailable
+
+-- 201 where something was added
+abbrev pub done_reply : Told → Reply
+done_reply (Added line) = text_reply status.Created line
+done_reply (Line line) = text_reply status.Okay line
+done_reply (Long text) = text_reply status.Okay text
+done_reply (File bytes) = record { status = status.Okay; media = media.Octets; body = bytes }
+
+abbrev pub reply_to : Answer → Reply
+reply_to (Ok told) = done_reply told
+reply_to (Err f) = fault_reply f
+
+-- ---- what holds a reply
+
+abbrev pub body_bytes : Body → List ℕ
+body_bytes (body.Fixed text) = text.now
+body_bytes (body.Line line) = line.bytes
+body_bytes (body.Told text) = bytes_of (told_of text)
+
+abbrev pub reply_of : Response → Reply
+reply_of r = record { status = r.status; media = r.media; body = body_bytes r.body }

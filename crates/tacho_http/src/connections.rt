@@ -1,0 +1,39 @@
+//! Connections, one after the other.
+
+ghost use Rattle.std.specs.Prelude.{◌≡◌, List, false, All, IsSome};
+ghost use Rattle.tacho_state.specs.State.{State};
+ghost use Rattle.tacho_http.specs.Run.{Run, Went};
+
+use crate::exchange::answer;
+use std::alloc::Global;
+use tacho_state::Keeper;
+use tacho_time::{Sink, Source};
+
+/// Answers connections in order, and says how many ended without a fault of their devices: after a fault it goes on.
+pub fn answer_all<K: Keeper, R: Source, W: Sink>(
+    alloc: Global,
+    keeper: &mut K,
+    office_key: &[u8],
+    connections: &mut [(R, W)],
+) -> usize
+    requires { All (λ c. (R.has_failed c.0 ≡ false) × (W.has_failed c.1 ≡ false)) connections.old }
+    ensures clean { K.is_clean keeper.new → K.is_clean keeper.old }
+    ensures run { K.is_clean keeper.new → (s : State) → K.stands keeper.old s → All (λ c. IsSome (R.unread c.0)) connections.old
+        → (t : State) × K.stands keeper.new t × Run (λ c d. Went office_key.now (R.unread c.0) (W.written c.1) (W.written d.1)) connections.old connections.new result s t }
+{
+    let mut count = 0;
+    for connection in connections.iter_mut() {
+        if answer(
+            alloc,
+            keeper,
+            office_key,
+            &mut connection.0,
+            &mut connection.1,
+        )
+        .is_ok()
+        {
+            count += 1;
+        }
+    }
+    count
+}

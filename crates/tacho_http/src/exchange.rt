@@ -1,0 +1,124 @@
+//! One request, one reply.
+
+ghost use Rattle.std.specs.Prelude.{◌≡◌, ◌↔◌, ℕ, Err, List, Some, false, true, length, IfOk, IsErr, IsErrOf, OnErr};
+ghost use Rattle.tacho_state.specs.State.{State};
+ghost use Rattle.tacho_http.specs.Answer.{Answered, IsBegun, IsWritten, Stops};
+ghost use Rattle.tacho_http.specs.Reply.{reply_of};
+ghost use Rattle.tacho_http.specs.Serve.{Reacts};
+
+use crate::checks::by_key;
+use crate::response::{Response, fixed};
+use httparse::spans::{EMPTY_HEADER_SPAN, HeaderSpan};
+use std::alloc::Global;
+use tacho_message::{HeadFault, Status, read_head, request_of, write_reply};
+use tacho_state::Keeper;
+use tacho_time::{Failed, Sink, Source};
+
+/// How many bytes a head has at the most, and how many fields.
+const HEAD_LIMIT: usize = 8_192;
+
+const FIELD_LIMIT: usize = 32;
+
+/// Which device failed.
+#[derive(Clone, Copy, Debug, PartialEq, Eq)]
+pub enum IoFault {
+    /// The reader, before anything was written or changed.
+    Read,
+    /// The writer: the request has acted, and a beginning of its reply went out.
+    Write,
+}
+
+/// What was replied.
+#[derive(Clone, Copy, Debug, PartialEq, Eq)]
+pub struct Served {
+    pub status: Status,
+}
+
+/// Reads a request, its head into these buffers, and does what it asks for.
+fn respond_in<K: Keeper, R: Source>(
+    alloc: Global,
+    keeper: &mut K,
+    office_key: &[u8],
+    reader: &mut R,
+    buffer: &mut [u8],
+    fields: &mut [HeaderSpan],
+) -> Result<Response, Failed>
+    requires reader { R.has_failed reader.old ≡ false }
+    requires limit { length buffer.old ≡ 8192 }
+    requires room { length fields.old ≡ 32 }
+    ensures clean { K.is_clean keeper.new → K.is_clean keeper.old }
+    ensures answer { K.is_clean keeper.new → (s : State) → K.stands keeper.old s → (input : List ℕ) → R.unread reader.old ≡ Some input
+        → IfOk result (λ response. (after : State) × K.stands keeper.new after × Reacts office_key.now input s (reply_of response) after) }
+    ensures same { K.is_clean keeper.new → (s : State) → K.stands keeper.old s → OnErr result (K.stands keeper.new s) }
+    ensures crash { K.is_clean keeper.new → K.is_live keeper.old → (s : State) (past : List State) → K.stands keeper.old s → K.leaves keeper.old past → (input : List ℕ) → R.unread reader.old ≡ Some input
+        → Stops (K.leaves keeper.new) past (Reacts office_key.now input s) }
+    ensures failed { IsErr result ↔ (R.has_failed reader.new ≡ true) }
+{
+    let head = match read_head(reader, buffer, fields) {
+        Ok(head) => head,
+        Err(HeadFault::Bad) => return Ok(fixed(Status::BadRequest)),
+        Err(HeadFault::TooLarge) => return Ok(fixed(Status::FieldsTooLarge)),
+        Err(HeadFault::Read) => return Err(Failed),
+    };
+    let request = request_of(&buffer[..head.filled], fields, &head.spans);
+    match request.key() {
+        Some(key) => by_key(alloc, keeper, office_key, key, reader, &request),
+        None => Ok(fixed(Status::Forbidden)),
+    }
+}
+
+/// Reads a request and does what it asks for.
+fn respond<K: Keeper, R: Source>(
+    alloc: Global,
+    keeper: &mut K,
+    office_key: &[u8],
+    reader: &mut R,
+) -> Result<Response, Failed>
+    requires { R.has_failed reader.old ≡ false }
+    ensures clean { K.is_clean keeper.new → K.is_clean keeper.old }
+    ensures answer { K.is_clean keeper.new → (s : State) → K.stands keeper.old s → (input : List ℕ) → R.unread reader.old ≡ Some input
+        → IfOk result (λ response. (after : State) × K.stands keeper.new after × Reacts office_key.now input s (reply_of response) after) }
+    ensures same { K.is_clean keeper.new → (s : State) → K.stands keeper.old s → OnErr result (K.stands keeper.new s) }
+    ensures crash { K.is_clean keeper.new → K.is_live keeper.old → (s : State) (past : List State) → K.stands keeper.old s → K.leaves keeper.old past → (input : List ℕ) → R.unread reader.old ≡ Some input
+        → Stops (K.leaves keeper.new) past (Reacts office_key.now input s) }
+    ensures failed { IsErr result ↔ (R.has_failed reader.new ≡ true) }
+{
+    let mut buffer = [0u8; HEAD_LIMIT];
+    let mut fields = [EMPTY_HEADER_SPAN; FIELD_LIMIT];
+    respond_in(alloc, keeper, office_key, reader, &mut buffer, &mut fields)
+}
+
+/// Answers one request at an archive: reads its head and its body and no more, acts, and writes one reply.
+pub fn answer<K: Keeper, R: Source, W: Sink>(
+    alloc: Global,
+    keeper: &mut K,
+    office_key: &[u8],
+    reader: &mut R,
+    writer: &mut W,
+) -> Result<Served, IoFault>
+    requires reader { R.has_failed reader.old ≡ false }
+    requires writer { W.has_failed writer.old ≡ false }
+    ensures clean { K.is_clean keeper.new → K.is_clean keeper.old }
+    // The reply is one that the input may get, whole.
+    ensures answer { K.is_clean keeper.new → (s : State) → K.stands keeper.old s → (input : List ℕ) → R.unread reader.old ≡ Some input
+        → IfOk result (λ served. Answered (K.stands keeper.new) office_key.now input s (λ reply. (reply.status ≡ served.status) × IsWritten (W.written writer.old) (W.written writer.new) reply)) }
+    // Where the writer failed, a beginning of it went out.
+    ensures beginning { K.is_clean keeper.new → (s : State) → K.stands keeper.old s → (input : List ℕ) → R.unread reader.old ≡ Some input
+        → result ≡ Err IoFault.Write → Answered (K.stands keeper.new) office_key.now input s (IsBegun (W.written writer.old) (W.written writer.new)) }
+    // Where the reader failed, nothing was written or changed.
+    ensures same { K.is_clean keeper.new → (s : State) → K.stands keeper.old s → result ≡ Err IoFault.Read → K.stands keeper.new s }
+    ensures untouched { result ≡ Err IoFault.Read → W.written writer.new ≡ W.written writer.old }
+    ensures crash { K.is_clean keeper.new → K.is_live keeper.old → (s : State) (past : List State) → K.stands keeper.old s → K.leaves keeper.old past → (input : List ℕ) → R.unread reader.old ≡ Some input
+        → Stops (K.leaves keeper.new) past (Reacts office_key.now input s) }
+    ensures read { IsErrOf result IoFault.Read ↔ (R.has_failed reader.new ≡ true) }
+    ensures write { IsErrOf result IoFault.Write ↔ (W.has_failed writer.new ≡ true) }
+{
+    let Ok(response) = respond(alloc, keeper, office_key, reader) else {
+        return Err(IoFault::Read);
+    };
+    let status = response.status;
+    match write_reply(writer, status, response.media, response.body.bytes()) {
+        Ok(()) => Ok(Served { status }),
+        Err(_) => Err(IoFault::Write),
+    }
+}

@@ -1,0 +1,26 @@
+//! Laws of requests and replies. A law is a function that does nothing: what it ensures is proved, and holds for all that it names. Each
+//! calls the laws on which it stands.
+
+ghost use Rattle.tacho_http.specs.Laws.{Keeps503, KeepsOthers, OneReply, SameReply};
+
+use tacho_desk::laws::{own_tasks_have_one_answer, own_tasks_stand_alone, refusals_change_nothing};
+use tacho_message::laws::drivers_ask_for_their_own;
+
+/// A reply of 503 leaves the archive as it was: what was committed is never answered with it.
+pub fn unavailable_keeps_the_state()
+    ensures { Keeps503 }
+{
+    refusals_change_nothing();
+}
+
+/// A request with a driver's key looks at his rows alone, and changes nobody else's: in two archives in which he has the same rows it
+/// gets the same reply, 503 aside, and leaves him the same rows.
+pub fn isolated()
+    ensures same { SameReply }
+    ensures one { OneReply }
+    ensures others { KeepsOthers }
+{
+    drivers_ask_for_their_own();
+    own_tasks_stand_alone();
+    own_tasks_have_one_answer();
+}

@@ -1,0 +1,149 @@
+ghost use Rattle.std.specs.Prelude.{◌≡◌};
+ghost use Rattle.tacho_desk.specs.Told.{answer_of, told_of};
+ghost use Rattle.tacho_http.specs.Reply.{body_bytes, done_reply, fault_reply, fault_status, fixed as fixed_reply, fixed_text, reply_of, reply_to, store_status};
+
+use tacho_card::CardFault;
+use tacho_desk::{Fault, Text};
+use tacho_message::{MediaType, Status};
+use tacho_sheet::{Fault as ToldFault, FaultLine, SheetFault, fault_line};
+use tacho_state::StoreFault;
+
+/// The body of a reply.
+#[derive(Drop)]
+pub enum Body {
+    /// A text that is always the same.
+    Fixed(&'static [u8]),
+    /// The line of a fault. It took no memory.
+    Line(FaultLine),
+    /// What was told of a task.
+    Told(Text),
+}
+
+impl Body {
+    /// Its bytes.
+    pub(crate) fn bytes(&self) -> &[u8]
+        ensures { result.now ≡ body_bytes self.now }
+    {
+        match self {
+            Body::Fixed(text) => text,
+            Body::Line(line) => line.as_bytes(),
+            Body::Told(text) => text.bytes(),
+        }
+    }
+}
+
+/// A reply.
+#[derive(Drop)]
+pub struct Response {
+    pub status: Status,
+    pub media: MediaType,
+    pub body: Body,
+}
+
+/// The body of a status where no fault has a line.
+fn text_of(status: Status) -> &'static [u8]
+    ensures { result.now ≡ fixed_text status }
+{
+    match status {
+        Status::BadRequest => b"bad request\n",
+        Status::Forbidden => b"forbidden\n",
+        Status::NotFound => b"not found\n",
+        Status::MethodNotAllowed => b"method not allowed\n",
+        Status::LengthRequired => b"length required\n",
+        Status::PayloadTooLarge => b"too large\n",
+        Status::FieldsTooLarge => b"head too large\n",
+        Status::Unavailable => b"unavailable\n",
+        Status::Okay | Status::Created | Status::Conflict | Status::UnprocessableEntity => b"",
+    }
+}
+
+/// The reply of a status, where no fault has a line. It takes no memory.
+pub(crate) fn fixed(status: Status) -> Response
+    ensures { reply_of result ≡ fixed_reply status }
+{
+    Response {
+        status,
+        media: MediaType::Text,
+        body: Body::Fixed(text_of(status)),
+    }
+}
+
+/// The status of a refusal of the archive.
+fn status_of_store(fault: &StoreFault) -> Status
+    ensures { result ≡ store_status fault.now }
+{
+    match fault {
+        StoreFault::DriverTaken
+        | StoreFault::KeyTaken
+        | StoreFault::HolderTaken
+        | StoreFault::Contradiction(_)
+        | StoreFault::AlreadyWithdrawn
+        | StoreFault::Full => Status::Conflict,
+        StoreFault::UnknownDriver | StoreFault::UnknownEntry | StoreFault::UnknownDownload => {
+            Status::NotFound
+        }
+        StoreFault::NotYourCard => Status::Forbidden,
+        StoreFault::Card(CardFault::Memory) | StoreFault::Store | StoreFault::Memory => {
+            Status::Unavailable
+        }
+        StoreFault::NotMonday | StoreFault::Card(_) => Status::UnprocessableEntity,
+    }
+}
+
+/// The status of a fault.
+fn status_of(fault: &ToldFault) -> Status
+    ensures { result ≡ fault_status fault.now }
+{
+    match fault {
+        ToldFault::Time(_) | ToldFault::Number | ToldFault::Part => Status::BadRequest,
+        ToldFault::TooLarge => Status::PayloadTooLarge,
+        ToldFault::Card(CardFault::Memory) | ToldFault::Sheet(SheetFault::Memory) => {
+            Status::Unavailable
+        }
+        ToldFault::Store(fault) => status_of_store(fault),
+        ToldFault::Card(_) | ToldFault::Sheet(_) => Status::UnprocessableEntity,
+    }
+}
+
+/// The reply to a fault: its line; but of want of memory and of a store that failed no more than that. It takes no memory.
+pub(crate) fn refusal(fault: Fault) -> Response
+    ensures { reply_of result ≡ fault_reply fault }
+{
+    let Fault::Told(told) = fault else {
+        return fixed(Status::Unavailable);
+    };
+    match status_of(&told) {
+        Status::Unavailable => fixed(Status::Unavailable),
+        status => Response {
+            status,
+            media: MediaType::Text,
+            body: Body::Line(fault_line(told)),
+        },
+    }
+}
+
+/// The reply to what was told of a task: 201 where something was added. It takes no memory.
+fn done(text: Text) -> Response
+    ensures { reply_of result ≡ done_reply (told_of text) }
+{
+    let (status, media) = match &text {
+        Text::Added(_) => (Status::Created, MediaType::Text),
+        Text::Line(_) | Text::Long(_) => (Status::Okay, MediaType::Text),
+        Text::File(_) => (Status::Okay, MediaType::Octets),
+    };
+    Response {
+        status,
+        media,
+        body: Body::Told(text),
+    }
+}
+
+/// The reply to what a task answered.
+pub(crate) fn reply(answer: Result<Text, Fault>) -> Response
+    ensures { reply_of result ≡ reply_to (answer_of answer) }
+{
+    match answer {
+        Ok(text) => done(text),
+        Err(fault) => refusal(fault),
+    }
+}
