@@ -14,10 +14,10 @@ use tacho_time::Device;
 type FileConnection = Connection<FileStore<File>>;
 
 /// An archive in a file.
-type FileArchive = Archive<FileStore<File>>;
+pub type FileArchive = Archive<FileStore<File>>;
 
 /// Tells that the store failed, or that there was no memory, and answers the program's status.
-fn refuse(rt: &impl Print, fault: StoreFault) -> u8 {
+pub fn refuse(rt: &impl Print, fault: StoreFault) -> u8 {
     let _ = match fault {
         StoreFault::Memory => print!(rt; "M1 no memory\n"),
         _ => print!(rt; "S12 store failed\n"),
@@ -47,7 +47,7 @@ fn create(rt: &HostRuntime, path: &str) -> Result<FileArchive, StoreFault> {
 }
 
 /// Opens the archive of a file that is there.
-fn adopt(rt: &HostRuntime, path: &str) -> Result<FileArchive, StoreFault> {
+pub fn adopt(rt: &HostRuntime, path: &str) -> Result<FileArchive, StoreFault> {
     let Ok(true) = fs::exists(rt, path) else {
         return Err(StoreFault::Store);
     };
@@ -94,6 +94,6 @@ pub fn perform(rt: &HostRuntime, job: Job<'_>) -> u8
 }
 
 /// Closes an archive's file. What was done is kept, also where its log can't be taken into the file now: the next open does so.
-fn close(archive: FileArchive) {
+pub fn close(archive: FileArchive) {
     let _ = archive.close().close();
 }

@@ -2,6 +2,7 @@
 #![tactic(auto)]
 
 mod archive;
+mod serve;
 
 use std::env;
 use std::io::{self, ErrorKind};
@@ -36,6 +37,15 @@ fn run(rt: &HostRuntime, job: Job<'_>) -> u8 {
     if let Job::Init { archive } = job {
         return archive::init(rt, archive);
     }
+    if let Job::Serve {
+        archive,
+        key,
+        port,
+        count,
+    } = job
+    {
+        return serve::serve(rt, archive, key, port, count);
+    }
     let mut reader = Device::new(rt.stdin());
     let mut writer = Device::new(rt.stdout());
     if matches!(job, Job::Holder) {
@@ -54,6 +64,10 @@ fn main(rt: HostRuntime) -> ExitCode {
     match tacho_cli::parse(rt.alloc(), &words) {
         Ok(job) => ExitCode::from(run(&rt, job)),
         Err(Usage::Words(text)) => usage(&rt, text.as_str()),
+        Err(Usage::Numbers) => usage(
+            &rt,
+            "PORT is a number from 1 to 65535, and COUNT one from 1 to 1000000\n",
+        ),
         Err(Usage::Parser) => usage(&rt, "no memory to read the words of the command line\n"),
         Err(Usage::Memory) => no_memory(&rt),
     }

@@ -7,12 +7,11 @@ use Rattle.tacho_time.specs.declared.whole.ReadFault.TheVariants as read
 use Rattle.tacho_card.specs.declared.fault.CardFault.{CardFault}
 use Rattle.tacho_card.specs.declared.fault.CardFault.TheVariants as card
 use Rattle.tacho_sheet.specs.declared.fault.Fault.TheVariants as told
-use Rattle.tacho_desk.specs.declared.fault.Fault.{Fault}
 use Rattle.tacho_desk.specs.declared.fault.Fault.TheVariants as fault
-use Rattle.tacho_desk.specs.Fault.{read_fault, card_fault}
+use Rattle.tacho_desk.specs.Fault.{read_fault}
 use Rattle.tacho_cli.specs.Dump.{IsDump, IsDumped, ReadsValue}
 use Rattle.tacho_cli.specs.Holder.{IsHolder, card_holder, holder_reply}
-use Rattle.tacho_cli.specs.Command.{Reply, fault_reply, card_reply, Replies, Tells, TellsFault, Leaves}
+use Rattle.tacho_cli.specs.Command.{Reply, fault_reply, card_reply, Replies, Tells, Leaves}
 
 -- an input for a reader, whether or not it tells its bytes
 pub record Input (P : List ℕ → Type 0) (unread : Option (List ℕ)) : Type 0 where
@@ -45,14 +44,11 @@ pub unread_leaves : (Wanted : List ℕ → Reply → Type 0) (limit : ℕ) (unre
     → ((input : List ℕ) → limit < length input → Wanted input (fault_reply (fault.Told told.TooLarge)))
     → (f ≡ read.TooLarge → IfSome unread (λ input. limit < length input))
     → (f ≡ read.Failed) ↔ (reader ≡ true)
-    → TellsFault (read_fault f) writer old new status
+    → Tells writer old new (fault_reply (read_fault f)) status
     → Leaves Wanted unread reader writer old new status
-unread_leaves Wanted limit unread reader writer old new status read.TooLarge wanted large failed (inl tells) =
+unread_leaves Wanted limit unread reader writer old new status read.TooLarge wanted large failed tells =
     let i = some_input (λ input. limit < length input) unread (replicate (limit + 1) 0) (large refl) (simp length-replicate (omega arith)) in
     replied Wanted unread reader writer old new status i.input (fault_reply (fault.Told told.TooLarge)) (λ e. let no = failed.1 e in cc) i.told (inl (wanted i.input i.holds)) tells
-unread_leaves Wanted limit unread reader writer old new status read.TooLarge wanted large failed (inr tells) =
-    let i = any_input unread in
-    replied Wanted unread reader writer old new status i.input (fault_reply fault.Memory) (λ e. let no = failed.1 e in cc) i.told (inr refl) tells
 unread_leaves Wanted limit unread reader writer old new status read.Failed wanted large failed tells =
     let i = any_input unread in
     record { input = i.input; reply = fault_reply fault.Device; read = i.told; replied = subst (λ (b : Bool). Replies (Wanted i.input) b (fault_reply fault.Device)) (sym (failed.0 refl)) refl; told = tells }
@@ -60,24 +56,14 @@ unread_leaves Wanted limit unread reader writer old new status read.Memory wante
     let i = any_input unread in
     replied Wanted unread reader writer old new status i.input (fault_reply fault.Memory) (λ e. let no = failed.1 e in cc) i.told (inr refl) tells
 
--- what is told of a fault is its line, or that of want of memory
-pub any_told : (f : Fault) (failed : Bool) (old new : Option (List ℕ)) (status : ℕ) → TellsFault f failed old new status
-    → Tells failed old new (fault_reply f) status ⊎ Tells failed old new (fault_reply fault.Memory) status
-any_told (fault.Told f) failed old new status tells = tells
-any_told fault.Device failed old new status tells = inl tells
-any_told fault.Memory failed old new status tells = inl tells
-
 -- what a command leaves after a card's fault
 pub refused : (Wanted : List ℕ → Reply → Type 0) (unread : Option (List ℕ)) (reader writer : Bool) (old new : Option (List ℕ)) (status : ℕ) (input : List ℕ) (f : CardFault)
-    → (reader ≡ true → ⊥) → IfSome unread (λ all. input ≡ all) → Wanted input (card_reply f) ⊎ (f ≡ card.Memory) → TellsFault (card_fault f) writer old new status
+    → (reader ≡ true → ⊥) → IfSome unread (λ all. input ≡ all) → Wanted input (card_reply f) ⊎ (f ≡ card.Memory) → Tells writer old new (card_reply f) status
     → Leaves Wanted unread reader writer old new status
-refused Wanted unread reader writer old new status input f sound told wanted tells = told_of wanted (any_told (card_fault f) writer old new status tells)
-  where
-    told_of : Wanted input (card_reply f) ⊎ (f ≡ card.Memory) → Tells writer old new (card_reply f) status ⊎ Tells writer old new (fault_reply fault.Memory) status
-        → Leaves Wanted unread reader writer old new status
-    told_of (inl wanted) (inl tells) = replied Wanted unread reader writer old new status input (card_reply f) sound told (inl wanted) tells
-    told_of (inr e) (inl tells) = replied Wanted unread reader writer old new status input (card_reply f) sound told (inr (ap card_reply e)) tells
-    told_of wanted (inr tells) = replied Wanted unread reader writer old new status input (fault_reply fault.Memory) sound told (inr refl) tells
+refused Wanted unread reader writer old new status input f sound told (inl wanted) tells =
+    replied Wanted unread reader writer old new status input (card_reply f) sound told (inl wanted) tells
+refused Wanted unread reader writer old new status input f sound told (inr e) tells =
+    replied Wanted unread reader writer old new status input (card_reply f) sound told (inr (ap card_reply e)) tells
 
 -- the reply to what a value's bytes give
 pub dumped : (input text : List ℕ) → length input ≤ 65535 → IsDumped input text → IsDump input (record { text = text; status = 0 })

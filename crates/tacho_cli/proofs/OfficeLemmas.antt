@@ -5,7 +5,6 @@ use Rattle.std.specs.Prelude.{IfSome, IsErrAnd, replicate}
 use Rattle.tacho_time.specs.declared.whole.ReadFault.{ReadFault}
 use Rattle.tacho_time.specs.declared.whole.ReadFault.TheVariants as read
 use Rattle.tacho_state.specs.State.{State}
-use Rattle.tacho_sheet.specs.declared.fault.Fault.{Fault as Told}
 use Rattle.tacho_sheet.specs.declared.fault.Fault.TheVariants as told
 use Rattle.tacho_desk.specs.Doing.{Doing, Done, Stops}
 use Rattle.tacho_desk.specs.Fault.{read_fault}
@@ -15,7 +14,7 @@ use Rattle.tacho_desk.specs.declared.fault.Fault.{Fault}
 use Rattle.tacho_desk.specs.declared.fault.Fault.TheVariants as fault
 use Rattle.tacho_desk.specs.declared.task.Task.{Task}
 use Rattle.tacho_desk.specs.declared.text.Text.{Text}
-use Rattle.tacho_cli.specs.Command.{Tells, TellsFault}
+use Rattle.tacho_cli.specs.Command.{Tells, fault_reply}
 use Rattle.tacho_cli.specs.Office.{Answered, DoesOver, HasNotRead, HasRead, IsTaskOf, Performed, Performs, StopsOver, reply_to}
 use Rattle.tacho_cli.specs.declared.job.Job.{Job}
 use Rattle.tacho_cli.proofs.CommandLemmas.{any_input, some_input}
@@ -112,17 +111,7 @@ pub told_text : (stands : State → Type 0) (s : State) (Does : List ℕ → Doi
     → Answered stands s Does unread reader (Ok text) → Tells writer old new (reply_to (Ok text)) status → Performed stands s Does unread reader writer old new status
 told_text stands s Does unread reader writer old new status text answered tells = record { answer = Ok text; answered = answered; told = tells }
 
--- where the line of a refusal could not be made, want of memory is told in its place
-in_its_place : (stands : State → Type 0) (s : State) (Does : List ℕ → Doing) (unread : Option (List ℕ)) (reader : Bool) (f : Told)
-    → Answered stands s Does unread reader (Err (fault.Told f)) → Answered stands s Does unread reader (Err fault.Memory)
-in_its_place stands s Does unread reader f (inl h) = cc
-in_its_place stands s Does unread reader f (inr h) = inr (h.0, record { input = h.1.input; read = h.1.read; done = (h.1.done.0, inr tt) })
-
 -- the reply to a fault
 pub told_fault : (stands : State → Type 0) (s : State) (Does : List ℕ → Doing) (unread : Option (List ℕ)) (reader writer : Bool) (old new : Option (List ℕ)) (status : ℕ) (f : Fault)
-    → Answered stands s Does unread reader (Err f) → TellsFault f writer old new status → Performed stands s Does unread reader writer old new status
-told_fault stands s Does unread reader writer old new status (fault.Told f) answered (inl tells) = record { answer = Err (fault.Told f); answered = answered; told = tells }
-told_fault stands s Does unread reader writer old new status (fault.Told f) answered (inr tells) =
-    record { answer = Err fault.Memory; answered = in_its_place stands s Does unread reader f answered; told = tells }
-told_fault stands s Does unread reader writer old new status fault.Device answered tells = record { answer = Err fault.Device; answered = answered; told = tells }
-told_fault stands s Does unread reader writer old new status fault.Memory answered tells = record { answer = Err fault.Memory; answered = answered; told = tells }
+    → Answered stands s Does unread reader (Err f) → Tells writer old new (fault_reply f) status → Performed stands s Does unread reader writer old new status
+told_fault stands s Does unread reader writer old new status f answered tells = record { answer = Err f; answered = answered; told = tells }

@@ -31,12 +31,6 @@ abbrev pub Tells : Bool → Option (List ℕ) → Option (List ℕ) → Reply �
 Tells true old new reply status = ((n : ℕ) × Appends old new (take n reply.text)) × (status ≡ 3)
 Tells false old new reply status = Appends old new reply.text × (status ≡ reply.status)
 
--- what is written of a fault's line, or of that of want of memory where a line of its own could not be made
-abbrev pub TellsFault : Fault → Bool → Option (List ℕ) → Option (List ℕ) → ℕ → Type 0
-TellsFault (fault.Told f) failed old new status =
-    Tells failed old new (fault_reply (fault.Told f)) status ⊎ Tells failed old new (fault_reply fault.Memory) status
-TellsFault f failed old new status = Tells failed old new (fault_reply f) status
-
 -- The input is all that the reader had, where it tells its bytes, and some input where it doesn't.
 pub record Leaves (Wanted : List ℕ → Reply → Type 0) (unread : Option (List ℕ)) (reader_failed writer_failed : Bool) (old new : Option (List ℕ)) (status : ℕ) : Type 0 where
   pub input : List ℕ

@@ -40,6 +40,7 @@ IsTaskOf (job.File archive driver number) wanted = IsOfDriver matter.File driver
 IsTaskOf job.Dump wanted = ⊥
 IsTaskOf job.Holder wanted = ⊥
 IsTaskOf (job.Init archive) wanted = ⊥
+IsTaskOf (job.Serve archive key port count) wanted = ⊥
 
 -- ---- input
 

@@ -1,5 +1,6 @@
 -- The command line, and the job that its words name.
-use Rattle.std.specs.Prelude.{◌≡◌, ◌≢◌, Bool, true, false, List, [], ◌∷◌, Option, None, Some, codes}
+use Rattle.std.specs.Prelude.{◌≡◌, ◌≢◌, ◌⊎◌, ℕ, Bool, true, false, List, [], ◌∷◌, Option, None, Some, codes}
+use Rattle.tacho_sheet.specs.Number.{HasNoNumber, IsNumberText}
 use Rattle.clap.specs.Words.{App, Row, Rule, Text, first_of, new_app, new_rule, with_rule, with_subcommand}
 use Rattle.clap.specs.declared.error.kind.ErrorKind.{ErrorKind}
 use Rattle.clap.specs.declared.error.kind.ErrorKind.TheVariants.{OutOfMemory}
@@ -45,6 +46,7 @@ the_table =
     ∷ (codes "owed", codes "archive" ∷ codes "driver" ∷ [])
     ∷ (codes "entries", codes "archive" ∷ codes "driver" ∷ [])
     ∷ (codes "file", codes "archive" ∷ codes "driver" ∷ codes "number" ∷ [])
+    ∷ (codes "serve", codes "archive" ∷ codes "key" ∷ codes "port" ∷ codes "count" ∷ [])
     ∷ []
 
 -- `tacho` with its subcommands, of which one has to be named
@@ -56,6 +58,10 @@ tacho_app = with_table (needs_subcommand (new_app (codes "tacho"))) the_table
 -- the word with this name is this text
 abbrev pub IsWord : List Row → Text → Text → Type 0
 IsWord rows id text = first_of id rows ≡ Some text
+
+-- the word with this name is the number's text, in decimal without leading zeros
+abbrev pub IsNumbered : List Row → Text → ℕ → ℕ → Type 0
+IsNumbered rows id most n = (text : Text) × IsWord rows id text × IsNumberText most text n
 
 -- the job has this name, and its words are those of the rows
 abbrev pub IsNamed : Text → List Row → Job → Type 0
@@ -85,6 +91,9 @@ IsNamed name rows (job.Entries archive driver) =
     (name ≡ codes "entries") × IsWord rows (codes "archive") archive.now × IsWord rows (codes "driver") driver.now
 IsNamed name rows (job.File archive driver number) =
     (name ≡ codes "file") × IsWord rows (codes "archive") archive.now × IsWord rows (codes "driver") driver.now × IsWord rows (codes "number") number.now
+IsNamed name rows (job.Serve archive key port count) =
+    (name ≡ codes "serve") × IsWord rows (codes "archive") archive.now × IsWord rows (codes "key") key.now
+    × IsNumbered rows (codes "port") 65535 port × IsNumbered rows (codes "count") 1000000 count
 
 -- the job of the subcommand that the words name
 abbrev pub IsJob : Option (Text × List Row) → Job → Type 0
@@ -95,6 +104,7 @@ abbrev pub at_desk : Job → Bool
 at_desk job.Dump = false
 at_desk job.Holder = false
 at_desk (job.Init archive) = false
+at_desk (job.Serve archive key port count) = false
 at_desk j = true
 
 -- the path of the archive's file, where the job has one
@@ -114,6 +124,7 @@ archive_of (job.Breaches archive driver) = Some archive.now
 archive_of (job.Owed archive driver) = Some archive.now
 archive_of (job.Entries archive driver) = Some archive.now
 archive_of (job.File archive driver number) = Some archive.now
+archive_of (job.Serve archive key port count) = Some archive.now
 
 -- ---- how words are used
 
@@ -122,9 +133,21 @@ abbrev pub IsRefusal : ErrorKind → Usage → Type 0
 IsRefusal kind (usage.Words text) = kind ≢ OutOfMemory
 IsRefusal kind usage.Parser = kind ≡ OutOfMemory
 IsRefusal kind usage.Memory = Unit {0}
+IsRefusal kind usage.Numbers = ⊥
 
--- it is told only where the command line doesn't take the words
-abbrev pub IsUsage : Bool → Usage → Type 0
-IsUsage taken (usage.Words text) = taken ≡ false
-IsUsage taken usage.Parser = Unit {0}
-IsUsage taken usage.Memory = Unit {0}
+-- a port or a count that is none
+abbrev pub HasNoNumbered : List Row → Type 0
+HasNoNumbered rows =
+    (text : Text) × ((IsWord rows (codes "port") text × HasNoNumber 65535 text) ⊎ (IsWord rows (codes "count") text × HasNoNumber 1000000 text))
+
+abbrev pub IsServeUsage : List Row → Usage → Type 0
+IsServeUsage rows usage.Numbers = HasNoNumbered rows
+IsServeUsage rows usage.Parser = Unit {0}
+IsServeUsage rows u = ⊥
+
+-- it is told only where the command line doesn't take the words, or `serve` names a port or a count that is none
+abbrev pub IsUsage : Bool → Option (Text × List Row) → Usage → Type 0
+IsUsage taken sub (usage.Words text) = taken ≡ false
+IsUsage taken sub usage.Numbers = (rows : List Row) × (sub ≡ Some (codes "serve", rows)) × HasNoNumbered rows
+IsUsage taken sub usage.Parser = Unit {0}
+IsUsage taken sub usage.Memory = Unit {0}

@@ -25,11 +25,11 @@ pub fn dump<R: Source, W: Sink>(alloc: Global, reader: &mut R, writer: &mut W) -
 {
     let input = match read_all(alloc, reader, ACTIVITY_LIMIT) {
         Ok(input) => input,
-        Err(fault) => return tell_fault(alloc, writer, Fault::from(fault)),
+        Err(fault) => return tell_fault(writer, Fault::from(fault)),
     };
     match dump_text(alloc, &input) {
         Ok(text) => tell(writer, text.as_bytes(), 0),
-        Err(fault) => tell_fault(alloc, writer, Fault::from(fault)),
+        Err(fault) => tell_fault(writer, Fault::from(fault)),
     }
 }
 
@@ -67,11 +67,11 @@ pub fn holder<R: Source, W: Sink>(alloc: Global, reader: &mut R, writer: &mut W)
 {
     let input = match read_all(alloc, reader, FILE_LIMIT) {
         Ok(input) => input,
-        Err(fault) => return tell_fault(alloc, writer, Fault::from(fault)),
+        Err(fault) => return tell_fault(writer, Fault::from(fault)),
     };
     match holder_text(alloc, &input) {
         Ok(text) => tell(writer, text.as_bytes(), 0),
-        Err(fault) => tell_fault(alloc, writer, Fault::from(fault)),
+        Err(fault) => tell_fault(writer, Fault::from(fault)),
     }
 }
 

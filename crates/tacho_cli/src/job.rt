@@ -74,6 +74,13 @@ pub enum Job<'a> {
         driver: &'a str,
         number: &'a str,
     },
+    /// So many requests are answered on a port of 127.0.0.1, by the office's key and those of drivers.
+    Serve {
+        archive: &'a str,
+        key: &'a str,
+        port: u16,
+        count: u32,
+    },
 }
 
 impl<'a> Job<'a> {
@@ -84,7 +91,10 @@ impl<'a> Job<'a> {
     pub fn at_desk(&self) -> bool
         ensures { result ≡ at_desk self.now }
     {
-        !matches!(self, Job::Dump | Job::Holder | Job::Init { .. })
+        !matches!(
+            self,
+            Job::Dump | Job::Holder | Job::Init { .. } | Job::Serve { .. }
+        )
     }
 
     /// The path of the archive's file, where the job has one.
@@ -106,6 +116,7 @@ impl<'a> Job<'a> {
             | Job::Owed { archive, .. }
             | Job::Entries { archive, .. }
             | Job::File { archive, .. } => Some(archive),
+            Job::Serve { archive, .. } => Some(archive),
         }
     }
 }

@@ -36,7 +36,7 @@ pub fn perform<K: Keeper, R: Source, W: Sink>(
 {
     match answer(alloc, job, keeper, reader) {
         Ok(text) => tell(writer, text.bytes(), 0),
-        Err(fault) => tell_fault(alloc, writer, fault),
+        Err(fault) => tell_fault(writer, fault),
     }
 }
 
@@ -92,7 +92,7 @@ fn task_of(job: Job<'_>) -> Result<Task, Fault>
         Job::Owed { driver, .. } => of_driver(Matter::Owed, driver, ""),
         Job::Entries { driver, .. } => of_driver(Matter::Entries, driver, ""),
         Job::File { driver, number, .. } => of_driver(Matter::File, driver, number),
-        Job::Dump | Job::Holder | Job::Init { .. } => unreachable!(),
+        Job::Dump | Job::Holder | Job::Init { .. } | Job::Serve { .. } => unreachable!(),
     }
 }
 

@@ -1,8 +1,7 @@
 ghost use Rattle.std.specs.Prelude.{◌≡◌};
-ghost use Rattle.tacho_cli.specs.Command.{Tells, TellsFault};
+ghost use Rattle.tacho_cli.specs.Command.{Tells, fault_reply};
 ghost use Rattle.tacho_cli.specs.Fault.{told_status};
 
-use std::alloc::Global;
 use tacho_card::CardFault;
 use tacho_desk::Fault;
 use tacho_sheet::{Fault as ToldFault, SheetFault, fault_line};
@@ -19,18 +18,14 @@ pub(crate) fn tell<W: Sink>(writer: &mut W, text: &[u8], status: u8) -> u8
     }
 }
 
-/// Writes the line of a fault, or that of want of memory where there is none for it.
-pub(crate) fn tell_fault<W: Sink>(alloc: Global, writer: &mut W, fault: Fault) -> u8
-    ensures { TellsFault fault (W.has_failed writer.new) (W.written writer.old) (W.written writer.new) result }
+/// Writes the line of a fault, and answers its status, or 3 where the writer failed. It takes no memory.
+pub(crate) fn tell_fault<W: Sink>(writer: &mut W, fault: Fault) -> u8
+    ensures { Tells (W.has_failed writer.new) (W.written writer.old) (W.written writer.new) (fault_reply fault) result }
 {
-    let told = match fault {
-        Fault::Told(told) => told,
-        Fault::Device => return tell(writer, b"X2 device failed\n", 3),
-        Fault::Memory => return tell(writer, b"M1 no memory\n", 3),
-    };
-    match fault_line(alloc, told) {
-        Ok(line) => tell(writer, line.as_bytes(), status_of(&told)),
-        Err(_) => tell(writer, b"M1 no memory\n", 3),
+    match fault {
+        Fault::Told(told) => tell(writer, fault_line(told).as_bytes(), status_of(&told)),
+        Fault::Device => tell(writer, b"X2 device failed\n", 3),
+        Fault::Memory => tell(writer, b"M1 no memory\n", 3),
     }
 }
 

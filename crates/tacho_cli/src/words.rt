@@ -1,18 +1,21 @@
 ghost use Rattle.std.specs.Prelude.{◌≡◌, [], IfOk, IfErr, IfSome, codes, false, map, string_bytes};
 ghost use Rattle.clap.specs.Words.{app_of, fault_of, found_of, kind_of, new_app, rows_of, rule_of, subcommand_of, takes};
 ghost use Rattle.clap.specs.declared.builder.command.Command.TheViews.{out-Command as fields_of};
-ghost use Rattle.tacho_cli.specs.Words.{needs_subcommand, tacho_app, the_table, with_table, with_words, word_rule, IsJob, IsNamed, IsRefusal, IsUsage, IsWord};
+ghost use Rattle.tacho_cli.specs.Words.{needs_subcommand, tacho_app, the_table, with_table, with_words, word_rule, IsJob, IsNamed, IsRefusal, IsServeUsage, IsUsage, IsWord};
 
 use crate::job::Job;
 use clap::error::ErrorKind;
 use clap::{Arg, ArgMatches, Command, Error};
 use std::alloc::{AllocError, Global};
+use tacho_sheet::read_number;
 
 /// Why a command line asks for nothing.
 #[derive(Debug, Drop)]
 pub enum Usage {
     /// The words name no job: how they are used.
     Words(String),
+    /// PORT is no number from 1 to 65535, or COUNT none from 1 to 1,000,000.
+    Numbers,
     /// The parser of words gave no answer, since it had no memory.
     Parser,
     /// There was no memory.
@@ -31,7 +34,7 @@ impl From<AllocError> for Usage {
 }
 
 /// The subcommands: the name of each, what it does, and its words in order.
-static TABLE: [(&str, &str, &[&str]); 15] = [
+static TABLE: [(&str, &str, &[&str]); 16] = [
     (
         "dump",
         "Prints the spans of the value of an EF Driver_Activity_Data (0504), a line each: tacho dump < FILE",
@@ -107,7 +110,17 @@ static TABLE: [(&str, &str, &[&str]); 15] = [
         "Prints a card download file that was kept",
         &["archive", "driver", "number"],
     ),
+    (
+        "serve",
+        "Answers COUNT connections on PORT of 127.0.0.1, a request each: the office's by its KEY, drivers' by their own",
+        &["archive", "key", "port", "count"],
+    ),
 ];
+
+/// The greatest port, and the most connections that are answered.
+const LAST_PORT: u32 = 65_535;
+
+const LAST_COUNT: u32 = 1_000_000;
 
 /// A word that has to be there.
 fn word<'a>(alloc: Global, id: &'a str) -> Arg<'a>
@@ -277,6 +290,31 @@ fn job_of_month<'a>(
     None
 }
 
+/// The words of `serve`. Of a port or a count that is none how they are used is told.
+fn serve_of<'a>(words: &ArgMatches<'a>) -> Result<Job<'a>, Usage>
+    ensures job { IfOk result (IsNamed (codes "serve") (rows_of (found_of words.now))) }
+    ensures usage { IfErr result (IsServeUsage (rows_of (found_of words.now))) }
+{
+    let (Some(archive), Some(key)) = (text_of(words, "archive"), text_of(words, "key")) else {
+        return Err(Usage::Parser);
+    };
+    let (Some(port), Some(count)) = (text_of(words, "port"), text_of(words, "count")) else {
+        return Err(Usage::Parser);
+    };
+    let Some(port) = read_number(port.as_bytes(), LAST_PORT) else {
+        return Err(Usage::Numbers);
+    };
+    let Some(count) = read_number(count.as_bytes(), LAST_COUNT) else {
+        return Err(Usage::Numbers);
+    };
+    Ok(Job::Serve {
+        archive,
+        key,
+        port: port as u16,
+        count,
+    })
+}
+
 /// What an error of the parser says: how the words are used, unless it had no memory.
 fn refusal(alloc: Global, error: &Error) -> Usage
     ensures { IsRefusal (kind_of error.now) result }
@@ -294,7 +332,7 @@ fn refusal(alloc: Global, error: &Error) -> Usage
 pub fn parse<'a>(alloc: Global, words: &'a [String]) -> Result<Job<'a>, Usage>
     ensures taken { IfOk result (λ _. fault_of tacho_app (map string_bytes words.entry.now) ≡ []) }
     ensures job { IfOk result (IsJob (subcommand_of tacho_app (map string_bytes words.entry.now))) }
-    ensures usage { IfErr result (IsUsage (takes tacho_app (map string_bytes words.entry.now))) }
+    ensures usage { IfErr result (IsUsage (takes tacho_app (map string_bytes words.entry.now)) (subcommand_of tacho_app (map string_bytes words.entry.now))) }
 {
     let command = tacho(alloc)?;
     let matches = match command.try_get_matches_from(words) {
@@ -304,6 +342,9 @@ pub fn parse<'a>(alloc: Global, words: &'a [String]) -> Result<Job<'a>, Usage>
     let Some((name, inner)) = matches.subcommand() else {
         return Err(Usage::Parser);
     };
+    if name == "serve" {
+        return serve_of(inner);
+    }
     match job_of(name, inner) {
         Some(job) => Ok(job),
         None => Err(Usage::Parser),
