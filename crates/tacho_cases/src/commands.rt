@@ -1,4 +1,5 @@
 use crate::faulty::Faulty;
+use crate::same::assert_same;
 use std::alloc::{AllocError, Global};
 use std::process::Abort;
 use std::test::Fail;
@@ -124,8 +125,8 @@ fn values_are_dumped(rt: HostRuntime) -> Result<(), Fail> {
     ];
     for (digits, lines, status) in rows {
         let (text, answered) = dumped(rt.alloc(), &bytes_of(&rt, rt.alloc(), digits));
-        assert_eq!(rt; text.as_slice(), lines.as_bytes(), "of {digits}");
-        assert_eq!(rt; answered, status, "of {digits}");
+        assert!(rt; text.as_slice() == lines.as_bytes(), "of {digits}");
+        assert!(rt; answered == status, "of {digits}");
     }
     Ok(())
 }
@@ -134,25 +135,26 @@ fn values_are_dumped(rt: HostRuntime) -> Result<(), Fail> {
 fn inputs_have_a_limit(rt: HostRuntime) -> Result<(), Fail> {
     let mut input = vec![in rt.alloc(); 0u8; 65_535]?;
     let (text, status) = dumped(rt.alloc(), &input);
-    assert_eq!(rt; text.as_slice(), b"".as_slice());
-    assert_eq!(rt; status, 0);
+    assert_same(&rt, text.as_slice(), b"".as_slice());
+    assert_same(&rt, status, 0);
     input.push(0)?;
     let (text, status) = dumped(rt.alloc(), &input);
-    assert_eq!(rt; text.as_slice(), b"X1 too large\n".as_slice());
-    assert_eq!(rt; status, 1);
+    assert_same(&rt, text.as_slice(), b"X1 too large\n".as_slice());
+    assert_same(&rt, status, 1);
 
     let mut file = bytes_of(&rt, rt.alloc(), IDENTIFICATION);
     file.resize(262_144, 0)?;
     let (text, status) = held(rt.alloc(), &file);
-    assert_eq!(rt;
+    assert_same(
+        &rt,
         text.as_slice(),
-        b"C1 truncated block at 262142\n".as_slice()
+        b"C1 truncated block at 262142\n".as_slice(),
     );
-    assert_eq!(rt; status, 1);
+    assert_same(&rt, status, 1);
     file.push(0)?;
     let (text, status) = held(rt.alloc(), &file);
-    assert_eq!(rt; text.as_slice(), b"X1 too large\n".as_slice());
-    assert_eq!(rt; status, 1);
+    assert_same(&rt, text.as_slice(), b"X1 too large\n".as_slice());
+    assert_same(&rt, status, 1);
     Ok(())
 }
 
@@ -211,12 +213,12 @@ fn holders_are_told(rt: HostRuntime) -> Result<(), Fail> {
         let mut input = bytes_of(&rt, rt.alloc(), IDENTIFICATION);
         input.extend_from_slice(&bytes_of(&rt, rt.alloc(), digits))?;
         let (text, answered) = held(rt.alloc(), &input);
-        assert_eq!(rt; text.as_slice(), lines.as_bytes(), "of {digits}");
-        assert_eq!(rt; answered, status, "of {digits}");
+        assert!(rt; text.as_slice() == lines.as_bytes(), "of {digits}");
+        assert!(rt; answered == status, "of {digits}");
     }
     let (text, status) = held(rt.alloc(), b"");
-    assert_eq!(rt; text.as_slice(), b"C3 no identification\n".as_slice());
-    assert_eq!(rt; status, 1);
+    assert_same(&rt, text.as_slice(), b"C3 no identification\n".as_slice());
+    assert_same(&rt, status, 1);
     Ok(())
 }
 
@@ -233,12 +235,11 @@ fn readers_fail_at_each_call(rt: HostRuntime) -> Result<(), Fail> {
         } else {
             (TWO_DAYS_LINES, 0)
         };
-        assert_eq!(rt;
-            writer.into_inner().as_slice(),
-            lines.as_bytes(),
+        assert!(rt;
+            writer.into_inner().as_slice() == lines.as_bytes(),
             "of {calls} calls"
         );
-        assert_eq!(rt; status, wanted, "of {calls} calls");
+        assert!(rt; status == wanted, "of {calls} calls");
     }
     let input = bytes_of(&rt, rt.alloc(), IDENTIFICATION);
     // Twenty-two bytes in pieces of seven take four calls, and one more for the end.
@@ -251,12 +252,11 @@ fn readers_fail_at_each_call(rt: HostRuntime) -> Result<(), Fail> {
         } else {
             (HOLDER_LINE, 0)
         };
-        assert_eq!(rt;
-            writer.into_inner().as_slice(),
-            lines.as_bytes(),
+        assert!(rt;
+            writer.into_inner().as_slice() == lines.as_bytes(),
             "of {calls} calls"
         );
-        assert_eq!(rt; status, wanted, "of {calls} calls");
+        assert!(rt; status == wanted, "of {calls} calls");
     }
     Ok(())
 }
@@ -271,18 +271,17 @@ fn writers_fail_at_each_call(rt: HostRuntime) -> Result<(), Fail> {
         let mut writer = Faulty::new(rt.alloc(), b"", 50, calls);
         let status = dump(rt.alloc(), &mut reader, &mut writer);
         let front = lines.len().min(calls * 50);
-        assert_eq!(rt;
-            writer.written.as_slice(),
-            &lines[..front],
+        assert!(rt;
+            writer.written.as_slice() == &lines[..front],
             "of {calls} calls"
         );
-        assert_eq!(rt; status, if calls < 4 { 3 } else { 0 }, "of {calls} calls");
+        assert!(rt; status == if calls < 4 { 3 } else { 0 }, "of {calls} calls");
     }
     Ok(())
 }
 
 /// Words, and the job that they name.
-static JOBS: [(&[&str], Job<'static>); 15] = [
+static JOBS: [(&[&str], Job<'static>); 17] = [
     (&["tacho", "dump"], Job::Dump),
     (&["tacho", "holder"], Job::Holder),
     (&["tacho", "init", "a.db"], Job::Init { archive: "a.db" }),
@@ -373,6 +372,38 @@ static JOBS: [(&[&str], Job<'static>); 15] = [
             number: "3",
         },
     ),
+    (
+        &["tacho", "serve", "a.db", "office-key-1", "1", "1000000"],
+        Job::Serve {
+            archive: "a.db",
+            key: "office-key-1",
+            port: 1,
+            count: 1_000_000,
+        },
+    ),
+    (
+        &["tacho", "serve", "a.db", "", "65535", "1"],
+        Job::Serve {
+            archive: "a.db",
+            key: "",
+            port: 65_535,
+            count: 1,
+        },
+    ),
+];
+
+/// Ports and counts of which one is none.
+static NO_NUMBERS: [(&str, &str); 10] = [
+    ("0", "1"),
+    ("65536", "1"),
+    ("080", "1"),
+    ("port", "1"),
+    ("", "1"),
+    ("1", "0"),
+    ("1", "1000001"),
+    ("1", "01"),
+    ("1", "many"),
+    ("1", ""),
 ];
 
 /// The words of a command line.
@@ -390,13 +421,26 @@ fn words_name_jobs(rt: HostRuntime) -> Result<(), Fail> {
     for (words, job) in JOBS {
         let given = strings(alloc, words)?;
         let named = parse(alloc, &given).map_err(|_| "words that name a job")?;
-        assert_eq!(rt; named, job);
+        assert_same(&rt, named, job);
         let has_archive = !matches!(job, Job::Dump | Job::Holder);
-        assert_eq!(rt; named.archive(), has_archive.then_some("a.db"));
-        assert_eq!(rt;
+        assert_same(&rt, named.archive(), has_archive.then_some("a.db"));
+        assert_same(
+            &rt,
             named.at_desk(),
-            has_archive && words.get(1) != Some(&"init")
+            has_archive && !matches!(job, Job::Init { .. } | Job::Serve { .. }),
         );
+    }
+    Ok(())
+}
+
+#[test]
+fn ports_and_counts_are_numbers(rt: HostRuntime) -> Result<(), Fail> {
+    let alloc = rt.alloc();
+    for (port, count) in NO_NUMBERS {
+        let words = ["tacho", "serve", "a.db", "office-key-1", port, count];
+        let given = strings(alloc, &words)?;
+        let is_refused = matches!(parse(alloc, &given), Err(Usage::Numbers));
+        assert!(rt; is_refused, "of {port} and {count}");
     }
     Ok(())
 }
@@ -422,6 +466,7 @@ Commands:
   owed      Prints the weekly rests that are owed
   entries   Prints the hours that were entered by hand
   file      Prints a card download file that was kept
+  serve     Answers COUNT connections on PORT of 127.0.0.1, a request each: the office's by its KEY, drivers' by their own
   help      Print this message or the help of the given subcommand(s)
 
 Options:
@@ -448,7 +493,7 @@ Options:
 
 const NO_COMMAND: &str = "\
 error: 'tacho' requires a subcommand but one was not provided
-  [subcommands: dump, holder, init, register, import, enter, withdraw, base, spans, gaps, sheet, breaches, owed, entries, file, help]
+  [subcommands: dump, holder, init, register, import, enter, withdraw, base, spans, gaps, sheet, breaches, owed, entries, file, serve, help]
 
 Usage: tacho <COMMAND>
 
@@ -484,18 +529,18 @@ fn told(rt: &impl Abort, alloc: Global, words: &[&str]) -> Result<String, AllocE
 fn other_words_tell_how_they_are_used(rt: HostRuntime) -> Result<(), Fail> {
     let alloc = rt.alloc();
     let help = told(&rt, alloc, &["tacho", "--help"])?;
-    assert_eq!(rt; help.as_str(), HELP);
+    assert_same(&rt, help.as_str(), HELP);
     let help = told(&rt, alloc, &["tacho", "help"])?;
-    assert_eq!(rt; help.as_str(), HELP);
+    assert_same(&rt, help.as_str(), HELP);
     let help_of_dump = told(&rt, alloc, &["tacho", "dump", "--help"])?;
-    assert_eq!(rt; help_of_dump.as_str(), HELP_OF_DUMP);
+    assert_same(&rt, help_of_dump.as_str(), HELP_OF_DUMP);
     let help_of_holder = told(&rt, alloc, &["tacho", "help", "holder"])?;
-    assert_eq!(rt; help_of_holder.as_str(), HELP_OF_HOLDER);
+    assert_same(&rt, help_of_holder.as_str(), HELP_OF_HOLDER);
     let no_command = told(&rt, alloc, &["tacho"])?;
-    assert_eq!(rt; no_command.as_str(), NO_COMMAND);
+    assert_same(&rt, no_command.as_str(), NO_COMMAND);
     let other_command = told(&rt, alloc, &["tacho", "weigh"])?;
-    assert_eq!(rt; other_command.as_str(), OTHER_COMMAND);
+    assert_same(&rt, other_command.as_str(), OTHER_COMMAND);
     let one_word_more = told(&rt, alloc, &["tacho", "dump", "more"])?;
-    assert_eq!(rt; one_word_more.as_str(), ONE_WORD_MORE);
+    assert_same(&rt, one_word_more.as_str(), ONE_WORD_MORE);
     Ok(())
 }

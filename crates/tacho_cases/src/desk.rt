@@ -90,20 +90,22 @@ fn readers_fail_at_each_call(rt: HostRuntime) -> Result<(), Fail> {
             let status = performed(rt.alloc(), &mut shelf, *job, &mut reader, &mut writer)?;
             let written = writer.into_inner();
             if calls >= needed {
-                assert_eq!(rt; written.as_slice(), text.as_bytes(), "of {calls} calls");
-                assert_eq!(rt; status, 0, "of {calls} calls");
+                assert!(rt; written.as_slice() == text.as_bytes(), "of {calls} calls");
+                assert!(rt; status == 0, "of {calls} calls");
                 continue;
             }
-            assert_eq!(rt;
-                written.as_slice(),
-                b"X2 device failed\n".as_slice(),
+            assert!(rt;
+                written.as_slice() == b"X2 device failed\n".as_slice(),
                 "of {calls} calls"
             );
-            assert_eq!(rt; status, 3, "of {calls} calls");
+            assert!(rt; status == 3, "of {calls} calls");
             // The archive is as before: the job can be done.
             let (written, status) = answer(rt.alloc(), &mut shelf, *job, *input)?;
-            assert_eq!(rt; written.as_slice(), text.as_bytes(), "after {calls} calls");
-            assert_eq!(rt; status, 0, "after {calls} calls");
+            assert!(rt;
+                written.as_slice() == text.as_bytes(),
+                "after {calls} calls"
+            );
+            assert!(rt; status == 0, "after {calls} calls");
         }
     }
     Ok(())
@@ -128,14 +130,16 @@ fn writers_fail_at_each_call(rt: HostRuntime) -> Result<(), Fail> {
                 wanted.eq(writer.written.iter().copied()),
                 "of {calls} calls"
             );
-            assert_eq!(rt;
-                status,
-                if calls < needed { 3 } else { 0 },
+            assert!(rt;
+                status == if calls < needed { 3 } else { 0 },
                 "of {calls} calls"
             );
             // The job has acted.
             let (written, _) = answer(rt.alloc(), &mut shelf, *job, *input)?;
-            assert_eq!(rt; written.as_slice(), again.as_bytes(), "after {calls} calls");
+            assert!(rt;
+                written.as_slice() == again.as_bytes(),
+                "after {calls} calls"
+            );
         }
     }
     Ok(())

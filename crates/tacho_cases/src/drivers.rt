@@ -1,3 +1,4 @@
+use crate::same::assert_same;
 use std::alloc::Global;
 use std::test::Fail;
 use tacho_line::Line;
@@ -35,7 +36,7 @@ fn parts_outside_a_range_stay(rt: HostRuntime) -> Result<(), Fail> {
     let spans = [span(10, 40, WORK), span(40, 60, DRIVE)];
     let parts = outside_of(rt.alloc(), &spans, Minute::new(20), Minute::new(50))?;
     let wanted = [span(10, 20, WORK), span(50, 60, DRIVE)];
-    assert_eq!(rt; parts.as_slice(), wanted.as_slice());
+    assert_same(&rt, parts.as_slice(), wanted.as_slice());
     Ok(())
 }
 
@@ -54,14 +55,15 @@ fn hindrance(alloc: Global, past: Minute, base: u32) -> Result<Option<StoreFault
 fn a_base_is_a_monday_until_2099(rt: HostRuntime) -> Result<(), Fail> {
     let alloc = rt.alloc();
     let last = Minute::new(68_374_080);
-    assert_eq!(rt; hindrance(alloc, last, 10_959)?, None);
-    assert_eq!(rt; hindrance(alloc, last, 47_478)?, None);
+    assert_same(&rt, hindrance(alloc, last, 10_959)?, None);
+    assert_same(&rt, hindrance(alloc, last, 47_478)?, None);
     for base in [0, 4, 10_952, 10_960, 47_485, u32::MAX] {
-        assert_eq!(rt; hindrance(alloc, last, base)?, Some(StoreFault::Store));
+        assert_same(&rt, hindrance(alloc, last, base)?, Some(StoreFault::Store));
     }
-    assert_eq!(rt;
+    assert_same(
+        &rt,
         hindrance(alloc, Minute::new(68_374_081), 10_959)?,
-        Some(StoreFault::Store)
+        Some(StoreFault::Store),
     );
     Ok(())
 }
@@ -76,9 +78,9 @@ fn a_report_is_from_its_base(rt: HostRuntime) -> Result<(), Fail> {
     };
     let line: Line = line_of(alloc, &[rest])?;
     let held = report_of(alloc, &line, 19_786)?;
-    assert_eq!(rt; held.horizon.minute, Minute::new(1440 * 19_790));
+    assert_same(&rt, held.horizon.minute, Minute::new(1440 * 19_790));
     let later = report_of(alloc, &line, 19_793)?;
-    assert_eq!(rt; later.horizon.minute, Minute::new(1440 * 19_793));
+    assert_same(&rt, later.horizon.minute, Minute::new(1440 * 19_793));
     assert!(rt; later.breaches.is_empty() && later.debts.is_empty());
     Ok(())
 }
@@ -99,19 +101,26 @@ fn driver(
 fn the_first_bad_column_is_told(rt: HostRuntime) -> Result<(), Fail> {
     let alloc = rt.alloc();
     assert!(rt; driver(alloc, 17, "anna-key-1", "Anna Berg")?.is_ok());
-    assert_eq!(rt; driver(alloc, 0, "anna", "")?.err(), Some(Column::Driver));
-    assert_eq!(rt;
+    assert_same(
+        &rt,
+        driver(alloc, 0, "anna", "")?.err(),
+        Some(Column::Driver),
+    );
+    assert_same(
+        &rt,
         driver(alloc, 1_000_000, "anna-key-1", "Anna Berg")?.err(),
-        Some(Column::Driver)
+        Some(Column::Driver),
     );
-    assert_eq!(rt; driver(alloc, 17, "anna", "")?.err(), Some(Column::Key));
-    assert_eq!(rt;
+    assert_same(&rt, driver(alloc, 17, "anna", "")?.err(), Some(Column::Key));
+    assert_same(
+        &rt,
         driver(alloc, 17, "anna-key-1", "")?.err(),
-        Some(Column::Name)
+        Some(Column::Name),
     );
-    assert_eq!(rt;
+    assert_same(
+        &rt,
         driver(alloc, 17, "anna-key-1", "Berg, Anna")?.err(),
-        Some(Column::Name)
+        Some(Column::Name),
     );
     Ok(())
 }
@@ -132,7 +141,7 @@ fn keys_and_names_have_their_limits(rt: HostRuntime) {
             false,
         ),
     ] {
-        assert_eq!(rt; is_key(text), wanted, "of {text}");
+        assert!(rt; is_key(text) == wanted, "of {text}");
     }
     for (text, wanted) in [
         ("Anna Berg", true),
@@ -141,14 +150,14 @@ fn keys_and_names_have_their_limits(rt: HostRuntime) {
         ("Anna\tBerg", false),
         ("Anna\u{7f}Berg", false),
     ] {
-        assert_eq!(rt; is_name(text), wanted, "of {text}");
+        assert!(rt; is_name(text) == wanted, "of {text}");
     }
 }
 
 #[test]
 fn numbers_end_at_a_million(rt: HostRuntime) {
-    assert_eq!(rt; first_number(0, 1), Some(1));
-    assert_eq!(rt; first_number(999_999, 1), Some(1_000_000));
-    assert_eq!(rt; first_number(1_000_000, 1), None);
-    assert_eq!(rt; first_number(1_000_000, 0), Some(1_000_001));
+    assert_same(&rt, first_number(0, 1), Some(1));
+    assert_same(&rt, first_number(999_999, 1), Some(1_000_000));
+    assert_same(&rt, first_number(1_000_000, 1), None);
+    assert_same(&rt, first_number(1_000_000, 0), Some(1_000_001));
 }

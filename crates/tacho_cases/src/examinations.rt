@@ -1,5 +1,6 @@
 ghost use Rattle.std.specs.Prelude.{◌≤◌, All, IsTrue};
 
+use crate::same::assert_same;
 use std::alloc::{AllocError, Global};
 use std::test::Fail;
 use tacho_line::{Line, LineFault};
@@ -338,9 +339,9 @@ fn nothing_is_examined_behind_the_held_minutes(rt: HostRuntime) -> Result<(), Fa
     let alloc = rt.alloc();
     let line = line_of(alloc, &[drive(4, 4, 480, 510)], at(4, 1020))?;
     let report = report_of(alloc, &line, 1)?;
-    assert_eq!(rt; report.horizon.minute, at(11, 0));
-    assert_eq!(rt; report.horizon.cause, Cause::Unknown);
-    assert_eq!(rt; (report.breaches.len(), report.debts.len()), (0, 0));
+    assert_same(&rt, report.horizon.minute, at(11, 0));
+    assert_same(&rt, report.horizon.cause, Cause::Unknown);
+    assert_same(&rt, (report.breaches.len(), report.debts.len()), (0, 0));
     Ok(())
 }
 
@@ -358,8 +359,8 @@ fn a_crew_ends_the_examination(rt: HostRuntime) -> Result<(), Fail> {
     };
     add(alloc, &mut line, &[crew])?;
     let report = report_of(alloc, &line, 0)?;
-    assert_eq!(rt; report.horizon.minute, at(4, 720));
-    assert_eq!(rt; report.horizon.cause, Cause::Crew);
-    assert_eq!(rt; (report.breaches.len(), report.debts.len()), (0, 0));
+    assert_same(&rt, report.horizon.minute, at(4, 720));
+    assert_same(&rt, report.horizon.cause, Cause::Crew);
+    assert_same(&rt, (report.breaches.len(), report.debts.len()), (0, 0));
     Ok(())
 }

@@ -1,6 +1,7 @@
 ghost use Rattle.std.specs.Prelude.{◌≡◌, ◌+◌, ◌≤◌, ◌<◌, All, AllPairs, false};
 ghost use Rattle.tacho_hours.specs.Line.{Joined, Before};
 
+use crate::same::assert_same;
 use std::alloc::{AllocError, Global};
 use std::test::Fail;
 use tacho_hours::{
@@ -92,21 +93,21 @@ fn runs_are_as_long_as_they_can_be(rt: HostRuntime) -> Result<(), Fail> {
             past: FAR,
         },
     ];
-    assert_eq!(rt; runs.as_slice(), expected.as_slice());
+    assert_same(&rt, runs.as_slice(), expected.as_slice());
     Ok(())
 }
 
 #[test]
 fn driving_is_counted(rt: HostRuntime) {
     let spans = day();
-    assert_eq!(rt; driven(&spans, 0, 1440), 540);
-    assert_eq!(rt; driven(&spans, 629, 701), 2);
-    assert_eq!(rt; driven(&spans, 630, 700), 0);
-    assert_eq!(rt; driven(&spans, 800, 700), 0);
-    assert_eq!(rt; driven_minute(&spans, 1), Some(BASE + 360));
-    assert_eq!(rt; driven_minute(&spans, 270), Some(BASE + 629));
-    assert_eq!(rt; driven_minute(&spans, 271), Some(BASE + 700));
-    assert_eq!(rt; driven_minute(&spans, 541), None);
+    assert_same(&rt, driven(&spans, 0, 1440), 540);
+    assert_same(&rt, driven(&spans, 629, 701), 2);
+    assert_same(&rt, driven(&spans, 630, 700), 0);
+    assert_same(&rt, driven(&spans, 800, 700), 0);
+    assert_same(&rt, driven_minute(&spans, 1), Some(BASE + 360));
+    assert_same(&rt, driven_minute(&spans, 270), Some(BASE + 629));
+    assert_same(&rt, driven_minute(&spans, 271), Some(BASE + 700));
+    assert_same(&rt, driven_minute(&spans, 541), None);
 }
 
 #[test]
@@ -143,7 +144,7 @@ fn breaks_have_45_minutes_or_15_and_then_30(rt: HostRuntime) -> Result<(), Fail>
     ];
     let breaks = complete_breaks(rt.alloc(), &runs)?;
     let expected = [runs[0], runs[2], runs[5]];
-    assert_eq!(rt; breaks.as_slice(), expected.as_slice());
+    assert_same(&rt, breaks.as_slice(), expected.as_slice());
     Ok(())
 }
 
@@ -188,21 +189,23 @@ fn duty_days_lie_between_rests_of_nine_hours(rt: HostRuntime) -> Result<(), Fail
             rest: runs[3],
         },
     ];
-    assert_eq!(rt; days.as_slice(), expected.as_slice());
+    assert_same(&rt, days.as_slice(), expected.as_slice());
     Ok(())
 }
 
 #[test]
 fn long_rests_have_so_many_minutes(rt: HostRuntime) -> Result<(), Fail> {
     let runs = two_days();
-    assert_eq!(rt;
+    assert_same(
+        &rt,
         long_rests(rt.alloc(), &runs, 180)?.as_slice(),
-        runs.as_slice()
+        runs.as_slice(),
     );
     let expected = [runs[0], runs[2], runs[3]];
-    assert_eq!(rt;
+    assert_same(
+        &rt,
         long_rests(rt.alloc(), &runs, 181)?.as_slice(),
-        expected.as_slice()
+        expected.as_slice(),
     );
     Ok(())
 }
@@ -258,6 +261,6 @@ fn breaches_are_in_order(rt: HostRuntime) -> Result<(), Fail> {
     let mut found = Vec::from_slice(rt.alloc(), &breaches)?;
     put_in_order(&mut found);
     let expected = [breaches[3], breaches[2], breaches[1], breaches[0]];
-    assert_eq!(rt; found.as_slice(), expected.as_slice());
+    assert_same(&rt, found.as_slice(), expected.as_slice());
     Ok(())
 }

@@ -1,9 +1,11 @@
-//! Worked cases of the crates from `tacho_time` to `tacho_cli`, as tests: all of them are proved once for these, where tests in
-//! each crate would have it proved twice.
+//! Worked cases of the crates from `tacho_time` to `tacho_cli` and `tacho_http`, as tests: all of them are proved once for these,
+//! where tests in each crate would have it proved twice.
 #![tactic(auto)]
 
 #[cfg(test)]
 mod commands;
+#[cfg(test)]
+mod connections;
 #[cfg(test)]
 mod desk;
 #[cfg(test)]
@@ -24,6 +26,12 @@ mod lines;
 mod passes;
 #[cfg(test)]
 mod reports;
+#[cfg(test)]
+mod requests;
+#[cfg(test)]
+mod routes;
+#[cfg(test)]
+mod same;
 #[cfg(test)]
 mod sheets;
 #[cfg(test)]

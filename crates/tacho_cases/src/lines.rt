@@ -1,5 +1,6 @@
 ghost use Rattle.std.specs.Prelude.{◌≤◌};
 
+use crate::same::assert_same;
 use std::alloc::Global;
 use std::test::Fail;
 use tacho_line::{Cause, Gap, Horizon, Line, LineFault};
@@ -60,7 +61,7 @@ fn a_contradiction_is_the_least_minute(rt: HostRuntime) -> Result<(), Fail> {
     let Err(fault) = line.gains(rt.alloc(), &with_the_line) else {
         panic!(rt; "no fault");
     };
-    assert_eq!(rt; fault, LineFault::Contradiction(minute(500)));
+    assert_same(&rt, fault, LineFault::Contradiction(minute(500)));
     let with_each_other = [
         single(5000, 5010, Activity::Drive),
         single(5005, 5020, Activity::Work),
@@ -68,7 +69,7 @@ fn a_contradiction_is_the_least_minute(rt: HostRuntime) -> Result<(), Fail> {
     let Err(fault) = line.gains(rt.alloc(), &with_each_other) else {
         panic!(rt; "no fault");
     };
-    assert_eq!(rt; fault, LineFault::Contradiction(minute(5005)));
+    assert_same(&rt, fault, LineFault::Contradiction(minute(5005)));
     let with_both = [
         single(5000, 5010, Activity::Drive),
         single(5005, 5020, Activity::Work),
@@ -77,7 +78,7 @@ fn a_contradiction_is_the_least_minute(rt: HostRuntime) -> Result<(), Fail> {
     let Err(fault) = line.gains(rt.alloc(), &with_both) else {
         panic!(rt; "no fault");
     };
-    assert_eq!(rt; fault, LineFault::Contradiction(minute(700)));
+    assert_same(&rt, fault, LineFault::Contradiction(minute(700)));
     Ok(())
 }
 
@@ -91,7 +92,7 @@ fn an_empty_span_comes_first(rt: HostRuntime) -> Result<(), Fail> {
     let Err(fault) = line.gains(rt.alloc(), &spans) else {
         panic!(rt; "no fault");
     };
-    assert_eq!(rt; fault, LineFault::EmptySpan(1));
+    assert_same(&rt, fault, LineFault::EmptySpan(1));
     Ok(())
 }
 
@@ -104,9 +105,9 @@ fn gains_are_what_is_not_held(rt: HostRuntime) -> Result<(), Fail> {
     ];
     let gains = line.gains(rt.alloc(), &spans)?;
     let wanted = [single(1020, 1440, Activity::Rest)];
-    assert_eq!(rt; gains.as_slice(), wanted.as_slice());
+    assert_same(&rt, gains.as_slice(), wanted.as_slice());
     let own = line.gains(rt.alloc(), line.spans())?;
-    assert_eq!(rt; own.len(), 0);
+    assert_same(&rt, own.len(), 0);
     Ok(())
 }
 
@@ -124,20 +125,25 @@ fn spans_that_touch_become_one(rt: HostRuntime) -> Result<(), Fail> {
         single(510, 1100, Activity::Drive),
         single(1200, 1300, Activity::Rest),
     ];
-    assert_eq!(rt; line.spans(), wanted.as_slice());
+    assert_same(&rt, line.spans(), wanted.as_slice());
     let within = line.slice(rt.alloc(), minute(500), minute(1210))?;
     let wanted = [
         single(500, 510, Activity::Work),
         single(510, 1100, Activity::Drive),
         single(1200, 1210, Activity::Rest),
     ];
-    assert_eq!(rt; within.as_slice(), wanted.as_slice());
-    assert_eq!(rt; line.slice(rt.alloc(), minute(500), minute(500))?.len(), 0);
-    assert_eq!(rt;
-        line.at(minute(1099)),
-        Some(single(0, 1, Activity::Drive).mark)
+    assert_same(&rt, within.as_slice(), wanted.as_slice());
+    assert_same(
+        &rt,
+        line.slice(rt.alloc(), minute(500), minute(500))?.len(),
+        0,
     );
-    assert_eq!(rt; line.at(minute(1100)), None);
+    assert_same(
+        &rt,
+        line.at(minute(1099)),
+        Some(single(0, 1, Activity::Drive).mark),
+    );
+    assert_same(&rt, line.at(minute(1100)), None);
     Ok(())
 }
 
@@ -148,20 +154,20 @@ fn a_horizon_is_the_first_break(rt: HostRuntime) -> Result<(), Fail> {
         minute: minute(1020),
         cause: Cause::Unknown,
     };
-    assert_eq!(rt; line.horizon(minute(0)), unknown);
-    assert_eq!(rt; line.horizon(minute(1020)), unknown);
+    assert_same(&rt, line.horizon(minute(0)), unknown);
+    assert_same(&rt, line.horizon(minute(1020)), unknown);
     let gaps = line.gaps(rt.alloc(), minute(0), minute(1440))?;
     let wanted = [Gap {
         start: minute(1020),
         past: minute(1440),
     }];
-    assert_eq!(rt; gaps.as_slice(), wanted.as_slice());
+    assert_same(&rt, gaps.as_slice(), wanted.as_slice());
     let spans = [span(1020, 1440, Activity::Drive, true)];
     learn(rt.alloc(), &mut line, &spans)?;
     let crew = Horizon {
         minute: minute(1020),
         cause: Cause::Crew,
     };
-    assert_eq!(rt; line.horizon(minute(0)), crew);
+    assert_same(&rt, line.horizon(minute(0)), crew);
     Ok(())
 }

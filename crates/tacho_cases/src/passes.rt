@@ -1,6 +1,7 @@
 ghost use Rattle.std.specs.Prelude.{◌≡◌, ◌+◌, ◌*◌, ◌<◌, ◌≤◌, All, IfOk, false, length};
 ghost use Rattle.tacho_hours.specs.Line.{Joined};
 
+use crate::same::assert_same;
 use std::alloc::{AllocError, Global};
 use std::test::Fail;
 use tacho_rules::plain::{breaks, days, rests, weeks};
@@ -93,9 +94,10 @@ fn days_of_day(alloc: Global, spans: &[Span]) -> Result<Vec<Breach>, AllocError>
 fn a_day_of_601_driving_minutes(rt: HostRuntime) -> Result<(), Fail> {
     let spans = [rest(0, 360), drive(360, 961), rest(961, 1440)];
     let found = days_of_day(rt.alloc(), &spans)?;
-    assert_eq!(rt;
+    assert_same(
+        &rt,
         found.as_slice(),
-        [of_day(Kind::B4, 960, 360, 1)].as_slice()
+        [of_day(Kind::B4, 960, 360, 1)].as_slice(),
     );
     Ok(())
 }
@@ -108,9 +110,10 @@ fn a_rest_of_530_minutes_within_24_hours(rt: HostRuntime) -> Result<(), Fail> {
         rest(920, 1440),
     ];
     let found = days_of_day(rt.alloc(), &spans)?;
-    assert_eq!(rt;
+    assert_same(
+        &rt,
         found.as_slice(),
-        [of_day(Kind::B2, 910, 10, 10)].as_slice()
+        [of_day(Kind::B2, 910, 10, 10)].as_slice(),
     );
     Ok(())
 }
@@ -125,7 +128,7 @@ fn a_break_of_45_minutes(rt: HostRuntime) -> Result<(), Fail> {
         rest(945, 1440),
     ];
     let found = breaks_of_day(rt.alloc(), &spans)?;
-    assert_eq!(rt; found.len(), 0);
+    assert_same(&rt, found.len(), 0);
     Ok(())
 }
 
@@ -133,7 +136,7 @@ fn a_break_of_45_minutes(rt: HostRuntime) -> Result<(), Fail> {
 fn one_minute_too_many(rt: HostRuntime) -> Result<(), Fail> {
     let spans = [rest(0, 360), drive(360, 631), rest(631, 1440)];
     let found = breaks_of_day(rt.alloc(), &spans)?;
-    assert_eq!(rt; found.as_slice(), [no_break(630, 360, 1)].as_slice());
+    assert_same(&rt, found.as_slice(), [no_break(630, 360, 1)].as_slice());
     Ok(())
 }
 
@@ -149,7 +152,7 @@ fn fifteen_minutes_and_then_thirty(rt: HostRuntime) -> Result<(), Fail> {
         rest(945, 1440),
     ];
     let found = breaks_of_day(rt.alloc(), &spans)?;
-    assert_eq!(rt; found.len(), 0);
+    assert_same(&rt, found.len(), 0);
     Ok(())
 }
 
@@ -165,7 +168,7 @@ fn thirty_minutes_and_then_fifteen(rt: HostRuntime) -> Result<(), Fail> {
         rest(945, 1440),
     ];
     let found = breaks_of_day(rt.alloc(), &spans)?;
-    assert_eq!(rt; found.as_slice(), [no_break(675, 360, 270)].as_slice());
+    assert_same(&rt, found.as_slice(), [no_break(675, 360, 270)].as_slice());
     Ok(())
 }
 
@@ -183,7 +186,7 @@ fn a_first_part_serves_once(rt: HostRuntime) -> Result<(), Fail> {
         rest(915, 1440),
     ];
     let found = breaks_of_day(rt.alloc(), &spans)?;
-    assert_eq!(rt; found.as_slice(), [no_break(885, 585, 30)].as_slice());
+    assert_same(&rt, found.as_slice(), [no_break(885, 585, 30)].as_slice());
     Ok(())
 }
 
@@ -250,7 +253,7 @@ fn too_much(kind: Kind, moment: u32, since: Minute, amount: u32) -> Breach
 #[test]
 fn a_week_of_56_hours(rt: HostRuntime) -> Result<(), Fail> {
     let found = breaches_of_weeks(rt.alloc(), &[885, 885, 885, 885, 885, 885, 885], 11_520)?;
-    assert_eq!(rt; found.len(), 0);
+    assert_same(&rt, found.len(), 0);
     Ok(())
 }
 
@@ -259,7 +262,7 @@ fn a_week_of_a_minute_more(rt: HostRuntime) -> Result<(), Fail> {
     let found = breaches_of_weeks(rt.alloc(), &[885, 885, 885, 885, 885, 885, 886], 11_520)?;
     // 2024-03-10 14:45.
     let wanted = too_much(Kind::B6, 9525, Minute::new(BASE), 1);
-    assert_eq!(rt; found.as_slice(), [wanted].as_slice());
+    assert_same(&rt, found.as_slice(), [wanted].as_slice());
     Ok(())
 }
 
@@ -269,7 +272,7 @@ fn two_weeks_of_90_hours(rt: HostRuntime) -> Result<(), Fail> {
         885, 885, 885, 885, 885, 885, 0, 825, 825, 825, 825, 825, 825,
     ];
     let found = breaches_of_weeks(rt.alloc(), &ends, 20_160)?;
-    assert_eq!(rt; found.len(), 0);
+    assert_same(&rt, found.len(), 0);
     Ok(())
 }
 
@@ -281,7 +284,7 @@ fn two_weeks_of_a_minute_more(rt: HostRuntime) -> Result<(), Fail> {
     let found = breaches_of_weeks(rt.alloc(), &ends, 20_160)?;
     // 2024-03-16 13:45.
     let wanted = too_much(Kind::B7, 18_105, Minute::new(BASE), 1);
-    assert_eq!(rt; found.as_slice(), [wanted].as_slice());
+    assert_same(&rt, found.as_slice(), [wanted].as_slice());
     Ok(())
 }
 
@@ -298,7 +301,7 @@ fn a_week_of_91_hours_counts_with_both_its_neighbours(rt: HostRuntime) -> Result
         too_much(Kind::B7, 9765, Minute::new(BASE - 10_080), 60),
         too_much(Kind::B7, 9765, Minute::new(BASE), 60),
     ];
-    assert_eq!(rt; found.as_slice(), wanted.as_slice());
+    assert_same(&rt, found.as_slice(), wanted.as_slice());
     Ok(())
 }
 
@@ -320,7 +323,7 @@ fn a_late_and_short_weekly_rest_that_a_night_pays(rt: HostRuntime) -> Result<(),
     // The weekly rest before the first work ends on the 4th at 06:00, so the next has to start by the 10th at 06:00. It
     // starts there at 14:45, 525 minutes later. The last starts on the 16th, in time. The two weeks have weekly rests enough.
     let late = too_much(Kind::B8, 9000, Minute::new(BASE + 360), 525);
-    assert_eq!(rt; found.breaches.as_slice(), [late].as_slice());
+    assert_same(&rt, found.breaches.as_slice(), [late].as_slice());
     // That rest is the main one of its week. It goes to the 12th at 06:00 and has 555 + 1,440 + 360 minutes, 345 fewer than
     // 2,700. The night from the 12th at 15:16 has 884 minutes: beside nine hours 344, one too few. The night from the 13th
     // at 15:15 has 885 and pays. The deadline is 1 April at 00:00.
@@ -330,6 +333,6 @@ fn a_late_and_short_weekly_rest_that_a_night_pays(rt: HostRuntime) -> Result<(),
         deadline: Minute::new(BASE + 40_320),
         paid_by: Some(Minute::new(BASE + 13_875)),
     };
-    assert_eq!(rt; found.debts.as_slice(), [owed].as_slice());
+    assert_same(&rt, found.debts.as_slice(), [owed].as_slice());
     Ok(())
 }

@@ -1,3 +1,4 @@
+use crate::same::assert_same;
 use std::alloc::Global;
 use std::test::Fail;
 use tacho_hours::{Breach, Debt, Kind};
@@ -122,33 +123,37 @@ fn breaches_are_printed(rt: HostRuntime) -> Result<(), Fail> {
         breach(Kind::B10, at(13, 0), at(4, 480), 1260),
     ];
     let text = breach_text(alloc, &report_of(alloc, end(), &breaches)?)?;
-    assert_eq!(rt;
+    assert_same(
+        &rt,
         text.as_str(),
-        "B1 Art 7 at 2024-03-04 13:00 since 2024-03-04 08:30 amount 240\nB2 Art 8(2) at 2024-03-05 00:00 since 2024-03-04 08:00 amount 1\nB3 Art 8(4) at 2024-03-06 00:00 since 2024-03-04 08:00 amount 2\nB4 Art 6(1) at 2024-03-07 00:00 since 2024-03-04 08:00 amount 3\nB5 Art 6(1) at 2024-03-08 00:00 since 2024-03-04 08:00 amount 4\nB6 Art 6(2) at 2024-03-09 00:00 since 2024-03-04 08:00 amount 5\nB7 Art 6(3) at 2024-03-10 00:00 since 2024-03-04 08:00 amount 6\nB8 Art 8(6) at 2024-03-11 00:00 since 2024-03-04 08:00 amount 7\nB9 Art 8(6) at 2024-03-12 00:00 since 2024-03-04 08:00 amount 0\nB10 Art 8(6b) at 2024-03-13 00:00 since 2024-03-04 08:00 amount 1260\nEXAMINED TO 2024-03-04 17:00 unknown\n"
+        "B1 Art 7 at 2024-03-04 13:00 since 2024-03-04 08:30 amount 240\nB2 Art 8(2) at 2024-03-05 00:00 since 2024-03-04 08:00 amount 1\nB3 Art 8(4) at 2024-03-06 00:00 since 2024-03-04 08:00 amount 2\nB4 Art 6(1) at 2024-03-07 00:00 since 2024-03-04 08:00 amount 3\nB5 Art 6(1) at 2024-03-08 00:00 since 2024-03-04 08:00 amount 4\nB6 Art 6(2) at 2024-03-09 00:00 since 2024-03-04 08:00 amount 5\nB7 Art 6(3) at 2024-03-10 00:00 since 2024-03-04 08:00 amount 6\nB8 Art 8(6) at 2024-03-11 00:00 since 2024-03-04 08:00 amount 7\nB9 Art 8(6) at 2024-03-12 00:00 since 2024-03-04 08:00 amount 0\nB10 Art 8(6b) at 2024-03-13 00:00 since 2024-03-04 08:00 amount 1260\nEXAMINED TO 2024-03-04 17:00 unknown\n",
     );
     let crew = Horizon {
         minute: at(4, 1020),
         cause: Cause::Crew,
     };
     let text = breach_text(alloc, &report_of(alloc, crew, &[])?)?;
-    assert_eq!(rt; text.as_str(), "EXAMINED TO 2024-03-04 17:00 crew\n");
+    assert_same(&rt, text.as_str(), "EXAMINED TO 2024-03-04 17:00 crew\n");
     Ok(())
 }
 
 #[test]
 fn debts_are_printed(rt: HostRuntime) -> Result<(), Fail> {
     let alloc = rt.alloc();
-    assert_eq!(rt;
+    assert_same(
+        &rt,
         owed(alloc, &[debt(1260, None)], at(31, 1439))?.as_str(),
-        "WEEK 2024-03-04 owes 1260 by 2024-04-01 00:00 open\nEXAMINED TO 2024-03-31 23:59 unknown\n"
+        "WEEK 2024-03-04 owes 1260 by 2024-04-01 00:00 open\nEXAMINED TO 2024-03-31 23:59 unknown\n",
     );
-    assert_eq!(rt;
+    assert_same(
+        &rt,
         owed(alloc, &[debt(1260, None)], at(32, 0))?.as_str(),
-        "WEEK 2024-03-04 owes 1260 by 2024-04-01 00:00 late\nEXAMINED TO 2024-04-01 00:00 unknown\n"
+        "WEEK 2024-03-04 owes 1260 by 2024-04-01 00:00 late\nEXAMINED TO 2024-04-01 00:00 unknown\n",
     );
-    assert_eq!(rt;
+    assert_same(
+        &rt,
         owed(alloc, &[debt(1260, Some(at(20, 0)))], at(32, 0))?.as_str(),
-        "WEEK 2024-03-04 owes 1260 by 2024-04-01 00:00 paid 2024-03-20 00:00\nEXAMINED TO 2024-04-01 00:00 unknown\n"
+        "WEEK 2024-03-04 owes 1260 by 2024-04-01 00:00 paid 2024-03-20 00:00\nEXAMINED TO 2024-04-01 00:00 unknown\n",
     );
     Ok(())
 }
@@ -157,12 +162,13 @@ fn debts_are_printed(rt: HostRuntime) -> Result<(), Fail> {
 fn gaps_of_a_month_are_printed(rt: HostRuntime) -> Result<(), Fail> {
     let alloc = rt.alloc();
     let text = gap_text(alloc, &a_month(alloc)?, march()?)?;
-    assert_eq!(rt;
+    assert_same(
+        &rt,
         text.as_str(),
-        "2024-03-01 00:00 2024-03-04 00:00\n2024-03-04 17:00 2024-03-31 16:00\n"
+        "2024-03-01 00:00 2024-03-04 00:00\n2024-03-04 17:00 2024-03-31 16:00\n",
     );
     let text = gap_text(alloc, &Line::empty(alloc), march()?)?;
-    assert_eq!(rt; text.as_str(), "2024-03-01 00:00 2024-04-01 00:00\n");
+    assert_same(&rt, text.as_str(), "2024-03-01 00:00 2024-04-01 00:00\n");
     Ok(())
 }
 
@@ -170,15 +176,17 @@ fn gaps_of_a_month_are_printed(rt: HostRuntime) -> Result<(), Fail> {
 fn spans_of_a_month_are_printed(rt: HostRuntime) -> Result<(), Fail> {
     let alloc = rt.alloc();
     let text = span_csv(alloc, &a_month(alloc)?, march()?)?;
-    assert_eq!(rt;
+    assert_same(
+        &rt,
         text.as_str(),
-        "start,past,activity,manning\n2024-03-04 00:00,2024-03-04 08:00,rest,single\n2024-03-04 08:00,2024-03-04 08:30,work,single\n2024-03-04 08:30,2024-03-04 17:00,drive,single\n2024-03-31 16:00,2024-04-01 00:00,rest,single\n"
+        "start,past,activity,manning\n2024-03-04 00:00,2024-03-04 08:00,rest,single\n2024-03-04 08:00,2024-03-04 08:30,work,single\n2024-03-04 08:30,2024-03-04 17:00,drive,single\n2024-03-31 16:00,2024-04-01 00:00,rest,single\n",
     );
     let held = [span(4, 0, 1, Activity::Available, true)];
     let text = span_csv(alloc, &line_of(alloc, &held)?, march()?)?;
-    assert_eq!(rt;
+    assert_same(
+        &rt,
         text.as_str(),
-        "start,past,activity,manning\n2024-03-04 00:00,2024-03-04 00:01,available,crew\n"
+        "start,past,activity,manning\n2024-03-04 00:00,2024-03-04 00:01,available,crew\n",
     );
     Ok(())
 }
@@ -196,9 +204,10 @@ fn a_month_is_printed(rt: HostRuntime) -> Result<(), Fail> {
     ];
     let report = report_of(alloc, end(), &breaches)?;
     let text = month_sheet(alloc, 17, "Anna Berg", &a_month(alloc)?, &report, march()?)?;
-    assert_eq!(rt;
+    assert_same(
+        &rt,
         text.as_str(),
-        "DRIVER 17 Anna Berg\nMONTH 2024-03\nDATE       DAY   REST  AVAIL   WORK  DRIVE   CREW   NONE\n2024-03-01 Fri   0:00   0:00   0:00   0:00   0:00  24:00\n2024-03-02 Sat   0:00   0:00   0:00   0:00   0:00  24:00\n2024-03-03 Sun   0:00   0:00   0:00   0:00   0:00  24:00\n2024-03-04 Mon   8:00   0:00   0:30   8:30   0:00   7:00\n2024-03-05 Tue   0:00   0:00   0:00   0:00   0:00  24:00\n2024-03-06 Wed   0:00   0:00   0:00   0:00   0:00  24:00\n2024-03-07 Thu   0:00   0:00   0:00   0:00   0:00  24:00\n2024-03-08 Fri   0:00   0:00   0:00   0:00   0:00  24:00\n2024-03-09 Sat   0:00   0:00   0:00   0:00   0:00  24:00\n2024-03-10 Sun   0:00   0:00   0:00   0:00   0:00  24:00\n2024-03-11 Mon   0:00   0:00   0:00   0:00   0:00  24:00\n2024-03-12 Tue   0:00   0:00   0:00   0:00   0:00  24:00\n2024-03-13 Wed   0:00   0:00   0:00   0:00   0:00  24:00\n2024-03-14 Thu   0:00   0:00   0:00   0:00   0:00  24:00\n2024-03-15 Fri   0:00   0:00   0:00   0:00   0:00  24:00\n2024-03-16 Sat   0:00   0:00   0:00   0:00   0:00  24:00\n2024-03-17 Sun   0:00   0:00   0:00   0:00   0:00  24:00\n2024-03-18 Mon   0:00   0:00   0:00   0:00   0:00  24:00\n2024-03-19 Tue   0:00   0:00   0:00   0:00   0:00  24:00\n2024-03-20 Wed   0:00   0:00   0:00   0:00   0:00  24:00\n2024-03-21 Thu   0:00   0:00   0:00   0:00   0:00  24:00\n2024-03-22 Fri   0:00   0:00   0:00   0:00   0:00  24:00\n2024-03-23 Sat   0:00   0:00   0:00   0:00   0:00  24:00\n2024-03-24 Sun   0:00   0:00   0:00   0:00   0:00  24:00\n2024-03-25 Mon   0:00   0:00   0:00   0:00   0:00  24:00\n2024-03-26 Tue   0:00   0:00   0:00   0:00   0:00  24:00\n2024-03-27 Wed   0:00   0:00   0:00   0:00   0:00  24:00\n2024-03-28 Thu   0:00   0:00   0:00   0:00   0:00  24:00\n2024-03-29 Fri   0:00   0:00   0:00   0:00   0:00  24:00\n2024-03-30 Sat   0:00   0:00   0:00   0:00   0:00  24:00\n2024-03-31 Sun   8:00   0:00   0:00   0:00   0:00  16:00\nTOTAL           16:00   0:00   0:30   8:30   0:00 719:00\nB6 Art 6(2) at 2024-03-01 00:00 since 2024-02-29 00:00 amount 2\nB1 Art 7 at 2024-03-04 13:00 since 2024-03-04 08:30 amount 240\nB4 Art 6(1) at 2024-03-31 23:59 since 2024-03-31 00:00 amount 3\nEXAMINED TO 2024-03-04 17:00 unknown\n"
+        "DRIVER 17 Anna Berg\nMONTH 2024-03\nDATE       DAY   REST  AVAIL   WORK  DRIVE   CREW   NONE\n2024-03-01 Fri   0:00   0:00   0:00   0:00   0:00  24:00\n2024-03-02 Sat   0:00   0:00   0:00   0:00   0:00  24:00\n2024-03-03 Sun   0:00   0:00   0:00   0:00   0:00  24:00\n2024-03-04 Mon   8:00   0:00   0:30   8:30   0:00   7:00\n2024-03-05 Tue   0:00   0:00   0:00   0:00   0:00  24:00\n2024-03-06 Wed   0:00   0:00   0:00   0:00   0:00  24:00\n2024-03-07 Thu   0:00   0:00   0:00   0:00   0:00  24:00\n2024-03-08 Fri   0:00   0:00   0:00   0:00   0:00  24:00\n2024-03-09 Sat   0:00   0:00   0:00   0:00   0:00  24:00\n2024-03-10 Sun   0:00   0:00   0:00   0:00   0:00  24:00\n2024-03-11 Mon   0:00   0:00   0:00   0:00   0:00  24:00\n2024-03-12 Tue   0:00   0:00   0:00   0:00   0:00  24:00\n2024-03-13 Wed   0:00   0:00   0:00   0:00   0:00  24:00\n2024-03-14 Thu   0:00   0:00   0:00   0:00   0:00  24:00\n2024-03-15 Fri   0:00   0:00   0:00   0:00   0:00  24:00\n2024-03-16 Sat   0:00   0:00   0:00   0:00   0:00  24:00\n2024-03-17 Sun   0:00   0:00   0:00   0:00   0:00  24:00\n2024-03-18 Mon   0:00   0:00   0:00   0:00   0:00  24:00\n2024-03-19 Tue   0:00   0:00   0:00   0:00   0:00  24:00\n2024-03-20 Wed   0:00   0:00   0:00   0:00   0:00  24:00\n2024-03-21 Thu   0:00   0:00   0:00   0:00   0:00  24:00\n2024-03-22 Fri   0:00   0:00   0:00   0:00   0:00  24:00\n2024-03-23 Sat   0:00   0:00   0:00   0:00   0:00  24:00\n2024-03-24 Sun   0:00   0:00   0:00   0:00   0:00  24:00\n2024-03-25 Mon   0:00   0:00   0:00   0:00   0:00  24:00\n2024-03-26 Tue   0:00   0:00   0:00   0:00   0:00  24:00\n2024-03-27 Wed   0:00   0:00   0:00   0:00   0:00  24:00\n2024-03-28 Thu   0:00   0:00   0:00   0:00   0:00  24:00\n2024-03-29 Fri   0:00   0:00   0:00   0:00   0:00  24:00\n2024-03-30 Sat   0:00   0:00   0:00   0:00   0:00  24:00\n2024-03-31 Sun   8:00   0:00   0:00   0:00   0:00  16:00\nTOTAL           16:00   0:00   0:30   8:30   0:00 719:00\nB6 Art 6(2) at 2024-03-01 00:00 since 2024-02-29 00:00 amount 2\nB1 Art 7 at 2024-03-04 13:00 since 2024-03-04 08:30 amount 240\nB4 Art 6(1) at 2024-03-31 23:59 since 2024-03-31 00:00 amount 3\nEXAMINED TO 2024-03-04 17:00 unknown\n",
     );
     Ok(())
 }

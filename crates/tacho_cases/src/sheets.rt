@@ -1,3 +1,4 @@
+use crate::same::assert_same;
 use std::alloc::Global;
 use std::test::Fail;
 use tacho_card::CardFault;
@@ -58,12 +59,16 @@ fn entries_are_read(rt: HostRuntime) -> Result<(), Fail> {
     ];
     for text in texts {
         let lines = read_entries(alloc, text.as_bytes())?;
-        assert_eq!(rt; lines.as_slice(), wanted.as_slice(), "of {text}");
+        assert!(rt; lines.as_slice() == wanted.as_slice(), "of {text}");
     }
     // 366 days.
     let text = "start,past,activity\n2024-01-01 00:00,2025-01-01 00:00,rest\n";
     let lines = read_entries(alloc, text.as_bytes())?;
-    assert_eq!(rt; lines.as_slice(), [rest(28_401_120, 28_928_160)].as_slice());
+    assert_same(
+        &rt,
+        lines.as_slice(),
+        [rest(28_401_120, 28_928_160)].as_slice(),
+    );
     Ok(())
 }
 
@@ -78,10 +83,10 @@ fn many_entries_are_read(rt: HostRuntime) -> Result<(), Fail> {
         writeln!(text, "{start},{past},rest")?;
     }
     let lines = read_entries(alloc, text.as_bytes())?;
-    assert_eq!(rt; lines.len(), 40);
+    assert_same(&rt, lines.len(), 40);
     for i in 0..40_u32 {
         let line = rest(MONDAY + 720 * i, MONDAY + 720 * i + 720);
-        assert_eq!(rt; lines.get(i as usize).copied(), Some(line));
+        assert_same(&rt, lines.get(i as usize).copied(), Some(line));
     }
     Ok(())
 }
@@ -120,7 +125,10 @@ fn the_first_fault_is_told(rt: HostRuntime) -> Result<(), Fail> {
         "start,past,\"activity\n2024-03-04 00:00,2024-03-04 12:00,rest\n",
     ];
     for text in heads {
-        assert_eq!(rt; fault_of(alloc, text)?, Some(SheetFault::Head), "of {text}");
+        assert!(rt;
+            fault_of(alloc, text)? == Some(SheetFault::Head),
+            "of {text}"
+        );
     }
     let rows = [
         (
@@ -208,7 +216,7 @@ fn the_first_fault_is_told(rt: HostRuntime) -> Result<(), Fail> {
     ];
     for (row, fault) in rows {
         let text = format!(in alloc; "start,past,activity\n{row}")?;
-        assert_eq!(rt; fault_of(alloc, &text)?, Some(fault), "of {row}");
+        assert!(rt; fault_of(alloc, &text)? == Some(fault), "of {row}");
     }
     Ok(())
 }
@@ -230,7 +238,7 @@ fn a_fault_of_a_text_has_its_line(rt: HostRuntime) -> Result<(), Fail> {
         let fault = fault_of(alloc, text)?;
         assert!(rt; fault.is_some());
         if let Some(fault) = fault {
-            assert_eq!(rt; fault_line(alloc, Fault::Sheet(fault))?.as_str(), line);
+            assert_same(&rt, fault_line(Fault::Sheet(fault)).as_str(), line);
         }
     }
     Ok(())
@@ -241,14 +249,15 @@ fn a_driver_is_read(rt: HostRuntime) -> Result<(), Fail> {
     let text =
         "driver,holder,key,base,name\n17,010203040506070809000102030405,anna-key-1,2024-03-04,Anna Berg\n";
     let driver = read_driver(rt.alloc(), text.as_bytes())?;
-    assert_eq!(rt; driver.number(), 17);
-    assert_eq!(rt;
+    assert_same(&rt, driver.number(), 17);
+    assert_same(
+        &rt,
         driver.holder(),
-        [1, 2, 3, 4, 5, 6, 7, 8, 9, 0, 1, 2, 3, 4, 5].as_slice()
+        [1, 2, 3, 4, 5, 6, 7, 8, 9, 0, 1, 2, 3, 4, 5].as_slice(),
     );
-    assert_eq!(rt; driver.key(), "anna-key-1");
-    assert_eq!(rt; driver.base().number(), 19_786);
-    assert_eq!(rt; driver.name(), "Anna Berg");
+    assert_same(&rt, driver.key(), "anna-key-1");
+    assert_same(&rt, driver.base().number(), 19_786);
+    assert_same(&rt, driver.name(), "Anna Berg");
     Ok(())
 }
 
@@ -318,7 +327,7 @@ fn the_leftmost_bad_column_is_told(rt: HostRuntime) -> Result<(), Fail> {
         let text = format!(in alloc;
             "driver,holder,key,base,name\n{number},{holder},{key},{base},{name}\n"
         )?;
-        assert_eq!(rt; driver_fault_of(alloc, &text)?, Some(fault));
+        assert_same(&rt, driver_fault_of(alloc, &text)?, Some(fault));
     }
     let texts = [
         ("", SheetFault::Head),
@@ -335,7 +344,7 @@ fn the_leftmost_bad_column_is_told(rt: HostRuntime) -> Result<(), Fail> {
         ),
     ];
     for (text, fault) in texts {
-        assert_eq!(rt; driver_fault_of(alloc, text)?, Some(fault), "of {text}");
+        assert!(rt; driver_fault_of(alloc, text)? == Some(fault), "of {text}");
     }
     Ok(())
 }
@@ -354,7 +363,7 @@ fn numbers_are_read(rt: HostRuntime) -> Result<(), Fail> {
         ("99999999999999999999", None),
     ];
     for (text, number) in rows {
-        assert_eq!(rt; read_number(text.as_bytes(), 999_999), number);
+        assert_same(&rt, read_number(text.as_bytes(), 999_999), number);
     }
     Ok(())
 }
@@ -393,7 +402,7 @@ fn commands_that_were_done_have_lines(rt: HostRuntime) {
         (base_line(Day::new(19_786)), "base 2024-03-04\n"),
     ];
     for (line, text) in &rows {
-        assert_eq!(rt; line.as_slice(), text.as_bytes());
+        assert_same(&rt, line.as_slice(), text.as_bytes());
     }
 }
 
@@ -412,25 +421,22 @@ fn entries_are_printed(rt: HostRuntime) -> Result<(), Fail> {
         },
     ];
     let text = entry_text(rt.alloc(), &entries)?;
-    assert_eq!(rt;
+    assert_same(
+        &rt,
         text.as_str(),
-        "1 2024-03-04 00:00 2024-03-04 12:00 rest withdrawn\n2 2024-03-04 06:00 2024-03-04 18:00 rest kept\n"
+        "1 2024-03-04 00:00 2024-03-04 12:00 rest withdrawn\n2 2024-03-04 06:00 2024-03-04 18:00 rest kept\n",
     );
     Ok(())
 }
 
-#[test]
-fn faults_have_lines(rt: HostRuntime) -> Result<(), Fail> {
-    let alloc = rt.alloc();
-    let times = [
-        (TimeFault::Shape, "Z1 not of the shape\n"),
-        (TimeFault::NoSuchDate, "Z2 no such date\n"),
-        (TimeFault::OutOfRange, "Z3 out of range\n"),
-    ];
-    for (fault, line) in times {
-        assert_eq!(rt; fault_line(alloc, Fault::Time(fault))?.as_str(), line);
-    }
-    let cards = [
+/// Whether this is the line of a fault.
+fn has_line(fault: Fault, line: &str) -> bool {
+    fault_line(fault).as_str() == line
+}
+
+/// The faults of cards, and their lines.
+fn card_lines() -> [(CardFault, &'static str); 16] {
+    [
         (CardFault::Truncated(261), "C1 truncated block at 261\n"),
         (CardFault::Twice(0x0504, 0), "C2 block 0504 00 twice\n"),
         (CardFault::Twice(0x9abc, 0xef), "C2 block 9abc ef twice\n"),
@@ -456,13 +462,21 @@ fn faults_have_lines(rt: HostRuntime) -> Result<(), Fail> {
             "C14 file contradicts itself at 2024-03-04 00:00\n",
         ),
         (CardFault::Memory, "M1 no memory\n"),
+    ]
+}
+
+#[test]
+fn faults_have_lines(rt: HostRuntime) {
+    let times = [
+        (TimeFault::Shape, "Z1 not of the shape\n"),
+        (TimeFault::NoSuchDate, "Z2 no such date\n"),
+        (TimeFault::OutOfRange, "Z3 out of range\n"),
     ];
-    for (fault, line) in cards {
-        assert_eq!(rt; fault_line(alloc, Fault::Card(fault))?.as_str(), line);
-        assert_eq!(rt;
-            fault_line(alloc, Fault::Store(StoreFault::Card(fault)))?.as_str(),
-            line
-        );
+    for (fault, line) in times {
+        assert!(rt; has_line(Fault::Time(fault), line), "of {line}");
+    }
+    for (fault, line) in card_lines() {
+        assert!(rt; has_line(Fault::Card(fault), line), "of {line}");
     }
     let refusals = [
         (StoreFault::DriverTaken, "S1 driver taken\n"),
@@ -483,7 +497,7 @@ fn faults_have_lines(rt: HostRuntime) -> Result<(), Fail> {
         (StoreFault::Memory, "M1 no memory\n"),
     ];
     for (fault, line) in refusals {
-        assert_eq!(rt; fault_line(alloc, Fault::Store(fault))?.as_str(), line);
+        assert!(rt; has_line(Fault::Store(fault), line), "of {line}");
     }
     let sheets = [
         (SheetFault::Head, "E1 wrong head\n"),
@@ -526,7 +540,7 @@ fn faults_have_lines(rt: HostRuntime) -> Result<(), Fail> {
         (SheetFault::Memory, "M1 no memory\n"),
     ];
     for (fault, line) in sheets {
-        assert_eq!(rt; fault_line(alloc, Fault::Sheet(fault))?.as_str(), line);
+        assert!(rt; has_line(Fault::Sheet(fault), line), "of {line}");
     }
     let others = [
         (Fault::Number, "N1 bad number\n"),
@@ -534,7 +548,14 @@ fn faults_have_lines(rt: HostRuntime) -> Result<(), Fail> {
         (Fault::TooLarge, "X1 too large\n"),
     ];
     for (fault, line) in others {
-        assert_eq!(rt; fault_line(alloc, fault)?.as_str(), line);
+        assert!(rt; has_line(fault, line), "of {line}");
     }
-    Ok(())
+}
+
+#[test]
+fn refused_cards_have_the_lines_of_their_faults(rt: HostRuntime) {
+    for (fault, line) in card_lines() {
+        let refusal = Fault::Store(StoreFault::Card(fault));
+        assert!(rt; has_line(refusal, line), "of {line}");
+    }
 }

@@ -1,5 +1,6 @@
 ghost use Rattle.std.specs.Prelude.{◌≤◌};
 
+use crate::same::assert_same;
 use std::test::Fail;
 use tacho_time::{
     Day, Minute, Month, TimeFault, Week, Weekday, first_minute, month_range, next_week, week_of,
@@ -41,7 +42,7 @@ fn days_are_read(rt: HostRuntime) -> Result<(), Fail> {
         ("2100-01-01", Err(TimeFault::OutOfRange)),
         ("0000-01-01", Err(TimeFault::OutOfRange)),
     ] {
-        assert_eq!(rt; day(text), wanted, "at {text}");
+        assert!(rt; day(text) == wanted, "at {text}");
     }
     Ok(())
 }
@@ -61,7 +62,7 @@ fn minutes_are_read(rt: HostRuntime) -> Result<(), Fail> {
         ("2024-03-04 0:000", Err(TimeFault::Shape)),
         ("2024-03-04", Err(TimeFault::Shape)),
     ] {
-        assert_eq!(rt; minute(text), wanted, "at {text}");
+        assert!(rt; minute(text) == wanted, "at {text}");
     }
     Ok(())
 }
@@ -79,7 +80,7 @@ fn months_are_read(rt: HostRuntime) -> Result<(), Fail> {
         ("2024-2", Err(TimeFault::Shape)),
         ("2024_02", Err(TimeFault::Shape)),
     ] {
-        assert_eq!(rt; month(text), wanted, "at {text}");
+        assert!(rt; month(text) == wanted, "at {text}");
     }
     Ok(())
 }
@@ -98,8 +99,8 @@ fn a_month_has_its_minutes(rt: HostRuntime) -> Result<(), Fail> {
             panic!(rt; "not read");
         };
         let (first, next) = month_range(month);
-        assert_eq!(rt; first.number(), start, "at {text}");
-        assert_eq!(rt; next.number(), past, "at {text}");
+        assert!(rt; first.number() == start, "at {text}");
+        assert!(rt; next.number() == past, "at {text}");
     }
     Ok(())
 }
@@ -109,12 +110,12 @@ fn a_week_begins_on_monday(rt: HostRuntime) -> Result<(), Fail> {
     // 2024-03-04.
     let monday = Minute::new(28_491_840);
     let week = week_of(monday);
-    assert_eq!(rt; week, Week::new(2826));
-    assert_eq!(rt; first_minute(week), monday);
-    assert_eq!(rt; week_of(Minute::new(28_491_839)), Week::new(2825));
-    assert_eq!(rt; next_week(Week::new(2825)).number(), 2826);
-    assert_eq!(rt; weekday(monday.day()), Weekday::Monday);
-    assert_eq!(rt; weekday(Day::new(0)), Weekday::Thursday);
+    assert_same(&rt, week, Week::new(2826));
+    assert_same(&rt, first_minute(week), monday);
+    assert_same(&rt, week_of(Minute::new(28_491_839)), Week::new(2825));
+    assert_same(&rt, next_week(Week::new(2825)).number(), 2826);
+    assert_same(&rt, weekday(monday.day()), Weekday::Monday);
+    assert_same(&rt, weekday(Day::new(0)), Weekday::Thursday);
     Ok(())
 }
 
@@ -126,7 +127,7 @@ fn a_minute_is_written_alike_in_each_style(rt: HostRuntime) -> Result<(), Fail> 
         format!(in rt.alloc(); "{minute:20}")?,
         format!(in rt.alloc(); "{minute:>20}")?,
     ] {
-        assert_eq!(rt; text.as_str(), "2024-03-04 00:00");
+        assert_same(&rt, text.as_str(), "2024-03-04 00:00");
     }
     Ok(())
 }

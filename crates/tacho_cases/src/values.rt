@@ -1,5 +1,6 @@
 ghost use Rattle.std.specs.Prelude.{◌≤◌};
 
+use crate::same::assert_same;
 use std::test::Fail;
 use tacho_card::{Cyclic, spans_of};
 use tacho_time::{Activity, Mark, Minute, Span};
@@ -41,6 +42,6 @@ fn two_days_give_four_spans(rt: HostRuntime) -> Result<(), Fail> {
         single(28_492_350, 28_492_860, Activity::Drive),
         single(28_493_280, 28_493_760, Activity::Rest),
     ];
-    assert_eq!(rt; spans.as_slice(), wanted.as_slice());
+    assert_same(&rt, spans.as_slice(), wanted.as_slice());
     Ok(())
 }

@@ -6,6 +6,8 @@ mod office_tests;
 #[cfg(test)]
 mod rows;
 #[cfg(test)]
+mod same;
+#[cfg(test)]
 mod step;
 #[cfg(test)]
 mod stored_tests;

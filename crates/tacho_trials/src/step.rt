@@ -162,10 +162,10 @@ fn take_one<K: Keeper>(
             assert_done(rt, place, keeper.rebase(driver, day_of(day)), wanted);
         }
         Step::IsOf(key, wanted) => {
-            assert_eq!(rt; keeper.who(key)?, wanted, "{place}");
+            assert!(rt; keeper.who(key)? == wanted, "{place}");
         }
         Step::HasName(driver, name) => {
-            assert_eq!(rt; keeper.name(alloc, driver)?.as_str(), name, "{place}");
+            assert!(rt; keeper.name(alloc, driver)?.as_str() == name, "{place}");
         }
         Step::Holds(driver, pieces) => {
             assert_held(rt, alloc, place, &keeper.line(alloc, driver)?, pieces)?;
@@ -213,7 +213,7 @@ fn assert_done(
     answer: Result<(), StoreFault>,
     wanted: Result<(), Code>,
 ) {
-    assert_eq!(rt; answer, wanted.map_err(refusal_of), "{place}");
+    assert!(rt; answer == wanted.map_err(refusal_of), "{place}");
 }
 
 /// An import did what was wanted.
@@ -223,7 +223,7 @@ fn assert_imported(
     answer: Result<Imported, StoreFault>,
     wanted: Result<Imported, StoreFault>,
 ) {
-    assert_eq!(rt; answer, wanted, "{place}");
+    assert!(rt; answer == wanted, "{place}");
 }
 
 /// Hours were entered with these numbers, or refused by a code.
@@ -237,7 +237,7 @@ fn assert_entered(
         Ok((first, count)) => Ok(Entered { first, count }),
         Err(code) => Err(refusal_of(code)),
     };
-    assert_eq!(rt; answer, wanted, "{place}");
+    assert!(rt; answer == wanted, "{place}");
 }
 
 /// A timeline is that of pieces.
@@ -249,7 +249,7 @@ fn assert_held(
     pieces: Pieces,
 ) -> Result<(), Fail> {
     let spans = spans_of(alloc, pieces)?;
-    assert_eq!(rt; line.spans(), spans.as_slice(), "{place}");
+    assert!(rt; line.spans() == spans.as_slice(), "{place}");
     Ok(())
 }
 
@@ -262,7 +262,7 @@ fn assert_listed(
     listed: Listed,
 ) -> Result<(), Fail> {
     let entries = entries_of(alloc, listed)?;
-    assert_eq!(rt; found, entries.as_slice(), "{place}");
+    assert!(rt; found == entries.as_slice(), "{place}");
     Ok(())
 }
 
@@ -275,7 +275,7 @@ fn assert_read(
     blocks: Blocks,
 ) -> Result<(), Fail> {
     let file = file(alloc, blocks)?;
-    assert_eq!(rt; found, file.as_slice(), "{place}");
+    assert!(rt; found == file.as_slice(), "{place}");
     Ok(())
 }
 
@@ -292,13 +292,13 @@ fn assert_reported(
         minute: minute_of(until),
         cause: Cause::Unknown,
     };
-    assert_eq!(rt; report.horizon, horizon, "{place}");
+    assert!(rt; report.horizon == horizon, "{place}");
     let mut found = Vec::new(alloc);
     for breach in &report.breaches {
         found.push((breach.kind, breach.moment))?;
     }
     let wanted = moments_of(alloc, breaches)?;
-    assert_eq!(rt; found.as_slice(), wanted.as_slice(), "{place}");
+    assert!(rt; found.as_slice() == wanted.as_slice(), "{place}");
     assert!(rt; report.debts.is_empty(), "{place}");
     Ok(())
 }
@@ -314,7 +314,7 @@ fn moments_of(alloc: Global, breaches: Breaches) -> Result<Vec<(Kind, Minute)>, 
 
 /// A reading was refused by a code.
 fn assert_refused(rt: &impl Abort, place: &str, fault: Option<StoreFault>, code: Code) {
-    assert_eq!(rt; fault, Some(refusal_of(code)), "{place}");
+    assert!(rt; fault == Some(refusal_of(code)), "{place}");
 }
 
 /// A driver as he is registered. His name has his number.

@@ -3,6 +3,7 @@
 ghost use Rattle.std.specs.Prelude.{◌≤◌};
 
 use crate::rows::{ANNA, DAY, FIRST, REGISTER_ANNA};
+use crate::same::assert_same;
 use crate::step::{file, take};
 use crate::tests::adopted;
 use sqlite::MemStore;
@@ -78,7 +79,7 @@ fn spans_come_back_from_their_rows(rt: HostRuntime) -> Result<(), Fail> {
         span(20, 40, Activity::Available, true),
         span(50, 60, Activity::Drive, false),
     ];
-    assert_eq!(rt; line.spans(), wanted.as_slice());
+    assert_same(&rt, line.spans(), wanted.as_slice());
     Ok(())
 }
 
@@ -97,7 +98,7 @@ fn rows_that_no_archive_writes_are_refused(rt: HostRuntime) -> Result<(), Fail> 
         let refused = archive_of(&rt, rt.alloc(), &[], &helds)?
             .line(rt.alloc(), 17)
             .err();
-        assert_eq!(rt; refused, Some(StoreFault::Store));
+        assert_same(&rt, refused, Some(StoreFault::Store));
     }
     Ok(())
 }
@@ -126,12 +127,24 @@ fn what_is_new_is_told(rt: HostRuntime) -> Result<(), Fail> {
     };
     let repeated = Imported::Repeated { driver: 17 };
     let contradiction = StoreFault::Contradiction(Minute::new(MONDAY + 1000));
-    assert_eq!(rt; imported(&rt, alloc, &day, &day)?, Ok(repeated));
-    assert_eq!(rt; imported(&rt, alloc, &[], &[])?, Ok(added));
-    assert_eq!(rt; imported(&rt, alloc, &[], &part)?, Ok(added));
-    assert_eq!(rt; imported(&rt, alloc, &[], &day)?, Ok(added));
-    assert_eq!(rt; imported(&rt, alloc, &part, &other)?, Err(contradiction));
-    assert_eq!(rt; imported(&rt, alloc, &other, &other)?, Err(contradiction));
-    assert_eq!(rt; imported(&rt, alloc, &other, &[])?, Err(StoreFault::Store));
+    assert_same(&rt, imported(&rt, alloc, &day, &day)?, Ok(repeated));
+    assert_same(&rt, imported(&rt, alloc, &[], &[])?, Ok(added));
+    assert_same(&rt, imported(&rt, alloc, &[], &part)?, Ok(added));
+    assert_same(&rt, imported(&rt, alloc, &[], &day)?, Ok(added));
+    assert_same(
+        &rt,
+        imported(&rt, alloc, &part, &other)?,
+        Err(contradiction),
+    );
+    assert_same(
+        &rt,
+        imported(&rt, alloc, &other, &other)?,
+        Err(contradiction),
+    );
+    assert_same(
+        &rt,
+        imported(&rt, alloc, &other, &[])?,
+        Err(StoreFault::Store),
+    );
     Ok(())
 }

@@ -1,5 +1,6 @@
 ghost use Rattle.std.specs.Prelude.{◌≡◌};
 
+use crate::same::assert_same;
 use sqlite::{Alter, Connection, Transaction};
 use std::alloc::Global;
 use std::test::Fail;
@@ -19,9 +20,9 @@ fn span(start: u32, past: u32, mark: u32) -> StoredSpan
 fn version_is_one_once_made(rt: HostRuntime) -> Result<(), Fail> {
     let mut conn = Connection::open_in_memory(rt.alloc())?;
     let mut tx = conn.transaction();
-    assert_eq!(rt; making::version(&mut tx), Err(TableFault::Store));
+    assert_same(&rt, making::version(&mut tx), Err(TableFault::Store));
     making::make_all(&mut tx)?;
-    assert_eq!(rt; making::version(&mut tx)?, Some(1));
+    assert_same(&rt, making::version(&mut tx)?, Some(1));
     Ok(())
 }
 
@@ -32,16 +33,22 @@ fn drivers_are_found_and_changed(rt: HostRuntime) -> Result<(), Fail> {
     making::make_all(&mut tx)?;
     drivers::insert(&mut tx, 17, &[0x0d, 0x44], "anna-key-1", 19_786, "Anna")?;
     drivers::insert(&mut tx, 18, &[0x0d, 0x45], "bert-key-1", 19_787, "Bert")?;
-    assert_eq!(rt;
+    assert_same(
+        &rt,
         drivers::number_by_secret(&mut tx, b"bert-key-1")?,
-        Some(18)
+        Some(18),
     );
-    assert_eq!(rt; drivers::number_by_secret(&mut tx, b"bert-key-2")?, None);
-    assert_eq!(rt;
+    assert_same(
+        &rt,
+        drivers::number_by_secret(&mut tx, b"bert-key-2")?,
+        None,
+    );
+    assert_same(
+        &rt,
         drivers::number_by_holder(&mut tx, &[0x0d, 0x44])?,
-        Some(17)
+        Some(17),
     );
-    assert_eq!(rt; drivers::number_by_holder(&mut tx, &[0x0d])?, None);
+    assert_same(&rt, drivers::number_by_holder(&mut tx, &[0x0d])?, None);
     drivers::set_base(&mut tx, 17, 19_790)?;
     drivers::set_downloads(&mut tx, 18, 2)?;
     assert!(rt;
@@ -99,11 +106,12 @@ fn held_spans_by_where_they_begin(rt: HostRuntime) -> Result<(), Fail> {
         &[span(300, 400, 1), span(100, 200, 3), span(200, 210, 2)],
     )?;
     let middle = held::begun(alloc, &mut tx, 17, 200, 300)?;
-    assert_eq!(rt; middle.as_slice(), [span(200, 210, 2)].as_slice());
+    assert_same(&rt, middle.as_slice(), [span(200, 210, 2)].as_slice());
     let all = held::begun(alloc, &mut tx, 17, 100, 301)?;
-    assert_eq!(rt;
+    assert_same(
+        &rt,
         all.as_slice(),
-        [span(100, 200, 3), span(200, 210, 2), span(300, 400, 1)].as_slice()
+        [span(100, 200, 3), span(200, 210, 2), span(300, 400, 1)].as_slice(),
     );
     assert!(rt; held::begun(alloc, &mut tx, 18, 100, 301)?.is_empty());
     assert!(rt; card_spans::begun(alloc, &mut tx, 17, 100, 301)?.is_empty());
@@ -119,23 +127,27 @@ fn the_latest_span_before_a_minute(rt: HostRuntime) -> Result<(), Fail> {
     let spans = [span(300, 400, 1), span(100, 200, 3), span(200, 210, 2)];
     held::insert_all(&mut tx, 17, &spans)?;
     card_spans::insert_all(&mut tx, 17, &spans[1..])?;
-    assert_eq!(rt; held::last_before(&mut tx, 17, 100)?, None);
-    assert_eq!(rt;
+    assert_same(&rt, held::last_before(&mut tx, 17, 100)?, None);
+    assert_same(
+        &rt,
         held::last_before(&mut tx, 17, 101)?,
-        Some(span(100, 200, 3))
+        Some(span(100, 200, 3)),
     );
-    assert_eq!(rt;
+    assert_same(
+        &rt,
         held::last_before(&mut tx, 17, 300)?,
-        Some(span(200, 210, 2))
+        Some(span(200, 210, 2)),
     );
-    assert_eq!(rt;
+    assert_same(
+        &rt,
         held::last_before(&mut tx, 17, 900)?,
-        Some(span(300, 400, 1))
+        Some(span(300, 400, 1)),
     );
-    assert_eq!(rt; held::last_before(&mut tx, 18, 900)?, None);
-    assert_eq!(rt;
+    assert_same(&rt, held::last_before(&mut tx, 18, 900)?, None);
+    assert_same(
+        &rt,
         card_spans::last_before(&mut tx, 17, 900)?,
-        Some(span(200, 210, 2))
+        Some(span(200, 210, 2)),
     );
     Ok(())
 }
@@ -148,15 +160,16 @@ fn card_spans_and_a_download(rt: HostRuntime) -> Result<(), Fail> {
     drivers::insert(&mut tx, 17, &[0x0d, 0x44], "anna-key-1", 19_786, "Anna")?;
     card_spans::insert_all(&mut tx, 17, &[span(100, 200, 3), span(200, 210, 2)])?;
     let first = card_spans::begun(rt.alloc(), &mut tx, 17, 0, 200)?;
-    assert_eq!(rt; first.as_slice(), [span(100, 200, 3)].as_slice());
+    assert_same(&rt, first.as_slice(), [span(100, 200, 3)].as_slice());
     downloads::insert(&mut tx, 17, 1, 0, &[1, 2, 3])?;
     downloads::insert(&mut tx, 17, 2, 2, &[4])?;
     assert!(rt; is_file(downloads::file(&mut tx, 17, 1)?, &[1, 2, 3]));
     assert!(rt; is_file(downloads::file(&mut tx, 17, 2)?, &[4]));
     assert!(rt; downloads::file(&mut tx, 17, 3)?.is_none());
-    assert_eq!(rt;
+    assert_same(
+        &rt,
         downloads::insert(&mut tx, 18, 1, 0, &[1]),
-        Err(TableFault::Store)
+        Err(TableFault::Store),
     );
     Ok(())
 }
@@ -222,15 +235,16 @@ fn entries_are_found_and_withdrawn(rt: HostRuntime) -> Result<(), Fail> {
     drivers::set_entries(&mut tx, 17, 2)?;
     entries::withdraw(&mut tx, 17, 1)?;
     let first = entries::by_number(&mut tx, 17, 1)?;
-    assert_eq!(rt; first, Some(entry(1, 100, 200, 0, 1)));
-    assert_eq!(rt; entries::by_number(&mut tx, 17, 3)?, None);
+    assert_same(&rt, first, Some(entry(1, 100, 200, 0, 1)));
+    assert_same(&rt, entries::by_number(&mut tx, 17, 3)?, None);
     let all = entries::of_driver(rt.alloc(), &mut tx, 17)?;
-    assert_eq!(rt;
+    assert_same(
+        &rt,
         all.as_slice(),
-        [entry(1, 100, 200, 0, 1), entry(2, 200, 300, 2, 0)].as_slice()
+        [entry(1, 100, 200, 0, 1), entry(2, 200, 300, 2, 0)].as_slice(),
     );
     let near = entries::kept_near(rt.alloc(), &mut tx, 17, 0, 201)?;
-    assert_eq!(rt; near.as_slice(), [span(200, 300, 2)].as_slice());
+    assert_same(&rt, near.as_slice(), [span(200, 300, 2)].as_slice());
     assert!(rt; entries::kept_near(rt.alloc(), &mut tx, 17, 0, 200)?.is_empty());
     Ok(())
 }
@@ -259,9 +273,10 @@ fn held_spans_that_begin_in_a_range_are_deleted(rt: HostRuntime) -> Result<(), F
     )?;
     held::delete_begun(&mut tx, 17, 200, 300)?;
     let left = held::of_driver(rt.alloc(), &mut tx, 17)?;
-    assert_eq!(rt;
+    assert_same(
+        &rt,
         left.as_slice(),
-        [span(100, 200, 3), span(300, 400, 1)].as_slice()
+        [span(100, 200, 3), span(300, 400, 1)].as_slice(),
     );
     Ok(())
 }

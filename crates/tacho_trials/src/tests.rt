@@ -1,6 +1,7 @@
 ghost use Rattle.std.specs.Prelude.{◌≡◌, false, IfOk, IfErr};
 
 use crate::rows::{A_DAY_IS_ADDED, NIGHT_HOURS, REGISTER_ANNA, ROWS};
+use crate::same::assert_same;
 use crate::step::{Step, take};
 use sqlite::{Alter, Connection, FileStore};
 use sqlite_disk::Disk;
@@ -53,7 +54,7 @@ fn handed_back<S: Alter + Drop>(
     match made {
         Ok(_) => Err("the store was taken")?,
         Err((fault, conn)) => {
-            assert_eq!(rt; fault, StoreFault::Store);
+            assert_same(rt, fault, StoreFault::Store);
             Ok(conn)
         }
     }
@@ -150,7 +151,7 @@ fn a_store_with_other_tables_has_no_archive(rt: HostRuntime) -> Result<(), Fail>
     let mut conn = handed_back(&rt, Archive::adopt(conn))?;
     let row = conn.query_row("SELECT count(*) FROM sqlite_master", &[])?;
     let count: i64 = row.get(0)?;
-    assert_eq!(rt; count, 1);
+    assert_same(&rt, count, 1);
     Ok(())
 }
 
