@@ -17,7 +17,12 @@ import programs
 
 FAULTS = ["error: Memory", "error: AllocError"]
 MODULES = ["sheets", "reports"]
-WITHOUT_MEMORY = ["sheets::numbers_are_read", "sheets::commands_that_were_done_have_lines"]  # ask for none
+WITHOUT_MEMORY = [  # ask for none
+    "sheets::numbers_are_read",
+    "sheets::commands_that_were_done_have_lines",
+    "sheets::faults_have_lines",
+    "sheets::refused_cards_have_the_lines_of_their_faults",
+]
 COLLECTING = [
     "reports::a_day_with_every_mark_is_printed",
     "reports::a_month_is_printed",

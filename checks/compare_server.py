@@ -1,0 +1,785 @@
+#!/usr/bin/env python3
+"""Starts the program as a server on archives in files, gives it requests over connections of their own, and compares each reply, byte
+for byte, with worked rows and with a slow server; and then the archive's tables, read by SQLite itself.
+
+The requests are worked rows, the examples of docs/FORMATS.md, each route by the client of Python's library, and random lists. A client
+keeps its own end open until the reply has come whole, and ends its half before only where the server has to wait for that. The word is the
+program; with '--slow' in its place the slow server is compared with the rows, and no program is started.
+The last line is 'N passed, M failed'."""
+import contextlib
+import http.client
+import io
+import multiprocessing
+import os
+import random
+import re
+import shlex
+import socket
+import struct
+import subprocess
+import sys
+import tempfile
+import time
+from collections import namedtuple
+
+import compare_archive
+import compare_office
+import counting
+import random_requests
+import slow_office
+import slow_server
+from office_rows import ANNA, BERT, BREACH, CARD, DAY, EXAMINED, FREE_DAYS, GAPS, HOLDER, HOURS_HEAD, LARGEST_DAY
+from office_rows import LARGEST_HOURS, LIMIT, MARCH, SATURDAY, SPANS
+
+SEEDS = 80
+SLOW_SEEDS = 20
+PROCESSES = 2
+HOST = "127.0.0.1"
+SECONDS = 30
+OFFICE = "office-key-1"
+DRIVER = "anna-key-1"
+TEXT = "text/plain; charset=utf-8"
+STORED = "application/octet-stream"
+
+# Worked rows: what is asked, and the replies of which one is right.
+
+Row = namedtuple("Row", "name request replies")
+
+
+def told(status, length, body, kind=TEXT):
+    """A reply: its status and phrase, the length that its head tells, and its body."""
+    head = f"HTTP/1.1 {status}\r\ncontent-type: {kind}\r\ncontent-length: {length}\r\nconnection: close\r\n\r\n"
+    return head.encode() + (body if isinstance(body, bytes) else body.encode())
+
+
+def line(status, length, text):
+    """A reply of one line."""
+    return told(status, length, f"{text}\n")
+
+
+BAD = line("400 Bad Request", 12, "bad request")
+FORBIDDEN = line("403 Forbidden", 10, "forbidden")
+NOT_FOUND = line("404 Not Found", 10, "not found")
+OTHER_METHOD = line("405 Method Not Allowed", 19, "method not allowed")
+NO_LENGTH = line("411 Length Required", 16, "length required")
+TOO_LARGE = line("413 Payload Too Large", 10, "too large")
+LARGE_HEAD = line("431 Request Header Fields Too Large", 15, "head too large")
+BAD_NUMBER = line("400 Bad Request", 14, "N1 bad number")
+NO_DATE = line("400 Bad Request", 16, "Z2 no such date")
+BREACHES = told("200 OK", 100, BREACH + EXAMINED)
+ADDED = line("201 Created", 25, "added driver 17 number 1")
+REPEATED = line("200 OK", 19, "repeated driver 17")
+
+
+def asking(first, key, *fields, body=b""):
+    """The bytes of a request."""
+    keys = [] if key is None else [f"x-key: {key}"]
+    return "\r\n".join([f"{first} HTTP/1.1", *keys, *fields, "", ""]).encode() + body
+
+
+def posting(path, key, body, *fields):
+    """The bytes of a request with a body."""
+    return asking(f"POST {path}", key, f"content-length: {len(body)}", *fields, body=body)
+
+
+def row(first, key, reply, *fields, body=b""):
+    """A row whose name is its first line."""
+    return Row(" ".join([first, key or "without a key", *fields]), asking(first, key, *fields, body=body), [reply])
+
+
+def posted(path, key, body, reply, *fields):
+    """A row with a body."""
+    return Row(" ".join(["POST", path, key, *fields]), posting(path, key, body, *fields), [reply])
+
+
+def raw(name, request, *replies):
+    """A row of bytes."""
+    return Row(name, request, list(replies))
+
+
+SAME_HOLDER = BERT.replace(HOLDER[:-1].encode() + b"4", HOLDER.encode())
+FERRY = FREE_DAYS.replace(b"rest", b"ferry")
+OTHER_HOLDER = bytes.fromhex(CARD.replace(HOLDER, HOLDER[:-2] + "34") + "0504000010" + "00" * 16)
+OWN = b"GET /me/breaches HTTP/1.1\r\nx-key: anna-key-1\r\n\r\n"
+FIRST = b"GET /me/breaches HTTP/1.1\r\nx-key: anna-key-1\r\n"
+WITH_DAY = posted("/cards/both", OFFICE, DAY, ADDED)
+COUNTED = "content-length: "
+
+
+def fields(count):
+    """The bytes of a head of so many fields, but for the empty line at its end."""
+    return FIRST + (count - 1) * b"a: b\r\n"
+
+
+def padded(length, end=b"\r\n\r\n"):
+    """The bytes of a head of a length."""
+    return FIRST + b"x-pad:" + (length - len(FIRST) - 6 - len(end)) * b"p" + end
+
+
+# In an archive that has Anna.
+ROWS = {
+    "a file twice": [
+        posted("/cards/both", OFFICE, DAY, ADDED),
+        posted("/cards/both", OFFICE, DAY, REPEATED),
+    ],
+    "refusals": [
+        posted("/me/cards/both", DRIVER, OTHER_HOLDER, line("403 Forbidden", 17, "S5 not your card")),
+        row("GET /nothing", OFFICE, NOT_FOUND),
+        row("DELETE /drivers", OFFICE, OTHER_METHOD),
+        row("GET /me/breaches", OFFICE, FORBIDDEN),
+        row("POST /drivers", OFFICE, NO_LENGTH),
+        row("POST /drivers", OFFICE, TOO_LARGE, f"{COUNTED}262145"),
+        row("GET /drivers/017/breaches", OFFICE, BAD_NUMBER),
+        row("GET /me/breaches", None, FORBIDDEN),
+        row("GET /nothing", None, FORBIDDEN),
+        row("BREW /", None, FORBIDDEN),
+    ],
+    "a driver's own breaches": [
+        WITH_DAY,
+        raw(
+            "whole",
+            OWN,
+            b"HTTP/1.1 200 OK\r\ncontent-type: text/plain; charset=utf-8\r\ncontent-length: 100\r\nconnection: close\r\n\r\n"
+            b"B1 Art 7 at 2024-03-04 13:00 since 2024-03-04 08:30 amount 240\nEXAMINED TO 2024-03-04 17:00 unknown\n",
+        ),
+        row("GET /drivers/17/breaches", DRIVER, FORBIDDEN),
+        row("GET /drivers/17/breaches", OFFICE, BREACHES),
+        row("GET /me/breaches", "anna-key-2", FORBIDDEN),
+        row("GET /drivers/17/breaches", "anna-key-2", FORBIDDEN),
+        *[raw(f"cut after {place} bytes", OWN[:place], BAD) for place in range(len(OWN))],
+    ],
+    "heads": [
+        WITH_DAY,
+        raw("empty lines before it", b"\r\n\n\r\n" + OWN, BREACHES),
+        raw("another request behind it", OWN + OWN, BREACHES),
+        raw("lines that end in LF", OWN.replace(b"\r", b""), BREACHES),
+        raw("an older version", OWN.replace(b"1.1", b"1.0"), BREACHES),
+        raw("a later version", OWN.replace(b"1.1", b"1.2"), BAD),
+        raw("a later version, cut", b"GET /me/breaches HTTP/2", BAD),
+        raw("a name in capitals", OWN.replace(b"x-key", b"X-KEY"), BREACHES),
+        raw("a method in small letters", OWN.replace(b"GET", b"get"), OTHER_METHOD),
+        raw("no blank before a value", OWN.replace(b"x-key: ", b"x-key:"), BREACHES),
+        raw("blanks and tabs around a value", OWN.replace(b"x-key: anna-key-1", b"x-key:\t anna-key-1 \t "), BREACHES),
+        raw("a blank before a colon", OWN.replace(b"x-key:", b"x-key :"), BAD),
+        raw("a blank before a name", OWN.replace(b"x-key:", b" x-key:"), BAD),
+        raw("no name", OWN.replace(b"x-key:", b":"), BAD),
+        raw("a line without a colon", OWN.replace(b"x-key:", b"x-key"), BAD),
+        raw("two blanks in the first line", OWN.replace(b"GET ", b"GET  "), BAD),
+        raw("a blank before the first line", b" " + OWN, BAD),
+        raw("a CR without a LF", OWN.replace(b"1\r\n\r\n", b"1\r\r\n"), BAD),
+        raw("a zero in a value", OWN.replace(b"anna", b"an\0a"), BAD),
+        raw("a byte 127 in a value", OWN.replace(b"anna", b"an\x7fa"), BAD),
+        raw("a byte 255 in a value", OWN.replace(b"anna", b"an\xffa"), FORBIDDEN),
+        raw("a byte 255 in a name", OWN.replace(b"x-key", b"x-ke\xff"), BAD),
+        raw("a path that isn't UTF-8", OWN.replace(b"breaches", b"breaches\xff"), BAD),
+        raw("a path of another alphabet", OWN.replace(b"breaches", "пробег".encode()), NOT_FOUND),
+        raw("no path", OWN.replace(b"/me/breaches ", b""), BAD),
+        raw("another text", b"EHLO localhost\r\n", BAD),
+        raw("nothing", b"", BAD),
+    ],
+    "limits of heads": [
+        WITH_DAY,
+        raw("8,192 bytes", padded(8_192), BREACHES),
+        raw("8,193 bytes", padded(8_193), LARGE_HEAD),
+        raw("8,192 bytes of a value without an end", padded(8_192, b""), LARGE_HEAD),
+        raw("8,191 bytes of a value without an end", padded(8_191, b""), BAD),
+        raw("a value that goes on", padded(60_000, b""), LARGE_HEAD),
+        raw("a zero in the last byte", padded(8_192, b"\0"), BAD),
+        raw("a zero behind the last byte", padded(8_193, b"\0"), LARGE_HEAD),
+        raw("8,192 bytes of empty lines", 4_096 * b"\r\n", LARGE_HEAD),
+        raw("empty lines before a head", 4_000 * b"\r\n" + OWN, BREACHES),
+        raw("more empty lines before a head", 4_073 * b"\r\n" + OWN, LARGE_HEAD),
+        raw("8,192 bytes of a target", b"GET /" + 8_187 * b"a", LARGE_HEAD),
+        raw("8,192 bytes of a target in the middle of a letter", b"GET /" + 8_186 * b"a" + b"\xc3", LARGE_HEAD),
+        raw("8,192 bytes of a target that isn't UTF-8", b"GET /\xff" + 8_186 * b"a", LARGE_HEAD, BAD),
+        raw("8,191 bytes of a target that isn't UTF-8", b"GET /\xff" + 8_185 * b"a", BAD),
+        raw("32 fields", fields(32) + b"\r\n", BREACHES),
+        raw("33 fields", fields(33) + b"\r\n", LARGE_HEAD),
+        raw("34 fields and more bytes", fields(34) + b"\r\n\0", LARGE_HEAD),
+        raw("33 fields of 8,193 bytes", fields(32) + b"x-pad:" + 9_000 * b"p" + b"\r\n\r\n", LARGE_HEAD),
+        raw("33 fields without an end", fields(33), LARGE_HEAD, BAD),
+        raw("33 fields and a wrong byte", fields(33) + b"\0", LARGE_HEAD, BAD),
+        raw("32 fields without an end", fields(32), BAD),
+        raw("32 fields and a wrong byte", fields(32) + b"\0", BAD),
+        raw("the 33rd field cut", fields(32) + b"a: b", BAD),
+    ],
+    "keys": [
+        row("GET /me/owed", DRIVER, FORBIDDEN, f"x-key: {DRIVER}"),
+        row("GET /me/owed", OFFICE, FORBIDDEN, f"x-key: {DRIVER}"),
+        row("GET /drivers/17/owed", OFFICE, FORBIDDEN, f"x-key: {DRIVER}"),
+        row("GET /drivers/17/owed", OFFICE, FORBIDDEN, f"X-KEY: {OFFICE}"),
+        row("GET /drivers/17/owed", None, FORBIDDEN, f"x_key: {OFFICE}"),
+        row("GET /drivers/17/owed", f'"{OFFICE}"', FORBIDDEN),
+        row("GET /drivers/17/owed", OFFICE.upper(), FORBIDDEN),
+        row("GET /drivers/17/owed", f"{OFFICE}1", FORBIDDEN),
+        row("GET /drivers/17/owed", OFFICE[:-1], FORBIDDEN),
+        row("GET /drivers/17/owed", f"{OFFICE},{DRIVER}", FORBIDDEN),
+        row("GET /drivers/17/owed", "", FORBIDDEN),
+        row("GET /drivers/17/owed", OFFICE, line("200 OK", 37, "EXAMINED TO 2024-03-04 00:00 unknown"), f"x-key2: {DRIVER}"),
+        posted("/drivers", OFFICE, BERT.replace(b"bert-key-1", OFFICE.encode()), line("201 Created", 14, "registered 18")),
+        row("GET /me/owed", OFFICE, FORBIDDEN),
+        row("GET /drivers/18/owed", OFFICE, line("200 OK", 37, "EXAMINED TO 2024-02-05 00:00 unknown")),
+    ],
+    "paths and methods": [
+        *[row(f"GET {path}", OFFICE, NOT_FOUND) for path in ["/", "*", "/me", "/drivers/", "/drivers/17", "//drivers"]],
+        row("GET /drivers//breaches", OFFICE, NOT_FOUND),
+        row("GET /drivers/17/sheet/", OFFICE, NOT_FOUND),
+        row("GET /drivers/17/breaches/", OFFICE, NOT_FOUND),
+        row("GET /drivers/17/breaches?all", OFFICE, NOT_FOUND),
+        row("GET /drivers/17/Breaches", OFFICE, NOT_FOUND),
+        row("GET http://127.0.0.1/drivers/17/breaches", OFFICE, NOT_FOUND),
+        row("GET /drivers/17?/breaches", OFFICE, BAD_NUMBER),
+        row("GET /drivers/%31%37/breaches", OFFICE, BAD_NUMBER),
+        row("GET /drivers/17/sheet/2024/03", OFFICE, NOT_FOUND),
+        row("GET /nothing", DRIVER, NOT_FOUND),
+        row("DELETE /drivers", DRIVER, OTHER_METHOD),
+        row("GET /drivers", DRIVER, OTHER_METHOD),
+        row("HEAD /me/owed", DRIVER, OTHER_METHOD),
+        row("POST /me/owed", OFFICE, OTHER_METHOD),
+        row("POST /me/entries", DRIVER, OTHER_METHOD, f"{COUNTED}0"),
+        row("GET /me/cards/both", DRIVER, OTHER_METHOD),
+        row("PUT /me/cards/both", OFFICE, OTHER_METHOD),
+        row("POST /me/withdraw/1", DRIVER, NOT_FOUND),
+        row("POST /me/base/2024-03-11", DRIVER, NOT_FOUND),
+        posted("/me/cards/both", OFFICE, DAY, FORBIDDEN),
+        posted("/cards/both", DRIVER, DAY, FORBIDDEN),
+        posted("/drivers/17/entries", DRIVER, FREE_DAYS, FORBIDDEN),
+        posted("/drivers", DRIVER, BERT, FORBIDDEN),
+        row("GET /drivers/18/owed", DRIVER, FORBIDDEN),
+        row("GET /drivers/017/owed", DRIVER, FORBIDDEN),
+    ],
+    "bodies": [
+        row("POST /drivers", OFFICE, BAD, "transfer-encoding: chunked"),
+        row("POST /drivers", OFFICE, BAD, "Transfer-Encoding:", f"{COUNTED}262145"),
+        posted("/drivers/17/withdraw/1", OFFICE, b"", BAD, "transfer-encoding: identity"),
+        row("GET /me/entries", DRIVER, told("200 OK", 0, ""), "transfer-encoding: chunked"),
+        row("GET /me/entries", DRIVER, told("200 OK", 0, ""), f"{COUNTED}many", f"{COUNTED}262145"),
+        row("POST /drivers/17/entries", OFFICE, NO_LENGTH, body=FREE_DAYS),
+        row("POST /drivers", OFFICE, BAD, f"{COUNTED}262145", f"{COUNTED}262145"),
+        posted("/drivers", OFFICE, BERT, BAD, f"{COUNTED}{len(BERT)}"),
+        *[
+            row("POST /drivers", OFFICE, BAD, COUNTED + text, body=BERT)
+            for text in ["", "+9", "-1", "9.0", "0x9", "9 9", "9,9", "0000000000009", "9999999999999", "\u0669"]
+        ],
+        row("POST /drivers", OFFICE, TOO_LARGE, f"{COUNTED}999999999999"),
+        row("POST /drivers", OFFICE, line("422 Unprocessable Entity", 14, "E1 wrong head"), f"{COUNTED}000000000000"),
+        row("POST /drivers", OFFICE, line("422 Unprocessable Entity", 14, "E1 wrong head"), f"{COUNTED}26", body=BERT),
+        row("POST /drivers", OFFICE, line("422 Unprocessable Entity", 25, "E2 wrong fields in row 2"), f"{COUNTED}27", body=BERT),
+        row("POST /drivers", OFFICE, line("201 Created", 14, "registered 18"), f"{COUNTED}{len(BERT):012}", body=BERT + b"\n19"),
+        row("POST /drivers/17/base/2024-03-11", OFFICE, line("200 OK", 16, "base 2024-03-11")),
+        row("POST /drivers/17/base/2024-03-04", OFFICE, line("200 OK", 16, "base 2024-03-04"), f"{COUNTED}0"),
+        row("POST /drivers/17/base/2024-03-04", OFFICE, BAD, f"{COUNTED}1", body=b"\n"),
+        row("POST /drivers/17/base/2024-03-04", OFFICE, BAD, f"{COUNTED}1"),
+        row("POST /drivers/17/base/2024-03-04", OFFICE, TOO_LARGE, f"{COUNTED}262145"),
+        row("POST /drivers/17/withdraw/1", OFFICE, line("404 Not Found", 17, "S7 unknown entry"), body=b"more"),
+        raw("a body that lacks a byte", posting("/cards/both", OFFICE, DAY)[:-1], BAD),
+        raw("no body", posting("/cards/both", OFFICE, DAY)[: -len(DAY)], BAD),
+        raw("the longest body without a byte", posting("/cards/both", OFFICE, LARGEST_DAY)[:-1], BAD),
+        posted("/cards/both", OFFICE, LARGEST_DAY, ADDED),
+        posted("/cards/both", OFFICE, DAY, REPEATED),
+        row("GET /me/files/1", DRIVER, told("200 OK", LIMIT, LARGEST_DAY, STORED)),
+        posted("/drivers/17/entries", OFFICE, LARGEST_HOURS, line("201 Created", 15, "entered 1 to 1")),
+        posted("/drivers/17/entries", OFFICE, LARGEST_HOURS + b"\n", TOO_LARGE),
+    ],
+    "words of a path": [
+        posted("/drivers/017/entries", OFFICE, b"nothing", BAD_NUMBER),
+        raw("a number, of a body that is cut", posting("/drivers/017/entries", OFFICE, FREE_DAYS)[:-1], BAD),
+        posted("/cards/whole", OFFICE, b"nothing", line("400 Bad Request", 12, "P1 bad part")),
+        posted("/me/cards/Both", DRIVER, DAY, line("400 Bad Request", 12, "P1 bad part")),
+        row("GET /drivers/0/sheet/2024-13", OFFICE, BAD_NUMBER),
+        row("GET /drivers/17/sheet/2024-13", OFFICE, NO_DATE),
+        row("GET /me/sheet/2024-3", DRIVER, line("400 Bad Request", 20, "Z1 not of the shape")),
+        row("GET /me/gaps/2100-01", DRIVER, line("400 Bad Request", 16, "Z3 out of range")),
+        row("GET /drivers/18/sheet/2024-13", OFFICE, NO_DATE),
+        row("GET /drivers/18/sheet/2024-03", OFFICE, line("404 Not Found", 18, "S4 unknown driver")),
+        row("GET /drivers/1000000/owed", OFFICE, BAD_NUMBER),
+        row(f"GET /drivers/{5_000 * '1'}/owed", OFFICE, BAD_NUMBER),
+        row("GET /me/files/1000001", DRIVER, BAD_NUMBER),
+        row("GET /me/files/1", DRIVER, line("404 Not Found", 21, "S10 unknown download")),
+        row("POST /drivers/17/withdraw/0", OFFICE, BAD_NUMBER),
+        row("POST /drivers/17/base/2024-02-30", OFFICE, NO_DATE),
+        row("POST /drivers/17/base/2024-03-05", OFFICE, line("422 Unprocessable Entity", 16, "S9 not a Monday")),
+    ],
+    "lines of refusals": [
+        posted("/drivers", OFFICE, b"", line("422 Unprocessable Entity", 14, "E1 wrong head")),
+        posted("/drivers", OFFICE, ANNA, line("409 Conflict", 16, "S1 driver taken")),
+        posted("/drivers", OFFICE, BERT.replace(b"bert", b"anna"), line("409 Conflict", 13, "S2 key taken")),
+        posted("/drivers", OFFICE, SAME_HOLDER, line("409 Conflict", 16, "S3 holder taken")),
+        posted("/drivers", OFFICE, BERT.replace(b"02-05", b"02-06"), line("422 Unprocessable Entity", 16, "S9 not a Monday")),
+        posted("/drivers", OFFICE, BERT.replace(b"18,", b"018,"), line("422 Unprocessable Entity", 24, "E9 bad value for driver")),
+        posted("/drivers/18/entries", OFFICE, b"", line("422 Unprocessable Entity", 14, "E1 wrong head")),
+        posted("/drivers/18/entries", OFFICE, FREE_DAYS, line("404 Not Found", 18, "S4 unknown driver")),
+        posted("/drivers/17/entries", OFFICE, FERRY, line("422 Unprocessable Entity", 28, "E5 left out in row 2: ferry")),
+        posted("/drivers/17/entries", OFFICE, HOURS_HEAD, line("200 OK", 13, "entered none")),
+        posted("/drivers/17/entries", OFFICE, FREE_DAYS, line("201 Created", 15, "entered 1 to 1")),
+        posted("/cards/both", OFFICE, b"", line("422 Unprocessable Entity", 21, "C3 no identification")),
+        posted("/cards/both", OFFICE, DAY[:-1], line("422 Unprocessable Entity", 25, "C1 truncated block at 22")),
+        posted("/cards/both", OFFICE, OTHER_HOLDER, line("404 Not Found", 18, "S4 unknown driver")),
+        posted("/me/cards/both", DRIVER, SATURDAY, line("409 Conflict", 37, "S6 contradiction at 2024-03-09 08:00")),
+        row("POST /drivers/17/withdraw/1", OFFICE, line("200 OK", 12, "withdrawn 1")),
+        row("POST /drivers/17/withdraw/1", OFFICE, line("409 Conflict", 21, "S8 already withdrawn")),
+        posted("/me/cards/both", DRIVER, SATURDAY, ADDED),
+        posted("/me/cards/both", DRIVER, SATURDAY, REPEATED),
+    ],
+}
+
+# Each route once, by the client of Python's library: method, path, key and body, and the status, the phrase and the body of the reply.
+
+OWN_PATHS = {
+    "spans/2024-03": SPANS,
+    "gaps/2024-03": GAPS,
+    "sheet/2024-03": MARCH,
+    "breaches": BREACH + EXAMINED,
+    "owed": EXAMINED,
+    "entries": "1 2024-03-09 00:00 2024-03-11 00:00 rest withdrawn\n",
+}
+LIBRARY = [
+    ("POST", "/drivers", OFFICE, ANNA, 201, "Created", "registered 17\n"),
+    ("POST", "/cards/both", OFFICE, DAY, 201, "Created", "added driver 17 number 1\n"),
+    ("POST", "/drivers/17/entries", OFFICE, FREE_DAYS, 201, "Created", "entered 1 to 1\n"),
+    ("POST", "/drivers/17/withdraw/1", OFFICE, None, 200, "OK", "withdrawn 1\n"),
+    ("POST", "/drivers/17/base/2024-03-04", OFFICE, None, 200, "OK", "base 2024-03-04\n"),
+    *[("GET", f"/drivers/17/{path}", OFFICE, None, 200, "OK", text) for path, text in OWN_PATHS.items()],
+    *[("GET", f"/me/{path}", DRIVER, None, 200, "OK", text) for path, text in OWN_PATHS.items()],
+    ("GET", "/drivers/17/files/1", OFFICE, None, 200, "OK", DAY),
+    ("GET", "/me/files/1", DRIVER, None, 200, "OK", DAY),
+    ("POST", "/me/cards/both", DRIVER, DAY, 200, "OK", "repeated driver 17\n"),
+    ("GET", "/me/entries", "anna-key-2", None, 403, "Forbidden", "forbidden\n"),
+]
+
+
+class SlowSocket:
+    """A connection at whose other end is the slow server, or whatever gives a reply to a request."""
+
+    def __init__(self, reply):
+        self.reply = reply
+        self.sent = b""
+
+    def sendall(self, given):
+        """Takes bytes of the request."""
+        self.sent += given
+
+    def makefile(self, _):
+        """The reply to what was sent."""
+        return io.BytesIO(self.reply(self.sent))
+
+    def close(self):
+        """Does nothing."""
+
+
+def understood(response):
+    """What the library has understood of a reply."""
+    return response.status, response.reason, response.getheaders(), response.read()
+
+
+def by_library(connect, method, path, key, body):
+    """What the library understands of the reply to a request over a connection, or why there was none."""
+    client = http.client.HTTPConnection(HOST)
+    with contextlib.closing(client):
+        try:
+            client.sock = connect()
+            client.request(method, path, body, {"X-Key": key})
+            return understood(client.getresponse())
+        except (OSError, http.client.HTTPException) as fault:
+            return repr(fault)
+
+
+def wanted_by_library(path, status, phrase, text):
+    """What it has to understand."""
+    body = text if isinstance(text, bytes) else text.encode()
+    kind = STORED if "/files/" in path else TEXT
+    return status, phrase, [("content-type", kind), ("content-length", str(len(body))), ("connection", "close")], body
+
+
+# The program
+
+
+def free_port():
+    """A port on which nobody listens."""
+    with socket.socket() as found:
+        found.bind((HOST, 0))
+        return found.getsockname()[1]
+
+
+def sent(connection, pieces):
+    """Sends the pieces of a request. The program may have replied and hung up before it has read all."""
+    connection.setsockopt(socket.IPPROTO_TCP, socket.TCP_NODELAY, 1)
+    with contextlib.suppress(BrokenPipeError, ConnectionResetError):
+        for number, piece in enumerate(pieces):
+            time.sleep(0.001 if number else 0)
+            connection.sendall(piece)
+
+
+def received(connection):
+    """All bytes of a reply, up to the end of the connection. Where the program hasn't read all of the request, it ends as broken."""
+    found = b""
+    with contextlib.suppress(ConnectionResetError):
+        while piece := connection.recv(65_536):
+            found += piece
+    return found
+
+
+class Serving:
+    """The program as a server on an archive, for so many connections, with some more words in its environment."""
+
+    def __init__(self, program, path, key, count, environment=None):
+        self.port = free_port()
+        words = [program, "serve", path, key, str(self.port), str(count)]
+        pipes = {"stdin": subprocess.DEVNULL, "stdout": subprocess.PIPE, "stderr": subprocess.PIPE}
+        self.process = subprocess.Popen(words, env={**os.environ, **(environment or {})}, **pipes)
+        self.lost = None
+
+    def __enter__(self):
+        return self
+
+    def __exit__(self, *_):
+        self.process.kill()
+        self.process.communicate()
+
+    def connection(self):
+        """A new connection. The first has to wait until the program listens."""
+        last = time.monotonic() + SECONDS
+        while True:
+            try:
+                return socket.create_connection((HOST, self.port), SECONDS)
+            except ConnectionRefusedError:
+                if self.process.poll() is not None or time.monotonic() > last:
+                    raise
+                time.sleep(0.01)
+
+    def ask(self, pieces, waits):
+        """The reply to a request in pieces, or why there was none; then no other is asked for. Where the program waits for it, the
+        request is ended."""
+        if self.lost:
+            return self.lost
+        try:
+            with self.connection() as connection:
+                sent(connection, pieces)
+                if waits:
+                    with contextlib.suppress(OSError):
+                        connection.shutdown(socket.SHUT_WR)
+                return received(connection)
+        except OSError as fault:
+            self.lost = repr(fault)
+            return self.lost
+
+    def end(self):
+        """What the program has printed, and its status, after its last connection."""
+        if self.lost:
+            return self.lost
+        try:
+            text, errors = self.process.communicate(timeout=SECONDS)
+        except subprocess.TimeoutExpired as fault:
+            return repr(fault)
+        return text, self.process.returncode, errors
+
+
+ENDED = (b"", 0, b"")
+
+
+# Comparisons
+
+Asked = namedtuple("Asked", "name request replies waits")
+
+
+def server_after(commands, key=OFFICE):
+    """The slow server over an office that was given commands."""
+    office = slow_office.Office()
+    for command in commands:
+        office.answer(*command)
+    return slow_server.Server(office, key)
+
+
+def asked_of(server, named):
+    """Named requests, one after the other, with the replies of which one is right, and whether they wait for their end."""
+    asked = []
+    for name, request in named:
+        waits = server.waits(request)
+        asked.append(Asked(name, request, server.replies(request), waits))
+    return asked
+
+
+def one_of(name, given, replies):
+    """The comparison of a reply with those of which one is right."""
+    return name, given, given if given in replies else replies[0]
+
+
+def pieces_of(chance, request):
+    """A request in pieces: mostly in one, else cut at a few places."""
+    if chance.random() < 0.7:
+        return [request]
+    places = sorted(chance.randrange(len(request) + 1) for _ in range(chance.randrange(1, 4)))
+    return [request[start:past] for start, past in zip([0, *places], [*places, len(request)])]
+
+
+def of_asked(program, name, commands, asked, server):
+    """The comparisons of requests to the program, on an archive that was given commands, and of its tables after them with those of the
+    slow server, which has had the same requests."""
+    chance = random.Random(name)
+    with tempfile.TemporaryDirectory() as folder:
+        desk = compare_office.Desk(program, folder)
+        desk.prepare(commands)
+        with Serving(program, desk.path, server.office_key.decode(), len(asked)) as serving:
+            for one in asked:
+                yield one_of(f"{name}: {one.name}", serving.ask(pieces_of(chance, one.request), one.waits), one.replies)
+            yield f"{name}: the end", serving.end(), ENDED
+        yield compare_archive.of_tables(name, desk.path, server.office.archive)
+
+
+def of_rows(program, name):
+    """The comparisons of worked rows, and of the slow server with what they say."""
+    rows = ROWS[name]
+    server = server_after(compare_office.WITH_ANNA)
+    asked = asked_of(server, [(row.name, row.request) for row in rows])
+    for row, one in zip(rows, asked):
+        yield f"{name}: {row.name}, by the slow server", one.replies, row.replies
+    if program:
+        right = [one._replace(replies=row.replies) for row, one in zip(rows, asked)]
+        yield from of_asked(program, name, compare_office.WITH_ANNA, right, server)
+
+
+def of_library(program):
+    """The comparisons of each route by the library's client."""
+    server = server_after([])
+    for method, path, key, body, *wanted in LIBRARY:
+        told = by_library(lambda: SlowSocket(server.reply), method, path, key, body)
+        yield f"{method} {path} by the library, by the slow server", told, wanted_by_library(path, *wanted)
+    if program:
+        with tempfile.TemporaryDirectory() as folder:
+            desk = compare_office.Desk(program, folder)
+            desk.prepare([])
+            with Serving(program, desk.path, OFFICE, len(LIBRARY)) as serving:
+                for method, path, key, body, *wanted in LIBRARY:
+                    told = by_library(serving.connection, method, path, key, body)
+                    yield f"{method} {path} by the library", told, wanted_by_library(path, *wanted)
+                yield "by the library: the end", serving.end(), ENDED
+            yield compare_archive.of_tables("by the library", desk.path, server.office.archive)
+
+
+# The examples of the document
+
+DOCUMENT = os.path.join(os.path.dirname(os.path.abspath(__file__)), "..", "docs", "FORMATS.md")
+EXAMPLE = re.compile(r"^    \$ (curl .*)\n((?:    (?!\$ ).*\n|\n(?=    (?!\$ )))*)", re.MULTILINE)
+FILES = {"@anna.csv": ANNA, "@anna.ddd": DAY, "@hours.csv": FREE_DAYS}
+BY_CURL = ["host: 127.0.0.1:8017", "user-agent: curl/8", "accept: */*"]
+BODY_BY_CURL = "content-type: application/x-www-form-urlencoded"
+
+
+def examples():
+    """The lines with `curl` of the document, and what each prints."""
+    with open(DOCUMENT, encoding="utf-8") as document:
+        return [(found[1], re.sub("^    ", "", found[2], flags=re.MULTILINE)) for found in EXAMPLE.finditer(document.read())]
+
+
+def request_by_curl(words):
+    """The bytes of the request that `curl` makes of some words, and whether it shows the head of the reply, or nothing of it."""
+    fields, method, body, shown, address = [*BY_CURL], None, None, "body", None
+    words = iter(words)
+    for word in words:
+        if word == "-H":
+            fields.append(next(words))
+        elif word == "-X":
+            method = next(words)
+        elif word == "--data-binary":
+            body = FILES[next(words)]
+        elif word == "-i":
+            shown = "all"
+        elif word == "-o":
+            shown, _ = "nothing", next(words)
+        else:
+            address = word
+    path = address.removeprefix("http://127.0.0.1:8017")
+    if body is not None:
+        fields += [f"content-length: {len(body)}", BODY_BY_CURL]
+    method = method or ("GET" if body is None else "POST")
+    head = "\r\n".join([f"{method} {path} HTTP/1.1", *fields, "", ""])
+    return head.encode() + (body or b""), shown
+
+
+def shown_of(reply, shown):
+    """What `curl` shows of a reply."""
+    if shown == "nothing":
+        return ""
+    text = reply.decode().replace("\r", "")
+    return text if shown == "all" else text.split("\n\n", 1)[1]
+
+
+def as_shown(text, printed):
+    """A text, with two dots for lines that the document leaves out."""
+    front, dots, back = printed.partition("..\n")
+    if dots and text.startswith(front) and text.endswith(back):
+        return printed
+    return text
+
+
+def of_document(program):
+    """The comparisons of the document's examples, one after the other."""
+    server = server_after([])
+    found = [(command, printed, *request_by_curl(shlex.split(command)[1:])) for command, printed in examples()]
+    asked = asked_of(server, [(command, request) for command, _, request, _ in found])
+    for (command, printed, _, shown), one in zip(found, asked):
+        yield command, as_shown(shown_of(one.replies[0], shown), printed), printed
+    yield "examples of the document", len(found) > len(slow_server.ROUTES), True
+    if program:
+        yield from of_asked(program, "the document", [], asked, server)
+
+
+# Random lists
+
+
+def of_seed(program, seed):
+    """The comparisons of a seed's requests."""
+    made = random_requests.Requests(seed)
+    named = [(f"request {number}: {request[:80]!r}", request) for number, request in enumerate(made.requests(), 1)]
+    server = server_after([], made.office_key)
+    yield from of_asked(program, f"seed {seed}", [], asked_of(server, named), server)
+
+
+def gist(archive):
+    """What a refusal and a reading leave as it was."""
+    drivers = archive.drivers.values()
+    return [(d.number, d.base, len(d.downloads), [entry.is_withdrawn for entry in d.entries]) for d in drivers]
+
+
+def again(reply):
+    """A reply that the library has understood, written once more."""
+    response = http.client.HTTPResponse(SlowSocket(lambda _: reply))
+    response.begin()
+    status, phrase, fields, body = understood(response)
+    lines = [f"HTTP/1.1 {status} {phrase}", *[f"{name}: {value}" for name, value in fields], "", ""]
+    return "\r\n".join(lines).encode() + body
+
+
+def route_of(server, request):
+    """The method and the form of a path that a request asks for, if its head passes the checks."""
+    with contextlib.suppress(slow_server.NotOne, slow_server.Refused):
+        head = slow_server.head_of(request)
+        server.asked(head)
+        return head.method.decode(), slow_server.form_of(head.target.decode())[0]
+    return None
+
+
+def of_variety():
+    """The comparisons of random requests by the slow server alone: the library understands each reply, a refusal or a reading changes
+    nothing, each status but 503 is told, and each route is served."""
+    statuses, routes = set(), set()
+    for seed in range(SLOW_SEEDS):
+        made = random_requests.Requests(seed)
+        server = server_after([], made.office_key)
+        for number, request in enumerate(made.requests(), 1):
+            route, before = route_of(server, request), gist(server.office.archive)
+            for reply in server.replies(request):
+                status = int(reply.split(b" ")[1])
+                statuses.add(status)
+                routes.update([route] if status < 300 else [])
+                yield f"seed {seed}, request {number}: the reply", again(reply), reply
+                if status >= 400 or route and route[0] == "GET":
+                    yield f"seed {seed}, request {number}: the archive", gist(server.office.archive), before
+    yield "statuses", sorted(statuses), sorted({*slow_server.STATUSES} - {503})
+    yield "routes", sorted(routes), sorted((method, form) for form, by in slow_server.ROUTES.items() for method in by)
+
+
+# Clients that leave, pieces, and words
+
+
+def leave(serving, request, is_broken):
+    """Sends bytes over a connection and leaves it without a look at the reply: at once where it is to be broken."""
+    with contextlib.suppress(OSError), serving.connection() as connection:
+        sent(connection, [request])
+        if is_broken:
+            connection.setsockopt(socket.SOL_SOCKET, socket.SO_LINGER, struct.pack("ii", 1, 0))
+
+
+def of_leaving(program):
+    """The comparisons of an archive whose clients leave before a reply has come: the next one is served. Whether a file of one who
+    left was taken can't be told, so that it is sent again."""
+    file = posting("/cards/both", OFFICE, DAY)
+    left = [b"", OWN[:20], OWN, asking("GET /drivers/17/sheet/2024-03", OFFICE), file[:-1], padded(60_000, b""), file]
+    questions = [(request, is_broken) for request in left for is_broken in (False, True)]
+    server = server_after([*compare_office.WITH_ANNA, (["import", "both"], DAY)])
+    with tempfile.TemporaryDirectory() as folder:
+        desk = compare_office.Desk(program, folder)
+        desk.prepare(compare_office.WITH_ANNA)
+        with Serving(program, desk.path, OFFICE, 2 * len(questions) + 2) as serving:
+            for number, (request, is_broken) in enumerate(questions):
+                leave(serving, request, is_broken)
+                told = serving.ask([asking("GET /nothing", OFFICE)], False)
+                yield f"after client {number} has left", told, NOT_FOUND
+            yield one_of("a file after clients have left", serving.ask([file], False), [ADDED, REPEATED])
+            yield "after clients have left", serving.ask([OWN], False), BREACHES
+            yield "after clients have left: the end", serving.end(), ENDED
+        yield compare_archive.of_tables("after clients have left", desk.path, server.office.archive)
+
+
+def of_pieces(program):
+    """The comparisons of requests that come byte by byte."""
+    rows = [WITH_DAY, raw("a driver's own breaches", OWN, BREACHES), raw("33 fields", fields(33) + b"\r\n", LARGE_HEAD)]
+    with tempfile.TemporaryDirectory() as folder:
+        desk = compare_office.Desk(program, folder)
+        desk.prepare(compare_office.WITH_ANNA)
+        with Serving(program, desk.path, OFFICE, len(rows)) as serving:
+            for row in rows:
+                told = serving.ask([bytes([byte]) for byte in row.request], False)
+                yield one_of(f"byte by byte: {row.name}", told, row.replies)
+            yield "byte by byte: the end", serving.end(), ENDED
+
+
+# Words of the command line, with PATH for an archive, PORT for a free port and TAKEN for one on which another listens: what is printed,
+# and the status. The key is looked at first, then the archive is opened, and then the port.
+BAD_KEY = (b"E9 bad value for key\n", 1)
+NO_STORE = (b"S12 store failed\n", 3)
+NO_PORT = (b"X2 device failed\n", 3)
+USAGE = (b"", 2)
+WORDS = [
+    *[(["PATH", key, "PORT", "1"], BAD_KEY) for key in ["short-1", "under_score", 65 * "k", "", "office key 1", "office-key-\u00e4"]],
+    (["NONE", "short-1", "TAKEN", "1"], BAD_KEY),
+    (["NONE", OFFICE, "TAKEN", "1"], NO_STORE),
+    (["PATH", OFFICE, "TAKEN", "1"], NO_PORT),
+    *[(["PATH", OFFICE, port, "1"], USAGE) for port in ["0", "65536", "port", "", "-1", "8017.0"]],
+    *[(["PATH", OFFICE, "PORT", count], USAGE) for count in ["0", "1000001", "many", "", "-1"]],
+    (["PATH", "short-1", "0", "1"], USAGE),
+    (["PATH", OFFICE, "PORT"], USAGE),
+    (["PATH", OFFICE, "PORT", "1", "1"], USAGE),
+    (["PATH"], USAGE),
+    ([], USAGE),
+]
+
+
+def of_words(program):
+    """The comparisons of words with which no server begins: all but a text of usage stands on standard output."""
+    with tempfile.TemporaryDirectory() as folder, socket.create_server((HOST, 0)) as other:
+        desk = compare_office.Desk(program, folder)
+        desk.prepare(compare_office.WITH_ANNA)
+        taken = str(other.getsockname()[1])
+        for words, (text, status) in WORDS:
+            named = {"PATH": desk.path, "NONE": f"{desk.path}.none", "PORT": str(free_port()), "TAKEN": taken}
+            told, code, errors = compare_office.told_by([program, "serve", *[named.get(word, word) for word in words]])
+            yield f"serve {words}", (told, code, bool(errors)), (text, status, status == 2)
+        yield desk.tables("after words with which no server begins")
+
+
+# All
+
+
+def of_question(question):
+    """The comparisons of a question: a function and what it is given."""
+    function, *words = question
+    return list(function(*words))
+
+
+def comparisons(program):
+    program = None if program == "--slow" else os.path.abspath(program)
+    questions = [(of_rows, program, name) for name in ROWS]
+    questions += [(of_library, program), (of_document, program), (of_variety,)]
+    if program:
+        questions += [(part, program) for part in [of_leaving, of_pieces, of_words]]
+        questions += [(of_seed, program, seed) for seed in range(SEEDS)]
+    with multiprocessing.Pool(PROCESSES) as pool:
+        for found in pool.imap(of_question, questions):
+            yield from found
+        pool.close()
+        pool.join()
+
+
+if __name__ == "__main__":
+    sys.exit(counting.count(comparisons(*sys.argv[1:])))
