@@ -63,10 +63,10 @@ def last_year(value):
     return oldest.to_bytes(2, "big") + value[2:]
 
 
-def moved(value, years):
-    """A value whose records are so many years later."""
+def moved(value, days):
+    """A value whose records are so many days later."""
     for place, day in records_of(value):
-        high, low = divmod(86_400 * (day + YEAR * years), 65_536)
+        high, low = divmod(86_400 * (day + days), 65_536)
         value = with_number(with_number(value, place + 4, high), place + 6, low)
     return value
 
@@ -76,9 +76,14 @@ def year_of(file):
     return with_values(file, ACTIVITY_DATA, last_year)
 
 
+def days_later(file, days):
+    """The file as it would have been read so many days later, or earlier."""
+    return with_values(file, ACTIVITY_DATA, lambda value: moved(value, days))
+
+
 def years_later(file, years):
     """The file as it would have been read so many years later, or earlier."""
-    return with_values(file, ACTIVITY_DATA, lambda value: moved(value, years))
+    return days_later(file, YEAR * years)
 
 
 def mark_number(mark):

@@ -21,13 +21,13 @@ const MARKS: [&str; 8] = [
 const LINE: usize = "2023-01-12 00:00 2023-01-12 04:59 available single\n".len();
 
 #[derive(Clone, Copy)]
-struct Span {
-    start: u32,
-    past: u32,
-    mark: u8,
+pub struct Span {
+    pub start: u32,
+    pub past: u32,
+    pub mark: u8,
 }
 
-enum Fault {
+pub enum Fault {
     TooLarge,
     ShortActivity,
     Pointer,
@@ -86,7 +86,7 @@ fn push(spans: &mut Vec<Span>, start: u32, past: u32, mark: Option<u8>) {
 }
 
 /// The spans of all records from the oldest to the newest.
-fn spans_of(value: &[u8]) -> Result<Vec<Span>, Fault> {
+pub fn spans_of(value: &[u8]) -> Result<Vec<Span>, Fault> {
     if value.len() < 16 {
         return Err(Fault::ShortActivity);
     }
@@ -142,7 +142,7 @@ fn spans_of(value: &[u8]) -> Result<Vec<Span>, Fault> {
 }
 
 /// Puts the spans in order, and joins those that touch with one mark.
-fn put_in_order(spans: &mut Vec<Span>) -> Result<(), Fault> {
+pub fn put_in_order(spans: &mut Vec<Span>) -> Result<(), Fault> {
     spans.sort_unstable_by_key(|span| span.start);
     let mut conflict = None;
     spans.dedup_by(|span, last| {
@@ -198,18 +198,18 @@ fn midnight_text(day: u32) -> [u8; 16] {
 }
 
 /// Lines as they are put together. The text of a day is kept while the day is the same.
-struct Lines {
-    text: Vec<u8>,
+pub struct Lines {
+    pub text: Vec<u8>,
     day: u32,
     midnight: [u8; 16],
 }
 
 impl Lines {
-    fn with_capacity(bytes: usize) -> Lines {
+    pub fn with_capacity(bytes: usize) -> Lines {
         Lines { text: Vec::with_capacity(bytes), day: 0, midnight: midnight_text(0) }
     }
 
-    fn push_minute(&mut self, minute: u32) {
+    pub fn push_minute(&mut self, minute: u32) {
         let (day, of_day) = (minute / 1440, minute % 1440);
         if day != self.day {
             self.day = day;

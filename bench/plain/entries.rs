@@ -54,14 +54,14 @@ impl Fault {
 }
 
 /// The number of a date's day (Howard Hinnant's `days_from_civil`).
-fn day_number(year: u32, month: u32, day: u32) -> u32 {
+pub fn day_number(year: u32, month: u32, day: u32) -> u32 {
     let year = year - u32::from(month <= 2);
     let (era, yoe) = (year / 400, year % 400);
     let doy = (153 * ((month + 9) % 12) + 2) / 5 + day - 1;
     era * 146_097 + yoe * 365 + yoe / 4 - yoe / 100 + doy - 719_468
 }
 
-fn days_in_month(year: u32, month: u32) -> u32 {
+pub fn days_in_month(year: u32, month: u32) -> u32 {
     match month {
         2 if year % 4 == 0 && (year % 100 != 0 || year % 400 == 0) => 29,
         2 => 28,

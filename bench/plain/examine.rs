@@ -19,7 +19,7 @@ const REGULAR_WEEKLY_REST: u32 = 2700;
 const SIX_DAYS: u32 = 6 * DAY;
 
 #[derive(Clone, Copy, PartialEq)]
-enum Activity {
+pub enum Activity {
     Rest,
     Work,
     Drive,
@@ -27,15 +27,15 @@ enum Activity {
 
 /// What is done from one minute to before another, alone or with a second driver.
 #[derive(Clone, Copy)]
-struct Span {
-    start: u32,
-    past: u32,
-    activity: Activity,
-    is_crew: bool,
+pub struct Span {
+    pub start: u32,
+    pub past: u32,
+    pub activity: Activity,
+    pub is_crew: bool,
 }
 
 #[derive(Clone, Copy, PartialEq, Eq, PartialOrd, Ord)]
-enum Kind {
+pub enum Kind {
     B1,
     B2,
     B3,
@@ -50,11 +50,11 @@ enum Kind {
 
 /// A breach, whose amount nothing here reads.
 #[allow(dead_code)]
-struct Breach {
-    kind: Kind,
-    moment: u32,
-    since: u32,
-    amount: u32,
+pub struct Breach {
+    pub kind: Kind,
+    pub moment: u32,
+    pub since: u32,
+    pub amount: u32,
 }
 
 struct Debt {
@@ -65,17 +65,17 @@ struct Debt {
 }
 
 /// Why the examination of a line stops.
-enum Cause {
+pub enum Cause {
     Unknown,
     Crew,
 }
 
 /// All that is found, of which only counts are printed.
 #[allow(dead_code)]
-struct Report {
-    horizon: u32,
-    cause: Cause,
-    breaches: Vec<Breach>,
+pub struct Report {
+    pub horizon: u32,
+    pub cause: Cause,
+    pub breaches: Vec<Breach>,
     debts: Vec<Debt>,
 }
 
@@ -399,7 +399,7 @@ fn add_overdue(debts: &[Debt], horizon: u32, breaches: &mut Vec<Breach>) {
 }
 
 /// The report of a line from a base, the first minute of a Monday.
-fn examine(line: &[Span], base: u32) -> Report {
+pub fn examine(line: &[Span], base: u32) -> Report {
     let mut pass = Pass::from(base);
     let (mut horizon, mut cause, mut rest_from) = (base, Cause::Unknown, 0);
     for span in &line[line.partition_point(|span| span.past <= base)..] {

@@ -1,9 +1,9 @@
 //! What `tacho_bench` does, in plain Rust over a sorted `Vec`.
 #[derive(Clone, Copy, PartialEq)]
-struct Span {
-    start: u32,
-    past: u32,
-    mark: (u8, bool),
+pub struct Span {
+    pub start: u32,
+    pub past: u32,
+    pub mark: (u8, bool),
 }
 
 const START: u32 = 15_780_960;
@@ -29,7 +29,7 @@ fn canonical(spans: &[Span]) -> Result<Vec<Span>, u32> {
 }
 
 /// What spans give and the line lacks.
-fn gains(line: &[Span], spans: &[Span]) -> Result<Vec<Span>, u32> {
+pub fn gains(line: &[Span], spans: &[Span]) -> Result<Vec<Span>, u32> {
     let (Some(start), Some(past)) = (spans.iter().map(|s| s.start).min(), spans.iter().map(|s| s.past).max()) else {
         return Ok(Vec::new());
     };
