@@ -1,9 +1,9 @@
 -- A run goes on by one connection.
-use Rattle.std.proofs.Common.{◌≡◌, ◌∙◌, ◌++◌, ◌+◌, ◌<◌, ℕ, List, [], ◌∷◌, Option, Some, None, Result, Ok, Err, true, false, length, take, drop, get_or, refl, subst, inl, inr, arith}
+use Rattle.std.proofs.Common.{◌≡◌, ◌∙◌, ◌++◌, ◌+◌, ◌<◌, ℕ, List, [], ◌∷◌, Bool, Option, Some, None, Result, Ok, Err, true, false, length, take, drop, get_or, refl, subst, inl, inr, arith}
 use Rattle.std.proofs.lemmas.Grind.{drop_more_same}
 use Rattle.std.proofs.lemmas.List.{take_more, take_more_set, drop_more, drop-set-lt}
 use Rattle.std.proofs.Math.ListN.{set}
-use Rattle.std.specs.Prelude.{IfOk, IsSome, is_ok}
+use Rattle.std.specs.Prelude.{◌↔◌, IfOk, IsErrOf, IsSome, is_ok}
 use Rattle.tacho_state.specs.State.{State}
 use Rattle.tacho_http.specs.Answer.{Answered, IsBegun, IsWritten}
 use Rattle.tacho_http.specs.Run.{Run, Went}
@@ -38,18 +38,23 @@ abbrev pub counted : Result Served IoFault → ℕ
 counted (Ok served) = 1
 counted (Err fault) = 0
 
+not_true : (b : Bool) → (b ≡ true → ⊥) → b ≡ false
+not_true true h = absurd (h refl)
+not_true false h = refl
+
 -- one connection, by what `answer` says of it
-pub went : (stands : State → Type 0) (office : List ℕ) (unread old new : Option (List ℕ)) (result : Result Served IoFault) (s : State) → IsSome unread
+pub went : (stands : State → Type 0) (office : List ℕ) (unread old new : Option (List ℕ)) (reader_failed writer_failed : Bool) (result : Result Served IoFault) (s : State)
+    → IsSome unread → (IsErrOf result io.Read ↔ (reader_failed ≡ true)) → (IsErrOf result io.Write ↔ (writer_failed ≡ true))
     → ((input : List ℕ) → unread ≡ Some input → IfOk result (λ served. Answered stands office input s (λ reply. (reply.status ≡ served.status) × IsWritten old new reply)))
     → ((input : List ℕ) → unread ≡ Some input → result ≡ Err io.Write → Answered stands office input s (IsBegun old new))
     → (result ≡ Err io.Read → stands s) → (result ≡ Err io.Read → new ≡ old)
-    → (t : State) × stands t × Went office unread old new (counted result) s t
-went stands office None old new result s h a b c d = cc
-went stands office (Some input) old new (Ok served) s h a b c d =
-    let x = a input refl in (x.after, x.now, inl (refl, (x.reply, x.reacts, x.wrote.1)))
-went stands office (Some input) old new (Err io.Write) s h a b c d =
-    let x = b input refl refl in (x.after, x.now, inr (inl (refl, (x.reply, x.reacts, x.wrote))))
-went stands office (Some input) old new (Err io.Read) s h a b c d = (s, c refl, inr (inr (refl, refl, d refl)))
+    → (t : State) × stands t × Went office unread old new reader_failed writer_failed (counted result) s t
+went stands office None old new r w result s h e f a b c d = cc
+went stands office (Some input) old new r w (Ok served) s h e f a b c d =
+    let x = a input refl in (x.after, x.now, inl (refl, not_true r (λ k. let no_fault = e.1 k in cc), not_true w (λ k. let no_fault = f.1 k in cc), (x.reply, x.reacts, x.wrote.1)))
+went stands office (Some input) old new r w (Err io.Write) s h e f a b c d =
+    let x = b input refl refl in (x.after, x.now, inr (inl (refl, f.0 refl, (x.reply, x.reacts, x.wrote))))
+went stands office (Some input) old new r w (Err io.Read) s h e f a b c d = (s, c refl, inr (inr (refl, e.0 refl, refl, d refl)))
 
 pub counts_one : (result : Result Served IoFault) → is_ok result ≡ true → counted result ≡ 1
 counts_one (Ok served) e = refl

@@ -19,7 +19,8 @@ pub fn answer_all<K: Keeper, R: Source, W: Sink>(
     requires { All (λ c. (R.has_failed c.0 ≡ false) × (W.has_failed c.1 ≡ false)) connections.old }
     ensures clean { K.is_clean keeper.new → K.is_clean keeper.old }
     ensures run { K.is_clean keeper.new → (s : State) → K.stands keeper.old s → All (λ c. IsSome (R.unread c.0)) connections.old
-        → (t : State) × K.stands keeper.new t × Run (λ c d. Went office_key.now (R.unread c.0) (W.written c.1) (W.written d.1)) connections.old connections.new result s t }
+        → (t : State) × K.stands keeper.new t × Run
+        (λ c d. Went office_key.now (R.unread c.0) (W.written c.1) (W.written d.1) (R.has_failed d.0) (W.has_failed d.1)) connections.old connections.new result s t }
 {
     let mut count = 0;
     for connection in connections.iter_mut() {

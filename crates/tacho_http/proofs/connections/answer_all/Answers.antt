@@ -43,7 +43,8 @@ loop-connection-preserved g c =
           let r = inv.run (c.answer.ensures.clean clean) s st all in
           let e = get_or now i c.connection-item.result in
           let known : IsSome (g.R.Source.unread e.0) = rw (same_item now old i c.connection-item.result k h inv.rest) (all i c.connection-item.result h) in
-          let w = went (g.K.Keeper.stands c.answer.new.keeper) c.args.office_key.now (g.R.Source.unread e.0) (g.W.Sink.written e.1) (g.W.Sink.written c.answer.new.writer) c.answer.result r.0 known
+          let w = went (g.K.Keeper.stands c.answer.new.keeper) c.args.office_key.now (g.R.Source.unread e.0) (g.W.Sink.written e.1) (g.W.Sink.written c.answer.new.writer)
+          (g.R.Source.has_failed c.answer.new.reader) (g.W.Sink.has_failed c.answer.new.writer) c.answer.result r.0 known c.answer.ensures.read c.answer.ensures.write
           (c.answer.ensures.answer clean r.0 r.1) (c.answer.ensures.beginning clean r.0 r.1) (c.answer.ensures.same clean r.0 r.1) c.answer.ensures.untouched in
           (w.0, w.1, rw count (run_next _ old now i c.connection-item.result (c.answer.new.reader, c.answer.new.writer) c.loop-connection.count (counted c.answer.result) s r.0 w.0 h k inv.rest r.2 w.2));
     }
