@@ -16,17 +16,21 @@ const PATIENCE: u64 = 10;
 fn connections_are_answered_in_order(rt: HostRuntime) -> Result<(), Fail> {
     let alloc = rt.alloc();
     let (request, added, repeated) = CASES[1];
-    let mut first = Vec::new(alloc);
-    let mut second = Vec::new(alloc);
     let mut connections = [
-        (Device::new(request), Device::new(&mut first)),
-        (Device::new(request), Device::new(&mut second)),
+        (
+            Faulty::new(alloc, request, 512, 1),
+            Faulty::new(alloc, b"", 512, 9),
+        ),
+        (
+            Faulty::new(alloc, request, 512, 1),
+            Faulty::new(alloc, b"", 512, 9),
+        ),
     ];
     let mut shelf = archive_after(alloc, 1)?;
     let count = answer_all(alloc, &mut shelf, OFFICE, &mut connections);
     holds(&rt, "count", count, count == 2);
-    same(&rt, "connection", 1, &first, added);
-    same(&rt, "connection", 2, &second, repeated);
+    same(&rt, "connection", 1, &connections[0].1.written, added);
+    same(&rt, "connection", 2, &connections[1].1.written, repeated);
     Ok(())
 }
 

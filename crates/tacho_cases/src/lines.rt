@@ -154,8 +154,8 @@ fn a_horizon_is_the_first_break(rt: HostRuntime) -> Result<(), Fail> {
         minute: minute(1020),
         cause: Cause::Unknown,
     };
-    assert_same(&rt, line.horizon(minute(0)), unknown);
-    assert_same(&rt, line.horizon(minute(1020)), unknown);
+    assert!(rt; line.horizon(minute(0)) == unknown);
+    assert!(rt; line.horizon(minute(1020)) == unknown);
     let gaps = line.gaps(rt.alloc(), minute(0), minute(1440))?;
     let wanted = [Gap {
         start: minute(1020),
@@ -168,6 +168,6 @@ fn a_horizon_is_the_first_break(rt: HostRuntime) -> Result<(), Fail> {
         minute: minute(1020),
         cause: Cause::Crew,
     };
-    assert_same(&rt, line.horizon(minute(0)), crew);
+    assert!(rt; line.horizon(minute(0)) == crew);
     Ok(())
 }
