@@ -7,8 +7,10 @@ keeps its own end open until the reply has come whole, and ends its half before 
 program; with '--slow' in its place the slow server is compared with the rows, and no program is started.
 The last line is 'N passed, M failed'."""
 import contextlib
+import functools
 import http.client
 import io
+import itertools
 import multiprocessing
 import os
 import random
@@ -35,6 +37,9 @@ SEEDS = 80
 SLOW_SEEDS = 20
 PROCESSES = 2
 HOST = "127.0.0.1"
+FIRST_PORT, LAST_PORT = 12_000, 32_000  # below those that the system gives to clients
+BLOCK = 100  # ports that a process has for itself
+NUMBERS = itertools.count()
 SECONDS = 30
 OFFICE = "office-key-1"
 DRIVER = "anna-key-1"
@@ -394,11 +399,23 @@ def wanted_by_library(path, status, phrase, text):
 # The program
 
 
+@functools.cache
+def block_of(process):
+    """A socket at the first port of a block, which is this process's own as long as it runs: no other process that compares servers
+    takes a port of it, nor does the system for a client."""
+    for first in range(FIRST_PORT, LAST_PORT, BLOCK):
+        with contextlib.suppress(OSError):
+            return socket.create_server((HOST, first))
+    raise RuntimeError(f"process {process} finds no free block of ports")
+
+
 def free_port():
-    """A port on which nobody listens."""
-    with socket.socket() as found:
-        found.bind((HOST, 0))
-        return found.getsockname()[1]
+    """A port on which nobody listens, the next of this process's block."""
+    first = block_of(os.getpid()).getsockname()[1]
+    for number in NUMBERS:
+        port = first + 1 + number % (BLOCK - 1)
+        with contextlib.suppress(OSError), socket.create_server((HOST, port)):
+            return port
 
 
 def sent(connection, pieces):
