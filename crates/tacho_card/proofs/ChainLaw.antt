@@ -11,20 +11,20 @@ use Rattle.tacho_card.proofs.ChainLemmas.{read_length, chain_fault, chain_last, 
 
 -- the bytes that the records of a front leave
 abbrev left : DriverActivity → List ℕ → ℕ
-left block front = length block.buffer - lengths block.buffer front
+left activity front = length activity.buffer - lengths activity.buffer front
 
 -- where the record after the one at a place begins
 abbrev after : DriverActivity → ℕ → ℕ
-after block place = wrapped block.buffer (place + length_at block.buffer place)
+after activity place = wrapped activity.buffer (place + length_at activity.buffer place)
 
 -- a chain ends at the newest record, or at one with a fault
 abbrev Ends : DriverActivity → List ℕ → ℕ → Type 0
-Ends block front last = (last ≡ block.newest) ⊎ IsErr (read_after block front last)
+Ends activity front last = (last ≡ activity.newest) ⊎ IsErr (read_after activity front last)
 
 -- from a place behind a front the chain goes on through these places, and ends there
 abbrev Goes : DriverActivity → List ℕ → ℕ → List ℕ → Type 0
-Goes block front place [] = Ends block front place
-Goes block front place (next ∷ rest) = (place ≢ block.newest) × IsOk (read_after block front place) × (next ≡ after block place) × Goes block (front ++ place ∷ []) next rest
+Goes activity front place [] = Ends activity front place
+Goes activity front place (next ∷ rest) = (place ≢ activity.newest) × IsOk (read_after activity front place) × (next ≡ after activity place) × Goes activity (front ++ place ∷ []) next rest
 
 -- a front is longer by its last record
 lengths_more : (buffer front : List ℕ) (place : ℕ) → lengths buffer (front ++ place ∷ []) ≡ lengths buffer front + length_at buffer place
@@ -32,8 +32,8 @@ lengths_more buffer [] place = omega arith
 lengths_more buffer (x ∷ xs) place = let more = lengths_more buffer xs place in omega (arith, more)
 
 -- so it leaves less
-left_more : (block : DriverActivity) (front : List ℕ) (place : ℕ) → left block (front ++ place ∷ []) ≡ left block front - length_at block.buffer place
-left_more block front place = let more = lengths_more block.buffer front place in omega (arith, more)
+left_more : (activity : DriverActivity) (front : List ℕ) (place : ℕ) → left activity (front ++ place ∷ []) ≡ left activity front - length_at activity.buffer place
+left_more activity front place = let more = lengths_more activity.buffer front place in omega (arith, more)
 
 -- two places are the same or not
 same_place : (a b : ℕ) → (a ≡ b) ⊎ (a ≢ b)
@@ -46,55 +46,55 @@ same_place a b = go (a == b) refl where
 
 -- the recursion from a place behind a front
 abbrev from : DriverActivity → List ℕ → ℕ → List (Result DailyRecord CardFault)
-from block front place = chain_from (left block front + 1) block.buffer block.newest place (left block front)
+from activity front place = chain_from (left activity front + 1) activity.buffer activity.newest place (left activity front)
 
 -- the last record, or the fault
-read_last : (block : DriverActivity) (front : List ℕ) (place : ℕ) (r : Result DailyRecord CardFault) → read_after block front place ≡ r → (place ≡ block.newest) ⊎ IsErr r → r ∷ [] ≡ from block front place
-read_last block front place (Err fault) e h = sym (chain_fault block.buffer block.newest place (left block front) fault e)
-read_last block front place (Ok r) e (inl h) = sym (chain_last block.buffer block.newest place (left block front) r e h)
-read_last block front place (Ok r) e (inr h) = cc
+read_last : (activity : DriverActivity) (front : List ℕ) (place : ℕ) (r : Result DailyRecord CardFault) → read_after activity front place ≡ r → (place ≡ activity.newest) ⊎ IsErr r → r ∷ [] ≡ from activity front place
+read_last activity front place (Err fault) e h = sym (chain_fault activity.buffer activity.newest place (left activity front) fault e)
+read_last activity front place (Ok r) e (inl h) = sym (chain_last activity.buffer activity.newest place (left activity front) r e h)
+read_last activity front place (Ok r) e (inr h) = cc
 
 -- a record before others
-read_more : (block : DriverActivity) (front : List ℕ) (place : ℕ) (r : Result DailyRecord CardFault) → read_after block front place ≡ r → IsOk r → (place ≢ block.newest) → r ∷ from block (front ++ place ∷ []) (after block place) ≡ from block front place
-read_more block front place (Err fault) e h other = cc
-read_more block front place (Ok r) e h other =
-    ap (λ n. Ok r ∷ chain_from (n + 1) block.buffer block.newest (after block place) n) (left_more block front place)
-    ∙ sym (chain_more block.buffer block.newest place (left block front) r e other)
+read_more : (activity : DriverActivity) (front : List ℕ) (place : ℕ) (r : Result DailyRecord CardFault) → read_after activity front place ≡ r → IsOk r → (place ≢ activity.newest) → r ∷ from activity (front ++ place ∷ []) (after activity place) ≡ from activity front place
+read_more activity front place (Err fault) e h other = cc
+read_more activity front place (Ok r) e h other =
+    ap (λ n. Ok r ∷ chain_from (n + 1) activity.buffer activity.newest (after activity place) n) (left_more activity front place)
+    ∙ sym (chain_more activity.buffer activity.newest place (left activity front) r e other)
 
 -- what is read of steps is what the recursion gives
-read_steps : (block : DriverActivity) (front : List ℕ) (place : ℕ) (rest : List ℕ) → Goes block front place rest → readings block front (place ∷ rest) ≡ from block front place
-read_steps block front place [] h = read_last block front place (read_after block front place) refl h
-read_steps block front place (next ∷ rest) h =
-    let others = read_steps block (front ++ place ∷ []) next rest h.3 in
-    ap (λ xs. read_after block front place ∷ xs) (others ∙ ap (λ n. from block (front ++ place ∷ []) n) h.2)
-    ∙ read_more block front place (read_after block front place) refl h.1 h.0
+read_steps : (activity : DriverActivity) (front : List ℕ) (place : ℕ) (rest : List ℕ) → Goes activity front place rest → readings activity front (place ∷ rest) ≡ from activity front place
+read_steps activity front place [] h = read_last activity front place (read_after activity front place) refl h
+read_steps activity front place (next ∷ rest) h =
+    let others = read_steps activity (front ++ place ∷ []) next rest h.3 in
+    ap (λ xs. read_after activity front place ∷ xs) (others ∙ ap (λ n. from activity (front ++ place ∷ []) n) h.2)
+    ∙ read_more activity front place (read_after activity front place) refl h.1 h.0
 
 -- ---- there are steps from each place
 
 -- the rest of the steps from a place
 abbrev Steps : DriverActivity → List ℕ → ℕ → Type 0
-Steps block front place = (rest : List ℕ) × Goes block front place rest
+Steps activity front place = (rest : List ℕ) × Goes activity front place rest
 
 -- a record that is read leaves less
-less : (block : DriverActivity) (front : List ℕ) (place : ℕ) (r : DailyRecord) → read_after block front place ≡ Ok r → left block (front ++ place ∷ []) < left block front
-less block front place r e =
-    let len = read_length block.buffer place (left block front) r e in
-    let more = left_more block front place in
+less : (activity : DriverActivity) (front : List ℕ) (place : ℕ) (r : DailyRecord) → read_after activity front place ≡ Ok r → left activity (front ++ place ∷ []) < left activity front
+less activity front place r e =
+    let len = read_length activity.buffer place (left activity front) r e in
+    let more = left_more activity front place in
     omega (arith, len.0, len.1, more)
 
 -- a place ends the chain, or others follow where less is left
-one_step : (block : DriverActivity) (front : List ℕ) (place : ℕ) → (left block (front ++ place ∷ []) < left block front → Steps block (front ++ place ∷ []) (after block place)) → Steps block front place
-one_step block front place more = go (read_after block front place) refl (same_place place block.newest) where
-  go : (r : Result DailyRecord CardFault) → read_after block front place ≡ r → (place ≡ block.newest) ⊎ (place ≢ block.newest) → Steps block front place
+one_step : (activity : DriverActivity) (front : List ℕ) (place : ℕ) → (left activity (front ++ place ∷ []) < left activity front → Steps activity (front ++ place ∷ []) (after activity place)) → Steps activity front place
+one_step activity front place more = go (read_after activity front place) refl (same_place place activity.newest) where
+  go : (r : Result DailyRecord CardFault) → read_after activity front place ≡ r → (place ≡ activity.newest) ⊎ (place ≢ activity.newest) → Steps activity front place
   go (Err fault) e d = ([], inr (ap is_err e))
   go (Ok r) e (inl d) = ([], inl d)
-  go (Ok r) e (inr d) = let others = more (less block front place r e) in (after block place ∷ others.0, (d, ap is_ok e, refl, others.1))
+  go (Ok r) e (inr d) = let others = more (less activity front place r e) in (after activity place ∷ others.0, (d, ap is_ok e, refl, others.1))
 
 -- more fuel than bytes are left is enough for the steps from a place
-steps : (fuel : ℕ) (block : DriverActivity) (front : List ℕ) (place : ℕ) → left block front < fuel → Steps block front place
-steps zero block front place h = absurd (omega arith)
-steps (suc fuel) block front place h =
-    one_step block front place (λ l. steps fuel block (front ++ place ∷ []) (after block place) (omega (arith, h, l)))
+steps : (fuel : ℕ) (activity : DriverActivity) (front : List ℕ) (place : ℕ) → left activity front < fuel → Steps activity front place
+steps zero activity front place h = absurd (omega arith)
+steps (suc fuel) activity front place h =
+    one_step activity front place (λ l. steps fuel activity (front ++ place ∷ []) (after activity place) (omega (arith, h, l)))
 
 -- ---- steps are places
 
@@ -124,81 +124,81 @@ lasts (x ∷ xs) (y ∷ ys) a b h =
 
 -- what is known of a place that another follows
 abbrev Follows : DriverActivity → List ℕ → ℕ → ℕ → Type 0
-Follows block front place next = (place ≢ block.newest) × IsOk (read_after block front place) × (next ≡ after block place)
+Follows activity front place next = (place ≢ activity.newest) × IsOk (read_after activity front place) × (next ≡ after activity place)
 
 -- steps go from each place to the next
-goes_follows : (block : DriverActivity) (before : List ℕ) (start : ℕ) (others : List ℕ) → Goes block before start others → (front rest : List ℕ) (place next : ℕ) → start ∷ others ≡ front ++ place ∷ next ∷ rest → Follows block (before ++ front) place next
-goes_follows block before start [] h [] rest place next e = cc
-goes_follows block before start [] h (x ∷ []) rest place next e = cc
-goes_follows block before start [] h (x ∷ y ∷ front) rest place next e = cc
-goes_follows block before start (n ∷ others) h [] rest place next e =
+goes_follows : (activity : DriverActivity) (before : List ℕ) (start : ℕ) (others : List ℕ) → Goes activity before start others → (front rest : List ℕ) (place next : ℕ) → start ∷ others ≡ front ++ place ∷ next ∷ rest → Follows activity (before ++ front) place next
+goes_follows activity before start [] h [] rest place next e = cc
+goes_follows activity before start [] h (x ∷ []) rest place next e = cc
+goes_follows activity before start [] h (x ∷ y ∷ front) rest place next e = cc
+goes_follows activity before start (n ∷ others) h [] rest place next e =
     let one : start ≡ place = heads start place _ _ e in
     let two : n ≡ next = heads n next _ _ (tails start place _ _ e) in
-    subst (λ (p : ℕ). Follows block (before ++ []) p next) one
-    (subst (λ (p : ℕ). Follows block (before ++ []) start p) two
-    (subst (λ (f : List ℕ). Follows block f start n) (sym (append-nil before)) (h.0, h.1, h.2)))
-goes_follows block before start (n ∷ others) h (x ∷ front) rest place next e =
+    subst (λ (p : ℕ). Follows activity (before ++ []) p next) one
+    (subst (λ (p : ℕ). Follows activity (before ++ []) start p) two
+    (subst (λ (f : List ℕ). Follows activity f start n) (sym (append-nil before)) (h.0, h.1, h.2)))
+goes_follows activity before start (n ∷ others) h (x ∷ front) rest place next e =
     let one : start ≡ x = heads start x _ _ e in
-    let more = goes_follows block (before ++ start ∷ []) n others h.3 front rest place next (tails start x _ _ e) in
-    subst (λ (f : List ℕ). Follows block f place next) (sym (moved before start front) ∙ ap (λ (p : ℕ). before ++ p ∷ front) one) more
+    let more = goes_follows activity (before ++ start ∷ []) n others h.3 front rest place next (tails start x _ _ e) in
+    subst (λ (f : List ℕ). Follows activity f place next) (sym (moved before start front) ∙ ap (λ (p : ℕ). before ++ p ∷ front) one) more
 
 -- steps end at a last place
-goes_ends : (block : DriverActivity) (before : List ℕ) (start : ℕ) (others : List ℕ) → Goes block before start others → (front : List ℕ) × (last : ℕ) × (start ∷ others ≡ front ++ last ∷ []) × Ends block (before ++ front) last
-goes_ends block before start [] h = ([], start, refl, subst (λ (f : List ℕ). Ends block f start) (sym (append-nil before)) h)
-goes_ends block before start (n ∷ others) h =
-    let more = goes_ends block (before ++ start ∷ []) n others h.3 in
-    (start ∷ more.0, more.1, ap (λ xs. start ∷ xs) more.2, subst (λ (f : List ℕ). Ends block f more.1) (sym (moved before start more.0)) more.3)
+goes_ends : (activity : DriverActivity) (before : List ℕ) (start : ℕ) (others : List ℕ) → Goes activity before start others → (front : List ℕ) × (last : ℕ) × (start ∷ others ≡ front ++ last ∷ []) × Ends activity (before ++ front) last
+goes_ends activity before start [] h = ([], start, refl, subst (λ (f : List ℕ). Ends activity f start) (sym (append-nil before)) h)
+goes_ends activity before start (n ∷ others) h =
+    let more = goes_ends activity (before ++ start ∷ []) n others h.3 in
+    (start ∷ more.0, more.1, ap (λ xs. start ∷ xs) more.2, subst (λ (f : List ℕ). Ends activity f more.1) (sym (moved before start more.0)) more.3)
 
 -- places that end are steps
-ends_goes : (block : DriverActivity) (front : List ℕ) (last : ℕ) → IsFront block (front ++ last ∷ []) → Ends block front last → (before : List ℕ) (place : ℕ) (rest : List ℕ) → front ++ last ∷ [] ≡ before ++ place ∷ rest → Goes block before place rest
-ends_goes block front last whole ends before place [] e =
+ends_goes : (activity : DriverActivity) (front : List ℕ) (last : ℕ) → IsFront activity (front ++ last ∷ []) → Ends activity front last → (before : List ℕ) (place : ℕ) (rest : List ℕ) → front ++ last ∷ [] ≡ before ++ place ∷ rest → Goes activity before place rest
+ends_goes activity front last whole ends before place [] e =
     let same = lasts front before last place e in
-    subst (λ (p : ℕ). Ends block before p) same.1 (subst (λ (f : List ℕ). Ends block f last) same.0 ends)
-ends_goes block front last whole ends before place (next ∷ rest) e =
+    subst (λ (p : ℕ). Ends activity before p) same.1 (subst (λ (f : List ℕ). Ends activity f last) same.0 ends)
+ends_goes activity front last whole ends before place (next ∷ rest) e =
     let here = whole.goes_on before rest place next e in
-    (here.0, here.1, here.2, ends_goes block front last whole ends (before ++ place ∷ []) next rest (e ∙ moved before place (next ∷ rest)))
+    (here.0, here.1, here.2, ends_goes activity front last whole ends (before ++ place ∷ []) next rest (e ∙ moved before place (next ∷ rest)))
 
 -- ---- the law
 
 -- the recursion from the oldest record on is the chain, where there are records
-from_oldest : (block : DriverActivity) → is_empty block ≡ false → from block [] block.oldest ≡ chain block
-from_oldest block h =
-    let size : length block.buffer - 0 ≡ length block.buffer = omega arith in
-    let fuel : length block.buffer + 1 ≡ suc (length block.buffer) = omega arith in
-    ap (λ n. chain_from (n + 1) block.buffer block.newest block.oldest n) size
-    ∙ ap (λ n. chain_from n block.buffer block.newest block.oldest (length block.buffer)) fuel
-    ∙ ap (λ b. cond b [] (chain_from (suc (length block.buffer)) block.buffer block.newest block.oldest (length block.buffer))) (sym h)
+from_oldest : (activity : DriverActivity) → is_empty activity ≡ false → from activity [] activity.oldest ≡ chain activity
+from_oldest activity h =
+    let size : length activity.buffer - 0 ≡ length activity.buffer = omega arith in
+    let fuel : length activity.buffer + 1 ≡ suc (length activity.buffer) = omega arith in
+    ap (λ n. chain_from (n + 1) activity.buffer activity.newest activity.oldest n) size
+    ∙ ap (λ n. chain_from n activity.buffer activity.newest activity.oldest (length activity.buffer)) fuel
+    ∙ ap (λ b. cond b [] (chain_from (suc (length activity.buffer)) activity.buffer activity.newest activity.oldest (length activity.buffer))) (sym h)
 
 -- what is read of places that end is the chain
-ends_chain : (block : DriverActivity) (front : List ℕ) (last : ℕ) (items : List (Result DailyRecord CardFault)) → is_empty block ≡ false → EndsChain block front last items → items ≡ chain block
-ends_chain block front last items some h =
+ends_chain : (activity : DriverActivity) (front : List ℕ) (last : ℕ) (items : List (Result DailyRecord CardFault)) → is_empty activity ≡ false → EndsChain activity front last items → items ≡ chain activity
+ends_chain activity front last items some h =
     let rest = h.whole.begins in
-    let goes = ends_goes block front last h.whole h.ends [] block.oldest rest.0 rest.1 in
-    h.read ∙ ap (λ places. readings block [] places) rest.1 ∙ read_steps block [] block.oldest rest.0 goes ∙ from_oldest block some
+    let goes = ends_goes activity front last h.whole h.ends [] activity.oldest rest.0 rest.1 in
+    h.read ∙ ap (λ places. readings activity [] places) rest.1 ∙ read_steps activity [] activity.oldest rest.0 goes ∙ from_oldest activity some
 
 -- steps from the oldest record on are the front of a chain that ends
-goes_chain : (block : DriverActivity) (others : List ℕ) → Goes block [] block.oldest others → (front : List ℕ) × (last : ℕ) × EndsChain block front last (readings block [] (block.oldest ∷ others))
-goes_chain block others h =
-    let ends = goes_ends block [] block.oldest others h in (
+goes_chain : (activity : DriverActivity) (others : List ℕ) → Goes activity [] activity.oldest others → (front : List ℕ) × (last : ℕ) × EndsChain activity front last (readings activity [] (activity.oldest ∷ others))
+goes_chain activity others h =
+    let ends = goes_ends activity [] activity.oldest others h in (
       ends.0,
       ends.1,
       record {
         whole = record {
           begins = (others, sym ends.2);
-          goes_on = λ front rest place next e. goes_follows block [] block.oldest others h front rest place next (ends.2 ∙ e);
+          goes_on = λ front rest place next e. goes_follows activity [] activity.oldest others h front rest place next (ends.2 ∙ e);
         };
         ends = ends.3;
-        read = ap (λ places. readings block [] places) ends.2;
+        read = ap (λ places. readings activity [] places) ends.2;
       },
     )
 
 -- the chain ends somewhere
-chain_ends : (block : DriverActivity) → is_empty block ≡ false → (front : List ℕ) × (last : ℕ) × EndsChain block front last (chain block)
-chain_ends block some =
-    let rest = steps (left block [] + 1) block [] block.oldest (omega arith) in
-    let made = goes_chain block rest.0 rest.1 in
-    let same = read_steps block [] block.oldest rest.0 rest.1 ∙ from_oldest block some in
-    (made.0, made.1, subst (λ (items : List (Result DailyRecord CardFault)). EndsChain block made.0 made.1 items) same made.2)
+chain_ends : (activity : DriverActivity) → is_empty activity ≡ false → (front : List ℕ) × (last : ℕ) × EndsChain activity front last (chain activity)
+chain_ends activity some =
+    let rest = steps (left activity [] + 1) activity [] activity.oldest (omega arith) in
+    let made = goes_chain activity rest.0 rest.1 in
+    let same = read_steps activity [] activity.oldest rest.0 rest.1 ∙ from_oldest activity some in
+    (made.0, made.1, subst (λ (items : List (Result DailyRecord CardFault)). EndsChain activity made.0 made.1 items) same made.2)
 
 -- a test that is not true is false
 not_true : (b : Bool) → (b ≢ true) → b ≡ false
@@ -206,17 +206,17 @@ not_true true h = absurd (h refl)
 not_true false h = refl
 
 -- the chain by places is the chain by recursion
-pub by_places : (block : DriverActivity) (items : List (Result DailyRecord CardFault)) → IsChain block items ↔ (items ≡ chain block)
-by_places block items = (there, back (is_empty block) refl) where
-  none : is_empty block ≡ true → [] ≡ chain block
-  none e = ap (λ b. cond b [] (chain_from (suc (length block.buffer)) block.buffer block.newest block.oldest (length block.buffer))) (sym e)
+pub by_places : (activity : DriverActivity) (items : List (Result DailyRecord CardFault)) → IsChain activity items ↔ (items ≡ chain activity)
+by_places activity items = (there, back (is_empty activity) refl) where
+  none : is_empty activity ≡ true → [] ≡ chain activity
+  none e = ap (λ b. cond b [] (chain_from (suc (length activity.buffer)) activity.buffer activity.newest activity.oldest (length activity.buffer))) (sym e)
 
-  there : IsChain block items → items ≡ chain block
+  there : IsChain activity items → items ≡ chain activity
   there (inl h) = h.1 ∙ none h.0
-  there (inr h) = ends_chain block h.1.0 h.1.1 items (not_true _ h.0) h.1.2
+  there (inr h) = ends_chain activity h.1.0 h.1.1 items (not_true _ h.0) h.1.2
 
-  back : (b : Bool) → is_empty block ≡ b → items ≡ chain block → IsChain block items
+  back : (b : Bool) → is_empty activity ≡ b → items ≡ chain activity → IsChain activity items
   back true e h = inl (e, h ∙ sym (none e))
   back false e h =
-      let made = chain_ends block e in
-      inr ((λ t. let no : true ≡ false = sym t ∙ e in cc), (made.0, made.1, subst (λ (xs : List (Result DailyRecord CardFault)). EndsChain block made.0 made.1 xs) (sym h) made.2))
+      let made = chain_ends activity e in
+      inr ((λ t. let no : true ≡ false = sym t ∙ e in cc), (made.0, made.1, subst (λ (xs : List (Result DailyRecord CardFault)). EndsChain activity made.0 made.1 xs) (sym h) made.2))

@@ -8,39 +8,39 @@ use Rattle.tacho_card.specs.declared.fault.CardFault.TheVariants.{SelfContradict
 use Rattle.tacho_card.specs.declared.file.Part.{Part}
 use Rattle.tacho_card.specs.DriverActivity.{DriverActivity}
 use Rattle.tacho_card.specs.Reading.{IsReading, IsFaultOf}
-use Rattle.tacho_card.specs.RawSpans.{with_spans, block_spans}
+use Rattle.tacho_card.specs.RawSpans.{with_spans, activity_spans}
 use Rattle.tacho_card.specs.CardFile.{FileBlock, chosen_activity, those_there, ReadsChosen, ReadsFile}
 use Rattle.tacho_card.proofs.RawLemmas.{only_fault}
-use Rattle.tacho_card.proofs.GivesLemmas.{IsRaw, raw_none, raw_more, block_fault, chain_with, fault_after, raw_reading}
+use Rattle.tacho_card.proofs.GivesLemmas.{IsRaw, raw_none, raw_more, activity_fault, chain_with, fault_after, raw_reading}
 use Rattle.tacho_card.proofs.ReadingLaw.{one_of_data}
 
 -- ---- there is a reading
 
 -- data have a reading
 abbrev HaveReading : List DriverActivity → Type 0
-HaveReading blocks = (reading : Result (List Span) CardFault) × IsReading blocks reading
+HaveReading activities = (reading : Result (List Span) CardFault) × IsReading activities reading
 
 -- a fault of data that is not want of memory is that of their reading
-own_fault : (blocks : List DriverActivity) (m : ℕ) → IsFaultOf blocks (SelfContradiction m) → IsReading blocks (Err (SelfContradiction m))
-own_fault blocks m (inl e) = cc
-own_fault blocks m (inr h) = h
+own_fault : (activities : List DriverActivity) (m : ℕ) → IsFaultOf activities (SelfContradiction m) → IsReading activities (Err (SelfContradiction m))
+own_fault activities m (inl e) = cc
+own_fault activities m (inr h) = h
 
 -- data whose spans are known have a reading
-raw_has : (blocks : List DriverActivity) (raw : List Span) → IsRaw blocks raw → HaveReading blocks
-raw_has blocks raw h = go (list_or_conflict raw) where
-  go : ((runs : List Span) × IsCanonicalOf (Gives raw) runs) ⊎ ((m : ℕ) × IsFirstConflict (Gives raw) m) → HaveReading blocks
-  go (inl c) = (Ok c.0, raw_reading (λ xs. xs) blocks raw (Ok c.0) h c.1)
-  go (inr c) = (Err (SelfContradiction c.0), own_fault blocks c.0 (raw_reading (λ xs. xs) blocks raw (Err (SelfContradiction c.0)) h (inr (c.0, refl, c.1))))
+raw_has : (activities : List DriverActivity) (raw : List Span) → IsRaw activities raw → HaveReading activities
+raw_has activities raw h = go (list_or_conflict raw) where
+  go : ((runs : List Span) × IsCanonicalOf (Gives raw) runs) ⊎ ((m : ℕ) × IsFirstConflict (Gives raw) m) → HaveReading activities
+  go (inl c) = (Ok c.0, raw_reading (λ xs. xs) activities raw (Ok c.0) h c.1)
+  go (inr c) = (Err (SelfContradiction c.0), own_fault activities c.0 (raw_reading (λ xs. xs) activities raw (Err (SelfContradiction c.0)) h (inr (c.0, refl, c.1))))
 
 -- behind data whose spans are known come others
 has_from : (front rest : List DriverActivity) (raw : List Span) → IsRaw front raw → HaveReading (front ++ rest)
 has_from front [] raw h = subst HaveReading (sym (append-nil front)) (raw_has front raw h)
-has_from front (block ∷ rest) raw h = go (with_spans raw (block_spans block)) refl (λ new e. has_from (front ++ block ∷ []) rest new (raw_more front block raw new h e)) where
-  go : (r : Result (List Span) CardFault) → with_spans raw (block_spans block) ≡ r →
-      ((new : List Span) → with_spans raw (block_spans block) ≡ Ok new → HaveReading ((front ++ block ∷ []) ++ rest)) →
-      HaveReading (front ++ block ∷ rest)
-  go (Ok new) e more = subst HaveReading (append_assoc front (block ∷ []) rest) (more new e)
-  go (Err f) e more = (Err f, inl (fault_after front (block ∷ rest) h.0 ∙ chain_with block rest f (block_fault block f (only_fault raw (block_spans block) f e))))
+has_from front (activity ∷ rest) raw h = go (with_spans raw (activity_spans activity)) refl (λ new e. has_from (front ++ activity ∷ []) rest new (raw_more front activity raw new h e)) where
+  go : (r : Result (List Span) CardFault) → with_spans raw (activity_spans activity) ≡ r →
+      ((new : List Span) → with_spans raw (activity_spans activity) ≡ Ok new → HaveReading ((front ++ activity ∷ []) ++ rest)) →
+      HaveReading (front ++ activity ∷ rest)
+  go (Ok new) e more = subst HaveReading (append_assoc front (activity ∷ []) rest) (more new e)
+  go (Err f) e more = (Err f, inl (fault_after front (activity ∷ rest) h.0 ∙ chain_with activity rest f (activity_fault activity f (only_fault raw (activity_spans activity) f e))))
 
 -- the chosen data have a reading
 chosen_has : (chosen : Result (List (Option DriverActivity)) CardFault) → (reading : Result (List Span) CardFault) × ReadsChosen chosen reading

@@ -4,6 +4,7 @@ use Rattle.std.proofs.lemmas.Bool.Decides.{nat_tests}
 use Rattle.std.specs.Result.{IsErr, IsErrAnd}
 use Rattle.tacho_time.specs.declared.span.Span.{Span}
 use Rattle.tacho_time.specs.declared.span.Mark.{Mark}
+use Rattle.tacho_time.specs.OrMemory.{OrMemory}
 use Rattle.tacho_time.specs.Spans.{Gives, SamePairs, IsCanonicalOf, Conflicts, IsFirstConflict}
 use Rattle.tacho_card.specs.declared.fault.CardFault.{CardFault}
 use Rattle.tacho_card.specs.declared.fault.CardFault.TheVariants.{SelfContradiction, Memory}
@@ -11,8 +12,8 @@ use Rattle.tacho_card.specs.ActivityChangeInfo.{time_of, mark_of}
 use Rattle.tacho_card.specs.DriverActivity.{DriverActivity, wrapped}
 use Rattle.tacho_card.specs.DailyRecord.{DailyRecord, is_length, is_read_day, length_at, day_at, word_at, words_fault, fault_or, record_at}
 use Rattle.tacho_card.specs.Chain.{is_empty, followed_by, chain_from, chain, fault_of}
-use Rattle.tacho_card.specs.Reading.{word_minute, RecordGives, ItemsGive, BlocksGive, chains_fault, IsReading, IsFaultOf}
-use Rattle.tacho_card.specs.RawSpans.{marked, closed_mark, word_past, words_spans, record_spans, with_spans, items_spans, block_spans, Fails}
+use Rattle.tacho_card.specs.Reading.{word_minute, RecordGives, ItemsGive, ActivitiesGive, chains_fault, IsReading, IsFaultOf}
+use Rattle.tacho_card.specs.RawSpans.{marked, closed_mark, word_past, words_spans, record_spans, with_spans, items_spans, activity_spans}
 use Rattle.tacho_card.proofs.RawLemmas.{unless_zero, only_fault}
 
 -- ---- the words of a record
@@ -260,8 +261,8 @@ from_sound zero b n p l = tt
 from_sound (suc fuel) b n p l = followed_sound (record_at b p l) _ (λ r e. read_sound b p l r e) (unless_sound (p == n) _ (from_sound fuel b n (wrapped b (p + length_at b p)) (l - length_at b p)))
 
 -- no record of a chain has a word with a fault
-chain_sound : (block : DriverActivity) → AllSound (chain block)
-chain_sound block = unless_sound (is_empty block) _ (from_sound (suc (length block.buffer)) block.buffer block.newest block.oldest (length block.buffer))
+chain_sound : (activity : DriverActivity) → AllSound (chain activity)
+chain_sound activity = unless_sound (is_empty activity) _ (from_sound (suc (length activity.buffer)) activity.buffer activity.newest activity.oldest (length activity.buffer))
 
 -- ---- what chains give
 
@@ -295,95 +296,95 @@ items_fault newest (Err g ∷ items) f h = let e : g ≡ f = cc in ap Some e
 items_fault newest (Ok r ∷ items) f h = items_fault newest items f (only_fault (record_spans (r.place == newest) r) (items_spans newest items) f h)
 
 -- data with spans have no fault, and the spans give what their records give
-pub block_gives : (block : DriverActivity) (own : List Span) → block_spans block ≡ Ok own → (fault_of (chain block) ≡ None) × SamePairs (Gives own) (ItemsGive block.newest (chain block))
-block_gives block own h = items_give block.newest (chain block) own (chain_sound block) h
+pub activity_gives : (activity : DriverActivity) (own : List Span) → activity_spans activity ≡ Ok own → (fault_of (chain activity) ≡ None) × SamePairs (Gives own) (ItemsGive activity.newest (chain activity))
+activity_gives activity own h = items_give activity.newest (chain activity) own (chain_sound activity) h
 
 -- data without spans have a fault
-pub block_fault : (block : DriverActivity) (f : CardFault) → block_spans block ≡ Err f → fault_of (chain block) ≡ Some f
-block_fault block f h = items_fault block.newest (chain block) f h
+pub activity_fault : (activity : DriverActivity) (f : CardFault) → activity_spans activity ≡ Err f → fault_of (chain activity) ≡ Some f
+activity_fault activity f h = items_fault activity.newest (chain activity) f h
 
 -- ---- what several data give, one after the other
 
 -- data without a fault, and spans that give what they give
 abbrev pub IsRaw : List DriverActivity → List Span → Type 0
-IsRaw blocks raw = (chains_fault blocks ≡ None) × SamePairs (Gives raw) (BlocksGive blocks)
+IsRaw activities raw = (chains_fault activities ≡ None) × SamePairs (Gives raw) (ActivitiesGive activities)
 
 -- no data give nothing
 pub raw_none : IsRaw [] []
 raw_none = (refl, λ m k. (λ g. g, λ g. g))
 
 -- the first fault, where the first data have none
-chain_without : (block : DriverActivity) (more : List DriverActivity) → fault_of (chain block) ≡ None → chains_fault (block ∷ more) ≡ chains_fault more
-chain_without block more h = rw h refl
+chain_without : (activity : DriverActivity) (more : List DriverActivity) → fault_of (chain activity) ≡ None → chains_fault (activity ∷ more) ≡ chains_fault more
+chain_without activity more h = rw h refl
 
 -- the first fault, where the first data have one
-pub chain_with : (block : DriverActivity) (more : List DriverActivity) (f : CardFault) → fault_of (chain block) ≡ Some f → chains_fault (block ∷ more) ≡ Some f
-chain_with block more f h = rw h refl
+pub chain_with : (activity : DriverActivity) (more : List DriverActivity) (f : CardFault) → fault_of (chain activity) ≡ Some f → chains_fault (activity ∷ more) ≡ Some f
+chain_with activity more f h = rw h refl
 
 -- the first of data without a fault has none
-first_without : (block : DriverActivity) (more : List DriverActivity) → chains_fault (block ∷ more) ≡ None → fault_of (chain block) ≡ None
-first_without block more h = go (fault_of (chain block)) refl where
-  go : (o : Option CardFault) → fault_of (chain block) ≡ o → fault_of (chain block) ≡ None
+first_without : (activity : DriverActivity) (more : List DriverActivity) → chains_fault (activity ∷ more) ≡ None → fault_of (chain activity) ≡ None
+first_without activity more h = go (fault_of (chain activity)) refl where
+  go : (o : Option CardFault) → fault_of (chain activity) ≡ o → fault_of (chain activity) ≡ None
   go None e = e
-  go (Some f) e = let wrong = sym (chain_with block more f e) ∙ h in cc
+  go (Some f) e = let wrong = sym (chain_with activity more f e) ∙ h in cc
 
 -- behind data without a fault, the fault is that of the others
-pub fault_after : (blocks more : List DriverActivity) → chains_fault blocks ≡ None → chains_fault (blocks ++ more) ≡ chains_fault more
+pub fault_after : (activities more : List DriverActivity) → chains_fault activities ≡ None → chains_fault (activities ++ more) ≡ chains_fault more
 fault_after [] more h = refl
-fault_after (block ∷ blocks) more h =
-    let none = first_without block blocks h in
-    chain_without block (blocks ++ more) none ∙ fault_after blocks more (sym (chain_without block blocks none) ∙ h)
+fault_after (activity ∷ activities) more h =
+    let none = first_without activity activities h in
+    chain_without activity (activities ++ more) none ∙ fault_after activities more (sym (chain_without activity activities none) ∙ h)
 
 -- what data give, they give with others behind them
-blocks_first : (blocks more : List DriverActivity) (m : ℕ) (k : Mark) → BlocksGive blocks m k → BlocksGive (blocks ++ more) m k
-blocks_first [] more m k g = absurd g
-blocks_first (block ∷ blocks) more m k (inl g) = inl g
-blocks_first (block ∷ blocks) more m k (inr g) = inr (blocks_first blocks more m k g)
+activities_first : (activities more : List DriverActivity) (m : ℕ) (k : Mark) → ActivitiesGive activities m k → ActivitiesGive (activities ++ more) m k
+activities_first [] more m k g = absurd g
+activities_first (activity ∷ activities) more m k (inl g) = inl g
+activities_first (activity ∷ activities) more m k (inr g) = inr (activities_first activities more m k g)
 
 -- what data give, they give with others before them
-blocks_last : (blocks more : List DriverActivity) (m : ℕ) (k : Mark) → BlocksGive more m k → BlocksGive (blocks ++ more) m k
-blocks_last [] more m k g = g
-blocks_last (block ∷ blocks) more m k g = inr (blocks_last blocks more m k g)
+activities_last : (activities more : List DriverActivity) (m : ℕ) (k : Mark) → ActivitiesGive more m k → ActivitiesGive (activities ++ more) m k
+activities_last [] more m k g = g
+activities_last (activity ∷ activities) more m k g = inr (activities_last activities more m k g)
 
 -- what data and others give, the data or the others give
-blocks_either : (blocks more : List DriverActivity) (m : ℕ) (k : Mark) → BlocksGive (blocks ++ more) m k → BlocksGive blocks m k ⊎ BlocksGive more m k
-blocks_either [] more m k g = inr g
-blocks_either (block ∷ blocks) more m k (inl g) = inl (inl g)
-blocks_either (block ∷ blocks) more m k (inr g) = go (blocks_either blocks more m k g) where
-  go : BlocksGive blocks m k ⊎ BlocksGive more m k → BlocksGive (block ∷ blocks) m k ⊎ BlocksGive more m k
+activities_either : (activities more : List DriverActivity) (m : ℕ) (k : Mark) → ActivitiesGive (activities ++ more) m k → ActivitiesGive activities m k ⊎ ActivitiesGive more m k
+activities_either [] more m k g = inr g
+activities_either (activity ∷ activities) more m k (inl g) = inl (inl g)
+activities_either (activity ∷ activities) more m k (inr g) = go (activities_either activities more m k g) where
+  go : ActivitiesGive activities m k ⊎ ActivitiesGive more m k → ActivitiesGive (activity ∷ activities) m k ⊎ ActivitiesGive more m k
   go (inl h) = inl (inr h)
   go (inr h) = inr h
 
 -- with the spans of further data behind them, spans give what all these data give
-pub raw_more : (blocks : List DriverActivity) (block : DriverActivity) (raw new : List Span) → IsRaw blocks raw → with_spans raw (block_spans block) ≡ Ok new → IsRaw (blocks ++ block ∷ []) new
-raw_more blocks block raw new h e =
-    let parts = with_ok raw new (block_spans block) e in
-    let own = block_gives block parts.0 parts.1 in (
-      fault_after blocks (block ∷ []) h.0 ∙ chain_without block [] own.0,
+pub raw_more : (activities : List DriverActivity) (activity : DriverActivity) (raw new : List Span) → IsRaw activities raw → with_spans raw (activity_spans activity) ≡ Ok new → IsRaw (activities ++ activity ∷ []) new
+raw_more activities activity raw new h e =
+    let parts = with_ok raw new (activity_spans activity) e in
+    let own = activity_gives activity parts.0 parts.1 in (
+      fault_after activities (activity ∷ []) h.0 ∙ chain_without activity [] own.0,
       λ m k. (
         λ g. there m k parts.0 (own.1 m k).0 (gives_either raw parts.0 m k (subst (λ (x : List Span). Gives x m k) parts.2 g)),
-        λ g. subst (λ (x : List Span). Gives x m k) (sym parts.2) (back m k parts.0 (own.1 m k).1 (blocks_either blocks (block ∷ []) m k g)),
+        λ g. subst (λ (x : List Span). Gives x m k) (sym parts.2) (back m k parts.0 (own.1 m k).1 (activities_either activities (activity ∷ []) m k g)),
       ),
     ) where
-      there : (m : ℕ) (k : Mark) (own : List Span) → (Gives own m k → ItemsGive block.newest (chain block) m k) → Gives raw m k ⊎ Gives own m k → BlocksGive (blocks ++ block ∷ []) m k
-      there m k own same (inl g) = blocks_first blocks (block ∷ []) m k ((h.1 m k).0 g)
-      there m k own same (inr g) = blocks_last blocks (block ∷ []) m k (inl (same g))
+      there : (m : ℕ) (k : Mark) (own : List Span) → (Gives own m k → ItemsGive activity.newest (chain activity) m k) → Gives raw m k ⊎ Gives own m k → ActivitiesGive (activities ++ activity ∷ []) m k
+      there m k own same (inl g) = activities_first activities (activity ∷ []) m k ((h.1 m k).0 g)
+      there m k own same (inr g) = activities_last activities (activity ∷ []) m k (inl (same g))
 
-      back : (m : ℕ) (k : Mark) (own : List Span) → (ItemsGive block.newest (chain block) m k → Gives own m k) → BlocksGive blocks m k ⊎ BlocksGive (block ∷ []) m k → Gives (raw ++ own) m k
+      back : (m : ℕ) (k : Mark) (own : List Span) → (ItemsGive activity.newest (chain activity) m k → Gives own m k) → ActivitiesGive activities m k ⊎ ActivitiesGive (activity ∷ []) m k → Gives (raw ++ own) m k
       back m k own same (inl g) = gives_first raw own m k ((h.1 m k).1 g)
       back m k own same (inr (inl g)) = gives_last raw own m k (same g)
       back m k own same (inr (inr g)) = absurd g
 
 -- a fault of further data, or want of memory, is that of all the data and of those behind them
-pub raw_fault : (blocks : List DriverActivity) (block : DriverActivity) (more : List DriverActivity) (raw : List Span) (f : CardFault) → IsRaw blocks raw → Fails f (block_spans block) → IsFaultOf (blocks ++ block ∷ more) f
-raw_fault blocks block more raw f h (inl e) = inl e
-raw_fault blocks block more raw f h (inr e) = inr (inl (fault_after blocks (block ∷ more) h.0 ∙ chain_with block more f (block_fault block f e)))
+pub raw_fault : (activities : List DriverActivity) (activity : DriverActivity) (more : List DriverActivity) (raw : List Span) (f : CardFault) → IsRaw activities raw → OrMemory Memory f (activity_spans activity ≡ Err f) → IsFaultOf (activities ++ activity ∷ more) f
+raw_fault activities activity more raw f h (inl e) = inl e
+raw_fault activities activity more raw f h (inr e) = inr (inl (fault_after activities (activity ∷ more) h.0 ∙ chain_with activity more f (activity_fault activity f e)))
 
 -- ---- the reading of data
 
 -- the first minute to which spans give two marks, or want of memory
 abbrev pub IsConflictOf : List Span → CardFault → Type 0
-IsConflictOf spans fault = (fault ≡ Memory) ⊎ ((m : ℕ) × (fault ≡ SelfContradiction m) × IsFirstConflict (Gives spans) m)
+IsConflictOf spans fault = OrMemory Memory fault ((m : ℕ) × (fault ≡ SelfContradiction m) × IsFirstConflict (Gives spans) m)
 
 -- that two sets have the same pairs can be read from either side
 pairs_sym : (P Q : ℕ → Mark → Type 0) → SamePairs P Q → SamePairs Q P
@@ -402,12 +403,12 @@ pairs_first : (P Q : ℕ → Mark → Type 0) (m : ℕ) → SamePairs P Q → Is
 pairs_first P Q m f c = (pairs_conflict P Q m f c.0, λ n l d. c.1 n l (pairs_conflict Q P n (pairs_sym P Q f) d))
 
 -- the canonical list of what data give is their reading
-pub raw_reading : {V : Type 0} (items : V → List Span) (blocks : List DriverActivity) (raw : List Span) (result : Result V CardFault) → IsRaw blocks raw → MatchResult result (λ runs. IsCanonicalOf (Gives raw) (items runs)) (IsConflictOf raw) → MatchResult result (λ runs. IsReading blocks (Ok (items runs))) (IsFaultOf blocks)
-raw_reading items blocks raw (Ok v) h e = (h.0, record { canonical = e.canonical; same = pairs_trans (Gives (items v)) (Gives raw) (BlocksGive blocks) e.same h.1 })
-raw_reading items blocks raw (Err f) h (inl e) = inl e
-raw_reading items blocks raw (Err f) h (inr c) = inr (inr (h.0, (c.0, c.1, pairs_first (Gives raw) (BlocksGive blocks) c.0 h.1 c.2)))
+pub raw_reading : {V : Type 0} (items : V → List Span) (activities : List DriverActivity) (raw : List Span) (result : Result V CardFault) → IsRaw activities raw → MatchResult result (λ runs. IsCanonicalOf (Gives raw) (items runs)) (IsConflictOf raw) → MatchResult result (λ runs. IsReading activities (Ok (items runs))) (IsFaultOf activities)
+raw_reading items activities raw (Ok v) h e = (h.0, record { canonical = e.canonical; same = pairs_trans (Gives (items v)) (Gives raw) (ActivitiesGive activities) e.same h.1 })
+raw_reading items activities raw (Err f) h (inl e) = inl e
+raw_reading items activities raw (Err f) h (inr c) = inr (inr (h.0, (c.0, c.1, pairs_first (Gives raw) (ActivitiesGive activities) c.0 h.1 c.2)))
 
 -- a fault of the data that a `?` hands on is that of their reading
-pub raw_failure : {V : Type 0} (items : V → List Span) (blocks : List DriverActivity) (fault : CardFault) (result : Result V CardFault) → IsFaultOf blocks fault → IsErr result × IsErrAnd result (λ found. found ≡ fault) → MatchResult result (λ runs. IsReading blocks (Ok (items runs))) (IsFaultOf blocks)
-raw_failure items blocks fault (Ok v) h e = let wrong = e.0 in cc
-raw_failure items blocks fault (Err f) h e = subst (IsFaultOf blocks) (sym e.1) h
+pub raw_failure : {V : Type 0} (items : V → List Span) (activities : List DriverActivity) (fault : CardFault) (result : Result V CardFault) → IsFaultOf activities fault → IsErr result × IsErrAnd result (λ found. found ≡ fault) → MatchResult result (λ runs. IsReading activities (Ok (items runs))) (IsFaultOf activities)
+raw_failure items activities fault (Ok v) h e = let wrong = e.0 in cc
+raw_failure items activities fault (Err f) h e = subst (IsFaultOf activities) (sym e.1) h

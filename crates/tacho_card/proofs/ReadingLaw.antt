@@ -7,7 +7,7 @@ use Rattle.tacho_time.proofs.CanonicalLemmas.{later, lt_or_le, canonical_starts,
 use Rattle.tacho_card.specs.declared.fault.CardFault.{CardFault}
 use Rattle.tacho_card.specs.declared.fault.CardFault.TheVariants.{SelfContradiction}
 use Rattle.tacho_card.specs.DriverActivity.{DriverActivity}
-use Rattle.tacho_card.specs.Reading.{BlocksGive, IsReading}
+use Rattle.tacho_card.specs.Reading.{ActivitiesGive, IsReading}
 
 -- a canonical list gives no minute two marks
 one_mark : (xs : List Span) → IsCanonical xs → (m : ℕ) (a b : Mark) → Gives xs m a → Gives xs m b → a ≡ b
@@ -49,15 +49,15 @@ no_fault : (a : CardFault) (r : Option CardFault) → r ≡ Some a → r ≡ Non
 no_fault a r h k = cc
 
 -- data have one reading
-pub one_of_data : (blocks : List DriverActivity) (a b : Result (List Span) CardFault) → IsReading blocks a → IsReading blocks b → a ≡ b
-one_of_data blocks (Ok xs) (Ok ys) h k = ap (λ l. Ok l) (same_list (BlocksGive blocks) xs ys h.1 k.1)
-one_of_data blocks (Ok xs) (Err b) h (inl k) = absurd (no_fault b _ k h.0)
-one_of_data blocks (Ok xs) (Err b) h (inr k) = absurd (no_conflict (BlocksGive blocks) xs k.1.0 h.1 k.1.2.0)
-one_of_data blocks (Err a) (Ok ys) (inl h) k = absurd (no_fault a _ h k.0)
-one_of_data blocks (Err a) (Ok ys) (inr h) k = absurd (no_conflict (BlocksGive blocks) ys h.1.0 k.1 h.1.2.0)
-one_of_data blocks (Err a) (Err b) (inl h) (inl k) = ap (λ f. Err f) (same_fault a b _ h k)
-one_of_data blocks (Err a) (Err b) (inl h) (inr k) = absurd (no_fault a _ h k.0)
-one_of_data blocks (Err a) (Err b) (inr h) (inl k) = absurd (no_fault b _ k h.0)
-one_of_data blocks (Err a) (Err b) (inr h) (inr k) =
-    let e = same_conflict (BlocksGive blocks) h.1.0 k.1.0 h.1.2 k.1.2 in
+pub one_of_data : (activities : List DriverActivity) (a b : Result (List Span) CardFault) → IsReading activities a → IsReading activities b → a ≡ b
+one_of_data activities (Ok xs) (Ok ys) h k = ap (λ l. Ok l) (same_list (ActivitiesGive activities) xs ys h.1 k.1)
+one_of_data activities (Ok xs) (Err b) h (inl k) = absurd (no_fault b _ k h.0)
+one_of_data activities (Ok xs) (Err b) h (inr k) = absurd (no_conflict (ActivitiesGive activities) xs k.1.0 h.1 k.1.2.0)
+one_of_data activities (Err a) (Ok ys) (inl h) k = absurd (no_fault a _ h k.0)
+one_of_data activities (Err a) (Ok ys) (inr h) k = absurd (no_conflict (ActivitiesGive activities) ys h.1.0 k.1 h.1.2.0)
+one_of_data activities (Err a) (Err b) (inl h) (inl k) = ap (λ f. Err f) (same_fault a b _ h k)
+one_of_data activities (Err a) (Err b) (inl h) (inr k) = absurd (no_fault a _ h k.0)
+one_of_data activities (Err a) (Err b) (inr h) (inl k) = absurd (no_fault b _ k h.0)
+one_of_data activities (Err a) (Err b) (inr h) (inr k) =
+    let e = same_conflict (ActivitiesGive activities) h.1.0 k.1.0 h.1.2 k.1.2 in
     ap (λ f. Err f) (h.1.1 ∙ ap (λ m. SelfContradiction m) e ∙ sym k.1.1)

@@ -120,8 +120,8 @@ words_count : (len n : ℕ) → len ≡ 12 + 2 * n → (len - 12) / 2 ≡ n
 words_count len n h = omega arith
 
 -- the test of C9
-length_decides : (block : DriverActivity) (place : ℕ) → Decides (is_length (length block.buffer) (length_at block.buffer place)) ((count : ℕ) × HasWords block place count)
-length_decides block place = (λ e. ((length_at block.buffer place - 12) / 2, pass_words _ _ e), λ h. words_pass _ _ h.0 h.1.0 h.1.1)
+length_decides : (activity : DriverActivity) (place : ℕ) → Decides (is_length (length activity.buffer) (length_at activity.buffer place)) ((count : ℕ) × HasWords activity place count)
+length_decides activity place = (λ e. ((length_at activity.buffer place - 12) / 2, pass_words _ _ e), λ h. words_pass _ _ h.0 h.1.0 h.1.1)
 
 -- a length of 12 or more is above what is left where all lengths come to more than there is
 room_decides : (size before len : ℕ) → 12 ≤ len → Decides (nat_lt (size - before) len) (size < before + len)
@@ -129,12 +129,12 @@ room_decides size before len l = (λ h. grind (arith, nat_tests), λ h. grind (a
 
 -- the bytes that the records of a front leave
 abbrev left : DriverActivity → List ℕ → ℕ
-left block front = length block.buffer - lengths block.buffer front
+left activity front = length activity.buffer - lengths activity.buffer front
 
 -- the test of C10, of a record of some words
-long_decides : (block : DriverActivity) (front : List ℕ) (place count : ℕ) → HasWords block place count →
-    Decides (nat_lt (left block front) (length_at block.buffer place)) (IsTooLong block front place)
-long_decides block front place count h = room_decides (length block.buffer) (lengths block.buffer front) (length_at block.buffer place) (omega (arith, h.0))
+long_decides : (activity : DriverActivity) (front : List ℕ) (place count : ℕ) → HasWords activity place count →
+    Decides (nat_lt (left activity front) (length_at activity.buffer place)) (IsTooLong activity front place)
+long_decides activity front place count h = room_decides (length activity.buffer) (lengths activity.buffer front) (length_at activity.buffer place) (omega (arith, h.0))
 
 -- the test of C11
 day_decides : (day : ℕ) → Decides (is_read_day day) ((10959 ≤ day) × (day ≤ 47481))
@@ -161,26 +161,26 @@ tests_read b p left t u v o e f g h =
 
 -- what is said of a record with a fault of its words
 abbrev HasWordFault : DriverActivity → List ℕ → ℕ → CardFault → Type 0
-HasWordFault block front place fault =
-    (count : ℕ) × HasWords block place count × ¬ (IsTooLong block front place) × IsReadDay block place × IsFirstWordFault block.buffer place count fault
+HasWordFault activity front place fault =
+    (count : ℕ) × HasWords activity place count × ¬ (IsTooLong activity front place) × IsReadDay activity place × IsFirstWordFault activity.buffer place count fault
 
 -- a fault of words is one of a record
-word_fault_is : (block : DriverActivity) (front : List ℕ) (place : ℕ) (fault : CardFault) → HasWordFault block front place fault → IsRecordFault block front place fault
-word_fault_is block front place fault h = go h.4.is where
-  back : (other : CardFault) → fault ≡ other → (HasWordFault block front place other → IsRecordFault block front place other) → IsRecordFault block front place fault
-  back other e same = subst (IsRecordFault block front place) (sym e) (same (subst (HasWordFault block front place) e h))
+word_fault_is : (activity : DriverActivity) (front : List ℕ) (place : ℕ) (fault : CardFault) → HasWordFault activity front place fault → IsRecordFault activity front place fault
+word_fault_is activity front place fault h = go h.4.is where
+  back : (other : CardFault) → fault ≡ other → (HasWordFault activity front place other → IsRecordFault activity front place other) → IsRecordFault activity front place fault
+  back other e same = subst (IsRecordFault activity front place) (sym e) (same (subst (HasWordFault activity front place) e h))
 
-  go : IsWordFault block.buffer place h.4.word fault → IsRecordFault block front place fault
+  go : IsWordFault activity.buffer place h.4.word fault → IsRecordFault activity front place fault
   go (inl k) = back _ k.1 (λ w. w)
   go (inr k) = back _ k.1 (λ w. w)
 
 -- what is read at a place is a reading by places and words
-read_is : (block : DriverActivity) (front : List ℕ) (place : ℕ) → IsRecordReading block front place (read_after block front place)
-read_is block front place =
-    subst (IsRecordReading block front place) (sym (tests_read b place (left block front) _ _ _ _ refl refl refl refl))
-    (go (is_length (length b) len) refl (nat_lt (left block front) len) refl (is_read_day (day_at b place)) refl (words_fault b place 0 0 count) refl) where
+read_is : (activity : DriverActivity) (front : List ℕ) (place : ℕ) → IsRecordReading activity front place (read_after activity front place)
+read_is activity front place =
+    subst (IsRecordReading activity front place) (sym (tests_read b place (left activity front) _ _ _ _ refl refl refl refl))
+    (go (is_length (length b) len) refl (nat_lt (left activity front) len) refl (is_read_day (day_at b place)) refl (words_fault b place 0 0 count) refl) where
       b : List ℕ
-      b = block.buffer
+      b = activity.buffer
 
       len : ℕ
       len = length_at b place
@@ -188,17 +188,17 @@ read_is block front place =
       count : ℕ
       count = (len - 12) / 2
 
-      words : is_length (length b) len ≡ true → HasWords block place count
+      words : is_length (length b) len ≡ true → HasWords activity place count
       words e = pass_words (length b) len e
 
-      room : is_length (length b) len ≡ true → nat_lt (left block front) len ≡ false → ¬ (IsTooLong block front place)
-      room e f = not_from_Decides _ (long_decides block front place count (words e)) f
+      room : is_length (length b) len ≡ true → nat_lt (left activity front) len ≡ false → ¬ (IsTooLong activity front place)
+      room e f = not_from_Decides _ (long_decides activity front place count (words e)) f
 
-      go : (t : Bool) → is_length (length b) len ≡ t → (u : Bool) → nat_lt (left block front) len ≡ u →
+      go : (t : Bool) → is_length (length b) len ≡ t → (u : Bool) → nat_lt (left activity front) len ≡ u →
           (v : Bool) → is_read_day (day_at b place) ≡ v → (o : Option CardFault) → words_fault b place 0 0 count ≡ o →
-          IsRecordReading block front place (by_tests b place t u v o)
-      go false e u f v g o h = (refl, λ n some. not_from_Decides _ (length_decides block place) e (n, some))
-      go true e true f v g o h = (refl, (count, words e), (long_decides block front place count (words e)).0 f)
+          IsRecordReading activity front place (by_tests b place t u v o)
+      go false e u f v g o h = (refl, λ n some. not_from_Decides _ (length_decides activity place) e (n, some))
+      go true e true f v g o h = (refl, (count, words e), (long_decides activity front place count (words e)).0 f)
       go true e false f false g o h = (refl, (count, words e), room e f, not_from_Decides _ (day_decides (day_at b place)) g)
       go true e false f true g None h = (
         refl,
@@ -211,39 +211,39 @@ read_is block front place =
         },
       )
       go true e false f true g (Some fault) h =
-          word_fault_is block front place fault (count, words e, room e f, (day_decides (day_at b place)).0 g, first_found b place count fault h)
+          word_fault_is activity front place fault (count, words e, room e f, (day_decides (day_at b place)).0 g, first_found b place count fault h)
 
 -- a record that passes the tests is read, or refused with the fault of its words
-words_read : (block : DriverActivity) (front : List ℕ) (place count : ℕ) (o : Option CardFault) → HasWords block place count → ¬ (IsTooLong block front place) →
-    IsReadDay block place → words_fault block.buffer place 0 0 count ≡ o →
-    read_after block front place ≡ fault_or o (record { buffer = block.buffer; place = place; count = count })
-words_read block front place count o h room day e =
-    let same = words_count (length_at block.buffer place) count h.0 in
-    tests_read block.buffer place (left block front) true false true o ((length_decides block place).1 (count, h))
-    (fails _ (long_decides block front place count h) room) ((day_decides _).1 day) (ap (words_fault block.buffer place 0 0) same ∙ e)
-    ∙ ap (λ n. fault_or o (record { buffer = block.buffer; place = place; count = n })) same
+words_read : (activity : DriverActivity) (front : List ℕ) (place count : ℕ) (o : Option CardFault) → HasWords activity place count → ¬ (IsTooLong activity front place) →
+    IsReadDay activity place → words_fault activity.buffer place 0 0 count ≡ o →
+    read_after activity front place ≡ fault_or o (record { buffer = activity.buffer; place = place; count = count })
+words_read activity front place count o h room day e =
+    let same = words_count (length_at activity.buffer place) count h.0 in
+    tests_read activity.buffer place (left activity front) true false true o ((length_decides activity place).1 (count, h))
+    (fails _ (long_decides activity front place count h) room) ((day_decides _).1 day) (ap (words_fault activity.buffer place 0 0) same ∙ e)
+    ∙ ap (λ n. fault_or o (record { buffer = activity.buffer; place = place; count = n })) same
 
 -- a reading by places and words is what is read at the place
-is_read : (block : DriverActivity) (front : List ℕ) (place : ℕ) (reading : Result DailyRecord CardFault) →
-    IsRecordReading block front place reading → read_after block front place ≡ reading
-is_read block front place (Ok r) h =
-    let none = no_fault block.buffer r.place r.count h.1.in_order in
-    ap (read_after block front) (sym h.0) ∙ words_read block front r.place r.count None h.1.words h.1.room h.1.day none
+is_read : (activity : DriverActivity) (front : List ℕ) (place : ℕ) (reading : Result DailyRecord CardFault) →
+    IsRecordReading activity front place reading → read_after activity front place ≡ reading
+is_read activity front place (Ok r) h =
+    let none = no_fault activity.buffer r.place r.count h.1.in_order in
+    ap (read_after activity front) (sym h.0) ∙ words_read activity front r.place r.count None h.1.words h.1.room h.1.day none
     ∙ ap (λ x. Ok (record { buffer = x; place = r.place; count = r.count })) (sym h.1.buffer)
-is_read block front place (Err (RecordLength p)) h =
-    let none = fails _ (length_decides block place) (λ some. h.1 some.0 some.1) in
-    tests_read block.buffer place (left block front) false _ _ _ none refl refl refl ∙ ap (λ x. Err (RecordLength x)) (sym h.0)
-is_read block front place (Err (Chain p)) h =
-    let long = (long_decides block front place h.1.0 h.1.1).1 h.2 in
-    tests_read block.buffer place (left block front) true true _ _ ((length_decides block place).1 h.1) long refl refl ∙ ap (λ x. Err (Chain x)) (sym h.0)
-is_read block front place (Err (DayRange p)) h =
-    let room = fails _ (long_decides block front place h.1.0 h.1.1) h.2 in
-    let day = fails _ (day_decides (day_at block.buffer place)) h.3 in
-    tests_read block.buffer place (left block front) true false false _ ((length_decides block place).1 h.1) room day refl ∙ ap (λ x. Err (DayRange x)) (sym h.0)
-is_read block front place (Err fault) h =
-    words_read block front place h.0 (Some fault) h.1 h.2 h.3 (first_fault block.buffer place h.0 fault h.4)
+is_read activity front place (Err (RecordLength p)) h =
+    let none = fails _ (length_decides activity place) (λ some. h.1 some.0 some.1) in
+    tests_read activity.buffer place (left activity front) false _ _ _ none refl refl refl ∙ ap (λ x. Err (RecordLength x)) (sym h.0)
+is_read activity front place (Err (Chain p)) h =
+    let long = (long_decides activity front place h.1.0 h.1.1).1 h.2 in
+    tests_read activity.buffer place (left activity front) true true _ _ ((length_decides activity place).1 h.1) long refl refl ∙ ap (λ x. Err (Chain x)) (sym h.0)
+is_read activity front place (Err (DayRange p)) h =
+    let room = fails _ (long_decides activity front place h.1.0 h.1.1) h.2 in
+    let day = fails _ (day_decides (day_at activity.buffer place)) h.3 in
+    tests_read activity.buffer place (left activity front) true false false _ ((length_decides activity place).1 h.1) room day refl ∙ ap (λ x. Err (DayRange x)) (sym h.0)
+is_read activity front place (Err fault) h =
+    words_read activity front place h.0 (Some fault) h.1 h.2 h.3 (first_fault activity.buffer place h.0 fault h.4)
 
 -- what is read of a record by places and words is what is read at its place
-pub record_reading : (block : DriverActivity) (front : List ℕ) (place : ℕ) (reading : Result DailyRecord CardFault) →
-    IsRecordReading block front place reading ↔ (read_after block front place ≡ reading)
-record_reading block front place reading = (is_read block front place reading, λ e. subst (IsRecordReading block front place) e (read_is block front place))
+pub record_reading : (activity : DriverActivity) (front : List ℕ) (place : ℕ) (reading : Result DailyRecord CardFault) →
+    IsRecordReading activity front place reading ↔ (read_after activity front place ≡ reading)
+record_reading activity front place reading = (is_read activity front place reading, λ e. subst (IsRecordReading activity front place) e (read_is activity front place))

@@ -202,7 +202,7 @@ chosen_activity part.Both blocks = some_chosen (value_of activity_data 0 blocks)
 abbrev pub those_there : List (Option DriverActivity) → List DriverActivity
 those_there [] = []
 those_there (None ∷ chosen) = those_there chosen
-those_there (Some block ∷ chosen) = block ∷ those_there chosen
+those_there (Some activity ∷ chosen) = activity ∷ those_there chosen
 
 -- the reading of chosen data, or their fault
 abbrev pub ReadsChosen : Result (List (Option DriverActivity)) CardFault → Result (List Span) CardFault → Type 0

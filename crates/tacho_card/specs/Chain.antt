@@ -6,7 +6,7 @@ use Rattle.tacho_card.specs.DailyRecord.{DailyRecord, length_at, record_at}
 
 -- there are no records: both pointers are one, and the length there is 0
 abbrev pub is_empty : DriverActivity → Bool
-is_empty block = (block.oldest == block.newest) && (length_at block.buffer block.oldest == 0)
+is_empty activity = (activity.oldest == activity.newest) && (length_at activity.buffer activity.oldest == 0)
 
 -- ---- by places
 
@@ -17,31 +17,31 @@ lengths buffer (place ∷ places) = length_at buffer place + lengths buffer plac
 
 -- the record at a place that comes after those at the places of a front, or its first fault
 abbrev pub read_after : DriverActivity → List ℕ → ℕ → Result DailyRecord CardFault
-read_after block front place = record_at block.buffer place (length block.buffer - lengths block.buffer front)
+read_after activity front place = record_at activity.buffer place (length activity.buffer - lengths activity.buffer front)
 
 -- Places of a front of the chain. The first is that of the oldest record. Where another follows, the record is not
 -- the newest and has no fault, and the next one begins at its place plus its length.
-pub record IsFront (block : DriverActivity) (places : List ℕ) : Type 0 where
-  pub begins : (rest : List ℕ) × (places ≡ block.oldest ∷ rest)
+pub record IsFront (activity : DriverActivity) (places : List ℕ) : Type 0 where
+  pub begins : (rest : List ℕ) × (places ≡ activity.oldest ∷ rest)
   pub goes_on : (front rest : List ℕ) (place next : ℕ) → places ≡ front ++ place ∷ next ∷ rest →
-      (place ≢ block.newest) × IsOk (read_after block front place) × (next ≡ wrapped block.buffer (place + length_at block.buffer place))
+      (place ≢ activity.newest) × IsOk (read_after activity front place) × (next ≡ wrapped activity.buffer (place + length_at activity.buffer place))
 
 -- what reading the records at these places gives, after those of a front
 abbrev pub readings : DriverActivity → List ℕ → List ℕ → List (Result DailyRecord CardFault)
-readings block front [] = []
-readings block front (place ∷ places) = read_after block front place ∷ readings block (front ++ place ∷ []) places
+readings activity front [] = []
+readings activity front (place ∷ places) = read_after activity front place ∷ readings activity (front ++ place ∷ []) places
 
 -- the readings of a front that ends at the newest record, or at the first one with a fault
-pub record EndsChain (block : DriverActivity) (front : List ℕ) (last : ℕ) (items : List (Result DailyRecord CardFault)) : Type 0 where
-  pub whole : IsFront block (front ++ last ∷ [])
-  pub ends : (last ≡ block.newest) ⊎ IsErr (read_after block front last)
-  pub read : items ≡ readings block [] (front ++ last ∷ [])
+pub record EndsChain (activity : DriverActivity) (front : List ℕ) (last : ℕ) (items : List (Result DailyRecord CardFault)) : Type 0 where
+  pub whole : IsFront activity (front ++ last ∷ [])
+  pub ends : (last ≡ activity.newest) ⊎ IsErr (read_after activity front last)
+  pub read : items ≡ readings activity [] (front ++ last ∷ [])
 
 -- the records of the chain in order, and then its fault if it has one
 abbrev pub IsChain : DriverActivity → List (Result DailyRecord CardFault) → Type 0
-IsChain block items =
-    (IsTrue (is_empty block) × (items ≡ []))
-    ⊎ ((is_empty block ≢ Bool.true) × ((front : List ℕ) × (last : ℕ) × EndsChain block front last items))
+IsChain activity items =
+    (IsTrue (is_empty activity) × (items ≡ []))
+    ⊎ ((is_empty activity ≢ Bool.true) × ((front : List ℕ) × (last : ℕ) × EndsChain activity front last items))
 
 -- ---- by recursion, as an iterator goes over it
 
@@ -60,7 +60,7 @@ chain_from (suc fuel) buffer newest place left =
 
 -- the records of the chain, and then its fault if it has one
 abbrev pub chain : DriverActivity → List (Result DailyRecord CardFault)
-chain block = if is_empty block then [] else chain_from (suc (length block.buffer)) block.buffer block.newest block.oldest (length block.buffer)
+chain activity = if is_empty activity then [] else chain_from (suc (length activity.buffer)) activity.buffer activity.newest activity.oldest (length activity.buffer)
 
 -- the fault that a chain ends with
 abbrev pub fault_of : List (Result DailyRecord CardFault) → Option CardFault

@@ -72,15 +72,15 @@ pub record IsHolder (blocks : List FileBlock) (holder : List ℕ) : Type 0 where
 
 -- the record at a place is as long as a record of so many words, and no longer than the buffer; C9: of no number of words
 abbrev pub HasWords : DriverActivity → ℕ → ℕ → Type 0
-HasWords block place count = (length_at block.buffer place ≡ 12 + 2 * count) × (length_at block.buffer place ≤ length block.buffer)
+HasWords activity place count = (length_at activity.buffer place ≡ 12 + 2 * count) × (length_at activity.buffer place ≤ length activity.buffer)
 
 -- C10: with it the lengths come to more than the buffer has
 abbrev pub IsTooLong : DriverActivity → List ℕ → ℕ → Type 0
-IsTooLong block front place = length block.buffer < lengths block.buffer front + length_at block.buffer place
+IsTooLong activity front place = length activity.buffer < lengths activity.buffer front + length_at activity.buffer place
 
 -- its day is from 2000-01-03 to 2099-12-31; C11: it isn't
 abbrev pub IsReadDay : DriverActivity → ℕ → Type 0
-IsReadDay block place = (10959 ≤ day_at block.buffer place) × (day_at block.buffer place ≤ 47481)
+IsReadDay activity place = (10959 ≤ day_at activity.buffer place) × (day_at activity.buffer place ≤ 47481)
 
 -- C12: the minute of a word is none of a day; C13: it is below that of the word before
 abbrev pub IsWordFault : List ℕ → ℕ → ℕ → CardFault → Type 0
@@ -101,22 +101,22 @@ HaveNoWordFault buffer place count = (word : ℕ) (fault : CardFault) → word <
 
 -- the first fault of a record, in the order of C9 to C11 and then of its words
 abbrev pub IsRecordFault : DriverActivity → List ℕ → ℕ → CardFault → Type 0
-IsRecordFault block front place (RecordLength p) = (p ≡ place) × ((count : ℕ) → ¬ (HasWords block place count))
-IsRecordFault block front place (Chain p) = (p ≡ place) × ((count : ℕ) × HasWords block place count) × IsTooLong block front place
-IsRecordFault block front place (DayRange p) =
-    (p ≡ place) × ((count : ℕ) × HasWords block place count) × ¬ (IsTooLong block front place) × ¬ (IsReadDay block place)
-IsRecordFault block front place fault =
-    (count : ℕ) × HasWords block place count × ¬ (IsTooLong block front place) × IsReadDay block place × IsFirstWordFault block.buffer place count fault
+IsRecordFault activity front place (RecordLength p) = (p ≡ place) × ((count : ℕ) → ¬ (HasWords activity place count))
+IsRecordFault activity front place (Chain p) = (p ≡ place) × ((count : ℕ) × HasWords activity place count) × IsTooLong activity front place
+IsRecordFault activity front place (DayRange p) =
+    (p ≡ place) × ((count : ℕ) × HasWords activity place count) × ¬ (IsTooLong activity front place) × ¬ (IsReadDay activity place)
+IsRecordFault activity front place fault =
+    (count : ℕ) × HasWords activity place count × ¬ (IsTooLong activity front place) × IsReadDay activity place × IsFirstWordFault activity.buffer place count fault
 
 -- a record without a fault
-pub record IsSound (block : DriverActivity) (front : List ℕ) (r : DailyRecord) : Type 0 where
-  pub buffer : r.buffer ≡ block.buffer
-  pub words : HasWords block r.place r.count
-  pub room : ¬ (IsTooLong block front r.place)
-  pub day : IsReadDay block r.place
-  pub in_order : HaveNoWordFault block.buffer r.place r.count
+pub record IsSound (activity : DriverActivity) (front : List ℕ) (r : DailyRecord) : Type 0 where
+  pub buffer : r.buffer ≡ activity.buffer
+  pub words : HasWords activity r.place r.count
+  pub room : ¬ (IsTooLong activity front r.place)
+  pub day : IsReadDay activity r.place
+  pub in_order : HaveNoWordFault activity.buffer r.place r.count
 
 -- what is read at a place: a record without a fault, or its first fault
 abbrev pub IsRecordReading : DriverActivity → List ℕ → ℕ → Result DailyRecord CardFault → Type 0
-IsRecordReading block front place (Ok r) = (r.place ≡ place) × IsSound block front r
-IsRecordReading block front place (Err fault) = IsRecordFault block front place fault
+IsRecordReading activity front place (Ok r) = (r.place ≡ place) × IsSound activity front r
+IsRecordReading activity front place (Err fault) = IsRecordFault activity front place fault

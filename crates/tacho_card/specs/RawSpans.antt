@@ -1,9 +1,8 @@
 -- The spans of records, word by word, before they are put in order.
-use Rattle.std.specs.Prelude.{◌≡◌, ℕ, zero, suc, ◌+◌, ◌*◌, ◌&&◌, ◌==◌, ◌⊎◌, Bool, List, [], ◌∷◌, ◌++◌, Option, Some, None, Result, Ok, Err, if◌then◌else◌}
+use Rattle.std.specs.Prelude.{ℕ, zero, suc, ◌+◌, ◌*◌, ◌&&◌, ◌==◌, Bool, List, [], ◌∷◌, ◌++◌, Option, Some, None, Result, Ok, Err, if◌then◌else◌}
 use Rattle.tacho_time.specs.declared.span.Span.{Span}
 use Rattle.tacho_time.specs.declared.span.Mark.{Mark}
 use Rattle.tacho_card.specs.declared.fault.CardFault.{CardFault}
-use Rattle.tacho_card.specs.declared.fault.CardFault.TheVariants.{Memory}
 use Rattle.tacho_card.specs.ActivityChangeInfo.{mark_of}
 use Rattle.tacho_card.specs.DriverActivity.{DriverActivity}
 use Rattle.tacho_card.specs.DailyRecord.{DailyRecord, day_at, word_at}
@@ -44,9 +43,5 @@ items_spans newest (Err fault ∷ items) = Err fault
 items_spans newest (Ok r ∷ items) = with_spans (record_spans (r.place == newest) r) (items_spans newest items)
 
 -- the spans of data, or the fault of their chain
-abbrev pub block_spans : DriverActivity → Result (List Span) CardFault
-block_spans block = items_spans block.newest (chain block)
-
--- the fault of the chain, or want of memory
-abbrev pub Fails : {X : Type 0} → CardFault → Result X CardFault → Type 0
-Fails fault wanted = (fault ≡ Memory) ⊎ (wanted ≡ Err fault)
+abbrev pub activity_spans : DriverActivity → Result (List Span) CardFault
+activity_spans activity = items_spans activity.newest (chain activity)

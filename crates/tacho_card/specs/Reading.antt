@@ -3,6 +3,9 @@ use Rattle.std.specs.Prelude.{◌≡◌, ℕ, ◌+◌, ◌*◌, ◌<◌, ◌≤�
 use Rattle.tacho_time.specs.declared.span.Span.{Span}
 use Rattle.tacho_time.specs.declared.span.Mark.{Mark}
 use Rattle.tacho_time.specs.Spans.{IsCanonicalOf, IsFirstConflict}
+use Rattle.tacho_time.specs.OrMemory.{OrMemory}
+use Rattle.tacho_time.specs.declared.canonical.SpanFault.{SpanFault}
+use Rattle.tacho_time.specs.declared.canonical.SpanFault.TheVariants.{Contradiction, Memory as NoMemory}
 use Rattle.tacho_card.specs.declared.fault.CardFault.{CardFault}
 use Rattle.tacho_card.specs.declared.fault.CardFault.TheVariants.{SelfContradiction, Memory}
 use Rattle.tacho_card.specs.ActivityChangeInfo.{time_of, mark_of}
@@ -32,14 +35,14 @@ ItemsGive newest (Ok r ∷ items) m mark = RecordGives newest r m mark ⊎ Items
 ItemsGive newest (Err fault ∷ items) m mark = ItemsGive newest items m mark
 
 -- some record of some of the data gives the minute this mark
-abbrev pub BlocksGive : List DriverActivity → ℕ → Mark → Type 0
-BlocksGive [] m mark = ⊥
-BlocksGive (block ∷ blocks) m mark = ItemsGive block.newest (chain block) m mark ⊎ BlocksGive blocks m mark
+abbrev pub ActivitiesGive : List DriverActivity → ℕ → Mark → Type 0
+ActivitiesGive [] m mark = ⊥
+ActivitiesGive (activity ∷ activities) m mark = ItemsGive activity.newest (chain activity) m mark ⊎ ActivitiesGive activities m mark
 
 -- the first fault of the chains, one after the other
 abbrev pub chains_fault : List DriverActivity → Option CardFault
 chains_fault [] = None
-chains_fault (block ∷ blocks) = fault_before (fault_of (chain block)) (chains_fault blocks)
+chains_fault (activity ∷ activities) = fault_before (fault_of (chain activity)) (chains_fault activities)
   where
     fault_before : Option CardFault → Option CardFault → Option CardFault
     fault_before (Some fault) rest = Some fault
@@ -48,11 +51,16 @@ chains_fault (block ∷ blocks) = fault_before (fault_of (chain block)) (chains_
 -- The reading of data: the canonical list of what they give, or the first fault. Contradiction within the data, of
 -- which the least minute is named, comes after all faults of records.
 abbrev pub IsReading : List DriverActivity → Result (List Span) CardFault → Type 0
-IsReading blocks (Ok spans) = (chains_fault blocks ≡ None) × IsCanonicalOf (BlocksGive blocks) spans
-IsReading blocks (Err fault) =
-    (chains_fault blocks ≡ Some fault)
-    ⊎ ((chains_fault blocks ≡ None) × ((m : ℕ) × (fault ≡ SelfContradiction m) × IsFirstConflict (BlocksGive blocks) m))
+IsReading activities (Ok spans) = (chains_fault activities ≡ None) × IsCanonicalOf (ActivitiesGive activities) spans
+IsReading activities (Err fault) =
+    (chains_fault activities ≡ Some fault)
+    ⊎ ((chains_fault activities ≡ None) × ((m : ℕ) × (fault ≡ SelfContradiction m) × IsFirstConflict (ActivitiesGive activities) m))
 
 -- a fault is that of the reading, or want of memory
 abbrev pub IsFaultOf : List DriverActivity → CardFault → Type 0
-IsFaultOf blocks fault = (fault ≡ Memory) ⊎ IsReading blocks (Err fault)
+IsFaultOf activities fault = OrMemory Memory fault (IsReading activities (Err fault))
+
+-- the fault of a card whose spans have that fault
+abbrev pub fault_of_spans : SpanFault → CardFault
+fault_of_spans (Contradiction m) = SelfContradiction m
+fault_of_spans NoMemory = Memory

@@ -1,5 +1,5 @@
 use std::alloc::AllocError;
-use tacho_time::Minute;
+use tacho_time::{Minute, SpanFault};
 use thiserror::Error;
 
 /// Why a driver card file, or a part of it, is not read. The places are in bytes: of a record or a word
@@ -61,5 +61,19 @@ impl From<AllocError> for CardFault {
 
     fn from(_: AllocError) -> CardFault {
         CardFault::Memory
+    }
+}
+
+impl From<SpanFault> for CardFault {
+    ghost use Rattle.std.specs.Prelude.{◌≡◌};
+    ghost use Rattle.tacho_card.specs.Reading.{fault_of_spans};
+
+    ghost from_gives = { λ fault e. e ≡ fault_of_spans fault };
+
+    fn from(fault: SpanFault) -> CardFault {
+        match fault {
+            SpanFault::Contradiction(minute) => CardFault::SelfContradiction(minute),
+            SpanFault::Memory => CardFault::Memory,
+        }
     }
 }

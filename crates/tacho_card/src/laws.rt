@@ -15,12 +15,12 @@ ghost use Rattle.tacho_card.specs.Faults.{IsFileFault, HaveNoRepetition, IsHolde
 /// The records that are read are those of the chain: the places from the oldest to the newest, each at
 /// the end of the one before, or up to the first fault.
 pub fn chain_is_by_places()
-    ensures { (block : DriverActivity) (items : List (Result DailyRecord CardFault)) → IsChain block items ↔ (items ≡ chain block) }
+    ensures { (activity : DriverActivity) (items : List (Result DailyRecord CardFault)) → IsChain activity items ↔ (items ≡ chain activity) }
 {}
 
 /// Data have one reading.
 pub fn one_reading()
-    ensures { (blocks : List DriverActivity) (a b : Result (List Span) CardFault) → IsReading blocks a → IsReading blocks b → a ≡ b }
+    ensures { (activities : List DriverActivity) (a b : Result (List Span) CardFault) → IsReading activities a → IsReading activities b → a ≡ b }
 {}
 
 /// The blocks of a file are laid end to end in its bytes.
@@ -54,7 +54,7 @@ pub fn holder_is_named()
 /// A record after those of a front is read, or refused with the first of C9 to C13, its words by places: the least one whose
 /// minute is none of a day (C12) or is below that of the word before (C13).
 pub fn record_faults()
-    ensures { (block : DriverActivity) (front : List ℕ) (place : ℕ) (reading : Result DailyRecord CardFault) → IsRecordReading block front place reading ↔ (read_after block front place ≡ reading) }
+    ensures { (activity : DriverActivity) (front : List ℕ) (place : ℕ) (reading : Result DailyRecord CardFault) → IsRecordReading activity front place reading ↔ (read_after activity front place ≡ reading) }
 {}
 
 /// A file has a reading by each part, and no second one.

@@ -1,29 +1,30 @@
-ghost use Rattle.std.specs.Prelude.{◌≡◌, ◌⊎◌, ℕ, [], ◌∷◌, Ok, Err, MatchResult};
+ghost use Rattle.std.specs.Prelude.{◌≡◌, ℕ, [], ◌∷◌, Ok, Err, MatchResult};
 ghost use Rattle.tacho_time.specs.Spans.{Gives, IsCanonicalOf, IsFirstConflict};
 ghost use Rattle.tacho_card.specs.Reading.{IsReading, IsFaultOf};
 ghost use Rattle.tacho_card.specs.CardFile.{those_there, ReadsFile};
-ghost use Rattle.tacho_card.specs.RawSpans.{with_spans, block_spans, Fails};
+ghost use Rattle.tacho_card.specs.RawSpans.{with_spans, activity_spans};
+ghost use Rattle.tacho_time.specs.OrMemory.{OrMemory};
 
 use crate::cyclic::Cyclic;
 use crate::fault::CardFault;
 use crate::file::{CardFile, Part};
 use std::alloc::Global;
-use tacho_time::{Span, SpanFault, canonical_spans};
+use tacho_time::{Span, canonical_spans};
 
 /// What activity data gives, as a canonical list of spans, or its first fault: of its records in the order of
 /// the chain (C9 to C13), and then C14.
-pub fn spans_of(alloc: Global, block: &Cyclic) -> Result<Vec<Span>, CardFault>
-    ensures { MatchResult result (λ spans. IsReading (block.now ∷ []) (Ok spans.items)) (IsFaultOf (block.now ∷ [])) }
+pub fn spans_of(alloc: Global, activity: &Cyclic) -> Result<Vec<Span>, CardFault>
+    ensures { MatchResult result (λ spans. IsReading (activity.now ∷ []) (Ok spans.items)) (IsFaultOf (activity.now ∷ [])) }
 {
     let mut raw = Vec::new(alloc);
-    append_block(&mut raw, block)?;
+    append_activity(&mut raw, activity)?;
     canonical(alloc, &raw)
 }
 
 /// What a part of a card file gives, as a canonical list of spans, or the first fault in reading order: C6; C7 and C8
 /// of each generation's data; C9 to C13 of its records, all of the first generation's data first; and then C14.
 pub fn spans(alloc: Global, file: &CardFile, part: Part) -> Result<Vec<Span>, CardFault>
-    ensures { MatchResult result (λ spans. ReadsFile part file.now (Ok spans.items)) (λ fault. (fault ≡ CardFault.Memory) ⊎ ReadsFile part file.now (Err fault)) }
+    ensures { MatchResult result (λ spans. ReadsFile part file.now (Ok spans.items)) (λ fault. OrMemory CardFault.Memory fault (ReadsFile part file.now (Err fault))) }
 {
     let chosen = file.activity(part)?;
     spans_of_chosen(alloc, &chosen)
@@ -34,20 +35,20 @@ fn spans_of_chosen(alloc: Global, chosen: &[Option<Cyclic>]) -> Result<Vec<Span>
     ensures { MatchResult result (λ spans. IsReading (those_there chosen.now) (Ok spans.items)) (IsFaultOf (those_there chosen.now)) }
 {
     let mut raw = Vec::new(alloc);
-    for block in chosen {
-        if let Some(found) = block {
-            append_block(&mut raw, found)?;
+    for activity in chosen {
+        if let Some(found) = activity {
+            append_activity(&mut raw, found)?;
         }
     }
     canonical(alloc, &raw)
 }
 
 /// Appends the spans of all records of activity data, in no order.
-fn append_block(spans: &mut Vec<Span>, block: &Cyclic) -> Result<(), CardFault>
-    ensures { MatchResult result (λ _. with_spans spans.old.items (block_spans block.now) ≡ Ok spans.new.items) (λ fault. Fails fault (block_spans block.now)) }
+fn append_activity(spans: &mut Vec<Span>, activity: &Cyclic) -> Result<(), CardFault>
+    ensures { MatchResult result (λ _. with_spans spans.old.items (activity_spans activity.now) ≡ Ok spans.new.items) (λ fault. OrMemory CardFault.Memory fault (activity_spans activity.now ≡ Err fault)) }
 {
-    let newest = block.newest();
-    for item in block.records() {
+    let newest = activity.newest();
+    for item in activity.records() {
         match item {
             Err(fault) => return Err(fault),
             Ok(day) => day.append_spans(spans, day.place() == newest)?,
@@ -58,21 +59,7 @@ fn append_block(spans: &mut Vec<Span>, block: &Cyclic) -> Result<(), CardFault>
 
 /// The canonical list of what spans give, or the least minute to which they give two marks.
 fn canonical(alloc: Global, spans: &[Span]) -> Result<Vec<Span>, CardFault>
-    ensures { MatchResult result (λ runs. IsCanonicalOf (Gives spans.now) runs.items) (λ fault. (fault ≡ CardFault.Memory) ⊎ ((m : ℕ) × (fault ≡ CardFault.SelfContradiction m) × IsFirstConflict (Gives spans.now) m)) }
+    ensures { MatchResult result (λ runs. IsCanonicalOf (Gives spans.now) runs.items) (λ fault. OrMemory CardFault.Memory fault ((m : ℕ) × (fault ≡ CardFault.SelfContradiction m) × IsFirstConflict (Gives spans.now) m)) }
 {
-    match canonical_spans(alloc, spans) {
-        Ok(runs) => Ok(runs),
-        Err(fault) => Err(card_fault(fault)),
-    }
-}
-
-/// The fault of a card whose spans have that fault.
-fn card_fault(fault: SpanFault) -> CardFault
-    ensures contradiction { (m : ℕ) → fault ≡ SpanFault.Contradiction m → result ≡ CardFault.SelfContradiction m }
-    ensures memory { fault ≡ SpanFault.Memory → result ≡ CardFault.Memory }
-{
-    match fault {
-        SpanFault::Contradiction(minute) => CardFault::SelfContradiction(minute),
-        SpanFault::Memory => CardFault::Memory,
-    }
+    Ok(canonical_spans(alloc, spans)?)
 }

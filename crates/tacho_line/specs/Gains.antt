@@ -1,9 +1,12 @@
 -- What spans give that a line lacks.
-use Rattle.std.specs.Prelude.{◌≡◌, ℕ, ◌⊎◌, nat_lt, List, [], ◌∷◌, ◌++◌, Option, Some, None, if◌then◌else◌}
+use Rattle.std.specs.Prelude.{◌≡◌, ℕ, nat_lt, List, [], ◌∷◌, ◌++◌, Option, Some, None, if◌then◌else◌}
 use Rattle.tacho_time.specs.declared.span.Span.{Span}
 use Rattle.tacho_time.specs.declared.span.Mark.{Mark}
 use Rattle.tacho_time.specs.Spans.{IsFirstConflict}
+use Rattle.tacho_time.specs.declared.canonical.SpanFault.{SpanFault}
+use Rattle.tacho_time.specs.declared.canonical.SpanFault.TheVariants as span_fault
 use Rattle.tacho_time.specs.Merge.{same_mark}
+use Rattle.tacho_time.specs.OrMemory.{OrMemory}
 use Rattle.tacho_line.specs.declared.line.LineFault.{LineFault}
 use Rattle.tacho_line.specs.declared.line.LineFault.TheVariants.{Contradiction, Memory}
 use Rattle.tacho_line.specs.Search.{overlap}
@@ -38,6 +41,11 @@ abbrev pub lacking_of : List Span → List Span → List Span
 lacking_of held [] = []
 lacking_of held (r ∷ runs) = new_from r.mark r.start r.past (overlap held r.start r.past) ++ lacking_of held runs
 
+-- the fault of a line with which the spans together have that fault
+abbrev pub line_fault : SpanFault → LineFault
+line_fault (span_fault.Contradiction m) = Contradiction m
+line_fault span_fault.Memory = Memory
+
 -- a fault is the first minute with two marks, or want of memory
 abbrev pub IsConflictOf : (ℕ → Mark → Type 0) → LineFault → Type 0
-IsConflictOf P fault = (fault ≡ Memory) ⊎ ((m : ℕ) × (fault ≡ Contradiction m) × IsFirstConflict P m)
+IsConflictOf P fault = OrMemory Memory fault ((m : ℕ) × (fault ≡ Contradiction m) × IsFirstConflict P m)

@@ -1,13 +1,12 @@
-ghost use Rattle.std.specs.Prelude.{◌≡◌, ℕ, ◌++◌, ◌∷◌, IfOk, OnOk, MatchResult, position};
+ghost use Rattle.std.specs.Prelude.{◌≡◌, ◌++◌, ◌∷◌, IfOk, OnOk, MatchResult, position};
 ghost use Rattle.tacho_time.specs.Spans.{Gives, IsCanonical, IsFirstConflict};
 ghost use Rattle.tacho_time.specs.Merge.{IsFirstFault};
 ghost use Rattle.tacho_line.specs.Line.{is_empty, Together, AreGains, IsGainFault};
 ghost use Rattle.tacho_line.specs.Gains.{conflict_in, conflict_of, span_between, new_from, lacking_of, IsConflictOf};
 
 use crate::line::LineFault;
-use crate::merge::is_same;
 use crate::search::overlap;
-use crate::slice::{cut_all, later};
+use crate::slice::cut_all;
 use std::alloc::{AllocError, Global};
 use tacho_time::{Mark, Minute, Span, SpanFault, canonical_spans};
 
@@ -63,10 +62,8 @@ fn least_conflict(
     ensures { MatchResult result (IsFirstConflict (Together line.now spans.now)) (IsConflictOf (Together line.now spans.now)) }
 {
     let early = cut_all(alloc, spans, Minute::new(0), minute)?;
-    match canonical_spans(alloc, &early) {
-        Ok(runs) => Ok(first_conflict(line, &runs).unwrap_or(minute)),
-        Err(fault) => Err(line_fault(fault)),
-    }
+    let runs = canonical_spans(alloc, &early)?;
+    Ok(first_conflict(line, &runs).unwrap_or(minute))
 }
 
 /// The first minute at which a line and runs have two marks.
@@ -87,22 +84,11 @@ fn conflict_with(held: &[Span], run: &Span) -> Option<Minute>
     ensures { result ≡ conflict_in run.now held.now }
 {
     for span in held {
-        if !is_same(span.mark, run.mark) {
-            return Some(later(span.start, run.start));
+        if !span.mark.is_same(run.mark) {
+            return Some(span.start.max(run.start));
         }
     }
     None
-}
-
-/// The fault of a line with which the spans together have that fault.
-fn line_fault(fault: SpanFault) -> LineFault
-    ensures contradiction { (m : ℕ) → fault ≡ SpanFault.Contradiction m → result ≡ LineFault.Contradiction m }
-    ensures memory { fault ≡ SpanFault.Memory → result ≡ LineFault.Memory }
-{
-    match fault {
-        SpanFault::Contradiction(minute) => LineFault::Contradiction(minute),
-        SpanFault::Memory => LineFault::Memory,
-    }
 }
 
 /// What held spans lack of runs.

@@ -10,7 +10,7 @@ use crate::search;
 use crate::slice::slice_of;
 use std::alloc::{AllocError, Global};
 use std::marker::Model;
-use tacho_time::{Mark, Minute, Span};
+use tacho_time::{Mark, Minute, Span, SpanFault};
 use thiserror::Error;
 
 /// Why spans can't be added to a line.
@@ -35,6 +35,20 @@ impl From<AllocError> for LineFault {
 
     fn from(_: AllocError) -> LineFault {
         LineFault::Memory
+    }
+}
+
+impl From<SpanFault> for LineFault {
+    ghost use Rattle.std.specs.Prelude.{◌≡◌};
+    ghost use Rattle.tacho_line.specs.Gains.{line_fault};
+
+    ghost from_gives = { λ fault e. e ≡ line_fault fault };
+
+    fn from(fault: SpanFault) -> LineFault {
+        match fault {
+            SpanFault::Contradiction(minute) => LineFault::Contradiction(minute),
+            SpanFault::Memory => LineFault::Memory,
+        }
     }
 }
 

@@ -1,12 +1,11 @@
 ghost use Rattle.std.specs.Prelude.{◌≡◌, ◌++◌, ◌∷◌, [], ◌≤◌, length, slice_range, take, drop, IfOk, OnOk, OnErr};
 ghost use Rattle.tacho_time.specs.Spans.{IsCanonical, IsCanonicalOf, SamePairs};
-ghost use Rattle.tacho_time.specs.Merge.{same_mark};
 ghost use Rattle.tacho_line.specs.Line.{Holds, Together, AreNotHeld};
 ghost use Rattle.tacho_line.specs.Search.{before};
 ghost use Rattle.tacho_line.specs.Join.{ShareNone, EitherGives, ending_before, ending_from, starting_by, starting_behind, in_order as in_order_of, starting_from, touches as touches_with, joined as joined_of};
 
 use std::alloc::{AllocError, Global};
-use tacho_time::{Mark, Minute, Span};
+use tacho_time::{Minute, Span};
 
 /// Adds canonical spans to a canonical list that holds none of their minutes.
 pub(crate) fn add_to(line: &mut Vec<Span>, spans: &[Span]) -> Result<(), AllocError>
@@ -102,12 +101,5 @@ fn joined(alloc: Global, spans: &[Span]) -> Result<Vec<Span>, AllocError>
 fn touches(last: &Span, span: &Span) -> bool
     ensures { result ≡ touches_with last.now span.now }
 {
-    last.past == span.start && is_same(span.mark, last.mark)
-}
-
-/// Whether two marks are the same.
-pub(crate) fn is_same(a: Mark, b: Mark) -> bool
-    ensures { result ≡ same_mark a b }
-{
-    a == b
+    last.past == span.start && span.mark.is_same(last.mark)
 }

@@ -2,7 +2,7 @@ ghost use Rattle.std.specs.Prelude.{◌≡◌, ◌<◌, IfOk, map};
 ghost use Rattle.tacho_time.specs.Spans.{IsCanonical, IsCanonicalOf};
 ghost use Rattle.tacho_line.specs.Line.{HoldsWithin};
 ghost use Rattle.tacho_line.specs.Search.{overlap as overlap_of};
-ghost use Rattle.tacho_line.specs.Walk.{later_of, earlier_of, cut_to};
+ghost use Rattle.tacho_line.specs.Walk.{cut_to};
 
 use crate::search::overlap;
 use std::alloc::{AllocError, Global};
@@ -44,22 +44,8 @@ fn cut(span: &Span, start: Minute, past: Minute) -> Span
     ensures { result ≡ cut_to start past span.now }
 {
     Span {
-        start: later(span.start, start),
-        past: earlier(span.past, past),
+        start: span.start.max(start),
+        past: span.past.min(past),
         mark: span.mark,
     }
-}
-
-/// The later of two minutes.
-pub(crate) fn later(a: Minute, b: Minute) -> Minute
-    ensures { result ≡ later_of a b }
-{
-    if a < b { b } else { a }
-}
-
-/// The earlier of two minutes.
-fn earlier(a: Minute, b: Minute) -> Minute
-    ensures { result ≡ earlier_of a b }
-{
-    if a < b { a } else { b }
 }

@@ -14,7 +14,7 @@ use Rattle.tacho_time.specs.Spans.{Covers, Gives, GiveSame, IsCanonical, IsCanon
 use Rattle.std.proofs.Common.{MatchResult}
 use Rattle.tacho_time.specs.declared.canonical.SpanFault.{SpanFault}
 use Rattle.tacho_time.specs.declared.canonical.SpanFault.TheVariants.{Contradiction, Memory}
-use Rattle.tacho_time.specs.Merge.{Fails, IsFirstFault, activity_code, same_bool, same_mark, with_front, is_apart, stretched, merged_from, merged, IsMerged, is_full}
+use Rattle.tacho_time.specs.Merge.{IsMergeFault, IsFirstFault, activity_code, same_bool, same_mark, with_front, is_apart, stretched, merged_from, merged, IsMerged, is_full}
 
 -- ---- marks
 
@@ -323,7 +323,7 @@ sorted_same xs ys p = same_trans ys (filter is_full xs) xs (moved_same (filter i
 
 -- ---- what the code answers
 
-pub merge_result : {V : Type 0} (items : V → List Span) (spans : List Span) (r : Result V SpanFault) → IsMerged spans (merged spans) → MatchResult r (λ runs. merged spans ≡ Ok (items runs)) (λ fault. Fails fault (merged spans)) → MatchResult r (λ runs. IsCanonical (items runs) × GiveSame (items runs) spans) (IsFirstFault (Gives spans))
+pub merge_result : {V : Type 0} (items : V → List Span) (spans : List Span) (r : Result V SpanFault) → IsMerged spans (merged spans) → MatchResult r (λ runs. merged spans ≡ Ok (items runs)) (λ fault. IsMergeFault fault (merged spans)) → MatchResult r (λ runs. IsCanonical (items runs) × GiveSame (items runs) spans) (IsFirstFault (Gives spans))
 merge_result items spans (Ok v) h e = merge_means spans (merged spans) h (items v) e
 merge_result items spans (Err (Contradiction m)) h e = merge_fault spans (merged spans) h m e
 merge_result items spans (Err Memory) h e = tt

@@ -4,3 +4,4 @@ pub mod Device
 pub mod Reading
 pub mod Spans
 pub mod Merge
+pub mod OrMemory

@@ -51,9 +51,9 @@ merged [] = Ok []
 merged (s ∷ ss) = merged_from s ss
 
 -- what a function answered, unless memory ran out
-abbrev pub Fails : SpanFault → Result (List Span) ℕ → Type 0
-Fails (Contradiction m) wanted = wanted ≡ Err m
-Fails Memory wanted = Unit {0}
+abbrev pub IsMergeFault : SpanFault → Result (List Span) ℕ → Type 0
+IsMergeFault (Contradiction m) wanted = wanted ≡ Err m
+IsMergeFault Memory wanted = Unit {0}
 
 -- the runs of spans are their canonical list, or the first minute with two marks
 abbrev pub IsMerged : List Span → Result (List Span) ℕ → Type 0

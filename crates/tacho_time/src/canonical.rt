@@ -1,9 +1,9 @@
 ghost use Rattle.std.specs.Prelude.{◌≡◌, ◌++◌, ◌∷◌, [], filter, IfOk, OnOk, MatchResult, Ok};
-ghost use Rattle.tacho_time.specs.Merge.{merged, Fails, same_mark, is_apart, stretched, IsFirstFault, is_full};
+ghost use Rattle.tacho_time.specs.Merge.{merged, IsMergeFault, is_apart, stretched, IsFirstFault, is_full};
 ghost use Rattle.tacho_time.specs.Spans.{Gives, IsCanonical, IsCanonicalOf, GiveSame, StartsFrom};
 
 use crate::minute::Minute;
-use crate::span::{Mark, Span};
+use crate::span::Span;
 use std::alloc::{AllocError, Global};
 
 /// Why spans have no canonical list.
@@ -28,7 +28,7 @@ impl From<AllocError> for SpanFault {
 
 /// The runs of spans in order of their starts.
 fn merge(alloc: Global, spans: &[Span]) -> Result<Vec<Span>, SpanFault>
-    ensures { MatchResult result (λ runs. merged spans.now ≡ Ok runs.items) (λ fault. Fails fault (merged spans.now)) }
+    ensures { MatchResult result (λ runs. merged spans.now ≡ Ok runs.items) (λ fault. IsMergeFault fault (merged spans.now)) }
 {
     let mut runs = Vec::new(alloc);
     let Some((first, others)) = spans.split_first() else {
@@ -39,7 +39,7 @@ fn merge(alloc: Global, spans: &[Span]) -> Result<Vec<Span>, SpanFault>
         if starts_anew(&last, span) {
             add(&mut runs, last)?;
             last = *span;
-        } else if !is_same(span.mark, last.mark) {
+        } else if !span.mark.is_same(last.mark) {
             return Err(SpanFault::Contradiction(span.start));
         } else {
             last = stretch(&last, span);
@@ -57,32 +57,20 @@ fn add(runs: &mut Vec<Span>, run: Span) -> Result<(), AllocError>
     Ok(())
 }
 
-/// Whether two marks are the same.
-fn is_same(a: Mark, b: Mark) -> bool
-    ensures { result ≡ same_mark a b }
-{
-    a == b
-}
-
 /// Whether a span begins a run of its own.
 fn starts_anew(last: &Span, span: &Span) -> bool
     ensures { result ≡ is_apart last.now span.now }
 {
-    last.past < span.start || (last.past == span.start && !is_same(span.mark, last.mark))
+    last.past < span.start || (last.past == span.start && !span.mark.is_same(last.mark))
 }
 
 /// The run, to the end of a span.
 fn stretch(last: &Span, span: &Span) -> Span
     ensures { result ≡ stretched last.now span.now }
 {
-    let past = if last.past < span.past {
-        span.past
-    } else {
-        last.past
-    };
     Span {
         start: last.start,
-        past,
+        past: last.past.max(span.past),
         mark: last.mark,
     }
 }

@@ -1,5 +1,6 @@
 ghost use Rattle.std.specs.Prelude.{◌≡◌};
 ghost use Rattle.tacho_time.specs.Text.{activity_name, manning_name};
+ghost use Rattle.tacho_time.specs.Merge.{same_mark};
 
 use crate::minute::Minute;
 
@@ -45,6 +46,13 @@ impl Mark {
         ensures { result.now ≡ manning_name self.crew }
     {
         if self.crew { "crew" } else { "single" }
+    }
+
+    /// Whether it is the same as another mark.
+    pub fn is_same(self, other: Mark) -> bool
+        ensures { result ≡ same_mark self other }
+    {
+        self == other
     }
 }
 

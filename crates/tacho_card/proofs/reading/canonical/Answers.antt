@@ -1,19 +1,30 @@
-use Rattle.std.proofs.Common.{◌≡◌, inl, inr, ℕ, List, refl}
+use Rattle.std.proofs.Common.{◌≡◌, inl, inr, List, Result, Ok, Err, MatchResult, refl, sym, subst}
+use Rattle.std.specs.Result.{IsErr, IsErrAnd}
 use Rattle.tacho_time.specs.declared.span.Span.{Span}
 use Rattle.tacho_time.specs.declared.canonical.SpanFault.{SpanFault}
 use Rattle.tacho_time.specs.declared.canonical.SpanFault.TheVariants.{Contradiction, Memory as NoMemory}
-use Rattle.tacho_time.specs.Spans.{Gives}
+use Rattle.tacho_time.specs.Spans.{Gives, IsCanonicalOf}
 use Rattle.tacho_time.specs.Merge.{IsFirstFault}
 use Rattle.tacho_card.specs.declared.fault.CardFault.{CardFault}
-use Rattle.tacho_card.specs.declared.fault.CardFault.TheVariants.{SelfContradiction, Memory}
+use Rattle.tacho_card.specs.Reading.{fault_of_spans}
 use Rattle.tacho_card.proofs.GivesLemmas.{IsConflictOf}
 use Rattle.tacho_card.proofs.reading.canonical.Goals as goal
 
 -- the fault of spans, as that of a card
-conflict_of : (spans : List Span) (fault : SpanFault) (found : CardFault) → ((m : ℕ) → fault ≡ Contradiction m → found ≡ SelfContradiction m) → (fault ≡ NoMemory → found ≡ Memory) → IsFirstFault (Gives spans) fault → IsConflictOf spans found
-conflict_of spans (Contradiction m) found conflict memory h = inr (m, conflict m refl, h)
-conflict_of spans NoMemory found conflict memory h = inl (memory refl)
+conflict_of : (spans : List Span) (fault : SpanFault) → IsFirstFault (Gives spans) fault
+    → IsConflictOf spans (fault_of_spans fault)
+conflict_of spans (Contradiction m) h = inr (m, refl, h)
+conflict_of spans NoMemory h = inl refl
 
-pub returns-in-Err : goal.returns-in-Err
-returns-in-Err c =
-    conflict_of c.args.spans.now c.in-Err.fault c.card_fault.result c.card_fault.ensures.contradiction c.card_fault.ensures.memory c.in-Err.ensures
+-- what a fault is holds of the answer that hands it on
+handed_on : {V : Type 0} (items : V → List Span) (spans : List Span) (r : Result V CardFault) (fault : CardFault)
+    → IsErr r × IsErrAnd r (λ found. found ≡ fault) → IsConflictOf spans fault
+    → MatchResult r (λ runs. IsCanonicalOf (Gives spans) (items runs)) (IsConflictOf spans)
+handed_on items spans (Ok v) fault e h = let wrong = e.0 in cc
+handed_on items spans (Err f) fault e h = subst (IsConflictOf spans) (sym e.1) h
+
+pub returns-in_err-canonical_spans : goal.returns-in_err-canonical_spans
+returns-in_err-canonical_spans c =
+    let fault = c.in_err-canonical_spans.field-0.0 in
+    handed_on (λ runs. runs.items) c.args.spans.now c.from_residual.result (fault_of_spans fault) c.from_residual.ensures
+    (conflict_of c.args.spans.now fault c.in_err-canonical_spans.ensures)

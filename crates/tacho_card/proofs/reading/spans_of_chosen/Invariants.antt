@@ -4,5 +4,5 @@ use Rattle.tacho_card.proofs.GivesLemmas.{IsRaw}
 use Rattle.tacho_card.proofs.reading.spans_of_chosen.Given as goal
 
 -- the spans so far are those of the data so far
-abbrev pub invariant-loop-block : goal.invariant-loop-block
-invariant-loop-block l = IsRaw (those_there (take l.block-index l.chosen)) l.raw.items
+abbrev pub invariant-loop-activity : goal.invariant-loop-activity
+invariant-loop-activity l = IsRaw (those_there (take l.activity-index l.chosen)) l.raw.items

@@ -1,7 +1,7 @@
 use Rattle.std.proofs.Common.{◌∷◌, ◌++◌, ◌==◌, inr, ap, ap₂, ◌∙◌}
 use Rattle.tacho_card.specs.RawSpans.{with_spans, record_spans, items_spans}
 use Rattle.tacho_card.proofs.RawLemmas.{only_fault, spans_fault, spans_more, spans_end}
-use Rattle.tacho_card.proofs.reading.append_block.Goals as goal
+use Rattle.tacho_card.proofs.reading.append_activity.Goals as goal
 
 pub loop-item-init : goal.loop-item-init
 loop-item-init c =

@@ -1,7 +1,0 @@
-use Rattle.std.proofs.Common.{◌≡◌}
-use Rattle.tacho_card.specs.RawSpans.{with_spans, items_spans, block_spans}
-use Rattle.tacho_card.proofs.reading.append_block.Given as goal
-
--- the spans so far, before those of what is left
-abbrev pub invariant-loop-item : goal.invariant-loop-item
-invariant-loop-item l = with_spans l.spans.items (items_spans l.newest l.item-iterator) ≡ with_spans l.fn.spans.items (block_spans l.block)
