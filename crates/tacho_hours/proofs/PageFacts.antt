@@ -1,17 +1,18 @@
 -- What docs/RULES.md says of its examples, held against the definitions: with another value here this file is refused.
-use Rattle.std.proofs.Common.{◌≡◌, ℕ, ◌+◌, ◌-◌, ◌*◌, ◌≤◌, ◌⊎◌, inl, inr, zero, suc, [], ◌∷◌, Some, refl, ap, subst, arith}
+use Rattle.std.proofs.Common.{◌≡◌, ℕ, ◌+◌, ◌-◌, ◌*◌, ◌≤◌, ◌⊎◌, inl, inr, zero}
+use Rattle.std.proofs.Common.{suc, [], ◌∷◌, Some, refl, ap, subst, arith}
 use Rattle.std.specs.List.{Contains}
 use Rattle.tacho_hours.specs.declared.run.Run.{Run}
 use Rattle.tacho_hours.specs.declared.run.TheConstants.{FAR}
 use Rattle.tacho_hours.specs.declared.days.DutyDay.{DutyDay}
-use Rattle.tacho_hours.specs.declared.report.Debt.{Debt}
-use Rattle.tacho_hours.specs.declared.report.Kind.TheVariants.{B9, B10}
-use Rattle.tacho_hours.specs.Line.{Before}
-use Rattle.tacho_hours.specs.Breaks.{minutes_of, Completes}
+use Rattle.tacho_hours.specs.declared.debt.Debt.{Debt}
+use Rattle.tacho_hours.specs.declared.breach.Kind.TheVariants.{B9, B10}
+use Rattle.tacho_hours.specs.Runs.{Before, minutes_of}
+use Rattle.tacho_hours.specs.Breaks.{Completes}
 use Rattle.tacho_hours.specs.Days.{HasPortion, HasRegularRest, HasReducedRest}
 use Rattle.tacho_hours.specs.Weeks.{week_start, IsInWeek, Touches}
 use Rattle.tacho_hours.specs.Debts.{minutes_before, share, paid_from}
-use Rattle.tacho_hours.specs.Report.{place_of_kind, Earlier}
+use Rattle.tacho_hours.specs.Order.{place_of_kind, Earlier}
 
 -- a minute of a day of March 2024, from Monday the 4th on; April goes on with the 32nd
 abbrev pub at : ℕ → ℕ → ℕ
@@ -56,7 +57,9 @@ abbrev pub night : Run
 night = rest_between 0 (at 4 360)
 
 -- 15 minutes from 08:00 and then 30 from 10:45 are a break
-pub fifteen_then_thirty : Completes (night ∷ rest_between (at 4 480) (at 4 495) ∷ rest_between (at 4 645) (at 4 675) ∷ []) (night ∷ []) (rest_between (at 4 645) (at 4 675))
+pub fifteen_then_thirty : Completes
+    (night ∷ rest_between (at 4 480) (at 4 495) ∷ rest_between (at 4 645) (at 4 675) ∷ [])
+    (night ∷ []) (rest_between (at 4 645) (at 4 675))
 fifteen_then_thirty = inr (
   omega arith,
   record {
@@ -64,23 +67,32 @@ fifteen_then_thirty = inr (
     among = (1, omega arith, refl);
     enough = omega arith;
     before = omega arith;
-    after = λ b among before. subst (λ (run : Run). Before run (rest_between (at 4 480) (at 4 495))) (one_member night b among) (omega arith);
+    after = λ b among before.
+        subst (λ (run : Run). Before run (rest_between (at 4 480) (at 4 495))) (one_member night b among) (omega arith);
   },
 )
 
 -- 30 minutes from 08:00 and then 15 from 11:00 are none: the first has no part before it
-pub thirty_at_first : ¬ (Completes (night ∷ rest_between (at 4 480) (at 4 510) ∷ rest_between (at 4 660) (at 4 675) ∷ []) (night ∷ []) (rest_between (at 4 480) (at 4 510)))
+pub thirty_at_first : ¬ (Completes
+    (night ∷ rest_between (at 4 480) (at 4 510) ∷ rest_between (at 4 660) (at 4 675) ∷ [])
+    (night ∷ []) (rest_between (at 4 480) (at 4 510)))
 thirty_at_first (inl long) = omega arith
 thirty_at_first (inr (enough, first)) =
     let before : Before first.part (rest_between (at 4 480) (at 4 510)) = first.before in
-    elim (three_members night (rest_between (at 4 480) (at 4 510)) (rest_between (at 4 660) (at 4 675)) first.part first.among) [
-      | inl is ↦ let after : Before night first.part = first.after night (0, omega arith, refl) (omega arith) in let e : night.past ≡ first.part.past = ap (λ (run : Run). run.past) is in let some : 15 ≤ minutes_of first.part = first.enough in omega arith
+    elim (three_members night (rest_between (at 4 480) (at 4 510))
+    (rest_between (at 4 660) (at 4 675)) first.part first.among) [
+      | inl is ↦
+          let after : Before night first.part = first.after night (0, omega arith, refl) (omega arith) in
+          let e : night.past ≡ first.part.past = ap (λ (run : Run). run.past) is in
+          let some : 15 ≤ minutes_of first.part = first.enough in
+          omega arith
       | inr (inl is) ↦ let e : at 4 510 ≡ first.part.past = ap (λ (run : Run). run.past) is in omega arith
       | inr (inr is) ↦ let e : at 4 675 ≡ first.part.past = ap (λ (run : Run). run.past) is in omega arith
     ]
 
 -- and the second is too short
-pub then_fifteen : ¬ (Completes (night ∷ rest_between (at 4 480) (at 4 510) ∷ rest_between (at 4 660) (at 4 675) ∷ []) (night ∷ []) (rest_between (at 4 660) (at 4 675)))
+pub then_fifteen : ¬ (Completes (night ∷ rest_between (at 4 480) (at 4 510) ∷ rest_between (at 4 660) (at 4 675) ∷ [])
+    (night ∷ []) (rest_between (at 4 660) (at 4 675)))
 then_fifteen (inl long) = omega arith
 then_fifteen (inr (enough, first)) = omega arith
 
@@ -115,7 +127,8 @@ reduced_from_21 = record {
 
 -- and with rest from 12:00 to 15:00 a regular one again
 pub regular_in_two : HasRegularRest (rest_between (at 4 720) (at 4 900) ∷ []) (day_to 1260 420)
-regular_in_two = inr (omega arith, (rest_between (at 4 720) (at 4 900), (0, omega arith, refl), omega arith, omega arith))
+regular_in_two =
+    inr (omega arith, (rest_between (at 4 720) (at 4 900), (0, omega arith, refl), omega arith, omega arith))
 
 -- ---- weekly rests: the month of the page
 
@@ -159,5 +172,6 @@ pub kinds_have_places : (place_of_kind B9 ≡ 9) × (place_of_kind B10 ≡ 10)
 kinds_have_places = (refl, refl)
 
 -- so at one moment B9 stands before B10
-pub pairs_before_debts : Earlier (record { kind = B9; moment = at 32 0; since = at 18 0; amount = 0 }) (record { kind = B10; moment = at 32 0; since = at 4 0; amount = 1260 })
+pub pairs_before_debts : Earlier (record { kind = B9; moment = at 32 0; since = at 18 0; amount = 0 })
+    (record { kind = B10; moment = at 32 0; since = at 4 0; amount = 1260 })
 pairs_before_debts = inr (refl, inl (omega arith))

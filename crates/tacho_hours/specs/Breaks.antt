@@ -1,27 +1,38 @@
--- Breaks (Regulation (EC) 561/2006, Articles 4(d) and 7): after a driving period of four and a half hours an uninterrupted
--- break of 45 minutes, or one of 15 and then one of 30.
-use Rattle.std.specs.Prelude.{ℕ, ◌-◌, ◌≤◌, ◌⊎◌, ◌↔◌, List, Contains, AllPairs}
+-- Breaks (Regulation (EC) 561/2006, Articles 4(d) and 7): after a driving period of four and a half hours an
+-- uninterrupted break of 45 minutes, or one of 15 and then one of 30.
+use Rattle.std.specs.Prelude.{◌≤◌, ◌⊎◌, List, Contains, Bool, IsTrue}
 use Rattle.tacho_hours.specs.declared.run.Run.{Run}
-use Rattle.tacho_hours.specs.Line.{Before}
+use Rattle.tacho_hours.specs.Exactly.{AreExactly}
+use Rattle.tacho_hours.specs.Runs.{Before, minutes_of}
+use Rattle.tacho_hours.specs.Limits.{whole_break, first_part_of_break, last_part_of_break}
 
--- how long a run is
-abbrev pub minutes_of : Run → ℕ
-minutes_of run = run.past - run.start
-
--- the first part of a break in two (Article 7, second paragraph): a run of at least 15 minutes before the run, and after the
--- last complete break before it
+-- the first part of a break in two (Article 7, second paragraph): a run of at least 15 minutes before the run,
+-- and after the last complete break before it
 pub record HasFirstPart (runs breaks : List Run) (run : Run) : Type 0 where
   pub part : Run
   pub among : Contains runs part
-  pub enough : 15 ≤ minutes_of part
+  pub enough : first_part_of_break ≤ minutes_of part
   pub before : Before part run
   pub after : (b : Run) → Contains breaks b → Before b run → Before b part
 
 -- Article 7: 45 minutes; or 30 with a first part of 15
 abbrev pub Completes : List Run → List Run → Run → Type 0
-Completes runs breaks run = (45 ≤ minutes_of run) ⊎ ((30 ≤ minutes_of run) × HasFirstPart runs breaks run)
+Completes runs breaks run =
+    (whole_break ≤ minutes_of run) ⊎ ((last_part_of_break ≤ minutes_of run) × HasFirstPart runs breaks run)
 
 -- the complete breaks among the rest runs, in order: there is one such list
-pub record AreCompleteBreaks (runs breaks : List Run) : Type 0 where
-  pub each : (run : Run) → Contains breaks run ↔ (Contains runs run × Completes runs breaks run)
-  pub in_order : AllPairs Before breaks
+abbrev pub AreCompleteBreaks : List Run → List Run → Type 0
+AreCompleteBreaks runs breaks = AreExactly (λ run. Contains runs run × Completes runs breaks run) Before breaks
+
+-- a first part after each of the breaks so far
+pub record HasShort (seen breaks : List Run) : Type 0 where
+  pub part : Run
+  pub among : Contains seen part
+  pub enough : first_part_of_break ≤ minutes_of part
+  pub after : (b : Run) → Contains breaks b → Before b part
+
+-- the complete breaks among the runs so far, and whether a first part is open
+pub record Breaking (seen breaks : List Run) (short : Bool) : Type 0 where
+  pub whole : AreCompleteBreaks seen breaks
+  pub set : IsTrue short → HasShort seen breaks
+  pub has : HasShort seen breaks → IsTrue short

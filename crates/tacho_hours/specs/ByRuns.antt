@@ -1,10 +1,10 @@
 -- Compensation taken run by run, in order of time (Regulation (EC) 561/2006, Article 8(6b) and 8(7), as amended by (EU)
 -- 2020/1054): another way to the payers of the definition in Debts.
-use Rattle.std.specs.Prelude.{◌≡◌, ℕ, ◌⊎◌, List, [], ◌∷◌, ◌++◌, All, None, Some}
+use Rattle.std.specs.Prelude.{◌≡◌, ℕ, ◌<◌, ◌⊎◌, List, [], ◌∷◌, ◌++◌, All, Option, None, Some}
 use Rattle.tacho_hours.specs.declared.run.Run.{Run}
-use Rattle.tacho_hours.specs.declared.report.Debt.{Debt}
-use Rattle.tacho_hours.specs.Days.{Line}
-use Rattle.tacho_hours.specs.Debts.{CanPay, AreOwed}
+use Rattle.tacho_hours.specs.declared.debt.Debt.{Debt}
+use Rattle.tacho_hours.specs.Line.{Line}
+use Rattle.tacho_hours.specs.Debts.{CanPay, Pays, AreOwed}
 
 -- nothing pays a debt yet, and a run has room for it beside what it pays of earlier ones
 pub record CanTake (line : Line) (horizon : ℕ) (run : Run) (earlier : List Debt) (debt : Debt) : Type 0 where
@@ -37,3 +37,14 @@ pub record ArePaidByRuns (line : Line) (horizon : ℕ) (runs : List Run) (debts 
   pub are_owed : AreOwed line horizon owed
   pub unpaid : All (λ debt. debt.paid_by ≡ None) owed
   pub paid : AfterRuns line horizon runs owed debts
+
+-- after the turns of the runs that start before a minute: the first of these that can pay a debt does, or none can
+abbrev pub IsDone : Line → ℕ → ℕ → List Debt → Debt → Option ℕ → Type 0
+IsDone line horizon b earlier debt None = (run : Run) → run.start < b → CanPay line horizon earlier debt run → ⊥
+IsDone line horizon b earlier debt (Some start) = (start < b) × Pays line horizon earlier debt start
+
+-- the same of each of some debts, given those before them
+abbrev pub AreDone : Line → ℕ → ℕ → List Debt → List Debt → Type 0
+AreDone line horizon b earlier [] = Unit {0}
+AreDone line horizon b earlier (debt ∷ debts) =
+    IsDone line horizon b earlier debt debt.paid_by × AreDone line horizon b (earlier ++ debt ∷ []) debts

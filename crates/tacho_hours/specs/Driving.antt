@@ -3,6 +3,7 @@ use Rattle.std.specs.Prelude.{◌≡◌, ℕ, ◌+◌, ◌<◌, ◌≤◌, ◌&&
 use Rattle.std.proofs.Common.{zero, suc}
 use Rattle.tacho_time.specs.declared.span.Activity.{Activity}
 use Rattle.tacho_time.specs.declared.span.Activity.TheVariants.{Rest, Available, Work, Drive}
+use Rattle.tacho_hours.specs.Line.{Line}
 
 -- an activity is driving: other work, availability and rest aren't
 abbrev pub is_drive : Activity → Bool
@@ -12,13 +13,19 @@ is_drive Available = false
 is_drive Work = false
 
 -- how many minutes from one minute up to another are driving
-unfoldable pub driving : (ℕ → Activity) → ℕ → ℕ → ℕ
+unfoldable pub driving : Line → ℕ → ℕ → ℕ
 driving line from zero = 0
 driving line from (suc m) = driving line from m + (if nat_le from m && is_drive (line m) then 1 else 0)
 
 -- m is the k-th driving minute from one minute up to another, counted from 1
-pub record IsDrivingMinute (line : ℕ → Activity) (from to k m : ℕ) : Type 0 where
+pub record IsDrivingMinute (line : Line) (from to k m : ℕ) : Type 0 where
   pub above : from ≤ m
   pub below : m < to
   pub drives : line m ≡ Drive
   pub earlier : driving line from m + 1 ≡ k
+
+-- more driving than a limit from one minute up to another: the first driving minute m above
+-- it, and by how many minutes n it is more
+pub record IsExcess (line : Line) (limit from to m n : ℕ) : Type 0 where
+  pub moment : IsDrivingMinute line from to (limit + 1) m
+  pub amount : n + limit ≡ driving line from to

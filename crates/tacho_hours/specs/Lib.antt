@@ -1,9 +1,13 @@
+pub mod Limits
+pub mod Exactly
 pub mod Line
+pub mod Runs
 pub mod Driving
 pub mod Breaks
 pub mod Days
 pub mod Weeks
 pub mod Debts
-pub mod Report
+pub mod MainRests
 pub mod Order
+pub mod Breaches
 pub mod ByRuns

@@ -1,6 +1,28 @@
--- Breaches that have different places in the order of a report. No Article rules it.
-use Rattle.std.specs.Prelude.{◌≡◌, List, AllPairs}
-use Rattle.tacho_hours.specs.declared.report.Breach.{Breach}
+-- The order in which a report has its breaches. No Article rules it.
+use Rattle.std.specs.Prelude.{◌≡◌, ℕ, ◌<◌, ◌⊎◌, List, AllPairs}
+use Rattle.tacho_hours.specs.declared.breach.Breach.{Breach}
+use Rattle.tacho_hours.specs.declared.breach.Kind.{Kind}
+use Rattle.tacho_hours.specs.declared.breach.Kind.TheVariants.{B1, B2, B3, B4, B5, B6, B7, B8, B9, B10}
+use Rattle.tacho_hours.specs.Exactly.{AreExactly}
+
+-- a kind's place among the kinds
+abbrev pub place_of_kind : Kind → ℕ
+place_of_kind B1 = 1
+place_of_kind B2 = 2
+place_of_kind B3 = 3
+place_of_kind B4 = 4
+place_of_kind B5 = 5
+place_of_kind B6 = 6
+place_of_kind B7 = 7
+place_of_kind B8 = 8
+place_of_kind B9 = 9
+place_of_kind B10 = 10
+
+-- by moment, then kind, then since
+abbrev pub Earlier : Breach → Breach → Type 0
+Earlier a b = (a.moment < b.moment)
+    ⊎ ((a.moment ≡ b.moment) × ((place_of_kind a.kind < place_of_kind b.kind)
+    ⊎ ((place_of_kind a.kind ≡ place_of_kind b.kind) × (a.since < b.since))))
 
 -- two breaches have one place in the order
 pub record Agree (a b : Breach) : Type 0 where
@@ -8,6 +30,18 @@ pub record Agree (a b : Breach) : Type 0 where
   pub kind : a.kind ≡ b.kind
   pub since : a.since ≡ b.since
 
+-- and two that have not
+abbrev pub Apart : Breach → Breach → Type 0
+Apart a b = ¬ (Agree a b)
+
 -- no two of them have one place
 abbrev pub AreApart : List Breach → Type 0
-AreApart found = AllPairs (λ a b. ¬ (Agree a b)) found
+AreApart found = AllPairs Apart found
+
+-- these breaches and no others, and no two of them have one place: as they are found, before they are put in order
+abbrev pub AreCollected : (Breach → Type 0) → List Breach → Type 0
+AreCollected P found = AreExactly P Apart found
+
+-- these breaches and no others, each once, in order
+abbrev pub AreBreaches : (Breach → Type 0) → List Breach → Type 0
+AreBreaches P found = AreExactly P Earlier found

@@ -1,22 +1,23 @@
 ghost use Rattle.std.specs.Prelude.{◌≤◌, ◌<◌, ◌↔◌, ◌⊎◌, All, AllPairs, IfOk, IsTrue};
-ghost use Rattle.tacho_hours.specs.Line.{Before};
+ghost use Rattle.tacho_hours.specs.Runs.{AreRuns};
 ghost use Rattle.tacho_hours.specs.Breaks.{AreCompleteBreaks};
+ghost use Rattle.tacho_hours.specs.Limits.{whole_break, last_part_of_break};
 
+use crate::limits::{FIRST_PART_OF_BREAK, LAST_PART_OF_BREAK, WHOLE_BREAK};
 use crate::run::Run;
 use std::alloc::{AllocError, Global};
 
 /// Whether a run of so many minutes completes a break, after a first part or without one.
 fn completes(minutes: u32, has_first_part: bool) -> bool
-    ensures { IsTrue result ↔ ((45 ≤ minutes) ⊎ ((30 ≤ minutes) × IsTrue has_first_part)) }
+    ensures { IsTrue result ↔ ((whole_break ≤ minutes) ⊎ ((last_part_of_break ≤ minutes) × IsTrue has_first_part)) }
 {
-    minutes >= 45 || (minutes >= 30 && has_first_part)
+    minutes >= WHOLE_BREAK || (minutes >= LAST_PART_OF_BREAK && has_first_part)
 }
 
 /// The complete breaks among rest runs, in order of time: 45 minutes, or 15 and then 30
 /// (Article 7 of Regulation (EC) 561/2006).
 pub fn complete_breaks(alloc: Global, runs: &[Run]) -> Result<Vec<Run>, AllocError>
-    requires some { All (λ run. run.start < run.past) runs.now }
-    requires in_order { AllPairs Before runs.now }
+    requires { AreRuns runs.now }
     ensures { IfOk result (λ breaks. AreCompleteBreaks runs.now breaks.items) }
 {
     let mut breaks = Vec::new(alloc);
@@ -26,7 +27,7 @@ pub fn complete_breaks(alloc: Global, runs: &[Run]) -> Result<Vec<Run>, AllocErr
         if completes(minutes, has_first_part) {
             breaks.push(*run)?;
             has_first_part = false;
-        } else if minutes >= 15 {
+        } else if minutes >= FIRST_PART_OF_BREAK {
             has_first_part = true;
         }
     }

@@ -1,12 +1,11 @@
 ghost use Rattle.std.specs.Prelude.{◌<◌, All, AllPairs, IfOk};
-ghost use Rattle.tacho_hours.specs.Line.{Before, AreRestRuns};
-ghost use Rattle.tacho_hours.specs.Days.{Line, AreRestsOf, AreDutyDays};
+ghost use Rattle.tacho_hours.specs.Runs.{AreRuns, AreRestRuns, AreRestsOf};
+ghost use Rattle.tacho_hours.specs.Line.{Line};
+ghost use Rattle.tacho_hours.specs.Days.{AreDutyDays};
 
+use crate::limits::DAILY_REST;
 use crate::run::Run;
 use std::alloc::{AllocError, Global};
-
-/// How many minutes of rest end a duty day (Article 4(g) of Regulation (EC) 561/2006).
-const DAILY_REST: u32 = 540;
 
 /// A duty day: from the end of one rest of nine hours or more to the start of the next, which is its daily rest
 /// (Article 8 of Regulation (EC) 561/2006).
@@ -19,8 +18,7 @@ pub struct DutyDay {
 
 /// The rest runs of so many minutes or more, in order of time (Article 4(g) and (h) of Regulation (EC) 561/2006).
 pub fn long_rests(alloc: Global, runs: &[Run], least: u32) -> Result<Vec<Run>, AllocError>
-    requires some { All (λ run. run.start < run.past) runs.now }
-    requires in_order { AllPairs Before runs.now }
+    requires { AreRuns runs.now }
     ensures { IfOk result (λ rests. (line : Line) → AreRestRuns line runs.now → AreRestsOf line least rests.items) }
 {
     let mut rests = Vec::new(alloc);
@@ -34,8 +32,7 @@ pub fn long_rests(alloc: Global, runs: &[Run], least: u32) -> Result<Vec<Run>, A
 
 /// The duty days between rest runs, in order of time (Article 8 of Regulation (EC) 561/2006).
 pub fn duty_days(alloc: Global, runs: &[Run]) -> Result<Vec<DutyDay>, AllocError>
-    requires some { All (λ run. run.start < run.past) runs.now }
-    requires in_order { AllPairs Before runs.now }
+    requires { AreRuns runs.now }
     ensures { IfOk result (λ days. (line : Line) → AreRestRuns line runs.now → AreDutyDays line days.items) }
 {
     let rests = long_rests(alloc, runs, DAILY_REST)?;

@@ -1,25 +1,28 @@
 ghost use Rattle.std.specs.Prelude.{◌≡◌, ◌<◌, ◌≤◌, All, MatchOption, length, take};
 ghost use Rattle.tacho_hours.specs.Line.{line_of, IsExamined};
-ghost use Rattle.tacho_hours.specs.Driving.{driving, IsDrivingMinute};
+ghost use Rattle.tacho_hours.specs.Driving.{driving, IsDrivingMinute, IsExcess};
 
+use crate::examined::Examined;
 use crate::line::is_drive;
-use tacho_time::{Minute, Span};
+use tacho_time::Minute;
 
 /// How many of the first spans have ended by a minute.
-fn ended_by(spans: &[Span], base: Minute, past: Minute, minute: u32) -> usize
-    requires { IsExamined spans.now base past }
-    ensures within { result ≤ length spans.now }
-    ensures ended { All (λ span. span.past ≤ minute) (take result spans.now) }
+fn ended_by(examined: &Examined<'_>, minute: u32) -> usize
+    requires { IsExamined examined.now.spans.now examined.now.base examined.now.past }
+    ensures within { result ≤ length examined.now.spans.now }
+    ensures ended { All (λ span. span.past ≤ minute) (take result examined.now.spans.now) }
 {
-    spans.partition_point(|span| span.past.number() <= minute)
+    examined
+        .spans
+        .partition_point(|span| span.past.number() <= minute)
 }
 
 /// How many minutes from `from` to before `to` are driving.
-pub fn driving_minutes(spans: &[Span], base: Minute, past: Minute, from: u32, to: u32) -> u32
-    requires { IsExamined spans.now base past }
-    ensures { result ≡ driving (line_of spans.now) from to }
+pub fn driving_minutes(examined: &Examined<'_>, from: u32, to: u32) -> u32
+    requires { IsExamined examined.now.spans.now examined.now.base examined.now.past }
+    ensures { result ≡ driving (line_of examined.now.spans.now) from to }
 {
-    let later = &spans[ended_by(spans, base, past, from)..];
+    let later = &examined.spans[ended_by(examined, from)..];
     let mut count = 0;
     for span in later {
         if span.start.number() >= to {
@@ -37,21 +40,14 @@ pub fn driving_minutes(spans: &[Span], base: Minute, past: Minute, from: u32, to
 }
 
 /// The k-th driving minute from `from` to before `to`, counted from 1, if there are as many.
-pub fn driving_minute(
-    spans: &[Span],
-    base: Minute,
-    past: Minute,
-    from: u32,
-    to: u32,
-    k: u32,
-) -> Option<u32>
-    requires examined { IsExamined spans.now base past }
+pub fn driving_minute(examined: &Examined<'_>, from: u32, to: u32, k: u32) -> Option<u32>
+    requires examined { IsExamined examined.now.spans.now examined.now.base examined.now.past }
     requires first { 0 < k }
     ensures { MatchOption result
-        (driving (line_of spans.now) from to < k)
-        (λ m. IsDrivingMinute (line_of spans.now) from to k m) }
+        (driving (line_of examined.now.spans.now) from to < k)
+        (λ m. IsDrivingMinute (line_of examined.now.spans.now) from to k m) }
 {
-    let later = &spans[ended_by(spans, base, past, from)..];
+    let later = &examined.spans[ended_by(examined, from)..];
     let mut left = k;
     for span in later {
         if span.start.number() >= to {
@@ -69,4 +65,32 @@ pub fn driving_minute(
         }
     }
     None
+}
+
+/// More driving than a limit.
+#[derive(Clone, Copy, Debug, PartialEq, Eq)]
+pub struct Excess {
+    /// The first driving minute above the limit.
+    pub moment: Minute,
+    /// By how many minutes the driving is more.
+    pub amount: u32,
+}
+
+/// What is driven from `from` to before `to` above a limit in minutes, if it is more
+/// (Articles 6 and 7 of Regulation (EC) 561/2006).
+pub fn excess_between(examined: &Examined<'_>, from: u32, to: u32, limit: u32) -> Option<Excess>
+    requires { IsExamined examined.now.spans.now examined.now.base examined.now.past }
+    ensures { MatchOption result
+        (driving (line_of examined.now.spans.now) from to ≤ limit)
+        (λ excess. IsExcess (line_of examined.now.spans.now) limit from to excess.moment excess.amount) }
+{
+    let minutes = driving_minutes(examined, from, to);
+    if minutes <= limit {
+        return None;
+    }
+    let moment = driving_minute(examined, from, to, limit + 1)?;
+    Some(Excess {
+        moment: Minute::new(moment),
+        amount: minutes - limit,
+    })
 }

@@ -4,19 +4,22 @@
 ghost use Rattle.std.specs.Prelude.{◌≡◌, ℕ, ◌<◌, ◌↔◌, List, All, AllPairs, Contains};
 ghost use Rattle.tacho_time.specs.declared.span.Activity.{Activity as ActivityValue};
 ghost use Rattle.tacho_hours.specs.declared.run.Run.{Run as RunValue};
-ghost use Rattle.tacho_hours.specs.declared.report.Breach.{Breach as BreachValue};
-ghost use Rattle.tacho_hours.specs.declared.report.Debt.{Debt as DebtValue};
-ghost use Rattle.tacho_hours.specs.Line.{AreRestRuns};
+ghost use Rattle.tacho_hours.specs.declared.breach.Breach.{Breach as BreachValue};
+ghost use Rattle.tacho_hours.specs.declared.debt.Debt.{Debt as DebtValue};
+ghost use Rattle.tacho_hours.specs.Runs.{AreRestRuns, AreRestsOf};
 ghost use Rattle.tacho_hours.specs.declared.days.DutyDay.{DutyDay as DutyDayValue};
 ghost use Rattle.tacho_hours.specs.Breaks.{AreCompleteBreaks};
-ghost use Rattle.tacho_hours.specs.Days.{AreRestsOf, IsDuty, HasRegularRest, HasReducedRest, IsRegular, IsReduced};
+ghost use Rattle.tacho_hours.specs.Days.{IsDuty, HasRegularRest, HasReducedRest, IsRegular, IsReduced};
 ghost use Rattle.tacho_hours.specs.Debts.{AreDebts};
 ghost use Rattle.tacho_hours.specs.ByRuns.{ArePaidByRuns};
-ghost use Rattle.tacho_hours.specs.Report.{Earlier, AreBreakBreaches, AreDayBreaches, AreWeekBreaches, AreRestBreaches};
+ghost use Rattle.tacho_hours.specs.Order.{Earlier};
+ghost use Rattle.tacho_hours.specs.Breaches.{AreBreakBreaches, AreDayBreaches, AreWeekBreaches, AreRestBreaches};
+ghost use Rattle.tacho_hours.specs.Limits.{first_part_of_daily_rest};
 
 /// A line has one list of rest runs.
 pub fn one_list_of_rest_runs()
-    ensures { (line : ℕ → ActivityValue) (runs others : List RunValue) → AreRestRuns line runs → AreRestRuns line others → runs ≡ others }
+    ensures { (line : ℕ → ActivityValue) (runs others : List RunValue) → AreRestRuns line runs
+        → AreRestRuns line others → runs ≡ others }
 {}
 
 /// Runs, each of a minute or more, have one list of complete breaks.
@@ -33,17 +36,20 @@ pub fn one_list_of_breaches()
 
 /// A line has one list of breaches of the rule on breaks.
 pub fn one_list_of_break_breaches()
-    ensures { (line : ℕ → ActivityValue) (found others : List BreachValue) → AreBreakBreaches line found → AreBreakBreaches line others → found ≡ others }
+    ensures { (line : ℕ → ActivityValue) (found others : List BreachValue) → AreBreakBreaches line found
+        → AreBreakBreaches line others → found ≡ others }
 {}
 
 /// A line has one list of breaches of the rules on days.
 pub fn one_list_of_day_breaches()
-    ensures { (line : ℕ → ActivityValue) (found others : List BreachValue) → AreDayBreaches line found → AreDayBreaches line others → found ≡ others }
+    ensures { (line : ℕ → ActivityValue) (found others : List BreachValue) → AreDayBreaches line found
+        → AreDayBreaches line others → found ≡ others }
 {}
 
 /// A line has one list of breaches of the rules on weeks.
 pub fn one_list_of_week_breaches()
-    ensures { (line : ℕ → ActivityValue) (found others : List BreachValue) → AreWeekBreaches line found → AreWeekBreaches line others → found ≡ others }
+    ensures { (line : ℕ → ActivityValue) (found others : List BreachValue) → AreWeekBreaches line found
+        → AreWeekBreaches line others → found ≡ others }
 {}
 
 /// A line has one list of debts, each with its payer.
@@ -54,8 +60,10 @@ pub fn one_list_of_debts()
 
 /// A line has one list of breaches of the rules on weekly rests.
 pub fn one_list_of_rest_breaches()
-    ensures { (line : ℕ → ActivityValue) (base horizon : ℕ) (found others : List BreachValue) (debts owed : List DebtValue)
-        → AreRestBreaches line base horizon found debts → AreRestBreaches line base horizon others owed → found ≡ others }
+    ensures { (line : ℕ → ActivityValue) (base horizon : ℕ) (found others : List BreachValue)
+        (debts owed : List DebtValue)
+        → AreRestBreaches line base horizon found debts → AreRestBreaches line base horizon others owed
+        → found ≡ others }
 {}
 
 /// Debts that the rest runs pay in order of time, each run the unpaid ones from the oldest where it has room, have the
@@ -68,7 +76,8 @@ pub fn paid_by_runs()
 /// Whether a day's rest is regular or reduced is told by the rests of three hours or more alone.
 pub fn rest_by_parts()
     ensures regular { (line : ℕ → ActivityValue) (parts : List RunValue) (day : DutyDayValue)
-        → AreRestsOf line 180 parts → (HasRegularRest parts day ↔ IsRegular line day) }
+        → AreRestsOf line first_part_of_daily_rest parts → (HasRegularRest parts day ↔ IsRegular line day) }
     ensures reduced { (line : ℕ → ActivityValue) (parts : List RunValue) (day : DutyDayValue)
-        → AreRestsOf line 180 parts → IsDuty line day → (HasReducedRest parts day ↔ IsReduced line day) }
+        → AreRestsOf line first_part_of_daily_rest parts → IsDuty line day
+        → (HasReducedRest parts day ↔ IsReduced line day) }
 {}

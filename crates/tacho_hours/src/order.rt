@@ -1,9 +1,9 @@
 ghost use Rattle.std.specs.Prelude.{◌≡◌, ◌↔◌, AllPairs, Contains};
-ghost use Rattle.tacho_hours.specs.declared.report.Breach.{Breach as BreachValue};
-ghost use Rattle.tacho_hours.specs.Report.{Earlier, place_of_kind};
+ghost use Rattle.tacho_hours.specs.declared.breach.Breach.{Breach as BreachValue};
+ghost use Rattle.tacho_hours.specs.Order.{Earlier, place_of_kind};
 ghost use Rattle.tacho_hours.specs.Order.{AreApart};
 
-use crate::report::{Breach, Kind};
+use crate::breach::{Breach, Kind};
 
 /// The place of a kind among the kinds, counted from 1.
 fn place_of(kind: Kind) -> u8

@@ -1,29 +1,19 @@
 ghost use Rattle.std.specs.Prelude.{◌<◌, ◌≤◌, ◌↔◌, All, AllPairs, Contains, IsTrue};
 ghost use Rattle.tacho_hours.specs.declared.run.Run.{Run as RunValue};
-ghost use Rattle.tacho_hours.specs.Line.{Before};
+ghost use Rattle.tacho_hours.specs.Runs.{AreRuns};
 ghost use Rattle.tacho_hours.specs.Days.{HasPortion, HasRegularRest, HasReducedRest};
+ghost use Rattle.tacho_hours.specs.Limits.{minutes_of_day};
 
 use crate::days::DutyDay;
+use crate::limits::{DAILY_REST, MINUTES_OF_DAY, REGULAR_DAILY_REST, WEEKLY_REST};
 use crate::run::Run;
-
-/// The 24 hours of Article 8(2) of Regulation (EC) 561/2006.
-const MINUTES_OF_DAY: u32 = 1440;
-
-/// A regular daily rest (Article 4(g)).
-const REGULAR_REST: u32 = 660;
-
-/// A reduced daily rest, or the second part of one that is taken in two (Article 4(g)).
-const REDUCED_REST: u32 = 540;
-
-/// A weekly rest (Article 4(h)).
-const WEEKLY_REST: u32 = 1440;
 
 /// Whether the daily rest has so many minutes within 24 hours of the day's start
 /// (Article 8(2) of Regulation (EC) 561/2006).
 pub fn has_portion(day: DutyDay, minutes: u32) -> bool
     requires started { day.start ≤ 68428800 }
     requires ended { day.past ≤ 68428800 }
-    requires few { minutes ≤ 1440 }
+    requires few { minutes ≤ minutes_of_day }
     ensures { IsTrue result ↔ HasPortion day minutes }
 {
     day.past + minutes <= day.rest.past.min(day.start + MINUTES_OF_DAY)
@@ -31,8 +21,7 @@ pub fn has_portion(day: DutyDay, minutes: u32) -> bool
 
 /// Whether one of the runs lies between two minutes.
 fn has_run_between(runs: &[Run], from: u32, to: u32) -> bool
-    requires some { All (λ run. run.start < run.past) runs.now }
-    requires in_order { AllPairs Before runs.now }
+    requires { AreRuns runs.now }
     ensures { IsTrue result ↔ ((run : RunValue) × Contains runs.now run × (from ≤ run.start) × (run.past ≤ to)) }
 {
     let first = runs.partition_point(|run| run.start < from);
@@ -44,12 +33,11 @@ fn has_run_between(runs: &[Run], from: u32, to: u32) -> bool
 pub fn is_regular(day: DutyDay, parts: &[Run]) -> bool
     requires started { day.start ≤ 68428800 }
     requires ended { day.past ≤ 68428800 }
-    requires some { All (λ run. run.start < run.past) parts.now }
-    requires in_order { AllPairs Before parts.now }
+    requires parts { AreRuns parts.now }
     ensures { IsTrue result ↔ HasRegularRest parts.now day }
 {
-    has_portion(day, REGULAR_REST)
-        || (has_portion(day, REDUCED_REST) && has_run_between(parts, day.start, day.past))
+    has_portion(day, REGULAR_DAILY_REST)
+        || (has_portion(day, DAILY_REST) && has_run_between(parts, day.start, day.past))
 }
 
 /// Whether the daily rest of a duty day is reduced, where `parts` are the rests of three hours or more
@@ -58,12 +46,11 @@ pub fn is_reduced(day: DutyDay, parts: &[Run]) -> bool
     requires started { day.start ≤ 68428800 }
     requires ended { day.past ≤ 68428800 }
     requires rests { day.rest.start < day.rest.past }
-    requires some { All (λ run. run.start < run.past) parts.now }
-    requires in_order { AllPairs Before parts.now }
+    requires parts { AreRuns parts.now }
     ensures { IsTrue result ↔ HasReducedRest parts.now day }
 {
     if is_regular(day, parts) {
         return false;
     }
-    has_portion(day, REDUCED_REST) && day.rest.past - day.rest.start < WEEKLY_REST
+    has_portion(day, DAILY_REST) && day.rest.past - day.rest.start < WEEKLY_REST
 }

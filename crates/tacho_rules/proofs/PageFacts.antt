@@ -2,13 +2,14 @@
 use Rattle.std.proofs.Common.{◌≡◌, ◌-◌, ◌+◌, inl, inr, List, [], ◌∷◌, None, true, false, refl, ap, arith}
 use Rattle.tacho_time.specs.declared.span.Activity.TheVariants.{Rest, Work, Drive}
 use Rattle.tacho_time.specs.declared.span.Span.{Span}
-use Rattle.tacho_hours.specs.declared.report.Breach.{Breach}
-use Rattle.tacho_hours.specs.declared.report.Debt.{Debt}
-use Rattle.tacho_hours.specs.declared.report.Kind.TheVariants.{B2, B10}
+use Rattle.tacho_hours.specs.declared.breach.Breach.{Breach}
+use Rattle.tacho_hours.specs.declared.debt.Debt.{Debt}
+use Rattle.tacho_hours.specs.declared.breach.Kind.TheVariants.{B2, B10}
 use Rattle.tacho_hours.specs.Debts.{minutes_before}
 use Rattle.tacho_hours.proofs.PageFacts.{at, rest_between, one_member, day_to}
-use Rattle.tacho_rules.specs.Duties.{IsShortRest}
-use Rattle.tacho_rules.specs.Resting.{IsBetter, IsOverdue}
+use Rattle.tacho_rules.specs.DailyRests.{IsShortRest}
+use Rattle.tacho_hours.specs.MainRests.{IsBetter}
+use Rattle.tacho_hours.specs.Breaches.{IsOverdue}
 use Rattle.tacho_rules.specs.Report.{examined}
 
 -- ---- what is examined
@@ -43,17 +44,21 @@ rest_where_nothing_is_held = refl
 -- ---- days
 
 -- B2: work from 06:00 to 21:01 and on from 06:01 is a breach at 21:00 since 06:00, of 1
-pub short_rest_from_21_01 : IsShortRest (day_to 1261 361) (record { kind = B2; moment = at 4 1260; since = at 4 360; amount = 1 })
-short_rest_from_21_01 = record { kind = refl; short = λ portion. omega arith; moment = refl; since = refl; amount = refl }
+pub short_rest_from_21_01 : IsShortRest (day_to 1261 361)
+    (record { kind = B2; moment = at 4 1260; since = at 4 360; amount = 1 })
+short_rest_from_21_01 =
+    record { kind = refl; short = λ portion. omega arith; moment = refl; since = refl; amount = refl }
 
 -- ---- weekly rests
 
 -- the month: the rest from 29 March 18:00 is longer than that from the 26th 12:00, and so the main one of its week
-pub longer_rest_is_better : IsBetter (at 32 0) (rest_between (at 29 1080) (at 31 900)) (rest_between (at 26 720) (at 27 960))
+pub longer_rest_is_better : IsBetter (at 32 0)
+    (rest_between (at 29 1080) (at 31 900)) (rest_between (at 26 720) (at 27 960))
 longer_rest_is_better = inl (omega arith)
 
 -- of two with as many minutes the first is
-pub earlier_rest_is_better : IsBetter (at 32 0) (rest_between (at 23 720) (at 24 720)) (rest_between (at 24 1080) (at 25 1080))
+pub earlier_rest_is_better : IsBetter (at 32 0)
+    (rest_between (at 23 720) (at 24 720)) (rest_between (at 24 1080) (at 25 1080))
 earlier_rest_is_better = inr (refl, omega arith)
 
 -- the rest from the 26th keeps 540, and has room for the debt of 1,140 of the third week
@@ -65,8 +70,20 @@ abbrev pub unpaid : Debt
 unpaid = record { week = 2826; amount = 1260; deadline = at 32 0; paid_by = None }
 
 -- is a breach on 1 April at 00:00 since the 4th at 00:00, of 1,260
-pub unpaid_is_overdue : IsOverdue (at 32 0) (unpaid ∷ []) (record { kind = B10; moment = at 32 0; since = at 4 0; amount = 1260 })
-unpaid_is_overdue = (refl, record { debt = unpaid; owed = (0, omega arith, refl); unpaid = refl; due = omega arith; moment = refl; since = refl; amount = refl })
+pub unpaid_is_overdue : IsOverdue (at 32 0) (unpaid ∷ [])
+    (record { kind = B10; moment = at 32 0; since = at 4 0; amount = 1260 })
+unpaid_is_overdue = (
+  refl,
+  record {
+    debt = unpaid;
+    owed = (0, omega arith, refl);
+    unpaid = refl;
+    due = omega arith;
+    moment = refl;
+    since = refl;
+    amount = refl;
+  },
+)
 
 -- and none a minute before
 pub unpaid_is_not_yet : (breach : Breach) → ¬ (IsOverdue (at 31 1439) (unpaid ∷ []) breach)

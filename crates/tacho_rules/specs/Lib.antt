@@ -1,6 +1,8 @@
-pub mod Periods
-pub mod Collected
-pub mod Duties
-pub mod Weekly
-pub mod Resting
+pub mod BreakBreaches
+pub mod LongDriving
+pub mod DayBreaches
+pub mod DailyRests
+pub mod DailyDriving
+pub mod WeekBreaches
+pub mod RestBreaches
 pub mod Report

@@ -1,5 +1,5 @@
--- The report of what is held, from a base on: what Regulation (EC) 561/2006 says of it in Articles 6, 7 and 8, and where the
--- examination ends.
+-- The report of what is held, from a base on: what Regulation (EC) 561/2006 says of it in Articles 6,
+-- 7 and 8, and where the examination ends.
 use Rattle.std.specs.Prelude.{ℕ, ◌&&◌, nat_le, nat_lt, if◌then◌else◌, List}
 use Rattle.std.specs.Option.{option_map_or}
 use Rattle.tacho_time.specs.declared.span.Activity.TheVariants.{Rest}
@@ -7,13 +7,14 @@ use Rattle.tacho_time.specs.declared.span.Span.{Span}
 use Rattle.tacho_line.specs.declared.horizon.Horizon.{Horizon}
 use Rattle.tacho_line.specs.Line.{mark_at, IsHorizon}
 use Rattle.tacho_hours.specs.declared.run.Run.{Run}
-use Rattle.tacho_hours.specs.declared.report.Breach.{Breach}
-use Rattle.tacho_hours.specs.declared.report.Debt.{Debt}
-use Rattle.tacho_hours.specs.Line.{AreRestRuns}
+use Rattle.tacho_hours.specs.declared.breach.Breach.{Breach}
+use Rattle.tacho_hours.specs.declared.debt.Debt.{Debt}
+use Rattle.tacho_hours.specs.Runs.{AreRestRuns}
 use Rattle.tacho_hours.specs.Breaks.{AreCompleteBreaks}
-use Rattle.tacho_hours.specs.Days.{Line}
+use Rattle.tacho_hours.specs.Line.{Line}
 use Rattle.tacho_hours.specs.Debts.{AreDebts}
-use Rattle.tacho_hours.specs.Report.{IsBreach, AreExactly}
+use Rattle.tacho_hours.specs.Breaches.{IsBreach}
+use Rattle.tacho_hours.specs.Order.{AreBreaches}
 
 -- the examined line: what is held from the base to before the horizon, and rest at every other minute
 abbrev pub examined : List Span → ℕ → ℕ → Line
@@ -21,11 +22,13 @@ examined held base horizon m =
     if nat_le base m && nat_lt m horizon then option_map_or (λ mark. mark.activity) (mark_at held m) Rest else Rest
 
 -- the horizon, every breach once and in order, and the debts: there is one report
-pub record IsReport (held : List Span) (base : ℕ) (horizon : Horizon) (found : List Breach) (debts : List Debt) : Type 0 where
+pub record IsReport (held : List Span) (base : ℕ) (horizon : Horizon)
+    (found : List Breach) (debts : List Debt) : Type 0 where
   pub is_horizon : IsHorizon held base horizon
   pub runs : List Run
   pub breaks : List Run
   pub are_runs : AreRestRuns (examined held base horizon.minute) runs
   pub are_breaks : AreCompleteBreaks runs breaks
   pub are_debts : AreDebts (examined held base horizon.minute) horizon.minute debts
-  pub exactly : AreExactly (λ breach. IsBreach (examined held base horizon.minute) base horizon.minute breaks debts breach.kind breach) found
+  pub exactly : AreBreaches
+      (λ breach. IsBreach (examined held base horizon.minute) base horizon.minute breaks debts breach.kind breach) found

@@ -5,8 +5,10 @@ mod examination;
 mod found;
 pub mod laws;
 pub mod plain;
+mod report;
 
 pub use examination::examine;
-pub use found::{Found, Report};
+pub use found::Found;
+pub use report::Report;
 pub use tacho_hours::{Breach, Debt, Kind};
 pub use tacho_line::{Cause, Horizon};

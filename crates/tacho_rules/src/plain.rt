@@ -1,13 +1,15 @@
 //! Each rule by itself, over all spans and rest runs.
 
+mod break_breaches;
 mod compensation;
-mod driving_periods;
-mod duty_days;
-mod main_rests;
-mod weekly_driving;
-mod weekly_rests;
+mod daily_driving;
+mod daily_rests;
+mod day_breaches;
+mod rest_breaches;
+mod tally;
+mod week_breaches;
 
-pub use driving_periods::breaks;
-pub use duty_days::days;
-pub use weekly_driving::weeks;
-pub use weekly_rests::rests;
+pub use break_breaches::breaks;
+pub use day_breaches::days;
+pub use rest_breaches::rests;
+pub use week_breaches::weeks;

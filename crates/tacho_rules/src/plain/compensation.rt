@@ -1,37 +1,35 @@
 ghost use Rattle.std.specs.Prelude.{◌≡◌, ◌-◌, ◌+◌, ◌<◌, ◌≤◌, ◌↔◌, ℕ, AllPairs, Contains, IfOk, IsTrue, MatchOption};
 ghost use Rattle.std.specs.Prelude.{None as NoPayer};
 ghost use Rattle.tacho_hours.specs.declared.run.Run.{Run as RunValue};
-ghost use Rattle.tacho_hours.specs.declared.report.Debt.{Debt as DebtValue};
-ghost use Rattle.tacho_hours.specs.Line.{IsRestRun};
-ghost use Rattle.tacho_hours.specs.Days.{Line, AreRestsOf};
+ghost use Rattle.tacho_hours.specs.declared.debt.Debt.{Debt as DebtValue};
+ghost use Rattle.tacho_hours.specs.Runs.{IsRestRun, AreRestsOf, AreInTime};
+ghost use Rattle.tacho_hours.specs.Line.{Line};
 ghost use Rattle.tacho_hours.specs.Debts.{share, paid_from, CanPay, HasRoom, IsMainRest, Owes, Pays, AreDebts};
 ghost use Rattle.tacho_hours.specs.Weeks.{week_start};
-ghost use Rattle.tacho_rules.specs.Collected.{AreThose};
-ghost use Rattle.tacho_rules.specs.Resting.{AreInTime, IsLastRun, IsDebtOf, IsOverdue};
+ghost use Rattle.tacho_hours.specs.Order.{AreCollected};
+ghost use Rattle.tacho_hours.specs.Limits.{daily_rest, weekly_rest, latest};
+ghost use Rattle.tacho_rules.specs.RestBreaches.{IsLastRun, IsDebtOf};
+ghost use Rattle.tacho_hours.specs.Breaches.{IsOverdue};
 
-use crate::plain::main_rests::{REGULAR_REST, is_main, kept_minutes, known_minutes, touching};
 use std::alloc::{AllocError, Global};
-use tacho_hours::{Breach, Debt, Kind, Run};
+use tacho_hours::limits::{REGULAR_WEEKLY_REST, WEEKS_TO_PAY};
+use tacho_hours::{Breach, Debt, Kind, Run, is_main, kept_minutes, known_minutes, touching};
 use tacho_time::{Minute, Week, first_minute, week_of};
 
-/// How many weeks after a week its debt has to be paid by (Article 8(6b) of Regulation (EC) 561/2006): before the end of
-/// the third week following it.
-const WEEKS_TO_PAY: u32 = 4;
-
-/// The debt of the week whose main rest a rest is, with no payer, where the rest is too short and the last run starts in
-/// a later week (Article 8(6b)). `weekly` are the weekly rests.
+/// The debt of the week whose main rest a rest is, with no payer, where the rest is too short and the last run starts
+/// in a later week (Article 8(6b)). `weekly` are the weekly rests.
 fn debt_of(weekly: &[Run], horizon: u32, last: Run, rest: Run) -> Option<Debt>
     requires in_time { AreInTime weekly.now }
-    requires early { rest.start ≤ 68374080 }
+    requires early { rest.start ≤ latest }
     requires some { rest.start < rest.past }
-    requires last { last.start ≤ 68374080 }
-    ensures { (line : Line) → AreRestsOf line 1440 weekly.now → IsLastRun line last → IsRestRun line rest
+    requires last { last.start ≤ latest }
+    ensures { (line : Line) → AreRestsOf line weekly_rest weekly.now → IsLastRun line last → IsRestRun line rest
         → MatchOption result
         ((w amount : ℕ) → IsMainRest line horizon w rest → Owes line horizon w amount → ⊥)
         (λ debt. IsDebtOf line horizon rest debt) }
 {
     let minutes = rest.past - rest.start;
-    if minutes >= REGULAR_REST || !is_main(weekly, horizon, rest) {
+    if minutes >= REGULAR_WEEKLY_REST || !is_main(weekly, horizon, rest) {
         return None;
     }
     let week = week_of(Minute::new(rest.start)).number();
@@ -40,7 +38,7 @@ fn debt_of(weekly: &[Run], horizon: u32, last: Run, rest: Run) -> Option<Debt>
     }
     Some(Debt {
         week: Week::new(week),
-        amount: REGULAR_REST - minutes,
+        amount: REGULAR_WEEKLY_REST - minutes,
         deadline: first_minute(Week::new(week + WEEKS_TO_PAY)),
         paid_by: None,
     })
@@ -70,9 +68,10 @@ fn left_of(minutes: u32, rest: Run, debts: &[Debt]) -> u32
 /// Whether a rest has room for a debt, beside what it keeps and what it pays of earlier ones (Article 8(6b)).
 fn has_room(weekly: &[Run], horizon: u32, earlier: &[Debt], debt: &Debt, rest: Run) -> bool
     requires in_time { AreInTime weekly.now }
-    requires early { rest.start ≤ 68374080 }
+    requires early { rest.start ≤ latest }
     requires some { 0 < debt.now.amount }
-    ensures { (line : Line) → AreRestsOf line 1440 weekly.now → IsRestRun line rest → (IsTrue result ↔ HasRoom line horizon earlier.now debt.now rest) }
+    ensures { (line : Line) → AreRestsOf line weekly_rest weekly.now → IsRestRun line rest
+        → (IsTrue result ↔ HasRoom line horizon earlier.now debt.now rest) }
 {
     let minutes = known_minutes(rest, horizon.min(debt.deadline.number()));
     let room = minutes.saturating_sub(kept_minutes(weekly, horizon, rest));
@@ -96,7 +95,8 @@ fn payer_of(
     requires weekly { AreInTime weekly.now }
     requires some { 0 < debt.now.amount }
     requires range { main.past ≤ debt.now.deadline }
-    ensures { (line : Line) → AreRestsOf line 540 daily.now → AreRestsOf line 1440 weekly.now → IsMainRest line horizon debt.now.week main
+    ensures { (line : Line) → AreRestsOf line daily_rest daily.now → AreRestsOf line weekly_rest weekly.now
+        → IsMainRest line horizon debt.now.week main
         → MatchOption result
         ((run : RunValue) → CanPay line horizon earlier.now debt.now run → ⊥)
         (λ start. Pays line horizon earlier.now debt.now start) }
@@ -120,9 +120,10 @@ pub(super) fn debts_of(
 ) -> Result<Vec<Debt>, AllocError>
     requires daily { AreInTime daily.now }
     requires weekly { AreInTime weekly.now }
-    requires last { last.start ≤ 68374080 }
-    requires line { (line : Line) × AreRestsOf line 1440 weekly.now × IsLastRun line last }
-    ensures { IfOk result (λ debts. (line : Line) → AreRestsOf line 540 daily.now → AreRestsOf line 1440 weekly.now → IsLastRun line last
+    requires last { last.start ≤ latest }
+    requires line { (line : Line) × AreRestsOf line weekly_rest weekly.now × IsLastRun line last }
+    ensures { IfOk result (λ debts. (line : Line) → AreRestsOf line daily_rest daily.now
+        → AreRestsOf line weekly_rest weekly.now → IsLastRun line last
         → AreDebts line horizon debts.items) }
 {
     let mut debts = Vec::new(alloc);
@@ -148,7 +149,8 @@ pub(super) fn overdue(
     debts: &[Debt],
     horizon: u32,
 ) -> Result<Vec<Breach>, AllocError>
-    ensures { IfOk result (λ found. (line : Line) → AreDebts line horizon debts.now → AreThose (IsOverdue horizon debts.now) found.items) }
+    ensures { IfOk result (λ found. (line : Line) → AreDebts line horizon debts.now
+        → AreCollected (IsOverdue horizon debts.now) found.items) }
 {
     let mut found = Vec::new(alloc);
     for debt in debts {

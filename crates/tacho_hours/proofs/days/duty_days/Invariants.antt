@@ -1,4 +1,4 @@
-use Rattle.tacho_hours.proofs.Daily.{DaysBelow}
+use Rattle.tacho_hours.proofs.DaysLemmas.{DaysBelow}
 use Rattle.tacho_hours.proofs.days.duty_days.Given as goal
 
 abbrev pub invariant-loop-i : goal.invariant-loop-i

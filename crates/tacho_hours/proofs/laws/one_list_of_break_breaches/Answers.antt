@@ -1,4 +1,4 @@
-use Rattle.tacho_hours.proofs.Unique.{one_break_breaches}
+use Rattle.tacho_hours.proofs.BreachesLemmas.{one_break_breaches}
 use Rattle.tacho_hours.proofs.laws.one_list_of_break_breaches.Goals as goal
 
 pub returns : goal.returns

@@ -1,4 +1,4 @@
-use Rattle.tacho_hours.proofs.Owing.{one_debts}
+use Rattle.tacho_hours.proofs.DebtsLemmas.{one_debts}
 use Rattle.tacho_hours.proofs.laws.one_list_of_debts.Goals as goal
 
 pub returns : goal.returns

@@ -1,4 +1,4 @@
-use Rattle.tacho_hours.proofs.Owing.{one_rest_breaches}
+use Rattle.tacho_hours.proofs.DebtsLemmas.{one_rest_breaches}
 use Rattle.tacho_hours.proofs.laws.one_list_of_rest_breaches.Goals as goal
 
 pub returns : goal.returns

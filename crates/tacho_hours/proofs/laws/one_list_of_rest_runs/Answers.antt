@@ -1,4 +1,4 @@
-use Rattle.tacho_hours.proofs.Unique.{one_rest_runs}
+use Rattle.tacho_hours.proofs.RunsLemmas.{one_rest_runs}
 use Rattle.tacho_hours.proofs.laws.one_list_of_rest_runs.Goals as goal
 
 pub returns : goal.returns

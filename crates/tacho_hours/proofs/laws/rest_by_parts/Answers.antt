@@ -1,4 +1,4 @@
-use Rattle.tacho_hours.proofs.Parts.{regular_by_parts, reduced_by_parts}
+use Rattle.tacho_hours.proofs.DaysLemmas.{regular_by_parts, reduced_by_parts}
 use Rattle.tacho_hours.proofs.laws.rest_by_parts.Goals as goal
 
 pub returns-clause-regular : goal.returns-clause-regular

@@ -12,7 +12,10 @@ pub returns-then-has_portion : goal.returns-then-has_portion
 returns-then-has_portion c = (
   λ h. record {
     portion = c.has_portion.ensures.0 c.if-has_portion.true;
-    irregular = λ regular. (let t : c.is_regular.result ≡ true = c.is_regular.ensures.1 regular in let f : c.is_regular.result ≡ false = c.if-is_regular.false in cc);
+    irregular = λ regular. (
+        let t : c.is_regular.result ≡ true = c.is_regular.ensures.1 regular in
+        let f : c.is_regular.result ≡ false = c.if-is_regular.false in
+        cc);
     short = ltb-true (c.args.day.rest.past - c.args.day.rest.start) 1440 h;
   },
   λ h. lt-ltb (c.args.day.rest.past - c.args.day.rest.start) 1440 h.short,
@@ -20,6 +23,9 @@ returns-then-has_portion c = (
 
 pub returns-else-has_portion : goal.returns-else-has_portion
 returns-else-has_portion c = (
-  λ h. absurd (let f : c.has_portion.result ≡ false = c.if-has_portion.false in let t : c.has_portion.result ≡ true = h in cc),
+  λ h. absurd (
+      let f : c.has_portion.result ≡ false = c.if-has_portion.false in
+      let t : c.has_portion.result ≡ true = h in
+      cc),
   λ h. c.has_portion.ensures.1 h.portion,
 )

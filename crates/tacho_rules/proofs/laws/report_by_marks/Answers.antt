@@ -1,4 +1,4 @@
-use Rattle.tacho_rules.proofs.Reporting.{report_by_marks}
+use Rattle.tacho_rules.proofs.ReportLemmas.{report_by_marks}
 use Rattle.tacho_rules.proofs.laws.report_by_marks.Goals as goal
 
 pub returns : goal.returns

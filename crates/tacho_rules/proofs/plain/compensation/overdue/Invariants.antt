@@ -1,9 +1,9 @@
 use Rattle.std.proofs.Common.{take}
-use Rattle.tacho_hours.specs.Days.{Line}
+use Rattle.tacho_hours.specs.Line.{Line}
 use Rattle.tacho_hours.specs.Debts.{AreDebts}
-use Rattle.tacho_rules.specs.Collected.{AreThose}
-use Rattle.tacho_rules.specs.Resting.{IsOverdue}
+use Rattle.tacho_hours.proofs.OverdueLemmas.{OverdueFound}
 use Rattle.tacho_rules.proofs.plain.compensation.overdue.Given as goal
 
 abbrev pub invariant-loop-debt : goal.invariant-loop-debt
-invariant-loop-debt l = (line : Line) → AreDebts line l.horizon l.debts → AreThose (IsOverdue l.horizon (take l.debt-index l.debts)) l.found.items
+invariant-loop-debt l =
+    (line : Line) → AreDebts line l.horizon l.debts → OverdueFound l.horizon (take l.debt-index l.debts) l.found.items

@@ -1,7 +1,8 @@
 use Rattle.std.proofs.Common.{take}
 use Rattle.std.specs.List.{All}
 use Rattle.tacho_hours.specs.declared.run.Run.{Run}
-use Rattle.tacho_hours.specs.Days.{Line, AreRestsOf}
+use Rattle.tacho_hours.specs.Line.{Line}
+use Rattle.tacho_hours.specs.Runs.{AreRestsOf}
 use Rattle.tacho_hours.specs.Debts.{HasRoom}
 use Rattle.tacho_rules.proofs.plain.compensation.payer_of.Given as goal
 

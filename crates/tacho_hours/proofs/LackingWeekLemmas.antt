@@ -1,0 +1,92 @@
+-- The loop over weeks finds those that lack weekly rests (`plain::rests`).
+use Rattle.std.proofs.Common.{◌≡◌, ℕ, ◌+◌, ◌<◌, ◌≤◌, List, [], ◌∷◌, ◌++◌, sym, ◌∙◌, arith}
+use Rattle.tacho_hours.specs.declared.breach.Breach.{Breach}
+use Rattle.tacho_hours.specs.declared.breach.Kind.TheVariants.{B9}
+use Rattle.tacho_hours.specs.Line.{Line}
+use Rattle.tacho_hours.specs.Weeks.{week_start, LacksRests}
+use Rattle.tacho_hours.specs.Order.{Apart, AreCollected}
+use Rattle.tacho_hours.specs.Breaches.{IsLacking}
+use Rattle.tacho_hours.proofs.OrderLemmas.{same_breach}
+use Rattle.tacho_hours.proofs.ExactlyLemmas.{OfBelow, below_none, below_skip, below_add, exactly_as}
+
+-- the breach of a week and the next, which have ended and lack weekly rests
+pub record IsLackingOf (line : Line) (horizon w : ℕ) (breach : Breach) : Type 0 where
+  pub kind_is : breach.kind ≡ B9
+  pub ended : week_start (w + 2) ≤ horizon
+  pub lacks : LacksRests line w
+  pub moment : breach.moment ≡ week_start (w + 2)
+  pub since : breach.since ≡ week_start w
+  pub amount : breach.amount ≡ 0
+
+-- a week has one such breach at most
+only : (line : Line) (horizon w : ℕ) (x y : Breach)
+    → IsLackingOf line horizon w x → IsLackingOf line horizon w y → x ≡ y
+only line horizon w x y p q =
+    same_breach x y (p.kind_is ∙ sym q.kind_is) (p.moment ∙ sym q.moment)
+    (p.since ∙ sym q.since) (p.amount ∙ sym q.amount)
+
+-- such a breach of a week from one number up to another
+abbrev pub LackingBelow : Line → ℕ → ℕ → ℕ → Breach → Type 0
+LackingBelow line horizon first n breach = OfBelow (IsLackingOf line horizon) first n breach
+
+-- before the first week
+pub lacking_none : (line : Line) (horizon first : ℕ) → AreCollected (LackingBelow line horizon first first) []
+lacking_none line horizon first = below_none (IsLackingOf line horizon) Apart first
+
+-- the step from the weeks below n to one more
+module _ (line : Line) (horizon first n : ℕ) (some : first ≤ n) (found : List Breach)
+    (r : AreCollected (LackingBelow line horizon first n) found) where
+  -- the week has no such breach
+  pub lacking_skip : ((breach : Breach) → IsLackingOf line horizon n breach → ⊥)
+      → AreCollected (LackingBelow line horizon first (n + 1)) found
+  lacking_skip never = below_skip (IsLackingOf line horizon) Apart first n found some r never
+
+  -- the week has one
+  pub lacking_add : (new : Breach) → IsLackingOf line horizon n new
+      → AreCollected (LackingBelow line horizon first (n + 1)) (found ++ new ∷ [])
+  lacking_add new is = below_add (IsLackingOf line horizon) Apart first n found new some r is
+      (λ breach h. only line horizon n new breach is h)
+      (λ k breach from before h agree.
+      (let b : breach.since ≡ week_start k = h.since in
+      let c : breach.since ≡ new.since = agree.since in
+      let d : new.since ≡ week_start n = is.since in
+      omega arith))
+
+-- at the horizon's week all breaches are found
+pub lacking_all : (line : Line) (base horizon first n : ℕ)
+    → base ≡ week_start first → horizon < week_start (n + 1) → (found : List Breach)
+    → AreCollected (LackingBelow line horizon first n) found → AreCollected (IsLacking line base horizon) found
+lacking_all line base horizon first n monday late found r =
+    exactly_as (LackingBelow line horizon first n) (IsLacking line base horizon) Apart found (λ breach. (
+      λ h.
+          (let a : first ≤ h.place = h.from in (
+            h.of.kind_is,
+            record {
+              week = h.place;
+              from = omega arith;
+              ended = h.of.ended;
+              first = h.of.lacks.first;
+              second = h.of.lacks.second;
+              lacks = h.of.lacks.lacks;
+              moment = h.of.moment;
+              since = h.of.since;
+              amount = h.of.amount;
+            },
+          )),
+      λ h.
+          (let a : base ≤ week_start h.1.week = h.1.from in
+          let b : week_start (h.1.week + 2) ≤ horizon = h.1.ended in
+          record {
+            place = h.1.week;
+            from = omega arith;
+            below = omega arith;
+            of = record {
+              kind_is = h.0;
+              ended = b;
+              lacks = record { first = h.1.first; second = h.1.second; lacks = h.1.lacks };
+              moment = h.1.moment;
+              since = h.1.since;
+              amount = h.1.amount;
+            };
+          }),
+    )) r

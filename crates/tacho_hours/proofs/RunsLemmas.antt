@@ -1,0 +1,376 @@
+-- The pass over spans finds the maximal runs of rest (`rest_runs`), and there is one list of them
+-- (`laws::one_list_of_rest_runs`).
+use Rattle.std.proofs.Common.{◌≡◌, ◌≢◌, ℕ, ◌+◌, ◌-◌, ◌<◌, ◌≤◌, ◌⊎◌, inl, inr, List, [], ◌∷◌}
+use Rattle.std.proofs.Common.{◌++◌, length, get_or, drop, refl, sym, ap, subst, ◌∙◌, arith}
+use Rattle.std.specs.List.{All, AllPairs, Contains}
+use Rattle.std.proofs.lemmas.Bool.{cases_lt}
+use Rattle.std.proofs.lemmas.Bool.Decides.{nat_tests}
+use Rattle.std.proofs.lemmas.List.{drop_more, get_or_default}
+use Rattle.std.proofs.lemmas.List.Elements.{All-push, All-nil, All-contains, Contains-get_or}
+use Rattle.std.proofs.lemmas.List.Elements.{Contains-push, Contains-append_left, All-weaker}
+use Rattle.std.proofs.lemmas.List.Quantifiers.{all_pairs_push}
+use Rattle.tacho_time.specs.declared.span.Activity.{Activity}
+use Rattle.tacho_time.specs.declared.span.Activity.TheVariants.{Rest}
+use Rattle.tacho_time.specs.declared.span.Span.{Span}
+use Rattle.tacho_hours.specs.declared.run.Run.{Run}
+use Rattle.tacho_hours.specs.declared.run.TheConstants.{FAR}
+use Rattle.tacho_hours.specs.Line.{Line, line_of, Joined}
+use Rattle.tacho_hours.specs.Runs.{IsRestRun, IsRestOf, AreRestRuns, AreRestsOf, AreRuns, Before, Reached}
+use Rattle.tacho_hours.proofs.ExactlyLemmas.{at_index, one_exactly}
+
+-- where the next span starts, or the line's end
+abbrev pub place_of : List Span → ℕ → ℕ
+place_of [] past = past
+place_of (s ∷ spans) past = s.start
+
+-- the run between two minutes
+abbrev pub run_of : ℕ → ℕ → Run
+run_of start past = record { start = start; past = past }
+
+-- a run is known by its members
+same_run : (r : Run) (start past : ℕ) → r.start ≡ start → r.past ≡ past → r ≡ run_of start past
+same_run r start past e f =
+    let one : ℕ → Run = λ x. record { start = x; past = r.past } in
+    let two : ℕ → Run = λ x. record { start = start; past = x } in
+    ap one e ∙ ap two f
+
+-- at rest up to p, with no run ended
+pub reached_none : (line : ℕ → Activity) (p : ℕ) → ((m : ℕ) → m < p → line m ≡ Rest) → Reached line [] 0 p
+reached_none line p h = record {
+  each = All-nil (λ run. IsRestRun line run);
+  all = λ run is below. absurd (omega arith);
+  in_order = λ i j d below within. absurd (omega arith);
+  ended = λ k d within. absurd (omega arith);
+  resting = λ m above below. h m below;
+  from = inl refl;
+  below = omega arith;
+}
+
+-- more rest
+pub reached_rest : (line : ℕ → Activity) (runs : List Run) (start p q : ℕ) → Reached line runs start p
+    → p < q → ((m : ℕ) → p ≤ m → m < q → line m ≡ Rest) → Reached line runs start q
+reached_rest line runs start p q r more at = record {
+  each = r.each;
+  all = r.all;
+  in_order = r.in_order;
+  ended = r.ended;
+  resting = λ m above below.
+      elim (cases_lt m p) [ inl before ↦ r.resting m above before | inr after ↦ at m after below ];
+  from = r.from;
+  below = let b : start ≤ p = r.below in omega arith;
+}
+
+-- a run that starts in the rest from start on starts there
+starts : (line : ℕ → Activity) (start p : ℕ) (run : Run) → ((m : ℕ) → start ≤ m → m < p → line m ≡ Rest)
+    → IsRestRun line run → start ≤ run.start → run.start < p → run.start ≡ start
+starts line start p run resting is above below = elim (cases_lt start run.start) [
+  | inl late ↦ elim is.from [
+    | inl zero ↦ omega arith
+    | inr busy ↦ absurd (busy (run.start - 1) (omega arith) (resting (run.start - 1) (omega arith) (omega arith)))
+  ]
+  | inr same ↦ omega arith
+]
+
+-- a run that starts at start, before p, ends at p, which is not at rest
+ends : (line : ℕ → Activity) (start p : ℕ) (run : Run) → ((m : ℕ) → start ≤ m → m < p → line m ≡ Rest)
+    → IsRestRun line run → run.start ≡ start → start < p → p < FAR → line p ≢ Rest → run.past ≡ p
+ends line start p run resting is same below far busy =
+    let some : run.start < run.past = is.some in
+    elim (cases_lt run.past p) [
+      | inl early ↦ elim is.until [
+        | inl last ↦ absurd (omega arith)
+        | inr stops ↦ absurd (stops (resting run.past (omega arith) early))
+      ]
+      | inr late ↦ elim (cases_lt p run.past) [
+        | inl over ↦ absurd (busy (is.rest p (omega arith) over))
+        | inr exact ↦ omega arith
+      ]
+    ]
+
+-- no rest, where there was none before
+pub reached_busy : (line : ℕ → Activity) (runs : List Run) (start p q : ℕ) → Reached line runs start p
+    → start ≡ p → p < q → ((m : ℕ) → p ≤ m → m < q → line m ≢ Rest) → Reached line runs q q
+reached_busy line runs start p q r none more at = record {
+  each = r.each;
+  all = λ run is below. elim (cases_lt run.start start) [
+    | inl before ↦ r.all run is before
+    | inr after ↦ absurd (at run.start (omega arith) below (is.rest run.start (omega arith) is.some))
+  ];
+  in_order = r.in_order;
+  ended =
+      All-weaker (λ (run : Run). run.past < start) (λ (run : Run). run.past < q) (λ run h. omega arith) runs r.ended;
+  resting = λ m above below. absurd (omega arith);
+  from = inr (λ m e. at m (omega arith) (omega arith));
+  below = omega arith;
+}
+
+-- no rest, where a run ends
+pub reached_gap : (line : ℕ → Activity) (runs : List Run) (start p q : ℕ) → Reached line runs start p → start < p
+    → p < q → p < FAR → ((m : ℕ) → p ≤ m → m < q → line m ≢ Rest) → Reached line (runs ++ run_of start p ∷ []) q q
+reached_gap line runs start p q r some more far at =
+    let busy : line p ≢ Rest = at p (omega arith) more in
+    let run : Run = run_of start p in
+    let is : IsRestRun line run = record { some = some; rest = r.resting; from = r.from; until = inr busy } in
+    record {
+      each = All-push (λ x. IsRestRun line x) runs run r.each is;
+      all = λ x is' below. elim (cases_lt x.start start) [
+        | inl before ↦ Contains-append_left runs (run ∷ []) x (r.all x is' before)
+        | inr after ↦ elim (cases_lt x.start p) [
+          | inl within ↦
+              let e : x.start ≡ start = starts line start p x r.resting is' after within in
+              let f : x.past ≡ p = ends line start p x r.resting is' e some far busy in
+              subst (λ (y : Run). Contains (runs ++ run ∷ []) y) (sym (same_run x start p e f)) (Contains-push runs run)
+          | inr late ↦ absurd (at x.start late below (is'.rest x.start (omega arith) is'.some))
+        ]
+      ];
+      in_order = all_pairs_push Before runs run r.in_order r.ended;
+      ended =
+          All-push (λ (x : Run). x.past < q) runs run
+          (All-weaker (λ (x : Run). x.past < start) (λ (x : Run). x.past < q) (λ x h. omega arith) runs r.ended)
+          more;
+      resting = λ m above below. absurd (omega arith);
+      from = inr (λ m e. at m (omega arith) (omega arith));
+      below = omega arith;
+    }
+
+-- the last run has no end
+pub reached_end : (line : ℕ → Activity) (runs : List Run) (start past : ℕ) → Reached line runs start past
+    → past < FAR → ((m : ℕ) → past ≤ m → line m ≡ Rest) → AreRestRuns line (runs ++ run_of start FAR ∷ [])
+reached_end line runs start past r far after =
+    let run : Run = run_of start FAR in
+    let below : start ≤ past = r.below in
+    let resting : (m : ℕ) → start ≤ m → line m ≡ Rest = λ m above.
+    elim (cases_lt m past) [ inl before ↦ r.resting m above before | inr late ↦ after m late ] in
+    let is : IsRestRun line run =
+    record { some = omega arith; rest = λ m above under. resting m above; from = r.from; until = inl refl } in
+    let all : (x : Run) → IsRestRun line x → Contains (runs ++ run ∷ []) x = λ x is'. elim (cases_lt x.start start) [
+      | inl before ↦ Contains-append_left runs (run ∷ []) x (r.all x is' before)
+      | inr late ↦
+          let e : x.start ≡ start =
+          starts line start (x.start + 1) x (λ m above under. resting m above) is' late (omega arith) in
+          let some : x.start < x.past = is'.some in
+          let f : x.past ≡ FAR =
+          elim is'.until [ inl last ↦ last | inr stops ↦ absurd (stops (resting x.past (omega arith))) ] in
+          subst (λ (y : Run). Contains (runs ++ run ∷ []) y) (sym (same_run x start FAR e f)) (Contains-push runs run)
+    ] in
+    record {
+      each = λ x. (
+        λ h.
+            All-contains (λ y. IsRestRun line y) (runs ++ run ∷ []) x
+            (All-push (λ y. IsRestRun line y) runs run r.each is) h,
+        all x,
+      );
+      in_order = all_pairs_push Before runs run r.in_order r.ended;
+    }
+
+-- what the loop keeps, with these spans left
+pub record Running (spans left : List Span) (past : ℕ) (runs : List Run) (start : ℕ) : Type 0 where
+  pub reached : Reached (line_of spans) runs start (place_of left past)
+  pub joined : Joined left (place_of left past) past
+  pub ahead : (m : ℕ) → place_of left past ≤ m → line_of spans m ≡ line_of left m
+
+-- before the spans the line is at rest
+pub line_before : (spans : List Span) (base past m : ℕ) → Joined spans base past → m < base → line_of spans m ≡ Rest
+line_before [] base past m j below = refl
+line_before (s ∷ spans) base past m (e, some, rest) below =
+    let before : line_of spans m ≡ Rest = line_before spans s.past past m rest (omega arith) in
+    let late : m < s.start = omega arith in
+    grind (arith, nat_tests)
+
+-- the spans left start at the place
+pub place_is : (left : List Span) (p past : ℕ) → Joined left p past → place_of left past ≡ p
+place_is [] p past j = sym j
+place_is (s ∷ left) p past j = j.0
+
+-- in the first span the line has its activity
+pub line_within : (s : Span) (left : List Span) (m : ℕ) → s.start ≤ m
+    → m < s.past → line_of (s ∷ left) m ≡ s.mark.activity
+line_within s left m above below = grind (arith, nat_tests)
+
+-- behind the first span the others say
+pub line_past : (s : Span) (left : List Span) (m : ℕ) → s.past ≤ m → line_of (s ∷ left) m ≡ line_of left m
+line_past s left m above = grind (arith, nat_tests)
+
+-- spans that follow one another end no sooner than they start
+pub joined_le : (left : List Span) (p past : ℕ) → Joined left p past → p ≤ past
+joined_le [] p past j = omega arith
+joined_le (s ∷ left) p past (e, some, rest) = let h : s.past ≤ past = joined_le left s.past past rest in omega arith
+
+-- before the first span
+pub running_none : (spans : List Span) (base past : ℕ) → Joined spans base past → Running spans spans past [] 0
+running_none spans base past j =
+    let e : place_of spans past ≡ base = place_is spans base past j in
+    record {
+      reached =
+          reached_none (line_of spans) (place_of spans past) (λ m below. line_before spans base past m j (omega arith));
+      joined = subst (λ (p : ℕ). Joined spans p past) (sym e) j;
+      ahead = λ m above. refl;
+    }
+
+-- the step, whatever the span's activity
+module _ (spans left : List Span) (s : Span) (past : ℕ) (runs : List Run)
+    (start : ℕ) (r : Running spans (s ∷ left) past runs start) where
+  -- in the span the line has its activity
+  at : (m : ℕ) → s.start ≤ m → m < s.past → line_of spans m ≡ s.mark.activity
+  at m above below = r.ahead m above ∙ line_within s left m above below
+
+  -- the next place is the span's end
+  next : place_of left past ≡ s.past
+  next = place_is left s.past past r.joined.2
+
+  -- the spans left follow one another
+  joined : Joined left (place_of left past) past
+  joined = subst (λ (p : ℕ). Joined left p past) (sym next) r.joined.2
+
+  -- and say what the line does from there on
+  ahead : (m : ℕ) → place_of left past ≤ m → line_of spans m ≡ line_of left m
+  ahead m above =
+      let some : s.start < s.past = r.joined.1 in
+      let e : place_of left past ≡ s.past = next in
+      r.ahead m (omega arith) ∙ line_past s left m (omega arith)
+
+  -- a span of rest
+  pub running_rest : s.mark.activity ≡ Rest → Running spans left past runs start
+  running_rest e = record {
+    reached =
+        subst (λ (q : ℕ). Reached (line_of spans) runs start q) (sym next)
+        (reached_rest (line_of spans) runs start s.start s.past r.reached
+        r.joined.1 (λ m above below. at m above below ∙ e));
+    joined = joined;
+    ahead = ahead;
+  }
+
+  -- a span of something else
+  busy : s.mark.activity ≢ Rest → (m : ℕ) → s.start ≤ m → m < s.past → line_of spans m ≢ Rest
+  busy n m above below e = n (sym (at m above below) ∙ e)
+
+  -- a span of something else behind no rest
+  pub running_busy : s.mark.activity ≢ Rest → s.start ≤ start → Running spans left past runs s.past
+  running_busy n none = record {
+    reached = subst (λ (q : ℕ). Reached (line_of spans) runs s.past q) (sym next)
+        (reached_busy (line_of spans) runs start s.start s.past r.reached
+        (let b : start ≤ s.start = r.reached.below in omega arith) r.joined.1 (busy n));
+    joined = joined;
+    ahead = ahead;
+  }
+
+  -- a span of something else behind a rest
+  pub running_gap : s.mark.activity ≢ Rest → start < s.start → past < FAR
+      → Running spans left past (runs ++ run_of start s.start ∷ []) s.past
+  running_gap n some far = record {
+    reached = subst (λ (q : ℕ). Reached (line_of spans) (runs ++ run_of start s.start ∷ []) s.past q) (sym next)
+        (reached_gap (line_of spans) runs start s.start s.past r.reached some r.joined.1
+        (
+        let b : s.past ≤ past = joined_le left s.past past r.joined.2 in
+        let c : s.start < s.past = r.joined.1 in
+        omega arith)
+        (busy n));
+    joined = joined;
+    ahead = ahead;
+  }
+
+-- behind the last span
+pub running_end : (spans : List Span) (past : ℕ) (runs : List Run) (start : ℕ)
+    → Running spans [] past runs start → past < FAR → AreRestRuns (line_of spans) (runs ++ run_of start FAR ∷ [])
+running_end spans past runs start r far = reached_end (line_of spans) runs start past r.reached far r.ahead
+
+-- at the index i of a loop, where the item is s
+pub running_here : (spans : List Span) (i : ℕ) (s : Span) (past : ℕ) (runs : List Run) (start : ℕ)
+    → i < length spans → s ≡ get_or spans i s → Running spans (drop i spans) past runs start
+    → Running spans (s ∷ drop (i + 1) spans) past runs start
+running_here spans i s past runs start within is r =
+    let e : drop i spans ≡ s ∷ drop (i + 1) spans =
+    drop_more spans i s within ∙ ap (λ (x : Span). x ∷ drop (i + 1) spans) (sym is) in
+    subst (λ (left : List Span). Running spans left past runs start) e r
+
+-- runs of some minutes are in one order
+pub one_way : (a b : Run) → a.start < a.past → b.start < b.past → Before a b → Before b a → ⊥
+one_way a b some some' before after = omega arith
+
+-- runs in order are known by their members
+pub same_runs : (xs ys : List Run) → All (λ (run : Run). run.start < run.past) xs
+    → All (λ (run : Run). run.start < run.past) ys → AllPairs Before xs → AllPairs Before ys
+    → ((run : Run) → Contains xs run → Contains ys run) → ((run : Run) → Contains ys run → Contains xs run) → xs ≡ ys
+same_runs xs ys some some' order order' f g =
+    one_exactly (λ run. Contains xs run) Before
+    (λ a b p q.
+    one_way a b (All-contains (λ (run : Run). run.start < run.past) xs a some p)
+    (All-contains (λ (run : Run). run.start < run.past) xs b some q))
+    xs ys (record { each = λ run. (λ h. h, λ h. h); in_order = order })
+    (record { each = λ run. (g run, f run); in_order = order' })
+
+-- the rest runs of a line
+pub one_rest_runs : (line : Line) (runs others : List Run)
+    → AreRestRuns line runs → AreRestRuns line others → runs ≡ others
+one_rest_runs line = one_exactly (IsRestRun line) Before (λ a b p q. one_way a b p.some q.some)
+
+-- they are runs in order
+pub rest_runs_are : (line : Line) (runs : List Run) → AreRestRuns line runs → AreRuns runs
+rest_runs_are line runs are =
+    record { some = λ k d within. (at_index (IsRestRun line) Before runs are k d within).some; in_order = are.in_order }
+
+-- and so are those of so many minutes
+pub rests_are : (line : Line) (least : ℕ) (rests : List Run) → AreRestsOf line least rests → AreRuns rests
+rests_are line least rests are = record {
+  some = λ k d within. (at_index (IsRestOf line least) Before rests are k d within).rests.some;
+  in_order = are.in_order;
+}
+
+-- what an index behind a list of runs gives
+abbrev pub no_run : Run
+no_run = record { start = 0; past = 0 }
+
+-- places and neighbours, among runs in order
+module _ (runs : List Run) (are : AreRuns runs) where
+  -- the place of one of them
+  place_of_run : (run : Run) → Contains runs run → (i : ℕ) × (i < length runs) × (run ≡ get_or runs i no_run)
+  place_of_run run (i, within, e) = (i, within, sym e ∙ get_or_default runs i run no_run within)
+
+  -- one that starts after another is behind it
+  behind : (i k : ℕ) → i < length runs → k < length runs → Before (get_or runs i no_run) (get_or runs k no_run) → i < k
+  behind i k within within' before =
+      let one : (get_or runs i no_run).start < (get_or runs i no_run).past = are.some i no_run within in
+      let two : (get_or runs k no_run).start < (get_or runs k no_run).past = are.some k no_run within' in
+      elim (cases_lt i k) [
+        | inl lt ↦ lt
+        | inr ge ↦ absurd (elim (cases_lt k i) [
+          | inl lt ↦
+              let b : (get_or runs k no_run).past < (get_or runs i no_run).start = are.in_order k i no_run lt within in
+              omega arith
+          | inr le ↦
+              let e : k ≡ i = omega arith in
+              let f : (get_or runs k no_run).start ≡ (get_or runs i no_run).start =
+              ap (λ (x : ℕ). (get_or runs x no_run).start) e in
+              omega arith
+        ])
+      ]
+
+  -- between a place and the next there is none
+  pub none_at_between : (i : ℕ) → i + 1 < length runs → (c : Run) → Contains runs c
+      → Before (get_or runs i no_run) c → Before c (get_or runs (i + 1) no_run) → ⊥
+  none_at_between i within c in' after before =
+      let (k, below, e) = place_of_run c in' in
+      let low : i < k = behind i k (omega arith) below (subst (λ (x : Run). Before (get_or runs i no_run) x) e after) in
+      let high : k < i + 1 =
+      behind k (i + 1) below within (subst (λ (x : Run). Before x (get_or runs (i + 1) no_run)) e before) in
+      omega arith
+
+  -- two with none between are at a place and the next
+  pub neighbours_at : (a b : Run) → Contains runs a → Contains runs b
+      → Before a b → ((c : Run) → Contains runs c → Before a c → Before c b → ⊥)
+      → (i : ℕ) × (i + 1 < length runs) × (a ≡ get_or runs i no_run) × (b ≡ get_or runs (i + 1) no_run)
+  neighbours_at a b first second before between =
+      let (i, in', e) = place_of_run a first in
+      let (k, in'', f) = place_of_run b second in
+      let low : i < k =
+      behind i k in' in''
+      (subst (λ (x : Run). Before x (get_or runs k no_run)) e (subst (λ (x : Run). Before a x) f before)) in
+      let next : k ≡ i + 1 = elim (cases_lt (i + 1) k) [
+        | inl lt ↦ absurd (between (get_or runs (i + 1) no_run) (Contains-get_or runs (i + 1) no_run (omega arith))
+            (subst (λ (x : Run). Before x (get_or runs (i + 1) no_run)) (sym e)
+            (are.in_order i (i + 1) no_run (omega arith) (omega arith)))
+            (subst (λ (x : Run). Before (get_or runs (i + 1) no_run) x)
+            (sym f) (are.in_order (i + 1) k no_run lt in'')))
+        | inr ge ↦ omega arith
+      ] in
+      (i, omega arith, e, f ∙ ap (λ (x : ℕ). get_or runs x no_run) next)

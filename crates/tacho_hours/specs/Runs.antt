@@ -1,0 +1,65 @@
+-- Runs of rest (Regulation (EC) 561/2006, Articles 4(d), 4(f), 4(g) and 4(h)).
+use Rattle.std.specs.Prelude.{◌≡◌, ◌≢◌, ℕ, ◌+◌, ◌-◌, ◌<◌, ◌≤◌, ◌⊎◌, List, All, AllPairs, Contains}
+use Rattle.tacho_time.specs.declared.span.Activity.TheVariants.{Rest}
+use Rattle.tacho_hours.specs.declared.run.Run.{Run}
+use Rattle.tacho_hours.specs.declared.run.TheConstants.{FAR}
+use Rattle.tacho_hours.specs.Exactly.{AreExactly}
+use Rattle.tacho_hours.specs.Line.{Line}
+use Rattle.tacho_hours.specs.Limits.{latest}
+
+-- an uninterrupted break or rest (Articles 4(d) and 4(f)): a maximal run of minutes at rest; the first one has no
+-- start, which 0 stands for, and the last one no end, which FAR stands for
+pub record IsRestRun (line : Line) (run : Run) : Type 0 where
+  pub some : run.start < run.past
+  pub rest : (m : ℕ) → run.start ≤ m → m < run.past → line m ≡ Rest
+  pub from : (run.start ≡ 0) ⊎ ((m : ℕ) → m + 1 ≡ run.start → line m ≢ Rest)
+  pub until : (run.past ≡ FAR) ⊎ (line run.past ≢ Rest)
+
+-- one after the other, with a minute between
+abbrev pub Before : Run → Run → Type 0
+Before a b = a.past < b.start
+
+-- runs in order of time, and none is empty
+pub record AreRuns (runs : List Run) : Type 0 where
+  pub some : All (λ run. run.start < run.past) runs
+  pub in_order : AllPairs Before runs
+
+-- rests in order of time, none empty, that start by 2100
+pub record AreInTime (rests : List Run) : Type 0 where
+  pub some : All (λ run. run.start < run.past) rests
+  pub in_order : AllPairs Before rests
+  pub early : All (λ run. run.start ≤ latest) rests
+
+-- how long a run is
+abbrev pub minutes_of : Run → ℕ
+minutes_of run = run.past - run.start
+
+-- the rest runs of a line, in order of time
+abbrev pub AreRestRuns : Line → List Run → Type 0
+AreRestRuns line runs = AreExactly (IsRestRun line) Before runs
+
+-- a rest run of so many minutes or more
+pub record IsRestOf (line : Line) (least : ℕ) (run : Run) : Type 0 where
+  pub rests : IsRestRun line run
+  pub enough : least ≤ minutes_of run
+
+-- the rest runs of so many minutes or more, in order of time
+abbrev pub AreRestsOf : Line → ℕ → List Run → Type 0
+AreRestsOf line least rests = AreExactly (IsRestOf line least) Before rests
+
+-- two rest runs of so many minutes or more, and no other such run between them
+pub record AreNeighbours (line : Line) (least : ℕ) (a b : Run) : Type 0 where
+  pub first : IsRestOf line least a
+  pub second : IsRestOf line least b
+  pub before : Before a b
+  pub between : (c : Run) → IsRestOf line least c → Before a c → Before c b → ⊥
+
+-- what is known of a line up to a minute p: the runs that end before start, and rest from start to p
+pub record Reached (line : Line) (runs : List Run) (start p : ℕ) : Type 0 where
+  pub each : All (λ run. IsRestRun line run) runs
+  pub all : (run : Run) → IsRestRun line run → run.start < start → Contains runs run
+  pub in_order : AllPairs Before runs
+  pub ended : All (λ run. run.past < start) runs
+  pub resting : (m : ℕ) → start ≤ m → m < p → line m ≡ Rest
+  pub from : (start ≡ 0) ⊎ ((m : ℕ) → m + 1 ≡ start → line m ≢ Rest)
+  pub below : start ≤ p

@@ -1,7 +1,0 @@
-use Rattle.std.proofs.Common.{take}
-use Rattle.tacho_hours.specs.Days.{Line, AreDutyDays}
-use Rattle.tacho_rules.proofs.DayFinding.{DayFound, ShortOf}
-use Rattle.tacho_rules.proofs.plain.duty_days.short_rests.Given as goal
-
-abbrev pub invariant-loop-day : goal.invariant-loop-day
-invariant-loop-day l = (line : Line) → AreDutyDays line l.days → DayFound (ShortOf line) (take l.day-index l.days) l.found.items

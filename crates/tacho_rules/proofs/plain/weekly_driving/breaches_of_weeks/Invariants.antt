@@ -1,6 +1,0 @@
-use Rattle.tacho_hours.specs.Line.{line_of}
-use Rattle.tacho_rules.specs.Weekly.{AreOfWeeks}
-use Rattle.tacho_rules.proofs.plain.weekly_driving.breaches_of_weeks.Given as goal
-
-abbrev pub invariant-loop-number : goal.invariant-loop-number
-invariant-loop-number l = AreOfWeeks (line_of l.spans) l.first l.number l.found.items

@@ -1,0 +1,19 @@
+-- Words of the rules on a day's driving (Regulation (EC) 561/2006, Article 6(1)).
+use Rattle.std.specs.Prelude.{ℕ, ◌<◌}
+use Rattle.tacho_hours.specs.declared.days.DutyDay.{DutyDay}
+use Rattle.tacho_hours.specs.declared.breach.Breach.{Breach}
+use Rattle.tacho_hours.specs.declared.breach.Kind.{Kind}
+use Rattle.tacho_hours.specs.Line.{Line}
+use Rattle.tacho_hours.specs.Days.{IsDuty}
+use Rattle.tacho_hours.specs.Driving.{driving}
+use Rattle.tacho_hours.specs.Limits.{driving_in_day}
+use Rattle.tacho_rules.specs.LongDriving.{IsTooMuch}
+
+-- B4 and B5, of one day: more driving minutes in it than allowed (Article 6(1))
+abbrev pub IsLongDay : Line → Kind → ℕ → DutyDay → Breach → Type 0
+IsLongDay line kind limit day breach = IsTooMuch line kind limit day.start day.past breach
+
+-- a duty day with more than nine hours of driving (Article 6(1))
+pub record IsLongDuty (line : Line) (day : DutyDay) : Type 0 where
+  pub duty : IsDuty line day
+  pub over : driving_in_day < driving line day.start day.past

@@ -1,0 +1,24 @@
+-- Words of the rules on daily rests (Regulation (EC) 561/2006, Articles 8(2) and 8(4)).
+use Rattle.std.specs.Prelude.{◌≡◌, ℕ, ◌+◌, ◌-◌, ◌≤◌, List, Contains, min}
+use Rattle.tacho_hours.specs.declared.run.Run.{Run}
+use Rattle.tacho_hours.specs.declared.days.DutyDay.{DutyDay}
+use Rattle.tacho_hours.specs.declared.breach.Breach.{Breach}
+use Rattle.tacho_hours.specs.declared.breach.Kind.TheVariants.{B2}
+use Rattle.tacho_hours.specs.Days.{HasPortion}
+use Rattle.tacho_hours.specs.Limits.{daily_rest, minutes_of_day}
+
+-- B2, of one day: fewer than nine hours of rest in the 24 from the day's start (Article 8(2))
+pub record IsShortRest (day : DutyDay) (breach : Breach) : Type 0 where
+  pub kind : breach.kind ≡ B2
+  pub short : ¬ (HasPortion day daily_rest)
+  pub moment : breach.moment ≡ day.start + (minutes_of_day - daily_rest)
+  pub since : breach.since ≡ day.start
+  pub amount : breach.amount + min day.rest.past (day.start + minutes_of_day) ≡ daily_rest + day.past
+
+-- the last of the runs to end by a minute ends there
+pub record IsLastEnd (runs : List Run) (minute ended : ℕ) : Type 0 where
+  pub run : Run
+  pub among : Contains runs run
+  pub is : run.past ≡ ended
+  pub by : ended ≤ minute
+  pub last : (other : Run) → Contains runs other → other.past ≤ minute → other.past ≤ ended
