@@ -14,7 +14,7 @@ use Rattle.tacho_desk.specs.declared.fault.Fault.{Fault}
 use Rattle.tacho_desk.specs.declared.fault.Fault.TheVariants as fault
 use Rattle.tacho_desk.specs.declared.task.Task.{Task}
 use Rattle.tacho_desk.specs.declared.text.Text.{Text}
-use Rattle.tacho_cli.specs.Command.{Tells, fault_reply}
+use Rattle.tacho_cli.specs.Command.{IsWrittenOut, fault_reply}
 use Rattle.tacho_cli.specs.Office.{Answered, DoesOver, HasNotRead, HasRead, IsTaskOf, Performed, Performs, StopsOver, reply_to}
 use Rattle.tacho_cli.specs.declared.job.Job.{Job}
 use Rattle.tacho_cli.proofs.CommandLemmas.{any_input, some_input}
@@ -108,10 +108,10 @@ stops_unasked leaves past Does DoesJob unread h st =
 
 -- the reply to a text
 pub told_text : (stands : State → Type 0) (s : State) (Does : List ℕ → Doing) (unread : Option (List ℕ)) (reader writer : Bool) (old new : Option (List ℕ)) (status : ℕ) (text : Written)
-    → Answered stands s Does unread reader (Ok text) → Tells writer old new (reply_to (Ok text)) status → Performed stands s Does unread reader writer old new status
+    → Answered stands s Does unread reader (Ok text) → IsWrittenOut writer old new (reply_to (Ok text)) status → Performed stands s Does unread reader writer old new status
 told_text stands s Does unread reader writer old new status text answered tells = record { answer = Ok text; answered = answered; told = tells }
 
 -- the reply to a fault
 pub told_fault : (stands : State → Type 0) (s : State) (Does : List ℕ → Doing) (unread : Option (List ℕ)) (reader writer : Bool) (old new : Option (List ℕ)) (status : ℕ) (f : Fault)
-    → Answered stands s Does unread reader (Err f) → Tells writer old new (fault_reply f) status → Performed stands s Does unread reader writer old new status
+    → Answered stands s Does unread reader (Err f) → IsWrittenOut writer old new (fault_reply f) status → Performed stands s Does unread reader writer old new status
 told_fault stands s Does unread reader writer old new status f answered tells = record { answer = Err f; answered = answered; told = tells }

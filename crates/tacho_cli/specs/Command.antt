@@ -21,20 +21,20 @@ card_reply f = fault_reply (card_fault f)
 
 -- The reply, by whether the reader failed: that of a failed device; or else the one that is wanted, or want of
 -- memory in its place.
-abbrev pub Replies : (Reply → Type 0) → Bool → Reply → Type 0
-Replies Wanted true reply = reply ≡ fault_reply fault.Device
-Replies Wanted false reply = Wanted reply ⊎ (reply ≡ fault_reply fault.Memory)
+abbrev pub IsReplied : (Reply → Type 0) → Bool → Reply → Type 0
+IsReplied Wanted true reply = reply ≡ fault_reply fault.Device
+IsReplied Wanted false reply = Wanted reply ⊎ (reply ≡ fault_reply fault.Memory)
 
 -- What is written of a reply, by whether the writer failed: a beginning of its text, and then the status is 3; or
 -- else all of it, and the status is its own.
-abbrev pub Tells : Bool → Option (List ℕ) → Option (List ℕ) → Reply → ℕ → Type 0
-Tells true old new reply status = ((n : ℕ) × Appends old new (take n reply.text)) × (status ≡ 3)
-Tells false old new reply status = Appends old new reply.text × (status ≡ reply.status)
+abbrev pub IsWrittenOut : Bool → Option (List ℕ) → Option (List ℕ) → Reply → ℕ → Type 0
+IsWrittenOut true old new reply status = ((n : ℕ) × Appends old new (take n reply.text)) × (status ≡ 3)
+IsWrittenOut false old new reply status = Appends old new reply.text × (status ≡ reply.status)
 
 -- The input is all that the reader had, where it tells its bytes, and some input where it doesn't.
-pub record Leaves (Wanted : List ℕ → Reply → Type 0) (unread : Option (List ℕ)) (reader_failed writer_failed : Bool) (old new : Option (List ℕ)) (status : ℕ) : Type 0 where
+pub record Finishes (Wanted : List ℕ → Reply → Type 0) (unread : Option (List ℕ)) (reader_failed writer_failed : Bool) (old new : Option (List ℕ)) (status : ℕ) : Type 0 where
   pub input : List ℕ
   pub reply : Reply
   pub read : IfSome unread (λ all. input ≡ all)
-  pub replied : Replies (Wanted input) reader_failed reply
-  pub told : Tells writer_failed old new reply status
+  pub replied : IsReplied (Wanted input) reader_failed reply
+  pub told : IsWrittenOut writer_failed old new reply status

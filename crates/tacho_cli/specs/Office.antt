@@ -13,7 +13,7 @@ use Rattle.tacho_desk.specs.declared.matter.Matter.{Matter}
 use Rattle.tacho_desk.specs.declared.matter.Matter.TheVariants as matter
 use Rattle.tacho_desk.specs.declared.task.Task.{Task}
 use Rattle.tacho_desk.specs.declared.task.Task.TheVariants as task
-use Rattle.tacho_cli.specs.Command.{Reply, fault_reply, Tells}
+use Rattle.tacho_cli.specs.Command.{Reply, fault_reply, IsWrittenOut}
 use Rattle.tacho_cli.specs.declared.job.Job.{Job}
 use Rattle.tacho_cli.specs.declared.job.Job.TheVariants as job
 
@@ -103,4 +103,4 @@ reply_to (Err f) = fault_reply f
 pub record Performed (stands : State → Type 0) (s : State) (Does : List ℕ → Doing) (unread : Option (List ℕ)) (reader_failed writer_failed : Bool) (old new : Option (List ℕ)) (status : ℕ) : Type 0 where
   pub answer : Answer
   pub answered : Answered stands s Does unread reader_failed answer
-  pub told : Tells writer_failed old new (reply_to answer) status
+  pub told : IsWrittenOut writer_failed old new (reply_to answer) status

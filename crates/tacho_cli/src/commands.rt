@@ -1,7 +1,7 @@
 ghost use Rattle.std.specs.Prelude.{◌≡◌, ◌≤◌, ◌⊎◌, Err, length, false, flat_map, IfOk, MatchResult, string_bytes};
 ghost use Rattle.tacho_time.specs.Text.{span_line};
 ghost use Rattle.tacho_card.specs.declared.fault.CardFault.TheVariants.{Memory};
-ghost use Rattle.tacho_cli.specs.Command.{Leaves};
+ghost use Rattle.tacho_cli.specs.Command.{Finishes};
 ghost use Rattle.tacho_cli.specs.Dump.{IsDump, IsDumped, ReadsValue};
 ghost use Rattle.tacho_cli.specs.Holder.{IsHolder, IsHeld, card_holder, holder_line};
 
@@ -21,7 +21,7 @@ const ACTIVITY_LIMIT: usize = 65_535;
 pub fn dump<R: Source, W: Sink>(alloc: Global, reader: &mut R, writer: &mut W) -> u8
     requires reader { R.has_failed reader.old ≡ false }
     requires writer { W.has_failed writer.old ≡ false }
-    ensures { Leaves IsDump (R.unread reader.old) (R.has_failed reader.new) (W.has_failed writer.new) (W.written writer.old) (W.written writer.new) result }
+    ensures { Finishes IsDump (R.unread reader.old) (R.has_failed reader.new) (W.has_failed writer.new) (W.written writer.old) (W.written writer.new) result }
 {
     let input = match read_all(alloc, reader, ACTIVITY_LIMIT) {
         Ok(input) => input,
@@ -63,7 +63,7 @@ const FILE_LIMIT: usize = 262_144;
 pub fn holder<R: Source, W: Sink>(alloc: Global, reader: &mut R, writer: &mut W) -> u8
     requires reader { R.has_failed reader.old ≡ false }
     requires writer { W.has_failed writer.old ≡ false }
-    ensures { Leaves IsHolder (R.unread reader.old) (R.has_failed reader.new) (W.has_failed writer.new) (W.written writer.old) (W.written writer.new) result }
+    ensures { Finishes IsHolder (R.unread reader.old) (R.has_failed reader.new) (W.has_failed writer.new) (W.written writer.old) (W.written writer.new) result }
 {
     let input = match read_all(alloc, reader, FILE_LIMIT) {
         Ok(input) => input,

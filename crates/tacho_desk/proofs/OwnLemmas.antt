@@ -4,12 +4,12 @@ use Rattle.std.proofs.lemmas.Bool.{eqb-true, eq-eqb}
 use Rattle.tacho_line.specs.declared.horizon.Horizon.{Horizon}
 use Rattle.tacho_card.specs.declared.fault.CardFault.{CardFault}
 use Rattle.tacho_card.specs.declared.file.Part.{Part}
-use Rattle.tacho_hours.specs.declared.report.Breach.{Breach}
-use Rattle.tacho_hours.specs.declared.report.Debt.{Debt}
+use Rattle.tacho_hours.specs.declared.breach.Breach.{Breach}
+use Rattle.tacho_hours.specs.declared.debt.Debt.{Debt}
 use Rattle.tacho_time.specs.declared.span.Span.{Span}
 use Rattle.tacho_rules.specs.Report.{IsReport}
 use Rattle.tacho_state.specs.Batch.{batch_of}
-use Rattle.tacho_state.specs.Content.{Tells as FileTells, part_number}
+use Rattle.tacho_state.specs.Content.{FileTells, part_number}
 use Rattle.tacho_state.specs.Least.{is_within, least_conflict}
 use Rattle.tacho_state.specs.Acts.{caller_number}
 use Rattle.tacho_state.specs.Registration.{Registration}

@@ -4,7 +4,7 @@ use Rattle.std.specs.Prelude.{IsErrAnd}
 use Rattle.tacho_card.specs.declared.fault.CardFault.{CardFault}
 use Rattle.tacho_card.specs.declared.file.Part.{Part}
 use Rattle.tacho_state.specs.Acts.{Acts, Answers, caller_number}
-use Rattle.tacho_state.specs.Content.{Tells as FileTells, part_number}
+use Rattle.tacho_state.specs.Content.{FileTells, part_number}
 use Rattle.tacho_state.specs.Registration.{Registration}
 use Rattle.tacho_state.specs.State.{State}
 use Rattle.tacho_state.specs.Steps.{Content, Turn, imported}

@@ -5,7 +5,7 @@ use Rattle.tacho_time.specs.declared.span.Mark.{Mark}
 use Rattle.tacho_time.specs.declared.span.Span.{Span}
 use Rattle.tacho_line.specs.Line.{mark_at, AgreeWithin}
 use Rattle.tacho_rules.specs.Report.{IsReport}
-use Rattle.tacho_rules.specs.declared.found.Report.{Report}
+use Rattle.tacho_rules.specs.declared.report.Report.{Report}
 use Rattle.tacho_state.specs.Reported.{IsHeldWithin, IsReportOf}
 use Rattle.tacho_state.specs.State.{Driver, State, driver_of, held_mark, held_spans}
 use Rattle.tacho_state.specs.Steps.{lined, named, reported, told_of}

@@ -3,12 +3,12 @@ use Rattle.std.specs.Prelude.{◌≡◌, ◌⊎◌, ℕ, ◌*◌, ◌==◌, List
 use Rattle.tacho_line.specs.declared.horizon.Horizon.{Horizon}
 use Rattle.tacho_card.specs.declared.fault.CardFault.{CardFault}
 use Rattle.tacho_card.specs.declared.file.Part.{Part}
-use Rattle.tacho_hours.specs.declared.report.Breach.{Breach}
-use Rattle.tacho_hours.specs.declared.report.Debt.{Debt}
+use Rattle.tacho_hours.specs.declared.breach.Breach.{Breach}
+use Rattle.tacho_hours.specs.declared.debt.Debt.{Debt}
 use Rattle.tacho_rules.specs.Report.{IsReport}
 use Rattle.tacho_state.specs.Acts.{caller_number}
 use Rattle.tacho_state.specs.Batch.{batch_of}
-use Rattle.tacho_state.specs.Content.{Tells as FileTells, part_number}
+use Rattle.tacho_state.specs.Content.{FileTells, part_number}
 use Rattle.tacho_state.specs.Registration.{Registration}
 use Rattle.tacho_state.specs.State.{Driver, State, held_spans}
 use Rattle.tacho_state.specs.Steps.{Content, registered, imported, entered, withdrawn, rebased, listed, downloaded}

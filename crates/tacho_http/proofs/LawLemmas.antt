@@ -27,7 +27,7 @@ use Rattle.tacho_message.specs.declared.reply.Status.{Status}
 use Rattle.tacho_message.specs.declared.reply.Status.TheVariants as status
 use Rattle.tacho_http.specs.Laws.{IsFrom, Keeps503, KeepsOthers, OneReply, SameReply}
 use Rattle.tacho_http.specs.Reply.{Reply, done_reply, fixed, reply_to}
-use Rattle.tacho_http.specs.Serve.{ByCaller, ByKeys, ByOwner, ByWhom, DoesWanted, IsTaskAt, Reacts, Runs, Tells, WithBody, WithWant, asker_of, bad, headed, large, unavailable, word_in}
+use Rattle.tacho_http.specs.Serve.{ByCaller, ByKeys, ByOwner, ByWhom, DoesWanted, IsTaskAt, Reacts, Runs, RepliesOnly, WithBody, WithWant, asker_of, bad, headed, large, unavailable, word_in}
 
 -- ---- 503
 
@@ -168,8 +168,8 @@ his_request office key h rest n s reply after has other own does =
 -- ---- isolation
 
 module _ (own_wants : OwnWants) (same_answers : SameAnswers) (others_stay : OthersStay) (one_answer : OneAnswer) where
-  told_same : (n : ℕ) (s other : State) → driver_of n s ≡ driver_of n other → (r reply : Reply) (after : State) → Tells r s reply after
-      → (left : State) × Tells r other reply left × (driver_of n after ≡ driver_of n left)
+  told_same : (n : ℕ) (s other : State) → driver_of n s ≡ driver_of n other → (r reply : Reply) (after : State) → RepliesOnly r s reply after
+      → (left : State) × RepliesOnly r other reply left × (driver_of n after ≡ driver_of n left)
   told_same n s other e r reply after h = (other, (h.0, refl), ap (driver_of n) h.1 ∙ e)
 
   wanted_same : (n : ℕ) (s other : State) → driver_of n s ≡ driver_of n other → (wanted : Wanted) → ((t : Task) → wanted ≡ Ok t → IsHis n t) → (body : List ℕ) (reply : Reply) (after : State)
@@ -254,7 +254,7 @@ module _ (own_wants : OwnWants) (same_answers : SameAnswers) (others_stay : Othe
 
   -- one reply
 
-  told_once : (s : State) (r : Reply) (p q : Reply) (after left : State) → Tells r s p after → Tells r s q left → (p ≡ q) × (after ≡ left)
+  told_once : (s : State) (r : Reply) (p q : Reply) (after left : State) → RepliesOnly r s p after → RepliesOnly r s q left → (p ≡ q) × (after ≡ left)
   told_once s r p q after left h k = (h.0 ∙ sym k.0, h.1 ∙ sym k.1)
 
   wanted_once : (n : ℕ) (s : State) (wanted : Wanted) → ((t : Task) → wanted ≡ Ok t → IsHis n t) → (body : List ℕ) (p q : Reply) (after left : State)

@@ -29,8 +29,8 @@ abbrev pub Reaction : Type 1
 Reaction = Reply → State → Type 0
 
 -- no more is done than this reply
-abbrev pub Tells : Reply → State → Reaction
-Tells told s reply after = (reply ≡ told) × (after ≡ s)
+abbrev pub RepliesOnly : Reply → State → Reaction
+RepliesOnly told s reply after = (reply ≡ told) × (after ≡ s)
 
 -- ---- what a path asks for, by who asks
 
@@ -66,13 +66,13 @@ IsTaskAt want.File c path wanted = IsOf matter.File c (part_at driver_place path
 
 -- 400 where a word is wrong, or the reply to what the task answers
 abbrev pub DoesWanted : Wanted → List ℕ → State → Reaction
-DoesWanted (Err f) body s = Tells (reply_to (Err f)) s
+DoesWanted (Err f) body s = RepliesOnly (reply_to (Err f)) s
 DoesWanted (Ok t) body s = λ reply after. (answer : Answer) × Does t body s answer after × (reply ≡ reply_to answer)
 
 -- 400 where the input ends before the body does; nothing behind the body is looked at
 abbrev pub Bodied : ℕ → List ℕ → State → (List ℕ → Reaction) → Reaction
 Bodied n rest s With reply after =
-    ((length rest < n) × Tells (fixed status.BadRequest) s reply after) ⊎ ((n ≤ length rest) × With (take n rest) reply after)
+    ((length rest < n) × RepliesOnly (fixed status.BadRequest) s reply after) ⊎ ((n ≤ length rest) × With (take n rest) reply after)
 
 -- what is asked for, over its body
 abbrev pub Runs : Want → ℕ → Caller → List ℕ → List ℕ → State → Reaction
@@ -80,12 +80,12 @@ Runs w n c path rest s = Bodied n rest s (λ body reply after. (wanted : Wanted)
 
 -- 400, 411 or 413
 abbrev pub WithBody : Result ℕ Status → Want → Caller → List ℕ → List ℕ → State → Reaction
-WithBody (Err refusal) w c path rest s = Tells (fixed refusal) s
+WithBody (Err refusal) w c path rest s = RepliesOnly (fixed refusal) s
 WithBody (Ok n) w c path rest s = Runs w n c path rest s
 
 -- 404, 405 or 403
 abbrev pub WithWant : Result Want Status → Caller → RequestHead → List ℕ → State → Reaction
-WithWant (Err refusal) c h rest s = Tells (fixed refusal) s
+WithWant (Err refusal) c h rest s = RepliesOnly (fixed refusal) s
 WithWant (Ok w) c h rest s = WithBody (body_length (method_of h.method) w (fields_of h)) w c h.target rest s
 
 -- a request by a caller
@@ -95,7 +95,7 @@ ByCaller c h rest s = WithWant (want_of (asker_of c) h.method h.target) c h rest
 -- 403 where the key is nobody's
 abbrev pub ByOwner : Result (Option ℕ) StoreFault → RequestHead → List ℕ → State → Reaction
 ByOwner (Ok (Some n)) h rest s = ByCaller (caller.Driver n) h rest s
-ByOwner other h rest s = Tells (fixed status.Forbidden) s
+ByOwner other h rest s = RepliesOnly (fixed status.Forbidden) s
 
 -- the office's key is looked at first
 abbrev pub ByWhom : Bool → List ℕ → RequestHead → List ℕ → State → Reaction
@@ -107,7 +107,7 @@ ByKey office key h rest s = ByWhom (bytes_eq key office) key h rest s
 
 -- 403 where there is not exactly one key
 abbrev pub ByKeys : List ℕ → Option (List ℕ) → RequestHead → List ℕ → State → Reaction
-ByKeys office None h rest s = Tells (fixed status.Forbidden) s
+ByKeys office None h rest s = RepliesOnly (fixed status.Forbidden) s
 ByKeys office (Some key) h rest s = ByKey office key h rest s
 
 -- The replies that an input may get, each with the state after it: by its head; or, where it has none of at most 8,192 bytes and

@@ -6,7 +6,7 @@ use Rattle.tacho_time.specs.declared.span.Span.{Span}
 use Rattle.tacho_line.specs.Line.{AreGaps, HoldsWithin}
 use Rattle.tacho_line.specs.declared.gap.Gap.{Gap}
 use Rattle.tacho_line.specs.declared.horizon.Horizon.{Horizon}
-use Rattle.tacho_hours.specs.declared.report.Breach.{Breach}
+use Rattle.tacho_hours.specs.declared.breach.Breach.{Breach}
 use Rattle.tacho_sheet.specs.Reports.{AreBounds, IsGapText, IsMonthSheet, IsSpanCsv, csv_text, gap_line, sheet_text}
 
 same_bounds : (month start past first end : ℕ) → AreBounds month start past → AreBounds month first end → (first ≡ start) × (end ≡ past)

@@ -1,4 +1,5 @@
 ghost use Rattle.std.specs.Prelude.{◌≡◌, ◌⊎◌, None, Some, ◌&&◌, IsErrAnd, MatchOption, MatchResult, bytes_eq, codes, map};
+ghost use Rattle.tacho_time.specs.OrMemory.{OrMemory};
 ghost use Rattle.csv.specs.Records.{fields_of};
 ghost use Rattle.hex.specs.Hex.{encode_lower};
 ghost use Rattle.tacho_state.specs.Limits.{IsKey, IsName};
@@ -62,7 +63,7 @@ fn driver_of_texts(
     name: &[u8],
 ) -> Result<Driver, SheetFault>
     ensures { let five : Five = record { driver = driver.now; holder = holder.now; key = key.now; base = base.now; name = name.now } in
-        MatchResult result (λ d. IsDriverText five d) (λ fault. (fault ≡ SheetFault.Memory) ⊎ IsColumnFault five fault) }
+        MatchResult result (λ d. IsDriverText five d) (λ fault. OrMemory SheetFault.Memory fault (IsColumnFault five fault)) }
 {
     let Some(number) = read_number(driver, 999_999) else {
         return Err(SheetFault::Column(Column::Driver));

@@ -5,7 +5,7 @@ ghost use Rattle.std.specs.Prelude.{◌≡◌, ℕ, List};
 ghost use Rattle.tacho_time.specs.declared.span.Span.{Span as Stretch};
 ghost use Rattle.tacho_line.specs.declared.horizon.Horizon.{Horizon as HorizonValue};
 ghost use Rattle.tacho_line.specs.Line.{mark_at};
-ghost use Rattle.tacho_hours.specs.declared.report.Breach.{Breach as BreachValue};
+ghost use Rattle.tacho_hours.specs.declared.breach.Breach.{Breach as BreachValue};
 ghost use Rattle.tacho_sheet.specs.Reports.{AgreeIn, IsGapText, IsMonthSheet, IsSpanCsv};
 
 use tacho_line::laws::one_list_of_gaps;

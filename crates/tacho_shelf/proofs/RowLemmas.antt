@@ -19,13 +19,13 @@ use Rattle.tacho_line.proofs.LineLemmas.{held_given, given_held as given_held_in
 use Rattle.tacho_line.proofs.MergeLemmas.{front_gives}
 use Rattle.tacho_state.specs.declared.fault.StoreFault.{StoreFault}
 use Rattle.tacho_state.specs.declared.fault.StoreFault.TheVariants.{Memory, Store, Card}
-use Rattle.tacho_state.specs.Content.{Tells}
+use Rattle.tacho_state.specs.Content.{FileTells}
 use Rattle.tacho_state.specs.Disjoint.{Keeps}
 use Rattle.tacho_state.specs.State.{Download, Entry, Driver, State, driver_of, Held, given_spans, entered_spans, held_spans, held_mark, download_from}
 use Rattle.tacho_state.specs.Steps.{told_of, lined, reported}
 use Rattle.tacho_state.specs.Acts.{Answers}
 use Rattle.tacho_state.specs.Reported.{IsHeldWithin, IsReportOf}
-use Rattle.tacho_rules.specs.declared.found.Report.{Report}
+use Rattle.tacho_rules.specs.declared.report.Report.{Report}
 use Rattle.tacho_rules.specs.Report.{IsReport}
 use Rattle.tacho_state.proofs.DisjointLemmas.{disjoint_canonical}
 use Rattle.tacho_state.proofs.MapLemmas.{held_map}
@@ -103,7 +103,7 @@ no_conflict P SpanMemory h f = refl
 -- the fault of a card that is told is one of the import
 pub card_fault : (part : Part) (bytes : List ℕ) (fault : CardFault) (told : StoreFault)
     → ((fault ≡ CardMemory) × (told ≡ Memory)) ⊎ ((fault ≢ CardMemory) × (told ≡ Card fault))
-    → (fault ≡ CardMemory) ⊎ Tells part bytes (Err fault) → IsCardFault part bytes told
+    → (fault ≡ CardMemory) ⊎ FileTells part bytes (Err fault) → IsCardFault part bytes told
 card_fault part bytes fault told (inl e) f = inl e.1
 card_fault part bytes fault told (inr e) (inl f) = absurd (e.0 f)
 card_fault part bytes fault told (inr e) (inr f) = inr (fault, e.1, f)

@@ -7,7 +7,7 @@ use Rattle.tacho_state.specs.declared.fault.StoreFault.{StoreFault}
 use Rattle.tacho_state.specs.declared.fault.StoreFault.TheVariants.{UnknownDriver, NotYourCard, Store, Memory}
 use Rattle.tacho_state.specs.declared.imported.Imported.{Imported}
 use Rattle.tacho_state.specs.State.{Driver, State, driver_of, holding, put}
-use Rattle.tacho_state.specs.Content.{Tells, part_number}
+use Rattle.tacho_state.specs.Content.{FileTells, part_number}
 use Rattle.tacho_state.specs.Steps.{Turn, Own, Content, refused, settled, own_turn, import_own, import_his, imported}
 use Rattle.tacho_state.specs.Acts.{Answers}
 use Rattle.tacho_state.proofs.ContentLemmas.{one_content}
@@ -34,12 +34,12 @@ gave_up view s fault step (inr e) = record { answer = fault_answers view fault (
 
 -- the file was read, or there was no memory to read it
 pub unread : (part : Part) (file : List ℕ) (s : State) (fault : StoreFault) (r : Result Imported StoreFault) → r ≡ Err fault → IsCardFault part file fault
-    → ((content : Result Content CardFault) × Tells part file content) ⊎ ((r ≡ Err Memory) × (s ≡ s))
+    → ((content : Result Content CardFault) × FileTells part file content) ⊎ ((r ≡ Err Memory) × (s ≡ s))
 unread part file s fault r told (inl is) = inr (told ∙ ap Err is, refl)
 unread part file s fault r told (inr card) = inl (Err card.0, card.2)
 
 -- a file that can't be read
-pub import_unread : (caller : Option ℕ) (part : Part) (bytes : List ℕ) (s : State) (fault : StoreFault) (content : Result Content CardFault) → IsCardFault part bytes fault → Tells part bytes content
+pub import_unread : (caller : Option ℕ) (part : Part) (bytes : List ℕ) (s : State) (fault : StoreFault) (content : Result Content CardFault) → IsCardFault part bytes fault → FileTells part bytes content
     → Turns (λ (done : Imported). done) s s (Err fault) (imported caller (part_number part) bytes content)
 import_unread caller part bytes s fault content (inl e) t = gave_up (λ done. done) s fault (imported caller (part_number part) bytes content) (inl e)
 import_unread caller part bytes s fault content (inr h) t =
@@ -85,7 +85,7 @@ import_owned (Some n) part bytes content s d = go (driver_of n s) where
 
 -- the import of a file of nobody's card, or of another's
 pub import_refused : (caller : Option ℕ) (part : Part) (bytes : List ℕ) (s : State) (fault : StoreFault) (read : Content) (content : Result Content CardFault)
-    → Tells part bytes (Ok read) → owner_of caller read.holder s ≡ Err fault → Tells part bytes content
+    → FileTells part bytes (Ok read) → owner_of caller read.holder s ≡ Err fault → FileTells part bytes content
     → Turns (λ (done : Imported). done) s s (Err fault) (imported caller (part_number part) bytes content)
 import_refused caller part bytes s fault read content h e t =
     let same : content ≡ Ok read = one_content part bytes content (Ok read) t h in
@@ -133,10 +133,10 @@ found_turns view own n i s x d result h place read same told kept =
 
 -- the import of a driver's card
 pub import_turns : (caller : Option ℕ) (part : Part) (bytes : List ℕ) (s : State) (i : ℕ) (x d : Driver) (read : Content) (content : Result Content CardFault) (result : Result Imported StoreFault)
-    → AreNumbered s → IsOwnerAt s (owner_of caller read.holder s) i → slice_get s i ≡ Some x → d.number ≡ x.number → Tells part bytes (Ok read)
+    → AreNumbered s → IsOwnerAt s (owner_of caller read.holder s) i → slice_get s i ≡ Some x → d.number ≡ x.number → FileTells part bytes (Ok read)
     → MatchResult result (λ done. import_own (part_number part) bytes read.spans x ≡ Ok (done, d)) (IsFaultOf (import_own
     (part_number part) bytes read.spans x)) → OnErr result (d ≡ x)
-    → Tells part bytes content → Turns (λ (done : Imported). done) s (slice_set s i d) result (imported caller (part_number part) bytes content)
+    → FileTells part bytes content → Turns (λ (done : Imported). done) s (slice_set s i d) result (imported caller (part_number part) bytes content)
 import_turns caller part bytes s i x d read content result h owner at n tells told kept t =
     let same : content ≡ Ok read = one_content part bytes content (Ok read) t tells in
     let his : owner.0 ≡ x = cc (sym owner.1 ∙ at) in

@@ -1,5 +1,6 @@
 -- What the functions of a shelf do to the drivers that it holds.
-use Rattle.std.specs.Prelude.{◌≡◌, ℕ, ◌+◌, ◌<◌, ◌≤◌, ◌⊎◌, false, List, [], ◌∷◌, ◌++◌, length, Option, None, Some, Result, Ok, Err, bytes_eq, slice_get, if◌then◌else◌}
+use Rattle.std.specs.Prelude.{◌≡◌, ℕ, ◌+◌, ◌<◌, ◌≤◌, false, List, [], ◌∷◌, ◌++◌, length, Option, None, Some, Result, Ok, Err, bytes_eq, slice_get, if◌then◌else◌}
+use Rattle.tacho_time.specs.OrMemory.{OrMemory}
 use Rattle.tacho_time.specs.declared.span.Span.{Span}
 use Rattle.tacho_time.specs.Spans.{Gives, Conflicts}
 use Rattle.tacho_card.specs.declared.fault.CardFault.{CardFault}
@@ -8,7 +9,7 @@ use Rattle.tacho_state.specs.declared.fault.StoreFault.{StoreFault}
 use Rattle.tacho_state.specs.declared.fault.StoreFault.TheVariants.{Memory, UnknownDriver, NotYourCard, Contradiction, Card}
 use Rattle.tacho_state.specs.declared.imported.Imported.{Imported}
 use Rattle.tacho_state.specs.declared.imported.Imported.TheVariants.{Added, Repeated}
-use Rattle.tacho_state.specs.Content.{Tells}
+use Rattle.tacho_state.specs.Content.{FileTells}
 use Rattle.tacho_state.specs.Registration.{Registration}
 use Rattle.tacho_state.specs.State.{Download, Entry, Driver, State, driver_of, holding, given_spans, entered_spans, with_download}
 use Rattle.tacho_state.specs.Steps.{Turn, most}
@@ -31,11 +32,11 @@ IsPlaceOf s sought None = sought ≡ None
 
 -- a fault is want of memory, or it is what the step answers
 abbrev pub IsFaultOf : {A : Type 0} → Result A StoreFault → StoreFault → Type 0
-IsFaultOf told fault = (fault ≡ Memory) ⊎ (told ≡ Err fault)
+IsFaultOf told fault = OrMemory Memory fault (told ≡ Err fault)
 
 -- a fault is want of memory, or the least minute that is contradicted
 abbrev pub IsLeast : Option ℕ → StoreFault → Type 0
-IsLeast least fault = (fault ≡ Memory) ⊎ ((m : ℕ) × (fault ≡ Contradiction m) × (least ≡ Some m))
+IsLeast least fault = OrMemory Memory fault ((m : ℕ) × (fault ≡ Contradiction m) × (least ≡ Some m))
 
 -- at the place stands the entry with the number, and it isn't withdrawn
 abbrev pub IsEnteredAt : List Entry → ℕ → ℕ → Type 0
@@ -43,7 +44,7 @@ IsEnteredAt entries number i = (number ≡ 1 + i) × ((e : Entry) × (slice_get 
 
 -- a fault is want of memory, or the first fault that a card file has, read by a part
 abbrev pub IsCardFault : Part → List ℕ → StoreFault → Type 0
-IsCardFault part bytes fault = (fault ≡ Memory) ⊎ ((f : CardFault) × (fault ≡ Card f) × Tells part bytes (Err f))
+IsCardFault part bytes fault = OrMemory Memory fault ((f : CardFault) × (fault ≡ Card f) × FileTells part bytes (Err f))
 
 -- the driver, if there is one: S4
 abbrev pub known : Option Driver → Result Driver StoreFault

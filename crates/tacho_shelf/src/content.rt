@@ -1,6 +1,7 @@
 ghost use Rattle.std.specs.Prelude.{◌≡◌, ◌≢◌, ◌⊎◌, Ok, Err, MatchResult};
+ghost use Rattle.tacho_time.specs.OrMemory.{OrMemory};
 ghost use Rattle.tacho_card.specs.declared.fault.CardFault.TheVariants.{Memory as NoMemory};
-ghost use Rattle.tacho_state.specs.Content.{Tells};
+ghost use Rattle.tacho_state.specs.Content.{FileTells};
 ghost use Rattle.tacho_shelf.specs.Shelf.{IsCardFault};
 
 use std::alloc::Global;
@@ -29,7 +30,7 @@ impl Model for Content {
 
 /// What a card file tells by a part, or its first fault: S11.
 pub(crate) fn read_content(alloc: Global, part: Part, file: &[u8]) -> Result<Content, StoreFault>
-    ensures { MatchResult result (λ content. Tells part file.now (Ok content)) (IsCardFault part file.now) }
+    ensures { MatchResult result (λ content. FileTells part file.now (Ok content)) (IsCardFault part file.now) }
 {
     match read_card(alloc, part, file) {
         Ok(content) => Ok(content),
@@ -39,7 +40,7 @@ pub(crate) fn read_content(alloc: Global, part: Part, file: &[u8]) -> Result<Con
 
 /// What a card file tells by a part, or its first fault.
 fn read_card(alloc: Global, part: Part, file: &[u8]) -> Result<Content, CardFault>
-    ensures { MatchResult result (λ content. Tells part file.now (Ok content)) (λ fault. (fault ≡ NoMemory) ⊎ Tells part file.now (Err fault)) }
+    ensures { MatchResult result (λ content. FileTells part file.now (Ok content)) (λ fault. OrMemory NoMemory fault (FileTells part file.now (Err fault))) }
 {
     let card = CardFile::read(file)?;
     let spans = spans(alloc, &card, part)?;

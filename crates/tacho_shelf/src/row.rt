@@ -1,4 +1,5 @@
 ghost use Rattle.std.specs.Prelude.{◌≡◌, ◌≢◌, ℕ, false, MatchResult};
+ghost use Rattle.tacho_time.specs.OrMemory.{OrMemory};
 ghost use Rattle.tacho_line.specs.declared.line.LineFault.TheVariants.{Memory as NoMemory};
 ghost use Rattle.tacho_state.specs.Limits.{next_number};
 ghost use Rattle.tacho_state.specs.State.{driver_of, keyed, holding};
@@ -145,7 +146,7 @@ impl Row {
     /// The report of what he holds, from his base on.
     pub(crate) fn report(&self, alloc: Global) -> Result<Report, StoreFault>
         ensures report { IfOk result (λ report. IsReport (held_spans self.now) (1440 * self.now.base) report.horizon report.breaches.items report.debts.items) }
-        ensures fault { IfErr result (λ fault. (fault ≡ StoreFault.Memory) ⊎ (fault ≡ StoreFault.Store)) }
+        ensures fault { IfErr result (λ fault. OrMemory StoreFault.Memory fault (fault ≡ StoreFault.Store)) }
     {
         let Ok(line) = self.line(alloc) else {
             return Err(StoreFault::Memory);

@@ -2,7 +2,7 @@ ghost use Rattle.std.specs.Prelude.{◌≡◌, ◌⊎◌, ◌++◌, [], ◌∷�
 ghost use Rattle.tacho_card.specs.declared.fault.CardFault.{CardFault};
 ghost use Rattle.tacho_line.specs.Line.{mark_at};
 ghost use Rattle.tacho_state.specs.State.{driver_of, holding};
-ghost use Rattle.tacho_state.specs.Content.{Tells, part_number};
+ghost use Rattle.tacho_state.specs.Content.{FileTells, part_number};
 ghost use Rattle.tacho_state.specs.Batch.{IsBatch, batch_of};
 ghost use Rattle.tacho_state.specs.Steps.{Content, registered, imported, entered, withdrawn, rebased, refused, owner, named, lined, listed, downloaded, reported};
 ghost use Rattle.tacho_state.specs.Reported.{IsHeldWithin, IsReportOf};
@@ -274,8 +274,8 @@ impl Shelf {
         part: Part,
         file: &[u8],
     ) -> Result<Imported, StoreFault>
-        ensures read { ((content : Result Content CardFault) × Tells part file.now content) ⊎ ((result ≡ Err StoreFault.Memory) × (self.new ≡ self.old)) }
-        ensures turns { (content : Result Content CardFault) → Tells part file.now content
+        ensures read { ((content : Result Content CardFault) × FileTells part file.now content) ⊎ ((result ≡ Err StoreFault.Memory) × (self.new ≡ self.old)) }
+        ensures turns { (content : Result Content CardFault) → FileTells part file.now content
             → Turns (λ done. done) self.old self.new result (imported (caller_number caller) (part_number part) file.now content) }
     {
         let content = read_content(alloc, part, file)?;

@@ -6,7 +6,7 @@ use Rattle.tacho_card.specs.declared.file.Part.{Part}
 use Rattle.tacho_card.specs.CardFile.{FileBlock, blocks_of, card_file, file_holder, then_held, then_single, with_holder, ReadsFile}
 use Rattle.tacho_card.proofs.FileReadingLaw.{some_reading, one_reading}
 use Rattle.tacho_state.specs.Steps.{Content}
-use Rattle.tacho_state.specs.Content.{BlocksTell, ReadTells, Tells}
+use Rattle.tacho_state.specs.Content.{BlocksTell, ReadTells, FileTells}
 
 -- blocks that name a holder have a content
 blocks_tell : (part : Part) (blocks : List FileBlock) (holder : List ℕ) → file_holder blocks ≡ Ok holder
@@ -39,7 +39,7 @@ holds (Ok xs) blocks h = go (file_holder xs) refl h where
   go (Err fault) e k = cc
 
 -- a file has a content, or a fault in its place
-pub some_content : (part : Part) (bytes : List ℕ) → (content : Result Content CardFault) × Tells part bytes content
+pub some_content : (part : Part) (bytes : List ℕ) → (content : Result Content CardFault) × FileTells part bytes content
 some_content part bytes = go (card_file bytes) refl where
   go : (r : Result (List FileBlock) CardFault) → card_file bytes ≡ r → (content : Result Content CardFault) × ReadTells part r content
   go (Err fault) e = (Err fault, refl)
@@ -52,5 +52,5 @@ one_read part (Ok blocks) a b h k = one_of_blocks part blocks a b h k
 one_read part (Err fault) a b h k = h ∙ sym k
 
 -- a file has no second content
-pub one_content : (part : Part) (bytes : List ℕ) (a b : Result Content CardFault) → Tells part bytes a → Tells part bytes b → a ≡ b
+pub one_content : (part : Part) (bytes : List ℕ) (a b : Result Content CardFault) → FileTells part bytes a → FileTells part bytes b → a ≡ b
 one_content part bytes a b h k = one_read part (card_file bytes) a b h k

@@ -26,8 +26,8 @@ ReadTells p (Ok blocks) content = BlocksTell p blocks content
 ReadTells p (Err fault) content = content ≡ Err fault
 
 -- the content of a file's bytes, or its first fault
-abbrev pub Tells : Part → List ℕ → Result Content CardFault → Type 0
-Tells p bytes content = ReadTells p (card_file bytes) content
+abbrev pub FileTells : Part → List ℕ → Result Content CardFault → Type 0
+FileTells p bytes content = ReadTells p (card_file bytes) content
 
 -- the fault of an archive by that of a card file: want of memory is its own
 abbrev pub fault_of_card : CardFault → StoreFault

@@ -2,7 +2,7 @@
 use Rattle.std.specs.Prelude.{ℕ, ◌*◌, List, IfSome}
 use Rattle.tacho_time.specs.declared.span.Span.{Span}
 use Rattle.tacho_line.specs.Line.{AgreeWithin}
-use Rattle.tacho_rules.specs.declared.found.Report.{Report}
+use Rattle.tacho_rules.specs.declared.report.Report.{Report}
 use Rattle.tacho_rules.specs.Report.{IsReport}
 use Rattle.tacho_state.specs.State.{State, driver_of, held_spans}
 

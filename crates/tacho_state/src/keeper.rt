@@ -5,7 +5,7 @@ ghost use Rattle.tacho_state.specs.State.{State};
 ghost use Rattle.tacho_state.specs.Steps.{Content, registered, imported, entered, withdrawn, rebased, owner, named, lined, listed, downloaded, reported};
 ghost use Rattle.tacho_state.specs.Reported.{IsHeldWithin, IsReportOf};
 ghost use Rattle.tacho_state.specs.Batch.{IsBatch, batch_of};
-ghost use Rattle.tacho_state.specs.Content.{Tells, part_number};
+ghost use Rattle.tacho_state.specs.Content.{FileTells, part_number};
 ghost use Rattle.tacho_state.specs.Acts.{Acts, Reads, caller_number};
 ghost use Rattle.tacho_state.specs.declared.fault.StoreFault.TheVariants.{Memory};
 
@@ -51,8 +51,8 @@ pub trait Keeper {
         file: &[u8],
     ) -> Result<Imported, StoreFault>
         // The file was read, or there was no memory to read it, and nothing was asked of what is kept.
-        ensures read { ((content : Result Content CardFault) × Tells part file.now content) ⊎ ((result ≡ Err Memory) × (self.new ≡ self.old)) }
-        ensures imported { (content : Result Content CardFault) → Tells part file.now content
+        ensures read { ((content : Result Content CardFault) × FileTells part file.now content) ⊎ ((result ≡ Err Memory) × (self.new ≡ self.old)) }
+        ensures imported { (content : Result Content CardFault) → FileTells part file.now content
             → Acts stands is_clean is_live leaves (λ done. done) self.old self.new result (imported (caller_number caller) (part_number part) file.now content) };
 
     /// Enters a batch of hours, which goes in whole or not at all: S4, S6, S14. Its lines are numbered on from the driver's last

@@ -12,7 +12,7 @@ ghost use Rattle.tacho_state.specs.Least.{least_conflict, is_within};
 ghost use Rattle.tacho_state.specs.State.{Driver, Entry, State, Given, Held, held_mark, driver_of, entered_spans, entry_from, marked_from, put, with_marked, with_download, with_batch};
 ghost use Rattle.tacho_card.specs.declared.fault.CardFault.{CardFault};
 ghost use Rattle.tacho_card.specs.declared.file.Part.{Part as PartValue};
-ghost use Rattle.tacho_state.specs.Content.{Tells};
+ghost use Rattle.tacho_state.specs.Content.{FileTells};
 ghost use Rattle.tacho_state.specs.Steps.{Content, most, import_own, enter_own, withdrawn};
 ghost use Rattle.tacho_state.specs.declared.imported.Imported.TheVariants.{Added, Repeated};
 
@@ -110,6 +110,6 @@ pub fn held_is_a_map()
 
 /// A card file tells one content by each part, or has one first fault.
 pub fn one_content()
-    ensures some { (part : PartValue) (bytes : List ℕ) → (content : Result Content CardFault) × Tells part bytes content }
-    ensures one { (part : PartValue) (bytes : List ℕ) (a b : Result Content CardFault) → Tells part bytes a → Tells part bytes b → a ≡ b }
+    ensures some { (part : PartValue) (bytes : List ℕ) → (content : Result Content CardFault) × FileTells part bytes content }
+    ensures one { (part : PartValue) (bytes : List ℕ) (a b : Result Content CardFault) → FileTells part bytes a → FileTells part bytes b → a ≡ b }
 {}

@@ -1,4 +1,5 @@
 ghost use Rattle.std.specs.Prelude.{◌≡◌, ◌⊎◌, ◌*◌, ◌<◌, ◌≤◌, ◌↔◌, false, All, IfOk, IfErr, IfSome, IsNone, IsTrue};
+ghost use Rattle.tacho_time.specs.OrMemory.{OrMemory};
 ghost use Rattle.tacho_hours.specs.Line.{IsBase};
 ghost use Rattle.tacho_rules.specs.Report.{IsReport};
 ghost use Rattle.tacho_state.specs.Steps.{is_monday};
@@ -31,7 +32,7 @@ fn are_early(spans: &[Span]) -> bool
 /// the line goes past that end: no archive has such a base or such a line.
 pub fn report_of(alloc: Global, line: &Line, base: u32) -> Result<Report, StoreFault>
     ensures report { IfOk result (λ report. IsReport line.now (1440 * base) report.horizon report.breaches.items report.debts.items) }
-    ensures fault { IfErr result (λ fault. (fault ≡ StoreFault.Memory) ⊎ (fault ≡ StoreFault.Store)) }
+    ensures fault { IfErr result (λ fault. OrMemory StoreFault.Memory fault (fault ≡ StoreFault.Store)) }
 {
     let Some(first) = base_of(base) else {
         return Err(StoreFault::Store);

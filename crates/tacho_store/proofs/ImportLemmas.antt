@@ -4,7 +4,7 @@ use Rattle.tacho_time.specs.declared.span.Span.{Span}
 use Rattle.tacho_time.specs.Spans.{Gives, IsCanonicalOf}
 use Rattle.tacho_line.specs.Line.{AreGains}
 use Rattle.tacho_card.specs.declared.file.Part.{Part}
-use Rattle.tacho_state.specs.Content.{Tells, part_number}
+use Rattle.tacho_state.specs.Content.{FileTells, part_number}
 use Rattle.tacho_state.specs.Disjoint.{Keeps, near, AreInRange}
 use Rattle.tacho_state.specs.State.{Download, Driver, State, Given, Held, driver_of, put, with_download}
 use Rattle.tacho_state.specs.Steps.{Content}
@@ -17,7 +17,7 @@ use Rattle.tacho_store.proofs.DownloadLemmas.{download_row, rows_append, own_add
 use Rattle.tacho_store.proofs.StateLemmas.{SameOfDriver, found_number, found_of, put_is, rows_put}
 
 -- the spans of one more download are read from its file
-read_more : (ds : List Download) (part : Part) (file : List ℕ) (content : Content) → AreRead ds → Tells part file (Ok content)
+read_more : (ds : List Download) (part : Part) (file : List ℕ) (content : Content) → AreRead ds → FileTells part file (Ok content)
     → AreRead (ds ++ record { part = part_number part; file = file; spans = content.spans } ∷ [])
 read_more [] part file content h tells = ((part, content.holder, refl, tells), tt)
 read_more (d ∷ ds) part file content h tells = (h.0, read_more ds part file content h.1 tells)
@@ -31,7 +31,7 @@ pub record AreGained (t : Tables) (n a b : ℕ) (spans card_line line card_gains
 
 -- the tables stand for the driver with the download
 imported_own : (t : Tables) (d : Driver) (part : Part) (file : List ℕ) (content : Content) (card_line line card_gains gains : List Span)
-    (a b : ℕ) → IsOfDriver t d → Tells part file (Ok content) → AreInRange a b content.spans
+    (a b : ℕ) → IsOfDriver t d → FileTells part file (Ok content) → AreInRange a b content.spans
     → AreGained t d.number a b content.spans card_line line card_gains gains
     → IsOfDriver (with_imported d.number (1 + length d.downloads) (part_number part) file card_gains gains t)
     (with_download (part_number part) file content.spans d)
@@ -80,7 +80,7 @@ counted_other n count r d = ap (λ b. cond b (record r { downloads = count }) r)
 -- the tables stand for the state after an import by the driver's own number
 imported_at : (t : Tables) (s : State) (d : Driver) (part : Part) (file : List ℕ) (content : Content)
     (card_line line card_gains gains : List Span) (a b : ℕ) → IsOf t s → driver_of d.number s ≡ Some d
-    → Tells part file (Ok content) → AreInRange a b content.spans → AreGained t d.number a b content.spans card_line line card_gains gains
+    → FileTells part file (Ok content) → AreInRange a b content.spans → AreGained t d.number a b content.spans card_line line card_gains gains
     → IsOf (with_imported d.number (1 + length d.downloads) (part_number part) file card_gains gains t)
     (put (with_download (part_number part) file content.spans d) s)
 imported_at t s d part file content card_line line card_gains gains a b h k tells r g =
@@ -100,7 +100,7 @@ imported_at t s d part file content card_line line card_gains gains a b h k tell
 -- the tables after an import stand for the state after it
 pub imported_is : (t : Tables) (s : State) (n : ℕ) (d : Driver) (part : Part) (file : List ℕ) (content : Content)
     (card_line line card_gains gains : List Span) (a b : ℕ) → IsOf t s → driver_of n s ≡ Some d
-    → Tells part file (Ok content) → AreInRange a b content.spans
+    → FileTells part file (Ok content) → AreInRange a b content.spans
     → IsCanonicalOf (Gives (near a b (spans_of n t.card_spans))) card_line → AreGains card_line content.spans card_gains
     → IsCanonicalOf (Gives (near a b (spans_of n t.held))) line → AreGains line content.spans gains
     → IsOf (with_imported n (1 + length d.downloads) (part_number part) file card_gains gains t)

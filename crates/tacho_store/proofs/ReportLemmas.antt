@@ -3,9 +3,9 @@ use Rattle.std.proofs.Common.{◌≡◌, ◌⊎◌, ℕ, ◌*◌, List, Option, 
 use Rattle.std.specs.Prelude.{IfSome, string_bytes}
 use Rattle.tacho_time.specs.declared.span.Span.{Span}
 use Rattle.tacho_line.specs.Line.{mark_at}
-use Rattle.tacho_rules.specs.declared.found.Report.{Report}
+use Rattle.tacho_rules.specs.declared.report.Report.{Report}
 use Rattle.tacho_rules.specs.Report.{IsReport}
-use Rattle.tacho_rules.proofs.Reporting.{report_by_marks}
+use Rattle.tacho_rules.proofs.ReportLemmas.{report_by_marks}
 use Rattle.tacho_state.specs.declared.fault.StoreFault.{StoreFault}
 use Rattle.tacho_state.specs.declared.fault.StoreFault.TheVariants.{Memory, Store}
 use Rattle.tacho_state.specs.State.{Driver, State, driver_of, held_mark, held_spans}

@@ -6,7 +6,7 @@ use Rattle.tacho_card.specs.declared.file.Part.{Part}
 use Rattle.tacho_state.specs.declared.fault.StoreFault.{StoreFault}
 use Rattle.tacho_state.specs.declared.fault.StoreFault.TheVariants.{UnknownDriver, NotYourCard, Full}
 use Rattle.tacho_state.specs.declared.imported.Imported.TheVariants.{Added, Repeated}
-use Rattle.tacho_state.specs.Content.{Tells, part_number}
+use Rattle.tacho_state.specs.Content.{FileTells, part_number}
 use Rattle.tacho_state.specs.State.{Driver, State, driver_of, holding, put, with_download}
 use Rattle.tacho_state.specs.Steps.{import_own, most}
 use Rattle.tacho_tables.specs.Tables.{Tables, Stand}
@@ -45,7 +45,7 @@ IsImporter s (Err fault) told = Refuses fault told
 pub record AreAdded (db : Trees) (s : State) (n : ℕ) (d : Driver) (spans cards helds : List Span) : Type 0 where
   pub added : (part : ℕ) (file : List ℕ) → length d.downloads < most → import_own part file spans d ≡ Ok (Added d.number (1 + length d.downloads), with_download part file spans d)
   pub full : (part : ℕ) (file : List ℕ) → most ≤ length d.downloads → import_own part file spans d ≡ Err Full
-  pub stands : (part : Part) (file holder : List ℕ) (next : Trees) → Tells part file (Ok (record { holder = holder; spans = spans }))
+  pub stands : (part : Part) (file holder : List ℕ) (next : Trees) → FileTells part file (Ok (record { holder = holder; spans = spans }))
       → ((t : Tables) → Stand db t → Stand next (kept n (1 + length d.downloads) (part_number part) file cards helds t))
       → StandsFor next (put (with_download (part_number part) file spans d) s)
 

@@ -26,8 +26,8 @@ abbrev pub Shows : Sqlite → State → Type 0
 Shows c s = IsTrue c.is_open → Holds c s
 
 -- whatever a stop now leaves stands for one of these states
-abbrev pub Leaves : Sqlite → List State → Type 0
-Leaves c states = (db : Trees) → c.may_leave db → StandsAmong db states
+abbrev pub LeavesOneOf : Sqlite → List State → Type 0
+LeavesOneOf c states = (db : Trees) → c.may_leave db → StandsAmong db states
 
 -- the call answered, and did not give up
 abbrev pub IsAnswered : {A : Type 0} → Result A StoreFault → Type 0

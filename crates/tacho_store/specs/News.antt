@@ -1,5 +1,6 @@
 -- What a file's spans add, and why they add nothing.
 use Rattle.std.specs.Prelude.{◌≡◌, ℕ, ◌⊎◌, List, ◌∷◌}
+use Rattle.tacho_time.specs.OrMemory.{OrMemory}
 use Rattle.tacho_time.specs.declared.span.Span.{Span}
 use Rattle.tacho_time.specs.Spans.{IsFirstConflict}
 use Rattle.tacho_line.specs.Line.{Together, AreGains}
@@ -19,4 +20,4 @@ IsContradicted line spans fault = (m : ℕ) × (fault ≡ Contradiction m) × Is
 -- spans are refused that are new and contradict what the driver holds; and there may be no memory, or rows that don't fit together
 abbrev pub IsRefused : List Span → List Span → List Span → StoreFault → Type 0
 IsRefused card_line line spans fault =
-    (fault ≡ Memory) ⊎ ((fault ≡ Store) ⊎ ((m : ℕ) × (fault ≡ Contradiction m) × IsNew card_line spans × IsFirstConflict (Together line spans) m))
+    OrMemory Memory fault ((fault ≡ Store) ⊎ ((m : ℕ) × (fault ≡ Contradiction m) × IsNew card_line spans × IsFirstConflict (Together line spans) m))

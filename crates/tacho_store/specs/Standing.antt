@@ -9,7 +9,7 @@ use Rattle.tacho_card.specs.declared.file.Part.{Part}
 use Rattle.tacho_state.specs.declared.entry.Entry.{Entry as Listed}
 use Rattle.tacho_state.specs.State.{Download, Entry, Driver, State, Given, Held, AreFull}
 use Rattle.tacho_state.specs.Disjoint.{Keeps}
-use Rattle.tacho_state.specs.Content.{Tells, part_number}
+use Rattle.tacho_state.specs.Content.{FileTells, part_number}
 use Rattle.tacho_tables.specs.Rows.{SpanRow, DownloadRow, EntryRow, DriverRow}
 use Rattle.tacho_tables.specs.declared.rows.StoredSpan.{StoredSpan}
 use Rattle.tacho_tables.specs.declared.rows.StoredEntry.{StoredEntry}
@@ -76,7 +76,7 @@ entries_of n rows = filter (λ r. r.driver == n) rows
 abbrev pub AreRead : List Download → Type 0
 AreRead [] = Unit {0}
 AreRead (d ∷ ds) =
-    ((part : Part) × (holder : List ℕ) × (part_number part ≡ d.part) × Tells part d.file (Ok (record { holder = holder; spans = d.spans }))) × AreRead ds
+    ((part : Part) × (holder : List ℕ) × (part_number part ≡ d.part) × FileTells part d.file (Ok (record { holder = holder; spans = d.spans }))) × AreRead ds
 
 -- the rows of one driver: card_spans give exactly what his downloads give, and held exactly what he holds, each in disjoint rows
 pub record IsOfDriver (t : Tables) (d : Driver) : Type 0 where

@@ -6,10 +6,10 @@ ghost use Rattle.sqlite.specs.Steps.{over_memory};
 ghost use Rattle.tacho_card.specs.declared.fault.CardFault.{CardFault as Fault};
 ghost use Rattle.tacho_state.specs.State.{State};
 ghost use Rattle.tacho_state.specs.Steps.{Content, imported};
-ghost use Rattle.tacho_state.specs.Content.{Tells, part_number};
+ghost use Rattle.tacho_state.specs.Content.{FileTells, part_number};
 ghost use Rattle.tacho_state.specs.Acts.{Acts, caller_number};
 ghost use Rattle.tacho_store.specs.Standing.{StandsFor};
-ghost use Rattle.tacho_store.specs.Kept.{IsBlank, Holds, Shows, Leaves, IsGivenUp};
+ghost use Rattle.tacho_store.specs.Kept.{IsBlank, Holds, Shows, LeavesOneOf, IsGivenUp};
 
 use crate::base::rebase;
 use crate::content::content_of;
@@ -59,7 +59,7 @@ fn make<S: Alter>(conn: &mut Connection<S>) -> Result<(), StoreFault>
     ensures live { HasCleanDisk (state S.Store conn.new) → OnOk result (IsTrue (state S.Store conn.new).is_open) }
     ensures clean { HasCleanDisk (state S.Store conn.new) → HasCleanDisk (state S.Store conn.old) }
     ensures same { HasCleanDisk (state S.Store conn.new) → IsTrue (state S.Store conn.new).is_open → OnErr result ((state S.Store conn.new).now ≡ (state S.Store conn.old).now) }
-    ensures kept { HasCleanDisk (state S.Store conn.new) → IsBlank (state S.Store conn.old) → OnOk result (Leaves (state S.Store conn.new) ([] ∷ [])) }
+    ensures kept { HasCleanDisk (state S.Store conn.new) → IsBlank (state S.Store conn.old) → OnOk result (LeavesOneOf (state S.Store conn.new) ([] ∷ [])) }
     ensures crash { IsBlank (state S.Store conn.old) → Survives (state S.Store conn.old) (state S.Store conn.new) (λ db. StandsFor db []) }
 {
     if opening::has_tables(conn) {
@@ -122,7 +122,7 @@ impl<S: Alter> Archive<S> {
     ghost use Rattle.sqlite.specs.Held.{state};
     ghost use Rattle.tacho_state.specs.State.{State};
     ghost use Rattle.tacho_store.specs.Standing.{StandsFor};
-    ghost use Rattle.tacho_store.specs.Kept.{IsBlank, Holds, Shows, Leaves, IsGivenUp};
+    ghost use Rattle.tacho_store.specs.Kept.{IsBlank, Holds, Shows, LeavesOneOf, IsGivenUp};
 
     /// An archive of no drivers in a store without tables, made in one transaction. S12 where the store has tables. A refusal
     /// hands the connection back, with the store as it was.
@@ -147,7 +147,7 @@ impl<S: Alter> Archive<S> {
         requires { conn.in_transaction ≡ false }
         ensures adopted { IfOk result (λ archive. ⟦<Archive<S> as Keeper>⟧.is_clean archive → (s : State) → Holds (state S.Store conn) s → ⟦<Archive<S> as Keeper>⟧.stands archive s) }
         ensures live { IfOk result (λ archive. ⟦<Archive<S> as Keeper>⟧.is_clean archive → ⟦<Archive<S> as Keeper>⟧.is_live archive) }
-        ensures crash { IfOk result (λ archive. ⟦<Archive<S> as Keeper>⟧.is_clean archive → (states : List State) → Leaves (state S.Store conn) states → ⟦<Archive<S> as Keeper>⟧.leaves archive states) }
+        ensures crash { IfOk result (λ archive. ⟦<Archive<S> as Keeper>⟧.is_clean archive → (states : List State) → LeavesOneOf (state S.Store conn) states → ⟦<Archive<S> as Keeper>⟧.leaves archive states) }
         ensures missing { IfOk result (λ archive. ⟦<Archive<S> as Keeper>⟧.is_clean archive → IsBlank (state S.Store conn) → ⊥) }
         ensures refused { IfErr result (λ e. IsGivenUp e.0 × (e.1.in_transaction ≡ false)) }
         ensures same { IfErr result (λ e. HasCleanDisk (state S.Store e.1) → (s : State) → Holds (state S.Store conn) s → Shows (state S.Store e.1) s) }
@@ -166,7 +166,7 @@ impl<S: Alter> Archive<S> {
         ensures clean { ⟦<Archive<S> as Keeper>⟧.is_clean self ↔ HasCleanDisk (state S.Store result) }
         ensures held { (s : State) → ⟦<Archive<S> as Keeper>⟧.stands self s → Shows (state S.Store result) s }
         ensures live { ⟦<Archive<S> as Keeper>⟧.is_live self ↔ IsTrue (state S.Store result).is_open }
-        ensures crash { (states : List State) → ⟦<Archive<S> as Keeper>⟧.leaves self states → Leaves (state S.Store result) states }
+        ensures crash { (states : List State) → ⟦<Archive<S> as Keeper>⟧.leaves self states → LeavesOneOf (state S.Store result) states }
     {
         let Archive { conn } = self;
         conn
@@ -178,7 +178,7 @@ impl<S: Alter> Keeper for Archive<S> {
     ghost use Rattle.std.proofs.Common.{inr};
     ghost use Rattle.sqlite.specs.State.{HasCleanDisk};
     ghost use Rattle.sqlite.specs.Held.{state};
-    ghost use Rattle.tacho_store.specs.Kept.{Shows, Leaves};
+    ghost use Rattle.tacho_store.specs.Kept.{Shows, LeavesOneOf};
 
     ghost stands = { λ a s. Shows (state S.Store a.conn) s };
 
@@ -186,7 +186,7 @@ impl<S: Alter> Keeper for Archive<S> {
 
     ghost is_live = { λ a. IsTrue (state S.Store a.conn).is_open };
 
-    ghost leaves = { λ a states. Leaves (state S.Store a.conn) states };
+    ghost leaves = { λ a states. LeavesOneOf (state S.Store a.conn) states };
 
     ghost leaves_more = { λ a s states leaves db may. inr (leaves db may) };
 

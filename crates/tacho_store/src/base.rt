@@ -6,7 +6,7 @@ ghost use Rattle.tacho_state.specs.Steps.{rebased, is_monday};
 ghost use Rattle.tacho_state.specs.Acts.{Acts, Answers};
 ghost use Rattle.tacho_tables.specs.Schema.{archive_schema};
 ghost use Rattle.tacho_store.specs.Standing.{StandsFor};
-ghost use Rattle.tacho_store.specs.Kept.{Shows, Leaves, IsAnswered};
+ghost use Rattle.tacho_store.specs.Kept.{Shows, LeavesOneOf, IsAnswered};
 
 use crate::fault::store_fault;
 use crate::finding::driver_with;
@@ -50,7 +50,7 @@ fn rebase_in<S: Alter>(
 pub fn rebase<S: Alter>(conn: &mut Connection<S>, driver: u32, base: Day) -> Result<(), StoreFault>
     requires { conn.old.in_transaction ≡ false }
     ensures autocommit { conn.new.in_transaction ≡ false }
-    ensures acts { Acts (λ c. Shows (state S.Store c)) (λ c. HasCleanDisk (state S.Store c)) (λ c. IsTrue (state S.Store c).is_open) (λ c. Leaves (state S.Store c)) (λ _. tt) conn.old conn.new result
+    ensures acts { Acts (λ c. Shows (state S.Store c)) (λ c. HasCleanDisk (state S.Store c)) (λ c. IsTrue (state S.Store c).is_open) (λ c. LeavesOneOf (state S.Store c)) (λ _. tt) conn.old conn.new result
         (rebased driver base) }
 {
     let _settled = conn.is_autocommit();

@@ -1,7 +1,8 @@
-ghost use Rattle.std.specs.Prelude.{◌≡◌, ◌⊎◌, Ok, Err, IfOk, MatchResult};
+ghost use Rattle.std.specs.Prelude.{◌≡◌, Ok, Err, IfOk, MatchResult};
+ghost use Rattle.tacho_time.specs.OrMemory.{OrMemory};
 ghost use Rattle.tacho_time.specs.Spans.{IsCanonical};
 ghost use Rattle.tacho_card.specs.declared.fault.CardFault.{CardFault as OwnFault};
-ghost use Rattle.tacho_state.specs.Content.{Tells};
+ghost use Rattle.tacho_state.specs.Content.{FileTells};
 
 use std::alloc::Global;
 use tacho_card::{CardFile, Part, spans};
@@ -19,8 +20,8 @@ pub struct CardContent {
 
 /// What a card file tells, read by a part; S11 where it has a fault.
 pub fn content_of(alloc: Global, part: Part, file: &[u8]) -> Result<CardContent, StoreFault>
-    ensures told { MatchResult result (λ it. Tells part file.now (Ok (record { holder = it.holder; spans = it.spans.items })))
-        (λ fault. (fault ≡ StoreFault.Memory) ⊎ ((f : OwnFault) × (fault ≡ StoreFault.Card f) × Tells part file.now (Err f))) }
+    ensures told { MatchResult result (λ it. FileTells part file.now (Ok (record { holder = it.holder; spans = it.spans.items })))
+        (λ fault. OrMemory StoreFault.Memory fault ((f : OwnFault) × (fault ≡ StoreFault.Card f) × FileTells part file.now (Err f))) }
     ensures canonical { IfOk result (λ it. IsCanonical it.spans.items) }
 {
     let card = CardFile::read(file)?;

@@ -10,7 +10,7 @@ ghost use Rattle.tacho_state.specs.Acts.{Acts, Answers};
 ghost use Rattle.tacho_tables.specs.Schema.{archive_schema};
 ghost use Rattle.tacho_tables.specs.Tables.{Turns, entered_rows, row_of};
 ghost use Rattle.tacho_store.specs.Standing.{StandsFor};
-ghost use Rattle.tacho_store.specs.Kept.{Shows, Leaves, IsAnswered};
+ghost use Rattle.tacho_store.specs.Kept.{Shows, LeavesOneOf, IsAnswered};
 ghost use Rattle.tacho_store.specs.Finding.{Refuses};
 ghost use Rattle.tacho_store.specs.Entering.{AreNumbered, batched};
 
@@ -182,7 +182,7 @@ pub fn enter<S: Alter>(
     requires open { conn.old.in_transaction ≡ false }
     requires batch { IsBatch lines.now }
     ensures autocommit { conn.new.in_transaction ≡ false }
-    ensures acts { Acts (λ c. Shows (state S.Store c)) (λ c. HasCleanDisk (state S.Store c)) (λ c. IsTrue (state S.Store c).is_open) (λ c. Leaves (state S.Store c)) (λ done. done.first) conn.old conn.new result
+    ensures acts { Acts (λ c. Shows (state S.Store c)) (λ c. HasCleanDisk (state S.Store c)) (λ c. IsTrue (state S.Store c).is_open) (λ c. LeavesOneOf (state S.Store c)) (λ done. done.first) conn.old conn.new result
         (entered driver (batch_of lines.now)) }
     ensures count { IfOk result (λ done. done.count ≡ length lines.now) }
 {

@@ -5,12 +5,12 @@ ghost use Rattle.tacho_time.specs.declared.span.Span.{Span as Stretch};
 ghost use Rattle.tacho_time.specs.Spans.{IsCanonical};
 ghost use Rattle.tacho_state.specs.State.{State, Driver, driver_of};
 ghost use Rattle.tacho_state.specs.Steps.{settled, import_own, imported};
-ghost use Rattle.tacho_state.specs.Content.{Tells, part_number};
+ghost use Rattle.tacho_state.specs.Content.{FileTells, part_number};
 ghost use Rattle.tacho_state.specs.Acts.{Acts, Answers, caller_number};
 ghost use Rattle.tacho_tables.specs.Schema.{archive_schema};
 ghost use Rattle.tacho_tables.specs.Tables.{Turns, row_of};
 ghost use Rattle.tacho_store.specs.Standing.{StandsFor, span_row, kept};
-ghost use Rattle.tacho_store.specs.Kept.{Shows, Leaves, IsAnswered};
+ghost use Rattle.tacho_store.specs.Kept.{Shows, LeavesOneOf, IsAnswered};
 ghost use Rattle.tacho_store.specs.Importing.{importer, IsImporterOf, IsImporter, AreAdded, AreDecided};
 
 use crate::content::CardContent;
@@ -186,7 +186,7 @@ fn add_download<S: Alter>(
         → Answers (λ done. done) result (settled s (import_own (part_number part) file.now spans d)).answer }
     ensures made { HasCleanDisk (state S.Store tx.new.conn.now) → (state S.Store tx.old.conn.now).now.schema ≡ archive_schema → (s : State) → StandsFor (state S.Store tx.old.conn.now).now.trees s
         → (d : Driver) (spans : List Stretch) (holder : List ℕ) → IsImporterOf s d importer → AreAdded (state S.Store tx.old.conn.now).now.trees s importer.number d spans news.now.card_spans.items news.now.held.items
-        → Tells part file.now (Ok (record { holder = holder; spans = spans }))
+        → FileTells part file.now (Ok (record { holder = holder; spans = spans }))
         → OnOk result (((state S.Store tx.new.conn.now).now.schema ≡ archive_schema) × StandsFor (state S.Store tx.new.conn.now).now.trees (settled s (import_own (part_number part) file.now spans d)).after) }
     ensures clean { HasCleanDisk (state S.Store tx.new.conn.now) → HasCleanDisk (state S.Store tx.old.conn.now) }
     ensures was_open { HasCleanDisk (state S.Store tx.new.conn.now) → IsTrue (state S.Store tx.new.conn.now).is_open → IsTrue (state S.Store tx.old.conn.now).is_open }
@@ -226,7 +226,7 @@ fn import_spans<S: Alter>(
     ensures answer { HasCleanDisk (state S.Store tx.new.conn.now) → (state S.Store tx.old.conn.now).now.schema ≡ archive_schema → (s : State) → StandsFor (state S.Store tx.old.conn.now).now.trees s
         → (d : Driver) → IsImporterOf s d importer → Answers (λ done. done) result (settled s (import_own (part_number part) file.now spans.now d)).answer }
     ensures made { HasCleanDisk (state S.Store tx.new.conn.now) → (state S.Store tx.old.conn.now).now.schema ≡ archive_schema → (s : State) → StandsFor (state S.Store tx.old.conn.now).now.trees s
-        → (d : Driver) (holder : List ℕ) → IsImporterOf s d importer → Tells part file.now (Ok (record { holder = holder; spans = spans.now }))
+        → (d : Driver) (holder : List ℕ) → IsImporterOf s d importer → FileTells part file.now (Ok (record { holder = holder; spans = spans.now }))
         → OnOk result (((state S.Store tx.new.conn.now).now.schema ≡ archive_schema) × StandsFor (state S.Store tx.new.conn.now).now.trees (settled s (import_own (part_number part) file.now spans.now d)).after) }
     ensures clean { HasCleanDisk (state S.Store tx.new.conn.now) → HasCleanDisk (state S.Store tx.old.conn.now) }
     ensures was_open { HasCleanDisk (state S.Store tx.new.conn.now) → IsTrue (state S.Store tx.new.conn.now).is_open → IsTrue (state S.Store tx.old.conn.now).is_open }
@@ -255,7 +255,7 @@ fn import_in<S: Alter>(
     ensures answer { HasCleanDisk (state S.Store tx.new.conn.now) → (state S.Store tx.old.conn.now).now.schema ≡ archive_schema → (s : State) → StandsFor (state S.Store tx.old.conn.now).now.trees s
         → Answers (λ done. done) result (imported (caller_number caller) (part_number part) file.now (Ok (record { holder = content.now.holder; spans = content.now.spans.items })) s).answer }
     ensures made { HasCleanDisk (state S.Store tx.new.conn.now) → (state S.Store tx.old.conn.now).now.schema ≡ archive_schema → (s : State) → StandsFor (state S.Store tx.old.conn.now).now.trees s
-        → Tells part file.now (Ok (record { holder = content.now.holder; spans = content.now.spans.items }))
+        → FileTells part file.now (Ok (record { holder = content.now.holder; spans = content.now.spans.items }))
         → OnOk result (((state S.Store tx.new.conn.now).now.schema ≡ archive_schema)
         × StandsFor (state S.Store tx.new.conn.now).now.trees (imported (caller_number caller) (part_number part) file.now (Ok (record { holder = content.now.holder; spans = content.now.spans.items })) s).after) }
     ensures live { HasCleanDisk (state S.Store tx.new.conn.now) → IsAnswered result → IsTrue (state S.Store tx.old.conn.now).is_open }
@@ -280,8 +280,8 @@ pub fn import<S: Alter>(
     requires open { conn.old.in_transaction ≡ false }
     requires spans { IsCanonical content.now.spans.items }
     ensures autocommit { conn.new.in_transaction ≡ false }
-    ensures acts { Tells part file.now (Ok (record { holder = content.now.holder; spans = content.now.spans.items }))
-        → Acts (λ c. Shows (state S.Store c)) (λ c. HasCleanDisk (state S.Store c)) (λ c. IsTrue (state S.Store c).is_open) (λ c. Leaves (state S.Store c)) (λ done. done) conn.old conn.new result
+    ensures acts { FileTells part file.now (Ok (record { holder = content.now.holder; spans = content.now.spans.items }))
+        → Acts (λ c. Shows (state S.Store c)) (λ c. HasCleanDisk (state S.Store c)) (λ c. IsTrue (state S.Store c).is_open) (λ c. LeavesOneOf (state S.Store c)) (λ done. done) conn.old conn.new result
         (imported (caller_number caller) (part_number part) file.now (Ok (record { holder = content.now.holder; spans = content.now.spans.items }))) }
 {
     let _settled = conn.is_autocommit();

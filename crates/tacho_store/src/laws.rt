@@ -7,7 +7,7 @@ ghost use Rattle.tacho_time.specs.Spans.{Gives, IsCanonicalOf};
 ghost use Rattle.tacho_time.specs.declared.span.Span.{Span};
 ghost use Rattle.tacho_line.specs.Line.{AreGains, IsWithin};
 ghost use Rattle.tacho_card.specs.declared.file.Part.{Part as PartValue};
-ghost use Rattle.tacho_state.specs.Content.{Tells, part_number};
+ghost use Rattle.tacho_state.specs.Content.{FileTells, part_number};
 ghost use Rattle.tacho_state.specs.Disjoint.{Keeps, AreInRange, near, outside};
 ghost use Rattle.tacho_state.specs.State.{Driver, Entry, State, Given, Held, AreFull, driver_of, keyed, holding, download_from, entry_from, entered_spans, put, with_base, with_download, with_batch, with_marked};
 ghost use Rattle.tacho_state.specs.Steps.{Content, file_of};
@@ -63,7 +63,7 @@ pub fn rows_are_near()
 /// An import, on the tables: the gains against card spans near the file's spans and those against held rows near them are added.
 pub fn imported_tables_stand()
     ensures { (t : Tables) (s : State) (n : ℕ) (d : Driver) (part : PartValue) (file : List ℕ) (content : Content) (card_line line card_gains gains : List Span) (start past : ℕ)
-        → IsOf t s → driver_of n s ≡ Some d → Tells part file (Ok content) → AreInRange start past content.spans
+        → IsOf t s → driver_of n s ≡ Some d → FileTells part file (Ok content) → AreInRange start past content.spans
         → IsCanonicalOf (Gives (near start past (spans_of n t.card_spans))) card_line → AreGains card_line content.spans card_gains
         → IsCanonicalOf (Gives (near start past (spans_of n t.held))) line → AreGains line content.spans gains
         → IsOf (with_imported n (1 + length d.downloads) (part_number part) file card_gains gains t) (put (with_download (part_number part) file content.spans d) s) }

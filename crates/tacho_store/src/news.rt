@@ -1,4 +1,5 @@
-ghost use Rattle.std.specs.Prelude.{◌≡◌, ◌⊎◌, ℕ, [], None, MatchOption, MatchResult};
+ghost use Rattle.std.specs.Prelude.{◌≡◌, ℕ, [], None, MatchOption, MatchResult};
+ghost use Rattle.tacho_time.specs.OrMemory.{OrMemory};
 ghost use Rattle.tacho_time.specs.Spans.{IsCanonical};
 ghost use Rattle.tacho_line.specs.Line.{AreGains, first_empty};
 ghost use Rattle.tacho_store.specs.News.{AreNews, IsContradicted, IsRefused};
@@ -45,7 +46,7 @@ pub fn news_of(
 /// The gains of spans against a line; S6 where they contradict it.
 pub fn gains_of(alloc: Global, line: &Line, spans: &[Span]) -> Result<Vec<Span>, StoreFault>
     requires { first_empty spans.now ≡ None }
-    ensures { MatchResult result (λ gains. AreGains line.now spans.now gains.items) (λ fault. (fault ≡ StoreFault.Memory) ⊎ IsContradicted line.now spans.now fault) }
+    ensures { MatchResult result (λ gains. AreGains line.now spans.now gains.items) (λ fault. OrMemory StoreFault.Memory fault (IsContradicted line.now spans.now fault)) }
 {
     match line.gains(alloc, spans) {
         Ok(gains) => Ok(gains),

@@ -8,7 +8,7 @@ ghost use Rattle.tacho_state.specs.Reported.{IsHeldWithin, IsReportOf};
 ghost use Rattle.tacho_state.specs.Acts.{Reads, Answers};
 ghost use Rattle.tacho_tables.specs.Schema.{archive_schema};
 ghost use Rattle.tacho_store.specs.Standing.{StandsFor};
-ghost use Rattle.tacho_store.specs.Kept.{Shows, Leaves, IsAnswered};
+ghost use Rattle.tacho_store.specs.Kept.{Shows, LeavesOneOf, IsAnswered};
 
 use crate::fault::store_fault;
 use crate::finding::driver_with;
@@ -40,7 +40,7 @@ fn who_in<S: Alter>(tx: &mut Transaction<'_, S>, key: &[u8]) -> Result<Option<u3
 pub fn who<S: Alter>(conn: &mut Connection<S>, key: &[u8]) -> Result<Option<u32>, StoreFault>
     requires { conn.old.in_transaction ≡ false }
     ensures autocommit { conn.new.in_transaction ≡ false }
-    ensures reads { Reads (λ c. Shows (state S.Store c)) (λ c. HasCleanDisk (state S.Store c)) (λ c. IsTrue (state S.Store c).is_open) (λ c. Leaves (state S.Store c)) (λ found. found) conn.old conn.new result
+    ensures reads { Reads (λ c. Shows (state S.Store c)) (λ c. HasCleanDisk (state S.Store c)) (λ c. IsTrue (state S.Store c).is_open) (λ c. LeavesOneOf (state S.Store c)) (λ found. found) conn.old conn.new result
         (owner key.now) }
 {
     let _settled = conn.is_autocommit();
@@ -70,7 +70,7 @@ fn name_in<S: Alter>(tx: &mut Transaction<'_, S>, driver: u32) -> Result<String,
 pub fn name<S: Alter>(conn: &mut Connection<S>, driver: u32) -> Result<String, StoreFault>
     requires { conn.old.in_transaction ≡ false }
     ensures autocommit { conn.new.in_transaction ≡ false }
-    ensures reads { Reads (λ c. Shows (state S.Store c)) (λ c. HasCleanDisk (state S.Store c)) (λ c. IsTrue (state S.Store c).is_open) (λ c. Leaves (state S.Store c)) (λ name. string_bytes name) conn.old conn.new result
+    ensures reads { Reads (λ c. Shows (state S.Store c)) (λ c. HasCleanDisk (state S.Store c)) (λ c. IsTrue (state S.Store c).is_open) (λ c. LeavesOneOf (state S.Store c)) (λ name. string_bytes name) conn.old conn.new result
         (named driver) }
 {
     let _settled = conn.is_autocommit();
@@ -109,7 +109,7 @@ pub fn download<S: Alter>(
 ) -> Result<Vec<u8>, StoreFault>
     requires { conn.old.in_transaction ≡ false }
     ensures autocommit { conn.new.in_transaction ≡ false }
-    ensures reads { Reads (λ c. Shows (state S.Store c)) (λ c. HasCleanDisk (state S.Store c)) (λ c. IsTrue (state S.Store c).is_open) (λ c. Leaves (state S.Store c)) (λ bytes. bytes.items) conn.old conn.new result
+    ensures reads { Reads (λ c. Shows (state S.Store c)) (λ c. HasCleanDisk (state S.Store c)) (λ c. IsTrue (state S.Store c).is_open) (λ c. LeavesOneOf (state S.Store c)) (λ bytes. bytes.items) conn.old conn.new result
         (downloaded driver number) }
 {
     let _settled = conn.is_autocommit();
@@ -148,7 +148,7 @@ pub fn line<S: Alter>(
 ) -> Result<Line, StoreFault>
     requires { conn.old.in_transaction ≡ false }
     ensures autocommit { conn.new.in_transaction ≡ false }
-    ensures reads { Reads (λ c. Shows (state S.Store c)) (λ c. HasCleanDisk (state S.Store c)) (λ c. IsTrue (state S.Store c).is_open) (λ c. Leaves (state S.Store c)) (λ line. mark_at line) conn.old conn.new result
+    ensures reads { Reads (λ c. Shows (state S.Store c)) (λ c. HasCleanDisk (state S.Store c)) (λ c. IsTrue (state S.Store c).is_open) (λ c. LeavesOneOf (state S.Store c)) (λ line. mark_at line) conn.old conn.new result
         (lined driver) }
 {
     let _settled = conn.is_autocommit();
@@ -193,7 +193,7 @@ pub fn line_within<S: Alter>(
 ) -> Result<Line, StoreFault>
     requires { conn.old.in_transaction ≡ false }
     ensures autocommit { conn.new.in_transaction ≡ false }
-    ensures reads { Reads (λ c. Shows (state S.Store c)) (λ c. HasCleanDisk (state S.Store c)) (λ c. IsTrue (state S.Store c).is_open) (λ c. Leaves (state S.Store c)) (λ _. tt) conn.old conn.new result
+    ensures reads { Reads (λ c. Shows (state S.Store c)) (λ c. HasCleanDisk (state S.Store c)) (λ c. IsTrue (state S.Store c).is_open) (λ c. LeavesOneOf (state S.Store c)) (λ _. tt) conn.old conn.new result
         (reported driver) }
     ensures within { HasCleanDisk (state S.Store conn.new) → (s : State) → Shows (state S.Store conn.old) s → IfOk result (IsHeldWithin driver start past s) }
 {
@@ -233,7 +233,7 @@ pub fn entries<S: Alter>(
 ) -> Result<Vec<Entry>, StoreFault>
     requires { conn.old.in_transaction ≡ false }
     ensures autocommit { conn.new.in_transaction ≡ false }
-    ensures reads { Reads (λ c. Shows (state S.Store c)) (λ c. HasCleanDisk (state S.Store c)) (λ c. IsTrue (state S.Store c).is_open) (λ c. Leaves (state S.Store c)) (λ entries. entries.items) conn.old conn.new result
+    ensures reads { Reads (λ c. Shows (state S.Store c)) (λ c. HasCleanDisk (state S.Store c)) (λ c. IsTrue (state S.Store c).is_open) (λ c. LeavesOneOf (state S.Store c)) (λ entries. entries.items) conn.old conn.new result
         (listed driver) }
 {
     let _settled = conn.is_autocommit();
@@ -275,7 +275,7 @@ pub fn report<S: Alter>(
 ) -> Result<Report, StoreFault>
     requires { conn.old.in_transaction ≡ false }
     ensures autocommit { conn.new.in_transaction ≡ false }
-    ensures reads { Reads (λ c. Shows (state S.Store c)) (λ c. HasCleanDisk (state S.Store c)) (λ c. IsTrue (state S.Store c).is_open) (λ c. Leaves (state S.Store c)) (λ _. tt) conn.old conn.new result
+    ensures reads { Reads (λ c. Shows (state S.Store c)) (λ c. HasCleanDisk (state S.Store c)) (λ c. IsTrue (state S.Store c).is_open) (λ c. LeavesOneOf (state S.Store c)) (λ _. tt) conn.old conn.new result
         (reported driver) }
     ensures report { HasCleanDisk (state S.Store conn.new) → (s : State) → Shows (state S.Store conn.old) s → IfOk result (IsReportOf driver s) }
 {

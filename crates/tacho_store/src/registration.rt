@@ -6,7 +6,7 @@ ghost use Rattle.tacho_state.specs.Steps.{registered};
 ghost use Rattle.tacho_state.specs.Acts.{Acts, Answers};
 ghost use Rattle.tacho_tables.specs.Schema.{archive_schema};
 ghost use Rattle.tacho_store.specs.Standing.{StandsFor};
-ghost use Rattle.tacho_store.specs.Kept.{Shows, Leaves, IsAnswered};
+ghost use Rattle.tacho_store.specs.Kept.{Shows, LeavesOneOf, IsAnswered};
 
 use crate::base::is_monday;
 use crate::fault::store_fault;
@@ -47,7 +47,7 @@ fn register_in<S: Alter>(tx: &mut Transaction<'_, S>, driver: &Driver) -> Result
 pub fn register<S: Alter>(conn: &mut Connection<S>, driver: &Driver) -> Result<(), StoreFault>
     requires { conn.old.in_transaction ≡ false }
     ensures autocommit { conn.new.in_transaction ≡ false }
-    ensures acts { Acts (λ c. Shows (state S.Store c)) (λ c. HasCleanDisk (state S.Store c)) (λ c. IsTrue (state S.Store c).is_open) (λ c. Leaves (state S.Store c)) (λ _. tt) conn.old conn.new result
+    ensures acts { Acts (λ c. Shows (state S.Store c)) (λ c. HasCleanDisk (state S.Store c)) (λ c. IsTrue (state S.Store c).is_open) (λ c. LeavesOneOf (state S.Store c)) (λ _. tt) conn.old conn.new result
         (registered driver.now.number driver.now.holder driver.now.key driver.now.base driver.now.name) }
 {
     let _settled = conn.is_autocommit();

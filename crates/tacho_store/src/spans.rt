@@ -1,4 +1,5 @@
 ghost use Rattle.std.specs.Prelude.{◌≡◌, ◌⊎◌, ◌↔◌, ◌<◌, ◌≤◌, ℕ, map, IfOk, IfErr, IfSome, IsNone};
+ghost use Rattle.tacho_time.specs.OrMemory.{OrMemory};
 ghost use Rattle.tacho_time.specs.Spans.{Gives, IsCanonical, IsCanonicalOf};
 ghost use Rattle.tacho_state.specs.Disjoint.{AreInRange};
 ghost use Rattle.tacho_tables.specs.Tables.{row_of};
@@ -84,7 +85,7 @@ fn span_of(row: &StoredSpan) -> Option<Span>
 /// The spans of stored rows; a row that no archive writes is a fault of the store.
 pub fn spans_of(alloc: Global, rows: &[StoredSpan]) -> Result<Vec<Span>, StoreFault>
     ensures spans { IfOk result (λ spans. spans.items ≡ map stored_span rows.now) }
-    ensures fault { IfErr result (λ fault. (fault ≡ StoreFault.Memory) ⊎ (fault ≡ StoreFault.Store)) }
+    ensures fault { IfErr result (λ fault. OrMemory StoreFault.Memory fault (fault ≡ StoreFault.Store)) }
 {
     let mut spans = Vec::new(alloc);
     for row in rows {
@@ -110,7 +111,7 @@ pub fn fault_of_rows(fault: SpanFault) -> StoreFault
 /// contradict, is a fault of the store.
 pub fn line_of_stored(alloc: Global, rows: &[StoredSpan]) -> Result<Line, StoreFault>
     ensures line { IfOk result (λ line. IsCanonicalOf (Gives (map stored_span rows.now)) line) }
-    ensures fault { IfErr result (λ fault. (fault ≡ StoreFault.Memory) ⊎ (fault ≡ StoreFault.Store)) }
+    ensures fault { IfErr result (λ fault. OrMemory StoreFault.Memory fault (fault ≡ StoreFault.Store)) }
 {
     let spans = spans_of(alloc, rows)?;
     match line_of(alloc, &spans) {
@@ -137,7 +138,7 @@ fn listed_entry(row: &StoredEntry) -> Option<Entry>
 /// The entries of stored rows; a row that no archive writes is a fault of the store.
 pub fn listed_entries(alloc: Global, rows: &[StoredEntry]) -> Result<Vec<Entry>, StoreFault>
     ensures entries { IfOk result (λ entries. entries.items ≡ map listed_as rows.now) }
-    ensures fault { IfErr result (λ fault. (fault ≡ StoreFault.Memory) ⊎ (fault ≡ StoreFault.Store)) }
+    ensures fault { IfErr result (λ fault. OrMemory StoreFault.Memory fault (fault ≡ StoreFault.Store)) }
 {
     let mut entries = Vec::new(alloc);
     for row in rows {

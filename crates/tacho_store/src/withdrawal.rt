@@ -1,4 +1,5 @@
-ghost use Rattle.std.specs.Prelude.{◌≡◌, ◌⊎◌, ◌++◌, map, filter, not, false, IfOk, IfErr, IsTrue, OnOk};
+ghost use Rattle.std.specs.Prelude.{◌≡◌, ◌++◌, map, filter, not, false, IfOk, IfErr, IsTrue, OnOk};
+ghost use Rattle.tacho_time.specs.OrMemory.{OrMemory};
 ghost use Rattle.sqlite.specs.State.{HasCleanDisk, Survives, KeepsCommit, IsUnchanged};
 ghost use Rattle.sqlite.specs.Held.{state};
 ghost use Rattle.tacho_time.specs.Spans.{Gives, IsCanonicalOf};
@@ -10,7 +11,7 @@ ghost use Rattle.tacho_state.specs.Acts.{Acts, Answers};
 ghost use Rattle.tacho_tables.specs.Schema.{archive_schema};
 ghost use Rattle.tacho_tables.specs.Tables.{Tables, Stand, Turns, is_near, row_of, with_withdrawn};
 ghost use Rattle.tacho_store.specs.Standing.{StandsFor, stored_span};
-ghost use Rattle.tacho_store.specs.Kept.{Shows, Leaves, IsAnswered};
+ghost use Rattle.tacho_store.specs.Kept.{Shows, LeavesOneOf, IsAnswered};
 ghost use Rattle.tacho_store.specs.Apart.{AreApart, rows_of};
 ghost use Rattle.tacho_store.specs.Withdrawing.{IsEntry, AreRowsFor, AreRenewed};
 
@@ -60,7 +61,7 @@ fn parts_outside(
     past: Minute,
 ) -> Result<Vec<Span>, StoreFault>
     ensures parts { IfOk result (λ parts. parts.items ≡ outside start past (map stored_span helds.now)) }
-    ensures fault { IfErr result (λ fault. (fault ≡ StoreFault.Memory) ⊎ (fault ≡ StoreFault.Store)) }
+    ensures fault { IfErr result (λ fault. OrMemory StoreFault.Memory fault (fault ≡ StoreFault.Store)) }
 {
     let spans = spans_of(alloc, helds)?;
     Ok(outside_of(alloc, &spans, start, past)?)
@@ -76,7 +77,7 @@ fn given_inside(
     past: Minute,
 ) -> Result<Vec<Span>, StoreFault>
     ensures inside { IfOk result (λ inside. IsCanonicalOf (λ m k. IsWithin start past m × Gives (map stored_span cards.now ++ map stored_span others.now) m k) inside.items) }
-    ensures fault { IfErr result (λ fault. (fault ≡ StoreFault.Memory) ⊎ (fault ≡ StoreFault.Store)) }
+    ensures fault { IfErr result (λ fault. OrMemory StoreFault.Memory fault (fault ≡ StoreFault.Store)) }
 {
     let card_spans = spans_of(alloc, cards)?;
     let entered = spans_of(alloc, others)?;
@@ -97,7 +98,7 @@ fn rows_for(
     past: u32,
 ) -> Result<Vec<StoredSpan>, StoreFault>
     ensures rows { IfOk result (λ rows. AreRowsFor cards.now others.now helds.now start past rows.items) }
-    ensures fault { IfErr result (λ fault. (fault ≡ StoreFault.Memory) ⊎ (fault ≡ StoreFault.Store)) }
+    ensures fault { IfErr result (λ fault. OrMemory StoreFault.Memory fault (fault ≡ StoreFault.Store)) }
 {
     let Some(first) = minute_of(start) else {
         return Err(StoreFault::Store);
@@ -124,7 +125,7 @@ fn mark<S: Alter>(
     ensures marked { HasCleanDisk (state S.Store tx.new.conn.now) → (state S.Store tx.old.conn.now).now.schema ≡ archive_schema → OnOk result (Turns (state S.Store tx.old.conn.now) (state S.Store tx.new.conn.now) (λ a. record a { entries = map (with_withdrawn driver number) a.entries })) }
     ensures renewed { HasCleanDisk (state S.Store tx.new.conn.now) → (state S.Store tx.old.conn.now).now.schema ≡ archive_schema → IfOk result (λ rows. (a : Tables) → Stand (state S.Store tx.old.conn.now).now.trees a → AreApart (rows_of driver a.card_spans) → AreApart (rows_of driver a.held)
         → AreRenewed a driver number start past rows.items) }
-    ensures fault { IfErr result (λ fault. (fault ≡ StoreFault.Memory) ⊎ (fault ≡ StoreFault.Store)) }
+    ensures fault { IfErr result (λ fault. OrMemory StoreFault.Memory fault (fault ≡ StoreFault.Store)) }
     ensures clean { HasCleanDisk (state S.Store tx.new.conn.now) → HasCleanDisk (state S.Store tx.old.conn.now) }
     ensures was_open { HasCleanDisk (state S.Store tx.new.conn.now) → IsTrue (state S.Store tx.new.conn.now).is_open → IsTrue (state S.Store tx.old.conn.now).is_open }
     ensures keeps { HasCleanDisk (state S.Store tx.new.conn.now) → (state S.Store tx.old.conn.now).now.schema ≡ archive_schema → KeepsCommit (state S.Store tx.old.conn.now) (state S.Store tx.new.conn.now) }
@@ -190,7 +191,7 @@ pub fn withdraw<S: Alter>(
 ) -> Result<(), StoreFault>
     requires { conn.old.in_transaction ≡ false }
     ensures autocommit { conn.new.in_transaction ≡ false }
-    ensures acts { Acts (λ c. Shows (state S.Store c)) (λ c. HasCleanDisk (state S.Store c)) (λ c. IsTrue (state S.Store c).is_open) (λ c. Leaves (state S.Store c)) (λ _. tt) conn.old conn.new result
+    ensures acts { Acts (λ c. Shows (state S.Store c)) (λ c. HasCleanDisk (state S.Store c)) (λ c. IsTrue (state S.Store c).is_open) (λ c. LeavesOneOf (state S.Store c)) (λ _. tt) conn.old conn.new result
         (withdrawn driver number) }
 {
     let _settled = conn.is_autocommit();

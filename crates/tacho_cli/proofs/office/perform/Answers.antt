@@ -1,5 +1,5 @@
 use Rattle.std.proofs.Common.{subst, List, ℕ}
-use Rattle.tacho_cli.specs.Command.{Tells}
+use Rattle.tacho_cli.specs.Command.{IsWrittenOut}
 use Rattle.tacho_desk.specs.Told.{told_of}
 use Rattle.tacho_cli.specs.Office.{Performs}
 use Rattle.tacho_cli.proofs.OfficeLemmas.{told_fault, told_text}
@@ -12,7 +12,7 @@ returns-in-Ok-clause-performed g c clean s stands =
     let new = g.W.Sink.written c.tell.new.writer in
     told_text (g.K.Keeper.stands c.answer.new.keeper) s (λ input. Performs c.args.job input s) (g.R.Source.unread c.args.reader.now) (g.R.Source.has_failed c.answer.new.reader)
     failed old new c.tell.result (told_of c.in-Ok.text) (c.in-Ok.ensures.answered clean s stands)
-    (subst (λ (text : List ℕ). Tells failed old new (record { text = text; status = 0 }) c.tell.result) c.bytes.ensures c.tell.ensures)
+    (subst (λ (text : List ℕ). IsWrittenOut failed old new (record { text = text; status = 0 }) c.tell.result) c.bytes.ensures c.tell.ensures)
 
 pub returns-in-Err-clause-performed : goal.returns-in-Err-clause-performed
 returns-in-Err-clause-performed g c clean s stands =

@@ -1,7 +1,7 @@
 use Rattle.std.proofs.Common.{◌∙◌, ◌*◌, ℕ, Option, ap}
 use Rattle.std.proofs.lemmas.Result.{IfOk-weaker}
 use Rattle.tacho_time.specs.declared.span.Mark.{Mark}
-use Rattle.tacho_rules.proofs.Reporting.{report_by_marks}
+use Rattle.tacho_rules.proofs.ReportLemmas.{report_by_marks}
 use Rattle.tacho_state.specs.State.{Driver, held_spans}
 use Rattle.tacho_shelf.proofs.RowLemmas.{line_marks}
 use Rattle.tacho_shelf.proofs.row.Row.report.Goals as goal

@@ -3,7 +3,7 @@ use Rattle.std.proofs.lemmas.Option.{slice_get_read, slice_get_within}
 use Rattle.tacho_state.specs.declared.fault.StoreFault.{StoreFault}
 use Rattle.tacho_state.specs.declared.imported.Imported.{Imported}
 use Rattle.tacho_state.specs.State.{State}
-use Rattle.tacho_state.specs.Content.{Tells, part_number}
+use Rattle.tacho_state.specs.Content.{FileTells, part_number}
 use Rattle.tacho_state.specs.Steps.{Content, imported}
 use Rattle.tacho_state.specs.Acts.{caller_number}
 use Rattle.tacho_shelf.specs.Shelf.{IsOwnerAt, owner_of, Turns}
@@ -22,7 +22,7 @@ returns-in_err-content-clause-turns c = λ content tells.
 pub returns-in_err-place-clause-turns : goal.returns-in_err-place-clause-turns
 returns-in_err-place-clause-turns c = λ content tells.
     let told : c.from_residual-in_err-place.result ≡ Err c.in_err-place.field-0.0 = search rules in
-    let read = subst (λ (x : Content). Tells c.args.part c.args.file.now (Ok x)) (sym c.content.view_is) c.in_ok-content.ensures in
+    let read = subst (λ (x : Content). FileTells c.args.part c.args.file.now (Ok x)) (sym c.content.view_is) c.in_ok-content.ensures in
     subst (λ (r : Result Imported StoreFault). Turns (λ (done : Imported). done) c.args.self.now c.args.self.now r (imported
     (caller_number c.args.caller) (part_number c.args.part) c.args.file.now content)) (sym told)
     (import_refused (caller_number c.args.caller) c.args.part c.args.file.now c.args.self.now c.in_err-place.field-0.0
@@ -50,7 +50,7 @@ pub returns-clause-turns : goal.returns-clause-turns
 returns-clause-turns c = λ content tells.
     let s = c.self.inside.drivers.items in
     let read : Content = record { holder = c.content.inside.holder; spans = c.content.inside.spans.items } in
-    let told = subst (λ (x : Content). Tells c.args.part c.args.file.now (Ok x)) (sym c.content.view_is) c.in_ok-content.ensures in
+    let told = subst (λ (x : Content). FileTells c.args.part c.args.file.now (Ok x)) (sym c.content.view_is) c.in_ok-content.ensures in
     let owner = subst (λ (t : State). IsOwnerAt t (owner_of (caller_number c.args.caller) read.holder t) c.in_ok-place.place) (sym
     c.self.view_is) c.in_ok-place.ensures in
     let within : c.in_ok-place.place < length s = slice_get_within s c.in_ok-place.place owner.0 owner.1 in
