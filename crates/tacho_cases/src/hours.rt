@@ -1,12 +1,14 @@
 ghost use Rattle.std.specs.Prelude.{◌≡◌, ◌+◌, ◌≤◌, ◌<◌, All, AllPairs, false};
-ghost use Rattle.tacho_hours.specs.Line.{Joined, Before};
+ghost use Rattle.tacho_hours.specs.Line.{Joined};
+ghost use Rattle.tacho_hours.specs.Runs.{Before, AreInTime};
 
 use crate::same::assert_same;
 use std::alloc::{AllocError, Global};
 use std::test::Fail;
 use tacho_hours::{
-    Breach, DutyDay, FAR, Kind, Run, complete_breaks, driving_minute, driving_minutes, duty_days,
-    has_portion, is_reduced, is_regular, long_rests, put_in_order, rest_runs,
+    Breach, DutyDay, Examined, Excess, FAR, Kind, Run, complete_breaks, driving_minute,
+    driving_minutes, duty_days, excess_between, has_portion, is_main, is_reduced, is_regular,
+    kept_minutes, known_minutes, long_rests, put_in_order, rest_runs, touching,
 };
 use tacho_time::{Activity, Mark, Minute, Span};
 
@@ -52,7 +54,12 @@ fn runs_of_day(alloc: Global, spans: &[Span]) -> Result<Vec<Run>, AllocError>
     requires joined { Joined spans.now 28491840 28493280 }
     requires single { All (λ span. span.mark.crew ≡ false) spans.now }
 {
-    rest_runs(alloc, spans, Minute::new(BASE), Minute::new(HORIZON))
+    let examined = Examined {
+        spans,
+        base: Minute::new(BASE),
+        past: Minute::new(HORIZON),
+    };
+    rest_runs(alloc, &examined)
 }
 
 /// How many minutes of the day's spans are driving, from one minute of the day to before another.
@@ -63,7 +70,7 @@ fn driven(spans: &[Span], from: u32, to: u32) -> u32
     requires to { to ≤ 1440 }
 {
     let (base, past) = (Minute::new(BASE), Minute::new(HORIZON));
-    driving_minutes(spans, base, past, BASE + from, BASE + to)
+    driving_minutes(&Examined { spans, base, past }, BASE + from, BASE + to)
 }
 
 /// The k-th driving minute of the day's spans.
@@ -73,7 +80,7 @@ fn driven_minute(spans: &[Span], k: u32) -> Option<u32>
     requires first { 0 < k }
 {
     let (base, past) = (Minute::new(BASE), Minute::new(HORIZON));
-    driving_minute(spans, base, past, BASE, HORIZON, k)
+    driving_minute(&Examined { spans, base, past }, BASE, HORIZON, k)
 }
 
 #[test]
@@ -108,6 +115,46 @@ fn driving_is_counted(rt: HostRuntime) {
     assert_same(&rt, driven_minute(&spans, 270), Some(BASE + 629));
     assert_same(&rt, driven_minute(&spans, 271), Some(BASE + 700));
     assert_same(&rt, driven_minute(&spans, 541), None);
+}
+
+/// The driving of the day's spans above a limit, from one minute of the day to before another: its first minute, and how
+/// many there are.
+fn driven_above(spans: &[Span], from: u32, to: u32, limit: u32) -> Option<(u32, u32)>
+    requires joined { Joined spans.now 28491840 28493280 }
+    requires single { All (λ span. span.mark.crew ≡ false) spans.now }
+    requires from { from ≤ 1440 }
+    requires to { to ≤ 1440 }
+{
+    let (base, past) = (Minute::new(BASE), Minute::new(HORIZON));
+    let Excess { moment, amount } = excess_between(
+        &Examined { spans, base, past },
+        BASE + from,
+        BASE + to,
+        limit,
+    )?;
+    Some((moment.number(), amount))
+}
+
+#[test]
+fn driving_above_a_limit_is_found(rt: HostRuntime) {
+    let spans = day();
+    assert_same(&rt, driven_above(&spans, 0, 1440, 540), None);
+    assert_same(
+        &rt,
+        driven_above(&spans, 0, 1440, 539),
+        Some((BASE + 969, 1)),
+    );
+    assert_same(
+        &rt,
+        driven_above(&spans, 0, 1440, 270),
+        Some((BASE + 700, 270)),
+    );
+    assert_same(
+        &rt,
+        driven_above(&spans, 629, 701, 0),
+        Some((BASE + 629, 2)),
+    );
+    assert_same(&rt, driven_above(&spans, 0, 1440, u32::MAX), None);
 }
 
 #[test]
@@ -263,4 +310,78 @@ fn breaches_are_in_order(rt: HostRuntime) -> Result<(), Fail> {
     let expected = [breaches[3], breaches[2], breaches[1], breaches[0]];
     assert_same(&rt, found.as_slice(), expected.as_slice());
     Ok(())
+}
+
+/// A rest, in minutes from the base.
+fn rest(start: u32, past: u32) -> Run
+    requires start { start ≤ 20160 }
+    requires past { past ≤ 20160 }
+    ensures { result ≡ record { start = 28491840 + start; past = 28491840 + past } }
+{
+    Run {
+        start: BASE + start,
+        past: BASE + past,
+    }
+}
+
+/// Three weekly rests that start in one week: two of 1,540 minutes, and one of 45 hours that ends in the next week.
+fn weekly_rests() -> [Run; 3]
+    ensures { AreInTime result }
+{
+    [rest(100, 1640), rest(3000, 4540), rest(9000, 11_700)]
+}
+
+#[test]
+fn rests_touch_a_range(rt: HostRuntime) {
+    let weekly = weekly_rests();
+    assert_same(
+        &rt,
+        touching(&weekly, BASE + 1640, BASE + 3000),
+        &weekly[..0],
+    );
+    assert_same(
+        &rt,
+        touching(&weekly, BASE + 1639, BASE + 3001),
+        &weekly[..2],
+    );
+    assert_same(
+        &rt,
+        touching(&weekly, BASE + 10_080, BASE + 20_160),
+        &weekly[2..],
+    );
+}
+
+#[test]
+fn minutes_after_the_horizon_are_not_known(rt: HostRuntime) {
+    assert_same(&rt, known_minutes(rest(9000, 11_700), BASE + 20_160), 2700);
+    assert_same(&rt, known_minutes(rest(9000, 11_700), BASE + 10_000), 1000);
+    assert_same(&rt, known_minutes(rest(9000, 11_700), BASE + 8000), 0);
+}
+
+#[test]
+fn the_longest_weekly_rest_is_the_main_one(rt: HostRuntime) {
+    let weekly = weekly_rests();
+    let (first, second, last) = (rest(100, 1640), rest(3000, 4540), rest(9000, 11_700));
+    assert!(rt; is_main(&weekly, BASE + 20_160, last));
+    assert!(rt; !is_main(&weekly, BASE + 20_160, first));
+    assert!(rt; is_main(&weekly, BASE + 10_541, last));
+    assert!(rt; is_main(&weekly, BASE + 10_540, first));
+    assert!(rt; !is_main(&weekly, BASE + 10_540, second));
+    assert!(rt; !is_main(&weekly, BASE + 10_540, last));
+    assert_same(&rt, kept_minutes(&weekly, BASE + 20_160, last), 2700);
+    assert_same(&rt, kept_minutes(&weekly, BASE + 20_160, first), 540);
+}
+
+#[test]
+fn a_rest_before_the_first_week_is_no_main_one(rt: HostRuntime) {
+    let weekly = [Run {
+        start: 5759,
+        past: 9000,
+    }];
+    assert!(rt; !is_main(&weekly, 9000, weekly[0]));
+    let weekly = [Run {
+        start: 5760,
+        past: 9000,
+    }];
+    assert!(rt; is_main(&weekly, 9000, weekly[0]));
 }
