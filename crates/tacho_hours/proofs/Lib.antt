@@ -9,6 +9,7 @@ pub mod MainRestLemmas
 pub mod OrderLemmas
 pub mod DebtsLemmas
 pub mod ByRunsLemmas
+pub mod LongDrivingLemmas
 pub mod OverdueLemmas
 pub mod LackingWeekLemmas
 pub mod BreachesLemmas

@@ -24,6 +24,12 @@ use Rattle.tacho_hours.specs.Limits.{driving_in_week, driving_in_two_weeks, week
 abbrev pub IsOver : Line → ℕ → ℕ → ℕ → Breach → Type 0
 IsOver line limit from to breach = IsExcess line limit from to breach.moment breach.amount
 
+-- and so a breach of a kind, which is judged from the first of these minutes
+pub record IsTooMuch (line : Line) (kind : Kind) (limit from to : ℕ) (breach : Breach) : Type 0 where
+  pub kind_is : breach.kind ≡ kind
+  pub over : IsOver line limit from to breach
+  pub since : breach.since ≡ from
+
 -- Article 7: more than four and a half hours (270 minutes) of driving between
 -- neighbouring complete breaks (Article 4(q))
 pub record IsB1 (line : Line) (breaks : List Run) (breach : Breach) : Type 0 where

@@ -23,11 +23,11 @@ fn place_of(kind: Kind) -> u8
     }
 }
 
-/// Puts breaches in order: by the moment, then the kind, then the first minute of what is judged.
+/// Puts breaches in order: by the moment, then the kind, then the first minute of what is judged. Where no two have
+/// one place, each comes before those behind it.
 pub fn put_in_order(found: &mut Vec<Breach>)
-    requires { AreApart found.old.items }
     ensures same { (breach : BreachValue) → Contains found.new.items breach ↔ Contains found.old.items breach }
-    ensures order { AllPairs Earlier found.new.items }
+    ensures order { AreApart found.old.items → AllPairs Earlier found.new.items }
 {
     found.sort_unstable_by_key(|breach| {
         (

@@ -1,0 +1,36 @@
+-- A range has one breach of too much driving at the most, and has one where more is driven than
+-- allowed (`plain::days`, `plain::weeks`).
+use Rattle.std.proofs.Common.{◌≡◌, ℕ, ◌+◌, ◌<◌, ◌≤◌, sym, ◌∙◌, arith}
+use Rattle.tacho_hours.specs.declared.breach.Breach.{Breach}
+use Rattle.tacho_hours.specs.declared.breach.Kind.{Kind}
+use Rattle.tacho_hours.specs.Line.{Line}
+use Rattle.tacho_hours.specs.Driving.{driving}
+use Rattle.tacho_hours.proofs.DrivingLemmas.{driving_minute_only, driving_reaches}
+use Rattle.tacho_hours.proofs.OrderLemmas.{same_breach}
+use Rattle.tacho_hours.specs.Breaches.{IsTooMuch}
+
+-- from one minute up to another there is one breach of a kind at most
+pub too_much_only : (line : Line) (kind : Kind) (limit from to : ℕ) (a b : Breach)
+    → IsTooMuch line kind limit from to a → IsTooMuch line kind limit from to b → a ≡ b
+too_much_only line kind limit from to a b p q = same_breach a b
+    (p.kind_is ∙ sym q.kind_is)
+    (driving_minute_only line from to (limit + 1) a.moment b.moment p.over.moment q.over.moment)
+    (p.since ∙ sym q.since)
+    (
+    let e : a.amount + limit ≡ driving line from to = p.over.amount in
+    let f : b.amount + limit ≡ driving line from to = q.over.amount in
+    omega arith)
+
+-- with no more driving than allowed there is none
+pub too_little : (line : Line) (kind : Kind) (limit from to : ℕ) (breach : Breach)
+    → driving line from to ≤ limit → IsTooMuch line kind limit from to breach → ⊥
+too_little line kind limit from to breach few p =
+    let m : limit + 1 ≤ driving line from to = driving_reaches line from to (limit + 1) breach.moment p.over.moment in
+    omega arith
+
+-- with such a breach there is more
+pub too_much_reaches : (line : Line) (kind : Kind) (limit from to : ℕ) (breach : Breach)
+    → IsTooMuch line kind limit from to breach → limit < driving line from to
+too_much_reaches line kind limit from to breach p =
+    let m : limit + 1 ≤ driving line from to = driving_reaches line from to (limit + 1) breach.moment p.over.moment in
+    omega arith

@@ -1,0 +1,5 @@
+pub mod AppendingLemmas
+pub mod SharingLemmas
+pub mod JoiningLemmas
+pub mod HearingLemmas
+pub mod CountLemmas
