@@ -1,0 +1,573 @@
+-- The pass over daily rests stands for the spans that it was fed (specs/DailyRests).
+use Rattle.std.proofs.Common.{◌≡◌, ◌≢◌, ℕ, ◌+◌, ◌-◌, ◌<◌, ◌≤◌, ◌⊎◌, ◌&&◌, inl, inr, Bool, true, false, not}
+use Rattle.std.proofs.Common.{Option, None, Some, List, [], ◌∷◌, ◌++◌, min, refl, sym, ap, subst, ◌∙◌, arith, nat_le}
+use Rattle.std.proofs.Common.{nat_lt, if◌then◌else◌}
+use Rattle.std.specs.Prelude.{◌↔◌, IsTrue}
+use Rattle.std.specs.List.{All, Contains}
+use Rattle.std.proofs.lemmas.Bool.Decides.{nat_tests}
+use Rattle.std.proofs.lemmas.List.{append-nil, append_assoc}
+use Rattle.std.proofs.lemmas.List.Elements.{Contains-push, Contains-append_left, Contains-push_cases, All-nil, All-cons}
+use Rattle.std.proofs.lemmas.List.Elements.{All-append}
+use Rattle.tacho_time.specs.declared.span.Activity.TheVariants.{Rest}
+use Rattle.tacho_time.specs.declared.span.Span.{Span}
+use Rattle.tacho_hours.specs.declared.run.Run.{Run}
+use Rattle.tacho_hours.specs.declared.run.TheConstants.{FAR}
+use Rattle.tacho_hours.specs.declared.days.DutyDay.{DutyDay}
+use Rattle.tacho_hours.specs.declared.breach.Breach.{Breach}
+use Rattle.tacho_hours.specs.declared.breach.Kind.TheVariants.{B2, B3}
+use Rattle.tacho_hours.specs.declared.debt.Debt.{Debt}
+use Rattle.tacho_hours.specs.Exactly.{AreSoMany}
+use Rattle.tacho_hours.specs.Line.{Line, line_of, IsExamined}
+use Rattle.tacho_hours.specs.Runs.{IsRestRun, AreRestRuns, Reached, minutes_of}
+use Rattle.tacho_hours.specs.Days.{IsReduced, EarlierDay}
+use Rattle.tacho_hours.specs.Order.{Apart, AreCollected}
+use Rattle.tacho_hours.proofs.ExactlyLemmas.{exactly_none, exactly_as}
+use Rattle.tacho_hours.proofs.RunsLemmas.{run_of, reached_none, reached_rest, reached_busy, reached_gap, reached_end}
+use Rattle.tacho_pass.specs.Found.{listed}
+use Rattle.tacho_pass.specs.Heard.{is_rest, start_after, run_before, Continues}
+use Rattle.tacho_pass.specs.Kinds.{is_b2_or_b3}
+use Rattle.tacho_pass.proofs.HearingLemmas.{line_append, line_at_end, joined_append, line_after, rests_yes, rests_no}
+use Rattle.tacho_days.specs.declared.resting_day.RestingDay.{RestingDay}
+use Rattle.tacho_days.specs.RestingDays.{resting_none, day_to, portion_of, regular_of, reduced_of}
+use Rattle.tacho_days.specs.RestingDays.{short_breach, short_of, often_breach, often_of, rest_found}
+use Rattle.tacho_days.specs.RestingDays.{after_daily, after_weekly, after_part, after_rest, after_any, found_any}
+use Rattle.tacho_days.specs.DailyRests.{IsBehindRests, HasPart, IsReducedSince, IsB2Seen, IsB3Seen}
+use Rattle.tacho_days.specs.DailyRests.{IsRestSeen, IsResting, RestsStand, IsDailyRestBreach, RestsDefined}
+use Rattle.tacho_days.proofs.DailyRestsDayLemmas.{last_next, last_keep, part_none, part_more, day_only, no_first_day}
+use Rattle.tacho_days.proofs.DailyRestsReducedLemmas.{reduced_none, reduced_behind, reduced_keep, reduced_more}
+use Rattle.tacho_days.proofs.DailyRestsReducedLemmas.{reduced_is}
+use Rattle.tacho_days.proofs.DailyRestsShortLemmas.{IsShortTo, b2_both, b2_apart, collected_short}
+use Rattle.tacho_days.proofs.DailyRestsOftenLemmas.{IsOftenTo, b3_both, b3_apart, collected_often}
+
+-- these are of the pass's kinds
+abbrev AreOwn : List Breach → Type 0
+AreOwn found = All (λ (b : Breach). IsTrue (is_b2_or_b3 b.kind)) found
+
+-- none is
+own_none : AreOwn []
+own_none = All-nil (λ (b : Breach). IsTrue (is_b2_or_b3 b.kind))
+
+-- one is
+own_one : (x : Breach) → is_b2_or_b3 x.kind ≡ true → AreOwn (x ∷ [])
+own_one x e = All-cons (λ (b : Breach). IsTrue (is_b2_or_b3 b.kind)) x [] e own_none
+
+-- one where a test holds
+own_if : (g : Bool) (x : Breach) → is_b2_or_b3 x.kind ≡ true → AreOwn (listed (if g then Some x else None))
+own_if true x e = own_one x e
+own_if false x e = own_none
+
+-- or fails
+own_unless : (g : Bool) (x : Breach) → is_b2_or_b3 x.kind ≡ true → AreOwn (listed (if g then None else Some x))
+own_unless true x e = own_none
+own_unless false x e = own_one x e
+
+-- some where a test holds
+own_all_if : (g : Bool) (found : List Breach) → AreOwn found → AreOwn (if g then found else [])
+own_all_if true found own = own
+own_all_if false found own = own_none
+
+-- what is put for a rest is of the pass's kinds
+pub rest_kinds : (r : Run) (d : RestingDay) → All (λ (b : Breach). IsTrue (is_b2_or_b3 b.kind)) (rest_found r d)
+rest_kinds r d =
+    let day : DutyDay = day_to d.from r in
+    own_all_if (nat_le 540 (minutes_of r)) (listed (short_of day) ++ listed (often_of r d))
+    (All-append (λ (b : Breach). IsTrue (is_b2_or_b3 b.kind)) (listed (short_of day)) (listed (often_of r d))
+    (own_unless (portion_of day 540) (short_breach day) refl)
+    (own_if (reduced_of d.part day && nat_lt 3 (d.number + 1)) (often_breach r d) refl))
+
+-- and for a rest or none
+pub any_kinds : (r : Option Run) (d : RestingDay) → All (λ (b : Breach). IsTrue (is_b2_or_b3 b.kind)) (found_any r d)
+any_kinds None d = own_none
+any_kinds (Some r) d = rest_kinds r d
+
+-- no breach before the first run
+none_seen : (line : Line) (b : Breach) → IsRestSeen line [] b → ⊥
+none_seen line b h = elim h [
+  | inl short ↦ (let k : short.seen.0 < 0 = short.seen.1 in omega arith)
+  | inr often ↦ (let k : often.seen.0 < 0 = often.seen.1 in omega arith)
+]
+
+-- a rest is no breach that has its portion and isn't reduced
+nothing_by : (g k m : Bool) (x y : Breach) → g ≡ true → k ≡ false
+    → listed (if g then None else Some x) ++ listed (if k && m then Some y else None) ≡ []
+nothing_by true false m x y e f = refl
+nothing_by true true m x y e f = absurd (let h : true ≡ false = f in cc)
+nothing_by false k m x y e f = absurd (let h : false ≡ true = e in cc)
+
+-- a weekly rest isn't reduced
+weekly_by : (a b c : Bool) → c ≡ false → (a && (b && c)) ≡ false
+weekly_by true true c e = e
+weekly_by true false c e = refl
+weekly_by false b c e = refl
+
+-- so the first rest is no breach
+nothing_found : (r : Run) (d : RestingDay) → r.start ≡ 0 → d.from ≤ 0 → 1440 ≤ minutes_of r
+    → listed (short_of (day_to d.from r)) ++ listed (often_of r d) ≡ []
+nothing_found r d first from long =
+    let day : DutyDay = day_to d.from r in
+    let k : r.start + 540 ≤ min r.past (d.from + 1440) = omega arith in
+    let e : portion_of day 540 ≡ true = grind (arith, nat_tests) in
+    let f : nat_lt (minutes_of r) 1440 ≡ false = grind (arith, nat_tests) in
+    let g : reduced_of d.part day ≡ false =
+    weekly_by (not (regular_of d.part day)) (portion_of day 540) (nat_lt (minutes_of r) 1440) f in
+    nothing_by (portion_of day 540) (reduced_of d.part day) (nat_lt 3 (d.number + 1))
+    (short_breach day) (often_breach r d) e g
+
+-- a run that ends at a minute
+module _ (line : Line) (start place : ℕ) (d : RestingDay) (own : List Breach) (h : IsResting line start place d own)
+    (past : ℕ) (is : IsRestRun line (run_of start past)) where
+  -- ends no day where it is short
+  kept_short : past - start < 540 → (b : Breach)
+      → IsRestSeen line h.runs b ↔ IsRestSeen line (h.runs ++ run_of start past ∷ []) b
+  kept_short short b = (
+    λ k. elim k [
+      | inl two ↦ inl (record {
+        kind = two.kind;
+        is = two.is;
+        seen = Contains-append_left h.runs (run_of start past ∷ []) two.is.day.rest two.seen;
+      })
+      | inr three ↦ inr (record {
+        kind = three.kind;
+        is = three.is;
+        seen = Contains-append_left h.runs (run_of start past ∷ []) three.is.day.rest three.seen;
+      })
+    ],
+    λ k. elim k [
+      | inl two ↦ elim (Contains-push_cases h.runs (run_of start past) two.is.day.rest two.seen) [
+        | inl was ↦ inl (record { kind = two.kind; is = two.is; seen = was })
+        | inr same ↦ absurd (
+            let e : past - start ≡ minutes_of two.is.day.rest = ap minutes_of same in
+            let f : 540 ≤ minutes_of two.is.day.rest = two.is.duty.neighbours.second.enough in
+            omega (arith, e, f))
+      ]
+      | inr three ↦ elim (Contains-push_cases h.runs (run_of start past) three.is.day.rest three.seen) [
+        | inl was ↦ inr (record { kind = three.kind; is = three.is; seen = was })
+        | inr same ↦ absurd (
+            let e : past - start ≡ minutes_of three.is.day.rest = ap minutes_of same in
+            let f : 540 ≤ minutes_of three.is.day.rest = three.is.reduced.duty.neighbours.second.enough in
+            omega (arith, e, f))
+      ]
+    ],
+  )
+
+  -- nor a reduced rest
+  number_short : past - start < 540
+      → AreSoMany (IsReducedSince line (h.runs ++ run_of start past ∷ []) d.weekly) EarlierDay d.number
+  number_short short =
+      reduced_keep line h.runs start place h.reached (run_of start past) is refl d.weekly d.number
+      (λ day same reduced.
+      (let e : past - start ≡ minutes_of day.rest = ap minutes_of same in
+      let f : 540 ≤ minutes_of day.rest = reduced.duty.neighbours.second.enough in
+      omega (arith, e, f)))
+      h.so_many
+
+  module _ (upto : place ≤ past) (long : 540 ≤ past - start)
+      (all : (x : Run) → IsRestRun line x → x.start ≤ start → Contains (h.runs ++ run_of start past ∷ []) x) where
+    -- the first one ends none
+    first_by : (runs : List Run) → runs ≡ [] → Reached line runs start place → start ≡ 0 → 1440 ≤ place
+        → AreCollected (IsRestSeen line runs) own
+        → AreCollected (IsRestSeen line (runs ++ run_of start past ∷ []))
+        (own ++ (listed (short_of (day_to d.from (run_of start past))) ++ listed (often_of (run_of start past) d)))
+    first_by [] none reached first late t =
+        let within : d.from ≤ start = h.within in
+        let e : listed (short_of (day_to d.from (run_of start past))) ++ listed (often_of (run_of start past) d) ≡ [] =
+        nothing_found (run_of start past) d first (omega arith) (omega arith) in
+        subst (λ (xs : List Breach). AreCollected (IsRestSeen line ([] ++ run_of start past ∷ [])) (own ++ xs)) (sym e)
+        (subst (λ (xs : List Breach). AreCollected (IsRestSeen line ([] ++ run_of start past ∷ [])) xs)
+        (sym (append-nil own))
+        (exactly_as (IsRestSeen line []) (IsRestSeen line ([] ++ run_of start past ∷ [])) Apart own
+        (λ b. (
+          λ g. absurd (none_seen line b g),
+          λ g. absurd (elim g [
+            | inl two ↦
+                no_first_day line start place reached (run_of start past) refl two.is.day two.is.duty two.seen
+            | inr three ↦
+                no_first_day line start place reached (run_of start past) refl
+                three.is.day three.is.reduced.duty three.seen
+          ]),
+        ))
+        t))
+    first_by (x ∷ runs) none reached first late t = absurd (let f : x ∷ runs ≡ [] = none in cc)
+
+    module _ (behind : IsBehindRests h.runs d) where
+      -- the test of a reduced rest
+      test_is : IsTrue (reduced_of d.part (day_to d.from (run_of start past)))
+          ↔ IsReduced line (day_to d.from (run_of start past))
+      test_is =
+          reduced_is line h.runs start place h.reached (run_of start past) is refl
+          long d.from behind.daily d.part h.part
+
+      -- how many reduced rests there are
+      number_by : (g : Bool) → reduced_of d.part (day_to d.from (run_of start past)) ≡ g
+          → AreSoMany (IsReducedSince line (h.runs ++ run_of start past ∷ []) d.weekly) EarlierDay
+          (if g then d.number + 1 else d.number)
+      number_by true e =
+          reduced_more line h.runs start place h.reached (run_of start past) is refl long d.from behind.daily
+          d.weekly d.number behind.weekly h.so_many (test_is.0 e)
+      number_by false e =
+          reduced_keep line h.runs start place h.reached (run_of start past) is refl d.weekly d.number
+          (λ day same reduced.
+          (let f : day_to d.from (run_of start past) ≡ day =
+          day_only line h.runs start place h.reached (run_of start past) is refl long d.from behind.daily
+          day reduced.duty same in
+          let g : reduced_of d.part (day_to d.from (run_of start past)) ≡ true =
+          test_is.1 (subst (λ (x : DutyDay). IsReduced line x) (sym f) reduced) in
+          let k : false ≡ true = sym e ∙ g in
+          cc))
+          h.so_many
+
+      -- behind this rest
+      number_next : AreSoMany (IsReducedSince line (h.runs ++ run_of start past ∷ []) d.weekly) EarlierDay
+          (if reduced_of d.part (day_to d.from (run_of start past)) then d.number + 1 else d.number)
+      number_next = number_by (reduced_of d.part (day_to d.from (run_of start past))) refl
+
+      -- those of the earlier days, and of this one
+      Wide : Breach → Type 0
+      Wide b = (IsRestSeen line h.runs b ⊎ IsShortTo d.from (run_of start past) b)
+          ⊎ IsOftenTo line d.from (run_of start past) d.weekly d.number b
+
+      -- are those of the days up to this one
+      both : (b : Breach) → Wide b ↔ IsRestSeen line (h.runs ++ run_of start past ∷ []) b
+      unfolding Wide
+      both b =
+          let two : (IsB2Seen line h.runs b ⊎ IsShortTo d.from (run_of start past) b)
+          ↔ IsB2Seen line (h.runs ++ run_of start past ∷ []) b =
+          b2_both line h.runs start place h.reached (run_of start past) is refl long d.from behind.daily b in
+          let three : (IsB3Seen line h.runs b ⊎ IsOftenTo line d.from (run_of start past) d.weekly d.number b)
+          ↔ IsB3Seen line (h.runs ++ run_of start past ∷ []) b =
+          b3_both line h.runs start place h.reached (run_of start past) is refl all long d.from behind.daily
+          d.weekly d.number behind.weekly h.so_many b in (
+            λ k. elim k [
+              | inl old ↦ elim old [
+                | inl seen ↦ elim seen [ inl x ↦ inl (two.0 (inl x)) | inr x ↦ inr (three.0 (inl x)) ]
+                | inr x ↦ inl (two.0 (inr x))
+              ]
+              | inr x ↦ inr (three.0 (inr x))
+            ],
+            λ k. elim k [
+              | inl x ↦ elim (two.1 x) [ inl old ↦ inl (inl (inl old)) | inr new ↦ inl (inr new) ]
+              | inr x ↦ elim (three.1 x) [ inl old ↦ inl (inl (inr old)) | inr new ↦ inr new ]
+            ],
+          )
+
+      -- and are all found
+      behind_found : AreCollected (IsRestSeen line (h.runs ++ run_of start past ∷ []))
+          (own ++ (listed (short_of (day_to d.from (run_of start past))) ++ listed (often_of (run_of start past) d)))
+      unfolding Wide
+      behind_found =
+          let one : AreCollected (λ b. IsRestSeen line h.runs b ⊎ IsShortTo d.from (run_of start past) b)
+          (own ++ listed (short_of (day_to d.from (run_of start past)))) =
+          collected_short (IsRestSeen line h.runs) own d.from (run_of start past) h.found
+          (λ b k kind since. elim k [
+            | inl two ↦
+                b2_apart line h.runs start place h.reached (run_of start past) is refl long d.from behind.daily
+                b two since
+            | inr three ↦ (let g : B2 ≡ B3 = sym kind ∙ three.kind in cc)
+          ]) in
+          let all' : AreCollected Wide
+          ((own ++ listed (short_of (day_to d.from (run_of start past)))) ++ listed (often_of (run_of start past) d)) =
+          collected_often (λ b. IsRestSeen line h.runs b ⊎ IsShortTo d.from (run_of start past) b)
+          (own ++ listed (short_of (day_to d.from (run_of start past)))) line (run_of start past) d test_is one
+          (λ b k kind moment. elim k [
+            | inl seen ↦ elim seen [
+              | inl two ↦ (let g : B2 ≡ B3 = sym two.kind ∙ kind in cc)
+              | inr three ↦
+                  b3_apart line h.runs start place h.reached (run_of start past) is refl all long d.from behind.daily
+                  d.weekly d.number behind.weekly h.so_many b three moment
+            ]
+            | inr short ↦ (let g : B2 ≡ B3 = sym short.kind ∙ kind in cc)
+          ]) in
+          subst (λ (xs : List Breach). AreCollected (IsRestSeen line (h.runs ++ run_of start past ∷ [])) xs)
+          (append_assoc own (listed (short_of (day_to d.from (run_of start past))))
+          (listed (often_of (run_of start past) d)))
+          (exactly_as Wide (IsRestSeen line (h.runs ++ run_of start past ∷ [])) Apart
+          ((own ++ listed (short_of (day_to d.from (run_of start past)))) ++ listed (often_of (run_of start past) d))
+          both all')
+
+    -- so the breaches are found, whatever run it is
+    pub found_next : AreCollected (IsRestSeen line (h.runs ++ run_of start past ∷ []))
+        (own ++ (listed (short_of (day_to d.from (run_of start past))) ++ listed (often_of (run_of start past) d)))
+    found_next = elim h.last [
+      | inl first ↦ first_by h.runs first.none h.reached first.first first.long h.found
+      | inr behind ↦ behind_found behind
+    ]
+
+-- the steps over a span from place to q
+module _ (line : Line) (start place q : ℕ) (d : RestingDay) (own : List Breach) (h : IsResting line start place d own)
+    (more : place < q) where
+  -- of rest
+  pub rest_step : ((m : ℕ) → place ≤ m → m < q → line m ≡ Rest) → IsResting line start q d own
+  rest_step at = record {
+    runs = h.runs;
+    reached = reached_rest line h.runs start place q h.reached more at;
+    last = elim h.last [
+      | inl first ↦ inl (record {
+        none = first.none;
+        first = first.first;
+        long = (let l : 1440 ≤ place = first.long in omega arith);
+      })
+      | inr behind ↦ inr behind
+    ];
+    within = h.within;
+    part = h.part;
+    so_many = h.so_many;
+    found = h.found;
+  }
+
+  -- of something else
+  module _ (busy : (m : ℕ) → place ≤ m → m < q → line m ≢ Rest) where
+    -- where no run ends
+    pub busy_step : place ≤ start → IsResting line q q d own
+    busy_step none =
+        let below : start ≤ place = h.reached.below in
+        let within : d.from ≤ start = h.within in
+        record {
+          runs = h.runs;
+          reached = reached_busy line h.runs start place q h.reached (omega arith) more busy;
+          last = elim h.last [
+            | inl first ↦ absurd (
+                let l : 1440 ≤ place = first.long in let z : start ≡ 0 = first.first in omega arith)
+            | inr behind ↦ inr behind
+          ];
+          within = omega arith;
+          part = h.part;
+          so_many = h.so_many;
+          found = h.found;
+        }
+
+    -- where a run ends
+    module _ (gap : start < place) (far : place < FAR) where
+      -- the runs with this one
+      reached_on : Reached line (h.runs ++ run_of start place ∷ []) q q
+      reached_on = reached_gap line h.runs start place q h.reached gap more far busy
+
+      -- which is a rest run
+      run_is : IsRestRun line (run_of start place)
+      run_is = record {
+        some = gap;
+        rest = h.reached.resting;
+        from = h.reached.from;
+        until = inr (busy place (omega arith) more);
+      }
+
+      -- the breaches with those of its day
+      found_on : 540 ≤ place - start → AreCollected (IsRestSeen line (h.runs ++ run_of start place ∷ []))
+          (own ++ (listed (short_of (day_to d.from (run_of start place))) ++ listed (often_of (run_of start place) d)))
+      found_on long =
+          found_next line start place d own h place run_is (omega arith) long
+          (λ x is le. reached_on.all x is (omega arith))
+
+      -- no part lies behind a long one
+      none_on : IsTrue false ↔ HasPart (h.runs ++ run_of start place ∷ []) place
+      none_on = (
+        λ k. absurd (let g : false ≡ true = k in cc),
+        λ k. absurd (part_none line h.runs start place h.reached (run_of start place) run_is refl k),
+      )
+
+      -- a weekly rest, a daily one or a shorter one
+      gap_if : (a b : Bool) → nat_le 1440 (place - start) ≡ a → nat_le 540 (place - start) ≡ b
+          → IsResting line q q
+          (if a then after_weekly (run_of start place) else
+          (if b then after_daily (run_of start place) d else after_part (run_of start place) d))
+          (own ++ (if b then listed (short_of (day_to d.from (run_of start place)))
+          ++ listed (often_of (run_of start place) d) else []))
+      gap_if true true e f =
+          let weekly : 1440 ≤ place - start = grind (arith, nat_tests) in
+          let long : 540 ≤ place - start = omega arith in
+          record {
+            runs = h.runs ++ run_of start place ∷ [];
+            reached = reached_on;
+            last = inr (record {
+              daily = last_next line h.runs start place h.reached (run_of start place) run_is refl 540 long;
+              weekly = last_next line h.runs start place h.reached (run_of start place) run_is refl 1440 weekly;
+            });
+            within = omega arith;
+            part = none_on;
+            so_many = reduced_behind line h.runs start place h.reached (run_of start place) run_is refl;
+            found = found_on long;
+          }
+      gap_if true false e f =
+          let weekly : 1440 ≤ place - start = grind (arith, nat_tests) in
+          let short : place - start < 540 = grind (arith, nat_tests) in
+          absurd (omega (arith, weekly, short))
+      gap_if false true e f =
+          let short : place - start < 1440 = grind (arith, nat_tests) in
+          let long : 540 ≤ place - start = grind (arith, nat_tests) in
+          elim h.last [
+            | inl first ↦ absurd (
+                let l : 1440 ≤ place = first.long in
+                let z : start ≡ 0 = first.first in
+                omega (arith, l, z, short))
+            | inr behind ↦ record {
+              runs = h.runs ++ run_of start place ∷ [];
+              reached = reached_on;
+              last = inr (record {
+                daily = last_next line h.runs start place h.reached (run_of start place) run_is refl 540 long;
+                weekly =
+                    last_keep line h.runs start place h.reached (run_of start place) run_is refl
+                    1440 d.weekly short behind.weekly;
+              });
+              within = omega arith;
+              part = none_on;
+              so_many =
+                  number_next line start place d own h place run_is (omega arith) long
+                  (λ x is le. reached_on.all x is (omega arith)) behind;
+              found = found_on long;
+            }
+          ]
+      gap_if false false e f =
+          let short : place - start < 540 = grind (arith, nat_tests) in
+          let within : d.from ≤ start = h.within in
+          elim h.last [
+            | inl first ↦ absurd (
+                let l : 1440 ≤ place = first.long in
+                let z : start ≡ 0 = first.first in
+                omega (arith, l, z, short))
+            | inr behind ↦ record {
+              runs = h.runs ++ run_of start place ∷ [];
+              reached = reached_on;
+              last = inr (record {
+                daily =
+                    last_keep line h.runs start place h.reached (run_of start place) run_is refl
+                    540 d.from short behind.daily;
+                weekly =
+                    last_keep line h.runs start place h.reached (run_of start place) run_is refl
+                    1440 d.weekly (omega (arith, short)) behind.weekly;
+              });
+              within = omega arith;
+              part =
+                  part_more line h.runs start place h.reached (run_of start place) run_is refl
+                  d.from d.part within h.part;
+              so_many = number_short line start place d own h place run_is short;
+              found = subst
+                  (λ (xs : List Breach). AreCollected (IsRestSeen line (h.runs ++ run_of start place ∷ [])) xs)
+                  (sym (append-nil own))
+                  (exactly_as (IsRestSeen line h.runs) (IsRestSeen line (h.runs ++ run_of start place ∷ [])) Apart own
+                  (kept_short line start place d own h place run_is short) h.found);
+            }
+          ]
+
+      -- and so as the code goes
+      pub gap_step : IsResting line q q (after_rest (run_of start place) d)
+          (own ++ rest_found (run_of start place) d)
+      gap_step = gap_if (nat_le 1440 (place - start)) (nat_le 540 (place - start)) refl refl
+
+-- a span more
+module _ (spans : List Span) (s : Span) (base start : ℕ) (d : RestingDay) (own : List Breach) (owed : List Debt)
+    (r : RestsStand start s.start d false own owed base spans) (some : s.start < s.past) (far : s.past < FAR) where
+  module _ (line : Line) (c : Continues line (spans ++ s ∷ []) s.past) where
+    -- in the span the line has its activity
+    at : (m : ℕ) → s.start ≤ m → m < s.past → line m ≡ s.mark.activity
+    at m above below = c m below ∙ line_at_end spans s base m r.joined above below
+
+    -- before the span
+    before : IsResting line start s.start d own
+    before = r.kept line (λ m below. c m (omega arith) ∙ line_append spans s m below)
+
+    -- a span of something else
+    busy : is_rest s.mark.activity ≡ false → (m : ℕ) → s.start ≤ m → m < s.past → line m ≢ Rest
+    busy e m above below f = rests_no s.mark.activity e (sym (at m above below) ∙ f)
+
+    -- a span of rest
+    quiet : s.mark.activity ≡ Rest → IsResting line start s.past d (own ++ [])
+    quiet e =
+        let rest : IsResting line start s.past d own =
+        rest_step line start s.start s.past d own before some (λ m above below. at m above below ∙ e) in
+        rw (append-nil own) rest
+
+  -- whether the span is rest, and whether a run ends before it
+  by : (b g : Bool) → is_rest s.mark.activity ≡ b → nat_lt start s.start ≡ g
+      → RestsStand (if b then start else s.past) s.past
+      (after_any (if b then None else (if g then Some (run_of start s.start) else None)) d) false
+      (own ++ found_any (if b then None else (if g then Some (run_of start s.start) else None)) d)
+      owed base (spans ++ s ∷ [])
+  by true g e f = record {
+    alive = refl;
+    none = r.none;
+    joined = joined_append spans s base r.joined some;
+    kept = λ line c. quiet line c (rests_yes s.mark.activity e);
+  }
+  by false true e f = record {
+    alive = refl;
+    none = r.none;
+    joined = joined_append spans s base r.joined some;
+    kept = λ line c.
+        gap_step line start s.start s.past d own (before line c) some (busy line c e)
+        (let k : start < s.start = grind (arith, nat_tests) in k) (omega arith);
+  }
+  by false false e f = record {
+    alive = refl;
+    none = r.none;
+    joined = joined_append spans s base r.joined some;
+    kept = λ line c.
+        subst (λ (xs : List Breach). IsResting line s.past s.past d xs) (sym (append-nil own))
+        (busy_step line start s.start s.past d own (before line c) some (busy line c e)
+        (let k : s.start ≤ start = grind (arith, nat_tests) in k));
+  }
+
+  -- and so as the code goes
+  pub rests_fed : RestsStand (start_after start s) s.past (after_any (run_before start s) d) false
+      (own ++ found_any (run_before start s) d) owed base (spans ++ s ∷ [])
+  rests_fed = by (is_rest s.mark.activity) (nat_lt start s.start) refl refl
+
+-- before the first span
+pub rests_none : (base : ℕ) → 1440 ≤ base → RestsStand 0 base resting_none false [] [] base []
+rests_none base late = record {
+  alive = refl;
+  none = refl;
+  joined = refl;
+  kept = λ line c. record {
+    runs = [];
+    reached = reached_none line base (λ m below. c m below);
+    last = inl (record { none = refl; first = refl; long = late });
+    within = omega arith;
+    part = (
+      λ k. absurd (let g : false ≡ true = k in cc),
+      λ k. absurd (let n : k.among.0 < 0 = k.among.1 in omega arith),
+    );
+    so_many = reduced_none line 0;
+    found = exactly_none (IsRestSeen line []) Apart (none_seen line);
+  };
+}
+
+-- at the end
+pub rests_end : (spans : List Span) (base past start : ℕ) (d : RestingDay) (own : List Breach) (owed : List Debt)
+    → RestsStand start past d false own owed base spans → IsExamined spans base past
+    → RestsDefined (own ++ rest_found (run_of start FAR) d) owed base past spans
+rests_end spans base past start d own owed r x =
+    let line : Line = line_of spans in
+    let h : IsResting line start past d own = r.kept line (λ m below. refl) in
+    let below : start ≤ past = h.reached.below in
+    let early : past ≤ 68374080 = x.within in
+    let long : 540 ≤ FAR - start = omega arith in
+    let all : AreRestRuns line (h.runs ++ run_of start FAR ∷ []) =
+    reached_end line h.runs start past h.reached (omega arith)
+    (λ m above. line_after spans base past m r.joined above) in
+    let is : IsRestRun line (run_of start FAR) =
+    (all.each (run_of start FAR)).0 (Contains-push h.runs (run_of start FAR)) in
+    let yes' : nat_le 540 (FAR - start) ≡ true = grind (arith, nat_tests) in
+    let found : AreCollected (IsRestSeen line (h.runs ++ run_of start FAR ∷ []))
+    (own ++ (listed (short_of (day_to d.from (run_of start FAR))) ++ listed (often_of (run_of start FAR) d))) =
+    found_next line start past d own h FAR is (omega arith) long (λ y is' le. (all.each y).1 is') in
+    record {
+      none = r.none;
+      breaches = rw yes'
+          (exactly_as (IsRestSeen line (h.runs ++ run_of start FAR ∷ [])) (IsDailyRestBreach line) Apart
+          (own ++ (listed (short_of (day_to d.from (run_of start FAR))) ++ listed (often_of (run_of start FAR) d)))
+          (λ b. (
+            λ g. elim g [ inl two ↦ inl (two.kind, two.is) | inr three ↦ inr (three.kind, three.is) ],
+            λ g. elim g [
+              | inl two ↦ inl (record {
+                kind = two.0;
+                is = two.1;
+                seen = (all.each two.1.day.rest).1 two.1.duty.neighbours.second.rests;
+              })
+              | inr three ↦ inr (record {
+                kind = three.0;
+                is = three.1;
+                seen = (all.each three.1.day.rest).1 three.1.reduced.duty.neighbours.second.rests;
+              })
+            ],
+          ))
+          found);
+    }

@@ -1,0 +1,10 @@
+pub mod DailyRestsDayLemmas
+pub mod DailyRestsReducedLemmas
+pub mod DailyRestsShortLemmas
+pub mod DailyRestsOftenLemmas
+pub mod DailyRestsStandingLemmas
+pub mod DailyDrivingDayLemmas
+pub mod DailyDrivingWeekLemmas
+pub mod DailyDrivingFoundLemmas
+pub mod DailyDrivingLemmas
+pub mod DaysLemmas

@@ -1,0 +1,154 @@
+-- Driving in duty days and the extended days of a week (Regulation (EC) 561/2006, Article 6(1)), span by span: what is
+-- kept of them, and what that stands for.
+use Rattle.std.specs.Prelude.{◌≡◌, ℕ, ◌+◌, ◌-◌, ◌/◌, ◌++◌, ◌≤◌, ◌⊎◌, nat_le, nat_lt, nat_eq, Bool, false}
+use Rattle.std.specs.Prelude.{if◌then◌else◌, Option, None, Some, List, Contains, []}
+use Rattle.tacho_time.specs.declared.span.Span.{Span}
+use Rattle.tacho_hours.specs.declared.run.Run.{Run}
+use Rattle.tacho_hours.specs.declared.breach.Breach.{Breach}
+use Rattle.tacho_hours.specs.declared.debt.Debt.{Debt}
+use Rattle.tacho_hours.specs.declared.breach.Kind.TheVariants.{B4, B5}
+use Rattle.tacho_hours.specs.declared.days.DutyDay.{DutyDay}
+use Rattle.tacho_hours.specs.Limits.{first_week, minutes_of_week, daily_rest}
+use Rattle.tacho_hours.specs.Limits.{driving_in_day, driving_in_extended_day, extended_days}
+use Rattle.tacho_hours.specs.Line.{Line, line_of, Joined}
+use Rattle.tacho_hours.specs.Runs.{minutes_of, Before, Reached}
+use Rattle.tacho_hours.specs.Days.{EarlierDay}
+use Rattle.tacho_hours.specs.Exactly.{AreSoMany}
+use Rattle.tacho_hours.specs.Order.{AreCollected}
+use Rattle.tacho_hours.specs.Breaches.{IsExtended, IsB4, IsB5}
+use Rattle.tacho_pass.specs.Heard.{Continues}
+use Rattle.tacho_pass.specs.Found.{listed}
+use Rattle.tacho_pass.specs.Counts.{count_none, count_with, over_of, IsCounted}
+use Rattle.tacho_days.specs.declared.duty_driving.DutyDriving.{DutyDriving}
+
+-- Article 4(i): the week that a minute lies in, from that of 1970-01-05 on
+abbrev pub week_at : ℕ → ℕ
+week_at m = (m - first_week) / minutes_of_week
+
+-- before the first daily rest, with nothing driven
+abbrev pub duty_none : ℕ → DutyDriving
+duty_none from = record { from = from; nine = count_none; ten = count_none; week = 0; extended = 0 }
+
+-- with the minutes from one up to another
+abbrev pub duty_with : Bool → ℕ → ℕ → DutyDriving → DutyDriving
+duty_with drives from to d = record {
+  from = d.from;
+  nine = count_with driving_in_day drives from to d.nine;
+  ten = count_with driving_in_extended_day drives from to d.ten;
+  week = d.week;
+  extended = d.extended;
+}
+
+-- which extended day of its week the day is, if it is one
+abbrev pub ordinal_of : DutyDriving → ℕ
+ordinal_of d = (if nat_eq d.week (week_at d.from) then d.extended else 0) + 1
+
+-- the breach of a third or later extended day of the week (Article 6(1), second subparagraph)
+abbrev pub often_of : DutyDriving → List Breach
+often_of d =
+    if nat_lt extended_days (ordinal_of d) then listed (over_of B5 driving_in_day d.from d.nine) else []
+
+-- the breaches of a day: more than ten hours of driving, and too many extended days (Article 6(1))
+abbrev pub found_of : DutyDriving → List Breach
+found_of d = listed (over_of B4 driving_in_extended_day d.from d.ten) ++ often_of d
+
+-- behind a day, where the next one starts at a minute: it was extended where it has more than nine hours of driving
+abbrev pub next_day : ℕ → DutyDriving → DutyDriving
+next_day from d = record {
+  from = from;
+  nine = count_none;
+  ten = count_none;
+  week = if nat_lt driving_in_day d.nine.minutes then week_at d.from else d.week;
+  extended = if nat_lt driving_in_day d.nine.minutes then ordinal_of d else d.extended;
+}
+
+-- Article 4(g): a rest run of nine hours or more, which ends a duty day
+abbrev pub is_long : Run → Bool
+is_long run = nat_le daily_rest (minutes_of run)
+
+-- behind a rest run, which may end the day
+abbrev pub duty_after : Run → DutyDriving → DutyDriving
+duty_after run d = if is_long run then next_day run.past d else d
+
+-- the breaches of the day that a rest run ends, where it ends one
+abbrev pub duty_found : Run → DutyDriving → List Breach
+duty_found run d = if is_long run then found_of d else []
+
+-- behind a rest run, if there is one
+abbrev pub duty_any : Option Run → DutyDriving → DutyDriving
+duty_any None d = d
+duty_any (Some run) d = duty_after run d
+
+-- and the breaches that are found there
+abbrev pub found_any : Option Run → DutyDriving → List Breach
+found_any None d = []
+found_any (Some run) d = duty_found run d
+
+-- the last rest of nine hours or more among the runs ends there
+pub record IsLastLong (runs : List Run) (from : ℕ) : Type 0 where
+  pub run : Run
+  pub among : Contains runs run
+  pub enough : daily_rest ≤ minutes_of run
+  pub ends : run.past ≡ from
+  pub last : (x : Run) → Contains runs x → daily_rest ≤ minutes_of x → (x ≡ run) ⊎ Before x run
+
+-- before the end of the first run, which has no start
+pub record IsBeforeDays (runs : List Run) (start place : ℕ) : Type 0 where
+  pub none : runs ≡ []
+  pub first : start ≡ 0
+  pub long : daily_rest ≤ place
+
+-- an extended day of a week whose rest is one of the runs (Article 6(1))
+pub record IsExtendedSeen (line : Line) (runs : List Run) (week : ℕ) (day : DutyDay) : Type 0 where
+  pub extended : IsExtended line week day
+  pub seen : Contains runs day.rest
+
+-- how many extended days a week has among the days whose rest is one of the runs; no other such day is of a later week
+pub record IsTally (line : Line) (runs : List Run) (week count : ℕ) : Type 0 where
+  pub so_many : AreSoMany (λ day. IsExtendedSeen line runs week day) EarlierDay count
+  pub latest : (day : DutyDay) (other : ℕ) → IsExtendedSeen line runs other day → other ≤ week
+  pub known : (week ≡ 0) ⊎ ((day : DutyDay) × IsExtendedSeen line runs week day)
+
+-- a breach of a day whose rest is one of the runs: more than ten hours of driving (Article 6(1))
+pub record IsB4Seen (line : Line) (runs : List Run) (breach : Breach) : Type 0 where
+  pub kind : breach.kind ≡ B4
+  pub is : IsB4 line breach
+  pub seen : Contains runs is.day.rest
+
+-- and a third or later extended day of its week (Article 6(1))
+pub record IsB5Seen (line : Line) (runs : List Run) (breach : Breach) : Type 0 where
+  pub kind : breach.kind ≡ B5
+  pub is : IsB5 line breach
+  pub seen : Contains runs is.day.rest
+
+-- and either of them
+abbrev pub IsDrivingSeen : Line → List Run → Breach → Type 0
+IsDrivingSeen line runs breach = IsB4Seen line runs breach ⊎ IsB5Seen line runs breach
+
+-- of a line that goes on: the runs that have ended, the driving from the end of the last daily rest up to the rest that
+-- is open, the extended days of the last week that has one, and the breaches of the days that have ended
+pub record IsDriven (line : Line) (start place : ℕ) (d : DutyDriving) (own : List Breach) : Type 0 where
+  pub runs : List Run
+  pub reached : Reached line runs start place
+  pub last : IsBeforeDays runs start place ⊎ IsLastLong runs d.from
+  pub nine : IsCounted line driving_in_day d.from start d.nine
+  pub ten : IsCounted line driving_in_extended_day d.from start d.ten
+  pub tally : IsTally line runs d.week d.extended
+  pub found : AreCollected (λ breach. IsDrivingSeen line runs breach) own
+
+-- what is kept stands for the spans: it is so of each line that goes on as they say
+pub record DrivingStands (start place : ℕ) (d : DutyDriving) (failed : Bool) (own : List Breach)
+    (owed : List Debt) (base : ℕ) (spans : List Span) : Type 0 where
+  pub alive : failed ≡ false
+  pub none : owed ≡ []
+  pub joined : Joined spans base place
+  pub kept : (line : Line) → Continues line spans place → IsDriven line start place d own
+
+-- a breach of the rules on a day's driving (Article 6(1))
+abbrev pub IsDailyDriving : Line → Breach → Type 0
+IsDailyDriving line breach = ((breach.kind ≡ B4) × IsB4 line breach) ⊎ ((breach.kind ≡ B5) × IsB5 line breach)
+
+-- all such breaches are found, each once, and no debts
+pub record DrivingDefined (own : List Breach) (owed : List Debt) (base horizon : ℕ) (spans : List Span) : Type 0 where
+  pub none : owed ≡ []
+  pub breaches : AreCollected (λ breach. IsDailyDriving (line_of spans) breach) own

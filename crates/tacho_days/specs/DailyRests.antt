@@ -1,0 +1,92 @@
+-- What the pass over daily rests stands for (Regulation (EC) 561/2006, Articles 4(g), 8(2) and 8(4)).
+use Rattle.std.specs.Prelude.{◌≡◌, ℕ, ◌<◌, ◌≤◌, ◌⊎◌, ◌↔◌, IsTrue, Bool, false, List, Contains, []}
+use Rattle.tacho_time.specs.declared.span.Span.{Span}
+use Rattle.tacho_hours.specs.declared.run.Run.{Run}
+use Rattle.tacho_hours.specs.declared.days.DutyDay.{DutyDay}
+use Rattle.tacho_hours.specs.declared.breach.Breach.{Breach}
+use Rattle.tacho_hours.specs.declared.breach.Kind.TheVariants.{B2, B3}
+use Rattle.tacho_hours.specs.declared.debt.Debt.{Debt}
+use Rattle.tacho_hours.specs.Line.{Line, line_of, Joined}
+use Rattle.tacho_hours.specs.Runs.{Before, Reached, minutes_of}
+use Rattle.tacho_hours.specs.Days.{IsReduced, EarlierDay}
+use Rattle.tacho_hours.specs.Exactly.{AreSoMany}
+use Rattle.tacho_hours.specs.Order.{AreCollected}
+use Rattle.tacho_hours.specs.Breaches.{IsB2, IsB3}
+use Rattle.tacho_hours.specs.Limits.{first_part_of_daily_rest, daily_rest, weekly_rest}
+use Rattle.tacho_pass.specs.Heard.{Continues}
+use Rattle.tacho_days.specs.declared.resting_day.RestingDay.{RestingDay}
+
+-- the last of the rests of so many minutes or more ends there
+pub record IsLastOf (least : ℕ) (runs : List Run) (ended : ℕ) : Type 0 where
+  pub run : Run
+  pub among : Contains runs run
+  pub enough : least ≤ minutes_of run
+  pub ends : run.past ≡ ended
+  pub last : (x : Run) → Contains runs x → least ≤ minutes_of x → (x ≡ run) ⊎ Before x run
+
+-- before the end of the first rest, which has no start and is a weekly one
+pub record IsBeforeRests (runs : List Run) (start place : ℕ) : Type 0 where
+  pub none : runs ≡ []
+  pub first : start ≡ 0
+  pub long : weekly_rest ≤ place
+
+-- behind a daily and a weekly rest
+pub record IsBehindRests (runs : List Run) (d : RestingDay) : Type 0 where
+  pub daily : IsLastOf daily_rest runs d.from
+  pub weekly : IsLastOf weekly_rest runs d.weekly
+
+-- Article 4(g): a rest of three hours or more from a minute on
+pub record HasPart (runs : List Run) (from : ℕ) : Type 0 where
+  pub part : Run
+  pub among : Contains runs part
+  pub enough : first_part_of_daily_rest ≤ minutes_of part
+  pub behind : from ≤ part.start
+
+-- Article 8(4): a reduced daily rest since a minute
+pub record IsReducedSince (line : Line) (runs : List Run) (since : ℕ) (day : DutyDay) : Type 0 where
+  pub reduced : IsReduced line day
+  pub seen : Contains runs day.rest
+  pub behind : since < day.rest.start
+
+-- Article 8(2): a breach of a daily rest that is one of the runs
+pub record IsB2Seen (line : Line) (runs : List Run) (breach : Breach) : Type 0 where
+  pub kind : breach.kind ≡ B2
+  pub is : IsB2 line breach
+  pub seen : Contains runs is.day.rest
+
+-- and so with Article 8(4)
+pub record IsB3Seen (line : Line) (runs : List Run) (breach : Breach) : Type 0 where
+  pub kind : breach.kind ≡ B3
+  pub is : IsB3 line breach
+  pub seen : Contains runs is.day.rest
+
+-- of either
+abbrev pub IsRestSeen : Line → List Run → Breach → Type 0
+IsRestSeen line runs breach = IsB2Seen line runs breach ⊎ IsB3Seen line runs breach
+
+-- the daily rests of a line that ended before `start`, from where it rests up to `place`
+pub record IsResting (line : Line) (start place : ℕ) (d : RestingDay) (own : List Breach) : Type 0 where
+  pub runs : List Run
+  pub reached : Reached line runs start place
+  pub last : IsBeforeRests runs start place ⊎ IsBehindRests runs d
+  pub within : d.from ≤ start
+  pub part : IsTrue d.part ↔ HasPart runs d.from
+  pub so_many : AreSoMany (IsReducedSince line runs d.weekly) EarlierDay d.number
+  pub found : AreCollected (IsRestSeen line runs) own
+
+-- and so for each line that does what the spans say
+pub record RestsStand (start place : ℕ) (d : RestingDay) (failed : Bool) (own : List Breach) (owed : List Debt)
+    (base : ℕ) (spans : List Span) : Type 0 where
+  pub alive : failed ≡ false
+  pub none : owed ≡ []
+  pub joined : Joined spans base place
+  pub kept : (line : Line) → Continues line spans place → IsResting line start place d own
+
+-- Articles 8(2) and 8(4): a breach of the rules on daily rests
+abbrev pub IsDailyRestBreach : Line → Breach → Type 0
+IsDailyRestBreach line breach = ((breach.kind ≡ B2) × IsB2 line breach) ⊎ ((breach.kind ≡ B3) × IsB3 line breach)
+
+-- all of them, and no debts
+pub record RestsDefined (own : List Breach) (owed : List Debt) (base horizon : ℕ) (spans : List Span) : Type 0 where
+  pub none : owed ≡ []
+  pub breaches : AreCollected (IsDailyRestBreach (line_of spans)) own

@@ -1,0 +1,4 @@
+pub mod RestingDays
+pub mod DailyRests
+pub mod DailyDriving
+pub mod Days

@@ -1,0 +1,186 @@
+ghost use Rattle.std.specs.Prelude.{◌≡◌, ◌≤◌, ◌+◌, ◌++◌, ⊤, false, IfOk, OnOk, MatchOption};
+ghost use Rattle.tacho_hours.specs.Runs.{minutes_of};
+ghost use Rattle.tacho_hours.specs.Limits.{latest, daily_rest};
+ghost use Rattle.tacho_pass.specs.Found.{Appends};
+ghost use Rattle.tacho_pass.specs.Kinds.{is_b2_or_b3};
+ghost use Rattle.tacho_days.specs.RestingDays.{resting_none, day_to, regular_of, reduced_of};
+ghost use Rattle.tacho_days.specs.RestingDays.{short_of, often_of, rest_found, after_rest, after_any, found_any};
+
+use std::alloc::AllocError;
+use tacho_hours::limits::{
+    DAILY_REST, FIRST_PART_OF_DAILY_REST, MINUTES_OF_DAY, REDUCED_DAILY_RESTS, REGULAR_DAILY_REST,
+    WEEKLY_REST,
+};
+use tacho_hours::{Breach, DutyDay, Kind, Run, has_portion};
+use tacho_pass::{Found, put};
+use tacho_time::Minute;
+
+/// The duty day so far, and the reduced daily rests before it.
+#[derive(Clone, Copy)]
+pub struct RestingDay {
+    /// Where the day starts: the end of the last daily rest.
+    pub from: Minute,
+    /// Whether a rest of three hours or more lies within the day, which may be the first part of a regular daily rest.
+    pub part: bool,
+    /// The end of the last weekly rest.
+    pub weekly: Minute,
+    /// How many daily rests were reduced since then.
+    pub number: u32,
+}
+
+impl RestingDay {
+    /// Before the first rest.
+    pub fn none() -> RestingDay
+        ensures { result ≡ resting_none }
+    {
+        RestingDay {
+            from: Minute::new(0),
+            part: false,
+            weekly: Minute::new(0),
+            number: 0,
+        }
+    }
+
+    /// The duty day that a daily rest ends.
+    fn day(&self, rest: Run) -> DutyDay
+        ensures day { result ≡ day_to self.now.from rest }
+        ensures started { result.start ≤ 68428800 }
+    {
+        DutyDay {
+            start: self.from.number(),
+            past: rest.start,
+            rest,
+        }
+    }
+
+    /// The breach of a daily rest with fewer than nine hours within the 24 from the day's start (Article 8(2) of
+    /// Regulation (EC) 561/2006).
+    fn short_rest(&self, rest: Run) -> Option<Breach>
+        requires start { rest.start ≤ latest }
+        requires enough { daily_rest ≤ minutes_of rest }
+        ensures { result ≡ short_of (day_to self.now.from rest) }
+    {
+        let day = self.day(rest);
+        if has_portion(day, DAILY_REST) {
+            return None;
+        }
+        let end = rest.past.min(day.start + MINUTES_OF_DAY);
+        Some(Breach {
+            kind: Kind::B2,
+            moment: Minute::new(day.start + (MINUTES_OF_DAY - DAILY_REST)),
+            since: self.from,
+            amount: DAILY_REST + rest.start - end,
+        })
+    }
+
+    /// Whether a daily rest is regular (Article 4(g)).
+    fn is_regular(&self, rest: Run) -> bool
+        requires { rest.start ≤ latest }
+        ensures { result ≡ regular_of self.now.part (day_to self.now.from rest) }
+    {
+        has_portion(self.day(rest), REGULAR_DAILY_REST)
+            || (has_portion(self.day(rest), DAILY_REST) && self.part)
+    }
+
+    /// Whether a daily rest is reduced (Articles 4(g) and 8(4)).
+    fn is_reduced(&self, rest: Run) -> bool
+        requires { rest.start ≤ latest }
+        ensures { result ≡ reduced_of self.now.part (day_to self.now.from rest) }
+    {
+        !self.is_regular(rest)
+            && has_portion(self.day(rest), DAILY_REST)
+            && rest.past.saturating_sub(rest.start) < WEEKLY_REST
+    }
+
+    /// The breach of a fourth or later reduced daily rest since the last weekly one (Article 8(4)).
+    fn often_reduced(&self, rest: Run) -> Option<Breach>
+        requires start { rest.start ≤ latest }
+        requires few { self.now.number ≤ latest }
+        ensures { result ≡ often_of rest self.now }
+    {
+        let ordinal = self.number + 1;
+        if self.is_reduced(rest) && ordinal > REDUCED_DAILY_RESTS {
+            return Some(Breach {
+                kind: Kind::B3,
+                moment: Minute::new(rest.start),
+                since: self.weekly,
+                amount: ordinal - REDUCED_DAILY_RESTS,
+            });
+        }
+        None
+    }
+
+    /// Behind a rest.
+    fn after(&self, rest: Run) -> RestingDay
+        requires start { rest.start ≤ latest }
+        requires past { rest.past ≤ latest }
+        requires few { self.now.number ≤ latest }
+        ensures after { result ≡ after_rest rest self.now }
+        ensures few { result.number ≤ self.now.number + 1 }
+    {
+        let minutes = rest.past.saturating_sub(rest.start);
+        if minutes >= WEEKLY_REST {
+            return RestingDay {
+                from: Minute::new(rest.past),
+                part: false,
+                weekly: Minute::new(rest.past),
+                number: 0,
+            };
+        }
+        if minutes >= DAILY_REST {
+            return RestingDay {
+                from: Minute::new(rest.past),
+                part: false,
+                weekly: self.weekly,
+                number: if self.is_reduced(rest) {
+                    self.number + 1
+                } else {
+                    self.number
+                },
+            };
+        }
+        RestingDay {
+            from: self.from,
+            part: self.part || minutes >= FIRST_PART_OF_DAILY_REST,
+            weekly: self.weekly,
+            number: self.number,
+        }
+    }
+}
+
+/// Puts the breaches of a rest to what is found.
+pub fn end_rest(day: &RestingDay, rest: Run, found: &mut Found) -> Result<(), AllocError>
+    requires start { rest.start ≤ latest }
+    requires few { day.now.number ≤ latest }
+    ensures breaches { OnOk result (found.new.breaches.items ≡ found.old.breaches.items ++ rest_found rest day.now) }
+    ensures appends { Appends is_b2_or_b3 false found.old found.new }
+{
+    if rest.past.saturating_sub(rest.start) >= DAILY_REST {
+        put(day.short_rest(rest), found)?;
+        put(day.often_reduced(rest), found)?;
+    }
+    Ok(())
+}
+
+/// Behind a rest that a span ends, or none.
+pub fn after_span(
+    day: &RestingDay,
+    rest: Option<Run>,
+    found: &mut Found,
+) -> Result<RestingDay, AllocError>
+    requires start { MatchOption rest ⊤ (λ rest. rest.start ≤ latest) }
+    requires past { MatchOption rest ⊤ (λ rest. rest.past ≤ latest) }
+    requires few { day.now.number ≤ latest }
+    ensures after { IfOk result (λ after. after ≡ after_any rest day.now) }
+    ensures few { IfOk result (λ after. after.number ≤ day.now.number + 1) }
+    ensures breaches { OnOk result (found.new.breaches.items ≡ found.old.breaches.items ++ found_any rest day.now) }
+    ensures appends { Appends is_b2_or_b3 false found.old found.new }
+{
+    match rest {
+        Some(rest) => {
+            end_rest(day, rest, found)?;
+            Ok(day.after(rest))
+        }
+        None => Ok(*day),
+    }
+}
