@@ -1,0 +1,15 @@
+pub mod KindsLemmas
+pub mod HeardLemmas
+pub mod TurnsLemmas
+pub mod PayingLemmas
+pub mod ClosedLemmas
+pub mod SoFarLemmas
+pub mod OverdueOfLemmas
+pub mod LedgerLemmas
+pub mod OwingLemmas
+pub mod LateRestLemmas
+pub mod LatenessLemmas
+pub mod TallyLemmas
+pub mod PairsLemmas
+pub mod PairingLemmas
+pub mod WeekRestsLemmas

@@ -1,0 +1,73 @@
+-- Weekly rests that start late, rest by rest, and what the pass over them stands for (Regulation (EC) 561/2006, Article
+-- 8(6), second subparagraph).
+use Rattle.std.specs.Prelude.{◌≡◌, ℕ, ◌+◌, ◌-◌, ◌<◌, ◌≤◌, nat_lt, nat_le, List, [], Option, None, Some, MatchOption}
+use Rattle.std.specs.Prelude.{Bool, false, if◌then◌else◌}
+use Rattle.tacho_time.specs.declared.span.Span.{Span}
+use Rattle.tacho_hours.specs.declared.run.Run.{Run}
+use Rattle.tacho_hours.specs.declared.breach.Breach.{Breach}
+use Rattle.tacho_hours.specs.declared.debt.Debt.{Debt}
+use Rattle.tacho_hours.specs.declared.breach.Kind.TheVariants.{B8}
+use Rattle.tacho_hours.specs.Line.{line_of, Joined, Line}
+use Rattle.tacho_hours.specs.Limits.{first_week, weekly_rest, six_days}
+use Rattle.tacho_hours.specs.Runs.{AreRestRuns, IsRestOf, minutes_of}
+use Rattle.tacho_hours.specs.Order.{AreCollected}
+use Rattle.tacho_hours.specs.Breaches.{IsB8, IsLate}
+use Rattle.tacho_pass.specs.Heard.{Continues, IsHeard}
+
+-- Article 8(6): the breach of a weekly rest that starts later than six days after the end of the last one
+abbrev pub late_of : Option ℕ → Run → Option Breach
+late_of None run = None
+late_of (Some end) run =
+    if nat_lt (end + six_days) run.start
+    then Some (record { kind = B8; moment = end + six_days; since = end; amount = run.start - (end + six_days) })
+    else None
+
+-- a breach of a weekly rest that starts before a minute
+pub record IsLateBefore (line : Line) (start : ℕ) (breach : Breach) : Type 0 where
+  pub kind : breach.kind ≡ B8
+  pub is : IsB8 line breach
+  pub before : is.b.start < start
+
+-- the last weekly rest of those that start before a minute
+pub record IsLastRest (line : Line) (start end : ℕ) : Type 0 where
+  pub rest : Run
+  pub is : IsRestOf line weekly_rest rest
+  pub before : rest.start < start
+  pub ends : rest.past ≡ end
+  pub last : (other : Run) → IsRestOf line weekly_rest other → other.start < start → other.start ≤ rest.start
+
+-- the end of the last weekly rest that starts before a minute, and the breaches by then
+pub record IsLateSoFar (line : Line) (start : ℕ) (end : Option ℕ) (own : List Breach) : Type 0 where
+  pub last : MatchOption end
+      ((other : Run) → IsRestOf line weekly_rest other → other.start < start → ⊥)
+      (λ p. IsLastRest line start p)
+  pub found : AreCollected (λ breach. IsLateBefore line start breach) own
+
+-- the end of the last weekly rest, after a run
+abbrev pub end_after : Option ℕ → Run → Option ℕ
+end_after end run = if nat_le weekly_rest (minutes_of run) then Some run.past else end
+
+-- the breach of a run, where it is a weekly rest
+abbrev pub late_run : Option ℕ → Run → Option Breach
+late_run end run = if nat_le weekly_rest (minutes_of run) then late_of end run else None
+
+-- of a line that goes on: the rest run that is open, and the weekly rests of those that have ended
+pub record IsLateUpTo (line : Line) (start place : ℕ) (end : Option ℕ) (own : List Breach) : Type 0 where
+  pub e : ℕ
+  pub low : first_week ≤ e
+  pub heard : IsHeard line start place e
+  pub so_far : IsLateSoFar line start end own
+
+-- that, however the line goes on
+pub record LateStands (start place : ℕ) (end : Option ℕ) (failed : Bool) (own : List Breach) (owed : List Debt)
+    (base : ℕ) (spans : List Span) : Type 0 where
+  pub alive : failed ≡ false
+  pub none : owed ≡ []
+  pub joined : Joined spans base place
+  pub kept : (line : Line) (runs : List Run)
+      → AreRestRuns line runs → Continues line spans place → IsLateUpTo line start place end own
+
+-- the breaches of late weekly rests
+pub record LateDefined (own : List Breach) (owed : List Debt) (base horizon : ℕ) (spans : List Span) : Type 0 where
+  pub none : owed ≡ []
+  pub breaches : AreCollected (λ breach. IsLate (line_of spans) breach) own

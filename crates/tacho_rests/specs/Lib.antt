@@ -1,0 +1,7 @@
+pub mod Few
+pub mod Paying
+pub mod Turns
+pub mod Owing
+pub mod Lateness
+pub mod Pairs
+pub mod WeekRests
