@@ -18,7 +18,7 @@ use Rattle.tacho_hours.proofs.ExactlyLemmas.{OfSeen, seen_none, seen_skip, seen_
 use Rattle.tacho_rules.specs.DayBreaches.{IsInTime}
 use Rattle.tacho_rules.specs.DailyRests.{IsShortRest}
 use Rattle.tacho_rules.specs.DailyDriving.{IsLongDay}
-use Rattle.tacho_rules.proofs.LongDrivingLemmas.{too_much_only}
+use Rattle.tacho_hours.proofs.LongDrivingLemmas.{too_much_only}
 use Rattle.tacho_hours.proofs.OrderLemmas.{same_breach}
 
 -- what an index behind the list gives

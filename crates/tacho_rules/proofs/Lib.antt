@@ -1,5 +1,4 @@
 pub mod BreakBreachesLemmas
-pub mod LongDrivingLemmas
 pub mod DayFoundLemmas
 pub mod TallyLemmas
 pub mod OrdinalLemmas
@@ -11,6 +10,13 @@ pub mod TwoRestsLemmas
 pub mod CompensationLemmas
 pub mod RestBreachesLemmas
 pub mod SliceLemmas
-pub mod GroupLemmas
 pub mod ReportLemmas
+pub mod ScanLemmas
+pub mod FeedingLemmas
+pub mod StayingLemmas
+pub mod StayingHoursLemmas
+pub mod StayingBreaksLemmas
+pub mod StayingDaysLemmas
+pub mod StayingWeeksLemmas
+pub mod StayingReportLemmas
 pub mod PageFacts

@@ -23,7 +23,7 @@ use Rattle.tacho_rules.specs.DailyDriving.{IsLongDay, IsLongDuty}
 use Rattle.tacho_rules.specs.DailyRests.{IsLastEnd}
 use Rattle.tacho_hours.proofs.OrderLemmas.{same_breach}
 use Rattle.tacho_rules.proofs.DayFoundLemmas.{no_day, IsOfDays, long_before}
-use Rattle.tacho_rules.proofs.LongDrivingLemmas.{too_much_only}
+use Rattle.tacho_hours.proofs.LongDrivingLemmas.{too_much_only}
 use Rattle.tacho_hours.proofs.ExactlyLemmas.{so_many_only, so_many_as}
 use Rattle.tacho_rules.proofs.TallyLemmas.{Tallied, IsTallied, AreKeys, tally_counts}
 

@@ -78,6 +78,18 @@ before_end (s ∷ held) last m ended single = elim (cases_lt m s.past) [
       before_end held last m (λ k d within. ended (suc k) d (omega arith)) (subst IsSingle e single)
 ]
 
+-- the horizon is no later than what is held
+pub early_horizon : (held : List Span) (base : ℕ) (horizon : Horizon) → IsHorizon held base horizon
+    → base ≤ 68374080 → All (λ (s : Span). s.past ≤ 68374080) held → horizon.minute ≤ 68374080
+early_horizon held base horizon h early ended = elim (cases_lt base horizon.minute) [
+  | inl lt ↦
+      let b : horizon.minute - 1 < 68374080 =
+      before_end held 68374080 (horizon.minute - 1) ended
+      (h.single (horizon.minute - 1) (omega arith, omega arith)) in
+      omega arith
+  | inr ge ↦ omega arith
+]
+
 -- the line of spans has the mark that they give
 line_given : (spans : List Span) (m : ℕ) (mark : Mark) → IsCanonical spans
     → Gives spans m mark → line_of spans m ≡ mark.activity
@@ -112,23 +124,18 @@ module _ {held spans : List Span} {base : ℕ} {horizon : Horizon} (h : IsHorizo
       let here : HoldsWithin held base horizon.minute m mark = (slice.same m mark).0 g in
       subst IsSingle here.1 (h.single m here.0))
 
-  -- the horizon is no later than what is held
-  early_horizon : base ≤ 68374080 → All (λ (s : Span). s.past ≤ 68374080) held → horizon.minute ≤ 68374080
-  early_horizon early ended = elim (cases_lt base horizon.minute) [
-    | inl lt ↦
-        let b : horizon.minute - 1 < 68374080 =
-        before_end held 68374080 (horizon.minute - 1) ended
-        (h.single (horizon.minute - 1) (omega arith, omega arith)) in
-        omega arith
-    | inr ge ↦ omega arith
-  ]
-
   -- it is an examined line
   pub slice_examined : {now : List Span} → now ≡ spans → IsBase base → base ≤ 68374080
       → All (λ (s : Span). s.past ≤ 68374080) held → IsExamined now base horizon.minute
   slice_examined same monday early ended =
       let is : IsExamined spans base horizon.minute =
-      record { base_is = monday; joined = joined; single = single; within = early_horizon early ended } in
+      record {
+        base_is = monday;
+        joined = joined;
+        single = single;
+        within =
+            early_horizon held base horizon h early ended;
+      } in
       subst (λ (xs : List Span). IsExamined xs base horizon.minute) (sym same) is
 
   -- each minute of it is as examined

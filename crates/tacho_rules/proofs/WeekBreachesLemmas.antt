@@ -17,7 +17,7 @@ use Rattle.tacho_hours.proofs.ExactlyLemmas.{exactly_none, exactly_as, exactly_s
 use Rattle.tacho_hours.specs.Breaches.{IsB6, IsB7, IsWeekBreach, AreWeekBreaches}
 use Rattle.tacho_hours.proofs.DrivingLemmas.{line_behind}
 use Rattle.tacho_hours.proofs.RunsLemmas.{line_before}
-use Rattle.tacho_rules.proofs.LongDrivingLemmas.{too_much_only, too_little}
+use Rattle.tacho_hours.proofs.LongDrivingLemmas.{too_much_only, too_little}
 use Rattle.tacho_rules.specs.WeekBreaches.{IsLongWeek, IsLongPair, IsOfWeeks, AreOfWeeks}
 
 -- what holds after a week's own breach

@@ -7,7 +7,7 @@ use Rattle.tacho_hours.specs.Line.{Line}
 use Rattle.tacho_hours.specs.Days.{IsDuty}
 use Rattle.tacho_hours.specs.Driving.{driving}
 use Rattle.tacho_hours.specs.Limits.{driving_in_day}
-use Rattle.tacho_rules.specs.LongDriving.{IsTooMuch}
+use Rattle.tacho_hours.specs.Breaches.{IsTooMuch}
 
 -- B4 and B5, of one day: more driving minutes in it than allowed (Article 6(1))
 abbrev pub IsLongDay : Line → Kind → ℕ → DutyDay → Breach → Type 0

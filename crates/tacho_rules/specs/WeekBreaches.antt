@@ -7,7 +7,7 @@ use Rattle.tacho_hours.specs.Line.{Line}
 use Rattle.tacho_hours.specs.Weeks.{week_start}
 use Rattle.tacho_hours.specs.Order.{AreCollected}
 use Rattle.tacho_hours.specs.Limits.{driving_in_week, driving_in_two_weeks}
-use Rattle.tacho_rules.specs.LongDriving.{IsTooMuch}
+use Rattle.tacho_hours.specs.Breaches.{IsTooMuch}
 
 -- more than 56 hours (3360 minutes) in a week (Article 6(2))
 abbrev pub IsLongWeek : Line → ℕ → Breach → Type 0

@@ -3,11 +3,11 @@ ghost use Rattle.tacho_hours.specs.Line.{IsBase};
 ghost use Rattle.tacho_hours.specs.Limits.{latest};
 ghost use Rattle.tacho_rules.specs.Report.{IsReport};
 
-use crate::plain;
 use crate::report::Report;
+use crate::scan::Scan;
 use std::alloc::{AllocError, Global};
-use tacho_hours::put_in_order;
 use tacho_line::Line;
+use tacho_pass::Found;
 use tacho_time::Minute;
 
 /// The report of a timeline from a base, the first minute of a Monday, to its horizon: every breach of the rules on
@@ -20,19 +20,9 @@ pub fn examine(alloc: Global, line: &Line, base: Minute) -> Result<Report, Alloc
     ensures { IfOk result (λ report. IsReport line.now base report.horizon report.breaches.items report.debts.items) }
 {
     let horizon = line.horizon(base);
-    let past = horizon.minute;
-    let spans = line.slice(alloc, base, past)?;
-    let mut breaches = plain::breaks(alloc, &spans, base, past)?;
-    let mut of_days = plain::days(alloc, &spans, base, past)?;
-    let mut of_weeks = plain::weeks(alloc, &spans, base, past)?;
-    let mut of_rests = plain::rests(alloc, &spans, base, past)?;
-    breaches.append(&mut of_days)?;
-    breaches.append(&mut of_weeks)?;
-    breaches.append(&mut of_rests.breaches)?;
-    put_in_order(&mut breaches);
-    Ok(Report {
-        horizon,
-        breaches,
-        debts: of_rests.debts,
-    })
+    let spans = line.slice(alloc, base, horizon.minute)?;
+    let mut scan = Scan::new(base);
+    let mut found = Found::empty(alloc);
+    scan.feed_all(&spans, &mut found)?;
+    scan.finish(horizon, found)
 }

@@ -1,12 +1,15 @@
 //! Laws about reports. A law is a function without a body: what it ensures is proved, and holds for all that it names.
 
-ghost use Rattle.std.specs.Prelude.{◌≡◌, ℕ, List, []};
+ghost use Rattle.std.specs.Prelude.{◌≡◌, ◌≢◌, ◌<◌, ◌≤◌, ℕ, List, [], All, Contains};
 ghost use Rattle.tacho_time.specs.declared.span.Activity.TheVariants.{Rest};
 ghost use Rattle.tacho_time.specs.declared.span.Span.{Span as Stretch};
 ghost use Rattle.tacho_line.specs.declared.horizon.Horizon.{Horizon as HorizonValue};
 ghost use Rattle.tacho_line.specs.Line.{mark_at};
 ghost use Rattle.tacho_hours.specs.declared.breach.Breach.{Breach as BreachValue};
+ghost use Rattle.tacho_hours.specs.declared.breach.Kind.TheVariants.{B10};
 ghost use Rattle.tacho_hours.specs.declared.debt.Debt.{Debt as DebtValue};
+ghost use Rattle.tacho_hours.specs.Limits.{latest};
+ghost use Rattle.tacho_hours.specs.Order.{Agree};
 ghost use Rattle.tacho_rules.specs.Report.{IsReport, examined};
 
 pub use tacho_hours::laws::paid_by_runs;
@@ -33,4 +36,17 @@ pub fn rest_alone_is_no_breach()
         (debts : List DebtValue)
         → IsReport held base horizon found debts → ((m : ℕ) → examined held base horizon.minute m ≡ Rest)
         → (found ≡ []) × (debts ≡ []) }
+{}
+
+/// What is held behind the horizon takes no breach away but those of debts: where more is held from then on, each other
+/// breach of the report stays, of the same kind, at the same moment and since the same minute. Its amount may change,
+/// and a debt may find a payer.
+pub fn breaches_stay()
+    ensures { (held more : List Stretch) (base : ℕ) (horizon later : HorizonValue) (found others : List BreachValue)
+        (debts owed : List DebtValue)
+        → IsReport held base horizon found debts → IsReport more base later others owed
+        → ((m : ℕ) → base ≤ m → m < horizon.minute → mark_at held m ≡ mark_at more m)
+        → horizon.minute ≤ later.minute → base ≤ latest → All (λ span. span.past ≤ latest) more
+        → (breach : BreachValue) → Contains found breach → breach.kind ≢ B10
+        → (same : BreachValue) × Contains others same × Agree breach same }
 {}

@@ -2,13 +2,17 @@
 #![tactic(auto)]
 
 mod examination;
-mod found;
 pub mod laws;
 pub mod plain;
 mod report;
+mod scan;
 
 pub use examination::examine;
-pub use found::Found;
 pub use report::Report;
+pub use scan::Scan;
+pub use tacho_days::Days;
+pub use tacho_driving::{Breaks, WeekSums};
 pub use tacho_hours::{Breach, Debt, Kind};
 pub use tacho_line::{Cause, Horizon};
+pub use tacho_pass::{Found, Pass};
+pub use tacho_rests::WeekRests;

@@ -20,4 +20,4 @@ pub use imported::Imported;
 pub use keeper::Keeper;
 pub use limits::{first_number, is_key, is_name};
 pub use parts::{inside_of, line_of, outside_of};
-pub use reports::report_of;
+pub use reports::{base_of, report_of};

@@ -11,7 +11,7 @@ use tacho_rules::{Report, examine};
 use tacho_time::{Minute, Span};
 
 /// The first minute of a day, where it is a Monday from 2000-01-03 to the end of 2099.
-fn base_of(day: u32) -> Option<Minute>
+pub fn base_of(day: u32) -> Option<Minute>
     ensures some { IfSome result (λ base. (base ≡ 1440 * day) × IsBase base × (base ≤ 68374080)) }
     ensures none { IsNone result → (day < 10959) ⊎ (47481 < day) ⊎ (is_monday day ≡ false) }
 {

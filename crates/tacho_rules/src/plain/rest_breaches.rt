@@ -6,11 +6,11 @@ ghost use Rattle.tacho_hours.specs.Breaches.{AreRestBreaches, IsLate, IsLacking}
 ghost use Rattle.tacho_hours.specs.Order.{AreCollected};
 ghost use Rattle.tacho_hours.specs.Limits.{weekly_rest, latest};
 
-use crate::found::Found;
 use crate::plain::compensation::{debts_of, overdue};
 use std::alloc::{AllocError, Global};
 use tacho_hours::limits::{DAILY_REST, REGULAR_WEEKLY_REST, SIX_DAYS, WEEKLY_REST};
 use tacho_hours::{Breach, Examined, Kind, Run, long_rests, put_in_order, rest_runs, touching};
+use tacho_pass::Found;
 use tacho_time::{Minute, Span, Week, first_minute, week_of};
 
 /// The breaches of weekly rests that start too late (Article 8(6)), in order of time.

@@ -1,8 +1,7 @@
 ghost use Rattle.std.specs.Prelude.{◌≤◌, ◌+◌, IfOk, MatchOption};
 ghost use Rattle.tacho_hours.specs.Line.{line_of, IsExamined};
 ghost use Rattle.tacho_hours.specs.Driving.{driving};
-ghost use Rattle.tacho_hours.specs.Breaches.{AreWeekBreaches};
-ghost use Rattle.tacho_rules.specs.LongDriving.{IsTooMuch};
+ghost use Rattle.tacho_hours.specs.Breaches.{AreWeekBreaches, IsTooMuch};
 ghost use Rattle.tacho_rules.specs.WeekBreaches.{AreOfWeeks};
 
 use std::alloc::{AllocError, Global};

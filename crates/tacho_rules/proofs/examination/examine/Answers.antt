@@ -1,46 +1,41 @@
-use Rattle.tacho_rules.proofs.SliceLemmas.{slice_examined}
-use Rattle.tacho_rules.proofs.GroupLemmas.{groups_of, groups_apart, report_is}
+use Rattle.std.proofs.Common.{ℕ, []}
+use Rattle.tacho_rules.specs.Scan.{AreFindings}
+use Rattle.tacho_rules.proofs.SliceLemmas.{slice_examined, as_line}
+use Rattle.tacho_rules.proofs.FeedingLemmas.{report_answered}
 use Rattle.tacho_rules.proofs.examination.examine.Goals as goal
 
-pub breaks-requires : goal.breaks-requires
-breaks-requires c =
+pub feed_all-requires : goal.feed_all-requires
+feed_all-requires c =
+    let x =
     slice_examined c.horizon-horizon.ensures c.in_ok-spans.ensures
-    c.deref.ensures.value c.requires.monday c.requires.early c.requires.within
+    c.deref.ensures.value c.requires.monday c.requires.early c.requires.within in
+    record {
+      place = c.args.base;
+      past = c.horizon-horizon.result.minute;
+      at = c.new-scan.ensures.at;
+      joined = x.joined;
+      within = x.within;
+    }
 
-pub days-requires : goal.days-requires
-days-requires c =
+pub finish-requires : goal.finish-requires
+finish-requires c =
+    let x =
     slice_examined c.horizon-horizon.ensures c.in_ok-spans.ensures
-    c.deref-2.ensures.value c.requires.monday c.requires.early c.requires.within
-
-pub weeks-requires : goal.weeks-requires
-weeks-requires c =
-    slice_examined c.horizon-horizon.ensures c.in_ok-spans.ensures
-    c.deref-3.ensures.value c.requires.monday c.requires.early c.requires.within
-
-pub rests-requires : goal.rests-requires
-rests-requires c =
-    slice_examined c.horizon-horizon.ensures c.in_ok-spans.ensures
-    c.deref-4.ensures.value c.requires.monday c.requires.early c.requires.within
-
-pub put_in_order-requires : goal.put_in_order-requires
-put_in_order-requires c =
-    let groups =
-    groups_of c.horizon-horizon.ensures c.in_ok-spans.ensures c.deref.ensures.value
-    c.deref-2.ensures.value c.deref-3.ensures.value c.deref-4.ensures.value
-    c.in_ok-breaches.ensures c.in_ok-of_days.ensures c.in_ok-of_weeks.ensures c.in_ok-of_rests.ensures in
-    rw (c.in_ok-append-3.ensures.items, c.in_ok-append-2.ensures.items, c.in_ok-append.ensures.items)
-    (groups_apart groups)
+    c.deref.ensures.value c.requires.monday c.requires.early c.requires.within in
+    c.in_ok-feed_all.ensures.at c.args.base c.horizon-horizon.result.minute c.new-scan.ensures.at x.joined
 
 pub returns : goal.returns
 returns c =
-    let groups =
-    groups_of c.horizon-horizon.ensures c.in_ok-spans.ensures c.deref.ensures.value
-    c.deref-2.ensures.value c.deref-3.ensures.value c.deref-4.ensures.value
-    c.in_ok-breaches.ensures c.in_ok-of_days.ensures c.in_ok-of_weeks.ensures c.in_ok-of_rests.ensures in
-    let same =
-    rw (
-      c.in_ok-append-3.ensures.items,
-      c.in_ok-append-2.ensures.items,
-      c.in_ok-append.ensures.items,
-    ) at c.put_in_order.ensures.same in
-    report_is c.horizon-horizon.ensures groups same c.put_in_order.ensures.order
+    let h = c.horizon-horizon.ensures in
+    let slice = c.in_ok-spans.ensures in
+    let value = c.deref.ensures.value in
+    let x = slice_examined h slice value c.requires.monday c.requires.early c.requires.within in
+    let past : ℕ = c.horizon-horizon.result.minute in
+    let is =
+    c.in_ok-feed_all.ensures.fed c.args.base []
+    (c.new-scan.ensures.none c.empty-found.result c.empty-found.ensures.breaches c.empty-found.ensures.debts) in
+    report_answered c.finish.result c.args.line.now c.args.base c.horizon-horizon.result h
+    (λ r given.
+    as_line h slice (λ line. AreFindings line c.args.base past r.breaches.items r.debts.items) value
+    (given c.args.base c.deref.result.now is x))
+    c.finish.ensures.horizon c.finish.ensures.report

@@ -2,13 +2,12 @@ use Rattle.std.proofs.Common.{◌≡◌, ◌<◌, ◌≤◌, ℕ, List, get_or, 
 use Rattle.std.proofs.lemmas.List.Elements.{All-contains, Contains-get_or}
 use Rattle.tacho_hours.specs.declared.days.DutyDay.{DutyDay}
 use Rattle.tacho_hours.specs.declared.breach.Kind.TheVariants.{B4}
-use Rattle.tacho_hours.specs.Line.{Line}
+use Rattle.tacho_hours.specs.Line.{Line, line_of}
 use Rattle.tacho_hours.specs.Days.{IsDuty}
 use Rattle.tacho_hours.specs.Driving.{driving}
-use Rattle.tacho_hours.specs.Line.{line_of}
 use Rattle.tacho_hours.specs.Breaches.{IsB4}
 use Rattle.tacho_rules.specs.DayBreaches.{IsInTime}
-use Rattle.tacho_rules.proofs.LongDrivingLemmas.{too_much_reaches}
+use Rattle.tacho_hours.proofs.LongDrivingLemmas.{too_much_reaches}
 use Rattle.tacho_rules.proofs.DayFoundLemmas.{no_day, B4Of, b4_is, b4_to, b4_back, found_none}
 use Rattle.tacho_rules.proofs.DayFoundLemmas.{found_add_at, found_skip_at, found_exactly}
 use Rattle.tacho_rules.proofs.plain.daily_driving.long_days.Goals as goal

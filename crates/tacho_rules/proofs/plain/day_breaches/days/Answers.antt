@@ -54,20 +54,6 @@ of_driving-requires-clause-are c =
     subst (λ (runs : List Run). AreRestRuns line runs) (sym c.deref.ensures.value) c.in_ok-runs.ensures in
     subst (λ (days : List DutyDay). AreDutyDays line days) (sym c.deref-4.ensures.value) (c.in_ok-days.ensures line all)
 
-pub put_in_order-requires : goal.put_in_order-requires
-put_in_order-requires c =
-    let line : Line = line_of c.args.spans.now in
-    let all : AreRestRuns line c.deref.result.now =
-    subst (λ (runs : List Run). AreRestRuns line runs) (sym c.deref.ensures.value) c.in_ok-runs.ensures in
-    let all' : AreRestRuns line c.deref-2.result.now =
-    subst (λ (runs : List Run). AreRestRuns line runs) (sym c.deref-2.ensures.value) c.in_ok-runs.ensures in
-    let are : AreDutyDays line c.deref-3.result.now =
-    subst (λ (days : List DutyDay). AreDutyDays line days)
-    (sym c.deref-3.ensures.value) (c.in_ok-days.ensures line all) in
-    rw c.in_ok-append.ensures.items
-    (days_join line c.in_ok-found.found.items c.in_ok-more.more.items
-    (c.in_ok-found.ensures line all' are) c.in_ok-more.ensures).in_order
-
 pub returns : goal.returns
 returns c =
     let line : Line = line_of c.args.spans.now in
@@ -78,8 +64,8 @@ returns c =
     let are : AreDutyDays line c.deref-3.result.now =
     subst (λ (days : List DutyDay). AreDutyDays line days)
     (sym c.deref-3.ensures.value) (c.in_ok-days.ensures line all) in
+    let both = days_join line c.in_ok-found.found.items c.in_ok-more.more.items
+    (c.in_ok-found.ensures line all' are) c.in_ok-more.ensures in
     days_exactly line c.append.new.self.items c.put_in_order.new.found.items
-    (rw c.in_ok-append.ensures.items
-    (days_join line c.in_ok-found.found.items c.in_ok-more.more.items
-    (c.in_ok-found.ensures line all' are) c.in_ok-more.ensures))
-    c.put_in_order.ensures.same c.put_in_order.ensures.order
+    (rw c.in_ok-append.ensures.items both) c.put_in_order.ensures.same
+    (c.put_in_order.ensures.order (rw c.in_ok-append.ensures.items both.in_order))

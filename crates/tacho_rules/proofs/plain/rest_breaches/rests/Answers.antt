@@ -99,40 +99,6 @@ pub lacking_weeks-requires-clause-range : goal.lacking_weeks-requires-clause-ran
 lacking_weeks-requires-clause-range c =
     joined_le c.args.spans.now c.args.base c.args.past c.requires.joined
 
-pub put_in_order-requires : goal.put_in_order-requires
-put_in_order-requires c =
-    let line : Line = line_of c.args.spans.now in
-    let all : AreRestRuns line c.in_ok-runs.runs.items = c.in_ok-runs.ensures in
-    let daily : AreRestsOf line 540 c.in_ok-daily.daily.items =
-    c.in_ok-daily.ensures line (rw c.deref.ensures.value all) in
-    let weekly : AreRestsOf line 1440 c.in_ok-weekly.weekly.items =
-    c.in_ok-weekly.ensures line (rw c.deref-2.ensures.value all) in
-    let d : Run = c.index-last.result.now in
-    let place : c.len.result - 1 ≡ length c.in_ok-runs.runs.items - 1 = omega arith in
-    let at : d ≡ get_or c.in_ok-runs.runs.items (length c.in_ok-runs.runs.items - 1) d =
-    c.index-last.ensures ∙ ap (λ (i : ℕ). get_or c.in_ok-runs.runs.items i d) place in
-    let last : IsLastRun line d =
-    subst (λ (z : Run). IsLastRun line z) (sym at)
-    (last_is_last c.args.spans.now c.args.base c.args.past c.requires c.in_ok-runs.runs.items all d) in
-    let owed : AreDebts line c.number.result c.in_ok-debts.debts.items =
-    c.in_ok-debts.ensures line (rw c.deref-3.ensures.value daily) (rw c.deref-4.ensures.value weekly) last in
-    let debts : AreDebts line c.args.past c.in_ok-debts.debts.items = rw c.number.ensures.value at owed in
-    let late : AreCollected (IsLate line) c.in_ok-breaches.breaches.items =
-    c.in_ok-breaches.ensures line (rw c.deref-5.ensures.value weekly) in
-    let lacking : AreCollected (IsLacking line c.args.base c.args.past) c.in_ok-lacking.lacking.items =
-    c.in_ok-lacking.ensures line (rw c.deref-6.ensures.value weekly) in
-    let due : AreCollected (IsOverdue c.args.past c.in_ok-debts.debts.items) c.in_ok-unpaid.unpaid.items =
-    due_as line c.args.past c.number-2.result c.in_ok-debts.debts.items c.deref-7.result.now
-    c.in_ok-unpaid.unpaid.items c.number-2.ensures.value c.deref-7.ensures.value debts c.in_ok-unpaid.ensures in
-    let three : AreCollected (IsRestKind line c.args.base c.args.past c.in_ok-debts.debts.items)
-    ((c.in_ok-breaches.breaches.items ++ c.in_ok-lacking.lacking.items) ++ c.in_ok-unpaid.unpaid.items) =
-    rests_join line c.args.base c.args.past c.in_ok-debts.debts.items
-    (c.in_ok-breaches.breaches.items ++ c.in_ok-lacking.lacking.items) c.in_ok-unpaid.unpaid.items
-    (weekly_join line c.args.base c.args.past c.in_ok-breaches.breaches.items
-    c.in_ok-lacking.lacking.items late lacking)
-    due in
-    rw (c.in_ok-append-2.ensures.items, c.in_ok-append.ensures.items) three.in_order
-
 pub returns : goal.returns
 returns c =
     let line : Line = line_of c.args.spans.now in
@@ -170,5 +136,7 @@ returns c =
       exactly =
           rests_exactly line c.args.base c.args.past c.in_ok-debts.debts.items c.append-2.new.self.items
           c.put_in_order.new.found.items (rw (c.in_ok-append-2.ensures.items, c.in_ok-append.ensures.items) three)
-          c.put_in_order.ensures.same c.put_in_order.ensures.order;
+          c.put_in_order.ensures.same
+          (c.put_in_order.ensures.order
+          (rw (c.in_ok-append-2.ensures.items, c.in_ok-append.ensures.items) three.in_order));
     }

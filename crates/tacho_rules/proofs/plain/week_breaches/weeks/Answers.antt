@@ -25,4 +25,4 @@ returns c =
     weeks_all c.args.spans.now c.args.base c.args.past
     (c.number-first.result - 1) (c.number-end.result + 1) c.requires from end
     c.in_ok-found.found.items c.put_in_order.new.found.items c.in_ok-found.ensures
-    c.put_in_order.ensures.same c.put_in_order.ensures.order
+    c.put_in_order.ensures.same (c.put_in_order.ensures.order c.in_ok-found.ensures.in_order)

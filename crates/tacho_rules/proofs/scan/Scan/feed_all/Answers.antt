@@ -1,0 +1,65 @@
+use Rattle.std.proofs.Common.{◌≤◌, inl, arith}
+use Rattle.tacho_rules.proofs.FeedingLemmas.{fed_none, next_at, next_some, next_within, fed_next, fed_all, fed_to}
+use Rattle.tacho_rules.proofs.FeedingLemmas.{failed_takes_none}
+use Rattle.tacho_pass.specs.Kinds.{is_any}
+use Rattle.tacho_pass.proofs.AppendingLemmas.{appends_then}
+use Rattle.std.proofs.Common.{true}
+use Rattle.tacho_rules.proofs.scan.Scan.feed_all.Goals as goal
+
+pub loop-span-init : goal.loop-span-init
+loop-span-init c = fed_none c.args.spans.now c.args.self.now c.args.found.now
+
+pub feed-requires-clause-next : goal.feed-requires-clause-next
+feed-requires-clause-next c =
+    next_at c.args.spans.now c.args.self.now c.args.found.now c.loop-span.self c.loop-span.found
+    c.loop-span.span-index c.loop-span.invariant
+    c.span-item.result c.loop-span-test.true c.span-item.is c.requires.place c.requires.past
+    c.requires.at c.requires.joined
+
+pub feed-requires-clause-some : goal.feed-requires-clause-some
+feed-requires-clause-some c =
+    next_some c.args.spans.now c.args.self.now c.args.found.now c.loop-span.self c.loop-span.found
+    c.loop-span.span-index c.loop-span.invariant
+    c.span-item.result c.loop-span-test.true c.span-item.is c.requires.place c.requires.past
+    c.requires.at c.requires.joined
+
+pub feed-requires-clause-within : goal.feed-requires-clause-within
+feed-requires-clause-within c =
+    let by : c.span-item.result.past ≤ c.requires.past =
+    next_within c.args.spans.now c.args.self.now c.args.found.now c.loop-span.self c.loop-span.found
+    c.loop-span.span-index c.loop-span.invariant
+    c.span-item.result c.loop-span-test.true c.span-item.is c.requires.place c.requires.past
+    c.requires.at c.requires.joined in
+    let w : c.requires.past ≤ 68374080 = c.requires.within in
+    omega arith
+
+pub returns-in_err-feed-clause-appends : goal.returns-in_err-feed-clause-appends
+returns-in_err-feed-clause-appends c =
+    appends_then is_any true c.args.found.now c.loop-span.found c.feed.new.found c.loop-span.invariant.more
+    c.feed.ensures.appends
+
+pub loop-span-preserved : goal.loop-span-preserved
+loop-span-preserved c =
+    fed_next c.args.spans.now c.args.self.now c.args.found.now c.loop-span.self c.loop-span.found
+    c.loop-span.span-index c.loop-span.invariant
+    c.span-item.result c.loop-span-test.true c.span-item.is c.feed.new.self c.feed.new.found
+    c.feed.ensures.at c.in_ok-feed.ensures.fed c.feed.ensures.appends
+    (λ h. let e = c.in_ok-feed.ensures.stays h in cc)
+
+pub returns-clause-at : goal.returns-clause-at
+returns-clause-at c =
+    fed_to c.args.spans.now c.args.self.now c.args.found.now c.loop-span.self c.loop-span.found
+    c.loop-span.span-index c.loop-span.invariant c.loop-span-test.false
+
+pub returns-clause-fed : goal.returns-clause-fed
+returns-clause-fed c =
+    fed_all c.args.spans.now c.args.self.now c.args.found.now c.loop-span.self c.loop-span.found
+    c.loop-span.span-index c.loop-span.invariant c.loop-span-test.false
+
+pub returns-clause-appends : goal.returns-clause-appends
+returns-clause-appends c = c.loop-span.invariant.more
+
+pub returns-clause-stays : goal.returns-clause-stays
+returns-clause-stays c = λ failed. inl
+    (failed_takes_none c.args.spans.now c.args.self.now c.args.found.now c.loop-span.self c.loop-span.found
+    c.loop-span.span-index c.loop-span.invariant c.loop-span-test.false failed)

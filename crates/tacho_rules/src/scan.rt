@@ -1,0 +1,136 @@
+ghost use Rattle.std.specs.Prelude.{◌≡◌, ◌⊎◌, ◌++◌, ◌∷◌, [], ◌<◌, ◌≤◌, ℕ, List, true, IsErr, IfOk, OnOk, OnErr};
+ghost use Rattle.tacho_time.specs.declared.span.Span.{Span as SpanValue};
+ghost use Rattle.tacho_hours.specs.Line.{line_of, Joined, IsBase, IsExamined};
+ghost use Rattle.tacho_hours.specs.Limits.{latest};
+ghost use Rattle.tacho_pass.specs.declared.found.Found.{Found as FoundValue};
+ghost use Rattle.tacho_pass.specs.Found.{Appends};
+ghost use Rattle.tacho_pass.specs.Kinds.{is_any};
+ghost use Rattle.tacho_rules.specs.Scan.{AreFindings, AreGathered, IsAt, CanTake, HasFailed, IsScanOf};
+
+use crate::report::Report;
+use std::alloc::AllocError;
+use tacho_days::Days;
+use tacho_driving::{Breaks, WeekSums};
+use tacho_hours::put_in_order;
+use tacho_line::Horizon;
+use tacho_pass::{Found, Pass};
+use tacho_rests::WeekRests;
+use tacho_time::{Minute, Span};
+
+/// All rules on driving and rest hours (Articles 6, 7 and 8 of Regulation (EC) 561/2006) over spans that come one at a
+/// time. It is plain numbers, and owns no memory; what it finds goes to a `Found` that goes with all calls, empty at
+/// first. Minutes are those of UTC.
+#[derive(Clone, Copy)]
+pub struct Scan {
+    breaks: Breaks,
+    days: Days,
+    sums: WeekSums,
+    rests: WeekRests,
+}
+
+impl Scan {
+    /// A scan over no spans, from a base on, the first minute of a Monday.
+    pub fn new(base: Minute) -> Scan
+        requires monday { IsBase base }
+        requires early { base ≤ latest }
+        ensures at { IsAt result base }
+        ensures none { (found : FoundValue) → found.breaches.items ≡ [] → found.debts.items ≡ []
+            → IsScanOf result found base [] }
+    {
+        Scan {
+            breaks: Breaks::new(base),
+            days: Days::new(base),
+            sums: WeekSums::new(base),
+            rests: WeekRests::new(base),
+        }
+    }
+
+    /// Takes the next span, which starts where the last one ended. Where it finds no memory, so do all later calls.
+    pub fn feed(&mut self, span: Span, found: &mut Found) -> Result<(), AllocError>
+        requires next { IsAt self.old span.start }
+        requires some { span.start < span.past }
+        requires within { span.past ≤ latest }
+        ensures at { IsAt self.new span.past }
+        ensures fed { OnOk result ((base : ℕ) (spans : List SpanValue) → IsScanOf self.old found.old base spans
+            → IsScanOf self.new found.new base (spans ++ span ∷ [])) }
+        ensures appends { Appends is_any true found.old found.new }
+        ensures err { OnErr result (HasFailed self.new) }
+        ensures stays { HasFailed self.old → IsErr result }
+    {
+        let Span { start, past, mark } = span;
+        let one = self.breaks.feed(Span { start, past, mark }, found);
+        let two = self.days.feed(Span { start, past, mark }, found);
+        let three = self.sums.feed(Span { start, past, mark }, found);
+        let four = self.rests.feed(Span { start, past, mark }, found);
+        match one {
+            Ok(()) => match two {
+                Ok(()) => match three {
+                    Ok(()) => match four {
+                        Ok(()) => Ok(()),
+                        Err(error) => Err(error),
+                    },
+                    Err(error) => Err(error),
+                },
+                Err(error) => Err(error),
+            },
+            Err(error) => Err(error),
+        }
+    }
+
+    /// Takes spans in order, the first of which starts where the last one ended, as each next one does.
+    pub fn feed_all(&mut self, spans: &[Span], found: &mut Found) -> Result<(), AllocError>
+        requires { CanTake self.old spans.now }
+        ensures at { OnOk result ((place past : ℕ) → IsAt self.old place → Joined spans.now place past
+            → IsAt self.new past) }
+        ensures fed { OnOk result ((base : ℕ) (before : List SpanValue) → IsScanOf self.old found.old base before
+            → IsScanOf self.new found.new base (before ++ spans.now)) }
+        ensures appends { Appends is_any true found.old found.new }
+        ensures err { OnErr result (HasFailed self.new) }
+        ensures stays { HasFailed self.old → (spans.now ≡ []) ⊎ IsErr result }
+    {
+        for span in spans {
+            self.feed(*span, found)?;
+        }
+        Ok(())
+    }
+
+    /// Ends the line at its horizon.
+    fn end(self, horizon: Minute, found: &mut Found) -> Result<(), AllocError>
+        requires { IsAt self horizon }
+        ensures gathered { OnOk result ((base : ℕ) (spans : List SpanValue) → IsScanOf self found.old base spans
+            → IsExamined spans base horizon
+            → AreGathered (line_of spans) base horizon found.new.breaches.items found.new.debts.items) }
+        ensures stays { HasFailed self → IsErr result }
+    {
+        let mut breaks = self.breaks;
+        let mut days = self.days;
+        let mut sums = self.sums;
+        let mut rests = self.rests;
+        breaks.finish(horizon, found)?;
+        days.finish(horizon, found)?;
+        sums.finish(horizon, found)?;
+        rests.finish(horizon, found)?;
+        Ok(())
+    }
+
+    /// The report at the horizon, where the last span ended (the base if there was none): every breach once and in
+    /// order, and every debt.
+    pub fn finish(self, horizon: Horizon, found: Found) -> Result<Report, AllocError>
+        requires { IsAt self horizon.minute }
+        ensures horizon { IfOk result (λ report. report.horizon ≡ horizon) }
+        ensures report { IfOk result (λ report. (base : ℕ) (spans : List SpanValue) → IsScanOf self found base spans
+            → IsExamined spans base horizon.minute
+            → AreFindings (line_of spans) base horizon.minute report.breaches.items report.debts.items) }
+        ensures stays { HasFailed self → IsErr result }
+    {
+        let mut found = found;
+        self.end(horizon.minute, &mut found)?;
+        let mut breaches = found.breaches;
+        put_in_order(&mut breaches);
+        Ok(Report {
+            horizon,
+            breaches,
+            debts: found.debts,
+        })
+    }
+}
