@@ -82,7 +82,7 @@ early from start past x before ends = go (nat_le from x.start) (nat_lt x.start p
 -- ---- where the first near row begins
 
 -- by the latest row that begins before a range, each row that begins from there on and before the range's end is near it
-abbrev IsFrom : ℕ → ℕ → ℕ → SpanRow → Type 0
+abbrev pub IsFrom : ℕ → ℕ → ℕ → SpanRow → Type 0
 IsFrom start past from x = (nat_le from x.start && nat_lt x.start past) ≡ (nat_lt x.start past && nat_lt start x.past)
 
 -- where no row begins before the range
@@ -178,7 +178,7 @@ module _ (n start past : ℕ) (rows : List SpanRow) (apart : AreApart (rows_of n
   before_own = own_filter n (λ r. nat_lt r.start start) rows
 
   -- by the latest of them
-  from_found : (b : Option StoredSpan) → MatchOption b (filter (is_before n start) rows ≡ [])
+  pub from_found : (b : Option StoredSpan) → MatchOption b (filter (is_before n start) rows ≡ [])
       (λ s. (r : SpanRow) × IsLatest r (filter (is_before n start) rows) × (s ≡ span_of r))
       → (x : SpanRow) → Has (rows_of n rows) x → IsFrom start past (near_from start past b) x
   from_found None none x c = from_none start past (rows_of n rows) apart (sym before_own ∙ none) x c

@@ -29,3 +29,5 @@ mod EnteringLemmas
 mod ListedLemmas
 mod ReportLemmas
 mod RangedLemmas
+mod TakenLemmas
+mod BegunLemmas

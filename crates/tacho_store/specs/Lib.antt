@@ -7,3 +7,5 @@ pub mod Finding
 pub mod Withdrawing
 pub mod Entering
 pub mod Apart
+pub mod Taken
+pub mod Begun

@@ -6,6 +6,7 @@ mod base;
 mod content;
 mod entering;
 mod fault;
+mod feeding;
 mod finding;
 mod import;
 pub mod laws;
@@ -17,6 +18,7 @@ mod spans;
 mod withdrawal;
 
 pub use archive::{Archive, open_memory};
+pub use feeding::feed_rows;
 pub use tacho_state::{
     Caller, Column, Driver, Entered, Entry, EntryLine, Imported, Keeper, StoreFault, first_number,
     is_key, is_name,

@@ -14,7 +14,7 @@ use std::alloc::Global;
 use tacho_tables::{StoredSpan, TableFault, card_spans, held};
 
 /// Where the first row near a range begins, by the latest row that begins before the range.
-fn first_start(before: Option<StoredSpan>, start: u32, past: u32) -> u32
+pub fn first_start(before: Option<StoredSpan>, start: u32, past: u32) -> u32
     ensures { result ≡ near_from start past before }
 {
     match before {

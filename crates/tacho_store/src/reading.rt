@@ -1,7 +1,9 @@
-ghost use Rattle.std.specs.Prelude.{◌≡◌, ◌∷◌, false, IsTrue, IfOk, OnOk, OnErr, Err, string_bytes};
+ghost use Rattle.std.specs.Prelude.{◌≡◌, ◌≤◌, ◌∷◌, false, IsTrue, IfOk, OnOk, OnErr, Err, string_bytes};
 ghost use Rattle.sqlite.specs.State.{HasCleanDisk, Survives, KeepsCommit, IsUnchanged};
 ghost use Rattle.sqlite.specs.Held.{state};
 ghost use Rattle.tacho_line.specs.Line.{mark_at};
+ghost use Rattle.tacho_hours.specs.Limits.{latest};
+ghost use Rattle.tacho_hours.specs.Line.{IsBase};
 ghost use Rattle.tacho_state.specs.State.{State};
 ghost use Rattle.tacho_state.specs.Steps.{owner, named, lined, listed, downloaded, reported};
 ghost use Rattle.tacho_state.specs.Reported.{IsHeldWithin, IsReportOf};
@@ -9,16 +11,19 @@ ghost use Rattle.tacho_state.specs.Acts.{Reads, Answers};
 ghost use Rattle.tacho_tables.specs.Schema.{archive_schema};
 ghost use Rattle.tacho_store.specs.Standing.{StandsFor};
 ghost use Rattle.tacho_store.specs.Kept.{Shows, LeavesOneOf, IsAnswered};
+ghost use Rattle.tacho_store.specs.Begun.{IsBegun};
 
 use crate::fault::store_fault;
+use crate::feeding::feed_held;
 use crate::finding::driver_with;
-use crate::near::helds_near;
+use crate::near::{first_start, helds_near};
 use crate::spans::{line_of_stored, listed_entries};
 use sqlite::{Alter, Connection, Transaction};
 use std::alloc::Global;
 use tacho_line::Line;
-use tacho_rules::Report;
-use tacho_state::{Entry, StoreFault, report_of};
+use tacho_pass::Found;
+use tacho_rules::{Report, Scan};
+use tacho_state::{Entry, StoreFault, base_of};
 use tacho_tables::{downloads, drivers, entries, held, opening};
 use tacho_time::Minute;
 
@@ -244,17 +249,24 @@ pub fn entries<S: Alter>(
     Ok(found)
 }
 
-/// The report of a driver, within a transaction: S4.
-fn report_in<S: Alter>(
-    alloc: Global,
-    tx: &mut Transaction<'_, S>,
-    driver: u32,
-) -> Result<Report, StoreFault>
+/// Where a reading of a driver's rows begins for his report.
+#[derive(Clone, Copy)]
+pub struct Beginning {
+    /// The first minute that is examined.
+    pub base: Minute,
+    /// Where the first of his rows begins that ends behind the base, or a minute up to there.
+    pub start: u32,
+}
+
+/// Where a reading for a driver's report begins, within a transaction: S4. S12 where his base is no Monday from 2000-01-03 to
+/// the end of 2099: no archive has such a base.
+fn begin_in<S: Alter>(tx: &mut Transaction<'_, S>, driver: u32) -> Result<Beginning, StoreFault>
     ensures same_reference { tx.new.conn.ghost_name ≡ tx.old.conn.ghost_name }
+    ensures base { IfOk result (λ begin. IsBase begin.base × (begin.base ≤ latest)) }
     ensures answer { HasCleanDisk (state S.Store tx.new.conn.now) → (state S.Store tx.old.conn.now).now.schema ≡ archive_schema → (s : State) → StandsFor (state S.Store tx.old.conn.now).now.trees s
         → Answers (λ _. tt) result (reported driver s) }
-    ensures report { HasCleanDisk (state S.Store tx.new.conn.now) → (state S.Store tx.old.conn.now).now.schema ≡ archive_schema → (s : State) → StandsFor (state S.Store tx.old.conn.now).now.trees s
-        → IfOk result (IsReportOf driver s) }
+    ensures begun { HasCleanDisk (state S.Store tx.new.conn.now) → (state S.Store tx.old.conn.now).now.schema ≡ archive_schema → (s : State) → StandsFor (state S.Store tx.old.conn.now).now.trees s
+        → IfOk result (IsBegun (state S.Store tx.old.conn.now).now.trees driver s) }
     ensures live { HasCleanDisk (state S.Store tx.new.conn.now) → IsAnswered result → IsTrue (state S.Store tx.old.conn.now).is_open }
     ensures clean { HasCleanDisk (state S.Store tx.new.conn.now) → HasCleanDisk (state S.Store tx.old.conn.now) }
     ensures was_open { HasCleanDisk (state S.Store tx.new.conn.now) → IsTrue (state S.Store tx.new.conn.now).is_open → IsTrue (state S.Store tx.old.conn.now).is_open }
@@ -262,12 +274,35 @@ fn report_in<S: Alter>(
     ensures survives { Survives (state S.Store tx.old.conn.now) (state S.Store tx.new.conn.now) (λ _. ⊥) }
 {
     let stored = driver_with(tx, driver)?;
-    let helds = held::of_driver(alloc, tx, driver).map_err(store_fault)?;
-    let line = line_of_stored(alloc, &helds)?;
-    report_of(alloc, &line, stored.base)
+    let Some(base) = base_of(stored.base) else {
+        return Err(StoreFault::Store);
+    };
+    let first = base.number();
+    let before = held::last_before(tx, driver, first).map_err(store_fault)?;
+    Ok(Beginning {
+        base,
+        start: first_start(before, first, first + 1),
+    })
 }
 
-/// The report of a driver from his base on: S4.
+/// Where a reading for a driver's report begins: S4.
+fn begin<S: Alter>(conn: &mut Connection<S>, driver: u32) -> Result<Beginning, StoreFault>
+    requires { conn.old.in_transaction ≡ false }
+    ensures autocommit { conn.new.in_transaction ≡ false }
+    ensures base { IfOk result (λ begin. IsBase begin.base × (begin.base ≤ latest)) }
+    ensures reads { Reads (λ c. Shows (state S.Store c)) (λ c. HasCleanDisk (state S.Store c)) (λ c. IsTrue (state S.Store c).is_open) (λ c. LeavesOneOf (state S.Store c)) (λ _. tt) conn.old conn.new result
+        (reported driver) }
+    ensures begun { HasCleanDisk (state S.Store conn.new) → (s : State) → Shows (state S.Store conn.old) s → IfOk result (IsBegun (state S.Store conn.new).now.trees driver s) }
+{
+    let _settled = conn.is_autocommit();
+    let mut tx = conn.transaction();
+    let found = begin_in(&mut tx, driver)?;
+    tx.rollback();
+    opening::ask(conn).map_err(store_fault)?;
+    Ok(found)
+}
+
+/// The report of a driver from his base on: S4. His rows are read one at a time, from the base on and up to the horizon.
 pub fn report<S: Alter>(
     alloc: Global,
     conn: &mut Connection<S>,
@@ -279,10 +314,9 @@ pub fn report<S: Alter>(
         (reported driver) }
     ensures report { HasCleanDisk (state S.Store conn.new) → (s : State) → Shows (state S.Store conn.old) s → IfOk result (IsReportOf driver s) }
 {
-    let _settled = conn.is_autocommit();
-    let mut tx = conn.transaction();
-    let found = report_in(alloc, &mut tx, driver)?;
-    tx.rollback();
-    opening::ask(conn).map_err(store_fault)?;
-    Ok(found)
+    let Beginning { base, start } = begin(conn, driver)?;
+    let mut scan = Scan::new(base);
+    let mut found = Found::empty(alloc);
+    let horizon = feed_held(conn, driver, start, base, &mut scan, &mut found)?;
+    Ok(scan.finish(horizon, found)?)
 }

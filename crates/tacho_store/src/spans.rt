@@ -72,7 +72,7 @@ pub fn minute_of(number: u32) -> Option<Minute>
 }
 
 /// The span of a stored row, where an archive writes such a row.
-fn span_of(row: &StoredSpan) -> Option<Span>
+pub fn span_of(row: &StoredSpan) -> Option<Span>
     ensures { IfSome result (λ span. span ≡ stored_span row.now) }
 {
     Some(Span {

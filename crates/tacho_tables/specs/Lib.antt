@@ -2,3 +2,4 @@ pub mod Schema
 pub mod Making
 pub mod Rows
 pub mod Tables
+pub mod Next

@@ -41,6 +41,10 @@ is_before driver minute r = (r.driver == driver) && nat_lt r.start minute
 abbrev pub is_begun : ℕ → ℕ → ℕ → SpanRow → Bool
 is_begun driver start past r = (r.driver == driver) && (nat_le start r.start && nat_lt r.start past)
 
+-- and one that begins from a minute on
+abbrev pub is_onward : ℕ → ℕ → SpanRow → Bool
+is_onward driver start r = (r.driver == driver) && nat_le start r.start
+
 -- it is among the rows, and none of them begins later
 pub record IsLatest (r : SpanRow) (rows : List SpanRow) : Type 0 where
   pub one : Contains rows r

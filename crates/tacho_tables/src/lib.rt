@@ -14,4 +14,4 @@ mod rows;
 mod statement;
 
 pub use fault::TableFault;
-pub use rows::{StoredDriver, StoredEntry, StoredSpan};
+pub use rows::{StoredDriver, StoredEntry, StoredSpan, next_span};

@@ -1,11 +1,14 @@
-ghost use Rattle.std.specs.Prelude.{◌≡◌, ◌∷◌, [], ℕ, pos, List, map, IfOk, IfSome, IsNone, ◌↔◌, string_bytes};
+ghost use Rattle.std.specs.Prelude.{◌≡◌, ◌∷◌, [], ℕ, pos, List, map, false, IfOk, OnOk, IfSome, IsNone, ◌↔◌, string_bytes};
+ghost use Rattle.sqlite.specs.Held.{state};
+ghost use Rattle.sqlite.specs.State.{HasCleanDisk, IsUnchanged, Survives};
 ghost use Rattle.sqlite.specs.declared.types.Value.TheVariants.{Int};
 ghost use Rattle.sqlite.specs.Order.{Row as Values};
 ghost use Rattle.tacho_tables.specs.Rows.{SpanRow, DownloadRow, EntryRow, DriverRow};
 ghost use Rattle.tacho_tables.specs.Tables.{span_of, span_shown, entry_of, entry_shown, file_shown, driver_shown};
+ghost use Rattle.tacho_tables.specs.Next.{Tells, GivesNext, IsKept};
 
 use crate::fault::TableFault;
-use sqlite::Row;
+use sqlite::{Alter, Row, Rows};
 use std::alloc::Global;
 
 /// Minutes from `start` to before `past`, and the number of the mark that a driver has in them.
@@ -41,15 +44,39 @@ pub struct StoredDriver {
     pub entries: u32,
 }
 
-/// The span that a row of start, past and mark shows.
-fn stored_span(row: &Row) -> Result<StoredSpan, TableFault>
-    ensures { IfOk result (λ s. (r : SpanRow) → row.now ≡ span_shown r → s ≡ span_of r) }
+/// The span that a row of start, past and mark tells.
+fn told_span(row: &Row) -> Result<StoredSpan, TableFault>
+    ensures { IfOk result (λ s. Tells row.now s) }
 {
     Ok(StoredSpan {
         start: row.get(0)?,
         past: row.get(1)?,
         mark: row.get(2)?,
     })
+}
+
+/// The span that a row of start, past and mark shows.
+fn stored_span(row: &Row) -> Result<StoredSpan, TableFault>
+    ensures { IfOk result (λ s. (r : SpanRow) → row.now ≡ span_shown r → s ≡ span_of r) }
+{
+    told_span(row)
+}
+
+/// Moves to the next row of a query on start, past and mark, and tells its span, if there is one.
+pub fn next_span<S: Alter>(rows: &mut Rows<'_, S>) -> Result<Option<StoredSpan>, TableFault>
+    ensures same_reference { rows.new.conn.ghost_name ≡ rows.old.conn.ghost_name }
+    ensures gives { HasCleanDisk (state S.Store rows.new.conn.now) → IfOk result (GivesNext S.Store rows.old.conn.now rows.new.conn.now) }
+    ensures same { HasCleanDisk (state S.Store rows.new.conn.now) → OnOk result (IsUnchanged (state S.Store rows.old.conn.now) (state S.Store rows.new.conn.now)) }
+    ensures kept { HasCleanDisk (state S.Store rows.new.conn.now) → IsKept (state S.Store rows.old.conn.now) (state S.Store rows.new.conn.now) }
+    ensures mode { rows.old.conn.now.in_transaction ≡ false → rows.new.conn.now.in_transaction ≡ false }
+    ensures survives { Survives (state S.Store rows.old.conn.now) (state S.Store rows.new.conn.now) (λ _. ⊥) }
+{
+    rows.advance()?;
+    let Some(row) = rows.get() else {
+        return Ok(None);
+    };
+    let span = told_span(row)?;
+    Ok(Some(span))
 }
 
 /// The span that the first of such rows shows, if there is one.

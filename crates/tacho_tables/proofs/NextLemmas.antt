@@ -1,0 +1,232 @@
+-- The rows of a query on a driver's held spans that are read one at a time, from a start on.
+use Rattle.std.proofs.Common.{◌≡◌, ◌∙◌, ℕ, pos, ◌==◌, ◌&&◌, Ordering, Less, Equal, Greater, Bool, true, false, cond}
+use Rattle.std.proofs.Common.{List, [], ◌∷◌, ◌++◌}
+use Rattle.std.proofs.Common.{map, filter, codes, Option, None, Result, Ok, Err, IsTrue, inl, inr, refl, sym, ap}
+use Rattle.std.proofs.Common.{subst, arith}
+use Rattle.std.specs.Prelude.{nat_lt, nat_le}
+use Rattle.std.specs.List.Sorted.{IsSorted}
+use Rattle.std.specs.Ordering.{is_lt, int_cmp, ordering_then}
+use Rattle.std.proofs.lemmas.Int.{ints}
+use Rattle.std.proofs.lemmas.List.Sorted.{IsPermutation-trans}
+use Rattle.sqlite.specs.declared.error.Error.{Error}
+use Rattle.sqlite.specs.declared.types.Value.TheVariants.{Null, Int}
+use Rattle.sqlite.specs.declared.types.Value.{Value}
+use Rattle.sqlite.specs.Clock.{timed}
+use Rattle.sqlite.specs.Collation.TheVariants.{Binary}
+use Rattle.sqlite.specs.Command.{Command}
+use Rattle.sqlite.specs.Given.{HasGiven, HasBegun, Returns}
+use Rattle.sqlite.specs.Held.{Held, state}
+use Rattle.sqlite.specs.Listing.{understood, reads_listing, listing_schema, is_select, if_select}
+use Rattle.sqlite.specs.Order.{Row}
+use Rattle.sqlite.specs.Program.{overlay}
+use Rattle.sqlite.specs.Schema.{Schema}
+use Rattle.sqlite.specs.State.{State, Shown, IsUnchanged, IsNotRun, CommitsShowing, FailsToQuery, FailsToShow}
+use Rattle.sqlite.specs.State.{Survives}
+use Rattle.sqlite.specs.Store.{Ghosts}
+use Rattle.sqlite.specs.Term.{Term, col, op2}
+use Rattle.sqlite.proofs.Callers.{command_of, EndsIn, reads_as, given_begin, begins_shown}
+use Rattle.sqlite.proofs.StateLemmas.{survives_weaker}
+use Rattle.sqlite_resolve.specs.declared.compiled.Compiled.{Compiled}
+use Rattle.sqlite_resolve.specs.declared.error.CompileError.{CompileError}
+use Rattle.sqlite_resolve.specs.declared.error.CompileError.TheVariants.{NoSuchTable}
+use Rattle.sqlite_resolve.specs.Compile.{first, compiled, planned, meaning, returning, command}
+use Rattle.sqlite_resolve.specs.Scope.{Name}
+use Rattle.sqlite_schema.specs.declared.command.Returning.{Returning}
+use Rattle.sqlite_resolve.specs.Lowering.{Checked, and_then}
+use Rattle.sqlite_sql.specs.declared.ops.BinaryOp.TheVariants.{Compare}
+use Rattle.sqlite_sql.specs.declared.ops.CompareOp.TheVariants.{Eq, Le}
+use Rattle.sqlite_sql.specs.Query.{Query, Output, output, output_cmp}
+use Rattle.sqlite_tied.specs.Compute.{everything}
+use Rattle.sqlite_trees.proofs.ListLemmas.{pull_back, map-map}
+use Rattle.sqlite_value.specs.Order.{value_cmp}
+use Rattle.sqlite_value.proofs.OrderLemmas.{value_cmp-Int}
+use Rattle.tacho_tables.specs.Next.{AreOnward, IsKept}
+use Rattle.tacho_tables.specs.Rows.{Stands, SpanRow, span_columns}
+use Rattle.tacho_tables.specs.Schema.{archive_schema}
+use Rattle.tacho_tables.specs.Tables.{is_onward, span_shown}
+use Rattle.tacho_tables.proofs.Answers.{simple, passes, listed, eq_test, le_test}
+use Rattle.tacho_tables.proofs.SortedLemmas.{sorted_before}
+use Rattle.tacho_tables.proofs.SpanLemmas.{and-true, none_given}
+use Rattle.tacho_tables.proofs.Statements.{IsReading, three_shown, by_start, span_names}
+use Rattle.tacho_tables.proofs.Stored.{shown_of}
+
+-- ---- the text
+
+-- it reads the spans of driver ?1 that begin from ?2 on
+abbrev pub onward_text : List ℕ
+onward_text = codes "SELECT start, past, mark FROM held WHERE driver = ?1 AND ?2 <= start ORDER BY start"
+
+-- these are its tests
+abbrev onward : List Term
+onward = op2 (Compare Eq Binary) (col 1 1) (col 0 0) ∷ op2 (Compare Le Binary) (col 0 1) (col 1 2) ∷ []
+
+-- what it means
+pub onward_is : IsReading onward_text 10 onward three_shown by_start span_names
+unfolding understood everything
+onward_is = record { meant = refl; unlisted = refl; plain = (refl, refl) }
+
+-- its tests are those of a row
+onward_test : (driver start : ℕ) (v : Value) (x : SpanRow)
+    → passes onward (Int (pos driver) ∷ Int (pos start) ∷ []) (v ∷ span_columns x) ≡ is_onward driver start x
+onward_test driver start v x =
+    rw (eq_test x.driver driver, le_test start x.start) (ap (λ b. (x.driver == driver) && b)
+    (and-true (nat_le start x.start)))
+
+-- ---- it commits nothing, whatever the schema is
+
+-- a text of which nothing but rows is shown
+abbrev selects : List ℕ → Type 0
+selects text = (p : _) → first text ≡ Ok p → (schema : Schema) (base : ℕ) → returning schema base p.statement ≡ Ok None
+
+-- what a chain of steps gives, it gives through each of them
+through : {A B : Type 0} (r : Checked A) (f : A → Checked B) (b : B) → and_then r f ≡ Ok b
+    → (a : A) × (r ≡ Ok a) × (f a ≡ Ok b)
+through (Ok a) f b h = (a, refl, h)
+through (Err e) f b h = absurd (let wrong = h in cc)
+
+-- equal results are of equal values
+same_ok : {A : Type 0} (a b : A) → ◌≡◌ {A = Checked A} (Ok a) (Ok b) → a ≡ b
+same_ok a b h = cc
+
+-- such a text shows nothing of a write
+compiled_bare : (schema : Schema) (text : List ℕ) (c : Compiled) → selects text → compiled schema text ≡ Ok c
+    → c.returning ≡ None
+unfolding compiled planned meaning
+compiled_bare schema text c s h =
+    let p = through (first text) _ c h in
+    let plan = through _ _ c p.2 in
+    let found = through _ _ plan.0 plan.1 in
+    let shown = through _ _ found.0 found.1 in
+    let made = through {A = Command} (command schema p.0.formats _ p.0.statement) _ found.0 shown.2 in
+    let none = same_ok _ _ (sym shown.1 ∙ s p.0 p.1 schema _) in
+    let is = same_ok _ _ plan.2 in
+    let of = same_ok _ _ found.2 in
+    let by = same_ok (made.0, shown.0) found.0 made.2 in
+    sym (ap (λ (x : Compiled). x.returning) is) ∙ sym (ap (λ (x : List Name × (Command × Option Returning)). x.1.1) of)
+    ∙ sym (ap (λ (x : Command × Option Returning). x.1) by) ∙ none
+
+understood_bare : (schema : Schema) (text : List ℕ) (c : Compiled) → selects text → understood schema text ≡ Ok c
+    → c.returning ≡ None
+unfolding understood
+understood_bare schema text c s = go (reads_listing schema text) where
+  listed_bare : (r : Result Compiled CompileError) → ((k : Compiled) → r ≡ Ok k → k.returning ≡ None)
+      → if_select r ≡ Ok c → c.returning ≡ None
+  listed_bare (Ok k) bare h = kept (is_select k.command) h where
+    kept : (b : Bool) → cond b (Ok k) (Err NoSuchTable) ≡ Ok c → c.returning ≡ None
+    kept true e = let is : k ≡ c = (let f = e in cc) in subst (λ (x : Compiled). x.returning ≡ None) is (bare k refl)
+    kept false e = absurd (let wrong = e in cc)
+  listed_bare (Err e) bare h = absurd (let wrong = h in cc)
+
+  go : (b : Bool) → cond b (if_select (compiled listing_schema text)) (compiled schema text) ≡ Ok c → c.returning ≡ None
+  go true h = listed_bare (compiled listing_schema text) (λ k. compiled_bare listing_schema text k s) h
+  go false h = compiled_bare schema text c s h
+
+-- this text is one
+onward_selects : selects onward_text
+unfolding everything
+onward_selects p is schema base = subst (λ q. returning schema base q.statement ≡ Ok None) (same_ok _ p is) refl
+
+-- so it commits nothing
+pub onward_commits_nothing : (params : Row) (old new : State) → Survives old new (CommitsShowing onward_text params old)
+    → Survives old new (λ _. ⊥)
+unfolding CommitsShowing
+onward_commits_nothing params old new = survives_weaker old new _ _ (λ _ db h.
+    let none = understood_bare old.now.schema onward_text h.0 onward_selects h.1.is in
+    absurd (let some = rw none at h.2 in cc))
+
+-- it begins to read, and writes nothing
+pub onward_begun : {S : Type 0} (g : Ghosts S) (params : Row) (old new : Held S) → HasBegun g onward_text params old new
+    → HasGiven g onward_text params new [] × IsUnchanged (state g old) (state g new)
+onward_begun g params old new (inl h) = h
+onward_begun g params old new (inr h) = absurd (never (understood old.schema onward_text)
+    (λ c is. understood_bare old.schema onward_text c onward_selects is) h.0) where
+      never : (r : Result Compiled CompileError) → ((c : Compiled) → r ≡ Ok c → c.returning ≡ None) → ¬ Returns r
+      never (Ok c) bare some = let e = rw (bare c refl) at some in cc
+      never (Err e) bare some = some
+
+-- where it can't, the connection is kept
+kept_same : (old new : State) → IsUnchanged old new → IsKept old new
+kept_same old new h = record { was_open = λ _. h.0.was_open; same = λ _ _. h.0.now_is }
+
+pub onward_kept : (params : Row) (old new : State) (e : Error) → FailsToQuery onward_text params old new e
+    → IsKept old new
+unfolding FailsToQuery IsNotRun
+onward_kept params old new e (inl (inl h)) = kept_same old new h.1
+onward_kept params old new e (inl (inr h)) = record {
+  was_open = h.3.was_open;
+  same = λ o settled. (h.3.undone o).0
+      ∙ sym settled;
+}
+onward_kept params old new e (inr h) =
+    let bare = understood_bare old.now.schema onward_text h.0 onward_selects h.1.is in
+    kept_same old new (subst (FailsToShow old new onward_text h.0 (timed params h.0.formats h.1.now) e) bare h.2).3
+
+-- ---- what the rows are
+
+-- a query sorted by start
+abbrev asked : Query
+asked = simple 10 onward three_shown by_start
+
+-- what a span is sorted by, and what it shows
+abbrev shown_as : SpanRow → Output
+shown_as x = (Int (pos x.start) ∷ [], span_shown x)
+
+-- the earlier start is the first
+by_starts : (x y : SpanRow) → is_lt (output_cmp asked (shown_as x) (shown_as y)) ≡ nat_lt x.start y.start
+by_starts x y =
+    ap is_lt (then_equal (value_cmp (Int (pos x.start)) (Int (pos y.start))) ∙ value_cmp-Int (pos x.start)
+    (pos y.start)) ∙ same x.start y.start where
+      then_equal : (o : Ordering) → ordering_then o Equal ≡ o
+      then_equal Less = refl
+      then_equal Equal = refl
+      then_equal Greater = refl
+
+      same : (a b : ℕ) → is_lt (int_cmp (pos a) (pos b)) ≡ nat_lt a b
+      same a b = grind (arith, ints)
+
+module _ (driver start : ℕ) (all : List SpanRow) where
+  -- a whole answer shows all of them
+  pub shown_onward : (old new : State) (rows : List Row) → old.now.schema ≡ archive_schema
+      → Shown onward_text (Int (pos driver) ∷ Int (pos start) ∷ []) old new rows
+      → Stands span_columns (old.now.trees 10) all
+      → (shown : List SpanRow) × (rows ≡ map span_shown shown) × AreOnward driver start all shown
+  shown_onward old new rows has h s =
+      let db = old.now.trees in
+      let params = Int (pos driver) ∷ Int (pos start) ∷ [] in
+      let got = reads_as onward_text params old new archive_schema has _ onward_is.meant onward_is.plain
+      onward_is.unlisted rows h in
+      let l = listed 10 onward three_shown by_start (overlay db []) params rows (got.answer Null) in
+      let passed = shown_of span_columns (db 10) all s (passes onward params) (is_onward driver start)
+      (onward_test driver start)
+      (λ (r : Row). output asked (params ∷ r ∷ [])) shown_as (λ v x. refl) in
+      let same = IsPermutation-trans _ _ _ passed (rw (none_given db 10) at l.same) in
+      let back = pull_back shown_as _ l.all same (filter (is_onward driver start) all) refl in (
+        back.0,
+        l.shown_is ∙ ap (map (λ (o : Output). o.1)) back.2 ∙ map-map (λ (o : Output). o.1) shown_as back.0,
+        record {
+          same = back.1;
+          sorted = sorted_before shown_as (λ a b. is_lt (output_cmp asked a b))
+              (λ x y. nat_lt x.start y.start) back.0 by_starts
+              (subst (IsSorted (output_cmp asked)) back.2 l.sorted);
+        },
+      )
+
+  -- and those that were given so far are the first of them
+  pub given_onward : {S : Type 0} (g : Ghosts S) (h : Held S) (given : List Row) → h.schema ≡ archive_schema
+      → IsTrue (state g h).is_open
+      → HasGiven g onward_text (Int (pos driver) ∷ Int (pos start) ∷ []) h given
+      → Stands span_columns ((state g h).now.trees 10) all
+      → (tail : List Row) × (shown : List SpanRow) × (given ++ tail ≡ map span_shown shown) × AreOnward driver start all
+      shown
+  given_onward g h given has opened it s =
+      let now = state g h in
+      let params = Int (pos driver) ∷ Int (pos start) ∷ [] in
+      let whole = begins_shown onward_text params now now given (given_begin g onward_text params h given it) (
+        record { was_open = opened; is_open = opened; now_is = refl; committed_is = refl; mode = refl },
+        record { changes = refl; last_rowid = refl },
+        refl,
+      )
+      (λ c db is source. subst (λ (k : Command). EndsIn k db (timed params c.formats is.now))
+      (sym onward_is.meant ∙ ap (λ x. command_of (understood x onward_text)) (sym has) ∙ ap command_of is.is) tt) in
+      let all = shown_onward now now (given ++ whole.0) has whole.1 s in
+      (whole.0, all.0, all.1, all.2)

@@ -1,0 +1,33 @@
+-- Spans that are read one at a time, of the rows of a query.
+use Rattle.std.specs.Prelude.{◌≡◌, ℕ, pos, nat_lt, List, filter, Option, None, Some, IsTrue, IsPermutation}
+use Rattle.std.specs.List.Sorted.{IsSortedBy}
+use Rattle.sqlite.specs.declared.types.Value.TheVariants.{Int}
+use Rattle.sqlite.specs.Given.{Advances}
+use Rattle.sqlite.specs.Held.{Held}
+use Rattle.sqlite.specs.Order.{Row, column}
+use Rattle.sqlite.specs.State.{State}
+use Rattle.sqlite.specs.Store.{Ghosts}
+use Rattle.tacho_tables.specs.declared.rows.StoredSpan.{StoredSpan}
+use Rattle.tacho_tables.specs.Rows.{SpanRow}
+use Rattle.tacho_tables.specs.Tables.{is_onward}
+
+-- the first columns of a row are a span's start, past and mark
+pub record Tells (row : Row) (s : StoredSpan) : Type 0 where
+  pub start : column row 0 ≡ Int (pos s.start)
+  pub past : column row 1 ≡ Int (pos s.past)
+  pub mark : column row 2 ≡ Int (pos s.mark)
+
+-- one more row is given, which tells this span; or those so far are the answer
+abbrev pub GivesNext : {S : Type 0} → Ghosts S → Held S → Held S → Option StoredSpan → Type 0
+GivesNext g old new None = Advances g old new None
+GivesNext g old new (Some s) = (row : Row) × Tells row s × Advances g old new (Some row)
+
+-- a connection that is open was so before, and sees what it saw, if nothing was pending
+pub record IsKept (old new : State) : Type 0 where
+  pub was_open : IsTrue new.is_open → IsTrue old.is_open
+  pub same : IsTrue new.is_open → old.now ≡ old.committed → new.now ≡ old.now
+
+-- the driver's rows that begin from a minute on, in the order of their starts
+pub record AreOnward (driver start : ℕ) (rows onward : List SpanRow) : Type 0 where
+  pub same : IsPermutation (filter (is_onward driver start) rows) onward
+  pub sorted : IsSortedBy (λ (x y : SpanRow). nat_lt x.start y.start) onward
