@@ -5,6 +5,7 @@ the archive in memory; then it reads the file's tables by SQLite itself.
 The file is closed after half of the commands, and opened again for the others. The word is the program `tacho_script`.
 The last line is 'N passed, M failed'."""
 import contextlib
+import datetime
 import multiprocessing
 import os
 import re
@@ -17,7 +18,7 @@ import counting
 import random_cards
 import random_commands
 import slow_office
-from office_rows import ADDED, ANNA, BOTH, DAY, FREE_DAYS, HOLDER, HOURS_HEAD, NOON, NOTHING, OTHER_DAY, SATURDAY, SPANS, done, refused
+from office_rows import ADDED, ANNA, BOTH, BREACH, DAY, EXAMINED, FREE_DAYS, HOLDER, HOURS_HEAD, NOON, NOTHING, OTHER_DAY, SATURDAY, SPANS, done, refused
 
 SEEDS = 160
 PROCESSES = 2
@@ -28,6 +29,9 @@ REST = "2024-03-04 00:00,2024-03-04 08:00,rest"
 WORK = "2024-03-04 08:00,2024-03-04 08:30,work"
 DRIVE = "2024-03-04 08:30,2024-03-04 17:00,drive"
 NIGHT = "2024-03-05 00:00,2024-03-05 08:00,rest"
+EVENING = "2024-03-04 17:01,2024-03-05 08:00,rest"
+NEXT_DRIVE = "2024-03-05 08:00,2024-03-05 18:00,drive"
+NEXT_BREACH = "B1 Art 7 at 2024-03-05 12:30 since 2024-03-05 08:00 amount 330\n"
 SPAN_HEAD = "start,past,activity,manning\n"
 MORNING = f"{SPAN_HEAD}{REST},single\n{WORK},single\n"
 LONG_DRIVE = "2024-03-04 08:30,2024-03-04 18:00,drive,single\n"
@@ -161,6 +165,15 @@ ROWS = {
         done("withdraw 17 2", "withdrawn 2\n"),
         FILE_SPANS,
     ],
+    "spans behind the horizon": [
+        done("enter 17", "entered 1 to 3\n", hours(REST, WORK, DRIVE)),
+        done("breaches 17", BREACH + EXAMINED),
+        done("enter 17", "entered 4 to 5\n", hours(EVENING, NEXT_DRIVE)),
+        done("breaches 17", BREACH + EXAMINED),
+        done("owed 17", EXAMINED),
+        done("enter 17", "entered 6 to 6\n", hours("2024-03-04 17:00,2024-03-04 17:01,rest")),
+        done("breaches 17", f"{BREACH}{NEXT_BREACH}EXAMINED TO 2024-03-05 18:00 unknown\n"),
+    ],
     "unknown entries": [
         refused("withdraw 17 1", "S7 unknown entry"),
         refused("withdraw 17 1000000", "S7 unknown entry"),
@@ -169,6 +182,27 @@ ROWS = {
         refused("entries 18", "S4 unknown driver"),
         done("enter 17", "entered 1 to 1\n", hours(REST)),
         refused("withdraw 17 2", "S7 unknown entry"),
+    ],
+}
+
+# In an archive that has Anna and 3,000 entries of a day each, without a gap, from 3 January 2000 on: work and rest in turn.
+DAYS = [str(datetime.date(2000, 1, 3) + datetime.timedelta(days=place)) for place in range(3001)]
+FULL_DAYS = [(a, b, "rest" if place % 2 else "work") for place, (a, b) in enumerate(zip(DAYS, DAYS[1:]))]
+FULL_ROWS = [f"{a} 00:00,{b} 00:00,{activity}" for a, b, activity in FULL_DAYS]
+FULL_ENTRIES = [f"{n} {a} 00:00 {b} 00:00 {activity} kept\n" for n, (a, b, activity) in enumerate(FULL_DAYS, 1)]
+LATE_BASE = "2008-02-11"  # a Monday, 39 days before the last entry ends
+LATE_ENTRIES = 60
+LAST_ENTRY = "3001 2024-03-09 00:00 2024-03-11 00:00 rest withdrawn\n"
+ROWS_BEHIND_ENTRIES = {
+    "another day": ROWS["another day"],
+    "two generations": ROWS["two generations"],
+    "hours that give way to a file": [
+        done("enter 17", "entered 3001 to 3001\n", FREE_DAYS),
+        refused("import both", "S6 contradiction at 2024-03-09 08:00", SATURDAY),
+        done("withdraw 17 3001", "withdrawn 3001\n"),
+        done("import both", "added driver 17 number 1\n", SATURDAY),
+        refused("withdraw 17 3001", "S8 already withdrawn"),
+        done("entries 17", "".join([*FULL_ENTRIES, LAST_ENTRY])),
     ],
 }
 
@@ -287,6 +321,31 @@ def of_rows(program):
         yield from of_commands(program, name, commands)
 
 
+def told_of(program, name, rows):
+    """The comparisons of rows with what the program tells, of an archive in a file and in memory."""
+    commands = [(row.words, row.given) for row in rows]
+    wanted = [(b"", 0), *[(row.text, row.status) for row in rows], (b"", 0)]
+    with tempfile.TemporaryDirectory() as folder:
+        path = os.path.join(folder, "archive.db")
+        yield f"{name}, on a file", answers([program, "archive", path], folder, commands), wanted
+        yield f"{name}, in memory", answers([program, "shelf"], folder, commands), wanted
+
+
+def of_many_entries(program):
+    """The comparisons of an archive with 3,000 entries: it tells of the worked rows what one without them does, and of a base near
+    their end what the slow office tells of the last of them."""
+    entered = done("enter 17", "entered 1 to 3000\n", hours(*FULL_ROWS))
+    for name, rows in ROWS_BEHIND_ENTRIES.items():
+        rows = [done("register", "registered 17\n", ANNA), entered, *rows]
+        yield from told_of(program, f"{name}, behind 3,000 entries", rows)
+    anna, office = ANNA.replace(b"2024-03-04", LATE_BASE.encode()), slow_office.Office()
+    office.answer(["register"], anna)
+    office.answer(["enter", "17"], hours(*FULL_ROWS[-LATE_ENTRIES:]))
+    texts = {word: office.answer([word, "17"], b"")[0] for word in ["breaches", "owed"]}
+    rows = [done("register", "registered 17\n", anna), entered, *[done(f"{word} 17", text) for word, text in texts.items()]]
+    yield from told_of(program, "a base near the end of 3,000 entries", rows)
+
+
 def of_seed(question):
     """The comparisons of a seed's commands."""
     program, seed = question
@@ -295,6 +354,7 @@ def of_seed(question):
 
 def comparisons(program):
     yield from of_rows(program)
+    yield from of_many_entries(program)
     with multiprocessing.Pool(PROCESSES) as pool:
         for found in pool.imap(of_seed, [(program, seed) for seed in range(SEEDS)], chunksize=4):
             yield from found

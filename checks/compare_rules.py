@@ -1,11 +1,13 @@
 #!/usr/bin/env python3
-"""Compares the breaches and debts that the passes find with those of a slow reading of the rules, on lines near the
-limits, and with those that are written beside the worked examples; and the reports of timelines with those of the same
-slow reading.
+"""Compares the breaches and debts that the passes find, and those that a scan finds, with those of a slow reading of the
+rules, on lines near the limits, and with those that are written beside the worked examples; and the reports of
+timelines with those of the same slow reading. A scan is given the spans of a line as they are, cut at every midnight,
+and cut at random minutes.
 
 The words are the program `tacho_rows` and, where memory is to be refused in turn, the compiler of C. The last line is
 'N passed, M failed'."""
 import multiprocessing
+import random
 import sys
 
 import counting
@@ -19,6 +21,7 @@ PASSES = {"breaks": {1}, "days": {2, 3, 4, 5}, "weeks": {6, 7}, "rests": {8, 9, 
 PROCESSES = 2
 LINES = 4000
 WEEKLY_LINES = 4000
+SCANNED_LINES = 6000
 HELD_LINES = 2400
 REFUSED_LINES = 5
 INPUT_LIMIT = 262_144
@@ -58,6 +61,11 @@ def passes_told(breaches, debts):
     return [breaches_told(name, found) for name, found in passes] + [debts_told(debts)]
 
 
+def scan_told(breaches, debts):
+    """What a scan has to tell of a line: all breaches, and the debts."""
+    return [breaches_told("scan", breaches), debts_told(debts)]
+
+
 def report_told(horizon, cause, breaches, debts):
     """What has to be told of a timeline: the horizon, the breaches and the debts."""
     return [f"horizon {horizon} {cause}", breaches_told("breaches", breaches), debts_told(debts)]
@@ -69,6 +77,35 @@ def report_told(horizon, cause, breaches, debts):
 def line_question(line):
     """What the passes have to find in a line."""
     return "rules", given_line(line[0]), passes_told(*slow_rules.examine(*line))
+
+
+def cut(spans, minutes):
+    """The spans cut at those of the minutes, which are in order, that lie within them."""
+    pieces = []
+    for start, past, activity in spans:
+        for minute in minutes:
+            if start < minute < past:
+                pieces.append((start, minute, activity))
+                start = minute
+        pieces.append((start, past, activity))
+    return pieces
+
+
+def cuts(seed, base, horizon):
+    """The minutes at which a line is cut: none, every midnight, or random ones."""
+    chance = random.Random(f"cuts {seed}")
+    way = seed % 3
+    if way == 0:
+        return []
+    if way == 1:
+        return range(base, horizon, 1440)
+    return sorted(chance.sample(range(base, horizon), min(horizon - base, 40)))
+
+
+def scan_question(seed, line):
+    """What a scan has to find in a line, however that is cut."""
+    spans, base, horizon = line
+    return "scan", given_line(cut(spans, cuts(seed, base, horizon))), scan_told(*slow_rules.examine(*line))
 
 
 def held_question(held):
@@ -88,6 +125,12 @@ def near_weekly_limits(seed):
     return line_question(line) if line[0] else None
 
 
+def scanned_near_limits(seed):
+    """The question of a line near the limits, of all rules or of those of weekly rests, to a scan."""
+    line = hard_timelines.weekly_timeline(seed) if seed % 2 else hard_timelines.timeline(seed, 1 + seed % 6)
+    return scan_question(seed, line) if line[0] else None
+
+
 def near_horizons(seed):
     """The question of a timeline of a card."""
     return held_question(hard_timelines.held_timeline(seed))
@@ -100,10 +143,21 @@ def examples():
         spans = rule_examples.joined(row.busy, base, row.horizon)
         if spans:
             yield "rules", given_line(spans), passes_told(row.breaches, row.debts)
+            for seed in range(3):
+                pieces = cut(spans, cuts(seed, base, row.horizon))
+                yield "scan", given_line(pieces), scan_told(row.breaches, row.debts)
         held = [(*span, False) for span in spans]
         for behind, cause in [([], "Unknown"), ([(row.horizon, row.horizon + 60, "drive", True)], "Crew")]:
             told = report_told(row.horizon, cause, row.breaches, row.debts)
             yield "reports", given_held(held + behind, base), told
+
+
+def quiet_year():
+    """The spans of 52 weeks of 2024 from Monday, 1 January, with an hour of work on each Monday to Friday: of these there
+    is no breach and no debt, so that a scan of them needs no memory."""
+    base = 28_401_120
+    days = [base + 1440 * day for day in range(7 * 52) if day % 7 < 5]
+    return rule_examples.joined([(day + 360, day + 420, "work") for day in days], base, base + 7 * 52 * 1440)
 
 
 def of_seeds(pool, question, count):
@@ -156,18 +210,24 @@ def comparisons(program, compiler=None):
     with multiprocessing.Pool(PROCESSES) as pool:
         lines = of_seeds(pool, near_limits, LINES)
         weekly_lines = of_seeds(pool, near_weekly_limits, WEEKLY_LINES)
+        scanned_lines = of_seeds(pool, scanned_near_limits, SCANNED_LINES)
         held_lines = of_seeds(pool, near_horizons, HELD_LINES)
         pool.close()
         pool.join()
-    questions = lines + weekly_lines + held_lines + list(examples())
+    questions = lines + weekly_lines + scanned_lines + held_lines + list(examples())
     for (word, given, expected), answer in answers(program, questions):
         yield f"{word} of {given.strip()}", answer, expected
-    some = lines[:REFUSED_LINES] + weekly_lines[:REFUSED_LINES] + held_lines[:REFUSED_LINES]
+    some = [line for kind in (lines, weekly_lines, scanned_lines, held_lines) for line in kind[:REFUSED_LINES]]
     for word, given, expected in some if compiler else []:
         for number, (text, _) in programs.answers_without_memory(compiler, [program, word], given.encode()):
             answer = text.splitlines()
             wanted = answer if is_answer_without_memory(word, answer, expected) else expected
             yield f"{word} of {given.strip()}, allocation {number} refused", answer, wanted
+    given, expected = given_line(quiet_year()), scan_told([], [])
+    for number, (text, _) in programs.answers_without_memory(compiler, [program, "scan"], given.encode()) if compiler else []:
+        answer = text.splitlines()
+        wanted = answer if answer in ([], ["not read"]) else expected
+        yield f"scan of a quiet year, allocation {number} refused", answer, wanted
 
 
 if __name__ == "__main__":

@@ -191,7 +191,18 @@ EDGES = [
         NONE, [(WEEK_4, 700, at(32, "00:00"), at(5, "11:20"))]),
 ]
 
-ROWS = BREAKS + SHORT_NIGHTS + DAYS + WEEKS + DEBTS + HORIZONS + WEEKLY_RESTS + MONTHS + EDGES
+# One minute of work and nine hours of rest in turn, from a minute before Monday, 11 March: each rest is reduced, and the
+# next weekly one never comes but as the last run.
+MINUTE = at(10, "23:59")
+SHORT_RESTS = [
+    Row("a reduced rest every 541 minutes", at(18, "00:00"),
+        [(MINUTE + 541 * turn, MINUTE + 541 * turn + 1, "work") for turn in range(19)],
+        [(3, MINUTE + 1 + 541 * turn, MINUTE, turn - 2) for turn in range(3, 16)]
+        + [(8, at(16, "23:59"), MINUTE, 1099)]
+        + [(3, MINUTE + 1 + 541 * turn, MINUTE, turn - 2) for turn in (16, 17)], NONE),
+]
+
+ROWS = BREAKS + SHORT_NIGHTS + DAYS + WEEKS + DEBTS + HORIZONS + WEEKLY_RESTS + MONTHS + EDGES + SHORT_RESTS
 
 # What the rows say of a day's rest: the row, the portion, and whether it is regular or reduced.
 DAILY_RESTS = [

@@ -33,6 +33,8 @@ mod routes;
 #[cfg(test)]
 mod same;
 #[cfg(test)]
+mod scans;
+#[cfg(test)]
 mod sheets;
 #[cfg(test)]
 mod time;

@@ -23,8 +23,10 @@ enum Question {
     Card(Part),
     /// The answers of a timeline to commands, a line each.
     Timeline,
-    /// The breaches in examined lines, a line of words each.
+    /// The breaches in examined lines, a line of words each, by the passes of `plain`.
     Rules,
+    /// The same by a scan.
+    Scan,
     /// The reports of timelines, a line of words each.
     Reports,
     /// The hours that a text of CSV enters.
@@ -41,6 +43,7 @@ fn asked(rt: &(impl Env + Alloc)) -> io::Result<Question> {
             "first" => return Ok(Question::Card(Part::First)),
             "second" => return Ok(Question::Card(Part::Second)),
             "rules" => return Ok(Question::Rules),
+            "scan" => return Ok(Question::Scan),
             "reports" => return Ok(Question::Reports),
             "entries" => return Ok(Question::Entries),
             "driver" => return Ok(Question::Driver),
@@ -55,7 +58,8 @@ fn answer(rt: &impl Print, alloc: Global, question: Question, bytes: &[u8]) -> i
     match question {
         Question::Card(part) => card::answer(rt, alloc, bytes, part),
         Question::Timeline => timeline::answer(rt, alloc, bytes),
-        Question::Rules => rules::answer(rt, alloc, bytes),
+        Question::Rules => rules::answer(rt, alloc, bytes, false),
+        Question::Scan => rules::answer(rt, alloc, bytes, true),
         Question::Reports => reports::answer(rt, alloc, bytes),
         Question::Entries => sheet::tell_entries(rt, alloc, bytes),
         Question::Driver => sheet::tell_driver(rt, alloc, bytes),

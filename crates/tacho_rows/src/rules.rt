@@ -4,7 +4,7 @@ ghost use Rattle.tacho_hours.specs.Line.{Joined, IsBase, IsExamined};
 use crate::timeline::{numbers_of, spans_of};
 use std::alloc::{AllocError, Global};
 use std::{io, str};
-use tacho_rules::{Breach, Debt, Found, plain};
+use tacho_rules::{Breach, Cause, Debt, Found, Horizon, Report, Scan, plain};
 use tacho_time::{Minute, Span, first_minute, week_of};
 
 /// 2000-01-03 00:00, the first Monday that is a base.
@@ -115,8 +115,47 @@ fn tell_breaches(
     print_rests(rt, plain::rests(alloc, spans, base, past))
 }
 
-/// Answers lines, each the spans of an examined line: three numbers a span.
-pub(crate) fn answer(rt: &impl Print, alloc: Global, bytes: &[u8]) -> io::Result<()> {
+/// What a scan finds in spans from a base to before a minute.
+fn scanned(alloc: Global, spans: &[Span], base: Minute, past: Minute) -> Result<Report, AllocError>
+    requires { IsExamined spans.now base past }
+{
+    let mut scan = Scan::new(base);
+    let mut found = Found::empty(alloc);
+    scan.feed_all(spans, &mut found)?;
+    let horizon = Horizon {
+        minute: past,
+        cause: Cause::Unknown,
+    };
+    scan.finish(horizon, found)
+}
+
+/// Prints the breaches that a scan finds in spans from a base to before a minute, and the debts.
+fn tell_scan(
+    rt: &impl Print,
+    alloc: Global,
+    spans: &[Span],
+    base: Minute,
+    past: Minute,
+) -> io::Result<()> {
+    if !are_examined(spans, base, past) {
+        return println!(rt; "no examined line");
+    }
+    match scanned(alloc, spans, base, past) {
+        Ok(report) => {
+            print_breaches(rt, "scan", &report.breaches)?;
+            print_debts(rt, &report.debts)
+        }
+        Err(_) => println!(rt; "Memory\nMemory"),
+    }
+}
+
+/// Answers lines, each the spans of an examined line, three numbers a span: by a scan, or by the passes.
+pub(crate) fn answer(
+    rt: &impl Print,
+    alloc: Global,
+    bytes: &[u8],
+    by_scan: bool,
+) -> io::Result<()> {
     let Ok(text) = str::from_utf8(bytes) else {
         return println!(rt; "no text");
     };
@@ -128,7 +167,11 @@ pub(crate) fn answer(rt: &impl Print, alloc: Global, bytes: &[u8]) -> io::Result
         };
         let base = spans.first().map_or(Minute::new(FIRST), |span| span.start);
         let past = spans.last().map_or(base, |span| span.past);
-        tell_breaches(rt, alloc, &spans, base, past)?;
+        if by_scan {
+            tell_scan(rt, alloc, &spans, base, past)?;
+        } else {
+            tell_breaches(rt, alloc, &spans, base, past)?;
+        }
     }
     Ok(())
 }
