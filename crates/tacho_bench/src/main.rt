@@ -1,9 +1,10 @@
-//! Work on timelines and on texts, to be measured. Two numbers make a line of so many spans, and then add so many days to
-//! it, one at a time. The word `examine` and three numbers make a line of so many working days with shifts of so many
-//! pieces, and examine it so many times. The word `entries` and a number read the hours that standard input enters, as CSV,
-//! so many times.
+//! Work on timelines and on texts, to be measured. Two numbers make a line of so many spans, and then add so many days
+//! to it, one at a time. The word `examine` and three numbers make a line of so many working days with shifts of so
+//! many pieces, and examine it so many times; the word `plain` and three numbers do the same by the plain passes. The
+//! word `entries` and a number read the hours that standard input enters, as CSV, so many times.
 #![tactic(auto)]
 
+mod passes;
 mod sheet;
 mod years;
 
@@ -12,6 +13,7 @@ use std::rt::Env;
 use std::{env, io};
 use tacho_line::{Line, LineFault};
 use tacho_time::{Activity, Device, Mark, Minute, Span, read_all};
+use years::Way;
 
 /// The first minute of 3 January 2000.
 pub(crate) const START: u32 = 15_780_960;
@@ -24,8 +26,8 @@ const LIMIT: usize = 1_048_576;
 enum Work {
     /// The adding of days to a timeline.
     Adding,
-    /// The examination of a timeline.
-    Examining,
+    /// The examination of a timeline, in a way.
+    Examining(Way),
     /// The reading of entered hours.
     Reading,
 }
@@ -117,7 +119,8 @@ fn asked(rt: &(impl Env + Alloc)) -> Work {
     for (i, word) in words.enumerate() {
         if i == 1 {
             return match word.as_str() {
-                "examine" => Work::Examining,
+                "examine" => Work::Examining(Way::Scan),
+                "plain" => Work::Examining(Way::Passes),
                 "entries" => Work::Reading,
                 _ => Work::Adding,
             };
@@ -135,8 +138,8 @@ fn tell_added(rt: &(impl Env + Alloc + Print), alloc: Global) -> io::Result<()> 
 }
 
 /// Examines a line, and prints what it has and what was found.
-fn tell_examined(rt: &(impl Env + Alloc + Print), alloc: Global) -> io::Result<()> {
-    match years::examined(alloc, number(rt, 2), number(rt, 3), number(rt, 4)) {
+fn tell_examined(rt: &(impl Env + Alloc + Print), alloc: Global, way: Way) -> io::Result<()> {
+    match years::examined(alloc, way, number(rt, 2), number(rt, 3), number(rt, 4)) {
         Ok(count) => {
             println!(rt;
                 "{} spans, {} breaches, {} debts",
@@ -163,7 +166,7 @@ fn tell_entered(rt: &(impl Env + Alloc + Print), alloc: Global, bytes: &[u8]) ->
 fn main(rt: HostRuntime) -> io::Result<()> {
     match asked(&rt) {
         Work::Adding => tell_added(&rt, rt.alloc()),
-        Work::Examining => tell_examined(&rt, rt.alloc()),
+        Work::Examining(way) => tell_examined(&rt, rt.alloc(), way),
         Work::Reading => match read_all(rt.alloc(), &mut Device::new(rt.stdin()), LIMIT) {
             Ok(bytes) => tell_entered(&rt, rt.alloc(), &bytes),
             Err(_) => println!(rt; "not read"),

@@ -1,6 +1,7 @@
 ghost use Rattle.std.specs.Prelude.{◌≤◌, All, IsTrue};
 ghost use Rattle.tacho_hours.specs.Line.{IsBase};
 
+use crate::passes::examine_plainly;
 use crate::{START, add};
 use std::alloc::{AllocError, Global};
 use tacho_line::{Line, LineFault};
@@ -12,6 +13,15 @@ const LAST: u32 = 68_374_080;
 
 /// The minutes of a shift.
 const SHIFT: u32 = 360;
+
+/// How a line is examined.
+#[derive(Clone, Copy)]
+pub(crate) enum Way {
+    /// By the scan.
+    Scan,
+    /// By the plain passes.
+    Passes,
+}
 
 /// What was found in a line, in all the times that it was examined.
 #[derive(Drop)]
@@ -121,6 +131,7 @@ fn can_be_examined(line: &Line, base: Minute) -> bool
 /// What is found in the line of so many days when it is examined so many times.
 pub(crate) fn examined(
     alloc: Global,
+    way: Way,
     days: u32,
     pieces: u32,
     times: u32,
@@ -134,7 +145,10 @@ pub(crate) fn examined(
     };
     if can_be_examined(&line, base) {
         for _ in 0..times {
-            let report = examine(alloc, &line, base)?;
+            let report = match way {
+                Way::Scan => examine(alloc, &line, base)?,
+                Way::Passes => examine_plainly(alloc, &line, base)?,
+            };
             count.breaches = count.breaches.wrapping_add(report.breaches.len());
             count.debts = count.debts.wrapping_add(report.debts.len());
         }
