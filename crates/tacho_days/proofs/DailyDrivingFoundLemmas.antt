@@ -23,8 +23,9 @@ use Rattle.tacho_pass.specs.declared.count.Count.{Count}
 use Rattle.tacho_pass.specs.Found.{listed}
 use Rattle.tacho_pass.specs.Counts.{over_of, IsCounted}
 use Rattle.tacho_pass.proofs.CountLemmas.{collected_over}
-use Rattle.tacho_days.specs.DailyDriving.{IsLastLong, IsB4Seen, IsB5Seen, IsDrivingSeen}
-use Rattle.tacho_days.proofs.DailyDrivingDayLemmas.{day_to, duty_lasts, never_both, duty_new, duty_only, ended_by}
+use Rattle.tacho_days.specs.DutyDays.{day_to, IsLastOf}
+use Rattle.tacho_days.specs.DailyDriving.{IsB4Seen, IsB5Seen, IsDrivingSeen}
+use Rattle.tacho_days.proofs.DutyDaysLemmas.{day_lasts, never_both, duty_new, duty_only, day_before}
 
 -- before the first run
 pub none_seen : (line : Line) (b : Breach) → IsDrivingSeen line [] b → ⊥
@@ -69,7 +70,7 @@ module _ (line : Line) (runs : List Run) (r : Run) where
 -- a long rest behind another, which ends a day of a week, the n-th of the extended days if it is one
 module _ (line : Line) (runs : List Run) (start place : ℕ) (reached : Reached line runs start place)
     (r : Run) (is : IsRestRun line r) (at : r.start ≡ start)
-    (enough : 540 ≤ minutes_of r) (from : ℕ) (l : IsLastLong runs from) (u n : ℕ) (week : IsInWeek u from)
+    (enough : 540 ≤ minutes_of r) (from : ℕ) (l : IsLastOf 540 runs from) (u n : ℕ) (week : IsInWeek u from)
     (so : 540 < driving line from r.start
     → AreSoMany (λ day. IsExtended line u day × (day.start ≤ from)) EarlierDay n) where
   -- more than ten hours in it
@@ -180,8 +181,8 @@ module _ (line : Line) (runs : List Run) (start place : ℕ) (reached : Reached 
   -- no day before starts there
   not_before : (day : DutyDay) → IsDuty line day → Contains runs day.rest → day.start ≡ from → ⊥
   not_before day d in' e =
-      let (s, t) = duty_lasts line day d in
-      let f : day.rest.past ≤ from = ended_by line runs start place reached r is at enough from l day d in' in
+      let (s, t) = day_lasts line day d in
+      let f : day.rest.past ≤ from = day_before line runs start place reached r is at enough from l day d in' in
       omega arith
 
   seen_apart : (b : Breach) → IsDrivingSeen line runs b → b.since ≡ from → ⊥

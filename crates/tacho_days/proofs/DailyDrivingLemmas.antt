@@ -31,11 +31,12 @@ use Rattle.tacho_pass.specs.Kinds.{is_b4_or_b5}
 use Rattle.tacho_pass.proofs.HearingLemmas.{line_append, line_at_end, joined_append, line_after, rests_yes, rests_no}
 use Rattle.tacho_pass.proofs.CountLemmas.{counted_start, counted_with, over_kinds}
 use Rattle.tacho_days.specs.declared.duty_driving.DutyDriving.{DutyDriving}
+use Rattle.tacho_days.specs.DutyDays.{day_to, IsLastOf}
 use Rattle.tacho_days.specs.DailyDriving.{week_at, duty_none, duty_with, ordinal_of, often_of, found_of, next_day}
-use Rattle.tacho_days.specs.DailyDriving.{duty_after, duty_found, duty_any, found_any, IsLastLong, IsTally}
+use Rattle.tacho_days.specs.DailyDriving.{duty_after, duty_found, duty_any, found_any, IsTally}
 use Rattle.tacho_days.specs.DailyDriving.{IsDrivingSeen, IsDriven, DrivingStands, IsDailyDriving, DrivingDefined}
-use Rattle.tacho_days.proofs.DailyDrivingDayLemmas.{day_to, none_short, none_first, long_next, long_keep, duty_new}
-use Rattle.tacho_days.proofs.DailyDrivingDayLemmas.{duty_only}
+use Rattle.tacho_days.proofs.DutyDaysLemmas.{last_next, last_keep, duty_new, duty_only, none_short, none_first}
+use Rattle.tacho_days.proofs.DutyDaysLemmas.{first_on, first_long}
 use Rattle.tacho_days.proofs.DailyDrivingWeekLemmas.{week_in, tally_none, tally_keep, tally_next, so_many_upto}
 use Rattle.tacho_days.proofs.DailyDrivingFoundLemmas.{none_seen, seen_keep, day_collected}
 
@@ -101,7 +102,7 @@ module _ (line : Line) (start place : ℕ) (d : DutyDriving) (own : List Breach)
   module _ (enough : 540 ≤ minutes_of r) (late : 5760 ≤ d.from)
       (all : (run : Run) → IsRestRun line run → run.start ≤ r.start → Contains (h.runs ++ r ∷ []) run) where
     -- behind another
-    module _ (l : IsLastLong h.runs d.from) where
+    module _ (l : IsLastOf 540 h.runs d.from) where
       nine_here : IsCounted line 540 d.from r.start d.nine
       nine_here = subst (λ (n : ℕ). IsCounted line 540 d.from n d.nine) (sym at) h.nine
 
@@ -193,11 +194,7 @@ module _ (line : Line) (start place q : ℕ) (d : DutyDriving) (own : List Breac
     runs = h.runs;
     reached = reached_rest line h.runs start place q h.reached more at;
     last = elim h.last [
-      | inl first ↦ inl (record {
-        none = first.none;
-        first = first.first;
-        long = (let l : 540 ≤ place = first.long in omega arith);
-      })
+      | inl first ↦ inl (first_on 540 h.runs start place q more first)
       | inr l ↦ inr l
     ];
     nine = h.nine;
@@ -207,7 +204,7 @@ module _ (line : Line) (start place q : ℕ) (d : DutyDriving) (own : List Breac
   }
 
   -- the day that is open starts by the runs that have ended
-  from_by : IsLastLong h.runs d.from → d.from ≤ start
+  from_by : IsLastOf 540 h.runs d.from → d.from ≤ start
   from_by l =
       let e : l.run.past < start = All-contains (λ (y : Run). y.past < start) h.runs l.run h.reached.ended l.among in
       let f : l.run.past ≡ d.from = l.ends in
@@ -221,7 +218,7 @@ module _ (line : Line) (start place q : ℕ) (d : DutyDriving) (own : List Breac
         let below : start ≤ place = h.reached.below in
         let same : start ≡ place = omega arith in
         elim h.last [
-          | inl first ↦ absurd (let l : 540 ≤ place = first.long in let z : start ≡ 0 = first.first in omega arith)
+          | inl first ↦ absurd (first_long 540 h.runs start place (omega arith) first)
           | inr l ↦
               let within : d.from ≤ start = from_by l in
               record {
@@ -261,7 +258,7 @@ module _ (line : Line) (start place q : ℕ) (d : DutyDriving) (own : List Breac
       long_gap long = record {
         runs = h.runs ++ run_of start place ∷ [];
         reached = reached_on;
-        last = inr (long_next line h.runs start place h.reached (run_of start place) run_is refl long);
+        last = inr (last_next line h.runs start place h.reached (run_of start place) run_is refl 540 long);
         nine =
             counted_with line 540 place place q count_none (omega arith) (omega arith)
             (counted_start line 540 place) drives does;
@@ -274,16 +271,16 @@ module _ (line : Line) (start place q : ℕ) (d : DutyDriving) (own : List Breac
 
       short_gap : place - start < 540 → IsDriven line q q (duty_with drives place q d) (own ++ [])
       short_gap short = elim h.last [
-        | inl first ↦ absurd (let l : 540 ≤ place = first.long in let z : start ≡ 0 = first.first in omega arith)
+        | inl first ↦ absurd (first_long 540 h.runs start place short first)
         | inr l ↦
             let within : d.from ≤ start = from_by l in
             let none : (day : DutyDay) → IsDuty line day → run_of start place ≡ day.rest → ⊥ =
-            none_short line h.runs start place h.reached (run_of start place) run_is refl short in
+            none_short line (run_of start place) short in
             record {
               runs = h.runs ++ run_of start place ∷ [];
               reached = reached_on;
               last =
-                  inr (long_keep line h.runs start place h.reached (run_of start place) run_is refl d.from short l);
+                  inr (last_keep line h.runs start place h.reached (run_of start place) run_is refl 540 d.from short l);
               nine =
                   counted_with line 540 d.from place q d.nine (omega arith) (omega arith)
                   (counted_with line 540 d.from start place d.nine within (omega arith) h.nine false resting)

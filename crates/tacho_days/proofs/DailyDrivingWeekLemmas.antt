@@ -1,20 +1,23 @@
 -- How many extended days a week has so far (specs/DailyDriving), where a rest run ends.
-use Rattle.std.proofs.Common.{◌≡◌, ◌≢◌, ℕ, ◌+◌, ◌≤◌, ◌⊎◌, ◌↔◌, inl, inr, Bool, true, false, List, [], ◌∷◌, ◌++◌}
+use Rattle.std.proofs.Common.{◌≡◌, ◌≢◌, ℕ, ◌+◌, ◌<◌, ◌≤◌, ◌⊎◌, ◌↔◌, inl, inr, Bool, true, false, List, [], ◌∷◌, ◌++◌}
 use Rattle.std.proofs.Common.{length, length-append, refl, subst, arith, nat_eq, if◌then◌else◌}
 use Rattle.std.specs.List.{Contains}
+use Rattle.std.proofs.lemmas.Bool.{cases_lt}
 use Rattle.std.proofs.lemmas.Bool.Decides.{nat_tests}
 use Rattle.std.proofs.lemmas.List.Elements.{Contains-push, Contains-append_left, Contains-push_cases}
 use Rattle.tacho_hours.specs.declared.run.Run.{Run}
 use Rattle.tacho_hours.specs.declared.days.DutyDay.{DutyDay}
 use Rattle.tacho_hours.specs.Line.{Line}
 use Rattle.tacho_hours.specs.Runs.{minutes_of, IsRestRun, Reached}
-use Rattle.tacho_hours.specs.Days.{EarlierDay}
+use Rattle.tacho_hours.specs.Days.{IsDuty, EarlierDay}
 use Rattle.tacho_hours.specs.Exactly.{AreSoMany}
 use Rattle.tacho_hours.specs.Weeks.{IsInWeek}
 use Rattle.tacho_hours.specs.Breaches.{IsExtended}
+use Rattle.tacho_hours.proofs.DebtsLemmas.{separate}
 use Rattle.tacho_hours.proofs.ExactlyLemmas.{exactly_none, exactly_as, exactly_add, so_many_as}
-use Rattle.tacho_days.specs.DailyDriving.{week_at, IsLastLong, IsExtendedSeen, IsTally}
-use Rattle.tacho_days.proofs.DailyDrivingDayLemmas.{day_to, day_only, ended_by, starts_by, rest_by}
+use Rattle.tacho_days.specs.DutyDays.{day_to, IsLastOf}
+use Rattle.tacho_days.specs.DailyDriving.{week_at, IsExtendedSeen, IsTally}
+use Rattle.tacho_days.proofs.DutyDaysLemmas.{day_lasts, later, duty_only, day_only, day_before}
 
 -- a minute lies in its week
 pub week_in : (m : ℕ) → 5760 ≤ m → IsInWeek (week_at m) m
@@ -58,7 +61,32 @@ module _ (line : Line) (runs : List Run) (r : Run) where
 -- a long rest behind another
 module _ (line : Line) (runs : List Run) (start place : ℕ) (reached : Reached line runs start place)
     (r : Run) (is : IsRestRun line r) (at : r.start ≡ start)
-    (enough : 540 ≤ minutes_of r) (from : ℕ) (l : IsLastLong runs from) where
+    (enough : 540 ≤ minutes_of r) (from : ℕ) (l : IsLastOf 540 runs from) where
+  -- no duty day up to this one starts later
+  starts_by : (day : DutyDay) → IsDuty line day → Contains (runs ++ r ∷ []) day.rest → day.start ≤ from
+  starts_by day d in' = elim (Contains-push_cases runs r day.rest in') [
+    | inl was ↦
+        let (s, t) = day_lasts line day d in
+        let e : day.rest.past ≤ from =
+        day_before line runs start place reached r is at enough from l day d was in
+        omega arith
+    | inr same ↦ (
+        let only = duty_only line runs start place reached r is at enough from l day d same in
+        let e : day.start ≡ from = only.0 in omega arith)
+  ]
+
+  -- a day that starts by then has its rest among the runs
+  rest_by : (day : DutyDay) → IsDuty line day → day.start ≤ from → day.rest.start ≤ r.start
+  rest_by day d le = elim (cases_lt r.start day.rest.start) [
+    | inl after ↦
+        let e : day.start ≡ d.last.past = d.start in
+        let ends : l.run.past ≡ from = l.ends in
+        let f : l.run.past < r.start = later line runs start place reached r is at l.run l.among in
+        absurd (d.neighbours.between r (record { rests = is; enough = enough }) (omega arith)
+        (separate line r day.rest is d.neighbours.second.rests after))
+    | inr by ↦ by
+  ]
+
   -- that ends an extended day of a week
   module _ (u : ℕ) (x : IsExtended line u (day_to from r)) where
     one_more : (day : DutyDay)
@@ -79,8 +107,7 @@ module _ (line : Line) (runs : List Run) (start place : ℕ) (reached : Reached 
 
     no_later : (day : DutyDay) (other : ℕ) → IsExtendedSeen line (runs ++ r ∷ []) other day → other ≤ u
     no_later day other h =
-        let by : day.start ≤ from =
-        starts_by line runs start place reached r is at enough from l day h.extended.duty h.seen in
+        let by : day.start ≤ from = starts_by day h.extended.duty h.seen in
         let (low, high) = h.extended.week in
         let (low', high') = x.week in
         omega arith
@@ -90,7 +117,7 @@ module _ (line : Line) (runs : List Run) (start place : ℕ) (reached : Reached 
 
     earlier : (day : DutyDay) → IsExtendedSeen line runs u day
         → EarlierDay day (day_to from r)
-    earlier day h = ended_by line runs start place reached r is at enough from l day h.extended.duty h.seen
+    earlier day h = day_before line runs start place reached r is at enough from l day h.extended.duty h.seen
 
     -- one more of the week
     tally_same : (count : ℕ) → IsTally line runs u count → IsTally line (runs ++ r ∷ []) u (count + 1)
@@ -161,14 +188,10 @@ module _ (line : Line) (runs : List Run) (start place : ℕ) (reached : Reached 
         so_many_as (λ day. IsExtendedSeen line (runs ++ r ∷ []) u day)
         (λ day. IsExtended line u day × (day.start ≤ from)) EarlierDay n
         (λ day. (
-          λ h. (
-            h.extended,
-            starts_by line runs start place reached r is at enough from l day h.extended.duty h.seen,
-          ),
+          λ h. (h.extended, starts_by day h.extended.duty h.seen),
           λ (h, by). record {
             extended = h;
-            seen = all day.rest h.duty.neighbours.second.rests
-                (rest_by line runs start place reached r is at enough from l day h.duty by);
+            seen = all day.rest h.duty.neighbours.second.rests (rest_by day h.duty by);
           },
         ))
         t.so_many

@@ -20,9 +20,10 @@ use Rattle.tacho_hours.proofs.ExactlyLemmas.{exactly_skip, exactly_add, so_many_
 use Rattle.tacho_hours.proofs.OrderLemmas.{same_breach}
 use Rattle.tacho_pass.specs.Found.{listed}
 use Rattle.tacho_days.specs.declared.resting_day.RestingDay.{RestingDay}
-use Rattle.tacho_days.specs.RestingDays.{day_to, reduced_of, often_breach, often_of}
-use Rattle.tacho_days.specs.DailyRests.{IsLastOf, IsReducedSince, IsB3Seen}
-use Rattle.tacho_days.proofs.DailyRestsDayLemmas.{later, rests, seen, day_only, day_lasts}
+use Rattle.tacho_days.specs.DutyDays.{day_to, IsLastOf}
+use Rattle.tacho_days.specs.RestingDays.{reduced_of, often_breach, often_of}
+use Rattle.tacho_days.specs.DailyRests.{IsReducedSince, IsB3Seen}
+use Rattle.tacho_days.proofs.DutyDaysLemmas.{later, rests, seen, day_only, day_lasts, never_both}
 use Rattle.tacho_days.proofs.DailyRestsReducedLemmas.{reduced_more}
 
 -- the breach of the day from a minute to a rest
@@ -43,13 +44,7 @@ up_to_only : (line : Line) (weekly : Run) (to n m : ℕ) → AreSoMany (ReducedU
     → AreSoMany (ReducedUpTo line weekly to) EarlierDay m → n ≡ m
 up_to_only line weekly to n m a b =
     so_many_only (ReducedUpTo line weekly to) EarlierDay
-    (λ x y p q before after.
-    (let (s, t) = day_lasts line x p.0.duty in
-    let (u, v) = day_lasts line y q.0.duty in
-    let before' : x.rest.past ≤ y.start = before in
-    let after' : y.rest.past ≤ x.start = after in
-    omega arith))
-    n m a b
+    (λ x y p q. never_both line x y p.0.duty q.0.duty) n m a b
 
 module _ (line : Line) (runs : List Run) (start place : ℕ) (reached : Reached line runs start place)
     (r : Run) (is : IsRestRun line r) (at : r.start ≡ start)

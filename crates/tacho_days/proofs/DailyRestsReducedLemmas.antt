@@ -1,6 +1,6 @@
 -- Regular and reduced daily rests, told by a first part within the day (specs/RestingDays, specs/DailyRests).
 use Rattle.std.proofs.Common.{◌≡◌, ℕ, ◌+◌, ◌<◌, ◌≤◌, ◌⊎◌, ◌&&◌, ◌||◌, inl, inr, Bool, true, false, not}
-use Rattle.std.proofs.Common.{List, [], ◌∷◌, ◌++◌, min, length, length-append, refl, ap, subst, arith, nat_lt}
+use Rattle.std.proofs.Common.{List, [], ◌∷◌, ◌++◌, min, length, length-append, refl, ap, subst, arith, nat_le, nat_lt}
 use Rattle.std.specs.Prelude.{◌↔◌, IsTrue}
 use Rattle.std.proofs.lemmas.Bool.Decides.{nat_tests}
 use Rattle.std.proofs.lemmas.List.Elements.{Contains-push, Contains-append_left, Contains-push_cases}
@@ -11,9 +11,10 @@ use Rattle.tacho_hours.specs.Line.{Line}
 use Rattle.tacho_hours.specs.Runs.{IsRestRun, Reached, minutes_of}
 use Rattle.tacho_hours.specs.Days.{IsRegular, IsReduced, HasPortion, EarlierDay}
 use Rattle.tacho_hours.proofs.ExactlyLemmas.{exactly_none, exactly_add, so_many_as}
-use Rattle.tacho_days.specs.RestingDays.{day_to, portion_of, regular_of, reduced_of}
-use Rattle.tacho_days.specs.DailyRests.{IsLastOf, HasPart, IsReducedSince}
-use Rattle.tacho_days.proofs.DailyRestsDayLemmas.{later, rests, seen, duty_new, day_only, day_before}
+use Rattle.tacho_days.specs.DutyDays.{day_to, IsLastOf}
+use Rattle.tacho_days.specs.RestingDays.{portion_of, regular_of, reduced_of}
+use Rattle.tacho_days.specs.DailyRests.{HasPart, IsReducedSince}
+use Rattle.tacho_days.proofs.DutyDaysLemmas.{later, rests, seen, duty_new, day_only, day_before}
 
 -- the test of a portion holds
 pub portion_yes : (day : DutyDay) (n : ℕ) → portion_of day n ≡ true → HasPortion day n
@@ -44,6 +45,58 @@ reduced_none line since =
 
 module _ (line : Line) (runs : List Run) (start place : ℕ) (reached : Reached line runs start place)
     (r : Run) (is : IsRestRun line r) (at : r.start ≡ start) where
+  -- no rest of three hours lies behind this run yet
+  pub part_none : HasPart (runs ++ r ∷ []) r.past → ⊥
+  part_none h =
+      let some : r.start < r.past = is.some in
+      let behind : r.past ≤ h.part.start = h.behind in
+      elim (Contains-push_cases runs r h.part h.among) [
+        | inl was ↦
+            let before : h.part.past < r.start = later line runs start place reached r is at h.part was in
+            let some' : h.part.start < h.part.past = (rests line runs start place reached r is at h.part was).some in
+            omega arith
+        | inr same ↦ let e : r.start ≡ h.part.start = ap (λ (x : Run). x.start) same in omega arith
+      ]
+
+  -- it is such a rest, or not
+  part_by : (from : ℕ) → from ≤ start → (p b : Bool) → nat_le 180 (minutes_of r) ≡ b
+      → (IsTrue p ↔ HasPart runs from) → IsTrue (p || b) ↔ HasPart (runs ++ r ∷ []) from
+  part_by from le true b e same = (
+    λ h. let old : HasPart runs from = same.0 refl in
+        record {
+          part = old.part;
+          among = Contains-append_left runs (r ∷ []) old.part old.among;
+          enough = old.enough;
+          behind = old.behind;
+        },
+    λ h. refl,
+  )
+  part_by from le false true e same = (
+    λ h. record {
+      part = r;
+      among = Contains-push runs r;
+      enough = (let k : 180 ≤ minutes_of r = grind (arith, nat_tests) in k);
+      behind = omega arith;
+    },
+    λ h. refl,
+  )
+  part_by from le false false e same = (
+    λ h. absurd (let f : false ≡ true = h in cc),
+    λ h. elim (Contains-push_cases runs r h.part h.among) [
+      | inl was ↦ same.1 (record { part = h.part; among = was; enough = h.enough; behind = h.behind })
+      | inr one ↦ absurd (
+          let short : minutes_of r < 180 = grind (arith, nat_tests) in
+          let f : minutes_of r ≡ minutes_of h.part = ap minutes_of one in
+          let g : 180 ≤ minutes_of h.part = h.enough in
+          omega (arith, short, f, g))
+    ],
+  )
+
+  -- and so the code tells
+  pub part_more : (from : ℕ) (p : Bool) → from ≤ start → (IsTrue p ↔ HasPart runs from)
+      → IsTrue (p || nat_le 180 (minutes_of r)) ↔ HasPart (runs ++ r ∷ []) from
+  part_more from p le same = part_by from le p (nat_le 180 (minutes_of r)) refl same
+
   -- none behind the last run
   pub reduced_behind : AreSoMany (IsReducedSince line (runs ++ r ∷ []) r.past) EarlierDay 0
   reduced_behind =

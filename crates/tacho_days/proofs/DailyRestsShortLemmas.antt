@@ -15,9 +15,10 @@ use Rattle.tacho_hours.specs.Order.{Apart, AreCollected}
 use Rattle.tacho_hours.proofs.ExactlyLemmas.{exactly_skip, exactly_add}
 use Rattle.tacho_hours.proofs.OrderLemmas.{same_breach}
 use Rattle.tacho_pass.specs.Found.{listed}
-use Rattle.tacho_days.specs.RestingDays.{day_to, portion_of, short_breach, short_of}
-use Rattle.tacho_days.specs.DailyRests.{IsLastOf, IsB2Seen}
-use Rattle.tacho_days.proofs.DailyRestsDayLemmas.{duty_new, duty_only, day_before, day_lasts}
+use Rattle.tacho_days.specs.DutyDays.{day_to, IsLastOf}
+use Rattle.tacho_days.specs.RestingDays.{portion_of, short_breach, short_of}
+use Rattle.tacho_days.specs.DailyRests.{IsB2Seen}
+use Rattle.tacho_days.proofs.DutyDaysLemmas.{duty_new, duty_only, day_before, day_lasts}
 use Rattle.tacho_days.proofs.DailyRestsReducedLemmas.{portion_yes, portion_no}
 
 -- the breach of the day from a minute to a rest

@@ -1,6 +1,6 @@
 -- The pass over daily rests stands for the spans that it was fed (specs/DailyRests).
 use Rattle.std.proofs.Common.{◌≡◌, ◌≢◌, ℕ, ◌+◌, ◌-◌, ◌<◌, ◌≤◌, ◌⊎◌, ◌&&◌, inl, inr, Bool, true, false, not}
-use Rattle.std.proofs.Common.{Option, None, Some, List, [], ◌∷◌, ◌++◌, min, refl, sym, ap, subst, ◌∙◌, arith, nat_le}
+use Rattle.std.proofs.Common.{Option, None, Some, List, [], ◌∷◌, ◌++◌, min, refl, sym, subst, ◌∙◌, arith, nat_le}
 use Rattle.std.proofs.Common.{nat_lt, if◌then◌else◌}
 use Rattle.std.specs.Prelude.{◌↔◌, IsTrue}
 use Rattle.std.specs.List.{All, Contains}
@@ -19,7 +19,7 @@ use Rattle.tacho_hours.specs.declared.debt.Debt.{Debt}
 use Rattle.tacho_hours.specs.Exactly.{AreSoMany}
 use Rattle.tacho_hours.specs.Line.{Line, line_of, IsExamined}
 use Rattle.tacho_hours.specs.Runs.{IsRestRun, AreRestRuns, Reached, minutes_of}
-use Rattle.tacho_hours.specs.Days.{IsReduced, EarlierDay}
+use Rattle.tacho_hours.specs.Days.{IsDuty, IsReduced, EarlierDay}
 use Rattle.tacho_hours.specs.Order.{Apart, AreCollected}
 use Rattle.tacho_hours.proofs.ExactlyLemmas.{exactly_none, exactly_as}
 use Rattle.tacho_hours.proofs.RunsLemmas.{run_of, reached_none, reached_rest, reached_busy, reached_gap, reached_end}
@@ -28,14 +28,16 @@ use Rattle.tacho_pass.specs.Heard.{is_rest, start_after, run_before, Continues}
 use Rattle.tacho_pass.specs.Kinds.{is_b2_or_b3}
 use Rattle.tacho_pass.proofs.HearingLemmas.{line_append, line_at_end, joined_append, line_after, rests_yes, rests_no}
 use Rattle.tacho_days.specs.declared.resting_day.RestingDay.{RestingDay}
-use Rattle.tacho_days.specs.RestingDays.{resting_none, day_to, portion_of, regular_of, reduced_of}
+use Rattle.tacho_days.specs.DutyDays.{day_to, IsBeforeFirst}
+use Rattle.tacho_days.specs.RestingDays.{resting_none, portion_of, regular_of, reduced_of}
 use Rattle.tacho_days.specs.RestingDays.{short_breach, short_of, often_breach, often_of, rest_found}
 use Rattle.tacho_days.specs.RestingDays.{after_daily, after_weekly, after_part, after_rest, after_any, found_any}
 use Rattle.tacho_days.specs.DailyRests.{IsBehindRests, HasPart, IsReducedSince, IsB2Seen, IsB3Seen}
 use Rattle.tacho_days.specs.DailyRests.{IsRestSeen, IsResting, RestsStand, IsDailyRestBreach, RestsDefined}
-use Rattle.tacho_days.proofs.DailyRestsDayLemmas.{last_next, last_keep, part_none, part_more, day_only, no_first_day}
-use Rattle.tacho_days.proofs.DailyRestsReducedLemmas.{reduced_none, reduced_behind, reduced_keep, reduced_more}
-use Rattle.tacho_days.proofs.DailyRestsReducedLemmas.{reduced_is}
+use Rattle.tacho_days.proofs.DutyDaysLemmas.{last_next, last_keep, day_only, none_short, none_first}
+use Rattle.tacho_days.proofs.DutyDaysLemmas.{first_on, first_long}
+use Rattle.tacho_days.proofs.DailyRestsReducedLemmas.{part_none, part_more, reduced_none, reduced_behind}
+use Rattle.tacho_days.proofs.DailyRestsReducedLemmas.{reduced_keep, reduced_more, reduced_is}
 use Rattle.tacho_days.proofs.DailyRestsShortLemmas.{IsShortTo, b2_both, b2_apart, collected_short}
 use Rattle.tacho_days.proofs.DailyRestsOftenLemmas.{IsOftenTo, b3_both, b3_apart, collected_often}
 
@@ -116,78 +118,63 @@ nothing_found r d first from long =
 -- a run that ends at a minute
 module _ (line : Line) (start place : ℕ) (d : RestingDay) (own : List Breach) (h : IsResting line start place d own)
     (past : ℕ) (is : IsRestRun line (run_of start past)) where
-  -- ends no day where it is short
-  kept_short : past - start < 540 → (b : Breach)
-      → IsRestSeen line h.runs b ↔ IsRestSeen line (h.runs ++ run_of start past ∷ []) b
-  kept_short short b = (
-    λ k. elim k [
-      | inl two ↦ inl (record {
-        kind = two.kind;
-        is = two.is;
-        seen = Contains-append_left h.runs (run_of start past ∷ []) two.is.day.rest two.seen;
-      })
-      | inr three ↦ inr (record {
-        kind = three.kind;
-        is = three.is;
-        seen = Contains-append_left h.runs (run_of start past ∷ []) three.is.day.rest three.seen;
-      })
-    ],
-    λ k. elim k [
-      | inl two ↦ elim (Contains-push_cases h.runs (run_of start past) two.is.day.rest two.seen) [
-        | inl was ↦ inl (record { kind = two.kind; is = two.is; seen = was })
-        | inr same ↦ absurd (
-            let e : past - start ≡ minutes_of two.is.day.rest = ap minutes_of same in
-            let f : 540 ≤ minutes_of two.is.day.rest = two.is.duty.neighbours.second.enough in
-            omega (arith, e, f))
-      ]
-      | inr three ↦ elim (Contains-push_cases h.runs (run_of start past) three.is.day.rest three.seen) [
-        | inl was ↦ inr (record { kind = three.kind; is = three.is; seen = was })
-        | inr same ↦ absurd (
-            let e : past - start ≡ minutes_of three.is.day.rest = ap minutes_of same in
-            let f : 540 ≤ minutes_of three.is.day.rest = three.is.reduced.duty.neighbours.second.enough in
-            omega (arith, e, f))
-      ]
-    ],
-  )
+  -- and is no day's rest
+  module _ (none : (day : DutyDay) → IsDuty line day → run_of start past ≡ day.rest → ⊥) where
+    -- a breach up to it is one before it
+    kept : (b : Breach) → IsRestSeen line h.runs b ↔ IsRestSeen line (h.runs ++ run_of start past ∷ []) b
+    kept b = (
+      λ k. elim k [
+        | inl two ↦ inl (record {
+          kind = two.kind;
+          is = two.is;
+          seen = Contains-append_left h.runs (run_of start past ∷ []) two.is.day.rest two.seen;
+        })
+        | inr three ↦ inr (record {
+          kind = three.kind;
+          is = three.is;
+          seen = Contains-append_left h.runs (run_of start past ∷ []) three.is.day.rest three.seen;
+        })
+      ],
+      λ k. elim k [
+        | inl two ↦ elim (Contains-push_cases h.runs (run_of start past) two.is.day.rest two.seen) [
+          | inl was ↦ inl (record { kind = two.kind; is = two.is; seen = was })
+          | inr same ↦ absurd (none two.is.day two.is.duty same)
+        ]
+        | inr three ↦ elim (Contains-push_cases h.runs (run_of start past) three.is.day.rest three.seen) [
+          | inl was ↦ inr (record { kind = three.kind; is = three.is; seen = was })
+          | inr same ↦ absurd (none three.is.day three.is.reduced.duty same)
+        ]
+      ],
+    )
 
-  -- nor a reduced rest
-  number_short : past - start < 540
-      → AreSoMany (IsReducedSince line (h.runs ++ run_of start past ∷ []) d.weekly) EarlierDay d.number
-  number_short short =
-      reduced_keep line h.runs start place h.reached (run_of start past) is refl d.weekly d.number
-      (λ day same reduced.
-      (let e : past - start ≡ minutes_of day.rest = ap minutes_of same in
-      let f : 540 ≤ minutes_of day.rest = reduced.duty.neighbours.second.enough in
-      omega (arith, e, f)))
-      h.so_many
+    -- and so they are all found
+    found_kept : AreCollected (IsRestSeen line (h.runs ++ run_of start past ∷ [])) own
+    found_kept =
+        exactly_as (IsRestSeen line h.runs) (IsRestSeen line (h.runs ++ run_of start past ∷ [])) Apart own kept h.found
+
+    -- there is no reduced rest more
+    number_kept : AreSoMany (IsReducedSince line (h.runs ++ run_of start past ∷ []) d.weekly) EarlierDay d.number
+    number_kept =
+        reduced_keep line h.runs start place h.reached (run_of start past) is refl d.weekly d.number
+        (λ day same reduced. none day reduced.duty same) h.so_many
 
   module _ (upto : place ≤ past) (long : 540 ≤ past - start)
       (all : (x : Run) → IsRestRun line x → x.start ≤ start → Contains (h.runs ++ run_of start past ∷ []) x) where
     -- the first one ends none
-    first_by : (runs : List Run) → runs ≡ [] → Reached line runs start place → start ≡ 0 → 1440 ≤ place
-        → AreCollected (IsRestSeen line runs) own
-        → AreCollected (IsRestSeen line (runs ++ run_of start past ∷ []))
+    first_found : IsBeforeFirst 1440 h.runs start place
+        → AreCollected (IsRestSeen line (h.runs ++ run_of start past ∷ []))
         (own ++ (listed (short_of (day_to d.from (run_of start past))) ++ listed (often_of (run_of start past) d)))
-    first_by [] none reached first late t =
+    first_found first =
         let within : d.from ≤ start = h.within in
+        let zero' : start ≡ 0 = first.first in
+        let late : 1440 ≤ place = first.long in
         let e : listed (short_of (day_to d.from (run_of start past))) ++ listed (often_of (run_of start past) d) ≡ [] =
-        nothing_found (run_of start past) d first (omega arith) (omega arith) in
-        subst (λ (xs : List Breach). AreCollected (IsRestSeen line ([] ++ run_of start past ∷ [])) (own ++ xs)) (sym e)
-        (subst (λ (xs : List Breach). AreCollected (IsRestSeen line ([] ++ run_of start past ∷ [])) xs)
+        nothing_found (run_of start past) d zero' (omega arith) (omega arith) in
+        subst (λ (xs : List Breach). AreCollected (IsRestSeen line (h.runs ++ run_of start past ∷ [])) (own ++ xs))
+        (sym e)
+        (subst (λ (xs : List Breach). AreCollected (IsRestSeen line (h.runs ++ run_of start past ∷ [])) xs)
         (sym (append-nil own))
-        (exactly_as (IsRestSeen line []) (IsRestSeen line ([] ++ run_of start past ∷ [])) Apart own
-        (λ b. (
-          λ g. absurd (none_seen line b g),
-          λ g. absurd (elim g [
-            | inl two ↦
-                no_first_day line start place reached (run_of start past) refl two.is.day two.is.duty two.seen
-            | inr three ↦
-                no_first_day line start place reached (run_of start past) refl
-                three.is.day three.is.reduced.duty three.seen
-          ]),
-        ))
-        t))
-    first_by (x ∷ runs) none reached first late t = absurd (let f : x ∷ runs ≡ [] = none in cc)
+        (found_kept (none_first line h.runs start place h.reached (run_of start past) is refl first.none)))
 
     module _ (behind : IsBehindRests h.runs d) where
       -- the test of a reduced rest
@@ -288,7 +275,7 @@ module _ (line : Line) (start place : ℕ) (d : RestingDay) (own : List Breach) 
     pub found_next : AreCollected (IsRestSeen line (h.runs ++ run_of start past ∷ []))
         (own ++ (listed (short_of (day_to d.from (run_of start past))) ++ listed (often_of (run_of start past) d)))
     found_next = elim h.last [
-      | inl first ↦ first_by h.runs first.none h.reached first.first first.long h.found
+      | inl first ↦ first_found first
       | inr behind ↦ behind_found behind
     ]
 
@@ -301,11 +288,7 @@ module _ (line : Line) (start place q : ℕ) (d : RestingDay) (own : List Breach
     runs = h.runs;
     reached = reached_rest line h.runs start place q h.reached more at;
     last = elim h.last [
-      | inl first ↦ inl (record {
-        none = first.none;
-        first = first.first;
-        long = (let l : 1440 ≤ place = first.long in omega arith);
-      })
+      | inl first ↦ inl (first_on 1440 h.runs start place q more first)
       | inr behind ↦ inr behind
     ];
     within = h.within;
@@ -325,8 +308,7 @@ module _ (line : Line) (start place q : ℕ) (d : RestingDay) (own : List Breach
           runs = h.runs;
           reached = reached_busy line h.runs start place q h.reached (omega arith) more busy;
           last = elim h.last [
-            | inl first ↦ absurd (
-                let l : 1440 ≤ place = first.long in let z : start ≡ 0 = first.first in omega arith)
+            | inl first ↦ absurd (first_long 1440 h.runs start place (omega arith) first)
             | inr behind ↦ inr behind
           ];
           within = omega arith;
@@ -394,10 +376,7 @@ module _ (line : Line) (start place q : ℕ) (d : RestingDay) (own : List Breach
           let short : place - start < 1440 = grind (arith, nat_tests) in
           let long : 540 ≤ place - start = grind (arith, nat_tests) in
           elim h.last [
-            | inl first ↦ absurd (
-                let l : 1440 ≤ place = first.long in
-                let z : start ≡ 0 = first.first in
-                omega (arith, l, z, short))
+            | inl first ↦ absurd (first_long 1440 h.runs start place short first)
             | inr behind ↦ record {
               runs = h.runs ++ run_of start place ∷ [];
               reached = reached_on;
@@ -418,11 +397,10 @@ module _ (line : Line) (start place q : ℕ) (d : RestingDay) (own : List Breach
       gap_if false false e f =
           let short : place - start < 540 = grind (arith, nat_tests) in
           let within : d.from ≤ start = h.within in
+          let none : (day : DutyDay) → IsDuty line day → run_of start place ≡ day.rest → ⊥ =
+          none_short line (run_of start place) short in
           elim h.last [
-            | inl first ↦ absurd (
-                let l : 1440 ≤ place = first.long in
-                let z : start ≡ 0 = first.first in
-                omega (arith, l, z, short))
+            | inl first ↦ absurd (first_long 1440 h.runs start place (omega (arith, short)) first)
             | inr behind ↦ record {
               runs = h.runs ++ run_of start place ∷ [];
               reached = reached_on;
@@ -438,12 +416,10 @@ module _ (line : Line) (start place q : ℕ) (d : RestingDay) (own : List Breach
               part =
                   part_more line h.runs start place h.reached (run_of start place) run_is refl
                   d.from d.part within h.part;
-              so_many = number_short line start place d own h place run_is short;
+              so_many = number_kept line start place d own h place run_is none;
               found = subst
                   (λ (xs : List Breach). AreCollected (IsRestSeen line (h.runs ++ run_of start place ∷ [])) xs)
-                  (sym (append-nil own))
-                  (exactly_as (IsRestSeen line h.runs) (IsRestSeen line (h.runs ++ run_of start place ∷ [])) Apart own
-                  (kept_short line start place d own h place run_is short) h.found);
+                  (sym (append-nil own)) (found_kept line start place d own h place run_is none);
             }
           ]
 

@@ -1,5 +1,5 @@
 -- The two passes over the rules on days in one: the kinds of both, and what they find together (specs/Days).
-use Rattle.std.proofs.Common.{◌≡◌, ℕ, ◌↔◌, inl, inr, List, refl, sym, ◌∙◌, true, false}
+use Rattle.std.proofs.Common.{◌≡◌, ℕ, ◌⊎◌, ◌↔◌, inl, inr, List, refl, sym, ap, subst, ◌∙◌, Bool, true, false}
 use Rattle.std.specs.Prelude.{IsTrue}
 use Rattle.std.specs.List.{All}
 use Rattle.tacho_time.specs.declared.span.Span.{Span}
@@ -19,74 +19,49 @@ use Rattle.tacho_days.specs.DailyRests.{IsDailyRestBreach, RestsDefined}
 use Rattle.tacho_days.specs.DailyDriving.{IsDailyDriving, DrivingDefined}
 use Rattle.tacho_days.specs.Days.{DaysDefined}
 
-rests_in : (k : Kind) → is_b2_or_b3 k ≡ true → is_b2_to_b5 k ≡ true
-rests_in B2 e = refl
-rests_in B3 e = refl
-rests_in kind e = absurd (let f : false ≡ true = e in cc)
+-- the kinds of each pass
+rests_kind : (k : Kind) → is_b2_or_b3 k ≡ true → (k ≡ B2) ⊎ (k ≡ B3)
+rests_kind B2 e = inl refl
+rests_kind B3 e = inr refl
+rests_kind kind e = absurd (let f : false ≡ true = e in cc)
 
-driving_in : (k : Kind) → is_b4_or_b5 k ≡ true → is_b2_to_b5 k ≡ true
-driving_in B4 e = refl
-driving_in B5 e = refl
-driving_in kind e = absurd (let f : false ≡ true = e in cc)
+driving_kind : (k : Kind) → is_b4_or_b5 k ≡ true → (k ≡ B4) ⊎ (k ≡ B5)
+driving_kind B4 e = inl refl
+driving_kind B5 e = inr refl
+driving_kind kind e = absurd (let f : false ≡ true = e in cc)
 
-rests_out : (k : Kind) → is_b4_or_b5 k ≡ true → is_b2_or_b3 k ≡ false
-rests_out B4 e = refl
-rests_out B5 e = refl
-rests_out kind e = absurd (let f : false ≡ true = e in cc)
-
-driving_out : (k : Kind) → is_b2_or_b3 k ≡ true → is_b4_or_b5 k ≡ false
-driving_out B2 e = refl
-driving_out B3 e = refl
-driving_out kind e = absurd (let f : false ≡ true = e in cc)
+-- what is so of both kinds of a pass is so of each
+so_of_each : (first second : Kind) (test : Kind → Bool) (value : Bool) → test first ≡ value → test second ≡ value
+    → (k : Kind) → (k ≡ first) ⊎ (k ≡ second) → test k ≡ value
+so_of_each first second test value one two k which = elim which [ inl e ↦ ap test e ∙ one | inr e ↦ ap test e ∙ two ]
 
 -- daily rests and daily driving
 pub rests_and_driving : AreTwo is_b2_or_b3 is_b4_or_b5 is_b2_to_b5 false false false
 rests_and_driving = record {
-  first_in = rests_in;
-  second_in = driving_in;
-  first_out = rests_out;
-  second_out = driving_out;
+  first_in = λ k e. so_of_each B2 B3 is_b2_to_b5 true refl refl k (rests_kind k e);
+  second_in = λ k e. so_of_each B4 B5 is_b2_to_b5 true refl refl k (driving_kind k e);
+  first_out = λ k e. so_of_each B4 B5 is_b2_or_b3 false refl refl k (driving_kind k e);
+  second_out = λ k e. so_of_each B2 B3 is_b4_or_b5 false refl refl k (rests_kind k e);
   first_owes = λ e. refl;
   second_owes = λ e. refl;
 }
 
 module _ (line : Line) where
-  -- a breach of a daily rest, by its kind
-  of_rests : (kind : Kind) (breach : Breach) → breach.kind ≡ kind
-      → IsDailyRestBreach line breach ↔ (IsDayBreach line kind breach × IsTrue (is_b2_or_b3 kind))
-  of_rests B2 breach e = (
-    λ h. elim h [ inl (k, is) ↦ (is, refl) | inr (k, is) ↦ absurd (let f : B2 ≡ B3 = sym e ∙ k in cc) ],
-    λ h. inl (e, h.0),
-  )
-  of_rests B3 breach e = (
-    λ h. elim h [ inl (k, is) ↦ absurd (let f : B3 ≡ B2 = sym e ∙ k in cc) | inr (k, is) ↦ (is, refl) ],
-    λ h. inr (e, h.0),
-  )
-  of_rests kind breach e = (
+  -- a breach of one of two kinds is a breach of its own kind
+  of_either : (first second : Kind) (own : Kind → Bool) → own first ≡ true → own second ≡ true
+      → ((k : Kind) → own k ≡ true → (k ≡ first) ⊎ (k ≡ second)) → (breach : Breach)
+      → (((breach.kind ≡ first) × IsDayBreach line first breach)
+      ⊎ ((breach.kind ≡ second) × IsDayBreach line second breach))
+      ↔ (IsDayBreach line breach.kind breach × IsTrue (own breach.kind))
+  of_either first second own one two only breach = (
     λ h. elim h [
-      | inl (k, is) ↦ absurd (let f : kind ≡ B2 = sym e ∙ k in cc)
-      | inr (k, is) ↦ absurd (let f : kind ≡ B3 = sym e ∙ k in cc)
+      | inl (k, is) ↦ (subst (λ (x : Kind). IsDayBreach line x breach) (sym k) is, ap own k ∙ one)
+      | inr (k, is) ↦ (subst (λ (x : Kind). IsDayBreach line x breach) (sym k) is, ap own k ∙ two)
     ],
-    λ h. absurd (let f : false ≡ true = h.1 in cc),
-  )
-
-  -- and one of a day's driving
-  of_driving : (kind : Kind) (breach : Breach) → breach.kind ≡ kind
-      → IsDailyDriving line breach ↔ (IsDayBreach line kind breach × IsTrue (is_b4_or_b5 kind))
-  of_driving B4 breach e = (
-    λ h. elim h [ inl (k, is) ↦ (is, refl) | inr (k, is) ↦ absurd (let f : B4 ≡ B5 = sym e ∙ k in cc) ],
-    λ h. inl (e, h.0),
-  )
-  of_driving B5 breach e = (
-    λ h. elim h [ inl (k, is) ↦ absurd (let f : B5 ≡ B4 = sym e ∙ k in cc) | inr (k, is) ↦ (is, refl) ],
-    λ h. inr (e, h.0),
-  )
-  of_driving kind breach e = (
-    λ h. elim h [
-      | inl (k, is) ↦ absurd (let f : kind ≡ B4 = sym e ∙ k in cc)
-      | inr (k, is) ↦ absurd (let f : kind ≡ B5 = sym e ∙ k in cc)
+    λ (is, takes). elim (only breach.kind takes) [
+      | inl k ↦ inl (k, subst (λ (x : Kind). IsDayBreach line x breach) k is)
+      | inr k ↦ inr (k, subst (λ (x : Kind). IsDayBreach line x breach) k is)
     ],
-    λ h. absurd (let f : false ≡ true = h.1 in cc),
   )
 
   -- all have one of the four kinds
@@ -101,12 +76,12 @@ module _ (line : Line) where
       (driving : AreCollected (λ b. IsDailyDriving line b) (own_of is_b4_or_b5 own)) where
     of_two : AreCollected (λ b. IsDayBreach line b.kind b × IsTrue (is_b2_or_b3 b.kind)) (own_of is_b2_or_b3 own)
     of_two = exactly_as (λ b. IsDailyRestBreach line b) (λ b. IsDayBreach line b.kind b × IsTrue (is_b2_or_b3 b.kind))
-        Apart (own_of is_b2_or_b3 own) (λ b. of_rests b.kind b refl) rests
+        Apart (own_of is_b2_or_b3 own) (λ b. of_either B2 B3 is_b2_or_b3 refl refl rests_kind b) rests
 
     of_other_two : AreCollected (λ b. IsDayBreach line b.kind b × IsTrue (is_b4_or_b5 b.kind)) (own_of is_b4_or_b5 own)
     of_other_two = exactly_as (λ b. IsDailyDriving line b)
         (λ b. IsDayBreach line b.kind b × IsTrue (is_b4_or_b5 b.kind))
-        Apart (own_of is_b4_or_b5 own) (λ b. of_driving b.kind b refl) driving
+        Apart (own_of is_b4_or_b5 own) (λ b. of_either B4 B5 is_b4_or_b5 refl refl driving_kind b) driving
 
     part : (kind : Kind) → is_b2_to_b5 kind ≡ true → IsPart (λ k b. IsDayBreach line k b) kind own
     part B2 e = record { own = is_b2_or_b3; takes = refl; are = of_two }

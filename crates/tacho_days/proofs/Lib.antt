@@ -1,9 +1,8 @@
-pub mod DailyRestsDayLemmas
+pub mod DutyDaysLemmas
 pub mod DailyRestsReducedLemmas
 pub mod DailyRestsShortLemmas
 pub mod DailyRestsOftenLemmas
 pub mod DailyRestsStandingLemmas
-pub mod DailyDrivingDayLemmas
 pub mod DailyDrivingWeekLemmas
 pub mod DailyDrivingFoundLemmas
 pub mod DailyDrivingLemmas

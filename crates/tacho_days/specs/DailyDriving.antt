@@ -1,6 +1,6 @@
 -- Driving in duty days and the extended days of a week (Regulation (EC) 561/2006, Article 6(1)), span by span: what is
 -- kept of them, and what that stands for.
-use Rattle.std.specs.Prelude.{◌≡◌, ℕ, ◌+◌, ◌-◌, ◌/◌, ◌++◌, ◌≤◌, ◌⊎◌, nat_le, nat_lt, nat_eq, Bool, false}
+use Rattle.std.specs.Prelude.{◌≡◌, ℕ, ◌+◌, ◌-◌, ◌/◌, ◌++◌, ◌≤◌, ◌⊎◌, nat_lt, nat_eq, Bool, false}
 use Rattle.std.specs.Prelude.{if◌then◌else◌, Option, None, Some, List, Contains, []}
 use Rattle.tacho_time.specs.declared.span.Span.{Span}
 use Rattle.tacho_hours.specs.declared.run.Run.{Run}
@@ -11,7 +11,7 @@ use Rattle.tacho_hours.specs.declared.days.DutyDay.{DutyDay}
 use Rattle.tacho_hours.specs.Limits.{first_week, minutes_of_week, daily_rest}
 use Rattle.tacho_hours.specs.Limits.{driving_in_day, driving_in_extended_day, extended_days}
 use Rattle.tacho_hours.specs.Line.{Line, line_of, Joined}
-use Rattle.tacho_hours.specs.Runs.{minutes_of, Before, Reached}
+use Rattle.tacho_hours.specs.Runs.{Reached}
 use Rattle.tacho_hours.specs.Days.{EarlierDay}
 use Rattle.tacho_hours.specs.Exactly.{AreSoMany}
 use Rattle.tacho_hours.specs.Order.{AreCollected}
@@ -20,6 +20,7 @@ use Rattle.tacho_pass.specs.Heard.{Continues}
 use Rattle.tacho_pass.specs.Found.{listed}
 use Rattle.tacho_pass.specs.Counts.{count_none, count_with, over_of, IsCounted}
 use Rattle.tacho_days.specs.declared.duty_driving.DutyDriving.{DutyDriving}
+use Rattle.tacho_days.specs.DutyDays.{is_long, IsLastOf, IsBeforeFirst}
 
 -- Article 4(i): the week that a minute lies in, from that of 1970-01-05 on
 abbrev pub week_at : ℕ → ℕ
@@ -62,10 +63,6 @@ next_day from d = record {
   extended = if nat_lt driving_in_day d.nine.minutes then ordinal_of d else d.extended;
 }
 
--- Article 4(g): a rest run of nine hours or more, which ends a duty day
-abbrev pub is_long : Run → Bool
-is_long run = nat_le daily_rest (minutes_of run)
-
 -- behind a rest run, which may end the day
 abbrev pub duty_after : Run → DutyDriving → DutyDriving
 duty_after run d = if is_long run then next_day run.past d else d
@@ -83,20 +80,6 @@ duty_any (Some run) d = duty_after run d
 abbrev pub found_any : Option Run → DutyDriving → List Breach
 found_any None d = []
 found_any (Some run) d = duty_found run d
-
--- the last rest of nine hours or more among the runs ends there
-pub record IsLastLong (runs : List Run) (from : ℕ) : Type 0 where
-  pub run : Run
-  pub among : Contains runs run
-  pub enough : daily_rest ≤ minutes_of run
-  pub ends : run.past ≡ from
-  pub last : (x : Run) → Contains runs x → daily_rest ≤ minutes_of x → (x ≡ run) ⊎ Before x run
-
--- before the end of the first run, which has no start
-pub record IsBeforeDays (runs : List Run) (start place : ℕ) : Type 0 where
-  pub none : runs ≡ []
-  pub first : start ≡ 0
-  pub long : daily_rest ≤ place
 
 -- an extended day of a week whose rest is one of the runs (Article 6(1))
 pub record IsExtendedSeen (line : Line) (runs : List Run) (week : ℕ) (day : DutyDay) : Type 0 where
@@ -130,7 +113,7 @@ IsDrivingSeen line runs breach = IsB4Seen line runs breach ⊎ IsB5Seen line run
 pub record IsDriven (line : Line) (start place : ℕ) (d : DutyDriving) (own : List Breach) : Type 0 where
   pub runs : List Run
   pub reached : Reached line runs start place
-  pub last : IsBeforeDays runs start place ⊎ IsLastLong runs d.from
+  pub last : IsBeforeFirst daily_rest runs start place ⊎ IsLastOf daily_rest runs d.from
   pub nine : IsCounted line driving_in_day d.from start d.nine
   pub ten : IsCounted line driving_in_extended_day d.from start d.ten
   pub tally : IsTally line runs d.week d.extended

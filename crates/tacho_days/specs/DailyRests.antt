@@ -7,7 +7,7 @@ use Rattle.tacho_hours.specs.declared.breach.Breach.{Breach}
 use Rattle.tacho_hours.specs.declared.breach.Kind.TheVariants.{B2, B3}
 use Rattle.tacho_hours.specs.declared.debt.Debt.{Debt}
 use Rattle.tacho_hours.specs.Line.{Line, line_of, Joined}
-use Rattle.tacho_hours.specs.Runs.{Before, Reached, minutes_of}
+use Rattle.tacho_hours.specs.Runs.{Reached, minutes_of}
 use Rattle.tacho_hours.specs.Days.{IsReduced, EarlierDay}
 use Rattle.tacho_hours.specs.Exactly.{AreSoMany}
 use Rattle.tacho_hours.specs.Order.{AreCollected}
@@ -15,20 +15,7 @@ use Rattle.tacho_hours.specs.Breaches.{IsB2, IsB3}
 use Rattle.tacho_hours.specs.Limits.{first_part_of_daily_rest, daily_rest, weekly_rest}
 use Rattle.tacho_pass.specs.Heard.{Continues}
 use Rattle.tacho_days.specs.declared.resting_day.RestingDay.{RestingDay}
-
--- the last of the rests of so many minutes or more ends there
-pub record IsLastOf (least : ℕ) (runs : List Run) (ended : ℕ) : Type 0 where
-  pub run : Run
-  pub among : Contains runs run
-  pub enough : least ≤ minutes_of run
-  pub ends : run.past ≡ ended
-  pub last : (x : Run) → Contains runs x → least ≤ minutes_of x → (x ≡ run) ⊎ Before x run
-
--- before the end of the first rest, which has no start and is a weekly one
-pub record IsBeforeRests (runs : List Run) (start place : ℕ) : Type 0 where
-  pub none : runs ≡ []
-  pub first : start ≡ 0
-  pub long : weekly_rest ≤ place
+use Rattle.tacho_days.specs.DutyDays.{IsLastOf, IsBeforeFirst}
 
 -- behind a daily and a weekly rest
 pub record IsBehindRests (runs : List Run) (d : RestingDay) : Type 0 where
@@ -64,11 +51,11 @@ pub record IsB3Seen (line : Line) (runs : List Run) (breach : Breach) : Type 0 w
 abbrev pub IsRestSeen : Line → List Run → Breach → Type 0
 IsRestSeen line runs breach = IsB2Seen line runs breach ⊎ IsB3Seen line runs breach
 
--- the daily rests of a line that ended before `start`, from where it rests up to `place`
+-- the daily rests of a line that ended before `start`, from where it rests up to `place`; the first is a weekly one
 pub record IsResting (line : Line) (start place : ℕ) (d : RestingDay) (own : List Breach) : Type 0 where
   pub runs : List Run
   pub reached : Reached line runs start place
-  pub last : IsBeforeRests runs start place ⊎ IsBehindRests runs d
+  pub last : IsBeforeFirst weekly_rest runs start place ⊎ IsBehindRests runs d
   pub within : d.from ≤ start
   pub part : IsTrue d.part ↔ HasPart runs d.from
   pub so_many : AreSoMany (IsReducedSince line runs d.weekly) EarlierDay d.number

@@ -1,3 +1,4 @@
+pub mod DutyDays
 pub mod RestingDays
 pub mod DailyRests
 pub mod DailyDriving

@@ -10,14 +10,11 @@ use Rattle.tacho_hours.specs.Limits.{minutes_of_day, regular_daily_rest, first_p
 use Rattle.tacho_hours.specs.Limits.{weekly_rest, reduced_daily_rests}
 use Rattle.tacho_pass.specs.Found.{listed}
 use Rattle.tacho_days.specs.declared.resting_day.RestingDay.{RestingDay}
+use Rattle.tacho_days.specs.DutyDays.{is_long, day_to}
 
 -- before the first rest
 abbrev pub resting_none : RestingDay
 resting_none = record { from = 0; part = false; weekly = 0; number = 0 }
-
--- Article 4(k): the duty day from a minute to a daily rest
-abbrev pub day_to : ℕ → Run → DutyDay
-day_to from rest = record { start = from; past = rest.start; rest = rest }
 
 -- Article 8(2): its rest has so many minutes within 24 hours of its start
 abbrev pub portion_of : DutyDay → ℕ → Bool
@@ -60,8 +57,7 @@ often_of rest d =
 -- the breaches of a daily rest, and none of a shorter one
 abbrev pub rest_found : Run → RestingDay → List Breach
 rest_found rest d =
-    if nat_le daily_rest (minutes_of rest) then listed (short_of (day_to d.from rest)) ++ listed (often_of rest d)
-    else []
+    if is_long rest then listed (short_of (day_to d.from rest)) ++ listed (often_of rest d) else []
 
 -- behind a daily rest that is no weekly one
 abbrev pub after_daily : Run → RestingDay → RestingDay
@@ -91,7 +87,7 @@ after_part rest d =
 abbrev pub after_rest : Run → RestingDay → RestingDay
 after_rest rest d =
     if nat_le weekly_rest (minutes_of rest) then after_weekly rest else
-    (if nat_le daily_rest (minutes_of rest) then after_daily rest d else after_part rest d)
+    (if is_long rest then after_daily rest d else after_part rest d)
 
 -- behind a rest or none
 abbrev pub after_any : Option Run → RestingDay → RestingDay

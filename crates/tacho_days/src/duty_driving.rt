@@ -2,8 +2,9 @@ ghost use Rattle.std.specs.Prelude.{◌≡◌, ◌<◌, ◌≤◌, ◌+◌, ◌+
 ghost use Rattle.tacho_hours.specs.Limits.{first_week, latest};
 ghost use Rattle.tacho_pass.specs.Found.{Appends, listed};
 ghost use Rattle.tacho_pass.specs.Kinds.{is_b4_or_b5};
+ghost use Rattle.tacho_days.specs.DutyDays.{is_long};
 ghost use Rattle.tacho_days.specs.DailyDriving.{duty_none, duty_with, ordinal_of, often_of, next_day};
-ghost use Rattle.tacho_days.specs.DailyDriving.{is_long, duty_after, duty_found, duty_any, found_any};
+ghost use Rattle.tacho_days.specs.DailyDriving.{duty_after, duty_found, duty_any, found_any};
 
 use std::alloc::AllocError;
 use tacho_hours::limits::{DAILY_REST, DRIVING_IN_DAY, DRIVING_IN_EXTENDED_DAY, EXTENDED_DAYS};

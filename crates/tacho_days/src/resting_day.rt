@@ -3,7 +3,8 @@ ghost use Rattle.tacho_hours.specs.Runs.{minutes_of};
 ghost use Rattle.tacho_hours.specs.Limits.{latest, daily_rest};
 ghost use Rattle.tacho_pass.specs.Found.{Appends};
 ghost use Rattle.tacho_pass.specs.Kinds.{is_b2_or_b3};
-ghost use Rattle.tacho_days.specs.RestingDays.{resting_none, day_to, regular_of, reduced_of};
+ghost use Rattle.tacho_days.specs.DutyDays.{day_to};
+ghost use Rattle.tacho_days.specs.RestingDays.{resting_none, regular_of, reduced_of};
 ghost use Rattle.tacho_days.specs.RestingDays.{short_of, often_of, rest_found, after_rest, after_any, found_any};
 
 use std::alloc::AllocError;

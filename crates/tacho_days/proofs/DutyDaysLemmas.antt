@@ -1,17 +1,52 @@
--- Rests and duty days, as rest runs end one by one (specs/DailyRests).
-use Rattle.std.proofs.Common.{◌≡◌, ℕ, ◌<◌, ◌≤◌, ◌||◌, inl, inr, Bool, true, false, List, [], ◌∷◌, ◌++◌}
-use Rattle.std.proofs.Common.{refl, sym, ap, subst, ◌∙◌, arith, nat_le}
-use Rattle.std.specs.Prelude.{◌↔◌, IsTrue}
+-- Duty days and the rests that end them, one by one (specs/DutyDays), for the pass over daily rests and the pass over
+-- daily driving.
+use Rattle.std.proofs.Common.{◌≡◌, ℕ, ◌-◌, ◌<◌, ◌≤◌, inl, inr, List, [], ◌∷◌, ◌++◌, refl, sym, ap, subst, ◌∙◌, arith}
 use Rattle.std.specs.List.{Contains}
-use Rattle.std.proofs.lemmas.Bool.Decides.{nat_tests}
 use Rattle.std.proofs.lemmas.List.Elements.{Contains-push, Contains-append_left, Contains-push_cases, All-contains}
 use Rattle.tacho_hours.specs.declared.run.Run.{Run}
 use Rattle.tacho_hours.specs.declared.days.DutyDay.{DutyDay}
 use Rattle.tacho_hours.specs.Line.{Line}
 use Rattle.tacho_hours.specs.Runs.{IsRestRun, IsRestOf, Before, Reached, minutes_of}
-use Rattle.tacho_hours.specs.Days.{IsDuty}
-use Rattle.tacho_days.specs.RestingDays.{day_to}
-use Rattle.tacho_days.specs.DailyRests.{IsLastOf, HasPart}
+use Rattle.tacho_hours.specs.Days.{IsDuty, EarlierDay}
+use Rattle.tacho_days.specs.DutyDays.{day_to, IsLastOf, IsBeforeFirst}
+
+-- a duty day lasts, and so does its rest
+pub day_lasts : (line : Line) (day : DutyDay) → IsDuty line day
+    → (day.start < day.rest.start) × (day.rest.start < day.rest.past)
+day_lasts line day d =
+    let before : d.last.past < day.rest.start = d.neighbours.before in
+    let starts : day.start ≡ d.last.past = d.start in
+    let some : day.rest.start < day.rest.past = d.neighbours.second.rests.some in
+    (omega arith, some)
+
+-- no two duty days are before each other
+pub never_both : (line : Line) (x y : DutyDay) → IsDuty line x → IsDuty line y → EarlierDay x y → EarlierDay y x → ⊥
+never_both line x y d e before after =
+    let (s, t) = day_lasts line x d in let (u, v) = day_lasts line y e in omega arith
+
+-- a run of less than nine hours is no day's rest
+pub none_short : (line : Line) (r : Run) → minutes_of r < 540 → (day : DutyDay) → IsDuty line day → r ≡ day.rest → ⊥
+none_short line r short day d same =
+    let e : minutes_of r ≡ minutes_of day.rest = ap minutes_of same in
+    let f : 540 ≤ minutes_of day.rest = d.neighbours.second.enough in
+    omega (arith, e, f)
+
+-- the first rest goes on, up to a later minute
+pub first_on : (least : ℕ) (runs : List Run) (start place q : ℕ) → place < q → IsBeforeFirst least runs start place
+    → IsBeforeFirst least runs start q
+first_on least runs start place q more f = record {
+  none = f.none;
+  first = f.first;
+  long = (let l : least ≤ place = f.long in omega arith);
+}
+
+-- and has no fewer minutes
+pub first_long : (least : ℕ) (runs : List Run) (start place : ℕ) → place - start < least
+    → IsBeforeFirst least runs start place → ⊥
+first_long least runs start place short f =
+    let l : least ≤ place = f.long in
+    let z : start ≡ 0 = f.first in
+    omega (arith, l, z, short)
 
 -- a rest run that starts where the runs that have ended stop
 module _ (line : Line) (runs : List Run) (start place : ℕ) (reached : Reached line runs start place)
@@ -56,58 +91,18 @@ module _ (line : Line) (runs : List Run) (start place : ℕ) (reached : Reached 
     ];
   }
 
-  -- no rest of three hours lies behind it yet
-  pub part_none : HasPart (runs ++ r ∷ []) r.past → ⊥
-  part_none h =
-      let some : r.start < r.past = is.some in
-      let behind : r.past ≤ h.part.start = h.behind in
-      elim (Contains-push_cases runs r h.part h.among) [
-        | inl was ↦
-            let before : h.part.past < r.start = later h.part was in
-            let some' : h.part.start < h.part.past = (rests h.part was).some in
-            omega arith
-        | inr same ↦ let e : r.start ≡ h.part.start = ap (λ (x : Run). x.start) same in omega arith
-      ]
+  -- the first run is no day's rest
+  pub none_first : runs ≡ [] → (day : DutyDay) → IsDuty line day → r ≡ day.rest → ⊥
+  none_first none day d same =
+      let before : d.last.past < day.rest.start = d.neighbours.before in
+      let some : d.last.start < d.last.past = d.neighbours.first.rests.some in
+      let e : r.start ≡ day.rest.start = ap (λ (x : Run). x.start) same in
+      let in' : Contains runs d.last = seen d.last d.neighbours.first.rests (omega arith) in
+      let k = subst (λ (xs : List Run). Contains xs d.last) none in' in
+      let l : k.0 < 0 = k.1 in
+      omega arith
 
-  -- it is such a rest, or not
-  part_by : (from : ℕ) → from ≤ start → (p b : Bool) → nat_le 180 (minutes_of r) ≡ b
-      → (IsTrue p ↔ HasPart runs from) → IsTrue (p || b) ↔ HasPart (runs ++ r ∷ []) from
-  part_by from le true b e same = (
-    λ h. let old : HasPart runs from = same.0 refl in
-        record {
-          part = old.part;
-          among = Contains-append_left runs (r ∷ []) old.part old.among;
-          enough = old.enough;
-          behind = old.behind;
-        },
-    λ h. refl,
-  )
-  part_by from le false true e same = (
-    λ h. record {
-      part = r;
-      among = Contains-push runs r;
-      enough = (let k : 180 ≤ minutes_of r = grind (arith, nat_tests) in k);
-      behind = omega arith;
-    },
-    λ h. refl,
-  )
-  part_by from le false false e same = (
-    λ h. absurd (let f : false ≡ true = h in cc),
-    λ h. elim (Contains-push_cases runs r h.part h.among) [
-      | inl was ↦ same.1 (record { part = h.part; among = was; enough = h.enough; behind = h.behind })
-      | inr one ↦ absurd (
-          let short : minutes_of r < 180 = grind (arith, nat_tests) in
-          let f : minutes_of r ≡ minutes_of h.part = ap minutes_of one in
-          let g : 180 ≤ minutes_of h.part = h.enough in
-          omega (arith, short, f, g))
-    ],
-  )
-
-  -- and so the code tells
-  pub part_more : (from : ℕ) (p : Bool) → from ≤ start → (IsTrue p ↔ HasPart runs from)
-      → IsTrue (p || nat_le 180 (minutes_of r)) ↔ HasPart (runs ++ r ∷ []) from
-  part_more from p le same = part_by from le p (nat_le 180 (minutes_of r)) refl same
-
+  -- a rest of nine hours or more, behind another
   module _ (enough : 540 ≤ minutes_of r) (from : ℕ) (l : IsLastOf 540 runs from) where
     -- the daily rest before it
     pub last_rest : IsRestOf line 540 l.run
@@ -171,27 +166,3 @@ module _ (line : Line) (runs : List Run) (start place : ℕ) (reached : Reached 
           | inl same ↦ (let e : day.rest.past ≡ l.run.past = ap (λ (x : Run). x.past) same in omega arith)
           | inr sooner ↦ (let s : day.rest.past < l.run.start = sooner in omega arith)
         ]
-
--- a duty day lasts, and so does its rest
-pub day_lasts : (line : Line) (day : DutyDay) → IsDuty line day
-    → (day.start < day.rest.start) × (day.rest.start < day.rest.past)
-day_lasts line day d =
-    let before : d.last.past < day.rest.start = d.neighbours.before in
-    let starts : day.start ≡ d.last.past = d.start in
-    let some : day.rest.start < day.rest.past = d.neighbours.second.rests.some in
-    (omega arith, some)
-
--- no duty day ends with the first run
-pub no_first_day : (line : Line) (start place : ℕ) → Reached line [] start place → (r : Run) → r.start ≡ start
-    → (day : DutyDay) → IsDuty line day → Contains ([] ++ r ∷ []) day.rest → ⊥
-no_first_day line start place reached r at day d in' =
-    let before : d.last.past < day.rest.start = d.neighbours.before in
-    let some : d.last.start < d.last.past = d.neighbours.first.rests.some in
-    elim (Contains-push_cases [] r day.rest in') [
-      | inl none ↦ (let k : none.0 < 0 = none.1 in omega arith)
-      | inr same ↦ (
-          let e : r.start ≡ day.rest.start = ap (λ (x : Run). x.start) same in
-          let in'' : Contains [] d.last = reached.all d.last d.neighbours.first.rests (omega arith) in
-          let k : in''.0 < 0 = in''.1 in
-          omega arith)
-    ]
