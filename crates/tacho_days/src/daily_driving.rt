@@ -3,7 +3,7 @@ ghost use Rattle.tacho_hours.specs.Limits.{first_week};
 ghost use Rattle.tacho_pass.specs.Kinds.{is_b4_or_b5};
 ghost use Rattle.tacho_days.specs.DailyDriving.{DrivingStands, DrivingDefined};
 
-use crate::duty_driving::{DutyDriving, after_span, end_day};
+use crate::duty_driving::DutyDriving;
 use std::alloc::AllocError;
 use tacho_hours::{FAR, Run};
 use tacho_pass::{Found, Pass, Runs, is_drive};
@@ -51,11 +51,8 @@ impl Pass for DailyDriving {
         if self.failed {
             return Err(AllocError);
         }
-        match after_span(&self.duty, run, drives, from, to, found) {
-            Ok(duty) => {
-                self.duty = duty;
-                Ok(())
-            }
+        match self.duty.feed(run, drives, from, to, found) {
+            Ok(()) => Ok(()),
             Err(_) => {
                 self.failed = true;
                 Err(AllocError)
@@ -71,7 +68,7 @@ impl Pass for DailyDriving {
             start: self.runs.start(),
             past: FAR,
         };
-        match end_day(&self.duty, last, found) {
+        match self.duty.end(last, found) {
             Ok(()) => Ok(()),
             Err(_) => {
                 self.failed = true;

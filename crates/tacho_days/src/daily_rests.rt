@@ -2,7 +2,7 @@ ghost use Rattle.std.specs.Prelude.{◌≡◌, ◌≤◌, true, false};
 ghost use Rattle.tacho_pass.specs.Kinds.{is_b2_or_b3};
 ghost use Rattle.tacho_days.specs.DailyRests.{RestsStand, RestsDefined};
 
-use crate::resting_day::{RestingDay, after_span, end_rest};
+use crate::resting_day::RestingDay;
 use std::alloc::AllocError;
 use tacho_hours::{FAR, Run};
 use tacho_pass::{Found, Pass, Runs};
@@ -43,11 +43,8 @@ impl Pass for DailyRests {
         if self.failed {
             return Err(AllocError);
         }
-        match after_span(&self.day, rest, found) {
-            Ok(day) => {
-                self.day = day;
-                Ok(())
-            }
+        match self.day.feed(rest, found) {
+            Ok(()) => Ok(()),
             Err(_) => {
                 self.failed = true;
                 Err(AllocError)
@@ -63,7 +60,7 @@ impl Pass for DailyRests {
             start: self.runs.start(),
             past: FAR,
         };
-        match end_rest(&self.day, last, found) {
+        match self.day.end(last, found) {
             Ok(()) => Ok(()),
             Err(_) => {
                 self.failed = true;

@@ -1,4 +1,4 @@
-ghost use Rattle.std.specs.Prelude.{◌≡◌, ◌<◌, ◌≤◌, ◌+◌, ◌++◌, ⊤, false, IfOk, OnOk, MatchOption};
+ghost use Rattle.std.specs.Prelude.{◌≡◌, ◌<◌, ◌≤◌, ◌+◌, ◌++◌, ⊤, false, OnOk, MatchOption};
 ghost use Rattle.tacho_hours.specs.Limits.{first_week, latest};
 ghost use Rattle.tacho_pass.specs.Found.{Appends, listed};
 ghost use Rattle.tacho_pass.specs.Kinds.{is_b4_or_b5};
@@ -42,22 +42,19 @@ impl DutyDriving {
         }
     }
 
-    /// With the minutes from one up to another.
-    fn with(self, drives: bool, from: u32, to: u32) -> DutyDriving
-        requires nine { self.nine.minutes ≤ from }
-        requires ten { self.ten.minutes ≤ from }
+    /// Adds the minutes from one up to another, which are all driving or none.
+    fn add(&mut self, drives: bool, from: u32, to: u32)
+        requires nine { self.old.nine.minutes ≤ from }
+        requires ten { self.old.ten.minutes ≤ from }
         requires some { from ≤ to }
         requires early { to ≤ latest }
-        ensures with { result ≡ duty_with drives from to self }
-        ensures nine { result.nine.minutes ≤ to }
-        ensures ten { result.ten.minutes ≤ to }
+        ensures with { self.new ≡ duty_with drives from to self.old }
+        ensures nine { self.new.nine.minutes ≤ to }
+        ensures ten { self.new.ten.minutes ≤ to }
     {
-        DutyDriving {
-            from: self.from,
-            nine: self.nine.with(DRIVING_IN_DAY, drives, from, to),
-            ten: self.ten.with(DRIVING_IN_EXTENDED_DAY, drives, from, to),
-            week: self.week,
-            extended: self.extended,
+        if drives {
+            self.nine.add(DRIVING_IN_DAY, from, to);
+            self.ten.add(DRIVING_IN_EXTENDED_DAY, from, to);
         }
     }
 
@@ -110,6 +107,73 @@ impl DutyDriving {
             extended,
         }
     }
+
+    /// Puts the breaches of the day that a rest run ends to what is found.
+    pub fn end(&self, run: Run, found: &mut Found) -> Result<(), AllocError>
+        requires from { first_week ≤ self.now.from }
+        requires few { self.now.extended ≤ latest }
+        ensures breaches { OnOk result (found.new.breaches.items ≡ found.old.breaches.items ++ duty_found run self.now) }
+        ensures appends { Appends is_b4_or_b5 false found.old found.new }
+    {
+        if ends_day(run) {
+            put(
+                self.ten.over(Kind::B4, DRIVING_IN_EXTENDED_DAY, self.from),
+                found,
+            )?;
+            put(self.often(), found)?;
+        }
+        Ok(())
+    }
+
+    /// Behind a rest run, which may end the day.
+    fn turn(&mut self, run: Run)
+        requires from { first_week ≤ self.old.from }
+        requires few { self.old.extended ≤ latest }
+        requires late { first_week ≤ run.past }
+        requires early { run.past ≤ latest }
+        ensures after { self.new ≡ duty_after run self.old }
+        ensures from { first_week ≤ self.new.from }
+        ensures few { self.new.extended ≤ self.old.extended + 1 }
+        ensures nine { self.new.nine.minutes ≤ self.old.nine.minutes }
+        ensures ten { self.new.ten.minutes ≤ self.old.ten.minutes }
+    {
+        if ends_day(run) {
+            *self = self.next(Minute::new(run.past));
+        }
+    }
+
+    /// Takes a span, which may end a rest run where it starts.
+    pub fn feed(
+        &mut self,
+        run: Option<Run>,
+        drives: bool,
+        from: u32,
+        to: u32,
+        found: &mut Found,
+    ) -> Result<(), AllocError>
+        requires day { first_week ≤ self.old.from }
+        requires nine { self.old.nine.minutes ≤ from }
+        requires ten { self.old.ten.minutes ≤ from }
+        requires few { self.old.extended ≤ from }
+        requires run { MatchOption run ⊤ (λ run. run.past ≡ from) }
+        requires late { first_week ≤ from }
+        requires some { from < to }
+        requires early { to ≤ latest }
+        ensures after { OnOk result (self.new ≡ duty_with drives from to (duty_any run self.old)) }
+        ensures day { first_week ≤ self.new.from }
+        ensures nine { self.new.nine.minutes ≤ to }
+        ensures ten { self.new.ten.minutes ≤ to }
+        ensures few { self.new.extended ≤ to }
+        ensures breaches { OnOk result (found.new.breaches.items ≡ found.old.breaches.items ++ found_any run self.old) }
+        ensures appends { Appends is_b4_or_b5 false found.old found.new }
+    {
+        if let Some(run) = run {
+            self.end(run, found)?;
+            self.turn(run);
+        }
+        self.add(drives, from, to);
+        Ok(())
+    }
 }
 
 /// Whether a rest run has nine hours or more, and so ends a duty day (Article 4(g)).
@@ -117,78 +181,4 @@ fn ends_day(run: Run) -> bool
     ensures { result ≡ is_long run }
 {
     run.past.saturating_sub(run.start) >= DAILY_REST
-}
-
-/// Puts the breaches of the day that a rest run ends to what is found.
-pub fn end_day(duty: &DutyDriving, run: Run, found: &mut Found) -> Result<(), AllocError>
-    requires from { first_week ≤ duty.now.from }
-    requires few { duty.now.extended ≤ latest }
-    ensures breaches { OnOk result (found.new.breaches.items ≡ found.old.breaches.items ++ duty_found run duty.now) }
-    ensures appends { Appends is_b4_or_b5 false found.old found.new }
-{
-    if ends_day(run) {
-        put(
-            duty.ten.over(Kind::B4, DRIVING_IN_EXTENDED_DAY, duty.from),
-            found,
-        )?;
-        put(duty.often(), found)?;
-    }
-    Ok(())
-}
-
-/// Behind a rest run, which may end the day.
-fn after_run(duty: &DutyDriving, run: Run) -> DutyDriving
-    requires from { first_week ≤ duty.now.from }
-    requires few { duty.now.extended ≤ latest }
-    requires late { first_week ≤ run.past }
-    requires early { run.past ≤ latest }
-    ensures after { result ≡ duty_after run duty.now }
-    ensures from { first_week ≤ result.from }
-    ensures few { result.extended ≤ duty.now.extended + 1 }
-    ensures nine { result.nine.minutes ≤ duty.now.nine.minutes }
-    ensures ten { result.ten.minutes ≤ duty.now.ten.minutes }
-{
-    if ends_day(run) {
-        duty.next(Minute::new(run.past))
-    } else {
-        *duty
-    }
-}
-
-/// Behind a span, which may end a rest run where it starts.
-pub fn after_span(
-    duty: &DutyDriving,
-    run: Option<Run>,
-    drives: bool,
-    from: u32,
-    to: u32,
-    found: &mut Found,
-) -> Result<DutyDriving, AllocError>
-    requires day { first_week ≤ duty.now.from }
-    requires nine { duty.now.nine.minutes ≤ from }
-    requires ten { duty.now.ten.minutes ≤ from }
-    requires few { duty.now.extended ≤ from }
-    requires run { MatchOption run ⊤ (λ run. run.past ≡ from) }
-    requires late { first_week ≤ from }
-    requires some { from < to }
-    requires early { to ≤ latest }
-    ensures after { IfOk result (λ after. after ≡ duty_with drives from to (duty_any run duty.now)) }
-    ensures day { IfOk result (λ after. first_week ≤ after.from) }
-    ensures nine { IfOk result (λ after. after.nine.minutes ≤ to) }
-    ensures ten { IfOk result (λ after. after.ten.minutes ≤ to) }
-    ensures few { IfOk result (λ after. after.extended ≤ to) }
-    ensures breaches { OnOk result (found.new.breaches.items ≡ found.old.breaches.items ++ found_any run duty.now) }
-    ensures appends { Appends is_b4_or_b5 false found.old found.new }
-{
-    match run {
-        Some(run) => {
-            end_day(duty, run, found)?;
-            let now = after_run(duty, run);
-            Ok(now.with(drives, from, to))
-        }
-        None => {
-            let now = *duty;
-            Ok(now.with(drives, from, to))
-        }
-    }
 }

@@ -1,4 +1,4 @@
-ghost use Rattle.std.specs.Prelude.{◌≡◌, ◌≤◌, ◌+◌, ◌++◌, ⊤, false, IfOk, OnOk, MatchOption};
+ghost use Rattle.std.specs.Prelude.{◌≡◌, ◌≤◌, ◌+◌, ◌++◌, ⊤, false, OnOk, MatchOption};
 ghost use Rattle.tacho_hours.specs.Runs.{minutes_of};
 ghost use Rattle.tacho_hours.specs.Limits.{latest, daily_rest};
 ghost use Rattle.tacho_pass.specs.Found.{Appends};
@@ -147,41 +147,35 @@ impl RestingDay {
             number: self.number,
         }
     }
-}
 
-/// Puts the breaches of a rest to what is found.
-pub fn end_rest(day: &RestingDay, rest: Run, found: &mut Found) -> Result<(), AllocError>
-    requires start { rest.start ≤ latest }
-    requires few { day.now.number ≤ latest }
-    ensures breaches { OnOk result (found.new.breaches.items ≡ found.old.breaches.items ++ rest_found rest day.now) }
-    ensures appends { Appends is_b2_or_b3 false found.old found.new }
-{
-    if rest.past.saturating_sub(rest.start) >= DAILY_REST {
-        put(day.short_rest(rest), found)?;
-        put(day.often_reduced(rest), found)?;
-    }
-    Ok(())
-}
-
-/// Behind a rest that a span ends, or none.
-pub fn after_span(
-    day: &RestingDay,
-    rest: Option<Run>,
-    found: &mut Found,
-) -> Result<RestingDay, AllocError>
-    requires start { MatchOption rest ⊤ (λ rest. rest.start ≤ latest) }
-    requires past { MatchOption rest ⊤ (λ rest. rest.past ≤ latest) }
-    requires few { day.now.number ≤ latest }
-    ensures after { IfOk result (λ after. after ≡ after_any rest day.now) }
-    ensures few { IfOk result (λ after. after.number ≤ day.now.number + 1) }
-    ensures breaches { OnOk result (found.new.breaches.items ≡ found.old.breaches.items ++ found_any rest day.now) }
-    ensures appends { Appends is_b2_or_b3 false found.old found.new }
-{
-    match rest {
-        Some(rest) => {
-            end_rest(day, rest, found)?;
-            Ok(day.after(rest))
+    /// Puts the breaches of a rest to what is found.
+    pub fn end(&self, rest: Run, found: &mut Found) -> Result<(), AllocError>
+        requires start { rest.start ≤ latest }
+        requires few { self.now.number ≤ latest }
+        ensures breaches { OnOk result (found.new.breaches.items ≡ found.old.breaches.items ++ rest_found rest self.now) }
+        ensures appends { Appends is_b2_or_b3 false found.old found.new }
+    {
+        if rest.past.saturating_sub(rest.start) >= DAILY_REST {
+            put(self.short_rest(rest), found)?;
+            put(self.often_reduced(rest), found)?;
         }
-        None => Ok(*day),
+        Ok(())
+    }
+
+    /// Takes a rest that a span ends, or none.
+    pub fn feed(&mut self, rest: Option<Run>, found: &mut Found) -> Result<(), AllocError>
+        requires start { MatchOption rest ⊤ (λ rest. rest.start ≤ latest) }
+        requires past { MatchOption rest ⊤ (λ rest. rest.past ≤ latest) }
+        requires few { self.old.number ≤ latest }
+        ensures after { OnOk result (self.new ≡ after_any rest self.old) }
+        ensures few { self.new.number ≤ self.old.number + 1 }
+        ensures breaches { OnOk result (found.new.breaches.items ≡ found.old.breaches.items ++ found_any rest self.old) }
+        ensures appends { Appends is_b2_or_b3 false found.old found.new }
+    {
+        if let Some(rest) = rest {
+            self.end(rest, found)?;
+            *self = self.after(rest);
+        }
+        Ok(())
     }
 }

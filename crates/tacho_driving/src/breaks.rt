@@ -2,7 +2,7 @@ ghost use Rattle.std.specs.Prelude.{◌≡◌, ◌≤◌, true, false};
 ghost use Rattle.tacho_pass.specs.Kinds.{is_b1};
 ghost use Rattle.tacho_driving.specs.Periods.{PeriodsStand, PeriodsDefined};
 
-use crate::period::{Period, after_span, end_run};
+use crate::period::Period;
 use std::alloc::AllocError;
 use tacho_hours::{FAR, Run};
 use tacho_pass::{Found, Pass, Runs, is_drive};
@@ -48,11 +48,8 @@ impl Pass for Breaks {
         if self.failed {
             return Err(AllocError);
         }
-        match after_span(&self.period, run, drives, from, to, found) {
-            Ok(period) => {
-                self.period = period;
-                Ok(())
-            }
+        match self.period.feed(run, drives, from, to, found) {
+            Ok(()) => Ok(()),
             Err(_) => {
                 self.failed = true;
                 Err(AllocError)
@@ -68,8 +65,8 @@ impl Pass for Breaks {
             start: self.runs.start(),
             past: FAR,
         };
-        match end_run(&self.period, last, found) {
-            Ok(_) => Ok(()),
+        match self.period.end(last, found) {
+            Ok(()) => Ok(()),
             Err(_) => {
                 self.failed = true;
                 Err(AllocError)

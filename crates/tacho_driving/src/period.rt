@@ -1,4 +1,4 @@
-ghost use Rattle.std.specs.Prelude.{◌≡◌, ◌≤◌, ◌++◌, false, IfOk, OnOk};
+ghost use Rattle.std.specs.Prelude.{◌≡◌, ◌≤◌, ◌++◌, false, OnOk};
 ghost use Rattle.tacho_hours.specs.Weeks.{week_start};
 ghost use Rattle.tacho_pass.specs.Found.{Appends};
 ghost use Rattle.tacho_pass.specs.Kinds.{is_b1};
@@ -42,76 +42,66 @@ impl Period {
         }
     }
 
-    /// With the minutes from one up to another.
-    fn with(self, drives: bool, from: u32, to: u32) -> Period
-        requires over { self.over.minutes ≤ from }
-        requires since { self.since.minutes ≤ from }
+    /// Adds the minutes from one up to another, which are all driving or none.
+    fn add(&mut self, drives: bool, from: u32, to: u32)
+        requires over { self.old.over.minutes ≤ from }
+        requires since { self.old.since.minutes ≤ from }
         requires some { from ≤ to }
         requires early { to ≤ week_start 6788 }
-        ensures with { result ≡ period_with drives from to self }
-        ensures over { result.over.minutes ≤ to }
-        ensures since { result.since.minutes ≤ to }
+        ensures with { self.new ≡ period_with drives from to self.old }
+        ensures over { self.new.over.minutes ≤ to }
+        ensures since { self.new.since.minutes ≤ to }
     {
-        Period {
-            short: self.short,
-            over: self.over.with(DRIVING_BEFORE_BREAK, drives, from, to),
-            since: self.since.with(0, drives, from, to),
+        if drives {
+            self.over.add(DRIVING_BEFORE_BREAK, from, to);
+            self.since.add(0, from, to);
         }
     }
-}
 
-/// Behind a rest run, which may end the period.
-pub fn end_run(period: &Period, run: Run, found: &mut Found) -> Result<Period, AllocError>
-    ensures after { IfOk result (λ after. after ≡ after_run run period.now) }
-    ensures over { IfOk result (λ after. after.over.minutes ≤ period.now.over.minutes) }
-    ensures since { IfOk result (λ after. after.since.minutes ≤ period.now.since.minutes) }
-    ensures breaches { OnOk result (found.new.breaches.items ≡ found.old.breaches.items ++ found_at run period.now) }
-    ensures appends { Appends is_b1 false found.old found.new }
-{
-    let minutes = run.past.saturating_sub(run.start);
-    if completes(minutes, period.short) {
-        put(
-            period
+    /// Behind a rest run, which may end the period.
+    pub fn end(&mut self, run: Run, found: &mut Found) -> Result<(), AllocError>
+        ensures after { OnOk result (self.new ≡ after_run run self.old) }
+        ensures over { self.new.over.minutes ≤ self.old.over.minutes }
+        ensures since { self.new.since.minutes ≤ self.old.since.minutes }
+        ensures breaches { OnOk result (found.new.breaches.items ≡ found.old.breaches.items ++ found_at run self.old) }
+        ensures appends { Appends is_b1 false found.old found.new }
+    {
+        let minutes = run.past.saturating_sub(run.start);
+        if completes(minutes, self.short) {
+            let breach = self
                 .over
-                .over(Kind::B1, DRIVING_BEFORE_BREAK, period.since.moment),
-            found,
-        )?;
-        return Ok(Period::none());
+                .over(Kind::B1, DRIVING_BEFORE_BREAK, self.since.moment);
+            put(breach, found)?;
+            *self = Period::none();
+            return Ok(());
+        }
+        self.short = self.short || FIRST_PART_OF_BREAK <= minutes;
+        Ok(())
     }
-    Ok(Period {
-        short: period.short || FIRST_PART_OF_BREAK <= minutes,
-        over: period.over,
-        since: period.since,
-    })
-}
 
-/// Behind a span, which may end a rest run.
-pub fn after_span(
-    period: &Period,
-    run: Option<Run>,
-    drives: bool,
-    from: u32,
-    to: u32,
-    found: &mut Found,
-) -> Result<Period, AllocError>
-    requires over { period.now.over.minutes ≤ from }
-    requires since { period.now.since.minutes ≤ from }
-    requires some { from ≤ to }
-    requires early { to ≤ week_start 6788 }
-    ensures after { IfOk result (λ after. after ≡ period_with drives from to (after_any run period.now)) }
-    ensures over { IfOk result (λ after. after.over.minutes ≤ to) }
-    ensures since { IfOk result (λ after. after.since.minutes ≤ to) }
-    ensures breaches { OnOk result (found.new.breaches.items ≡ found.old.breaches.items ++ found_any run period.now) }
-    ensures appends { Appends is_b1 false found.old found.new }
-{
-    match run {
-        Some(run) => {
-            let now = end_run(period, run, found)?;
-            Ok(now.with(drives, from, to))
+    /// Takes a span, which may end a rest run where it starts.
+    pub fn feed(
+        &mut self,
+        run: Option<Run>,
+        drives: bool,
+        from: u32,
+        to: u32,
+        found: &mut Found,
+    ) -> Result<(), AllocError>
+        requires over { self.old.over.minutes ≤ from }
+        requires since { self.old.since.minutes ≤ from }
+        requires some { from ≤ to }
+        requires early { to ≤ week_start 6788 }
+        ensures after { OnOk result (self.new ≡ period_with drives from to (after_any run self.old)) }
+        ensures over { self.new.over.minutes ≤ to }
+        ensures since { self.new.since.minutes ≤ to }
+        ensures breaches { OnOk result (found.new.breaches.items ≡ found.old.breaches.items ++ found_any run self.old) }
+        ensures appends { Appends is_b1 false found.old found.new }
+    {
+        if let Some(run) = run {
+            self.end(run, found)?;
         }
-        None => {
-            let now = *period;
-            Ok(now.with(drives, from, to))
-        }
+        self.add(drives, from, to);
+        Ok(())
     }
 }

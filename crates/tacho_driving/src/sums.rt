@@ -1,4 +1,4 @@
-ghost use Rattle.std.specs.Prelude.{◌≡◌, ◌≤◌, ◌+◌, ◌++◌, false, IfOk, OnOk};
+ghost use Rattle.std.specs.Prelude.{◌≡◌, ◌≤◌, ◌+◌, ◌++◌, false, OnOk};
 ghost use Rattle.tacho_hours.specs.Weeks.{week_start};
 ghost use Rattle.tacho_pass.specs.Found.{Appends};
 ghost use Rattle.tacho_pass.specs.Kinds.{is_b6_or_b7};
@@ -37,37 +37,91 @@ impl Sums {
         }
     }
 
-    /// With the minutes from one up to another, in the same week.
-    pub fn fill(self, drives: bool, from: u32, to: u32) -> Sums
-        requires here { self.here.minutes ≤ from }
-        requires two { self.two.minutes ≤ from }
-        requires ahead { self.ahead.minutes ≤ from }
+    /// Adds the minutes from one up to another, in the same week, which are all driving or none.
+    fn fill(&mut self, drives: bool, from: u32, to: u32)
+        requires here { self.old.here.minutes ≤ from }
+        requires two { self.old.two.minutes ≤ from }
+        requires ahead { self.old.ahead.minutes ≤ from }
         requires some { from ≤ to }
         requires early { to ≤ week_start 6788 }
-        ensures filled { result ≡ filled drives from to self }
-        ensures here { result.here.minutes ≤ to }
-        ensures two { result.two.minutes ≤ to }
-        ensures ahead { result.ahead.minutes ≤ to }
+        ensures filled { self.new ≡ filled drives from to self.old }
+        ensures here { self.new.here.minutes ≤ to }
+        ensures two { self.new.two.minutes ≤ to }
+        ensures ahead { self.new.ahead.minutes ≤ to }
     {
-        Sums {
-            week: self.week,
-            here: self.here.with(DRIVING_IN_WEEK, drives, from, to),
-            two: self.two.with(DRIVING_IN_TWO_WEEKS, drives, from, to),
-            ahead: self.ahead.with(DRIVING_IN_TWO_WEEKS, drives, from, to),
+        if drives {
+            self.here.add(DRIVING_IN_WEEK, from, to);
+            self.two.add(DRIVING_IN_TWO_WEEKS, from, to);
+            self.ahead.add(DRIVING_IN_TWO_WEEKS, from, to);
         }
     }
 
     /// At a week's end.
-    fn close(self) -> Sums
-        requires { self.week ≤ 6786 }
-        ensures { result ≡ closed self }
+    fn close(&mut self)
+        requires { self.old.week ≤ 6786 }
+        ensures { self.new ≡ closed self.old }
     {
-        Sums {
+        *self = Sums {
             week: self.week + 1,
             here: Count::none(),
             two: self.ahead,
             ahead: Count::none(),
+        };
+    }
+
+    /// Up to the week's end, and in the next.
+    fn turn(&mut self, drives: bool, from: u32, found: &mut Found) -> Result<(), AllocError>
+        requires week { self.old.week ≤ 6786 }
+        requires here { self.old.here.minutes ≤ from }
+        requires two { self.old.two.minutes ≤ from }
+        requires ahead { self.old.ahead.minutes ≤ from }
+        requires before { from ≤ week_start (self.old.week + 2) }
+        ensures turned { OnOk result (self.new ≡ turned drives from self.old) }
+        ensures two { OnOk result (self.new.two.minutes ≤ week_start (self.old.week + 2)) }
+        ensures breaches { OnOk result
+            (found.new.breaches.items ≡ found.old.breaches.items ++ turn_found drives from self.old) }
+        ensures appends { Appends is_b6_or_b7 false found.old found.new }
+    {
+        let end = first_minute(Week::new(self.week + 2)).number();
+        self.fill(drives, from, end);
+        put_breaches(self, found)?;
+        self.close();
+        Ok(())
+    }
+
+    /// Over so many week ends, from one minute up to another.
+    pub fn go_through(
+        &mut self,
+        drives: bool,
+        from: u32,
+        to: u32,
+        ends: u32,
+        found: &mut Found,
+    ) -> Result<(), AllocError>
+        requires here { self.old.here.minutes ≤ from }
+        requires two { self.old.two.minutes ≤ from }
+        requires ahead { self.old.ahead.minutes ≤ from }
+        requires before { from ≤ week_start (self.old.week + 2) }
+        requires some { from ≤ to }
+        requires early { to ≤ week_start 6788 }
+        requires ends { week_start (self.old.week + 1 + ends) ≤ to }
+        ensures through { OnOk result (self.new ≡ through ends drives from to self.old) }
+        ensures here { OnOk result (self.new.here.minutes ≤ to) }
+        ensures two { OnOk result (self.new.two.minutes ≤ to) }
+        ensures ahead { OnOk result (self.new.ahead.minutes ≤ to) }
+        ensures week { OnOk result (self.new.week ≡ self.old.week + ends) }
+        ensures breaches { OnOk result
+            (found.new.breaches.items ≡ found.old.breaches.items ++ through_found ends drives from self.old) }
+        ensures appends { Appends is_b6_or_b7 false found.old found.new }
+    {
+        let mut place = from;
+        for _ in 0..ends {
+            let end = first_minute(Week::new(self.week + 2)).number();
+            self.turn(drives, place, found)?;
+            place = end;
         }
+        self.fill(drives, place, to);
+        Ok(())
     }
 }
 
@@ -82,58 +136,4 @@ pub fn put_breaches(sums: &Sums, found: &mut Found) -> Result<(), AllocError>
     put(sums.here.over(Kind::B6, DRIVING_IN_WEEK, next), found)?;
     put(sums.two.over(Kind::B7, DRIVING_IN_TWO_WEEKS, start), found)?;
     Ok(())
-}
-
-/// Up to the week's end, and in the next.
-fn turn(sums: &Sums, drives: bool, from: u32, found: &mut Found) -> Result<Sums, AllocError>
-    requires week { sums.now.week ≤ 6786 }
-    requires here { sums.now.here.minutes ≤ from }
-    requires two { sums.now.two.minutes ≤ from }
-    requires ahead { sums.now.ahead.minutes ≤ from }
-    requires before { from ≤ week_start (sums.now.week + 2) }
-    ensures turned { IfOk result (λ after. after ≡ turned drives from sums.now) }
-    ensures two { IfOk result (λ after. after.two.minutes ≤ week_start (sums.now.week + 2)) }
-    ensures breaches { OnOk result
-        (found.new.breaches.items ≡ found.old.breaches.items ++ turn_found drives from sums.now) }
-    ensures appends { Appends is_b6_or_b7 false found.old found.new }
-{
-    let end = first_minute(Week::new(sums.week + 2)).number();
-    let full = sums.fill(drives, from, end);
-    put_breaches(&full, found)?;
-    Ok(full.close())
-}
-
-/// Over so many week ends, from one minute up to another.
-pub fn go_through(
-    sums: &Sums,
-    drives: bool,
-    from: u32,
-    to: u32,
-    ends: u32,
-    found: &mut Found,
-) -> Result<Sums, AllocError>
-    requires here { sums.now.here.minutes ≤ from }
-    requires two { sums.now.two.minutes ≤ from }
-    requires ahead { sums.now.ahead.minutes ≤ from }
-    requires before { from ≤ week_start (sums.now.week + 2) }
-    requires some { from ≤ to }
-    requires early { to ≤ week_start 6788 }
-    requires ends { week_start (sums.now.week + 1 + ends) ≤ to }
-    ensures through { IfOk result (λ after. after ≡ through ends drives from to sums.now) }
-    ensures here { IfOk result (λ after. after.here.minutes ≤ to) }
-    ensures two { IfOk result (λ after. after.two.minutes ≤ to) }
-    ensures ahead { IfOk result (λ after. after.ahead.minutes ≤ to) }
-    ensures week { IfOk result (λ after. after.week ≡ sums.now.week + ends) }
-    ensures breaches { OnOk result
-        (found.new.breaches.items ≡ found.old.breaches.items ++ through_found ends drives from sums.now) }
-    ensures appends { Appends is_b6_or_b7 false found.old found.new }
-{
-    let mut now = *sums;
-    let mut place = from;
-    for _ in 0..ends {
-        let end = first_minute(Week::new(now.week + 2)).number();
-        now = turn(&now, drives, place, found)?;
-        place = end;
-    }
-    Ok(now.fill(drives, place, to))
 }

@@ -4,7 +4,7 @@ ghost use Rattle.tacho_hours.specs.Limits.{latest};
 ghost use Rattle.tacho_pass.specs.Kinds.{is_b6_or_b7};
 ghost use Rattle.tacho_driving.specs.Sums.{SumsStand, SumsDefined};
 
-use crate::sums::{Sums, go_through};
+use crate::sums::Sums;
 use std::alloc::AllocError;
 use tacho_pass::{Found, Pass, is_drive};
 use tacho_time::{Minute, Span, Week, first_minute, week_of};
@@ -49,24 +49,12 @@ impl Pass for WeekSums {
         let from = self.place;
         let to = span.past.number();
         let ends = week_of(span.past).number() - (self.sums.week + 1);
-        let after = go_through(&self.sums, drives, from, to, ends, found);
-        let alive = !self.failed;
-        match after {
-            Ok(sums) => {
-                *self = WeekSums {
-                    place: to,
-                    sums,
-                    failed: self.failed,
-                };
-                if alive { Ok(()) } else { Err(AllocError) }
-            }
+        self.place = to;
+        match self.sums.go_through(drives, from, to, ends, found) {
+            Ok(()) => { if self.failed { Err(AllocError) } else { Ok(()) } }
             Err(_) => {
-                let week = week_of(span.past).number() - 1;
-                *self = WeekSums {
-                    place: to,
-                    sums: Sums::none(week),
-                    failed: true,
-                };
+                self.sums = Sums::none(week_of(span.past).number() - 1);
+                self.failed = true;
                 Err(AllocError)
             }
         }
@@ -77,8 +65,9 @@ impl Pass for WeekSums {
             return Err(AllocError);
         }
         let end = first_minute(Week::new(self.sums.week + 3)).number();
-        match go_through(&self.sums, false, self.place, end, 2, found) {
-            Ok(_) => Ok(()),
+        let mut sums = self.sums;
+        match sums.go_through(false, self.place, end, 2, found) {
+            Ok(()) => Ok(()),
             Err(_) => {
                 self.failed = true;
                 Err(AllocError)

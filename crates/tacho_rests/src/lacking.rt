@@ -2,7 +2,7 @@ ghost use Rattle.std.specs.Prelude.{◌≡◌, true, false};
 ghost use Rattle.tacho_pass.specs.Kinds.{is_b9};
 ghost use Rattle.tacho_rests.specs.Pairs.{PairsStand, PairsDefined};
 
-use crate::pairs::{Pairs, judge_all, with_next};
+use crate::pairs::Pairs;
 use std::alloc::AllocError;
 use tacho_hours::limits::WEEKLY_REST;
 use tacho_hours::{FAR, Run};
@@ -50,11 +50,8 @@ impl Pass for Lacking {
         if run.past.saturating_sub(run.start) < WEEKLY_REST {
             return Ok(());
         }
-        match with_next(&self.pairs, run, found) {
-            Ok(pairs) => {
-                self.pairs = pairs;
-                Ok(())
-            }
+        match self.pairs.feed(run, found) {
+            Ok(()) => Ok(()),
             Err(_) => {
                 self.failed = true;
                 Err(AllocError)
@@ -70,7 +67,7 @@ impl Pass for Lacking {
             start: self.runs.start(),
             past: FAR,
         };
-        match judge_all(&self.pairs, last, horizon, found) {
+        match self.pairs.finish(last, horizon, found) {
             Ok(()) => Ok(()),
             Err(_) => {
                 self.failed = true;

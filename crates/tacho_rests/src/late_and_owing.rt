@@ -46,31 +46,19 @@ impl Pass for LateAndOwing {
     }
 
     fn feed(&mut self, span: Span, found: &mut Found) -> Result<(), AllocError> {
-        let again = Span {
-            start: span.start,
-            past: span.past,
-            mark: span.mark,
-        };
+        let again = span;
         let first = self.late.feed(span, found);
         let second = self.owing.feed(again, found);
-        match first {
-            Ok(()) => match second {
-                Ok(()) => Ok(()),
-                Err(error) => Err(error),
-            },
-            Err(error) => Err(error),
-        }
+        first?;
+        second?;
+        Ok(())
     }
 
     fn finish(&mut self, horizon: Minute, found: &mut Found) -> Result<(), AllocError> {
         let first = self.late.finish(horizon, found);
         let second = self.owing.finish(horizon, found);
-        match first {
-            Ok(()) => match second {
-                Ok(()) => Ok(()),
-                Err(error) => Err(error),
-            },
-            Err(error) => Err(error),
-        }
+        first?;
+        second?;
+        Ok(())
     }
 }

@@ -71,79 +71,88 @@ impl Ledger {
     }
 
     /// With one more rest of its week, if that has nine hours.
-    fn with_rest(&self, rest: Run) -> Ledger
+    fn add(&mut self, rest: Run)
         requires early { rest.start ≤ latest }
         requires some { rest.start < rest.past }
-        ensures week { result.week ≡ self.now.week }
-        ensures debts { result.debts ≡ self.now.debts }
-        ensures rests { rests_in result.rests ≡ rests_with (rests_in self.now.rests) rest }
+        ensures week { self.new.week ≡ self.old.week }
+        ensures debts { self.new.debts ≡ self.old.debts }
+        ensures rests { rests_in self.new.rests ≡ rests_with (rests_in self.old.rests) rest }
     {
-        let mut rests = self.rests;
         if rest.past - rest.start >= DAILY_REST {
-            rests.push(rest);
-        }
-        Ledger {
-            week: self.week,
-            rests,
-            debts: self.debts,
+            self.rests.push(rest);
         }
     }
 
-    /// In the week of the next rest run: the weeks before it are over.
-    fn opened(&self, week: u32, found: &mut Found) -> Result<Ledger, AllocError>
+    /// At the start of a week, with the debts of those before it.
+    fn begin(&mut self, week: u32, debts: Debts)
         requires { week ≤ 6782 }
-        ensures week { IfOk result (λ ledger. ledger.week ≡ week) }
-        ensures opened { IfOk result (λ ledger. (line : Line) (horizon : ℕ) (last run : RunValue) (e : ℕ)
+        ensures week { self.new.week ≡ week }
+        ensures rests { rests_in self.new.rests ≡ [] }
+        ensures debts { self.new.debts ≡ debts }
+    {
+        self.week = week;
+        self.rests = Rests::none();
+        self.debts = debts;
+    }
+
+    /// To the week of the next rest run: the weeks before it are over.
+    fn enter(&mut self, week: u32, found: &mut Found) -> Result<(), AllocError>
+        requires { week ≤ 6782 }
+        ensures week { OnOk result (self.new.week ≡ week) }
+        ensures opened { OnOk result ((line : Line) (horizon : ℕ) (last run : RunValue) (e : ℕ)
             → IsLineTo line horizon last → IsNext line e run → IsInWeek week run.start
-            → IsLedger line horizon e self.now.week (rests_in self.now.rests) (debts_in self.now.debts)
+            → IsLedger line horizon e self.old.week (rests_in self.old.rests) (debts_in self.old.debts)
             (own_of is_b10 found.old.breaches.items) found.old.debts.items
-            → IsOpened line horizon run week (rests_in ledger.rests) (debts_in ledger.debts)
+            → IsOpened line horizon run week (rests_in self.new.rests) (debts_in self.new.debts)
             (own_of is_b10 found.new.breaches.items) found.new.debts.items) }
         ensures appends { Appends is_b10 true found.old found.new }
     {
         if week == self.week {
-            return Ok(*self);
+            return Ok(());
         }
-        let debts = close(self.week, &self.rests, &self.debts, FAR, true, found)?;
-        Ok(Ledger {
-            week,
-            rests: Rests::none(),
-            debts,
-        })
+        match close(self.week, &self.rests, &self.debts, FAR, true, found) {
+            Ok(debts) => {
+                self.begin(week, debts);
+                Ok(())
+            }
+            Err(error) => Err(error),
+        }
     }
 
-    /// With the next rest run of the line, from week 0 on.
-    pub fn next(&self, run: Run, found: &mut Found) -> Result<Ledger, AllocError>
+    /// Takes the next rest run of the line, from week 0 on.
+    pub fn feed(&mut self, run: Run, found: &mut Found) -> Result<(), AllocError>
         requires from { first_week ≤ run.start }
         requires early { run.start ≤ latest }
         requires some { run.start < run.past }
-        ensures kept { IfOk result (λ ledger. (line : Line) (horizon : ℕ) (last : RunValue) (e : ℕ)
+        ensures kept { OnOk result ((line : Line) (horizon : ℕ) (last : RunValue) (e : ℕ)
             → IsLineTo line horizon last → IsNext line e run
-            → IsLedger line horizon e self.now.week (rests_in self.now.rests) (debts_in self.now.debts)
+            → IsLedger line horizon e self.old.week (rests_in self.old.rests) (debts_in self.old.debts)
             (own_of is_b10 found.old.breaches.items) found.old.debts.items
-            → IsLedger line horizon (run.start + 1) ledger.week (rests_in ledger.rests) (debts_in ledger.debts)
+            → IsLedger line horizon (run.start + 1) self.new.week (rests_in self.new.rests) (debts_in self.new.debts)
             (own_of is_b10 found.new.breaches.items) found.new.debts.items) }
         ensures appends { Appends is_b10 true found.old found.new }
     {
         let week = week_of(Minute::new(run.start)).number();
-        let ledger = self.opened(week, found)?;
-        Ok(ledger.with_rest(run))
+        self.enter(week, found)?;
+        self.add(run);
+        Ok(())
     }
 
     /// Puts all debts that are left to what is found, behind the last rest run, which starts at `start`.
-    pub fn finish(&self, start: u32, horizon: Minute, found: &mut Found) -> Result<(), AllocError>
+    pub fn finish(self, start: u32, horizon: Minute, found: &mut Found) -> Result<(), AllocError>
         requires from { first_week ≤ start }
         requires early { start ≤ latest }
         ensures debts { OnOk result ((line : Line) (last : RunValue) (e : ℕ)
             → IsLineTo line horizon last → last.start ≡ start → IsNext line e last
-            → IsLedger line horizon e self.now.week (rests_in self.now.rests) (debts_in self.now.debts)
+            → IsLedger line horizon e self.week (rests_in self.rests) (debts_in self.debts)
             (own_of is_b10 found.old.breaches.items) found.old.debts.items
             → IsOwed line horizon (own_of is_b10 found.new.breaches.items) found.new.debts.items) }
         ensures appends { Appends is_b10 true found.old found.new }
     {
+        let mut ledger = self;
         let week = week_of(Minute::new(start)).number();
-        let ledger = self.opened(week, found)?;
-        let ledger = ledger.with_rest(Run { start, past: FAR });
+        ledger.enter(week, found)?;
+        ledger.add(Run { start, past: FAR });
         let end = horizon.number();
         let left = close(ledger.week, &ledger.rests, &ledger.debts, end, false, found)?;
         emit(left.as_slice(), horizon, found)?;

@@ -50,11 +50,8 @@ impl Pass for Owing {
         if run.start < FIRST_WEEK {
             return Ok(());
         }
-        match self.ledger.next(run, found) {
-            Ok(ledger) => {
-                self.ledger = ledger;
-                Ok(())
-            }
+        match self.ledger.feed(run, found) {
+            Ok(()) => Ok(()),
             Err(_) => {
                 self.failed = true;
                 Err(AllocError)

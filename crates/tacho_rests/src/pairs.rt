@@ -1,4 +1,4 @@
-ghost use Rattle.std.specs.Prelude.{◌≡◌, ◌≤◌, ◌<◌, ◌⊎◌, ◌+◌, ◌++◌, ℕ, List, Some, None, false, IfOk, OnOk, OnErr};
+ghost use Rattle.std.specs.Prelude.{◌≡◌, ◌≤◌, ◌<◌, ◌⊎◌, ◌+◌, ◌++◌, ℕ, List, Some, None, false, OnOk, OnErr};
 ghost use Rattle.tacho_hours.specs.declared.run.Run.{Run as RunValue};
 ghost use Rattle.tacho_hours.specs.Line.{Line};
 ghost use Rattle.tacho_hours.specs.Limits.{first_week, latest, weekly_rest};
@@ -72,109 +72,98 @@ impl Pairs {
         }
     }
 
-    /// With one more weekly rest.
-    pub fn with(&self, rest: Run) -> Pairs
-        ensures week { result.week ≡ self.now.week }
-        ensures here { result.here ≡ tally_with self.now.week rest self.now.here }
-        ensures ahead { result.ahead ≡ tally_with (self.now.week + 1) rest self.now.ahead }
-        ensures last { result.last ≡ Some rest }
+    /// Adds one more weekly rest.
+    fn add(&mut self, rest: Run)
+        ensures week { self.new.week ≡ self.old.week }
+        ensures here { self.new.here ≡ tally_with self.old.week rest self.old.here }
+        ensures ahead { self.new.ahead ≡ tally_with (self.old.week + 1) rest self.old.ahead }
+        ensures last { self.new.last ≡ Some rest }
     {
-        Pairs {
-            week: self.week,
-            here: self.here.with(self.week, rest),
-            ahead: self.ahead.with(self.week + 1, rest),
-            last: Some(rest),
-        }
+        self.here = self.here.with(self.week, rest);
+        self.ahead = self.ahead.with(self.week + 1, rest);
+        self.last = Some(rest);
     }
 
-    /// The same.
-    fn same(&self) -> Pairs
-        ensures { result ≡ self.now }
-    {
-        *self
-    }
-
-    /// With one more week judged.
-    fn judge(&self, found: &mut Found) -> Result<Pairs, AllocError>
-        requires { self.now.week < 6784 }
-        ensures judged { IfOk result (λ pairs. (pairs.week ≡ self.now.week + 1) × (pairs.here ≡ self.now.ahead)
-            × (pairs.ahead ≡ tally_of_last_of (self.now.week + 2) self.now.last) × (pairs.last ≡ self.now.last)) }
+    /// Judges one more week.
+    fn judge(&mut self, found: &mut Found) -> Result<(), AllocError>
+        requires { self.old.week < 6784 }
+        ensures judged { OnOk result ((self.new.week ≡ self.old.week + 1) × (self.new.here ≡ self.old.ahead)
+            × (self.new.ahead ≡ tally_of_last_of (self.old.week + 2) self.old.last)
+            × (self.new.last ≡ self.old.last)) }
         ensures breaches { OnOk result (found.new.breaches.items
-            ≡ found.old.breaches.items ++ listed (pair_breach_of self.now.week self.now.here)) }
+            ≡ found.old.breaches.items ++ listed (pair_breach_of self.old.week self.old.here)) }
         ensures debts { found.new.debts.items ≡ found.old.debts.items }
         ensures same { OnErr result (found.new.breaches.items ≡ found.old.breaches.items) }
     {
-        let breach = pair_breach(self.week, self.here);
-        put(breach, found)?;
-        Ok(Pairs {
+        put(pair_breach(self.week, self.here), found)?;
+        *self = Pairs {
             week: self.week + 1,
             here: self.ahead,
             ahead: tally_of_last(self.week + 2, &self.last),
             last: self.last,
-        })
+        };
+        Ok(())
     }
 
-    /// With all weeks judged that have ended, with the next, by a minute before which all weekly rests have been seen.
-    pub fn judged(&self, by: Minute, found: &mut Found) -> Result<Pairs, AllocError>
+    /// Judges all weeks that have ended, with the next, by a minute before which all weekly rests have been seen.
+    fn judge_by(&mut self, by: Minute, found: &mut Found) -> Result<(), AllocError>
         requires early { by ≤ latest }
         requires from { first_week ≤ by }
-        ensures kept { IfOk result (λ pairs. (line : Line) (runs : List RunValue) (horizon first start : ℕ)
+        ensures kept { OnOk result ((line : Line) (runs : List RunValue) (horizon first start : ℕ)
             → AreRestRuns line runs → by ≤ horizon
             → ((x : RunValue) → IsRestOf line weekly_rest x → x.start < by → x.start < start)
-            → IsPairs line horizon first start self.now.week self.now.here self.now.ahead self.now.last
+            → IsPairs line horizon first start self.old.week self.old.here self.old.ahead self.old.last
             (own_of is_b9 found.old.breaches.items)
-            → IsPairs line horizon first start pairs.week pairs.here pairs.ahead pairs.last
+            → IsPairs line horizon first start self.new.week self.new.here self.new.ahead self.new.last
             (own_of is_b9 found.new.breaches.items)) }
-        ensures end { IfOk result (λ pairs. by < week_start (pairs.week + 2)) }
+        ensures end { OnOk result (by < week_start (self.new.week + 2)) }
         ensures appends { Appends is_b9 false found.old found.new }
     {
         let end = week_of(by).number().saturating_sub(1);
-        let mut pairs = self.same();
         for _week in self.week..end {
-            pairs = pairs.judge(found)?;
+            self.judge(found)?;
         }
-        Ok(pairs)
+        Ok(())
     }
-}
 
-/// With the next weekly rest: the weeks that have ended by its start, with the next, are judged.
-pub fn with_next(pairs: &Pairs, rest: Run, found: &mut Found) -> Result<Pairs, AllocError>
-    requires { rest.start ≤ latest }
-    ensures kept { IfOk result (λ after. (line : Line) (runs : List RunValue) (horizon first later : ℕ)
-        → AreRestRuns line runs → rest.start ≤ horizon → IsRestOf line weekly_rest rest → rest.start < later
-        → ((x : RunValue) → IsRestOf line weekly_rest x → x.start < later → (x.start < rest.start) ⊎ (x ≡ rest))
-        → IsPairs line horizon first rest.start pairs.now.week pairs.now.here pairs.now.ahead pairs.now.last
-        (own_of is_b9 found.old.breaches.items)
-        → IsPairs line horizon first later after.week after.here after.ahead after.last
-        (own_of is_b9 found.new.breaches.items)) }
-    ensures appends { Appends is_b9 false found.old found.new }
-{
-    if rest.start < FIRST_WEEK {
-        return Ok(pairs.with(rest));
+    /// Takes the next weekly rest: the weeks that have ended by its start, with the next, are judged.
+    pub fn feed(&mut self, rest: Run, found: &mut Found) -> Result<(), AllocError>
+        requires { rest.start ≤ latest }
+        ensures kept { OnOk result ((line : Line) (runs : List RunValue) (horizon first later : ℕ)
+            → AreRestRuns line runs → rest.start ≤ horizon → IsRestOf line weekly_rest rest → rest.start < later
+            → ((x : RunValue) → IsRestOf line weekly_rest x → x.start < later → (x.start < rest.start) ⊎ (x ≡ rest))
+            → IsPairs line horizon first rest.start self.old.week self.old.here self.old.ahead self.old.last
+            (own_of is_b9 found.old.breaches.items)
+            → IsPairs line horizon first later self.new.week self.new.here self.new.ahead self.new.last
+            (own_of is_b9 found.new.breaches.items)) }
+        ensures appends { Appends is_b9 false found.old found.new }
+    {
+        if rest.start < FIRST_WEEK {
+            self.add(rest);
+            return Ok(());
+        }
+        self.judge_by(Minute::new(rest.start), found)?;
+        self.add(rest);
+        Ok(())
     }
-    let judged = pairs.judged(Minute::new(rest.start), found)?;
-    Ok(judged.with(rest))
-}
 
-/// Judges all weeks that have ended, with the next, by the horizon, where the last rest run is this.
-pub fn judge_all(
-    pairs: &Pairs,
-    last: Run,
-    horizon: Minute,
-    found: &mut Found,
-) -> Result<(), AllocError>
-    requires start { last.start ≤ latest }
-    requires from { first_week ≤ horizon }
-    requires early { horizon ≤ latest }
-    ensures kept { OnOk result ((line : Line) (runs : List RunValue) (base first : ℕ)
-        → AreRestRuns line runs → base ≡ week_start first → last.start ≤ horizon → IsRestOf line weekly_rest last
-        → ((x : RunValue) → IsRestOf line weekly_rest x → (x.start < last.start) ⊎ (x ≡ last))
-        → IsPairs line horizon first last.start pairs.now.week pairs.now.here pairs.now.ahead pairs.now.last
-        (own_of is_b9 found.old.breaches.items)
-        → AreCollected (λ breach. IsLacking line base horizon breach) (own_of is_b9 found.new.breaches.items)) }
-    ensures appends { Appends is_b9 false found.old found.new }
-{
-    let all = with_next(pairs, last, found)?;
-    let _judged = all.judged(horizon, found)?;
-    Ok(())
+    /// Judges all weeks that have ended, with the next, by the horizon, where the last rest run is this.
+    pub fn finish(self, last: Run, horizon: Minute, found: &mut Found) -> Result<(), AllocError>
+        requires start { last.start ≤ latest }
+        requires from { first_week ≤ horizon }
+        requires early { horizon ≤ latest }
+        ensures kept { OnOk result ((line : Line) (runs : List RunValue) (base first : ℕ)
+            → AreRestRuns line runs → base ≡ week_start first → last.start ≤ horizon
+            → IsRestOf line weekly_rest last
+            → ((x : RunValue) → IsRestOf line weekly_rest x → (x.start < last.start) ⊎ (x ≡ last))
+            → IsPairs line horizon first last.start self.week self.here self.ahead self.last
+            (own_of is_b9 found.old.breaches.items)
+            → AreCollected (λ breach. IsLacking line base horizon breach) (own_of is_b9 found.new.breaches.items)) }
+        ensures appends { Appends is_b9 false found.old found.new }
+    {
+        let mut pairs = self;
+        pairs.feed(last, found)?;
+        pairs.judge_by(horizon, found)?;
+        Ok(())
+    }
 }

@@ -62,19 +62,11 @@ impl Scan {
         let two = self.days.feed(Span { start, past, mark }, found);
         let three = self.sums.feed(Span { start, past, mark }, found);
         let four = self.rests.feed(Span { start, past, mark }, found);
-        match one {
-            Ok(()) => match two {
-                Ok(()) => match three {
-                    Ok(()) => match four {
-                        Ok(()) => Ok(()),
-                        Err(error) => Err(error),
-                    },
-                    Err(error) => Err(error),
-                },
-                Err(error) => Err(error),
-            },
-            Err(error) => Err(error),
-        }
+        one?;
+        two?;
+        three?;
+        four?;
+        Ok(())
     }
 
     /// Takes spans in order, the first of which starts where the last one ended, as each next one does.

@@ -42,10 +42,10 @@ returns-in-Ok-clause-fed c = λ base spans r.
     (own ++ found_any run p) [] base (spans ++ x ∷ []) =
     driven_fed spans x base start p own [] (ready start place p c.args.self.now.failed own [] base spans x
     c.requires.next r) c.requires.some (omega arith) c.args.self.now.day in
-    let period : c.in-Ok.duty ≡ duty_with d x.start x.past (duty_any run p) =
+    let period : c.feed.new.self ≡ duty_with d x.start x.past (duty_any run p) =
     c.in-Ok.ensures.after ∙ rw (drives, run_is, from, to) refl in
-    let items : c.after_span.new.found.breaches.items ≡ old ++ found_any run p =
+    let items : c.feed.new.found.breaches.items ≡ old ++ found_any run p =
     c.in-Ok.ensures.breaches ∙ rw run_is refl in
-    let own_is : own_of is_b4_or_b5 c.after_span.new.found.breaches.items ≡ own ++ found_any run p =
+    let own_is : own_of is_b4_or_b5 c.feed.new.found.breaches.items ≡ own ++ found_any run p =
     ap (own_of is_b4_or_b5) items ∙ own_more is_b4_or_b5 old (found_any run p) (any_kinds run p) in
     rw (own_is, period, c.feed-run.ensures.start, c.feed-run.ensures.place, r.alive) fed)

@@ -35,8 +35,8 @@ returns-in-Ok-clause-finished c = λ base spans r x.
     let ends : DrivingDefined (own ++ duty_found last p) [] base past spans =
     driven_end spans base past start p own []
     (ready start place past p c.args.self.now.failed own [] base spans at r) x c.args.self.now.day in
-    let items : c.end_day.new.found.breaches.items ≡ old ++ duty_found last p =
+    let items : c.end.new.found.breaches.items ≡ old ++ duty_found last p =
     c.in-Ok.ensures.breaches ∙ rw c.start.ensures.is refl in
-    let own_is : own_of is_b4_or_b5 c.end_day.new.found.breaches.items ≡ own ++ duty_found last p =
+    let own_is : own_of is_b4_or_b5 c.end.new.found.breaches.items ≡ own ++ duty_found last p =
     ap (own_of is_b4_or_b5) items ∙ own_more is_b4_or_b5 old (duty_found last p) (duty_kinds last p) in
     rw own_is ends)

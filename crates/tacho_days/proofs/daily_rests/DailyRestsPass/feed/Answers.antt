@@ -38,9 +38,9 @@ returns-in-Ok-clause-fed c = λ base spans r.
     base (spans ++ x ∷ []) =
     rests_fed spans x base start d own [] (ready start place d c.args.self.now.failed own [] base spans x
     c.requires.next r) c.requires.some (omega arith) in
-    let day : c.in-Ok.day ≡ after_any run d = c.in-Ok.ensures.after ∙ rw run_is refl in
-    let items : c.after_span.new.found.breaches.items ≡ old ++ found_any run d =
+    let day : c.feed.new.self ≡ after_any run d = c.in-Ok.ensures.after ∙ rw run_is refl in
+    let items : c.feed.new.found.breaches.items ≡ old ++ found_any run d =
     c.in-Ok.ensures.breaches ∙ rw run_is refl in
-    let own_is : own_of is_b2_or_b3 c.after_span.new.found.breaches.items ≡ own ++ found_any run d =
+    let own_is : own_of is_b2_or_b3 c.feed.new.found.breaches.items ≡ own ++ found_any run d =
     ap (own_of is_b2_or_b3) items ∙ own_more is_b2_or_b3 old (found_any run d) (any_kinds run d) in
     rw (own_is, day, c.feed-rest.ensures.start, c.feed-rest.ensures.place, r.alive) fed)

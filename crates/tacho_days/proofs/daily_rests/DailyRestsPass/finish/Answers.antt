@@ -36,8 +36,8 @@ returns-in-Ok-clause-finished c = λ base spans r x.
     let ends : RestsDefined (own ++ rest_found last d) [] base past spans =
     rests_end spans base past start d own []
     (ready start place past d c.args.self.now.failed own [] base spans at r) x in
-    let items : c.end_rest.new.found.breaches.items ≡ old ++ rest_found last d =
+    let items : c.end.new.found.breaches.items ≡ old ++ rest_found last d =
     c.in-Ok.ensures.breaches ∙ rw c.start.ensures.is (refl {a = old ++ rest_found last d}) in
-    let own_is : own_of is_b2_or_b3 c.end_rest.new.found.breaches.items ≡ own ++ rest_found last d =
+    let own_is : own_of is_b2_or_b3 c.end.new.found.breaches.items ≡ own ++ rest_found last d =
     ap (own_of is_b2_or_b3) items ∙ own_more is_b2_or_b3 old (rest_found last d) (rest_kinds last d) in
     rw own_is ends)

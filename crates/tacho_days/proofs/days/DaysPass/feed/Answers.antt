@@ -3,29 +3,29 @@ use Rattle.tacho_pass.proofs.SharingLemmas.{both_append, first_before, first_aft
 use Rattle.tacho_days.proofs.DaysLemmas.{rests_and_driving}
 use Rattle.tacho_days.proofs.days.DaysPass.feed.Goals as goal
 
-pub returns-in-Ok-second-clause-appends : goal.returns-in-Ok-second-clause-appends
-returns-in-Ok-second-clause-appends c =
+pub returns-clause-appends : goal.returns-clause-appends
+returns-clause-appends c =
     both_append rests_and_driving c.args.found.now c.feed-first.new.found c.feed-second.new.found
-    c.in-Ok.ensures.appends c.in-Ok-second.ensures.appends
+    c.in_ok-first.ensures.appends c.in_ok-second.ensures.appends
 
-pub returns-in-Err-second-clause-appends : goal.returns-in-Err-second-clause-appends
-returns-in-Err-second-clause-appends c =
+pub returns-in_err-second-clause-appends : goal.returns-in_err-second-clause-appends
+returns-in_err-second-clause-appends c =
     both_append rests_and_driving c.args.found.now c.feed-first.new.found c.feed-second.new.found
-    c.in-Ok.ensures.appends c.in-Err-second.ensures.appends
+    c.in_ok-first.ensures.appends c.in_err-second.ensures.appends
 
-pub returns-in-Err-clause-appends : goal.returns-in-Err-clause-appends
-returns-in-Err-clause-appends c =
+pub returns-in_err-first-clause-appends : goal.returns-in_err-first-clause-appends
+returns-in_err-first-clause-appends c =
     both_append rests_and_driving c.args.found.now c.feed-first.new.found c.feed-second.new.found
-    c.in-Err.ensures.appends c.feed-second.ensures.appends
+    c.in_err-first.ensures.appends c.feed-second.ensures.appends
 
-pub returns-in-Ok-second-clause-fed : goal.returns-in-Ok-second-clause-fed
-returns-in-Ok-second-clause-fed c = λ base spans r.
+pub returns-clause-fed : goal.returns-clause-fed
+returns-clause-fed c = λ base spans r.
     (let old : Found = c.args.found.now in
     let mid : Found = c.feed-first.new.found in
     let new : Found = c.feed-second.new.found in
-    let rests = c.in-Ok.ensures.fed base spans (rw (first_before rests_and_driving old.breaches.items) at r.0) in
-    let driving = c.in-Ok-second.ensures.fed base spans
-    (rw (second_before rests_and_driving old mid c.in-Ok.ensures.appends) at r.1) in (
-      rw (first_after rests_and_driving mid new c.in-Ok-second.ensures.appends) rests,
+    let rests = c.in_ok-first.ensures.fed base spans (rw (first_before rests_and_driving old.breaches.items) at r.0) in
+    let driving = c.in_ok-second.ensures.fed base spans
+    (rw (second_before rests_and_driving old mid c.in_ok-first.ensures.appends) at r.1) in (
+      rw (first_after rests_and_driving mid new c.in_ok-second.ensures.appends) rests,
       rw (second_after rests_and_driving new.breaches.items) driving,
     ))

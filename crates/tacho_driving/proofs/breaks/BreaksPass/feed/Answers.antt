@@ -42,10 +42,10 @@ returns-in-Ok-clause-fed c = λ base spans r.
     (own ++ found_any run p) [] base (spans ++ x ∷ []) =
     periods_fed spans x base start p own [] (ready start place p c.args.self.now.failed own [] base spans x
     c.requires.next r) c.requires.some (omega arith) in
-    let period : c.in-Ok.period ≡ period_with d x.start x.past (after_any run p) =
+    let period : c.feed.new.self ≡ period_with d x.start x.past (after_any run p) =
     c.in-Ok.ensures.after ∙ rw (drives, run_is, from, to) refl in
-    let items : c.after_span.new.found.breaches.items ≡ old ++ found_any run p =
+    let items : c.feed.new.found.breaches.items ≡ old ++ found_any run p =
     c.in-Ok.ensures.breaches ∙ rw run_is refl in
-    let own_is : own_of is_b1 c.after_span.new.found.breaches.items ≡ own ++ found_any run p =
+    let own_is : own_of is_b1 c.feed.new.found.breaches.items ≡ own ++ found_any run p =
     ap (own_of is_b1) items ∙ own_more is_b1 old (found_any run p) (any_kinds run p) in
     rw (own_is, period, c.feed-run.ensures.start, c.feed-run.ensures.place, r.alive) fed)

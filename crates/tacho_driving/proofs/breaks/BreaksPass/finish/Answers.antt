@@ -35,8 +35,8 @@ returns-in-Ok-clause-finished c = λ base spans r x.
     let ends : PeriodsDefined (own ++ found_at last p) [] base past spans =
     periods_end spans base past start p own []
     (ready start place past p c.args.self.now.failed own [] base spans at r) x in
-    let items : c.end_run.new.found.breaches.items ≡ old ++ found_at last p =
+    let items : c.end.new.found.breaches.items ≡ old ++ found_at last p =
     c.in-Ok.ensures.breaches ∙ rw c.start.ensures.is refl in
-    let own_is : own_of is_b1 c.end_run.new.found.breaches.items ≡ own ++ found_at last p =
+    let own_is : own_of is_b1 c.end.new.found.breaches.items ≡ own ++ found_at last p =
     ap (own_of is_b1) items ∙ own_more is_b1 old (found_at last p) (found_kinds last p) in
     rw own_is ends)

@@ -20,8 +20,8 @@ ready place s failed own owed base spans x next r =
     subst (λ (p : ℕ). SumsStand p s false own owed base spans) (sym next)
     (subst (λ (b : Bool). SumsStand place s b own owed base spans) r.alive r)
 
-pub returns-then-alive-clause-fed : goal.returns-then-alive-clause-fed
-returns-then-alive-clause-fed c = λ base spans r.
+pub returns-else-self-clause-fed : goal.returns-else-self-clause-fed
+returns-else-self-clause-fed c = λ base spans r.
     (let s : Sums = c.args.self.now.sums in
     let x : Span = c.args.span in
     let place : ℕ = c.args.self.now.place in
@@ -41,10 +41,10 @@ returns-then-alive-clause-fed c = λ base spans r.
     ready place s c.args.self.now.failed own [] base spans x next r in
     let fed : SumsStand x.past (through n d x.start x.past s) false (own ++ through_found n d x.start s) [] base
     (spans ++ x ∷ []) = sums_fed spans x base s own [] n ready' some (omega arith) (omega arith) in
-    let sums : c.in-Ok.sums ≡ through n d x.start x.past s = c.in-Ok.ensures.through ∙ rw (drives, to, next) refl in
-    let items : c.go_through-after.new.found.breaches.items ≡ old ++ through_found n d x.start s =
+    let sums : c.go_through.new.self ≡ through n d x.start x.past s = c.in-Ok.ensures.through ∙ rw (drives, to, next) refl in
+    let items : c.go_through.new.found.breaches.items ≡ old ++ through_found n d x.start s =
     c.in-Ok.ensures.breaches ∙ rw (drives, next) refl in
-    let own_is : own_of is_b6_or_b7 c.go_through-after.new.found.breaches.items ≡ own ++ through_found n d x.start s =
+    let own_is : own_of is_b6_or_b7 c.go_through.new.found.breaches.items ≡ own ++ through_found n d x.start s =
     ap (own_of is_b6_or_b7) items ∙ own_more is_b6_or_b7 old (through_found n d x.start s)
     (through_kinds n d x.start s) in
     rw (own_is, sums, to, r.alive) fed)

@@ -60,7 +60,7 @@ returns-then-saturating_sub-lt-WEEKLY_REST-clause-fed c = λ base spans r.
 pub returns-in-Ok-clause-fed : goal.returns-in-Ok-clause-fed
 returns-in-Ok-clause-fed c = λ base spans r.
     (let p = c.args.self.now.pairs in
-    let q = c.in-Ok.pairs in
+    let q = c.feed.new.self in
     let start : ℕ = c.args.self.now.runs.start in
     let own : List Breach = own_of is_b9 c.args.found.now.breaches.items in
     let s : Span = c.args.span in
@@ -72,4 +72,4 @@ returns-in-Ok-clause-fed c = λ base spans r.
     (pairs_fed_more spans s base start p.week p.here p.ahead p.last own []
     (ready start c.args.self.now.runs.place p.week p.here p.ahead p.last c.args.self.now.failed own [] base spans s
     c.requires.next r) c.requires.some run is (omega arith)
-    q.week q.here q.ahead q.last (own_of is_b9 c.with_next.new.found.breaches.items) c.in-Ok.ensures.kept))
+    q.week q.here q.ahead q.last (own_of is_b9 c.feed.new.found.breaches.items) c.in-Ok.ensures.kept))

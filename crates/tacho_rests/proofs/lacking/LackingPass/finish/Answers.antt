@@ -35,7 +35,7 @@ returns-in-Ok-clause-finished c = λ base spans r x.
     let start : ℕ = c.args.self.now.runs.start in
     let past : ℕ = c.args.horizon in
     let own : List Breach = own_of is_b9 c.args.found.now.breaches.items in
-    let own' : List Breach = own_of is_b9 c.judge_all.new.found.breaches.items in
+    let own' : List Breach = own_of is_b9 c.finish.new.found.breaches.items in
     let within : past ≤ 68374080 = x.within in
     let Law : ℕ → Type 0 = λ n. (line : Line) (runs : List Run) (b f : ℕ) → AreRestRuns line runs → b ≡ week_start f
     → n ≤ past → IsRestOf line 1440 (record { start = n; past = FAR })

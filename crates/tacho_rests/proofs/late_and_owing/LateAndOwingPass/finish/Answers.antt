@@ -6,33 +6,33 @@ use Rattle.tacho_pass.proofs.SharingLemmas.{debts_before}
 use Rattle.tacho_rests.proofs.KindsLemmas.{late_and_owing}
 use Rattle.tacho_rests.proofs.late_and_owing.LateAndOwingPass.finish.Goals as goal
 
-pub returns-in-Ok-second-clause-appends : goal.returns-in-Ok-second-clause-appends
-returns-in-Ok-second-clause-appends c =
+pub returns-clause-appends : goal.returns-clause-appends
+returns-clause-appends c =
     both_append late_and_owing c.args.found.now c.finish-first.new.found c.finish-second.new.found
-    c.in-Ok.ensures.appends
-    c.in-Ok-second.ensures.appends
+    c.in_ok-first.ensures.appends
+    c.in_ok-second.ensures.appends
 
-pub returns-in-Err-second-clause-appends : goal.returns-in-Err-second-clause-appends
-returns-in-Err-second-clause-appends c =
+pub returns-in_err-second-clause-appends : goal.returns-in_err-second-clause-appends
+returns-in_err-second-clause-appends c =
     both_append late_and_owing c.args.found.now c.finish-first.new.found c.finish-second.new.found
-    c.in-Ok.ensures.appends
-    c.in-Err-second.ensures.appends
+    c.in_ok-first.ensures.appends
+    c.in_err-second.ensures.appends
 
-pub returns-in-Err-clause-appends : goal.returns-in-Err-clause-appends
-returns-in-Err-clause-appends c =
+pub returns-in_err-first-clause-appends : goal.returns-in_err-first-clause-appends
+returns-in_err-first-clause-appends c =
     both_append late_and_owing c.args.found.now c.finish-first.new.found c.finish-second.new.found
-    c.in-Err.ensures.appends c.finish-second.ensures.appends
+    c.in_err-first.ensures.appends c.finish-second.ensures.appends
 
-pub returns-in-Ok-second-clause-finished : goal.returns-in-Ok-second-clause-finished
-returns-in-Ok-second-clause-finished c = λ base spans r x.
+pub returns-clause-finished : goal.returns-clause-finished
+returns-clause-finished c = λ base spans r x.
     (let old : Found = c.args.found.now in
     let mid : Found = c.finish-first.new.found in
     let new : Found = c.finish-second.new.found in
-    let late = c.in-Ok.ensures.finished base spans (rw (first_before late_and_owing old.breaches.items) at r.0) x in
-    let owing = c.in-Ok-second.ensures.finished base spans
-    (rw (debts_before is_b8 true old mid c.in-Ok.ensures.appends) at (rw
-    (second_before late_and_owing old mid c.in-Ok.ensures.appends) at r.1)) x in (
-      rw (first_after late_and_owing mid new c.in-Ok-second.ensures.appends) late,
+    let late = c.in_ok-first.ensures.finished base spans (rw (first_before late_and_owing old.breaches.items) at r.0) x in
+    let owing = c.in_ok-second.ensures.finished base spans
+    (rw (debts_before is_b8 true old mid c.in_ok-first.ensures.appends) at (rw
+    (second_before late_and_owing old mid c.in_ok-first.ensures.appends) at r.1)) x in (
+      rw (first_after late_and_owing mid new c.in_ok-second.ensures.appends) late,
       rw
           (second_after late_and_owing new.breaches.items) owing,
     ))

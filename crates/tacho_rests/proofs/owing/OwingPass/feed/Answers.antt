@@ -70,11 +70,11 @@ returns-in-Ok-clause-fed c = λ base spans r.
     let owed : List Debt = c.args.found.now.debts.items in
     let s : Span = c.args.span in
     let is : run_before start s ≡ Some c.in-Some.run' = sym c.in-Some.ensures.run in
-    let rs' : List Run = take c.in-Ok.ledger.rests.count c.in-Ok.ledger.rests.slots in
-    let debts' : List Debt = take c.in-Ok.ledger.debts.count c.in-Ok.ledger.debts.slots in
+    let rs' : List Run = take c.feed.new.self.rests.count c.feed.new.self.rests.slots in
+    let debts' : List Debt = take c.feed.new.self.debts.count c.feed.new.self.debts.slots in
     rw (c.feed-run.ensures.start, c.feed-run.ensures.place, r.alive)
     (fed_next spans s base start w rs debts own owed
     (ready start c.args.self.now.runs.place w rs debts c.args.self.now.failed own owed base spans s c.requires.next
     r) c.requires.some c.in-Some.run' is c.if-run-lt-FIRST_WEEK.false
-    c.in-Ok.ledger.week rs' debts' (own_of is_b10 c.next.new.found.breaches.items) c.next.new.found.debts.items
+    c.feed.new.self.week rs' debts' (own_of is_b10 c.feed.new.found.breaches.items) c.feed.new.found.debts.items
     c.in-Ok.ensures.kept))

@@ -8,26 +8,25 @@ use Rattle.tacho_pass.proofs.AppendingLemmas.{appends_none, appends_then, append
 use Rattle.tacho_rests.specs.declared.tally.Tally.{Tally}
 use Rattle.tacho_rests.specs.Pairs.{pair_breach, IsPairs}
 use Rattle.tacho_rests.proofs.PairsLemmas.{pairs_judge, pair_kinds}
-use Rattle.tacho_rests.proofs.pairs.Pairs.judged.Goals as goal
+use Rattle.tacho_rests.proofs.pairs.Pairs.judge_by.Goals as goal
 
 pub loop-week-init : goal.loop-week-init
 loop-week-init c =
-    rw c.same-pairs.ensures
-    (record {
+    record {
       week = refl;
       kept = λ line runs horizon first start are le all s. s;
       appends = appends_none is_b9 false c.args.found.now;
-    })
+    }
 
 pub loop-week-preserved : goal.loop-week-preserved
 loop-week-preserved c =
-    let w : ℕ = c.loop-week.pairs.week in
-    let here : Tally = c.loop-week.pairs.here in
-    let ahead : Tally = c.loop-week.pairs.ahead in
-    let last : Option Run = c.loop-week.pairs.last in
+    let w : ℕ = c.loop-week.self.week in
+    let here : Tally = c.loop-week.self.here in
+    let ahead : Tally = c.loop-week.self.ahead in
+    let last : Option Run = c.loop-week.self.last in
     let old : List Breach = c.loop-week.found.breaches.items in
     let more : List Breach = listed (pair_breach w here) in
-    let j = c.in_ok-pairs.ensures.judged in
+    let j = c.in_ok-judge.ensures.judged in
     let at : w ≡ c.loop-week._week = c.loop-week.invariant.week in
     let from : 5760 + 10080 * c.week_of.result ≤ c.args.by = c.week_of.ensures.from in
     let is : c.number.result ≡ c.week_of.result = c.number.ensures.value in
@@ -35,7 +34,7 @@ loop-week-preserved c =
     let below : c.loop-week._week < c.saturating_sub-end.result = c.loop-week-test.true in
     let early : c.args.by ≤ 68374080 = c.requires.early in
     let own_is : own_of is_b9 c.judge.new.found.breaches.items ≡ own_of is_b9 old ++ more =
-    ap (own_of is_b9) c.in_ok-pairs.ensures.breaches ∙ own_more is_b9 old more (pair_kinds w here) in
+    ap (own_of is_b9) c.in_ok-judge.ensures.breaches ∙ own_more is_b9 old more (pair_kinds w here) in
     record {
       week = j.0 ∙ ap (λ (n : ℕ). n + 1) at;
       kept = λ line runs horizon first start are le all s.
@@ -47,6 +46,6 @@ loop-week-preserved c =
       appends = appends_then is_b9 false c.args.found.now c.loop-week.found c.judge.new.found
           c.loop-week.invariant.appends
           (appends_some is_b9 false c.loop-week.found c.judge.new.found more [] (pair_kinds w here) (λ e. refl)
-          c.in_ok-pairs.ensures.breaches (c.in_ok-pairs.ensures.debts
+          c.in_ok-judge.ensures.breaches (c.in_ok-judge.ensures.debts
           ∙ sym (append-nil c.loop-week.found.debts.items)));
     }

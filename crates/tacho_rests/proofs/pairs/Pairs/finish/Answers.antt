@@ -5,33 +5,33 @@ use Rattle.tacho_pass.specs.Kinds.{is_b9}
 use Rattle.tacho_pass.proofs.AppendingLemmas.{appends_then}
 use Rattle.tacho_rests.specs.Pairs.{IsPairs}
 use Rattle.tacho_rests.proofs.PairsLemmas.{pairs_all}
-use Rattle.tacho_rests.proofs.pairs.judge_all.Goals as goal
+use Rattle.tacho_rests.proofs.pairs.Pairs.finish.Goals as goal
 
-pub returns-in_err-_judged-clause-appends : goal.returns-in_err-_judged-clause-appends
-returns-in_err-_judged-clause-appends c =
-    appends_then is_b9 false c.args.found.now c.with_next.new.found c.judged.new.found c.in_ok-all.ensures.appends
-    c.in_err-_judged.ensures.appends
+pub returns-in_err-judge_by-clause-appends : goal.returns-in_err-judge_by-clause-appends
+returns-in_err-judge_by-clause-appends c =
+    appends_then is_b9 false c.args.found.now c.feed.new.found c.judge_by.new.found c.in_ok-feed.ensures.appends
+    c.in_err-judge_by.ensures.appends
 
 pub returns-clause-appends : goal.returns-clause-appends
-returns-clause-appends c = appends_then is_b9 false c.args.found.now c.with_next.new.found c.judged.new.found
-    c.in_ok-all.ensures.appends c.in_ok-_judged.ensures.appends
+returns-clause-appends c = appends_then is_b9 false c.args.found.now c.feed.new.found c.judge_by.new.found
+    c.in_ok-feed.ensures.appends c.in_ok-judge_by.ensures.appends
 
 pub returns-clause-kept : goal.returns-clause-kept
 returns-clause-kept c = λ line runs base first are monday le is only s.
     (let horizon : ℕ = c.args.horizon in
     let start : ℕ = c.args.last.start in
-    let p = c.in_ok-all.all in
-    let q = c.in_ok-_judged._judged in
+    let p = c.feed.new.self in
+    let q = c.judge_by.new.self in
     let a : IsPairs line horizon first (start + 1) p.week p.here p.ahead p.last
-    (own_of is_b9 c.with_next.new.found.breaches.items) =
-    c.in_ok-all.ensures.kept line runs horizon first (start + 1) are le is (omega arith)
+    (own_of is_b9 c.feed.new.found.breaches.items) =
+    c.in_ok-feed.ensures.kept line runs horizon first (start + 1) are le is (omega arith)
     (λ x is' below. only x is') s in
     let b : IsPairs line horizon first (start + 1) q.week q.here q.ahead q.last
-    (own_of is_b9 c.judged.new.found.breaches.items) =
-    c.in_ok-_judged.ensures.kept line runs horizon first (start + 1) are (omega arith)
+    (own_of is_b9 c.judge_by.new.found.breaches.items) =
+    c.in_ok-judge_by.ensures.kept line runs horizon first (start + 1) are (omega arith)
     (λ x is' below. elim (only x is') [
       | inl old ↦ omega arith
       | inr same ↦ (let e : x.start ≡ start = ap (λ (r : Run). r.start) same in omega arith)
     ]) a in
     pairs_all line base horizon first (start + 1) q.week q.here q.ahead q.last
-    (own_of is_b9 c.judged.new.found.breaches.items) monday c.in_ok-_judged.ensures.end b)
+    (own_of is_b9 c.judge_by.new.found.breaches.items) monday c.in_ok-judge_by.ensures.end b)

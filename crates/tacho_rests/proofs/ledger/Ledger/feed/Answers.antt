@@ -6,7 +6,7 @@ use Rattle.tacho_pass.specs.Found.{own_of}
 use Rattle.tacho_pass.specs.Kinds.{is_b10}
 use Rattle.tacho_rests.specs.Turns.{IsOpened}
 use Rattle.tacho_rests.proofs.LedgerLemmas.{ledger_rest}
-use Rattle.tacho_rests.proofs.ledger.Ledger.next.Goals as goal
+use Rattle.tacho_rests.proofs.ledger.Ledger.feed.Goals as goal
 
 pub returns-clause-kept : goal.returns-clause-kept
 returns-clause-kept c = λ line horizon last e l n s.
@@ -16,10 +16,10 @@ returns-clause-kept c = λ line horizon last e l n s.
     let start : c.new.result ≡ c.args.run.start = c.new.ensures in
     let is : v ≡ c.week_of.result = c.number-week.ensures.value in
     let week : IsInWeek v c.args.run.start = (omega arith, omega arith) in
-    let rests : List Run = take c.in_ok-ledger.ledger.rests.count c.in_ok-ledger.ledger.rests.slots in
-    let debts : List Debt = take c.in_ok-ledger.ledger.debts.count c.in_ok-ledger.ledger.debts.slots in
-    let o : IsOpened line horizon c.args.run v rests debts (own_of is_b10 c.opened.new.found.breaches.items)
-    c.opened.new.found.debts.items = c.in_ok-ledger.ensures.opened line horizon last c.args.run e l n week s in
-    rw (c.with_rest.ensures.week, c.in_ok-ledger.ensures.week, c.with_rest.ensures.debts, c.with_rest.ensures.rests)
-    (ledger_rest line horizon last l v rests debts (own_of is_b10 c.opened.new.found.breaches.items)
-    c.opened.new.found.debts.items c.args.run o week))
+    let rests : List Run = take c.enter.new.self.rests.count c.enter.new.self.rests.slots in
+    let debts : List Debt = take c.enter.new.self.debts.count c.enter.new.self.debts.slots in
+    let o : IsOpened line horizon c.args.run v rests debts (own_of is_b10 c.enter.new.found.breaches.items)
+    c.enter.new.found.debts.items = c.in_ok-enter.ensures.opened line horizon last c.args.run e l n week s in
+    rw (c.add.ensures.week, c.in_ok-enter.ensures.week, c.add.ensures.debts, c.add.ensures.rests)
+    (ledger_rest line horizon last l v rests debts (own_of is_b10 c.enter.new.found.breaches.items)
+    c.enter.new.found.debts.items c.args.run o week))

@@ -10,14 +10,14 @@ use Rattle.tacho_pass.proofs.AppendingLemmas.{appends_none, appends_some}
 use Rattle.tacho_days.specs.declared.duty_driving.DutyDriving.{DutyDriving}
 use Rattle.tacho_days.specs.DailyDriving.{often_of, found_of}
 use Rattle.tacho_days.proofs.DailyDrivingLemmas.{kinds_of}
-use Rattle.tacho_days.proofs.duty_driving.end_day.Goals as goal
+use Rattle.tacho_days.proofs.duty_driving.DutyDriving.end.Goals as goal
 
 pub returns-else-ends_day-clause-appends : goal.returns-else-ends_day-clause-appends
 returns-else-ends_day-clause-appends c = appends_none is_b4_or_b5 false c.args.found.now
 
 pub returns-in_ok-put-2-clause-appends : goal.returns-in_ok-put-2-clause-appends
 returns-in_ok-put-2-clause-appends c =
-    let d : DutyDriving = c.args.duty.now in
+    let d : DutyDriving = c.args.self.now in
     let now : Found = c.put-then-ends_day.new.found in
     let old : List Breach = c.args.found.now.breaches.items in
     let xs : List Breach = listed (over_of B4 600 d.from d.ten) in
