@@ -6,8 +6,12 @@
 //!
 //! A command is a line of standard input: the words of the program `tacho` behind its name, with any word for the archive, and
 //! then, where it reads something, ` < ` and the path of a file: `enter - 17 < hours.csv`. What it prints is told as it is, and
-//! then a line with its status: `status 2` where the line names no command, or its file can't be read. One command more imports a
-//! card file by a driver himself: `own - 17 both < day.ddd`.
+//! then a line with its status: `status 2` where the line names no command, or its file can't be read.
+//!
+//! Two commands more are no words of that program. `own - 17 both < day.ddd` imports a card file by a driver himself.
+//! `examined - 17 19793` prints what `breaches - 17` prints where the driver's base is the day of that number from
+//! 1970-01-01 on, but reads what he holds from that day on as one line first, and then examines it, so that the two can
+//! be measured beside each other; with `whole` behind it, all that he holds.
 #![tactic(auto)]
 
 use sqlite::{Connection, File, FileStore};
@@ -16,12 +20,24 @@ use std::io::{self, BufRead, BufReader, Write};
 use std::{env, fs};
 use tacho_card::Part;
 use tacho_cli::{parse, perform};
-use tacho_sheet::{Fault, fault_line, imported_line};
+use tacho_sheet::{Fault, breach_text, fault_line, imported_line};
 use tacho_shelf::Shelf;
-use tacho_state::{Caller, Keeper, StoreFault};
+use tacho_state::{Caller, Keeper, StoreFault, base_of, report_of};
 use tacho_store::{Archive, open_memory};
 use tacho_tables::opening;
-use tacho_time::Device;
+use tacho_time::{Device, Minute};
+
+/// 2100-01-01 00:00, where the last day ends that is examined.
+const LAST: u32 = 68_374_080;
+
+/// What of all that a driver holds is read to be examined.
+#[derive(Clone, Copy)]
+enum Extent {
+    /// What lies behind his base.
+    FromBase,
+    /// All of it.
+    Whole,
+}
 
 /// Words between blanks, behind the program's name.
 fn words_of(alloc: Global, line: &str) -> Result<Vec<String>, AllocError> {
@@ -31,6 +47,13 @@ fn words_of(alloc: Global, line: &str) -> Result<Vec<String>, AllocError> {
         words.push(String::from_str(alloc, word)?)?;
     }
     Ok(words)
+}
+
+/// Prints why a command was refused, and answers the status.
+fn refuse(rt: &HostRuntime, fault: StoreFault) -> io::Result<u8> {
+    let has_failed = matches!(&fault, StoreFault::Store | StoreFault::Memory);
+    print!(rt; "{}", fault_line(Fault::Store(fault)).as_str())?;
+    Ok(if has_failed { 3 } else { 1 })
 }
 
 /// Imports a card file by a driver, whose number and part these words are, and answers the status.
@@ -54,11 +77,47 @@ fn import_own<K: Keeper>(
             rt.stdout().write_all(imported_line(imported).as_slice())?;
             Ok(0)
         }
-        Err(fault) => {
-            let has_failed = matches!(&fault, StoreFault::Store | StoreFault::Memory);
-            print!(rt; "{}", fault_line(Fault::Store(fault)).as_str())?;
-            Ok(if has_failed { 3 } else { 1 })
+        Err(fault) => refuse(rt, fault),
+    }
+}
+
+/// The text of the breaches of a driver from a day on, by a line that is read first.
+fn examined<K: Keeper>(
+    alloc: Global,
+    keeper: &mut K,
+    driver: u32,
+    day: u32,
+    extent: Extent,
+) -> Result<String, StoreFault> {
+    let Some(base) = base_of(day) else {
+        return Err(StoreFault::NotMonday);
+    };
+    let line = match extent {
+        Extent::FromBase => keeper.line_within(alloc, driver, base, Minute::new(LAST))?,
+        Extent::Whole => keeper.line(alloc, driver)?,
+    };
+    let report = report_of(alloc, &line, day)?;
+    Ok(breach_text(alloc, &report)?)
+}
+
+/// Prints the breaches of a driver, whose number these words are with that of a day, and answers the status.
+fn tell_examined<K: Keeper>(rt: &HostRuntime, keeper: &mut K, words: &str) -> io::Result<u8> {
+    let (words, extent) = match words.strip_suffix(" whole") {
+        Some(words) => (words, Extent::Whole),
+        None => (words, Extent::FromBase),
+    };
+    let Some((driver, day)) = words.split_once(' ') else {
+        return Ok(2);
+    };
+    let (Ok(driver), Ok(day)) = (driver.parse::<u32>(), day.parse::<u32>()) else {
+        return Ok(2);
+    };
+    match examined(rt.alloc(), keeper, driver, day, extent) {
+        Ok(text) => {
+            rt.stdout().write_all(text.as_bytes())?;
+            Ok(0)
         }
+        Err(fault) => refuse(rt, fault),
     }
 }
 
@@ -68,6 +127,9 @@ fn obey<K: Keeper>(rt: &HostRuntime, keeper: &mut K, line: &str) -> io::Result<u
     let input = fs::read(rt, path)?;
     if let Some(words) = line.strip_prefix("own - ") {
         return import_own(rt, keeper, words, &input);
+    }
+    if let Some(words) = line.strip_prefix("examined - ") {
+        return tell_examined(rt, keeper, words);
     }
     let words = words_of(rt.alloc(), line)?;
     let Ok(job) = parse(rt.alloc(), &words) else {
