@@ -1,7 +1,8 @@
 -- What CREATE TABLE leaves, and what is read of `meta`.
 use Rattle.std.proofs.Common.{◌≡◌, ℕ, pos, List, [], ◌∷◌, codes, Ok, Option, Some, None, true, false, refl, sym, ap, subst, ◌∙◌, arith}
 use Rattle.std.specs.Prelude.{IfSome, IsNone, ◌↔◌}
-use Rattle.std.proofs.lemmas.List.Sorted.{IsPermutation-refl}
+use Rattle.std.specs.Prelude.{IsPermutation}
+use Rattle.std.proofs.lemmas.List.Sorted.{IsPermutation-refl, length_permutation}
 use Rattle.sqlite.specs.declared.types.Value.TheVariants.{Null, Int}
 use Rattle.sqlite.specs.Order.{Row}
 use Rattle.sqlite.specs.Source.TheVariants.{Values}
@@ -11,7 +12,7 @@ use Rattle.sqlite.specs.Listing.{understood}
 use Rattle.tacho_tables.specs.Schema.{archive_schema}
 use Rattle.tacho_tables.specs.Schema as made
 use Rattle.tacho_tables.specs.Rows.{Stands, StandNumbered, span_columns, download_columns, entry_columns}
-use Rattle.tacho_tables.specs.Tables.{Stand, no_rows}
+use Rattle.tacho_tables.specs.Tables.{Stand, IsVersion, no_rows}
 use Rattle.tacho_tables.specs.Making.{AreEmpty}
 use Rattle.tacho_tables.proofs.Idle.{idle}
 use Rattle.tacho_tables.proofs.Answers.{listed, shows, eq_test}
@@ -104,20 +105,40 @@ makes_archive old new count has none h =
       }),
     )
 
--- the reading of the version shows 1
-pub shows_version : (old new : State) (rows : List Row) → old.now.schema ≡ archive_schema → Shown version_text [] old new rows
-    → old.now.trees 0 ≡ meta_row ∷ [] → rows ≡ (Int (pos 1) ∷ []) ∷ []
-shows_version old new rows has h is =
+-- the reading of the version shows the one that is there
+pub shows_version : (version : ℕ) (old new : State) (rows : List Row) → old.now.schema ≡ archive_schema → Shown version_text [] old new rows
+    → IsVersion version old.now.trees → rows ≡ (Int (pos version) ∷ []) ∷ []
+shows_version version old new rows has h is =
     let db = old.now.trees in
     let shown = col 1 2 ∷ [] in
     let got = reads_as version_text [] old new archive_schema has _ version_is.meant version_is.plain version_is.unlisted rows h in
     let l = listed 0 first_row shown [] (overlay db []) [] rows (got.answer Null) in
-    one_permutation (Int (pos 1) ∷ []) rows (rw (none_given db 0, is, eq_test 1 1) at
+    one_permutation (Int (pos version) ∷ []) rows (rw (none_given db 0, is, eq_test 1 1) at
     (shows 0 first_row shown [] (overlay db []) [] rows l))
 
--- and what is read of the first such row is 1
-pub first_is_one : (found : Option ℕ) (rows : List Row) → rows ≡ (Int (pos 1) ∷ []) ∷ [] → (IsNone found ↔ (rows ≡ []))
+-- and what is read of the first such row is that
+pub first_is : (version : ℕ) (found : Option ℕ) (rows : List Row) → rows ≡ (Int (pos version) ∷ []) ∷ [] → (IsNone found ↔ (rows ≡ []))
     → IfSome found (λ n. (m : ℕ) (more : List Row) → rows ≡ (Int (pos m) ∷ []) ∷ more → n ≡ m)
-    → found ≡ Some 1
-first_is_one None rows is none some = absurd (let e = sym is ∙ none.0 refl in cc)
-first_is_one (Some n) rows is none some = ap Some (some 1 [] is)
+    → found ≡ Some version
+first_is version None rows is none some = absurd (let e = sym is ∙ none.0 refl in cc)
+first_is version (Some n) rows is none some = ap Some (some version [] is)
+
+-- nothing is a permutation of nothing alone
+no_permutation : (rows : List Row) → IsPermutation [] rows → rows ≡ []
+no_permutation [] h = refl
+no_permutation (r ∷ rows) h = absurd (let e = length_permutation [] (r ∷ rows) h in cc)
+
+-- and nothing where there is no row
+pub shows_no_version : (old new : State) (rows : List Row) → old.now.schema ≡ archive_schema → Shown version_text [] old new rows
+    → old.now.trees 0 ≡ [] → rows ≡ []
+shows_no_version old new rows has h is =
+    let db = old.now.trees in
+    let shown = col 1 2 ∷ [] in
+    let got = reads_as version_text [] old new archive_schema has _ version_is.meant version_is.plain version_is.unlisted rows h in
+    let l = listed 0 first_row shown [] (overlay db []) [] rows (got.answer Null) in
+    no_permutation rows (rw (none_given db 0, is) at (shows 0 first_row shown [] (overlay db []) [] rows l))
+
+-- so that nothing is found
+pub first_is_none : (found : Option ℕ) (rows : List Row) → rows ≡ [] → (IsNone found ↔ (rows ≡ [])) → found ≡ None
+first_is_none None rows is none = refl
+first_is_none (Some n) rows is none = let no = none.1 is in cc

@@ -1,7 +1,7 @@
 -- The rows of a query on a driver's held spans that are read one at a time, from a start on.
 use Rattle.std.proofs.Common.{◌≡◌, ◌∙◌, ℕ, pos, ◌==◌, ◌&&◌, Ordering, Less, Equal, Greater, Bool, true, false, cond}
 use Rattle.std.proofs.Common.{List, [], ◌∷◌, ◌++◌}
-use Rattle.std.proofs.Common.{map, filter, codes, Option, None, Result, Ok, Err, IsTrue, inl, inr, refl, sym, ap}
+use Rattle.std.proofs.Common.{map, filter, Option, None, Result, Ok, Err, IfOk, OnErr, IsTrue, inl, inr, refl, sym, ap}
 use Rattle.std.proofs.Common.{subst, arith}
 use Rattle.std.specs.Prelude.{nat_lt, nat_le}
 use Rattle.std.specs.List.Sorted.{IsSorted}
@@ -14,14 +14,14 @@ use Rattle.sqlite.specs.declared.types.Value.{Value}
 use Rattle.sqlite.specs.Clock.{timed}
 use Rattle.sqlite.specs.Collation.TheVariants.{Binary}
 use Rattle.sqlite.specs.Command.{Command}
-use Rattle.sqlite.specs.Given.{HasGiven, HasBegun, Returns}
+use Rattle.sqlite.specs.Given.{HasGiven, HasBegun, Returns, IsRefused}
 use Rattle.sqlite.specs.Held.{Held, state}
 use Rattle.sqlite.specs.Listing.{understood, reads_listing, listing_schema, is_select, if_select}
 use Rattle.sqlite.specs.Order.{Row}
 use Rattle.sqlite.specs.Program.{overlay}
 use Rattle.sqlite.specs.Schema.{Schema}
 use Rattle.sqlite.specs.State.{State, Shown, IsUnchanged, IsNotRun, CommitsShowing, FailsToQuery, FailsToShow}
-use Rattle.sqlite.specs.State.{Survives}
+use Rattle.sqlite.specs.State.{Survives, HasCleanDisk}
 use Rattle.sqlite.specs.Store.{Ghosts}
 use Rattle.sqlite.specs.Term.{Term, col, op2}
 use Rattle.sqlite.proofs.Callers.{command_of, EndsIn, reads_as, given_begin, begins_shown}
@@ -40,7 +40,7 @@ use Rattle.sqlite_tied.specs.Compute.{everything}
 use Rattle.sqlite_trees.proofs.ListLemmas.{pull_back, map-map}
 use Rattle.sqlite_value.specs.Order.{value_cmp}
 use Rattle.sqlite_value.proofs.OrderLemmas.{value_cmp-Int}
-use Rattle.tacho_tables.specs.Next.{AreOnward, IsKept}
+use Rattle.tacho_tables.specs.Next.{AreOnward, IsKept, onward_text, IsAsked, BeginsOnward}
 use Rattle.tacho_tables.specs.Rows.{Stands, SpanRow, span_columns}
 use Rattle.tacho_tables.specs.Schema.{archive_schema}
 use Rattle.tacho_tables.specs.Tables.{is_onward, span_shown}
@@ -51,10 +51,6 @@ use Rattle.tacho_tables.proofs.Statements.{IsReading, three_shown, by_start, spa
 use Rattle.tacho_tables.proofs.Stored.{shown_of}
 
 -- ---- the text
-
--- it reads the spans of driver ?1 that begin from ?2 on
-abbrev pub onward_text : List ℕ
-onward_text = codes "SELECT start, past, mark FROM held WHERE driver = ?1 AND ?2 <= start ORDER BY start"
 
 -- these are its tests
 abbrev onward : List Term
@@ -160,6 +156,43 @@ onward_kept params old new e (inl (inr h)) = record {
 onward_kept params old new e (inr h) =
     let bare = understood_bare old.now.schema onward_text h.0 onward_selects h.1.is in
     kept_same old new (subst (FailsToShow old new onward_text h.0 (timed params h.0.formats h.1.now) e) bare h.2).3
+
+module _ {S X : Type 0} (g : Ghosts S) (params : Row) (old : Held S) (r : Result X Error) where
+  -- what is left of the connection where the query does not begin
+  pub asked_where_refused : (new : Held S) → OnErr r (IsRefused g onward_text params old r new)
+      → OnErr r (IsAsked g old new)
+  asked_where_refused new = go r where
+    go : (q : Result X Error) → OnErr q (IsRefused g onward_text params old q new) → OnErr q (IsAsked g old new)
+    go (Ok x) h = tt
+    go (Err e) h = record {
+      kept = λ clean. onward_kept params (state g old) (state g new) e (h.err clean);
+      mode = h.mode;
+      survives = onward_commits_nothing params (state g old) (state g new) h.survives;
+    }
+
+  -- and where it begins
+  pub begins_onward : (driver start : ℕ) (conn : X → Held S) → params ≡ Int (pos driver) ∷ Int (pos start) ∷ []
+      → IfOk r (λ x. HasCleanDisk (state g (conn x)) → HasBegun g onward_text params old (conn x))
+      → IfOk r (λ x. old.in_transaction ≡ false → (conn x).in_transaction ≡ false)
+      → IfOk r (λ x. Survives (state g old) (state g (conn x)) (CommitsShowing onward_text params (state g old)))
+      → IfOk r (λ x. BeginsOnward g old (conn x) driver start)
+  begins_onward driver start conn is = go r where
+    go : (q : Result X Error)
+        → IfOk q (λ x. HasCleanDisk (state g (conn x)) → HasBegun g onward_text params old (conn x))
+        → IfOk q (λ x. old.in_transaction ≡ false → (conn x).in_transaction ≡ false)
+        → IfOk q (λ x. Survives (state g old) (state g (conn x)) (CommitsShowing onward_text params (state g old)))
+        → IfOk q (λ x. BeginsOnward g old (conn x) driver start)
+    go (Ok x) begun mode survives = record {
+      asked = record {
+        kept = λ clean. kept_same (state g old) (state g (conn x)) (onward_begun g params old (conn x) (begun clean)).1;
+        mode = mode;
+        survives = onward_commits_nothing params (state g old) (state g (conn x)) survives;
+      };
+      given = λ clean. subst (λ (p : Row). HasGiven g onward_text p (conn x) []) is
+          (onward_begun g params old (conn x) (begun clean)).0;
+      same = λ clean. (onward_begun g params old (conn x) (begun clean)).1;
+    }
+    go (Err e) begun mode survives = tt
 
 -- ---- what the rows are
 

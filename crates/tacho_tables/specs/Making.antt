@@ -1,5 +1,5 @@
 -- How a table is made.
-use Rattle.std.specs.Prelude.{◌≡◌, ℕ, List, [], false, Ok, IsTrue}
+use Rattle.std.specs.Prelude.{◌≡◌, ℕ, List, [], Option, Some, None, false, Ok, IsTrue}
 use Rattle.std.specs.List.{AllByRecursion}
 use Rattle.sqlite.specs.Schema.{Schema}
 use Rattle.sqlite.specs.Table.{Table}
@@ -11,6 +11,8 @@ use Rattle.sqlite.specs.Command.TheVariants.{CreateTable}
 use Rattle.sqlite.specs.Compile.{table_defined_by}
 use Rattle.sqlite.specs.Change.{created, next_tree, KeepsRows}
 use Rattle.sqlite.specs.Given.{IsPlain}
+use Rattle.tacho_tables.specs.Schema.{meta_rows}
+use Rattle.tacho_tables.specs.Tables.{IsVersion}
 use Rattle.sqlite.proofs.Callers.{command_of, statement_of}
 
 -- under the schema the text makes this table
@@ -32,3 +34,8 @@ pub record HasMade (schema : Schema) (table : Table) (old new : State) : Type 0 
 -- these tables have no rows
 abbrev pub AreEmpty : List ℕ → Trees → Type 0
 AreEmpty trees db = AllByRecursion (λ t. db t ≡ []) trees
+
+-- the version that the row of `meta` says, or none where there is no row
+pub record TellsVersion (db : Trees) (found : Option ℕ) : Type 0 where
+  pub said : (version : ℕ) → IsVersion version db → found ≡ Some version
+  pub missing : db meta_rows ≡ [] → found ≡ None

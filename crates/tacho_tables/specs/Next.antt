@@ -1,11 +1,12 @@
 -- Spans that are read one at a time, of the rows of a query.
-use Rattle.std.specs.Prelude.{◌≡◌, ℕ, pos, nat_lt, List, filter, Option, None, Some, IsTrue, IsPermutation}
+use Rattle.std.specs.Prelude.{◌≡◌, ℕ, pos, nat_lt, false, List, [], ◌∷◌, codes, filter, Option, None, Some}
+use Rattle.std.specs.Prelude.{IsTrue, IsPermutation}
 use Rattle.std.specs.List.Sorted.{IsSortedBy}
 use Rattle.sqlite.specs.declared.types.Value.TheVariants.{Int}
-use Rattle.sqlite.specs.Given.{Advances}
-use Rattle.sqlite.specs.Held.{Held}
+use Rattle.sqlite.specs.Given.{Advances, HasGiven}
+use Rattle.sqlite.specs.Held.{Held, state}
 use Rattle.sqlite.specs.Order.{Row, column}
-use Rattle.sqlite.specs.State.{State}
+use Rattle.sqlite.specs.State.{State, HasCleanDisk, IsUnchanged, Survives}
 use Rattle.sqlite.specs.Store.{Ghosts}
 use Rattle.tacho_tables.specs.declared.rows.StoredSpan.{StoredSpan}
 use Rattle.tacho_tables.specs.Rows.{SpanRow}
@@ -31,3 +32,21 @@ pub record IsKept (old new : State) : Type 0 where
 pub record AreOnward (driver start : ℕ) (rows onward : List SpanRow) : Type 0 where
   pub same : IsPermutation (filter (is_onward driver start) rows) onward
   pub sorted : IsSortedBy (λ (x y : SpanRow). nat_lt x.start y.start) onward
+
+-- the query on a driver's spans that begin from a minute on
+abbrev pub onward_text : List ℕ
+onward_text = codes "SELECT start, past, mark FROM held WHERE driver = ?1 AND ?2 <= start ORDER BY start"
+
+module _ {S : Type 0} (g : Ghosts S) (old new : Held S) where
+  -- whether it begins or not: what is open was so before and sees what it saw, and a stop leaves what it could leave
+  -- before
+  pub record IsAsked : Type 0 where
+    pub kept : HasCleanDisk (state g new) → IsKept (state g old) (state g new)
+    pub mode : old.in_transaction ≡ false → new.in_transaction ≡ false
+    pub survives : Survives (state g old) (state g new) (λ _. ⊥)
+
+  -- it begins: no row is given yet, and nothing has changed
+  pub record BeginsOnward (driver start : ℕ) : Type 0 where
+    pub asked : IsAsked
+    pub given : HasCleanDisk (state g new) → HasGiven g onward_text (Int (pos driver) ∷ Int (pos start) ∷ []) new []
+    pub same : HasCleanDisk (state g new) → IsUnchanged (state g old) (state g new)

@@ -137,6 +137,25 @@ schema_5 = created schema_4 entries
 abbrev pub archive_schema : Schema
 archive_schema = created schema_5 (spans (codes "held"))
 
+-- the numbers by which the store knows the rows of each table; an index has one too
+abbrev pub meta_rows : ℕ
+meta_rows = 0
+
+abbrev pub driver_rows : ℕ
+driver_rows = 1
+
+abbrev pub download_rows : ℕ
+download_rows = 4
+
+abbrev pub card_span_rows : ℕ
+card_span_rows = 6
+
+abbrev pub entry_rows : ℕ
+entry_rows = 8
+
+abbrev pub held_rows : ℕ
+held_rows = 10
+
 -- the texts that make the tables
 abbrev pub meta_text : List ℕ
 meta_text = codes "CREATE TABLE meta (id INTEGER PRIMARY KEY, version INTEGER NOT NULL) STRICT"

@@ -7,6 +7,7 @@ use Rattle.sqlite.specs.State.{State}
 use Rattle.tacho_tables.specs.declared.rows.StoredSpan.{StoredSpan}
 use Rattle.tacho_tables.specs.declared.rows.StoredEntry.{StoredEntry}
 use Rattle.tacho_tables.specs.Schema.{archive_schema}
+use Rattle.tacho_tables.specs.Schema as tree
 use Rattle.tacho_tables.specs.Rows.{Stands, SpanRow, span_columns, DownloadRow, download_columns, EntryRow, entry_columns, DriverRow, StandNumbered}
 
 pub record Tables : Type 0 where
@@ -16,14 +17,18 @@ pub record Tables : Type 0 where
   pub entries : List EntryRow
   pub held : List SpanRow
 
+-- the one row of `meta` says that the tables are of this schema
+abbrev pub IsVersion : ℕ → Trees → Type 0
+IsVersion version db = db tree.meta_rows ≡ (Int (pos 1) ∷ Null ∷ Int (pos version) ∷ []) ∷ []
+
 -- what is stored stands for these lists; their order means nothing
 pub record Stand (db : Trees) (a : Tables) : Type 0 where
-  pub meta : db 0 ≡ (Int (pos 1) ∷ Null ∷ Int (pos 1) ∷ []) ∷ []
-  pub drivers : StandNumbered (db 1) a.drivers
-  pub downloads : Stands download_columns (db 4) a.downloads
-  pub card_spans : Stands span_columns (db 6) a.card_spans
-  pub entries : Stands entry_columns (db 8) a.entries
-  pub held : Stands span_columns (db 10) a.held
+  pub meta : IsVersion 1 db
+  pub drivers : StandNumbered (db tree.driver_rows) a.drivers
+  pub downloads : Stands download_columns (db tree.download_rows) a.downloads
+  pub card_spans : Stands span_columns (db tree.card_span_rows) a.card_spans
+  pub entries : Stands entry_columns (db tree.entry_rows) a.entries
+  pub held : Stands span_columns (db tree.held_rows) a.held
 
 -- a step that makes of what stands for some lists what stands for others
 pub record Turns (old new : State) (step : Tables → Tables) : Type 0 where

@@ -5,12 +5,16 @@ ghost use Rattle.sqlite.specs.State.{HasCleanDisk, Survives, IsUnchanged, KeepsC
 ghost use Rattle.sqlite.specs.Held.{state};
 ghost use Rattle.tacho_tables.specs.Schema.{archive_schema};
 ghost use Rattle.tacho_tables.specs.Rows.{SpanRow};
+ghost use Rattle.tacho_tables.specs.Calls.{Finds, Changes};
+ghost use Rattle.std.specs.Borrow.{sem, RestsIfErr};
+ghost use Rattle.sqlite.specs.contracts.connection.Connection.{the_row};
+ghost use Rattle.tacho_tables.specs.Next.{IsAsked, BeginsOnward};
 ghost use Rattle.tacho_tables.specs.Tables.{Tables, Stand, Turns, IsLatest, is_before, is_begun, is_of, row_of, span_of};
 
 use crate::fault::TableFault;
 use crate::rows::{StoredSpan, first_span, stored_spans};
 use crate::statement::{read, run};
-use sqlite::{Alter, Transaction, params};
+use sqlite::{Alter, Connection, Error, Rows, Transaction, params};
 use std::alloc::Global;
 
 /// The latest of a driver's spans that begin before a minute, if there is one.
@@ -19,15 +23,7 @@ pub fn last_before<S: Alter>(
     driver: u32,
     minute: u32,
 ) -> Result<Option<StoredSpan>, TableFault>
-    ensures same_reference { tx.new.conn.ghost_name ≡ tx.old.conn.ghost_name }
-    ensures same { HasCleanDisk (state S.Store tx.new.conn.now) → (state S.Store tx.old.conn.now).now.schema ≡ archive_schema → OnOk result (IsUnchanged (state S.Store tx.old.conn.now) (state S.Store tx.new.conn.now)) }
-    ensures found { HasCleanDisk (state S.Store tx.new.conn.now) → (state S.Store tx.old.conn.now).now.schema ≡ archive_schema
-        → IfOk result (λ found. (a : Tables) → Stand (state S.Store tx.old.conn.now).now.trees a → MatchOption found (filter (is_before driver minute) a.held ≡ []) (λ span. (r : SpanRow) × IsLatest r (filter (is_before driver minute) a.held) × (span ≡ span_of r))) }
-    ensures live { HasCleanDisk (state S.Store tx.new.conn.now) → OnOk result (IsTrue (state S.Store tx.new.conn.now).is_open) }
-    ensures clean { HasCleanDisk (state S.Store tx.new.conn.now) → HasCleanDisk (state S.Store tx.old.conn.now) }
-    ensures was_open { HasCleanDisk (state S.Store tx.new.conn.now) → IsTrue (state S.Store tx.new.conn.now).is_open → IsTrue (state S.Store tx.old.conn.now).is_open }
-    ensures keeps { HasCleanDisk (state S.Store tx.new.conn.now) → (state S.Store tx.old.conn.now).now.schema ≡ archive_schema → KeepsCommit (state S.Store tx.old.conn.now) (state S.Store tx.new.conn.now) }
-    ensures survives { Survives (state S.Store tx.old.conn.now) (state S.Store tx.new.conn.now) (λ _. ⊥) }
+    ensures { Finds S.Store tx.old.conn tx.new.conn result (λ a found. MatchOption found (filter (is_before driver minute) a.held ≡ []) (λ span. (r : SpanRow) × IsLatest r (filter (is_before driver minute) a.held) × (span ≡ span_of r))) }
 {
     let rows = read(
         tx,
@@ -45,15 +41,7 @@ pub fn begun<S: Alter>(
     start: u32,
     past: u32,
 ) -> Result<Vec<StoredSpan>, TableFault>
-    ensures same_reference { tx.new.conn.ghost_name ≡ tx.old.conn.ghost_name }
-    ensures same { HasCleanDisk (state S.Store tx.new.conn.now) → (state S.Store tx.old.conn.now).now.schema ≡ archive_schema → OnOk result (IsUnchanged (state S.Store tx.old.conn.now) (state S.Store tx.new.conn.now)) }
-    ensures found { HasCleanDisk (state S.Store tx.new.conn.now) → (state S.Store tx.old.conn.now).now.schema ≡ archive_schema
-        → IfOk result (λ found. (a : Tables) → Stand (state S.Store tx.old.conn.now).now.trees a → IsPermutation (map span_of (filter (is_begun driver start past) a.held)) found.items) }
-    ensures live { HasCleanDisk (state S.Store tx.new.conn.now) → OnOk result (IsTrue (state S.Store tx.new.conn.now).is_open) }
-    ensures clean { HasCleanDisk (state S.Store tx.new.conn.now) → HasCleanDisk (state S.Store tx.old.conn.now) }
-    ensures was_open { HasCleanDisk (state S.Store tx.new.conn.now) → IsTrue (state S.Store tx.new.conn.now).is_open → IsTrue (state S.Store tx.old.conn.now).is_open }
-    ensures keeps { HasCleanDisk (state S.Store tx.new.conn.now) → (state S.Store tx.old.conn.now).now.schema ≡ archive_schema → KeepsCommit (state S.Store tx.old.conn.now) (state S.Store tx.new.conn.now) }
-    ensures survives { Survives (state S.Store tx.old.conn.now) (state S.Store tx.new.conn.now) (λ _. ⊥) }
+    ensures { Finds S.Store tx.old.conn tx.new.conn result (λ a found. IsPermutation (map span_of (filter (is_begun driver start past) a.held)) found.items) }
 {
     let rows = read(
         tx,
@@ -69,15 +57,7 @@ pub fn of_driver<S: Alter>(
     tx: &mut Transaction<'_, S>,
     driver: u32,
 ) -> Result<Vec<StoredSpan>, TableFault>
-    ensures same_reference { tx.new.conn.ghost_name ≡ tx.old.conn.ghost_name }
-    ensures same { HasCleanDisk (state S.Store tx.new.conn.now) → (state S.Store tx.old.conn.now).now.schema ≡ archive_schema → OnOk result (IsUnchanged (state S.Store tx.old.conn.now) (state S.Store tx.new.conn.now)) }
-    ensures found { HasCleanDisk (state S.Store tx.new.conn.now) → (state S.Store tx.old.conn.now).now.schema ≡ archive_schema
-        → IfOk result (λ found. (a : Tables) → Stand (state S.Store tx.old.conn.now).now.trees a → IsPermutation (map span_of (filter (is_of driver) a.held)) found.items) }
-    ensures live { HasCleanDisk (state S.Store tx.new.conn.now) → OnOk result (IsTrue (state S.Store tx.new.conn.now).is_open) }
-    ensures clean { HasCleanDisk (state S.Store tx.new.conn.now) → HasCleanDisk (state S.Store tx.old.conn.now) }
-    ensures was_open { HasCleanDisk (state S.Store tx.new.conn.now) → IsTrue (state S.Store tx.new.conn.now).is_open → IsTrue (state S.Store tx.old.conn.now).is_open }
-    ensures keeps { HasCleanDisk (state S.Store tx.new.conn.now) → (state S.Store tx.old.conn.now).now.schema ≡ archive_schema → KeepsCommit (state S.Store tx.old.conn.now) (state S.Store tx.new.conn.now) }
-    ensures survives { Survives (state S.Store tx.old.conn.now) (state S.Store tx.new.conn.now) (λ _. ⊥) }
+    ensures { Finds S.Store tx.old.conn tx.new.conn result (λ a found. IsPermutation (map span_of (filter (is_of driver) a.held)) found.items) }
 {
     let rows = read(
         tx,
@@ -94,13 +74,7 @@ pub fn delete_begun<S: Alter>(
     start: u32,
     past: u32,
 ) -> Result<(), TableFault>
-    ensures same_reference { tx.new.conn.ghost_name ≡ tx.old.conn.ghost_name }
-    ensures turned { HasCleanDisk (state S.Store tx.new.conn.now) → (state S.Store tx.old.conn.now).now.schema ≡ archive_schema
-        → OnOk result (Turns (state S.Store tx.old.conn.now) (state S.Store tx.new.conn.now) (λ a. record a { held = filter (λ r. not (is_begun driver start past r)) a.held })) }
-    ensures clean { HasCleanDisk (state S.Store tx.new.conn.now) → HasCleanDisk (state S.Store tx.old.conn.now) }
-    ensures was_open { HasCleanDisk (state S.Store tx.new.conn.now) → IsTrue (state S.Store tx.new.conn.now).is_open → IsTrue (state S.Store tx.old.conn.now).is_open }
-    ensures keeps { HasCleanDisk (state S.Store tx.new.conn.now) → KeepsCommit (state S.Store tx.old.conn.now) (state S.Store tx.new.conn.now) }
-    ensures survives { Survives (state S.Store tx.old.conn.now) (state S.Store tx.new.conn.now) (λ _. ⊥) }
+    ensures { Changes S.Store tx.old.conn tx.new.conn result (λ a. record a { held = filter (λ r. not (is_begun driver start past r)) a.held }) }
 {
     run(
         tx,
@@ -115,13 +89,7 @@ pub fn insert<S: Alter>(
     driver: u32,
     span: &StoredSpan,
 ) -> Result<(), TableFault>
-    ensures same_reference { tx.new.conn.ghost_name ≡ tx.old.conn.ghost_name }
-    ensures turned { HasCleanDisk (state S.Store tx.new.conn.now) → (state S.Store tx.old.conn.now).now.schema ≡ archive_schema
-        → OnOk result (Turns (state S.Store tx.old.conn.now) (state S.Store tx.new.conn.now) (λ a. record a { held = row_of driver span.now ∷ a.held })) }
-    ensures clean { HasCleanDisk (state S.Store tx.new.conn.now) → HasCleanDisk (state S.Store tx.old.conn.now) }
-    ensures was_open { HasCleanDisk (state S.Store tx.new.conn.now) → IsTrue (state S.Store tx.new.conn.now).is_open → IsTrue (state S.Store tx.old.conn.now).is_open }
-    ensures keeps { HasCleanDisk (state S.Store tx.new.conn.now) → KeepsCommit (state S.Store tx.old.conn.now) (state S.Store tx.new.conn.now) }
-    ensures survives { Survives (state S.Store tx.old.conn.now) (state S.Store tx.new.conn.now) (λ _. ⊥) }
+    ensures { Changes S.Store tx.old.conn tx.new.conn result (λ a. record a { held = row_of driver span.now ∷ a.held }) }
 {
     run(
         tx,
@@ -136,16 +104,27 @@ pub fn insert_all<S: Alter>(
     driver: u32,
     spans: &[StoredSpan],
 ) -> Result<(), TableFault>
-    ensures same_reference { tx.new.conn.ghost_name ≡ tx.old.conn.ghost_name }
-    ensures turned { HasCleanDisk (state S.Store tx.new.conn.now) → (state S.Store tx.old.conn.now).now.schema ≡ archive_schema
-        → OnOk result (Turns (state S.Store tx.old.conn.now) (state S.Store tx.new.conn.now) (λ a. record a { held = map (row_of driver) spans.now ++ a.held })) }
-    ensures clean { HasCleanDisk (state S.Store tx.new.conn.now) → HasCleanDisk (state S.Store tx.old.conn.now) }
-    ensures was_open { HasCleanDisk (state S.Store tx.new.conn.now) → IsTrue (state S.Store tx.new.conn.now).is_open → IsTrue (state S.Store tx.old.conn.now).is_open }
-    ensures keeps { HasCleanDisk (state S.Store tx.new.conn.now) → KeepsCommit (state S.Store tx.old.conn.now) (state S.Store tx.new.conn.now) }
-    ensures survives { Survives (state S.Store tx.old.conn.now) (state S.Store tx.new.conn.now) (λ _. ⊥) }
+    ensures { Changes S.Store tx.old.conn tx.new.conn result (λ a. record a { held = map (row_of driver) spans.now ++ a.held }) }
 {
     for span in spans {
         insert(tx, driver, span)?;
     }
     Ok(())
+}
+
+/// The spans of a driver that begin from `start` on, in the order of their starts, to be read one at a time.
+pub fn onward<S: Alter>(
+    conn: &mut Connection<S>,
+    driver: u32,
+    start: u32,
+) -> Result<Rows<'_, S>, Error>
+    ensures* refused { sem 𝓛 (RestsIfErr (the_row S.row S.Store) conn.entry (λ rows. rows.conn.ghost_name) result
+        (IsAsked S.Store conn.old)) }
+    ensures same_reference { IfOk result (λ rows. rows.conn.ghost_name ≡ conn.entry.ghost_name) }
+    ensures begun { IfOk result (λ rows. BeginsOnward S.Store conn.old rows.conn.now driver start) }
+{
+    conn.query(
+        "SELECT start, past, mark FROM held WHERE driver = ?1 AND ?2 <= start ORDER BY start",
+        params![driver, start],
+    )
 }

@@ -1,17 +1,16 @@
 //! What a connection is asked before its tables are made, or used.
 
-ghost use Rattle.std.specs.Prelude.{◌≡◌, true, false, OnOk, IsErr, IsTrue};
+ghost use Rattle.std.specs.Prelude.{◌≡◌, ◌↔◌, [], false, OnOk, IsErr, IsTrue};
 ghost use Rattle.sqlite.specs.State.{HasCleanDisk, Survives};
 ghost use Rattle.sqlite.specs.Held.{state};
-ghost use Rattle.tacho_tables.specs.Schema.{no_schema, archive_schema};
+ghost use Rattle.tacho_tables.specs.Schema.{no_schema};
 
 use crate::fault::TableFault;
 use sqlite::{Alter, Connection};
 
 /// Whether a store has tables.
 pub fn has_tables<S: Alter>(conn: &Connection<S>) -> bool
-    ensures none { (state S.Store conn.now).now.schema ≡ no_schema → result ≡ false }
-    ensures archive { (state S.Store conn.now).now.schema ≡ archive_schema → result ≡ true }
+    ensures { (result ≡ false) ↔ ((state S.Store conn.now).now.schema.tables ≡ []) }
 {
     !conn.schema().tables.is_empty()
 }

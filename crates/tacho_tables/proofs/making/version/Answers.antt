@@ -2,7 +2,7 @@ use Rattle.std.proofs.Common.{◌∙◌}
 use Rattle.sqlite.specs.Held.{state}
 use Rattle.tacho_tables.proofs.Reading.{ok_both}
 use Rattle.tacho_tables.proofs.Inside.{unknown_shows}
-use Rattle.tacho_tables.proofs.MakingLemmas.{shows_version, first_is_one}
+use Rattle.tacho_tables.proofs.MakingLemmas.{shows_version, shows_no_version, first_is, first_is_none}
 use Rattle.tacho_tables.proofs.Statements.{version_text, version_is, version_is_unknown}
 use Rattle.tacho_tables.proofs.making.version.Goals as goal
 
@@ -13,9 +13,14 @@ pub returns-clause-found : goal.returns-clause-found
 returns-clause-found g c clean schema =
     let old = state g.S.Store c.args.tx.now.conn.now in
     let new = state g.S.Store c.read.new.tx.conn.now in
-    ok_both c.first_number.result (λ found none some a s. first_is_one found c.deref.result.now
-    (c.deref.ensures.value ∙ shows_version old new c.in_ok-rows.rows.items schema
-    (c.in_ok-rows.ensures.shown clean) s.meta) none some) c.first_number.ensures.none c.first_number.ensures.some
+    let rows = c.in_ok-rows.rows.items in
+    let shown = c.in_ok-rows.ensures.shown clean in
+    ok_both c.first_number.result (λ found none some. record {
+      said = λ version is. first_is version found c.deref.result.now
+          (c.deref.ensures.value ∙ shows_version version old new rows schema shown is) none some;
+      missing = λ is. first_is_none found c.deref.result.now
+          (c.deref.ensures.value ∙ shows_no_version old new rows schema shown is) none;
+    }) c.first_number.ensures.none c.first_number.ensures.some
 
 pub returns-clause-missing : goal.returns-clause-missing
 returns-clause-missing g c clean schema =
