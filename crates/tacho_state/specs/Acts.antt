@@ -1,7 +1,7 @@
 -- What a call of an archive does to it, in terms of states.
-use Rattle.std.specs.Prelude.{◌≡◌, ℕ, List, [], ◌∷◌, Option, None, Some, Result, Ok, Err, OnOk}
+use Rattle.std.specs.Prelude.{◌≡◌, ℕ, List, [], ◌∷◌, Option, None, Some, Result, Ok, Err, OnOk, OnErr}
 use Rattle.tacho_state.specs.declared.fault.StoreFault.{StoreFault}
-use Rattle.tacho_state.specs.declared.fault.StoreFault.TheVariants.{Memory, Store}
+use Rattle.tacho_state.specs.declared.fault.StoreFault.TheVariants.{Memory, Store, Card}
 use Rattle.tacho_state.specs.declared.caller.Caller.{Caller}
 use Rattle.tacho_state.specs.declared.caller.Caller.TheVariants.{Office, Driver}
 use Rattle.tacho_state.specs.State.{State}
@@ -19,27 +19,48 @@ Answers view (Err Memory) told = Unit {0}
 Answers view (Err Store) told = Unit {0}
 Answers view (Err fault) told = told ≡ Err fault
 
+-- what is kept was asked and it answered: the call did not give up, and its file was read
+abbrev pub IsAnswered : {A : Type 0} → Result A StoreFault → Type 0
+IsAnswered (Ok x) = Unit {0}
+IsAnswered (Err Memory) = ⊥
+IsAnswered (Err Store) = ⊥
+IsAnswered (Err (Card fault)) = ⊥
+IsAnswered (Err fault) = Unit {0}
+
+-- it is not answered with the fault of a file
+abbrev pub IsOfNoFile : {A : Type 0} → Result A StoreFault → Type 0
+IsOfNoFile (Err (Card fault)) = ⊥
+IsOfNoFile answer = Unit {0}
+
 -- the state after a call: one that gave up, or was refused, has left the one before
 abbrev pub left : {A : Type 0} → Result A StoreFault → State → State → State
 left (Ok x) before after = after
 left (Err fault) before after = before
 
--- A call answers by a step and leaves its state, or it gives up and leaves the one before. At each moment a stop leaves a state
--- that could be left before the call, or the step's; after an Ok the step's alone.
+-- A call answers by a step and leaves its state, or it gives up and leaves the one before; a refusal changes nothing of what is
+-- kept. At each moment a stop leaves a state that could be left before the call, or the step's; after an Ok the step's alone. Only
+-- what can be written to answers, and once it can't nothing that a stop leaves changes any more.
 pub record Acts {K A B : Type 0} (stands : K → State → Type 0) (is_clean is_live : K → Type 0) (leaves : K → List State → Type 0)
-    (view : A → B) (old new : K) (result : Result A StoreFault) (step : State → Turn B) : Type 0 where
+    (is_same : K → K → Type 0) (view : A → B) (old new : K) (result : Result A StoreFault) (step : State → Turn B) : Type 0 where
   pub clean : is_clean new → is_clean old
   pub answer : is_clean new → (s : State) → stands old s → Answers view result (step s).answer
   pub state : is_clean new → (s : State) → stands old s → stands new (left result s (step s).after)
+  pub same : is_clean new → (s : State) → stands old s → OnErr result (is_same old new)
+  pub answered : is_clean new → IsAnswered result → is_live old
+  pub was_live : is_clean new → is_live new → is_live old
   pub live : is_clean new → OnOk result (is_live new)
-  pub crash : is_clean new → is_live old → (s : State) (past : List State) → stands old s → leaves old past → leaves new ((step s).after ∷ past)
-  pub kept : is_clean new → is_live old → (s : State) → stands old s → OnOk result (leaves new ((step s).after ∷ []))
+  pub crash : is_clean new → (s : State) (past : List State) → stands old s → leaves old past → leaves new ((step s).after ∷ past)
+  pub shut : is_clean new → ¬ is_live old → (past : List State) → leaves old past → leaves new past
+  pub kept : is_clean new → (s : State) → stands old s → OnOk result (leaves new ((step s).after ∷ []))
 
 -- A call that reads: it answers by the state or gives up, and changes nothing.
 pub record Reads {K A B : Type 0} (stands : K → State → Type 0) (is_clean is_live : K → Type 0) (leaves : K → List State → Type 0)
-    (view : A → B) (old new : K) (result : Result A StoreFault) (told : State → Result B StoreFault) : Type 0 where
+    (is_same : K → K → Type 0) (view : A → B) (old new : K) (result : Result A StoreFault) (told : State → Result B StoreFault) : Type 0 where
   pub clean : is_clean new → is_clean old
   pub answer : is_clean new → (s : State) → stands old s → Answers view result (told s)
   pub state : is_clean new → (s : State) → stands old s → stands new s
+  pub same : is_clean new → (s : State) → stands old s → is_same old new
+  pub answered : is_clean new → IsAnswered result → is_live old
+  pub was_live : is_clean new → is_live new → is_live old
   pub live : is_clean new → OnOk result (is_live new)
-  pub crash : is_clean new → is_live old → (past : List State) → leaves old past → leaves new past
+  pub crash : is_clean new → (past : List State) → leaves old past → leaves new past

@@ -1,13 +1,15 @@
-ghost use Rattle.std.specs.Prelude.{◌≡◌, ◌⊎◌, ◌∷◌, ◌≤◌, List, Result, Err, IfOk, length, string_bytes};
+ghost use Rattle.std.specs.Prelude.{◌≡◌, ◌⊎◌, ◌∷◌, ◌≤◌, ℕ, List, Result, Ok, Err, IfOk, length, string_bytes};
 ghost use Rattle.tacho_line.specs.Line.{mark_at};
 ghost use Rattle.tacho_card.specs.declared.fault.CardFault.{CardFault};
 ghost use Rattle.tacho_state.specs.State.{State};
 ghost use Rattle.tacho_state.specs.Steps.{Content, registered, imported, entered, withdrawn, rebased, owner, named, lined, listed, downloaded, reported};
 ghost use Rattle.tacho_state.specs.Reported.{IsHeldWithin, IsReportOf};
 ghost use Rattle.tacho_state.specs.Batch.{IsBatch, batch_of};
+ghost use Rattle.tacho_state.specs.Registration.{IsReadDay};
 ghost use Rattle.tacho_state.specs.Content.{FileTells, part_number};
 ghost use Rattle.tacho_state.specs.Acts.{Acts, Reads, caller_number};
-ghost use Rattle.tacho_state.specs.declared.fault.StoreFault.TheVariants.{Memory};
+ghost use Rattle.tacho_state.specs.declared.imported.Imported.TheVariants.{Repeated};
+ghost use Rattle.tacho_state.specs.declared.fault.StoreFault.TheVariants.{Memory, Card};
 
 use crate::caller::Caller;
 use crate::driver::Driver;
@@ -34,12 +36,15 @@ pub trait Keeper {
     /// Whatever a stop now leaves stands for one of these states.
     ghost leaves: { Self → List State → Type 0 };
 
+    /// The second is kept as the first is: no row of it is another, as long as it can be read.
+    ghost is_same: { Self → Self → Type 0 };
+
     /// More states may be named.
     ghost leaves_more: { (keeper : Self) (s : State) (states : List State) → leaves keeper states → leaves keeper (s ∷ states) };
 
     /// Adds a driver: S1, S2, S3, S9.
     fn register(&mut self, driver: &Driver) -> Result<(), StoreFault>
-        ensures { Acts stands is_clean is_live leaves (λ _. tt) self.old self.new result
+        ensures { Acts stands is_clean is_live leaves is_same (λ _. tt) self.old self.new result
             (registered driver.now.number driver.now.holder driver.now.key driver.now.base driver.now.name) };
 
     /// Imports a card file by a part: S11 first; then S4, S5, S6, S14.
@@ -50,10 +55,16 @@ pub trait Keeper {
         part: Part,
         file: &[u8],
     ) -> Result<Imported, StoreFault>
-        // The file was read, or there was no memory to read it, and nothing was asked of what is kept.
-        ensures read { ((content : Result Content CardFault) × FileTells part file.now content) ⊎ ((result ≡ Err Memory) × (self.new ≡ self.old)) }
+        // A file with a fault is refused with it, or there was no memory to read it, whatever is kept; and nothing was asked of that.
+        ensures unreadable { (fault : CardFault) → FileTells part file.now (Err fault)
+            → ((result ≡ Err Memory) ⊎ (result ≡ Err (Card fault))) × (self.new ≡ self.old) }
+        // Only such a file is.
+        ensures readable { (fault : CardFault) → result ≡ Err (Card fault) → FileTells part file.now (Err fault) }
+        // A file that is there changes nothing of what is kept.
+        ensures repeated { is_clean self.new → (s : State) (number : ℕ) → stands self.old s → result ≡ Ok (Repeated number)
+            → is_same self.old self.new }
         ensures imported { (content : Result Content CardFault) → FileTells part file.now content
-            → Acts stands is_clean is_live leaves (λ done. done) self.old self.new result (imported (caller_number caller) (part_number part) file.now content) };
+            → Acts stands is_clean is_live leaves is_same (λ done. done) self.old self.new result (imported (caller_number caller) (part_number part) file.now content) };
 
     /// Enters a batch of hours, which goes in whole or not at all: S4, S6, S14. Its lines are numbered on from the driver's last
     /// entry.
@@ -64,28 +75,29 @@ pub trait Keeper {
         lines: &[EntryLine],
     ) -> Result<Entered, StoreFault>
         requires { IsBatch lines.now }
-        ensures entered { Acts stands is_clean is_live leaves (λ done. done.first) self.old self.new result (entered driver (batch_of lines.now)) }
+        ensures entered { Acts stands is_clean is_live leaves is_same (λ done. done.first) self.old self.new result (entered driver (batch_of lines.now)) }
         ensures count { IfOk result (λ done. done.count ≡ length lines.now) };
 
     /// Withdraws an entry of a driver, which stays listed: S4, S7, S8. What downloads and other entries give, he still holds.
     fn withdraw(&mut self, alloc: Global, driver: u32, number: u32) -> Result<(), StoreFault>
-        ensures { Acts stands is_clean is_live leaves (λ _. tt) self.old self.new result (withdrawn driver number) };
+        ensures { Acts stands is_clean is_live leaves is_same (λ _. tt) self.old self.new result (withdrawn driver number) };
 
-    /// Sets the day from which a driver is examined: S4, S9.
+    /// Sets the day, from 2000-01-03 to 2099-12-31, from which a driver is examined: S4, S9.
     fn rebase(&mut self, driver: u32, base: Day) -> Result<(), StoreFault>
-        ensures { Acts stands is_clean is_live leaves (λ _. tt) self.old self.new result (rebased driver base) };
+        requires { IsReadDay base }
+        ensures { Acts stands is_clean is_live leaves is_same (λ _. tt) self.old self.new result (rebased driver base) };
 
     /// The driver whose key this is, if there is one.
     fn who(&mut self, key: &[u8]) -> Result<Option<u32>, StoreFault>
-        ensures { Reads stands is_clean is_live leaves (λ found. found) self.old self.new result (owner key.now) };
+        ensures { Reads stands is_clean is_live leaves is_same (λ found. found) self.old self.new result (owner key.now) };
 
     /// The name of a driver: S4.
     fn name(&mut self, alloc: Global, driver: u32) -> Result<String, StoreFault>
-        ensures { Reads stands is_clean is_live leaves (λ name. string_bytes name) self.old self.new result (named driver) };
+        ensures { Reads stands is_clean is_live leaves is_same (λ name. string_bytes name) self.old self.new result (named driver) };
 
     /// The timeline of a driver: S4.
     fn line(&mut self, alloc: Global, driver: u32) -> Result<Line, StoreFault>
-        ensures { Reads stands is_clean is_live leaves (λ line. mark_at line) self.old self.new result (lined driver) };
+        ensures { Reads stands is_clean is_live leaves is_same (λ line. mark_at line) self.old self.new result (lined driver) };
 
     /// What a driver holds in a range: a timeline that gives each minute of it the mark that his own gives: S4. What it gives
     /// other minutes says nothing, so that what lies far from the range needn't be read.
@@ -96,19 +108,19 @@ pub trait Keeper {
         start: Minute,
         past: Minute,
     ) -> Result<Line, StoreFault>
-        ensures reads { Reads stands is_clean is_live leaves (λ _. tt) self.old self.new result (reported driver) }
+        ensures reads { Reads stands is_clean is_live leaves is_same (λ _. tt) self.old self.new result (reported driver) }
         ensures within { is_clean self.new → (s : State) → stands self.old s → IfOk result (IsHeldWithin driver start past s) };
 
     /// The entries of a driver by their numbers, withdrawn ones among them: S4.
     fn entries(&mut self, alloc: Global, driver: u32) -> Result<Vec<Entry>, StoreFault>
-        ensures { Reads stands is_clean is_live leaves (λ entries. entries.items) self.old self.new result (listed driver) };
+        ensures { Reads stands is_clean is_live leaves is_same (λ entries. entries.items) self.old self.new result (listed driver) };
 
     /// The bytes of a driver's download: S4, S10.
     fn download(&mut self, alloc: Global, driver: u32, number: u32) -> Result<Vec<u8>, StoreFault>
-        ensures { Reads stands is_clean is_live leaves (λ bytes. bytes.items) self.old self.new result (downloaded driver number) };
+        ensures { Reads stands is_clean is_live leaves is_same (λ bytes. bytes.items) self.old self.new result (downloaded driver number) };
 
     /// What the rules say of the timeline of a driver from his base on: S4.
     fn report(&mut self, alloc: Global, driver: u32) -> Result<Report, StoreFault>
-        ensures reads { Reads stands is_clean is_live leaves (λ _. tt) self.old self.new result (reported driver) }
+        ensures reads { Reads stands is_clean is_live leaves is_same (λ _. tt) self.old self.new result (reported driver) }
         ensures report { is_clean self.new → (s : State) → stands self.old s → IfOk result (IsReportOf driver s) };
 }

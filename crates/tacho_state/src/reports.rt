@@ -3,6 +3,7 @@ ghost use Rattle.tacho_time.specs.OrMemory.{OrMemory};
 ghost use Rattle.tacho_hours.specs.Line.{IsBase};
 ghost use Rattle.tacho_rules.specs.Report.{IsReport};
 ghost use Rattle.tacho_state.specs.Steps.{is_monday};
+ghost use Rattle.tacho_state.specs.Reported.{IsNoBase, IsOutOfLimits};
 
 use crate::fault::StoreFault;
 use std::alloc::Global;
@@ -13,7 +14,7 @@ use tacho_time::{Minute, Span};
 /// The first minute of a day, where it is a Monday from 2000-01-03 to the end of 2099.
 pub fn base_of(day: u32) -> Option<Minute>
     ensures some { IfSome result (λ base. (base ≡ 1440 * day) × IsBase base × (base ≤ 68374080)) }
-    ensures none { IsNone result → (day < 10959) ⊎ (47481 < day) ⊎ (is_monday day ≡ false) }
+    ensures none { IsNone result → IsNoBase day }
 {
     if day < 10_959 || day > 47_481 || (day + 3) % 7 != 0 {
         return None;
@@ -32,7 +33,7 @@ fn are_early(spans: &[Span]) -> bool
 /// the line goes past that end: no archive has such a base or such a line.
 pub fn report_of(alloc: Global, line: &Line, base: u32) -> Result<Report, StoreFault>
     ensures report { IfOk result (λ report. IsReport line.now (1440 * base) report.horizon report.breaches.items report.debts.items) }
-    ensures fault { IfErr result (λ fault. OrMemory StoreFault.Memory fault (fault ≡ StoreFault.Store)) }
+    ensures fault { IfErr result (λ fault. OrMemory StoreFault.Memory fault ((fault ≡ StoreFault.Store) × IsOutOfLimits line.now base)) }
 {
     let Some(first) = base_of(base) else {
         return Err(StoreFault::Store);
