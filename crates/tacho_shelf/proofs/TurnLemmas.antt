@@ -1,14 +1,17 @@
 -- What an import answers, by whose card the file is.
-use Rattle.std.proofs.Common.{◌≡◌, ℕ, zero, suc, ◌⊎◌, inl, inr, Bool, true, false, cond, List, [], ◌∷◌, Option, Some, None, Result, Ok, Err, MatchResult, OnErr, length, get_or, slice_get, slice_set, bytes_eq, refl, sym, ap, ◌∙◌}
+use Rattle.std.proofs.Common.{◌≡◌, ℕ, zero, suc, ◌+◌, ◌⊎◌, inl, inr, nat_lt, Bool, true, false, cond, List, [], ◌∷◌, ◌++◌, Option, Some, None, Result, Ok, Err, MatchResult, OnErr, length, get_or, slice_get, slice_set, bytes_eq, refl, sym, ap, subst, ◌∙◌}
 use Rattle.std.proofs.lemmas.Option.{slice_get_read}
+use Rattle.tacho_time.specs.declared.span.Span.{Span}
 use Rattle.tacho_card.specs.declared.fault.CardFault.{CardFault}
 use Rattle.tacho_card.specs.declared.file.Part.{Part}
 use Rattle.tacho_state.specs.declared.fault.StoreFault.{StoreFault}
-use Rattle.tacho_state.specs.declared.fault.StoreFault.TheVariants.{UnknownDriver, NotYourCard, Store, Memory}
+use Rattle.tacho_state.specs.declared.fault.StoreFault.TheVariants.{UnknownDriver, NotYourCard, Store, Memory, Full, Card}
 use Rattle.tacho_state.specs.declared.imported.Imported.{Imported}
-use Rattle.tacho_state.specs.State.{Driver, State, driver_of, holding, put}
+use Rattle.tacho_state.specs.declared.imported.Imported.TheVariants.{Added, Repeated}
+use Rattle.tacho_state.specs.Least.{least_conflict, is_within}
+use Rattle.tacho_state.specs.State.{Driver, State, driver_of, holding, put, given_spans, held_spans, with_download}
 use Rattle.tacho_state.specs.Content.{FileTells, part_number}
-use Rattle.tacho_state.specs.Steps.{Turn, Own, Content, refused, settled, own_turn, import_own, import_his, imported}
+use Rattle.tacho_state.specs.Steps.{Turn, Own, Content, most, refused, settled, own_turn, kept_by, import_own, import_his, imported}
 use Rattle.tacho_state.specs.Acts.{Answers}
 use Rattle.tacho_state.proofs.ContentLemmas.{one_content}
 use Rattle.tacho_shelf.specs.Shelf.{AreNumbered, IsPlaceOf, IsFaultOf, IsCardFault, IsOwnerAt, known, known_by, owner_of, Turns}
@@ -32,11 +35,31 @@ gave_up view s fault step (inr e) = record { answer = fault_answers view fault (
 
 -- ---- whose card it is
 
--- the file was read, or there was no memory to read it
-pub unread : (part : Part) (file : List ℕ) (s : State) (fault : StoreFault) (r : Result Imported StoreFault) → r ≡ Err fault → IsCardFault part file fault
-    → ((content : Result Content CardFault) × FileTells part file content) ⊎ ((r ≡ Err Memory) × (s ≡ s))
-unread part file s fault r told (inl is) = inr (told ∙ ap Err is, refl)
-unread part file s fault r told (inr card) = inl (Err card.0, card.2)
+-- a file with a fault is refused with it, or there was no memory to read it
+pub unreadable : (part : Part) (bytes : List ℕ) (s : State) (fault : StoreFault) (r : Result Imported StoreFault)
+    → r ≡ Err fault → IsCardFault part bytes fault
+    → (card : CardFault) → FileTells part bytes (Err card) → ((r ≡ Err Memory) ⊎ (r ≡ Err (Card card))) × (s ≡ s)
+unreadable part bytes s fault r told (inl is) card tells = (inl (told ∙ ap Err is), refl)
+unreadable part bytes s fault r told (inr h) card tells =
+    let no_other = one_content part bytes (Err h.0) (Err card) h.2 tells in
+    let same : h.0 ≡ card = cc in
+    (inr (told ∙ ap Err h.1 ∙ ap (λ f. Err (Card f)) same), refl)
+
+-- and only such a file is
+pub readable : (part : Part) (bytes : List ℕ) (fault : StoreFault) (r : Result Imported StoreFault) → r ≡ Err fault
+    → IsCardFault part bytes fault
+    → (card : CardFault) → r ≡ Err (Card card) → FileTells part bytes (Err card)
+readable part bytes fault r told (inl is) card e = cc
+readable part bytes fault r told (inr h) card e =
+    let same : h.0 ≡ card = let way : Err fault ≡ Err (Card card) = sym told ∙ e in let is = h.1 in cc in
+    subst (λ (f : CardFault). FileTells part bytes (Err f)) same h.2
+
+-- a file that was read has no fault
+pub has_no_fault : (part : Part) (bytes : List ℕ) (read : Content) → FileTells part bytes (Ok read) → (card : CardFault)
+    → FileTells part bytes (Err card) → ⊥
+has_no_fault part bytes read tells card no_such =
+    let same = one_content part bytes (Ok read) (Err card) tells no_such in
+    cc
 
 -- a file that can't be read
 pub import_unread : (caller : Option ℕ) (part : Part) (bytes : List ℕ) (s : State) (fault : StoreFault) (content : Result Content CardFault) → IsCardFault part bytes fault → FileTells part bytes content
@@ -64,6 +87,22 @@ import_unowned (Some n) part bytes content s fault = go (driver_of n s) where
   go : (o : Option Driver) → known_by content.holder o ≡ Err fault → own_turn (import_his part bytes content) s o ≡ refused fault s
   go None e = let same : UnknownDriver ≡ fault = cc in ap (λ (f : StoreFault). refused f s) same
   go (Some d) e = his d (bytes_eq d.holder content.holder) e
+
+-- whose card it is isn't told by a file's fault
+pub owner_without_fault : (caller : Option ℕ) (holder : List ℕ) (s : State) (card : CardFault)
+    → owner_of caller holder s ≡ Err (Card card) → ⊥
+owner_without_fault None holder s card = go (holding holder s) where
+  go : (o : Option Driver) → known o ≡ Err (Card card) → ⊥
+  go None e = cc
+  go (Some d) e = cc
+owner_without_fault (Some n) holder s card = go (driver_of n s) where
+  his : (d : Driver) (b : Bool) → cond b (Ok d) (Err NotYourCard) ≡ Err (Card card) → ⊥
+  his d true e = cc
+  his d false e = cc
+
+  go : (o : Option Driver) → known_by holder o ≡ Err (Card card) → ⊥
+  go None e = cc
+  go (Some d) e = his d (bytes_eq d.holder holder) e
 
 -- a file of a driver's card
 import_owned : (caller : Option ℕ) (part : ℕ) (bytes : List ℕ) (content : Content) (s : State) (d : Driver) → owner_of caller content.holder s ≡ Ok d
@@ -95,8 +134,71 @@ import_refused caller part bytes s fault read content h e t =
 
 -- ---- a driver's own import
 
+-- one that was read is answered by no fault of a file, and a repeated one leaves the driver as he was
+module _ (part : ℕ) (bytes : List ℕ) (spans : List Span) (x d : Driver) where
+  abbrev Told : Type 0
+  Told = Result (Imported × Driver) StoreFault
+
+  -- where downloads have these spans already, and where there are numbers
+  abbrev if_within : Bool → Option ℕ → Told
+  if_within b o = cond b (Ok (Repeated x.number, x)) (kept_by part bytes spans x o)
+
+  abbrev if_room : Bool → Told
+  if_room b = cond b (Ok (Added x.number (1 + length x.downloads), with_download part bytes spans x)) (Err Full)
+
+  no_fault : (card : CardFault) → import_own part bytes spans x ≡ Err (Card card) → ⊥
+  no_fault card = go (is_within spans (given_spans x.downloads)) (least_conflict (held_spans x ++ spans)) where
+    room : (b : Bool) → if_room b ≡ Err (Card card) → ⊥
+    room true e = cc
+    room false e = cc
+
+    go : (b : Bool) (o : Option ℕ) → if_within b o ≡ Err (Card card) → ⊥
+    go true o e = cc
+    go false (Some m) e = cc
+    go false None e = room (nat_lt (length x.downloads) most) e
+
+  abbrev left_by : Told → Driver
+  left_by (Ok told) = told.1
+  left_by (Err fault) = x
+
+  abbrev is_added : Imported → Bool
+  is_added (Added driver number) = true
+  is_added (Repeated driver) = false
+
+  abbrev was_added : Told → Bool
+  was_added (Ok told) = is_added told.0
+  was_added (Err fault) = false
+
+  as_it_was : (n : ℕ) → import_own part bytes spans x ≡ Ok (Repeated n, d) → d ≡ x
+  as_it_was n = go (is_within spans (given_spans x.downloads)) (least_conflict (held_spans x ++ spans)) where
+    room : (b : Bool) → if_room b ≡ Ok (Repeated n, d) → d ≡ x
+    room true e = let no_such : true ≡ false = ap was_added e in cc
+    room false e = cc
+
+    go : (b : Bool) (o : Option ℕ) → if_within b o ≡ Ok (Repeated n, d) → d ≡ x
+    go true o e = sym (ap left_by e)
+    go false (Some m) e = cc
+    go false None e = room (nat_lt (length x.downloads) most) e
+
+  pub own_without_fault : (r : Result Imported StoreFault)
+      → MatchResult r (λ done. import_own part bytes spans x ≡ Ok (done, d)) (IsFaultOf (import_own part bytes spans x))
+      → (card : CardFault) → r ≡ Err (Card card) → ⊥
+  own_without_fault (Ok done) h card e = cc
+  own_without_fault (Err fault) (inl is) card e = cc
+  own_without_fault (Err fault) (inr told) card e =
+      let same : fault ≡ Card card = cc in
+      no_fault card (told ∙ ap Err same)
+
+  pub own_repeated : (r : Result Imported StoreFault)
+      → MatchResult r (λ done. import_own part bytes spans x ≡ Ok (done, d)) (IsFaultOf (import_own part bytes spans x))
+      → (n : ℕ) → r ≡ Ok (Repeated n) → d ≡ x
+  own_repeated (Ok done) told n e =
+      let same : done ≡ Repeated n = cc in
+      as_it_was n (told ∙ ap (λ (i : Imported). Ok (i, d)) same)
+  own_repeated (Err fault) told n e = cc
+
 -- the list stays where the element is put back
-set_same : (s : State) (i : ℕ) (x : Driver) → slice_get s i ≡ Some x → slice_set s i x ≡ s
+pub set_same : (s : State) (i : ℕ) (x : Driver) → slice_get s i ≡ Some x → slice_set s i x ≡ s
 set_same [] i x e = cc
 set_same (y ∷ s) zero x e = let same : y ≡ x = cc in ap (λ z. z ∷ s) (sym same)
 set_same (y ∷ s) (suc i) x e = ap (λ t. y ∷ t) (set_same s i x e)

@@ -1,5 +1,6 @@
-ghost use Rattle.std.specs.Prelude.{◌≡◌, ◌⊎◌, ◌++◌, [], ◌∷◌, Result, Ok, Err, None, MatchOption, MatchResult, IfNone, IfOk, OnOk, OnErr, length, string_bytes};
+ghost use Rattle.std.specs.Prelude.{◌≡◌, ◌⊎◌, ℕ, ◌++◌, [], ◌∷◌, Result, Ok, Err, None, MatchOption, MatchResult, IfNone, IfOk, OnOk, OnErr, length, string_bytes};
 ghost use Rattle.tacho_card.specs.declared.fault.CardFault.{CardFault};
+ghost use Rattle.tacho_state.specs.declared.imported.Imported.TheVariants.{Repeated};
 ghost use Rattle.tacho_line.specs.Line.{mark_at};
 ghost use Rattle.tacho_state.specs.State.{driver_of, holding};
 ghost use Rattle.tacho_state.specs.Content.{FileTells, part_number};
@@ -274,7 +275,11 @@ impl Shelf {
         part: Part,
         file: &[u8],
     ) -> Result<Imported, StoreFault>
-        ensures read { ((content : Result Content CardFault) × FileTells part file.now content) ⊎ ((result ≡ Err StoreFault.Memory) × (self.new ≡ self.old)) }
+        ensures unreadable { (fault : CardFault) → FileTells part file.now (Err fault)
+            → ((result ≡ Err StoreFault.Memory) ⊎ (result ≡ Err (StoreFault.Card fault))) × (self.new ≡ self.old) }
+        ensures readable { (fault : CardFault) → result ≡ Err (StoreFault.Card fault)
+            → FileTells part file.now (Err fault) }
+        ensures repeated { (number : ℕ) → result ≡ Ok (Repeated number) → self.new ≡ self.old }
         ensures turns { (content : Result Content CardFault) → FileTells part file.now content
             → Turns (λ done. done) self.old self.new result (imported (caller_number caller) (part_number part) file.now content) }
     {
@@ -296,6 +301,8 @@ impl Keeper for Shelf {
     ghost is_live = { λ _. Unit {0} };
 
     ghost leaves = { StandsAmong };
+
+    ghost is_same = { λ old new. new ≡ old };
 
     ghost leaves_more = { λ shelf s states among. inr among };
 

@@ -1,6 +1,7 @@
-use Rattle.std.proofs.Common.{◌≡◌, ◌∙◌, ◌<◌, inl, Result, Ok, Err, slice_get, slice_set, length, ap, refl, sym, subst, rules}
+use Rattle.std.proofs.Common.{◌≡◌, ◌∙◌, ◌<◌, Result, Ok, Err, slice_get, slice_set, length, ap, refl, sym, subst, rules}
 use Rattle.std.proofs.lemmas.Option.{slice_get_read, slice_get_within}
 use Rattle.tacho_state.specs.declared.fault.StoreFault.{StoreFault}
+use Rattle.tacho_state.specs.declared.fault.StoreFault.TheVariants.{Card}
 use Rattle.tacho_state.specs.declared.imported.Imported.{Imported}
 use Rattle.tacho_state.specs.State.{State}
 use Rattle.tacho_state.specs.Content.{FileTells, part_number}
@@ -8,7 +9,7 @@ use Rattle.tacho_state.specs.Steps.{Content, imported}
 use Rattle.tacho_state.specs.Acts.{caller_number}
 use Rattle.tacho_shelf.specs.Shelf.{IsOwnerAt, owner_of, Turns}
 use Rattle.tacho_shelf.proofs.ShelfLemmas.{numbered_set}
-use Rattle.tacho_shelf.proofs.TurnLemmas.{import_unread, import_refused, import_turns, unread}
+use Rattle.tacho_shelf.proofs.TurnLemmas.{import_unread, import_refused, import_turns, unreadable, readable, has_no_fault, owner_without_fault, own_without_fault, own_repeated, set_same}
 use Rattle.tacho_shelf.proofs.shelf.Shelf.add_file.Goals as goal
 
 pub returns-in_err-content-clause-turns : goal.returns-in_err-content-clause-turns
@@ -62,13 +63,49 @@ returns-clause-turns c = λ content tells.
     c.import.new.self read content c.import.result
     c.self.invariant owner at c.import.ensures.number told c.import.ensures.told c.import.ensures.err tells)
 
-pub returns-in_err-content-clause-read : goal.returns-in_err-content-clause-read
-returns-in_err-content-clause-read c =
+pub returns-in_err-content-clause-unreadable : goal.returns-in_err-content-clause-unreadable
+returns-in_err-content-clause-unreadable c =
     let told : c.from_residual.result ≡ Err c.in_err-content.field-0.0 = search rules in
-    unread c.args.part c.args.file.now c.args.self.now c.in_err-content.field-0.0 c.from_residual.result told c.in_err-content.ensures
+    unreadable c.args.part c.args.file.now c.args.self.now c.in_err-content.field-0.0 c.from_residual.result told
+    c.in_err-content.ensures
 
-pub returns-in_err-place-clause-read : goal.returns-in_err-place-clause-read
-returns-in_err-place-clause-read c = inl (_, c.in_ok-content.ensures)
+pub returns-in_err-content-clause-readable : goal.returns-in_err-content-clause-readable
+returns-in_err-content-clause-readable c =
+    let told : c.from_residual.result ≡ Err c.in_err-content.field-0.0 = search rules in
+    readable c.args.part c.args.file.now c.in_err-content.field-0.0 c.from_residual.result told c.in_err-content.ensures
 
-pub returns-clause-read : goal.returns-clause-read
-returns-clause-read c = inl (_, c.in_ok-content.ensures)
+pub returns-in_err-place-clause-unreadable : goal.returns-in_err-place-clause-unreadable
+returns-in_err-place-clause-unreadable c = λ card tells.
+    absurd (has_no_fault c.args.part c.args.file.now _ c.in_ok-content.ensures card tells)
+
+pub returns-in_err-place-clause-readable : goal.returns-in_err-place-clause-readable
+returns-in_err-place-clause-readable c = λ card e.
+    let told : c.from_residual-in_err-place.result ≡ Err c.in_err-place.field-0.0 = search rules in
+    let same : c.in_err-place.field-0.0 ≡ Card card = let way = sym told ∙ e in cc in
+    absurd (owner_without_fault (caller_number c.args.caller) c.content.inside.holder c.args.self.now card
+    (c.in_err-place.ensures ∙ ap Err same))
+
+pub returns-clause-unreadable : goal.returns-clause-unreadable
+returns-clause-unreadable c = λ card tells.
+    absurd (has_no_fault c.args.part c.args.file.now _ c.in_ok-content.ensures card tells)
+
+pub returns-clause-readable : goal.returns-clause-readable
+returns-clause-readable c = λ card e.
+    absurd (own_without_fault (part_number c.args.part) c.args.file.now c.content.inside.spans.items
+    c.index_mut.result.now c.import.new.self c.import.result c.import.ensures.told card e)
+
+pub returns-clause-repeated : goal.returns-clause-repeated
+returns-clause-repeated c = λ n e.
+    let s = c.self.inside.drivers.items in
+    let i = c.in_ok-place.place in
+    let x = c.index_mut.result.now in
+    let owner = c.in_ok-place.ensures in
+    let within : i < length s =
+    slice_get_within s i owner.0 (ap (λ (t : State). slice_get t i) c.self.view_is ∙ owner.1)
+    in
+    let at = slice_get_read s (length s) i x refl within c.index_mut.ensures.value in
+    let same =
+    own_repeated (part_number c.args.part) c.args.file.now c.content.inside.spans.items x c.import.new.self
+    c.import.result c.import.ensures.told n e
+    in
+    ap (slice_set s i) same ∙ set_same s i x at ∙ c.self.view_is
