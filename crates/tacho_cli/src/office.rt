@@ -31,7 +31,8 @@ pub fn perform<K: Keeper, R: Source, W: Sink>(
     ensures clean { K.is_clean keeper.new → K.is_clean keeper.old }
     ensures performed { K.is_clean keeper.new → (s : State) → K.stands keeper.old s
         → Performed (K.stands keeper.new) s (λ input. Performs job.entry input s) (R.unread reader.old) (R.has_failed reader.new) (W.has_failed writer.new) (W.written writer.old) (W.written writer.new) result }
-    ensures crash { K.is_clean keeper.new → K.is_live keeper.old → (s : State) (past : List State) → K.stands keeper.old s → K.leaves keeper.old past
+    ensures crash { K.is_clean keeper.new → (s : State) (past : List State) → K.stands keeper.old s
+        → K.leaves keeper.old past
         → StopsOver (K.leaves keeper.new) past (λ input. Performs job.entry input s) (R.unread reader.old) }
 {
     match answer(alloc, job, keeper, reader) {
@@ -52,7 +53,8 @@ fn answer<K: Keeper, R: Source>(
     ensures clean { K.is_clean keeper.new → K.is_clean keeper.old }
     ensures answered { K.is_clean keeper.new → (s : State) → K.stands keeper.old s
         → Answered (K.stands keeper.new) s (λ input. Performs job.entry input s) (R.unread reader.old) (R.has_failed reader.new) (answer_of result) }
-    ensures crash { K.is_clean keeper.new → K.is_live keeper.old → (s : State) (past : List State) → K.stands keeper.old s → K.leaves keeper.old past
+    ensures crash { K.is_clean keeper.new → (s : State) (past : List State) → K.stands keeper.old s
+        → K.leaves keeper.old past
         → StopsOver (K.leaves keeper.new) past (λ input. Performs job.entry input s) (R.unread reader.old) }
 {
     let task = task_of(job)?;

@@ -8,6 +8,7 @@ use Rattle.tacho_state.specs.Content.{FileTells, part_number}
 use Rattle.tacho_state.specs.Registration.{Registration}
 use Rattle.tacho_state.specs.State.{State}
 use Rattle.tacho_state.specs.Steps.{Content, Turn, imported}
+use Rattle.tacho_state.proofs.ContentLemmas.{some_content}
 use Rattle.tacho_state.specs.declared.caller.Caller.{Caller}
 use Rattle.tacho_state.specs.declared.entry.EntryLine.{EntryLine}
 use Rattle.tacho_state.specs.declared.fault.StoreFault.{StoreFault}
@@ -77,22 +78,22 @@ read_fault Is (sheet.Activity row) (inl h) = absurd h
 read_fault Is (sheet.TooLong row) (inl h) = absurd h
 read_fault Is (sheet.Column column) (inl h) = absurd h
 
-module _ {K : Type 0} (stands : K → State → Type 0) (is_clean is_live : K → Type 0) (leaves : K → List State → Type 0) where
+module _ {K : Type 0} (stands : K → State → Type 0) (is_clean : K → Type 0) (leaves : K → List State → Type 0) where
   pub served_as : (old new : K) (answer : Answer) (A B : State → Doing) → ((s : State) (answer : Answer) (after : State) → A s answer after → B s answer after)
-      → Serves stands is_clean is_live leaves old new answer A → Serves stands is_clean is_live leaves old new answer B
+      → Serves stands is_clean leaves old new answer A → Serves stands is_clean leaves old new answer B
   served_as old new answer A B h d = record {
     clean = d.clean;
     done = λ clean s st. done_as (stands new) s (A s) (B s) answer (h s) (d.done clean s st);
-    crash = λ clean live s past st l. stops_as (leaves new) past (A s) (B s) (h s) (d.crash clean live s past st l);
+    crash = λ clean s past st l. stops_as (leaves new) past (A s) (B s) (h s) (d.crash clean s past st l);
   }
 
   -- nothing was done, since this fault is wanted, or memory or the reader of CSV failed
   pub nothing : (keeper : K) (f : Fault) (Does : State → Doing) → ((s : State) → Does s (Err f) s ⊎ IsGivenUp f)
-      → Serves stands is_clean is_live leaves keeper keeper (Err f) Does
+      → Serves stands is_clean leaves keeper keeper (Err f) Does
   nothing keeper f Does h = record {
     clean = λ clean. clean;
     done = λ clean s st. (st, h s);
-    crash = λ clean live s past st l. inl l;
+    crash = λ clean s past st l. inl l;
   }
 
   -- ---- steps
@@ -100,14 +101,53 @@ module _ {K : Type 0} (stands : K → State → Type 0) (is_clean is_live : K �
   stopped : {B : Type 0} (new : K) (words : B → Told) (turn : Turn B) (past : List State) → leaves new (turn.after ∷ past) → Stops (leaves new) past (Steps words turn)
   stopped new words turn past l = inr (in_words words turn.answer, turn.after, (refl, refl), l)
 
+  -- ---- CSV
+
+  pub unread_lines : (keeper : K) (n : ℕ) (input : List ℕ) (f : SheetFault) → IsReaderFault f ⊎ IsRead input (Err f)
+      → Serves stands is_clean leaves keeper keeper (Err (sheet_fault f)) (Enters n input)
+  unread_lines keeper n input f h =
+      nothing keeper (sheet_fault f) (Enters n input) (λ s. said s (read_fault (IsRead input) f h))
+    where
+      said : (s : State) → OrCsv (IsRead input) (Err f) ⊎ IsGivenUp (sheet_fault f)
+          → Enters n input s (Err (sheet_fault f)) s ⊎ IsGivenUp (sheet_fault f)
+      said s (inl is) = inl (Err f, is, (refl, refl))
+      said s (inr g) = inr g
+
+  pub read_lines : (old new : K) (answer : Answer) (n : ℕ) (input : List ℕ) (lines : List EntryLine)
+      → IsRead input (Ok lines) → Serves stands is_clean leaves old new answer (λ s. EntersRead n s (Ok lines))
+      → Serves stands is_clean leaves old new answer (Enters n input)
+  read_lines old new answer n input lines is d =
+      served_as old new answer (λ s. EntersRead n s (Ok lines)) (Enters n input)
+      (λ s answer after does. (Ok lines, inl is, does)) d
+
+  pub unread_driver : (keeper : K) (input : List ℕ) (f : SheetFault) → IsReaderFault f ⊎ IsDriverRead input (Err f)
+      → Serves stands is_clean leaves keeper keeper (Err (sheet_fault f)) (Registers input)
+  unread_driver keeper input f h =
+      nothing keeper (sheet_fault f) (Registers input) (λ s. said s (read_fault (IsDriverRead input) f h))
+    where
+      said : (s : State) → OrCsv (IsDriverRead input) (Err f) ⊎ IsGivenUp (sheet_fault f)
+          → Registers input s (Err (sheet_fault f)) s ⊎ IsGivenUp (sheet_fault f)
+      said s (inl is) = inl (Err f, is, (refl, refl))
+      said s (inr g) = inr g
+
+  pub read_driver : (old new : K) (answer : Answer) (input : List ℕ) (r : Registration)
+      → IsDriverRead input (Ok r) → Serves stands is_clean leaves old new answer (λ s. RegistersRead s (Ok r))
+      → Serves stands is_clean leaves old new answer (Registers input)
+  read_driver old new answer input r is d =
+      served_as old new answer (λ s. RegistersRead s (Ok r)) (Registers input)
+      (λ s answer after does. (Ok r, inl is, does)) d
+
+-- a step of the archive
+module _ {K : Type 0} (stands : K → State → Type 0) (is_clean is_live : K → Type 0) (leaves : K → List State → Type 0)
+    {is_same : K → K → Type 0} where
   -- a step that was refused
   pub refused_by : {A B : Type 0} (view : A → B) (words : B → Told) (old new : K) (f : StoreFault) (step : State → Turn B) → ((s : State) → Keeps s (step s))
-      → Acts stands is_clean is_live leaves view old new (Err f) step
-      → Serves stands is_clean is_live leaves old new (Err (store_fault f)) (λ s. Steps words (step s))
+      → Acts stands is_clean is_live leaves is_same view old new (Err f) step
+      → Serves stands is_clean leaves old new (Err (store_fault f)) (λ s. Steps words (step s))
   refused_by view words old new f step keeps acts = record {
     clean = acts.clean;
     done = λ clean s st. done_by s (acts.state clean s st) (refusal_of view words f (step s).answer (acts.answer clean s st));
-    crash = λ clean live s past st l. stopped new words (step s) past (acts.crash clean live s past st l);
+    crash = λ clean s past st l. stopped stands is_clean leaves new words (step s) past (acts.crash clean s past st l);
   }
     where
       done_by : (s : State) → stands new s → ((step s).answer ≡ Err f) ⊎ IsGivenUp (store_fault f)
@@ -117,74 +157,42 @@ module _ {K : Type 0} (stands : K → State → Type 0) (is_clean is_live : K �
 
   -- a step that was taken
   pub taken_by : {A B : Type 0} (view : A → B) (words : B → Told) (old new : K) (x : A) (step : State → Turn B)
-      → Acts stands is_clean is_live leaves view old new (Ok x) step
-      → Serves stands is_clean is_live leaves old new (Ok (words (view x))) (λ s. Steps words (step s))
+      → Acts stands is_clean is_live leaves is_same view old new (Ok x) step
+      → Serves stands is_clean leaves old new (Ok (words (view x))) (λ s. Steps words (step s))
   taken_by view words old new x step acts = record {
     clean = acts.clean;
     done = λ clean s st. ((step s).after, acts.state clean s st, (sym (ap (in_words words) (acts.answer clean s st)), refl));
-    crash = λ clean live s past st l. stopped new words (step s) past (acts.crash clean live s past st l);
+    crash = λ clean s past st l. stopped stands is_clean leaves new words (step s) past (acts.crash clean s past st l);
   }
 
   -- ---- import
 
-  -- the file was read, or there was no memory to read it
-  abbrev pub WasRead : Part → List ℕ → K → K → Result Imported StoreFault → Type 0
-  WasRead p input old new result = ((content : Result Content CardFault) × FileTells p input content) ⊎ ((result ≡ Err store.Memory) × (new ≡ old))
-
-  pub import_refused : (old new : K) (caller : Caller) (p : Part) (input : List ℕ) (f : StoreFault) → WasRead p input old new (Err f)
+  pub import_refused : (old new : K) (caller : Caller) (p : Part) (input : List ℕ) (f : StoreFault)
       → ((content : Result Content CardFault) → FileTells p input content
-      → Acts stands is_clean is_live leaves (λ (done : Imported). done) old new (Err f) (imported (caller_number caller) (part_number p) input content))
-      → Serves stands is_clean is_live leaves old new (Err (store_fault f)) (Imports caller p input)
-  import_refused old new caller p input f (inl c) acts =
-      served_as old new (Err (store_fault f)) (λ s. Steps imported_told (imported (caller_number caller) (part_number p) input c.0 s)) (Imports caller p input)
+      → Acts stands is_clean is_live leaves is_same (λ (done : Imported). done) old new (Err f)
+      (imported (caller_number caller) (part_number p) input content))
+      → Serves stands is_clean leaves old new (Err (store_fault f)) (Imports caller p input)
+  import_refused old new caller p input f acts =
+      let c = some_content p input in
+      let step = imported (caller_number caller) (part_number p) input c.0 in
+      served_as stands is_clean leaves old new (Err (store_fault f)) (λ s. Steps imported_told (step s))
+      (Imports caller p input)
       (λ s answer after does. (c.0, c.1, does))
-      (refused_by (λ (done : Imported). done) imported_told old new f (imported (caller_number caller) (part_number p) input c.0)
+      (refused_by (λ (done : Imported). done) imported_told old new f step
       (imported_keeps (caller_number caller) (part_number p) input c.0) (acts c.0 c.1))
-  import_refused old new caller p input f (inr same) acts =
-      let e : f ≡ store.Memory = cc in
-      subst (λ (g : StoreFault). Serves stands is_clean is_live leaves old new (Err (store_fault g)) (Imports caller p input)) (sym e)
-      (subst (λ (k : K). Serves stands is_clean is_live leaves old k (Err (store_fault store.Memory)) (Imports caller p input)) (sym same.1)
-      (nothing old (store_fault store.Memory) (Imports caller p input) (λ s. inr tt)))
 
-  pub import_taken : (old new : K) (caller : Caller) (p : Part) (input : List ℕ) (x : Imported) → WasRead p input old new (Ok x)
+  pub import_taken : (old new : K) (caller : Caller) (p : Part) (input : List ℕ) (x : Imported)
       → ((content : Result Content CardFault) → FileTells p input content
-      → Acts stands is_clean is_live leaves (λ (done : Imported). done) old new (Ok x) (imported (caller_number caller) (part_number p) input content))
-      → Serves stands is_clean is_live leaves old new (Ok (imported_told x)) (Imports caller p input)
-  import_taken old new caller p input x (inl c) acts =
-      served_as old new (Ok (imported_told x)) (λ s. Steps imported_told (imported (caller_number caller) (part_number p) input c.0 s)) (Imports caller p input)
+      → Acts stands is_clean is_live leaves is_same (λ (done : Imported). done) old new (Ok x)
+      (imported (caller_number caller) (part_number p) input content))
+      → Serves stands is_clean leaves old new (Ok (imported_told x)) (Imports caller p input)
+  import_taken old new caller p input x acts =
+      let c = some_content p input in
+      let step = imported (caller_number caller) (part_number p) input c.0 in
+      served_as stands is_clean leaves old new (Ok (imported_told x)) (λ s. Steps imported_told (step s))
+      (Imports caller p input)
       (λ s answer after does. (c.0, c.1, does))
-      (taken_by (λ (done : Imported). done) imported_told old new x (imported (caller_number caller) (part_number p) input c.0) (acts c.0 c.1))
-  import_taken old new caller p input x (inr same) acts = let no = same.0 in cc
-
-  -- ---- CSV
-
-  pub unread_lines : (keeper : K) (n : ℕ) (input : List ℕ) (f : SheetFault) → IsReaderFault f ⊎ IsRead input (Err f)
-      → Serves stands is_clean is_live leaves keeper keeper (Err (sheet_fault f)) (Enters n input)
-  unread_lines keeper n input f h = nothing keeper (sheet_fault f) (Enters n input) (λ s. said s (read_fault (IsRead input) f h))
-    where
-      said : (s : State) → OrCsv (IsRead input) (Err f) ⊎ IsGivenUp (sheet_fault f) → Enters n input s (Err (sheet_fault f)) s ⊎ IsGivenUp (sheet_fault f)
-      said s (inl is) = inl (Err f, is, (refl, refl))
-      said s (inr g) = inr g
-
-  pub read_lines : (old new : K) (answer : Answer) (n : ℕ) (input : List ℕ) (lines : List EntryLine)
-      → IsRead input (Ok lines) → Serves stands is_clean is_live leaves old new answer (λ s. EntersRead n s (Ok lines))
-      → Serves stands is_clean is_live leaves old new answer (Enters n input)
-  read_lines old new answer n input lines is d =
-      served_as old new answer (λ s. EntersRead n s (Ok lines)) (Enters n input) (λ s answer after does. (Ok lines, inl is, does)) d
-
-  pub unread_driver : (keeper : K) (input : List ℕ) (f : SheetFault) → IsReaderFault f ⊎ IsDriverRead input (Err f)
-      → Serves stands is_clean is_live leaves keeper keeper (Err (sheet_fault f)) (Registers input)
-  unread_driver keeper input f h = nothing keeper (sheet_fault f) (Registers input) (λ s. said s (read_fault (IsDriverRead input) f h))
-    where
-      said : (s : State) → OrCsv (IsDriverRead input) (Err f) ⊎ IsGivenUp (sheet_fault f) → Registers input s (Err (sheet_fault f)) s ⊎ IsGivenUp (sheet_fault f)
-      said s (inl is) = inl (Err f, is, (refl, refl))
-      said s (inr g) = inr g
-
-  pub read_driver : (old new : K) (answer : Answer) (input : List ℕ) (r : Registration)
-      → IsDriverRead input (Ok r) → Serves stands is_clean is_live leaves old new answer (λ s. RegistersRead s (Ok r))
-      → Serves stands is_clean is_live leaves old new answer (Registers input)
-  read_driver old new answer input r is d =
-      served_as old new answer (λ s. RegistersRead s (Ok r)) (Registers input) (λ s answer after does. (Ok r, inl is, does)) d
+      (taken_by (λ (done : Imported). done) imported_told old new x step (acts c.0 c.1))
 
 pub lines_of : (input : List ℕ) (lines : List EntryLine) → ⊥ ⊎ IsRead input (Ok lines) → IsRead input (Ok lines)
 lines_of input lines (inl h) = absurd h

@@ -56,8 +56,9 @@ abbrev pub Stops : (List State → Type 0) → List State → Doing → Type 0
 Stops leaves past Does = leaves past ⊎ ((answer : Answer) × (after : State) × Does answer after × leaves (after ∷ past))
 
 -- A call does what is wanted at the archive, which has not become clean by it.
-pub record Serves {K : Type 0} (stands : K → State → Type 0) (is_clean is_live : K → Type 0) (leaves : K → List State → Type 0)
+pub record Serves {K : Type 0} (stands : K → State → Type 0) (is_clean : K → Type 0) (leaves : K → List State → Type 0)
     (old new : K) (answer : Answer) (Does : State → Doing) : Type 0 where
   pub clean : is_clean new → is_clean old
   pub done : is_clean new → (s : State) → stands old s → Done (stands new) s (Does s) answer
-  pub crash : is_clean new → is_live old → (s : State) (past : List State) → stands old s → leaves old past → Stops (leaves new) past (Does s)
+  pub crash : is_clean new → (s : State) (past : List State) → stands old s → leaves old past
+      → Stops (leaves new) past (Does s)

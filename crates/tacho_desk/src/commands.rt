@@ -6,6 +6,7 @@ ghost use Rattle.tacho_desk.specs.Doing.{Serves};
 ghost use Rattle.tacho_desk.specs.Tasks.{Enters, EntersRead, Imports, Rebases, Registers, RegistersRead, Withdraws, entered_told, imported_told};
 ghost use Rattle.tacho_desk.specs.Told.{answer_of, told_of};
 
+use crate::base::BaseDay;
 use crate::fault::Fault;
 use crate::text::Text;
 use std::alloc::Global;
@@ -15,7 +16,6 @@ use tacho_sheet::{
     withdrawn_line,
 };
 use tacho_state::{Caller, Driver, Entered, EntryLine, Imported, Keeper};
-use tacho_time::Day;
 
 /// Adds the driver of a text of CSV.
 pub(crate) fn register<K: Keeper>(
@@ -23,7 +23,7 @@ pub(crate) fn register<K: Keeper>(
     keeper: &mut K,
     input: &[u8],
 ) -> Result<Text, Fault>
-    ensures { Serves K.stands K.is_clean K.is_live K.leaves keeper.old keeper.new (answer_of result) (Registers input.now) }
+    ensures { Serves K.stands K.is_clean K.leaves keeper.old keeper.new (answer_of result) (Registers input.now) }
 {
     let driver = read_driver(alloc, input)?;
     register_driver(keeper, &driver)
@@ -31,7 +31,8 @@ pub(crate) fn register<K: Keeper>(
 
 /// Adds a driver.
 fn register_driver<K: Keeper>(keeper: &mut K, driver: &Driver) -> Result<Text, Fault>
-    ensures { Serves K.stands K.is_clean K.is_live K.leaves keeper.old keeper.new (answer_of result) (λ s. RegistersRead s (Ok driver.now)) }
+    ensures { Serves K.stands K.is_clean K.leaves keeper.old keeper.new (answer_of result)
+        (λ s. RegistersRead s (Ok driver.now)) }
 {
     keeper.register(driver)?;
     Ok(Text::Added(registered_line(driver.number())))
@@ -45,7 +46,8 @@ pub(crate) fn import<K: Keeper>(
     part: Part,
     input: &[u8],
 ) -> Result<Text, Fault>
-    ensures { Serves K.stands K.is_clean K.is_live K.leaves keeper.old keeper.new (answer_of result) (Imports caller part input.now) }
+    ensures { Serves K.stands K.is_clean K.leaves keeper.old keeper.new (answer_of result)
+        (Imports caller part input.now) }
 {
     let imported = keeper.import(alloc, caller, part, input)?;
     Ok(imported_text(imported))
@@ -69,7 +71,7 @@ pub(crate) fn enter<K: Keeper>(
     driver: u32,
     input: &[u8],
 ) -> Result<Text, Fault>
-    ensures { Serves K.stands K.is_clean K.is_live K.leaves keeper.old keeper.new (answer_of result) (Enters driver input.now) }
+    ensures { Serves K.stands K.is_clean K.leaves keeper.old keeper.new (answer_of result) (Enters driver input.now) }
 {
     let lines = read_entries(alloc, input)?;
     enter_lines(alloc, keeper, driver, &lines)
@@ -83,7 +85,8 @@ fn enter_lines<K: Keeper>(
     lines: &[EntryLine],
 ) -> Result<Text, Fault>
     requires { IsBatch lines.now }
-    ensures { Serves K.stands K.is_clean K.is_live K.leaves keeper.old keeper.new (answer_of result) (λ s. EntersRead driver s (Ok lines.now)) }
+    ensures { Serves K.stands K.is_clean K.leaves keeper.old keeper.new (answer_of result)
+        (λ s. EntersRead driver s (Ok lines.now)) }
 {
     let entered = keeper.enter(alloc, driver, lines)?;
     Ok(entered_text(entered))
@@ -108,16 +111,17 @@ pub(crate) fn withdraw<K: Keeper>(
     driver: u32,
     number: u32,
 ) -> Result<Text, Fault>
-    ensures { Serves K.stands K.is_clean K.is_live K.leaves keeper.old keeper.new (answer_of result) (Withdraws driver number) }
+    ensures { Serves K.stands K.is_clean K.leaves keeper.old keeper.new (answer_of result) (Withdraws driver number) }
 {
     keeper.withdraw(alloc, driver, number)?;
     Ok(Text::Line(withdrawn_line(number)))
 }
 
 /// Sets the day from which a driver is examined.
-pub(crate) fn rebase<K: Keeper>(keeper: &mut K, driver: u32, day: Day) -> Result<Text, Fault>
-    ensures { Serves K.stands K.is_clean K.is_live K.leaves keeper.old keeper.new (answer_of result) (Rebases driver day) }
+pub(crate) fn rebase<K: Keeper>(keeper: &mut K, driver: u32, base: BaseDay) -> Result<Text, Fault>
+    ensures { Serves K.stands K.is_clean K.leaves keeper.old keeper.new (answer_of result) (Rebases driver base) }
 {
+    let day = base.day();
     keeper.rebase(driver, day)?;
     Ok(Text::Line(base_line(day)))
 }

@@ -2,6 +2,7 @@
 //! tells, or its fault.
 #![tactic(auto)]
 
+mod base;
 mod commands;
 mod fault;
 pub mod laws;
@@ -11,6 +12,7 @@ mod task;
 mod text;
 mod words;
 
+pub use base::BaseDay;
 pub use fault::Fault;
 pub use matter::Matter;
 pub use task::{Task, carry_out};

@@ -18,7 +18,7 @@ pub(crate) fn spans<K: Keeper>(
     driver: u32,
     month: Month,
 ) -> Result<Text, Fault>
-    ensures { Serves K.stands K.is_clean K.is_live K.leaves keeper.old keeper.new (answer_of result) (ShowsSpans month driver) }
+    ensures { Serves K.stands K.is_clean K.leaves keeper.old keeper.new (answer_of result) (ShowsSpans month driver) }
 {
     let (start, past) = month_range(month);
     let line = keeper.line_within(alloc, driver, start, past)?;
@@ -32,7 +32,7 @@ pub(crate) fn gaps<K: Keeper>(
     driver: u32,
     month: Month,
 ) -> Result<Text, Fault>
-    ensures { Serves K.stands K.is_clean K.is_live K.leaves keeper.old keeper.new (answer_of result) (ShowsGaps month driver) }
+    ensures { Serves K.stands K.is_clean K.leaves keeper.old keeper.new (answer_of result) (ShowsGaps month driver) }
 {
     let (start, past) = month_range(month);
     let line = keeper.line_within(alloc, driver, start, past)?;
@@ -46,7 +46,7 @@ pub(crate) fn sheet<K: Keeper>(
     driver: u32,
     month: Month,
 ) -> Result<Text, Fault>
-    ensures { Serves K.stands K.is_clean K.is_live K.leaves keeper.old keeper.new (answer_of result) (ShowsSheet month driver) }
+    ensures { Serves K.stands K.is_clean K.leaves keeper.old keeper.new (answer_of result) (ShowsSheet month driver) }
 {
     let name = keeper.name(alloc, driver)?;
     let line = keeper.line(alloc, driver)?;
@@ -57,7 +57,7 @@ pub(crate) fn sheet<K: Keeper>(
 
 /// The breaches of a driver.
 pub(crate) fn breaches<K: Keeper>(alloc: Global, keeper: &mut K, driver: u32) -> Result<Text, Fault>
-    ensures { Serves K.stands K.is_clean K.is_live K.leaves keeper.old keeper.new (answer_of result) (ShowsBreaches driver) }
+    ensures { Serves K.stands K.is_clean K.leaves keeper.old keeper.new (answer_of result) (ShowsBreaches driver) }
 {
     let report = keeper.report(alloc, driver)?;
     Ok(Text::Long(breach_text(alloc, &report)?))
@@ -65,7 +65,7 @@ pub(crate) fn breaches<K: Keeper>(alloc: Global, keeper: &mut K, driver: u32) ->
 
 /// The weekly rests that a driver is owed.
 pub(crate) fn owed<K: Keeper>(alloc: Global, keeper: &mut K, driver: u32) -> Result<Text, Fault>
-    ensures { Serves K.stands K.is_clean K.is_live K.leaves keeper.old keeper.new (answer_of result) (ShowsOwed driver) }
+    ensures { Serves K.stands K.is_clean K.leaves keeper.old keeper.new (answer_of result) (ShowsOwed driver) }
 {
     let report = keeper.report(alloc, driver)?;
     Ok(Text::Long(owed_text(alloc, &report)?))
@@ -73,7 +73,7 @@ pub(crate) fn owed<K: Keeper>(alloc: Global, keeper: &mut K, driver: u32) -> Res
 
 /// The entries of a driver.
 pub(crate) fn entries<K: Keeper>(alloc: Global, keeper: &mut K, driver: u32) -> Result<Text, Fault>
-    ensures { Serves K.stands K.is_clean K.is_live K.leaves keeper.old keeper.new (answer_of result) (ShowsEntries driver) }
+    ensures { Serves K.stands K.is_clean K.leaves keeper.old keeper.new (answer_of result) (ShowsEntries driver) }
 {
     let entries = keeper.entries(alloc, driver)?;
     Ok(Text::Long(entry_text(alloc, &entries)?))
@@ -86,7 +86,7 @@ pub(crate) fn file<K: Keeper>(
     driver: u32,
     number: u32,
 ) -> Result<Text, Fault>
-    ensures { Serves K.stands K.is_clean K.is_live K.leaves keeper.old keeper.new (answer_of result) (ShowsFile driver number) }
+    ensures { Serves K.stands K.is_clean K.leaves keeper.old keeper.new (answer_of result) (ShowsFile driver number) }
 {
     Ok(Text::File(keeper.download(alloc, driver, number)?))
 }

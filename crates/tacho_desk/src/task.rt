@@ -2,13 +2,14 @@ ghost use Rattle.tacho_desk.specs.Doing.{Serves};
 ghost use Rattle.tacho_desk.specs.Tasks.{Does};
 ghost use Rattle.tacho_desk.specs.Told.{answer_of};
 
+use crate::base::BaseDay;
 use crate::fault::Fault;
 use crate::text::Text;
 use crate::{commands, readings};
 use std::alloc::Global;
 use tacho_card::Part;
 use tacho_state::{Caller, Keeper};
-use tacho_time::{Day, Month};
+use tacho_time::Month;
 
 /// What is wanted at an archive, its words read.
 #[derive(Clone, Copy, Debug, PartialEq, Eq)]
@@ -22,7 +23,7 @@ pub enum Task {
     /// An entry of a driver is withdrawn.
     Withdraw { driver: u32, number: u32 },
     /// The Monday from which a driver is examined.
-    Base { driver: u32, day: Day },
+    Base { driver: u32, day: BaseDay },
     /// What a driver holds in a month, as CSV.
     Spans { driver: u32, month: Month },
     /// The minutes of a month that a driver doesn't hold.
@@ -61,7 +62,7 @@ pub fn carry_out<K: Keeper>(
     task: Task,
     input: &[u8],
 ) -> Result<Text, Fault>
-    ensures { Serves K.stands K.is_clean K.is_live K.leaves keeper.old keeper.new (answer_of result) (Does task input.now) }
+    ensures { Serves K.stands K.is_clean K.leaves keeper.old keeper.new (answer_of result) (Does task input.now) }
 {
     match task {
         Task::Register => commands::register(alloc, keeper, input),

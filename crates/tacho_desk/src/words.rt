@@ -4,13 +4,14 @@ ghost use Rattle.tacho_sheet.specs.declared.fault.Fault.TheVariants as told;
 ghost use Rattle.tacho_sheet.specs.Number.{HasNoNumber, IsNumberText};
 ghost use Rattle.tacho_desk.specs.Words.{ByNumber, IsAbout, by_part, most_driver, most_number, part_of as part_named};
 
+use crate::base::BaseDay;
 use crate::fault::Fault;
 use crate::matter::Matter;
 use crate::task::Task;
 use tacho_card::Part;
 use tacho_sheet::{Fault as ToldFault, read_number};
 use tacho_state::Caller;
-use tacho_time::{Day, Month};
+use tacho_time::Month;
 
 /// The greatest number of a driver.
 const LAST_DRIVER: u32 = 999_999;
@@ -75,7 +76,7 @@ pub fn task_about(matter: Matter, driver: u32, word: &[u8]) -> Result<Task, Faul
             Err(fault) => Err(fault),
         },
         Matter::Base => {
-            let day = Day::read(word)?;
+            let day = BaseDay::read(word)?;
             Ok(Task::Base { driver, day })
         }
         Matter::Spans => {

@@ -97,77 +97,48 @@ replied stands s t body (Ok text) Wants h d = inl (d.0, d.1, h (Ok text) d.0 d.2
 replied stands s t body (Err f) Wants h (st, inl d) = inl (s, st, h (Err f) s d)
 replied stands s t body (Err f) Wants h (st, inr g) = inr (gave_up f g, st)
 
-module _ {K : Type 0} (stands : K → State → Type 0) (is_clean is_live : K → Type 0) (leaves : K → List State → Type 0) where
+module _ {K : Type 0} (stands : K → State → Type 0) (is_clean : K → Type 0) (leaves : K → List State → Type 0) where
   pub responds_as : (old new : K) (unread : Option (List ℕ)) (result : Result Response Failed) (A B : List ℕ → State → Reaction)
       → ((left : List ℕ) (s : State) (reply : Reply) (after : State) → A left s reply after → B left s reply after)
-      → Responds stands is_clean is_live leaves old new unread result A → Responds stands is_clean is_live leaves old new unread result B
+      → Responds stands is_clean leaves old new unread result A
+      → Responds stands is_clean leaves old new unread result B
   responds_as old new unread result A B h r = record {
     clean = r.clean;
     same = r.same;
     given = λ c s st left e. given_as (stands new) s (A left s) (B left s) result (h left s) (r.given c s st left e);
-    crash = λ c v s past st l left e. stops_as (leaves new) past (A left s) (B left s) (h left s) (r.crash c v s past st l left e);
+    crash = λ c s past st l left e. stops_as (leaves new) past (A left s) (B left s) (h left s)
+        (r.crash c s past st l left e);
   }
 
   -- nothing was done, and this reply is wanted
   pub nothing : (keeper : K) (unread : Option (List ℕ)) (response : Response) (Wants : List ℕ → State → Reaction)
       → ((left : List ℕ) (s : State) → unread ≡ Some left → Wants left s (reply_of response) s)
-      → Responds stands is_clean is_live leaves keeper keeper unread (Ok response) Wants
+      → Responds stands is_clean leaves keeper keeper unread (Ok response) Wants
   nothing keeper unread response Wants h = record {
     clean = λ c. c;
     same = λ c s st failed e. st;
     given = λ c s st left e. inl (s, st, h left s e);
-    crash = λ c v s past st l left e. inl l;
+    crash = λ c s past st l left e. inl l;
   }
 
   -- memory was wanting
   pub unavailable : (keeper : K) (unread : Option (List ℕ)) (response : Response) (Wants : List ℕ → State → Reaction) → reply_of response ≡ fixed status.Unavailable
-      → Responds stands is_clean is_live leaves keeper keeper unread (Ok response) Wants
+      → Responds stands is_clean leaves keeper keeper unread (Ok response) Wants
   unavailable keeper unread response Wants is = record {
     clean = λ c. c;
     same = λ c s st failed e. st;
     given = λ c s st left e. inr (is, st);
-    crash = λ c v s past st l left e. inl l;
+    crash = λ c s past st l left e. inl l;
   }
 
   -- the reader failed
   pub unread_body : (keeper : K) (unread : Option (List ℕ)) (failed : Failed) (Wants : List ℕ → State → Reaction)
-      → Responds stands is_clean is_live leaves keeper keeper unread (Err failed) Wants
+      → Responds stands is_clean leaves keeper keeper unread (Err failed) Wants
   unread_body keeper unread failed Wants = record {
     clean = λ c. c;
     same = λ c s st failed e. st;
     given = λ c s st left e. st;
-    crash = λ c v s past st l left e. inl l;
-  }
-
-  -- ---- keys
-
-  -- the key is nobody's, or it could not be asked whose it is
-  pub asked_in_vain : (old new : K) (unread : Option (List ℕ)) (response : Response) (key : List ℕ) (Wants : List ℕ → State → Reaction) (found : Result (Option ℕ) StoreFault)
-      → Reads stands is_clean is_live leaves (λ (n : Option ℕ). n) old new found (owner key)
-      → ((left : List ℕ) (s : State) → stands old s → is_clean new → Gives (stands new) s (Wants left s) (reply_of response))
-      → Responds stands is_clean is_live leaves old new unread (Ok response) Wants
-  asked_in_vain old new unread response key Wants found reads h = record {
-    clean = reads.clean;
-    same = λ c s st failed e. reads.state c s st;
-    given = λ c s st left e. h left s st c;
-    crash = λ c v s past st l left e. inl (reads.crash c v past l);
-  }
-
-  -- the key is a driver's, and his request was answered
-  pub asked_for : (old mid new : K) (unread : Option (List ℕ)) (result : Result Response Failed) (key : List ℕ) (n : ℕ) (A B : List ℕ → State → Reaction)
-      → Reads stands is_clean is_live leaves (λ (n : Option ℕ). n) old mid (Ok (Some n)) (owner key)
-      → ((left : List ℕ) (s : State) (reply : Reply) (after : State) → owner key s ≡ Ok (Some n) → A left s reply after → B left s reply after)
-      → Responds stands is_clean is_live leaves mid new unread result A → Responds stands is_clean is_live leaves old new unread result B
-  asked_for old mid new unread result key n A B reads h r = record {
-    clean = λ c. reads.clean (r.clean c);
-    same = λ c s st failed e. r.same c s (reads.state (r.clean c) s st) failed e;
-    given = λ c s st left e.
-        let whose = reads.answer (r.clean c) s st in
-        given_as (stands new) s (A left s) (B left s) result (λ reply after. h left s reply after whose) (r.given c s (reads.state (r.clean c) s st) left e);
-    crash = λ c v s past st l left e.
-        let whose = reads.answer (r.clean c) s st in
-        stops_as (leaves new) past (A left s) (B left s) (λ reply after. h left s reply after whose)
-        (r.crash c (reads.live (r.clean c)) s past (reads.state (r.clean c) s st) (reads.crash (r.clean c) v past l) left e);
+    crash = λ c s past st l left e. inl l;
   }
 
   -- ---- bodies
@@ -175,29 +146,31 @@ module _ {K : Type 0} (stands : K → State → Type 0) (is_clean is_live : K �
   -- the input ended before the body
   pub cut_short : (keeper : K) (unread : Option (List ℕ)) (response : Response) (w : Want) (n : ℕ) (c : Caller) (path behind : List ℕ)
       → reply_of response ≡ fixed status.BadRequest → IsCutShort behind unread n
-      → Responds stands is_clean is_live leaves keeper keeper unread (Ok response) (λ left s. Runs w n c path (behind ++ left) s)
+      → Responds stands is_clean leaves keeper keeper unread (Ok response)
+      (λ left s. Runs w n c path (behind ++ left) s)
   cut_short keeper unread response w n c path behind is cut =
       nothing keeper unread response (λ left s. Runs w n c path (behind ++ left) s) (λ left s e. inl (cut left e, (is, refl)))
 
   -- a word of the path is wrong
   pub wrong_word : (keeper : K) (unread : Option (List ℕ)) (response : Response) (w : Want) (n : ℕ) (c : Caller) (path behind body : List ℕ) (f : Fault)
       → reply_of response ≡ reply_to (Err f) → IsBody behind unread n body → IsTaskAt w c path (Err f)
-      → Responds stands is_clean is_live leaves keeper keeper unread (Ok response) (λ left s. Runs w n c path (behind ++ left) s)
+      → Responds stands is_clean leaves keeper keeper unread (Ok response)
+      (λ left s. Runs w n c path (behind ++ left) s)
   wrong_word keeper unread response w n c path behind body f is read wrong =
       nothing keeper unread response (λ left s. Runs w n c path (behind ++ left) s) (λ left s e. inr ((read left e).0, (Err f, wrong, (is, refl))))
 
   -- the task was carried out
   pub carried_out : (old new : K) (unread : Option (List ℕ)) (response : Response) (answer : Answer) (w : Want) (n : ℕ) (c : Caller) (path behind body : List ℕ) (t : Task)
       → reply_of response ≡ reply_to answer → IsBody behind unread n body → IsTaskAt w c path (Ok t)
-      → Serves stands is_clean is_live leaves old new answer (Does t body)
-      → Responds stands is_clean is_live leaves old new unread (Ok response) (λ left s. Runs w n c path (behind ++ left) s)
+      → Serves stands is_clean leaves old new answer (Does t body)
+      → Responds stands is_clean leaves old new unread (Ok response) (λ left s. Runs w n c path (behind ++ left) s)
   carried_out old new unread response answer w n c path behind body t is read task serves = record {
     clean = serves.clean;
     same = λ clean s st failed e. cc;
     given = λ clean s st left e.
         subst (Gives (stands new) s (Runs w n c path (behind ++ left) s)) (sym is)
         (replied (stands new) s t body answer (Runs w n c path (behind ++ left) s) (λ answer after does. done_for left s answer after e does) (serves.done clean s st));
-    crash = λ clean live s past st l left e. stops_for left s past e (serves.crash clean live s past st l);
+    crash = λ clean s past st l left e. stops_for left s past e (serves.crash clean s past st l);
   }
     where
       done_for : (left : List ℕ) (s : State) (answer : Answer) (after : State) → unread ≡ Some left → Does t body s answer after
@@ -215,8 +188,8 @@ module _ {K : Type 0} (stands : K → State → Type 0) (is_clean is_live : K �
 
   pub by_want : (old new : K) (unread : Option (List ℕ)) (result : Result Response Failed) (c : Caller) (h : RequestHead) (behind path : List ℕ) (w : Want) (n : ℕ)
       → want_of (asker_of c) h.method h.target ≡ Ok w → body_length (method_of h.method) w (fields_of h) ≡ Ok n → path ≡ h.target
-      → Responds stands is_clean is_live leaves old new unread result (λ left s. Runs w n c path (behind ++ left) s)
-      → Responds stands is_clean is_live leaves old new unread result (λ left s. ByCaller c h (behind ++ left) s)
+      → Responds stands is_clean leaves old new unread result (λ left s. Runs w n c path (behind ++ left) s)
+      → Responds stands is_clean leaves old new unread result (λ left s. ByCaller c h (behind ++ left) s)
   by_want old new unread result c h behind path w n wanted long at r =
       responds_as old new unread result (λ left s. Runs w n c path (behind ++ left) s) (λ left s. ByCaller c h (behind ++ left) s) (λ left s reply after does.
       subst (λ (x : Result Want Status). WithWant x c h (behind ++ left) s reply after) (sym wanted)
@@ -224,16 +197,56 @@ module _ {K : Type 0} (stands : K → State → Type 0) (is_clean is_live : K �
       (subst (λ (x : List ℕ). Runs w n c x (behind ++ left) s reply after) at does))) r
 
   pub by_office : (old new : K) (unread : Option (List ℕ)) (result : Result Response Failed) (office key : List ℕ) (h : RequestHead) (behind : List ℕ) → bytes_eq key office ≡ true
-      → Responds stands is_clean is_live leaves old new unread result (λ left s. ByCaller caller.Office h (behind ++ left) s)
-      → Responds stands is_clean is_live leaves old new unread result (λ left s. ByKey office key h (behind ++ left) s)
+      → Responds stands is_clean leaves old new unread result (λ left s. ByCaller caller.Office h (behind ++ left) s)
+      → Responds stands is_clean leaves old new unread result (λ left s. ByKey office key h (behind ++ left) s)
   by_office old new unread result office key h behind e r =
       responds_as old new unread result (λ left s. ByCaller caller.Office h (behind ++ left) s) (λ left s. ByKey office key h (behind ++ left) s)
       (λ left s reply after does. subst (λ (b : Bool). ByWhom b key h (behind ++ left) s reply after) (sym e) does) r
 
+-- ---- keys
+
+module _ {K : Type 0} (stands : K → State → Type 0) (is_clean is_live : K → Type 0) (leaves : K → List State → Type 0)
+    {is_same : K → K → Type 0} where
+  -- the key is nobody's, or it could not be asked whose it is
+  pub asked_in_vain : (old new : K) (unread : Option (List ℕ)) (response : Response) (key : List ℕ)
+      (Wants : List ℕ → State → Reaction) (found : Result (Option ℕ) StoreFault)
+      → Reads stands is_clean is_live leaves is_same (λ (n : Option ℕ). n) old new found (owner key)
+      → ((left : List ℕ) (s : State) → stands old s → is_clean new
+      → Gives (stands new) s (Wants left s) (reply_of response))
+      → Responds stands is_clean leaves old new unread (Ok response) Wants
+  asked_in_vain old new unread response key Wants found reads h = record {
+    clean = reads.clean;
+    same = λ c s st failed e. reads.state c s st;
+    given = λ c s st left e. h left s st c;
+    crash = λ c s past st l left e. inl (reads.crash c past l);
+  }
+
+  -- the key is a driver's, and his request was answered
+  pub asked_for : (old mid new : K) (unread : Option (List ℕ)) (result : Result Response Failed) (key : List ℕ) (n : ℕ)
+      (A B : List ℕ → State → Reaction)
+      → Reads stands is_clean is_live leaves is_same (λ (n : Option ℕ). n) old mid (Ok (Some n)) (owner key)
+      → ((left : List ℕ) (s : State) (reply : Reply) (after : State) → owner key s ≡ Ok (Some n)
+      → A left s reply after → B left s reply after)
+      → Responds stands is_clean leaves mid new unread result A
+      → Responds stands is_clean leaves old new unread result B
+  asked_for old mid new unread result key n A B reads h r = record {
+    clean = λ c. reads.clean (r.clean c);
+    same = λ c s st failed e. r.same c s (reads.state (r.clean c) s st) failed e;
+    given = λ c s st left e.
+        let whose = reads.answer (r.clean c) s st in
+        given_as (stands new) s (A left s) (B left s) result (λ reply after. h left s reply after whose)
+        (r.given c s (reads.state (r.clean c) s st) left e);
+    crash = λ c s past st l left e.
+        let whose = reads.answer (r.clean c) s st in
+        stops_as (leaves new) past (A left s) (B left s) (λ reply after. h left s reply after whose)
+        (r.crash c s past (reads.state (r.clean c) s st) (reads.crash (r.clean c) past l) left e);
+  }
+
   pub by_driver : (old mid new : K) (unread : Option (List ℕ)) (result : Result Response Failed) (office key : List ℕ) (n : ℕ) (h : RequestHead) (behind : List ℕ) → bytes_eq key office ≡ false
-      → Reads stands is_clean is_live leaves (λ (n : Option ℕ). n) old mid (Ok (Some n)) (owner key)
-      → Responds stands is_clean is_live leaves mid new unread result (λ left s. ByCaller (caller.Driver n) h (behind ++ left) s)
-      → Responds stands is_clean is_live leaves old new unread result (λ left s. ByKey office key h (behind ++ left) s)
+      → Reads stands is_clean is_live leaves is_same (λ (n : Option ℕ). n) old mid (Ok (Some n)) (owner key)
+      → Responds stands is_clean leaves mid new unread result
+      (λ left s. ByCaller (caller.Driver n) h (behind ++ left) s)
+      → Responds stands is_clean leaves old new unread result (λ left s. ByKey office key h (behind ++ left) s)
   by_driver old mid new unread result office key n h behind e reads r =
       asked_for old mid new unread result key n (λ left s. ByCaller (caller.Driver n) h (behind ++ left) s) (λ left s. ByKey office key h (behind ++ left) s) reads
       (λ left s reply after whose does.

@@ -22,13 +22,14 @@ Given stands s Wants (Ok response) = Gives stands s Wants (reply_of response)
 Given stands s Wants (Err failed) = stands s
 
 -- A call replies as is wanted of the bytes that are unread, at an archive that has not become clean by it.
-pub record Responds {K : Type 0} (stands : K → State → Type 0) (is_clean is_live : K → Type 0) (leaves : K → List State → Type 0)
-    (old new : K) (unread : Option (List ℕ)) (result : Result Response Failed) (Wants : List ℕ → State → Reaction) : Type 0 where
+pub record Responds {K : Type 0} (stands : K → State → Type 0) (is_clean : K → Type 0)
+    (leaves : K → List State → Type 0) (old new : K) (unread : Option (List ℕ)) (result : Result Response Failed)
+    (Wants : List ℕ → State → Reaction) : Type 0 where
   pub clean : is_clean new → is_clean old
   pub same : is_clean new → (s : State) → stands old s → (failed : Failed) → result ≡ Err failed → stands new s
   pub given : is_clean new → (s : State) → stands old s → (left : List ℕ) → unread ≡ Some left → Given (stands new) s (Wants left s) result
-  pub crash : is_clean new → is_live old → (s : State) (past : List State) → stands old s → leaves old past → (left : List ℕ) → unread ≡ Some left
-      → Stops (leaves new) past (Wants left s)
+  pub crash : is_clean new → (s : State) (past : List State) → stands old s → leaves old past
+      → (left : List ℕ) → unread ≡ Some left → Stops (leaves new) past (Wants left s)
 
 -- a reply that the input may get, with a state that stands, and of its bytes what is said
 pub record Answered (stands : State → Type 0) (office input : List ℕ) (s : State) (Wrote : Reply → Type 0) : Type 0 where

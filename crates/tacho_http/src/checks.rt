@@ -29,7 +29,8 @@ pub(crate) fn by_key<K: Keeper, R: Source>(
 ) -> Result<Response, Failed>
     requires reader { R.has_failed reader.old ≡ false }
     requires within { All (IsHeaderWithin (length request.now.buffer.now)) request.now.fields.now }
-    ensures responds { (h : RequestHead) → IsRequest request.now h → Responds K.stands K.is_clean K.is_live K.leaves keeper.old keeper.new (R.unread reader.old) result
+    ensures responds { (h : RequestHead) → IsRequest request.now h
+        → Responds K.stands K.is_clean K.leaves keeper.old keeper.new (R.unread reader.old) result
         (λ left s. ByKey office_key.now key.now h (request.now.behind.now ++ left) s) }
     ensures failed { IsErr result ↔ (R.has_failed reader.new ≡ true) }
 {
@@ -53,7 +54,8 @@ fn by_caller<K: Keeper, R: Source>(
 ) -> Result<Response, Failed>
     requires reader { R.has_failed reader.old ≡ false }
     requires within { All (IsHeaderWithin (length request.now.buffer.now)) request.now.fields.now }
-    ensures responds { (h : RequestHead) → IsRequest request.now h → Responds K.stands K.is_clean K.is_live K.leaves keeper.old keeper.new (R.unread reader.old) result
+    ensures responds { (h : RequestHead) → IsRequest request.now h
+        → Responds K.stands K.is_clean K.leaves keeper.old keeper.new (R.unread reader.old) result
         (λ left s. ByCaller caller h (request.now.behind.now ++ left) s) }
     ensures failed { IsErr result ↔ (R.has_failed reader.new ≡ true) }
 {
@@ -82,7 +84,7 @@ fn run<K: Keeper, R: Source>(
     request: &Request<'_>,
 ) -> Result<Response, Failed>
     requires { R.has_failed reader.old ≡ false }
-    ensures responds { Responds K.stands K.is_clean K.is_live K.leaves keeper.old keeper.new (R.unread reader.old) result
+    ensures responds { Responds K.stands K.is_clean K.leaves keeper.old keeper.new (R.unread reader.old) result
         (λ left s. Runs want length caller request.now.path.now (request.now.behind.now ++ left) s) }
     ensures failed { IsErr result ↔ (R.has_failed reader.new ≡ true) }
 {

@@ -50,7 +50,8 @@ fn respond_in<K: Keeper, R: Source>(
     ensures answer { K.is_clean keeper.new → (s : State) → K.stands keeper.old s → (input : List ℕ) → R.unread reader.old ≡ Some input
         → IfOk result (λ response. (after : State) × K.stands keeper.new after × Reacts office_key.now input s (reply_of response) after) }
     ensures same { K.is_clean keeper.new → (s : State) → K.stands keeper.old s → OnErr result (K.stands keeper.new s) }
-    ensures crash { K.is_clean keeper.new → K.is_live keeper.old → (s : State) (past : List State) → K.stands keeper.old s → K.leaves keeper.old past → (input : List ℕ) → R.unread reader.old ≡ Some input
+    ensures crash { K.is_clean keeper.new → (s : State) (past : List State) → K.stands keeper.old s
+        → K.leaves keeper.old past → (input : List ℕ) → R.unread reader.old ≡ Some input
         → Stops (K.leaves keeper.new) past (Reacts office_key.now input s) }
     ensures failed { IsErr result ↔ (R.has_failed reader.new ≡ true) }
 {
@@ -79,7 +80,8 @@ fn respond<K: Keeper, R: Source>(
     ensures answer { K.is_clean keeper.new → (s : State) → K.stands keeper.old s → (input : List ℕ) → R.unread reader.old ≡ Some input
         → IfOk result (λ response. (after : State) × K.stands keeper.new after × Reacts office_key.now input s (reply_of response) after) }
     ensures same { K.is_clean keeper.new → (s : State) → K.stands keeper.old s → OnErr result (K.stands keeper.new s) }
-    ensures crash { K.is_clean keeper.new → K.is_live keeper.old → (s : State) (past : List State) → K.stands keeper.old s → K.leaves keeper.old past → (input : List ℕ) → R.unread reader.old ≡ Some input
+    ensures crash { K.is_clean keeper.new → (s : State) (past : List State) → K.stands keeper.old s
+        → K.leaves keeper.old past → (input : List ℕ) → R.unread reader.old ≡ Some input
         → Stops (K.leaves keeper.new) past (Reacts office_key.now input s) }
     ensures failed { IsErr result ↔ (R.has_failed reader.new ≡ true) }
 {
@@ -108,7 +110,8 @@ pub fn answer<K: Keeper, R: Source, W: Sink>(
     // Where the reader failed, nothing was written or changed.
     ensures same { K.is_clean keeper.new → (s : State) → K.stands keeper.old s → result ≡ Err IoFault.Read → K.stands keeper.new s }
     ensures untouched { result ≡ Err IoFault.Read → W.written writer.new ≡ W.written writer.old }
-    ensures crash { K.is_clean keeper.new → K.is_live keeper.old → (s : State) (past : List State) → K.stands keeper.old s → K.leaves keeper.old past → (input : List ℕ) → R.unread reader.old ≡ Some input
+    ensures crash { K.is_clean keeper.new → (s : State) (past : List State) → K.stands keeper.old s
+        → K.leaves keeper.old past → (input : List ℕ) → R.unread reader.old ≡ Some input
         → Stops (K.leaves keeper.new) past (Reacts office_key.now input s) }
     ensures read { IsErrOf result IoFault.Read ↔ (R.has_failed reader.new ≡ true) }
     ensures write { IsErrOf result IoFault.Write ↔ (W.has_failed writer.new ≡ true) }

@@ -24,9 +24,10 @@ returns-then-not-takes_input-clause-answered g c clean s stands =
     (λ told after. asks_none c.args.job c.in_ok-task.task input s told after c.in_ok-task.ensures cc) (c.carry_out.ensures.done clean s stands))
 
 pub returns-then-not-takes_input-clause-crash : goal.returns-then-not-takes_input-clause-crash
-returns-then-not-takes_input-clause-crash g c clean live s past stands left =
+returns-then-not-takes_input-clause-crash g c clean s past stands left =
     stops_unasked (g.K.Keeper.leaves c.carry_out.new.keeper) past _ (λ input. Performs c.args.job input s) (g.R.Source.unread c.args.reader.now)
-    (λ input told after. asks_none c.args.job c.in_ok-task.task input s told after c.in_ok-task.ensures cc) (c.carry_out.ensures.crash clean live s past stands left)
+    (λ input told after. asks_none c.args.job c.in_ok-task.task input s told after c.in_ok-task.ensures cc)
+    (c.carry_out.ensures.crash clean s past stands left)
 
 pub returns-in_err-input-clause-answered : goal.returns-in_err-input-clause-answered
 returns-in_err-input-clause-answered g c clean s stands =

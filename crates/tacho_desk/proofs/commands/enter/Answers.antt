@@ -13,8 +13,9 @@ returns-in_err-lines g c =
     let keeper = c.args.keeper.now in
     let f = c.in_err-lines.field-0.0 in
     let e = faulty c.from_residual.result (sheet_fault f) c.from_residual.ensures.1 in
-    subst (λ (answer : Answer). Serves k.stands k.is_clean k.is_live k.leaves keeper keeper answer (Enters c.args.driver c.args.input.now)) (sym e)
-    (unread_lines k.stands k.is_clean k.is_live k.leaves keeper c.args.driver c.args.input.now f c.in_err-lines.ensures.read)
+    subst (λ (answer : Answer). Serves k.stands k.is_clean k.leaves keeper keeper answer
+    (Enters c.args.driver c.args.input.now)) (sym e)
+    (unread_lines k.stands k.is_clean k.leaves keeper c.args.driver c.args.input.now f c.in_err-lines.ensures.read)
 
 pub returns : goal.returns
 returns g c =
@@ -22,7 +23,8 @@ returns g c =
     let lines = c.in_ok-lines.lines.items in
     let new = c.enter_lines.new.keeper in
     let answer = answer_of c.enter_lines.result in
-    read_lines k.stands k.is_clean k.is_live k.leaves c.args.keeper.now new answer c.args.driver c.args.input.now lines
+    read_lines k.stands k.is_clean k.leaves c.args.keeper.now new answer c.args.driver c.args.input.now lines
     (lines_of c.args.input.now lines c.in_ok-lines.ensures.read)
-    (subst (λ (given : List EntryLine). Serves k.stands k.is_clean k.is_live k.leaves c.args.keeper.now new answer (λ s. EntersRead c.args.driver s (Ok given)))
+    (subst (λ (given : List EntryLine). Serves k.stands k.is_clean k.leaves c.args.keeper.now new answer
+    (λ s. EntersRead c.args.driver s (Ok given)))
     c.deref.ensures.value c.enter_lines.ensures)

@@ -20,10 +20,9 @@ returns g c = record {
           refl,
         ),
       );
-  crash = λ clean live s past stands left.
+  crash = λ clean s past stands left.
       let clean_line = c.report.ensures.reads.clean clean in
       let clean_name = c.line.ensures.clean clean_line in
-      let line_live = c.in_ok-name.ensures.live clean_name in
-      let report_live = c.in_ok-line.ensures.live clean_line in
-      inl (c.report.ensures.reads.crash clean report_live past (c.line.ensures.crash clean_line line_live past (c.name.ensures.crash clean_name live past left)));
+      let line_left = c.line.ensures.crash clean_line past (c.name.ensures.crash clean_name past left) in
+      inl (c.report.ensures.reads.crash clean past line_left);
 }

@@ -17,5 +17,5 @@ returns g c =
           refl,
         ),
       );
-      crash = λ clean live s past stands left. inl (c.line_within.ensures.reads.crash clean live past left);
+      crash = λ clean s past stands left. inl (c.line_within.ensures.reads.crash clean past left);
     }

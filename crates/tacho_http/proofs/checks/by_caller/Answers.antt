@@ -13,5 +13,6 @@ returns-in-Ok-body_length_of-clause-responds g c h is =
     is.method is.path c.in-Ok-want_of.ensures in
     let long = length_found h method.result r.method.now want (map (header_bytes r.buffer.now) r.fields.now) c.in-Ok-body_length_of.length method.ensures is.method is.fields
     c.in-Ok-body_length_of.ensures in
-    by_want k.stands k.is_clean k.is_live k.leaves c.args.keeper.now c.run.new.keeper (g.R.Source.unread c.args.reader.now) c.run.result c.args.caller h
-    c.args.request.now.behind.now c.args.request.now.path.now c.in-Ok-want_of.want c.in-Ok-body_length_of.length wanted long is.path c.run.ensures.responds
+    by_want k.stands k.is_clean k.leaves c.args.keeper.now c.run.new.keeper (g.R.Source.unread c.args.reader.now)
+    c.run.result c.args.caller h c.args.request.now.behind.now c.args.request.now.path.now c.in-Ok-want_of.want
+    c.in-Ok-body_length_of.length wanted long is.path c.run.ensures.responds

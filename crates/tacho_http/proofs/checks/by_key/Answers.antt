@@ -8,8 +8,9 @@ pub returns-then-eq-clause-responds : goal.returns-then-eq-clause-responds
 returns-then-eq-clause-responds g c h is =
     let k = g.K.Keeper in
     let same : bytes_eq c.args.key.now c.args.office_key.now ≡ true = cc in
-    by_office k.stands k.is_clean k.is_live k.leaves c.args.keeper.now c.by_caller.new.keeper (g.R.Source.unread c.args.reader.now) c.by_caller.result
-    c.args.office_key.now c.args.key.now h c.args.request.now.behind.now same (c.by_caller.ensures.responds h is)
+    by_office k.stands k.is_clean k.leaves c.args.keeper.now c.by_caller.new.keeper
+    (g.R.Source.unread c.args.reader.now) c.by_caller.result c.args.office_key.now c.args.key.now h
+    c.args.request.now.behind.now same (c.by_caller.ensures.responds h is)
 
 pub returns-in-Ok-Some-clause-responds : goal.returns-in-Ok-Some-clause-responds
 returns-in-Ok-Some-clause-responds g c h is =
@@ -17,5 +18,6 @@ returns-in-Ok-Some-clause-responds g c h is =
     let other : bytes_eq c.args.key.now c.args.office_key.now ≡ false = cc in
     by_driver k.stands k.is_clean k.is_live k.leaves c.args.keeper.now c.who.new.self c.by_caller-in-Ok-Some.new.keeper (g.R.Source.unread c.args.reader.now)
     c.by_caller-in-Ok-Some.result c.args.office_key.now c.args.key.now c.in-Ok-Some.number h c.args.request.now.behind.now other
-    (subst (λ (found : Option ℕ). Reads k.stands k.is_clean k.is_live k.leaves (λ (n : Option ℕ). n) c.args.keeper.now c.who.new.self (Ok found) (owner c.args.key.now)) c.in-Ok-Some.field-0-is c.in-Ok-Some.ensures)
+    (subst (λ (found : Option ℕ). Reads k.stands k.is_clean k.is_live k.leaves k.is_same (λ (n : Option ℕ). n)
+    c.args.keeper.now c.who.new.self (Ok found) (owner c.args.key.now)) c.in-Ok-Some.field-0-is c.in-Ok-Some.ensures)
     (c.by_caller-in-Ok-Some.ensures.responds h is)

@@ -45,7 +45,7 @@ returns-in-Some-clause-answer g c clean s stands input e =
     ((c.by_key.ensures.responds h is).given clean s stands begins.0 begins.1)
 
 pub returns-in-Some-clause-crash : goal.returns-in-Some-clause-crash
-returns-in-Some-clause-crash g c clean live s past stands left input e =
+returns-in-Some-clause-crash g c clean s past stands left input e =
     let r = c.request_of-request.result in
     let spans = c.in-Ok.head.spans in
     let came = take c.in-Ok.head.filled c.read_head.new.buffer in
@@ -58,7 +58,7 @@ returns-in-Some-clause-crash g c clean live s past stands left input e =
     keyed_stops (g.K.Keeper.leaves c.by_key.new.keeper) past s c.args.office_key.now c.in-Some.key.now input (r.behind.now ++ begins.0) h
     (subst (λ (behind : List ℕ). BeginsWith 8192 32 input h (behind ++ begins.0)) (sym c.request_of-request.ensures.behind) begins.2)
     (key_found (Some c.in-Some.key.now) (map (header_bytes r.buffer.now) r.fields.now) h c.in-Some.ensures is.fields)
-    ((c.by_key.ensures.responds h is).crash clean live s past stands left begins.0 begins.1)
+    ((c.by_key.ensures.responds h is).crash clean s past stands left begins.0 begins.1)
 
 pub returns-in-None-clause-answer : goal.returns-in-None-clause-answer
 returns-in-None-clause-answer g c clean s stands input e =
