@@ -1,14 +1,14 @@
 -- What joins a command's writes: one step after another, and rows that stand in front where the tables have them behind.
-use Rattle.std.proofs.Common.{◌≡◌, ℕ, List, ◌∷◌, ◌++◌, map, filter, not, subst}
+use Rattle.std.proofs.Common.{ℕ, List, ◌∷◌, ◌++◌, map, filter, not}
 use Rattle.std.proofs.lemmas.List.Sorted.{IsPermutation-refl, IsPermutation-sym, IsPermutation-append_comm, IsPermutation-to_front}
 use Rattle.sqlite.specs.State.{State as StoreState}
 use Rattle.sqlite.specs.Tree.{Trees}
 use Rattle.tacho_time.specs.declared.span.Span.{Span}
 use Rattle.tacho_state.specs.State.{Entry, State}
 use Rattle.tacho_tables.specs.Rows.{SpanRow, DriverRow}
-use Rattle.tacho_tables.specs.Tables.{Tables, Stand, Turns, is_near, row_of, with_downloads, with_entries, with_withdrawn}
-use Rattle.tacho_tables.specs.declared.rows.StoredSpan.{StoredSpan}
-use Rattle.tacho_store.specs.Standing.{IsOf, StandsFor, SameRows, span_row, entry_rows, with_driver, with_imported, with_entered, with_renewed, kept}
+use Rattle.tacho_tables.specs.Tables.{Tables, Stand, Turns, is_near, with_downloads, with_entries, with_withdrawn}
+use Rattle.tacho_store.specs.Standing.{IsOf, StandsFor, SameRows, span_row, entry_rows, with_driver, with_imported, with_entered, with_renewed}
+use Rattle.tacho_store.specs.Importing.{written}
 use Rattle.tacho_store.specs.Entering.{batched}
 use Rattle.tacho_store.proofs.OrderedLemmas.{any_order_stands}
 
@@ -57,7 +57,7 @@ driver_stands db row t s stands is = same_stands db (record t { drivers = row �
 
 -- the rows of an import in front or behind
 pub same_kept : (n number part : ℕ) (file : List ℕ) (card_gains gains : List Span) (t : Tables)
-    → SameRows (with_imported n number part file card_gains gains t) (kept n number part file card_gains gains t)
+    → SameRows (with_imported n number part file card_gains gains t) (written n number part file (map (span_row n) card_gains) (map (span_row n) gains) t)
 same_kept n number part file card_gains gains t = record {
   drivers = IsPermutation-refl (map (with_downloads n number) t.drivers);
   downloads = IsPermutation-to_front t.downloads (record { driver = n; number = number; part = part; file = file });
@@ -66,38 +66,12 @@ same_kept n number part file card_gains gains t = record {
   held = IsPermutation-append_comm t.held (map (span_row n) gains);
 }
 
--- the tables of an import's writes, by the rows that they put in front
-abbrev written : ℕ → ℕ → ℕ → List ℕ → List SpanRow → List SpanRow → Tables → Tables
-written n number part file cards helds t = record t {
-  drivers = map (with_downloads n number) t.drivers;
-  downloads = record { driver = n; number = number; part = part; file = file } ∷ t.downloads;
-  card_spans = cards ++ t.card_spans;
-  held = helds ++ t.held;
-}
-
--- an import's four writes make its tables, where the stored rows are those of its gains
-pub turns_kept : (a b c d e : StoreState) (n number part : ℕ) (file : List ℕ) (card_rows rows : List StoredSpan)
-    (card_gains gains : List Span)
-    → map (row_of n) card_rows ≡ map (span_row n) card_gains → map (row_of n) rows ≡ map (span_row n) gains
-    → Turns a b (λ t. record t { drivers = map (with_downloads n number) t.drivers })
-    → Turns b c (λ t. record t { downloads = (record { driver = n; number = number; part = part; file = file }) ∷ t.downloads })
-    → Turns c d (λ t. record t { card_spans = map (row_of n) card_rows ++ t.card_spans })
-    → Turns d e (λ t. record t { held = map (row_of n) rows ++ t.held })
-    → Turns a e (kept n number part file card_gains gains)
-turns_kept a b c d e n number part file card_rows rows card_gains gains same_cards same_rows drivers downloads cards helds =
-    let all : Turns a e (written n number part file (map (row_of n) card_rows) (map (row_of n) rows)) = record {
-      schema = helds.schema;
-      stands = λ t h. helds.stands _ (cards.stands _ (downloads.stands _ (drivers.stands t h)));
-    } in
-    subst (λ (x : List SpanRow). Turns a e (written n number part file (map (span_row n) card_gains) x)) same_rows
-    (subst (λ (x : List SpanRow). Turns a e (written n number part file x (map (row_of n) rows))) same_cards all)
-
 -- what was written of an import stands for the state after it
 pub kept_stands : (db : Trees) (n number part : ℕ) (file : List ℕ) (card_gains gains : List Span) (t : Tables) (s : State)
-    → Stand db (kept n number part file card_gains gains t)
+    → Stand db (written n number part file (map (span_row n) card_gains) (map (span_row n) gains) t)
     → IsOf (with_imported n number part file card_gains gains t) s → StandsFor db s
 kept_stands db n number part file card_gains gains t s stands is =
-    same_stands db (kept n number part file card_gains gains t) (with_imported n number part file card_gains gains t) s
+    same_stands db (written n number part file (map (span_row n) card_gains) (map (span_row n) gains) t) (with_imported n number part file card_gains gains t) s
     (same_kept n number part file card_gains gains t) stands is
 
 -- ---- a batch

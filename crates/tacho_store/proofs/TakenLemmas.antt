@@ -4,6 +4,7 @@ use Rattle.std.proofs.Common.{Some}
 use Rattle.std.proofs.Common.{pos, Result, Ok, Err, IfOk, OnOk, IsTrue, inl, inr, refl, sym, ap, subst, arith}
 use Rattle.std.proofs.Common.{append-nil, append_assoc}
 use Rattle.std.specs.Prelude.{nat_le}
+use Rattle.std.specs.Borrow.{MutBor}
 use Rattle.std.specs.List.{All}
 use Rattle.std.proofs.lemmas.List.{map-append}
 use Rattle.std.proofs.lemmas.List.Elements.{All-append, All-nil}
@@ -19,8 +20,9 @@ use Rattle.tacho_line.specs.declared.horizon.Horizon.{Horizon}
 use Rattle.tacho_tables.specs.Rows.{Stands, SpanRow, span_columns}
 use Rattle.tacho_tables.specs.Schema.{archive_schema}
 use Rattle.tacho_tables.specs.Tables.{span_of, span_shown}
-use Rattle.tacho_tables.proofs.NextLemmas.{onward_text, shown_onward, given_onward}
+use Rattle.tacho_tables.proofs.NextLemmas.{shown_onward, given_onward}
 use Rattle.sqlite.specs.State.{State, HasCleanDisk, IsUnchanged, Survives}
+use Rattle.sqlite.proofs.StateLemmas.{survives_then}
 use Rattle.sqlite.specs.Store.{Ghosts}
 use Rattle.tacho_time.specs.declared.span.Span.{Span}
 use Rattle.tacho_line.specs.declared.horizon.Cause.TheVariants.{Unknown}
@@ -30,10 +32,10 @@ use Rattle.tacho_pass.specs.declared.found.Found.{Found}
 use Rattle.tacho_rules.specs.declared.scan.Scan.{Scan}
 use Rattle.tacho_rules.specs.Scan.{IsAt, IsScanOf}
 use Rattle.tacho_tables.specs.declared.rows.StoredSpan.{StoredSpan}
-use Rattle.tacho_tables.specs.Next.{Tells, GivesNext, IsKept, AreOnward}
+use Rattle.tacho_tables.specs.Next.{Tells, GivesNext, IsKept, AreOnward, IsAsked, BeginsOnward, onward_text}
 use Rattle.tacho_store.specs.Standing.{row_span, stored_span}
 use Rattle.tacho_store.specs.Taken.{cut, cuts, HasTaken, StopsAt, AreTold, HasFed, StopsBefore}
-use Rattle.tacho_store.specs.Taken.{AreFed}
+use Rattle.tacho_store.specs.Taken.{AreFed, ReadsRows, ReadsSettled}
 
 -- ---- spans
 
@@ -152,6 +154,42 @@ kept_then old mid new h k = record {
   was_open = λ o. h.was_open (k.was_open o);
   same = λ o settled. k.same o (h.now_is ∙ settled ∙ sym h.committed_is) ∙ h.now_is;
 }
+
+-- ---- over a connection that is in no transaction
+
+module _ {S A : Type 0} (g : Ghosts S) (old : Held S) (mode : old.in_transaction ≡ false)
+    (settled : IsTrue (state g old).is_open → (state g old).now ≡ (state g old).committed) where
+  -- the query could not begin
+  pub settled_where_refused : (new : Held S) (fault : StoreFault) → IsAsked g old new
+      → ReadsSettled {A = A} g (Err fault) old new
+  settled_where_refused new fault asked = record {
+    autocommit = asked.mode mode;
+    live = λ _. tt;
+    clean = λ clean. let k = asked.survives.clean in omega (arith, k, clean);
+    was_open = λ clean. (asked.kept clean).was_open;
+    same = λ clean o. (asked.kept clean).same o (settled ((asked.kept clean).was_open o));
+    survives = asked.survives;
+  }
+
+  -- its rows were read
+  pub settled_where_read : (driver start : ℕ) (mid new : MutBor (Held S)) (r : Result A StoreFault)
+      → BeginsOnward g old mid.now driver start → ReadsRows g r mid new → ReadsSettled g r old new.now
+  settled_where_read driver start mid new r begun reads =
+      let early : HasCleanDisk (state g new.now) → HasCleanDisk (state g mid.now) =
+      (λ clean. let k = reads.survives.clean in omega (arith, k, clean)) in
+      let kept : HasCleanDisk (state g new.now) → IsKept (state g old) (state g new.now) =
+      (λ clean. kept_then (state g old) (state g mid.now) (state g new.now)
+      (steady_then (state g old) (state g old) (state g mid.now) (steady_self (state g old)) (begun.same (early clean)))
+      (reads.kept clean)) in
+      record {
+        autocommit = reads.mode (begun.asked.mode mode);
+        live = reads.live;
+        clean = λ clean. let k = begun.asked.survives.clean in let e = early clean in omega (arith, k, e);
+        was_open = λ clean. (kept clean).was_open;
+        same = λ clean o. (kept clean).same o (settled ((kept clean).was_open o));
+        survives = survives_then (state g old) (state g mid.now) (state g new.now) (λ _. ⊥) (λ _. ⊥) (λ _. ⊥)
+            (λ _ db none. none) (λ _ db none. none) begun.asked.survives reads.survives;
+      }
 
 -- ---- the loop
 

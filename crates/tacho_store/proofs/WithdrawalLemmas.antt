@@ -13,7 +13,6 @@ use Rattle.tacho_state.specs.declared.fault.StoreFault.TheVariants.{UnknownDrive
 use Rattle.tacho_state.specs.Disjoint.{outside}
 use Rattle.tacho_state.specs.State.{Driver, Entry, State, driver_of, entry_from, put, with_marked}
 use Rattle.tacho_state.specs.Steps.{withdrawn}
-use Rattle.tacho_tables.specs.Schema.{archive_schema}
 use Rattle.tacho_tables.specs.declared.rows.StoredEntry.{StoredEntry}
 use Rattle.tacho_tables.specs.declared.rows.StoredSpan.{StoredSpan}
 use Rattle.tacho_tables.specs.Rows.{EntryRow, SpanRow}
@@ -201,23 +200,21 @@ renewed_is t s n number it rows d e of there = subst
     found.cards_near found.others_near found.helds_near found.are_rows.given)
 
 -- what the writes of a withdrawal leave stands for the state after it
-pub withdrawal_stands : {E : Type 0} (db marked : Trees) (next : Sqlite) (s : State) (n number : ℕ) (it : StoredEntry) (rows : List StoredSpan)
-    (r : Result (Unit {0}) E) → IsEntry s n number (Ok it) → StandsFor db s
+pub withdrawal_stands : {E : Type 0} (db marked next : Trees) (s : State) (n number : ℕ) (it : StoredEntry)
+    (rows : List StoredSpan) (r : Result (Unit {0}) E) → IsEntry s n number (Ok it) → StandsFor db s
     → ((a : Tables) → Stand db a → AreApart (rows_of n a.card_spans) → AreApart (rows_of n a.held) → AreRenewed a n number it.start it.past rows)
-    → ((a : Tables) → Stand db a → Stand marked (record a { entries = map (with_withdrawn n number) a.entries }))
-    → ((a : Tables) → Stand marked a → AreApart (rows_of n a.held) → OnOk r ((next.now.schema ≡ archive_schema)
-    × Stand next.now.trees (record a { held = map (row_of n) rows ++ filter (λ r. not (is_near n it.start it.past r)) a.held })))
-    → OnOk r ((next.now.schema ≡ archive_schema) × StandsFor next.now.trees (withdrawn n number s).after)
+    → ((a : Tables) → Stand db a → Unit {0} → Stand marked (record a { entries = map (with_withdrawn n number) a.entries }))
+    → ((a : Tables) → Stand marked a → AreApart (rows_of n a.held)
+    → OnOk r (Stand next (record a { held = map (row_of n) rows ++ filter (λ r. not (is_near n it.start it.past r)) a.held })))
+    → OnOk r (StandsFor next (withdrawn n number s).after)
 unfolding StandsFor IsEntry
 withdrawal_stands db marked next s n number it rows r (d, e, there) (t, stand, of) renew mark rewrite =
     let cards = card_apart t s n d of there.driver in
     let helds = held_apart t s n d of there.driver in
     let found = renew t stand cards helds in
     let spans = outside it.start it.past (map stored_span found.helds) ++ found.are_rows.inside in
-    on_ok_weaker r (λ written. (
-      written.0,
-      subst (λ (x : State). StandsFor next.now.trees x) (sym (marked_after n number s d there.driver e there.entry there.kept))
-          (renewed_stands next.now.trees n number it.start it.past spans t (put (with_marked number d) s)
-          (subst (λ (x : List SpanRow). Stand next.now.trees (renewed n number it.start it.past x t)) (found.are_rows.all n) written.1)
-          (renewed_is t s n number it rows d e of there found)),
-    )) (rewrite _ (mark t stand) helds)
+    on_ok_weaker r (λ written.
+    subst (λ (x : State). StandsFor next x) (sym (marked_after n number s d there.driver e there.entry there.kept))
+    (renewed_stands next n number it.start it.past spans t (put (with_marked number d) s)
+    (subst (λ (x : List SpanRow). Stand next (renewed n number it.start it.past x t)) (found.are_rows.all n) written)
+    (renewed_is t s n number it rows d e of there found))) (rewrite _ (mark t stand tt) helds)

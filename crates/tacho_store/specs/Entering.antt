@@ -3,8 +3,10 @@ use Rattle.std.specs.Prelude.{◌≡◌, ℕ, ◌+◌, ◌<◌, ◌≤◌, ◌++
 use Rattle.sqlite.specs.Tree.{Trees}
 use Rattle.tacho_time.specs.declared.span.Span.{Span}
 use Rattle.tacho_state.specs.declared.fault.StoreFault.TheVariants.{Full}
-use Rattle.tacho_state.specs.State.{Driver, Entry, State, put, with_batch}
-use Rattle.tacho_state.specs.Steps.{enter_own, most}
+use Rattle.tacho_state.specs.State.{Driver, Entry, State, put, with_batch, entered_spans}
+use Rattle.tacho_state.specs.declared.entry.EntryLine.{EntryLine}
+use Rattle.tacho_state.specs.Batch.{batch_of}
+use Rattle.tacho_state.specs.Steps.{Turn, settled, enter_own, most}
 use Rattle.tacho_tables.specs.Rows.{SpanRow, EntryRow}
 use Rattle.tacho_tables.specs.Tables.{Tables, Stand, with_entries}
 use Rattle.tacho_store.specs.Standing.{StandsFor, entry_rows, span_row}
@@ -25,3 +27,12 @@ pub record AreNumbered (db : Trees) (s : State) (n : ℕ) (d : Driver) (batch : 
   pub stands : (next : Trees)
       → ((t : Tables) → Stand db t → Stand next (batched n (length d.entries + length batch) (entry_rows n (1 + length d.entries) batch) (map (span_row n) gains) t))
       → StandsFor next (put (with_batch batch d) s)
+
+-- the driver's batch
+abbrev pub enter_turn : List EntryLine → Driver → State → Turn ℕ
+enter_turn lines d s = settled s (enter_own (batch_of lines) d)
+
+-- a driver with so many entries, and lines that give these spans, of which these are new to what he holds
+abbrev pub AreToEnter : ℕ → ℕ → List Span → List Span → Driver × List EntryLine → Trees → State → Type 0
+AreToEnter n given spans gains p db s =
+    (given ≡ length p.0.entries) × (spans ≡ entered_spans (batch_of p.1)) × AreNumbered db s n p.0 (batch_of p.1) gains

@@ -1,18 +1,21 @@
 -- What an import is made of: the driver whom it is for, and what of a file's spans is new.
-use Rattle.std.specs.Prelude.{◌≡◌, ℕ, ◌+◌, ◌<◌, ◌≤◌, List, length, Option, Some, None, Result, Ok, Err, bytes_eq, if◌then◌else◌}
+use Rattle.std.specs.Prelude.{◌≡◌, ℕ, ◌+◌, ◌<◌, ◌≤◌, List, map, ◌∷◌, ◌++◌, length, Option, Some, None, Result, Ok, Err, bytes_eq, if◌then◌else◌}
 use Rattle.sqlite.specs.Tree.{Trees}
 use Rattle.tacho_time.specs.declared.span.Span.{Span}
 use Rattle.tacho_card.specs.declared.file.Part.{Part}
 use Rattle.tacho_state.specs.declared.fault.StoreFault.{StoreFault}
 use Rattle.tacho_state.specs.declared.fault.StoreFault.TheVariants.{UnknownDriver, NotYourCard, Full}
+use Rattle.tacho_state.specs.declared.imported.Imported.{Imported}
 use Rattle.tacho_state.specs.declared.imported.Imported.TheVariants.{Added, Repeated}
 use Rattle.tacho_state.specs.Content.{FileTells, part_number}
 use Rattle.tacho_state.specs.State.{Driver, State, driver_of, holding, put, with_download}
-use Rattle.tacho_state.specs.Steps.{import_own, most}
-use Rattle.tacho_tables.specs.Tables.{Tables, Stand}
+use Rattle.tacho_state.specs.Steps.{Content, Turn, settled, import_own, most}
+use Rattle.tacho_tables.specs.Rows.{SpanRow}
+use Rattle.tacho_tables.specs.Tables.{Tables, Stand, with_downloads}
+use Rattle.tacho_store.specs.declared.content.CardContent.{CardContent}
 use Rattle.tacho_store.specs.declared.import.Importer.{Importer}
 use Rattle.tacho_store.specs.declared.news.News.{News}
-use Rattle.tacho_store.specs.Standing.{StandsFor, kept}
+use Rattle.tacho_store.specs.Standing.{StandsFor, span_row}
 use Rattle.tacho_store.specs.Finding.{Refuses}
 
 -- the driver, if there is one: S4
@@ -40,13 +43,22 @@ unfoldable pub IsImporter : State → Result Importer StoreFault → Result Driv
 IsImporter s (Ok it) told = (d : Driver) × (told ≡ Ok d) × IsImporterOf s d it
 IsImporter s (Err fault) told = Refuses fault told
 
+-- the tables as the writes of a download leave them: its number is the driver's count, and its rows are in front of what was there
+abbrev pub written : ℕ → ℕ → ℕ → List ℕ → List SpanRow → List SpanRow → Tables → Tables
+written n number part file cards helds t = record t {
+  drivers = map (with_downloads n number) t.drivers;
+  downloads = record { driver = n; number = number; part = part; file = file } ∷ t.downloads;
+  card_spans = cards ++ t.card_spans;
+  held = helds ++ t.held;
+}
+
 -- the driver's import of spans, of which these are new to what downloads give and to what he holds: it is added where there is a
 -- number, and with these in the tables they stand for the state after it
 pub record AreAdded (db : Trees) (s : State) (n : ℕ) (d : Driver) (spans cards helds : List Span) : Type 0 where
   pub added : (part : ℕ) (file : List ℕ) → length d.downloads < most → import_own part file spans d ≡ Ok (Added d.number (1 + length d.downloads), with_download part file spans d)
   pub full : (part : ℕ) (file : List ℕ) → most ≤ length d.downloads → import_own part file spans d ≡ Err Full
   pub stands : (part : Part) (file holder : List ℕ) (next : Trees) → FileTells part file (Ok (record { holder = holder; spans = spans }))
-      → ((t : Tables) → Stand db t → Stand next (kept n (1 + length d.downloads) (part_number part) file cards helds t))
+      → ((t : Tables) → Stand db t → Stand next (written n (1 + length d.downloads) (part_number part) file (map (span_row n) cards) (map (span_row n) helds) t))
       → StandsFor next (put (with_download (part_number part) file spans d) s)
 
 -- what is new of a file's spans decides the driver's import; or a call gave up
@@ -54,3 +66,21 @@ unfoldable pub AreDecided : Trees → State → ℕ → Driver → List Span →
 AreDecided db s n d spans (Ok None) = (part : ℕ) (file : List ℕ) → import_own part file spans d ≡ Ok (Repeated d.number, d)
 AreDecided db s n d spans (Ok (Some news)) = AreAdded db s n d spans news.card_spans.items news.held.items
 AreDecided db s n d spans (Err fault) = (part : ℕ) (file : List ℕ) → Refuses fault (import_own part file spans d)
+
+-- what was read of a card file
+abbrev pub content_told : CardContent → Content
+content_told it = record { holder = it.holder; spans = it.spans.items }
+
+-- the driver's import of spans by a part
+abbrev pub import_turn : Part → List ℕ → List Span → Driver → State → Turn Imported
+import_turn part file spans d s = settled s (import_own (part_number part) file spans d)
+
+-- a driver for whom a file is imported, and the holder that it names
+abbrev pub AreToImport : Importer → Part → List ℕ → List Span → Driver × List ℕ → Trees → State → Type 0
+AreToImport it part file spans p db s = IsImporterOf s p.0 it × FileTells part file (Ok (record { holder = p.1; spans = spans }))
+
+-- a driver for whom a file's spans are added, these spans, and the holder that the file names
+abbrev pub AreToAdd : Importer → Part → List ℕ → News → Driver × List Span × List ℕ → Trees → State → Type 0
+AreToAdd it part file news p db s =
+    IsImporterOf s p.0 it × AreAdded db s it.number p.0 p.1 news.card_spans.items news.held.items
+    × FileTells part file (Ok (record { holder = p.2; spans = p.1 }))

@@ -1,10 +1,14 @@
 -- What a connection holds of an archive.
-use Rattle.std.specs.Prelude.{◌≡◌, ◌⊎◌, List, [], ◌∷◌, Result, Ok, Err, IsTrue}
+use Rattle.std.specs.Prelude.{◌≡◌, ◌⊎◌, List, [], ◌∷◌, Result, IsTrue}
 use Rattle.sqlite.specs.Tree.{Trees}
-use Rattle.sqlite.specs.State.{State as Sqlite}
+use Rattle.sqlite.specs.State.{State as Sqlite, HasCleanDisk}
+use Rattle.sqlite.specs.Store.{Ghosts}
+use Rattle.sqlite.specs.Held.{Held, state}
 use Rattle.tacho_state.specs.declared.fault.StoreFault.{StoreFault}
 use Rattle.tacho_state.specs.declared.fault.StoreFault.TheVariants.{Memory, Store}
 use Rattle.tacho_state.specs.State.{State}
+use Rattle.tacho_state.specs.Steps.{Turn}
+use Rattle.tacho_state.specs.Acts.{Acts, Reads}
 use Rattle.tacho_tables.specs.Schema.{no_schema, archive_schema}
 use Rattle.tacho_store.specs.Standing.{StandsFor}
 
@@ -29,15 +33,22 @@ Shows c s = IsTrue c.is_open → Holds c s
 abbrev pub LeavesOneOf : Sqlite → List State → Type 0
 LeavesOneOf c states = (db : Trees) → c.may_leave db → StandsAmong db states
 
--- the call answered, and did not give up
-abbrev pub IsAnswered : {A : Type 0} → Result A StoreFault → Type 0
-IsAnswered (Ok x) = Unit {0}
-IsAnswered (Err Memory) = ⊥
-IsAnswered (Err Store) = ⊥
-IsAnswered (Err fault) = Unit {0}
-
 -- it gave up: there was no memory, or the store failed
 abbrev pub IsGivenUp : StoreFault → Type 0
 IsGivenUp Memory = Unit {0}
 IsGivenUp Store = Unit {0}
 IsGivenUp fault = ⊥
+
+-- the second sees what the first did, row for row, while it is open
+abbrev pub IsSame : Sqlite → Sqlite → Type 0
+IsSame a b = IsTrue b.is_open → b.now ≡ a.now
+
+-- what a call does over a connection, where its tables are those of an archive
+module _ {S : Type 0} (g : Ghosts S) {A B : Type 0} (view : A → B) (old new : Held S) (result : Result A StoreFault) where
+  abbrev pub ActsOn : (State → Turn B) → Type 0
+  ActsOn step = Acts (λ (h : Held S). Shows (state g h)) (λ h. HasCleanDisk (state g h)) (λ h. IsTrue (state g h).is_open)
+      (λ h. LeavesOneOf (state g h)) (λ a b. IsSame (state g a) (state g b)) view old new result step
+
+  abbrev pub ReadsOn : (State → Result B StoreFault) → Type 0
+  ReadsOn told = Reads (λ (h : Held S). Shows (state g h)) (λ h. HasCleanDisk (state g h)) (λ h. IsTrue (state g h).is_open)
+      (λ h. LeavesOneOf (state g h)) (λ a b. IsSame (state g a) (state g b)) view old new result told

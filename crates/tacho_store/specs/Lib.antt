@@ -9,3 +9,5 @@ pub mod Entering
 pub mod Apart
 pub mod Taken
 pub mod Begun
+pub mod Calls
+pub mod Opening

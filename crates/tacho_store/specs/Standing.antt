@@ -146,15 +146,6 @@ with_imported n number part file card_gains gains t = record t {
   held = t.held ++ map (span_row n) gains;
 }
 
--- the same rows as the writes of an import leave them, each in front of what was there
-abbrev pub kept : ℕ → ℕ → ℕ → List ℕ → List Span → List Span → Tables → Tables
-kept n number part file card_gains gains t = record t {
-  drivers = map (with_downloads n number) t.drivers;
-  downloads = record { driver = n; number = number; part = part; file = file } ∷ t.downloads;
-  card_spans = map (span_row n) card_gains ++ t.card_spans;
-  held = map (span_row n) gains ++ t.held;
-}
-
 -- a batch goes in: its rows by the numbers that come next, the count of numbers, and what it gives that the driver didn't hold
 abbrev pub with_entered : ℕ → ℕ → ℕ → List Entry → List Span → Tables → Tables
 with_entered n first count batch gains t = record t {

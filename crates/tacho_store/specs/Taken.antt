@@ -1,13 +1,15 @@
 -- What a scan takes of a driver's rows that come one at a time: their spans, cut at a base, up to the horizon.
 use Rattle.std.specs.Prelude.{◌≡◌, ℕ, ◌<◌, ◌≤◌, ◌⊎◌, nat_lt, nat_le, false, true, All, List, [], ◌∷◌, ◌++◌, map}
-use Rattle.std.specs.Prelude.{if◌then◌else◌}
+use Rattle.std.specs.Prelude.{if◌then◌else◌, Result, IfOk, IfErr, OnOk, IsTrue}
+use Rattle.std.specs.Borrow.{MutBor}
 use Rattle.sqlite.specs.Held.{Held, state}
 use Rattle.sqlite.specs.Given.{HasGiven}
 use Rattle.sqlite.specs.Order.{Row}
-use Rattle.sqlite.specs.State.{Shown}
+use Rattle.sqlite.specs.State.{Shown, HasCleanDisk, Survives}
 use Rattle.sqlite.specs.Store.{Ghosts}
 use Rattle.tacho_time.specs.declared.span.Span.{Span}
 use Rattle.tacho_time.specs.Spans.{Covers}
+use Rattle.tacho_time.specs.OrMemory.{OrMemory}
 use Rattle.tacho_line.specs.declared.horizon.Cause.{Cause}
 use Rattle.tacho_line.specs.declared.horizon.Cause.TheVariants.{Unknown, Crew}
 use Rattle.tacho_line.specs.declared.horizon.Horizon.{Horizon}
@@ -16,9 +18,12 @@ use Rattle.tacho_hours.specs.Limits.{latest}
 use Rattle.tacho_pass.specs.declared.found.Found.{Found}
 use Rattle.tacho_rules.specs.declared.scan.Scan.{Scan}
 use Rattle.tacho_rules.specs.Scan.{IsAt, IsScanOf}
+use Rattle.tacho_state.specs.declared.fault.StoreFault.{StoreFault}
+use Rattle.tacho_state.specs.declared.fault.StoreFault.TheVariants.{Memory, Store}
 use Rattle.tacho_tables.specs.declared.rows.StoredSpan.{StoredSpan}
-use Rattle.tacho_tables.specs.Next.{Tells, AreOnward}
+use Rattle.tacho_tables.specs.Next.{Tells, AreOnward, IsKept}
 use Rattle.tacho_tables.specs.Rows.{SpanRow}
+use Rattle.tacho_store.specs.Kept.{IsSame}
 use Rattle.tacho_store.specs.Standing.{row_span, stored_span}
 use Rattle.tacho_store.specs.declared.feeding.Step.{Step}
 use Rattle.tacho_store.specs.declared.feeding.Step.TheVariants.{On, Stop}
@@ -101,3 +106,30 @@ pub record AreFed (driver start base : ℕ) (rows : List SpanRow) (scan : Scan) 
   pub onward : AreOnward driver start rows (taken ++ others)
   pub took : HasTaken base base h.minute (map row_span taken) scan was fed found
   pub stops : StopsBefore h (map row_span others)
+
+-- ---- whatever a reading answers
+
+-- the scan stands at the horizon, unless there was no memory or the store failed
+pub record EndsAt (scan : Scan) (result : Result Horizon StoreFault) : Type 0 where
+  pub at : IfOk result (λ horizon. IsAt scan horizon.minute)
+  pub fault : IfErr result (λ fault. OrMemory Memory fault (fault ≡ Store))
+
+module _ {S A : Type 0} (g : Ghosts S) (result : Result A StoreFault) where
+  -- Of the rows of a query: it is the same connection, what is open was so before and sees what it saw, and a stop
+  -- leaves what it could leave before.
+  pub record ReadsRows (old new : MutBor (Held S)) : Type 0 where
+    pub same_reference : new.ghost_name ≡ old.ghost_name
+    pub live : HasCleanDisk (state g new.now) → OnOk result (IsTrue (state g new.now).is_open)
+    pub kept : HasCleanDisk (state g new.now) → IsKept (state g old.now) (state g new.now)
+    pub mode : old.now.in_transaction ≡ false → new.now.in_transaction ≡ false
+    pub survives : Survives (state g old.now) (state g new.now) (λ _. ⊥)
+
+  -- Of a connection that is in no transaction, and stays so: what is open was so before and sees what it saw, a clean
+  -- disk was clean before, and a stop leaves what it could leave before.
+  pub record ReadsSettled (old new : Held S) : Type 0 where
+    pub autocommit : new.in_transaction ≡ false
+    pub live : HasCleanDisk (state g new) → OnOk result (IsTrue (state g new).is_open)
+    pub clean : HasCleanDisk (state g new) → HasCleanDisk (state g old)
+    pub was_open : HasCleanDisk (state g new) → IsTrue (state g new).is_open → IsTrue (state g old).is_open
+    pub same : HasCleanDisk (state g new) → IsSame (state g old) (state g new)
+    pub survives : Survives (state g old) (state g new) (λ _. ⊥)

@@ -1,15 +1,9 @@
-ghost use Rattle.std.specs.Prelude.{◌≡◌, ◌↔◌, ◌∷◌, [], List, Ok, Err, Result, false, IsTrue, IfOk, IfErr, IsErr, OnOk, OnErr};
-ghost use Rattle.sqlite.specs.State.{HasCleanDisk, Survives, KeepsCommit};
-ghost use Rattle.tacho_tables.specs.Schema.{archive_schema};
+ghost use Rattle.std.specs.Prelude.{◌≡◌, ◌≢◌, ◌↔◌, [], List, false, IsTrue, IfOk, IfErr, IsErr};
+ghost use Rattle.sqlite.specs.State.{HasCleanDisk};
 ghost use Rattle.sqlite.specs.Held.{state};
-ghost use Rattle.sqlite.specs.Steps.{over_memory};
-ghost use Rattle.tacho_card.specs.declared.fault.CardFault.{CardFault as Fault};
 ghost use Rattle.tacho_state.specs.State.{State};
-ghost use Rattle.tacho_state.specs.Steps.{Content, imported};
-ghost use Rattle.tacho_state.specs.Content.{FileTells, part_number};
-ghost use Rattle.tacho_state.specs.Acts.{Acts, caller_number};
-ghost use Rattle.tacho_store.specs.Standing.{StandsFor};
-ghost use Rattle.tacho_store.specs.Kept.{IsBlank, Holds, Shows, LeavesOneOf, IsGivenUp};
+ghost use Rattle.tacho_store.specs.Kept.{IsBlank, Shows, LeavesOneOf, IsSame, IsGivenUp};
+ghost use Rattle.tacho_store.specs.Opening.{Makes, IsMade, IsUnmade, TellsSchema, IsChecked, IsEmptyArchive, IsAdopted, IsLeftAlone};
 
 use crate::base::rebase;
 use crate::content::content_of;
@@ -37,14 +31,8 @@ pub struct Archive<S: Alter> {
 
 /// Makes the tables in a store that has none, within a transaction.
 fn make_in<S: Alter>(tx: &mut Transaction<'_, S>) -> Result<(), StoreFault>
-    ensures same_reference { tx.new.conn.ghost_name ≡ tx.old.conn.ghost_name }
-    ensures made { HasCleanDisk (state S.Store tx.new.conn.now) → IsBlank (state S.Store tx.old.conn.now)
-        → OnOk result (((state S.Store tx.new.conn.now).now.schema ≡ archive_schema) × StandsFor (state S.Store tx.new.conn.now).now.trees []) }
     ensures refused { IfErr result IsGivenUp }
-    ensures clean { HasCleanDisk (state S.Store tx.new.conn.now) → HasCleanDisk (state S.Store tx.old.conn.now) }
-    ensures was_open { HasCleanDisk (state S.Store tx.new.conn.now) → IsTrue (state S.Store tx.new.conn.now).is_open → IsTrue (state S.Store tx.old.conn.now).is_open }
-    ensures keeps { HasCleanDisk (state S.Store tx.new.conn.now) → KeepsCommit (state S.Store tx.old.conn.now) (state S.Store tx.new.conn.now) }
-    ensures survives { Survives (state S.Store tx.old.conn.now) (state S.Store tx.new.conn.now) (λ _. ⊥) }
+    ensures makes { Makes S.Store tx.old.conn tx.new.conn result }
 {
     making::make_all(tx).map_err(store_fault)
 }
@@ -53,14 +41,8 @@ fn make_in<S: Alter>(tx: &mut Transaction<'_, S>) -> Result<(), StoreFault>
 fn make<S: Alter>(conn: &mut Connection<S>) -> Result<(), StoreFault>
     requires { conn.old.in_transaction ≡ false }
     ensures autocommit { conn.new.in_transaction ≡ false }
-    ensures made { HasCleanDisk (state S.Store conn.new) → IsBlank (state S.Store conn.old) → OnOk result (Holds (state S.Store conn.new) []) }
-    ensures taken { (s : State) → Holds (state S.Store conn.old) s → IsErr result }
     ensures refused { IfErr result IsGivenUp }
-    ensures live { HasCleanDisk (state S.Store conn.new) → OnOk result (IsTrue (state S.Store conn.new).is_open) }
-    ensures clean { HasCleanDisk (state S.Store conn.new) → HasCleanDisk (state S.Store conn.old) }
-    ensures same { HasCleanDisk (state S.Store conn.new) → IsTrue (state S.Store conn.new).is_open → OnErr result ((state S.Store conn.new).now ≡ (state S.Store conn.old).now) }
-    ensures kept { HasCleanDisk (state S.Store conn.new) → IsBlank (state S.Store conn.old) → OnOk result (LeavesOneOf (state S.Store conn.new) ([] ∷ [])) }
-    ensures crash { IsBlank (state S.Store conn.old) → Survives (state S.Store conn.old) (state S.Store conn.new) (λ db. StandsFor db []) }
+    ensures made { IsMade (state S.Store conn.old) (state S.Store conn.new) result }
 {
     if opening::has_tables(conn) {
         return Err(StoreFault::Store);
@@ -82,10 +64,7 @@ fn read_version<S: Alter>(conn: &mut Connection<S>) -> Result<Option<u32>, Store
     requires { conn.old.in_transaction ≡ false }
     ensures autocommit { conn.new.in_transaction ≡ false }
     ensures refused { IfErr result IsGivenUp }
-    ensures clean { HasCleanDisk (state S.Store conn.new) → HasCleanDisk (state S.Store conn.old) }
-    ensures was_open { HasCleanDisk (state S.Store conn.new) → IsTrue (state S.Store conn.new).is_open → IsTrue (state S.Store conn.old).is_open }
-    ensures same { HasCleanDisk (state S.Store conn.new) → IsTrue (state S.Store conn.new).is_open → (s : State) → Holds (state S.Store conn.old) s → (state S.Store conn.new).now ≡ (state S.Store conn.old).now }
-    ensures survives { Survives (state S.Store conn.old) (state S.Store conn.new) (λ _. ⊥) }
+    ensures version { TellsSchema (state S.Store conn.old) (state S.Store conn.new) result }
 {
     let _settled = conn.is_autocommit();
     let mut tx = conn.transaction();
@@ -96,14 +75,8 @@ fn read_version<S: Alter>(conn: &mut Connection<S>) -> Result<Option<u32>, Store
 fn check<S: Alter>(conn: &mut Connection<S>) -> Result<(), StoreFault>
     requires { conn.old.in_transaction ≡ false }
     ensures autocommit { conn.new.in_transaction ≡ false }
-    ensures missing { HasCleanDisk (state S.Store conn.new) → IsBlank (state S.Store conn.old) → IsErr result }
     ensures refused { IfErr result IsGivenUp }
-    ensures live { HasCleanDisk (state S.Store conn.new) → OnOk result (IsTrue (state S.Store conn.new).is_open) }
-    ensures clean { HasCleanDisk (state S.Store conn.new) → HasCleanDisk (state S.Store conn.old) }
-    ensures was_open { HasCleanDisk (state S.Store conn.new) → IsTrue (state S.Store conn.new).is_open → IsTrue (state S.Store conn.old).is_open }
-    ensures same { HasCleanDisk (state S.Store conn.new) → IsTrue (state S.Store conn.new).is_open → (s : State) → Holds (state S.Store conn.old) s → (state S.Store conn.new).now ≡ (state S.Store conn.old).now }
-    ensures blank { HasCleanDisk (state S.Store conn.new) → IsTrue (state S.Store conn.new).is_open → IsBlank (state S.Store conn.old) → (state S.Store conn.new).now ≡ (state S.Store conn.old).now }
-    ensures survives { Survives (state S.Store conn.old) (state S.Store conn.new) (λ _. ⊥) }
+    ensures checked { IsChecked (state S.Store conn.old) (state S.Store conn.new) result }
 {
     let _settled = conn.is_autocommit();
     opening::ask(conn).map_err(store_fault)?;
@@ -117,23 +90,21 @@ fn check<S: Alter>(conn: &mut Connection<S>) -> Result<(), StoreFault>
 }
 
 impl<S: Alter> Archive<S> {
-    ghost use Rattle.std.specs.Prelude.{◌≡◌, ◌↔◌, ◌∷◌, [], List, false, IsTrue, IfOk, IfErr, IsErr};
-    ghost use Rattle.sqlite.specs.State.{HasCleanDisk, Survives};
+    ghost use Rattle.std.specs.Prelude.{◌≡◌, ◌≢◌, ◌↔◌, [], List, false, IsTrue, IfOk, IfErr, IsErr};
+    ghost use Rattle.sqlite.specs.State.{HasCleanDisk};
     ghost use Rattle.sqlite.specs.Held.{state};
     ghost use Rattle.tacho_state.specs.State.{State};
-    ghost use Rattle.tacho_store.specs.Standing.{StandsFor};
-    ghost use Rattle.tacho_store.specs.Kept.{IsBlank, Holds, Shows, LeavesOneOf, IsGivenUp};
+    ghost use Rattle.tacho_store.specs.Kept.{IsBlank, Shows, LeavesOneOf, IsGivenUp};
+    ghost use Rattle.tacho_store.specs.Opening.{IsUnmade, IsEmptyArchive, IsAdopted, IsLeftAlone};
 
     /// An archive of no drivers in a store without tables, made in one transaction. S12 where the store has tables. A refusal
     /// hands the connection back, with the store as it was.
     pub fn create(mut conn: Connection<S>) -> Result<Archive<S>, (StoreFault, Connection<S>)>
         requires { conn.in_transaction ≡ false }
         ensures created { IfOk result (λ archive. ⟦<Archive<S> as Keeper>⟧.is_clean archive → IsBlank (state S.Store conn)
-            → ⟦<Archive<S> as Keeper>⟧.stands archive [] × ⟦<Archive<S> as Keeper>⟧.is_live archive × ⟦<Archive<S> as Keeper>⟧.leaves archive ([] ∷ [])) }
-        ensures taken { (s : State) → Holds (state S.Store conn) s → IsErr result }
-        ensures refused { IfErr result (λ e. IsGivenUp e.0 × (e.1.in_transaction ≡ false)) }
-        ensures same { IfErr result (λ e. HasCleanDisk (state S.Store e.1) → IsTrue (state S.Store e.1).is_open → (state S.Store e.1).now ≡ (state S.Store conn).now) }
-        ensures crash { IfErr result (λ e. IsBlank (state S.Store conn) → Survives (state S.Store conn) (state S.Store e.1) (λ db. StandsFor db [])) }
+            → IsEmptyArchive ⟦<Archive<S> as Keeper>⟧.stands ⟦<Archive<S> as Keeper>⟧.is_live ⟦<Archive<S> as Keeper>⟧.leaves archive) }
+        ensures taken { (state S.Store conn).now.schema.tables ≢ [] → IsErr result }
+        ensures refused { IfErr result (λ e. IsGivenUp e.0 × (e.1.in_transaction ≡ false) × IsUnmade (state S.Store conn) (state S.Store e.1)) }
     {
         match make(&mut conn) {
             Ok(()) => Ok(Archive { conn }),
@@ -142,17 +113,12 @@ impl<S: Alter> Archive<S> {
     }
 
     /// The archive that a store has. S12 where the store has no tables, or tables of another schema. A refusal hands the
-    /// connection back, with the archive, or the store without tables, as it was.
+    /// connection back, with an archive's tables of whatever version, or the store without tables, as they were.
     pub fn adopt(mut conn: Connection<S>) -> Result<Archive<S>, (StoreFault, Connection<S>)>
         requires { conn.in_transaction ≡ false }
-        ensures adopted { IfOk result (λ archive. ⟦<Archive<S> as Keeper>⟧.is_clean archive → (s : State) → Holds (state S.Store conn) s → ⟦<Archive<S> as Keeper>⟧.stands archive s) }
-        ensures live { IfOk result (λ archive. ⟦<Archive<S> as Keeper>⟧.is_clean archive → ⟦<Archive<S> as Keeper>⟧.is_live archive) }
-        ensures crash { IfOk result (λ archive. ⟦<Archive<S> as Keeper>⟧.is_clean archive → (states : List State) → LeavesOneOf (state S.Store conn) states → ⟦<Archive<S> as Keeper>⟧.leaves archive states) }
-        ensures missing { IfOk result (λ archive. ⟦<Archive<S> as Keeper>⟧.is_clean archive → IsBlank (state S.Store conn) → ⊥) }
-        ensures refused { IfErr result (λ e. IsGivenUp e.0 × (e.1.in_transaction ≡ false)) }
-        ensures same { IfErr result (λ e. HasCleanDisk (state S.Store e.1) → (s : State) → Holds (state S.Store conn) s → Shows (state S.Store e.1) s) }
-        ensures blank { IfErr result (λ e. HasCleanDisk (state S.Store e.1) → IsTrue (state S.Store e.1).is_open → IsBlank (state S.Store conn) → (state S.Store e.1).now ≡ (state S.Store conn).now) }
-        ensures survives { IfErr result (λ e. Survives (state S.Store conn) (state S.Store e.1) (λ _. ⊥)) }
+        ensures adopted { IfOk result (λ archive. ⟦<Archive<S> as Keeper>⟧.is_clean archive
+            → IsAdopted ⟦<Archive<S> as Keeper>⟧.stands ⟦<Archive<S> as Keeper>⟧.is_live ⟦<Archive<S> as Keeper>⟧.leaves (state S.Store conn) archive) }
+        ensures refused { IfErr result (λ e. IsGivenUp e.0 × (e.1.in_transaction ≡ false) × IsLeftAlone (state S.Store conn) (state S.Store e.1)) }
     {
         match check(&mut conn) {
             Ok(()) => Ok(Archive { conn }),
@@ -163,10 +129,10 @@ impl<S: Alter> Archive<S> {
     /// Hands the connection back, outside a transaction.
     pub fn close(self) -> Connection<S>
         ensures autocommit { result.in_transaction ≡ false }
-        ensures clean { ⟦<Archive<S> as Keeper>⟧.is_clean self ↔ HasCleanDisk (state S.Store result) }
-        ensures held { (s : State) → ⟦<Archive<S> as Keeper>⟧.stands self s → Shows (state S.Store result) s }
-        ensures live { ⟦<Archive<S> as Keeper>⟧.is_live self ↔ IsTrue (state S.Store result).is_open }
-        ensures crash { (states : List State) → ⟦<Archive<S> as Keeper>⟧.leaves self states → LeavesOneOf (state S.Store result) states }
+        ensures clean { (⟦<Archive<S> as Keeper>⟧.is_clean self ↔ HasCleanDisk (state S.Store result))
+            × (⟦<Archive<S> as Keeper>⟧.is_live self ↔ IsTrue (state S.Store result).is_open) }
+        ensures kept { ((s : State) → ⟦<Archive<S> as Keeper>⟧.stands self s → Shows (state S.Store result) s)
+            × ((states : List State) → ⟦<Archive<S> as Keeper>⟧.leaves self states → LeavesOneOf (state S.Store result) states) }
     {
         let Archive { conn } = self;
         conn
@@ -178,7 +144,7 @@ impl<S: Alter> Keeper for Archive<S> {
     ghost use Rattle.std.proofs.Common.{inr};
     ghost use Rattle.sqlite.specs.State.{HasCleanDisk};
     ghost use Rattle.sqlite.specs.Held.{state};
-    ghost use Rattle.tacho_store.specs.Kept.{Shows, LeavesOneOf};
+    ghost use Rattle.tacho_store.specs.Kept.{Shows, LeavesOneOf, IsSame};
 
     ghost stands = { λ a s. Shows (state S.Store a.conn) s };
 
@@ -187,6 +153,8 @@ impl<S: Alter> Keeper for Archive<S> {
     ghost is_live = { λ a. IsTrue (state S.Store a.conn).is_open };
 
     ghost leaves = { λ a states. LeavesOneOf (state S.Store a.conn) states };
+
+    ghost is_same = { λ a b. IsSame (state S.Store a.conn) (state S.Store b.conn) };
 
     ghost leaves_more = { λ a s states leaves db may. inr (leaves db may) };
 
@@ -260,7 +228,8 @@ impl<S: Alter> Keeper for Archive<S> {
 /// An archive of no drivers in memory.
 pub fn open_memory(alloc: Global) -> Result<Archive<MemStore>, StoreFault>
     ensures opened { IfOk result (λ archive. ⟦<Archive<MemStore> as Keeper>⟧.is_clean archive
-        → ⟦<Archive<MemStore> as Keeper>⟧.stands archive [] × ⟦<Archive<MemStore> as Keeper>⟧.is_live archive × ⟦<Archive<MemStore> as Keeper>⟧.leaves archive ([] ∷ [])) }
+        → IsEmptyArchive ⟦<Archive<MemStore> as Keeper>⟧.stands ⟦<Archive<MemStore> as Keeper>⟧.is_live
+        ⟦<Archive<MemStore> as Keeper>⟧.leaves archive) }
     ensures refused { IfErr result IsGivenUp }
 {
     let mut conn = Connection::open_in_memory(alloc)?;

@@ -1,12 +1,7 @@
-ghost use Rattle.std.specs.Prelude.{◌≡◌, ◌∷◌, false, IsTrue, OnOk};
-ghost use Rattle.sqlite.specs.State.{HasCleanDisk, Survives, KeepsCommit};
-ghost use Rattle.sqlite.specs.Held.{state};
-ghost use Rattle.tacho_state.specs.State.{State};
+ghost use Rattle.std.specs.Prelude.{◌≡◌, false};
 ghost use Rattle.tacho_state.specs.Steps.{rebased, is_monday};
-ghost use Rattle.tacho_state.specs.Acts.{Acts, Answers};
-ghost use Rattle.tacho_tables.specs.Schema.{archive_schema};
-ghost use Rattle.tacho_store.specs.Standing.{StandsFor};
-ghost use Rattle.tacho_store.specs.Kept.{Shows, LeavesOneOf, IsAnswered};
+ghost use Rattle.tacho_store.specs.Calls.{Steps};
+ghost use Rattle.tacho_store.specs.Kept.{ActsOn};
 
 use crate::fault::store_fault;
 use crate::finding::driver_with;
@@ -28,16 +23,7 @@ fn rebase_in<S: Alter>(
     driver: u32,
     base: Day,
 ) -> Result<(), StoreFault>
-    ensures same_reference { tx.new.conn.ghost_name ≡ tx.old.conn.ghost_name }
-    ensures answer { HasCleanDisk (state S.Store tx.new.conn.now) → (state S.Store tx.old.conn.now).now.schema ≡ archive_schema → (s : State) → StandsFor (state S.Store tx.old.conn.now).now.trees s
-        → Answers (λ _. tt) result (rebased driver base s).answer }
-    ensures made { HasCleanDisk (state S.Store tx.new.conn.now) → (state S.Store tx.old.conn.now).now.schema ≡ archive_schema → (s : State) → StandsFor (state S.Store tx.old.conn.now).now.trees s
-        → OnOk result (((state S.Store tx.new.conn.now).now.schema ≡ archive_schema) × StandsFor (state S.Store tx.new.conn.now).now.trees (rebased driver base s).after) }
-    ensures live { HasCleanDisk (state S.Store tx.new.conn.now) → IsAnswered result → IsTrue (state S.Store tx.old.conn.now).is_open }
-    ensures clean { HasCleanDisk (state S.Store tx.new.conn.now) → HasCleanDisk (state S.Store tx.old.conn.now) }
-    ensures was_open { HasCleanDisk (state S.Store tx.new.conn.now) → IsTrue (state S.Store tx.new.conn.now).is_open → IsTrue (state S.Store tx.old.conn.now).is_open }
-    ensures keeps { HasCleanDisk (state S.Store tx.new.conn.now) → (state S.Store tx.old.conn.now).now.schema ≡ archive_schema → KeepsCommit (state S.Store tx.old.conn.now) (state S.Store tx.new.conn.now) }
-    ensures survives { Survives (state S.Store tx.old.conn.now) (state S.Store tx.new.conn.now) (λ _. ⊥) }
+    ensures { Steps S.Store tx.old.conn tx.new.conn result (λ _. tt) (rebased driver base) }
 {
     driver_with(tx, driver)?;
     if !is_monday(base) {
@@ -50,8 +36,7 @@ fn rebase_in<S: Alter>(
 pub fn rebase<S: Alter>(conn: &mut Connection<S>, driver: u32, base: Day) -> Result<(), StoreFault>
     requires { conn.old.in_transaction ≡ false }
     ensures autocommit { conn.new.in_transaction ≡ false }
-    ensures acts { Acts (λ c. Shows (state S.Store c)) (λ c. HasCleanDisk (state S.Store c)) (λ c. IsTrue (state S.Store c).is_open) (λ c. LeavesOneOf (state S.Store c)) (λ _. tt) conn.old conn.new result
-        (rebased driver base) }
+    ensures acts { ActsOn S.Store (λ _. tt) conn.old conn.new result (rebased driver base) }
 {
     let _settled = conn.is_autocommit();
     let mut tx = conn.transaction();

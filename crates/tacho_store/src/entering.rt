@@ -1,18 +1,14 @@
-ghost use Rattle.std.specs.Prelude.{◌≡◌, ℕ, ◌+◌, ◌<◌, ◌≤◌, ◌^◌, ◌∷◌, ◌++◌, None, Some, List, length, map, false, IsTrue, IfOk, OnOk, MatchResult};
-ghost use Rattle.sqlite.specs.State.{HasCleanDisk, Survives, KeepsCommit, IsUnchanged};
-ghost use Rattle.sqlite.specs.Held.{state};
-ghost use Rattle.tacho_line.specs.Line.{first_empty};
+ghost use Rattle.std.specs.Prelude.{◌≡◌, ◌+◌, ◌<◌, ◌^◌, None, Some, length, map, false, IfOk, MatchResult};
 ghost use Rattle.tacho_state.specs.Batch.{IsBatch, entry_of, batch_of};
 ghost use Rattle.tacho_state.specs.Disjoint.{AreInRange};
-ghost use Rattle.tacho_state.specs.State.{Driver, Entry, State, driver_of, entry_span, entered_spans};
-ghost use Rattle.tacho_state.specs.Steps.{settled, enter_own, entered};
-ghost use Rattle.tacho_state.specs.Acts.{Acts, Answers};
-ghost use Rattle.tacho_tables.specs.Schema.{archive_schema};
-ghost use Rattle.tacho_tables.specs.Tables.{Turns, entered_rows, row_of};
-ghost use Rattle.tacho_store.specs.Standing.{StandsFor};
-ghost use Rattle.tacho_store.specs.Kept.{Shows, LeavesOneOf, IsAnswered};
+ghost use Rattle.tacho_state.specs.State.{Driver, driver_of, entry_span, entered_spans};
+ghost use Rattle.tacho_state.specs.Steps.{enter_own, entered};
+ghost use Rattle.tacho_tables.specs.Tables.{entered_rows, row_of};
+ghost use Rattle.tacho_tables.specs.Calls.{Changes};
+ghost use Rattle.tacho_store.specs.Calls.{Tells, Steps, StepsGiven};
+ghost use Rattle.tacho_store.specs.Kept.{ActsOn};
 ghost use Rattle.tacho_store.specs.Finding.{Refuses};
-ghost use Rattle.tacho_store.specs.Entering.{AreNumbered, batched};
+ghost use Rattle.tacho_store.specs.Entering.{AreNumbered, AreToEnter, enter_turn, batched};
 
 use crate::fault::store_fault;
 use crate::finding::driver_with;
@@ -71,15 +67,9 @@ fn gains_near<S: Alter>(
 ) -> Result<Vec<Span>, StoreFault>
     requires batch { IsBatch lines.now }
     requires spans { spans.now ≡ entered_spans (batch_of lines.now) }
-    ensures same_reference { tx.new.conn.ghost_name ≡ tx.old.conn.ghost_name }
-    ensures gained { HasCleanDisk (state S.Store tx.new.conn.now) → (state S.Store tx.old.conn.now).now.schema ≡ archive_schema → (s : State) → StandsFor (state S.Store tx.old.conn.now).now.trees s
-        → (d : Driver) → driver_of driver s ≡ Some d
-        → MatchResult result (λ gains. AreNumbered (state S.Store tx.old.conn.now).now.trees s driver d (batch_of lines.now) gains.items) (λ fault. Refuses fault (enter_own (batch_of lines.now) d)) }
-    ensures same { HasCleanDisk (state S.Store tx.new.conn.now) → (state S.Store tx.old.conn.now).now.schema ≡ archive_schema → OnOk result (IsUnchanged (state S.Store tx.old.conn.now) (state S.Store tx.new.conn.now)) }
-    ensures clean { HasCleanDisk (state S.Store tx.new.conn.now) → HasCleanDisk (state S.Store tx.old.conn.now) }
-    ensures was_open { HasCleanDisk (state S.Store tx.new.conn.now) → IsTrue (state S.Store tx.new.conn.now).is_open → IsTrue (state S.Store tx.old.conn.now).is_open }
-    ensures keeps { HasCleanDisk (state S.Store tx.new.conn.now) → (state S.Store tx.old.conn.now).now.schema ≡ archive_schema → KeepsCommit (state S.Store tx.old.conn.now) (state S.Store tx.new.conn.now) }
-    ensures survives { Survives (state S.Store tx.old.conn.now) (state S.Store tx.new.conn.now) (λ _. ⊥) }
+    ensures { Tells S.Store tx.old.conn tx.new.conn result (λ db s. (d : Driver) → driver_of driver s ≡ Some d
+        → MatchResult result (λ gains. AreNumbered db s driver d (batch_of lines.now) gains.items)
+        (λ fault. Refuses fault (enter_own (batch_of lines.now) d))) }
 {
     let (start, past) = range_of_lines(lines);
     let helds = helds_near(alloc, tx, driver, start, past).map_err(store_fault)?;
@@ -98,13 +88,8 @@ fn write_batch<S: Alter>(
     helds: &[StoredSpan],
 ) -> Result<(), TableFault>
     requires { first + length rows.now < 2 ^ 32 }
-    ensures same_reference { tx.new.conn.ghost_name ≡ tx.old.conn.ghost_name }
-    ensures turned { HasCleanDisk (state S.Store tx.new.conn.now) → (state S.Store tx.old.conn.now).now.schema ≡ archive_schema
-        → OnOk result (Turns (state S.Store tx.old.conn.now) (state S.Store tx.new.conn.now) (batched driver count (entered_rows driver first rows.now) (map (row_of driver) helds.now))) }
-    ensures clean { HasCleanDisk (state S.Store tx.new.conn.now) → HasCleanDisk (state S.Store tx.old.conn.now) }
-    ensures was_open { HasCleanDisk (state S.Store tx.new.conn.now) → IsTrue (state S.Store tx.new.conn.now).is_open → IsTrue (state S.Store tx.old.conn.now).is_open }
-    ensures keeps { HasCleanDisk (state S.Store tx.new.conn.now) → KeepsCommit (state S.Store tx.old.conn.now) (state S.Store tx.new.conn.now) }
-    ensures survives { Survives (state S.Store tx.old.conn.now) (state S.Store tx.new.conn.now) (λ _. ⊥) }
+    ensures { Changes S.Store tx.old.conn tx.new.conn result
+        (batched driver count (entered_rows driver first rows.now) (map (row_of driver) helds.now)) }
 {
     drivers::set_entries(tx, driver, count)?;
     entries::insert_all(tx, driver, first, rows)?;
@@ -120,19 +105,9 @@ fn add_batch<S: Alter>(
     spans: &[Span],
     gains: &[Span],
 ) -> Result<Entered, StoreFault>
-    ensures same_reference { tx.new.conn.ghost_name ≡ tx.old.conn.ghost_name }
-    ensures answer { (s : State) (d : Driver) (lines : List EntryLine) → given ≡ length d.entries → spans.now ≡ entered_spans (batch_of lines)
-        → AreNumbered (state S.Store tx.old.conn.now).now.trees s driver d (batch_of lines) gains.now
-        → Answers (λ done. done.first) result (settled s (enter_own (batch_of lines) d)).answer }
-    ensures made { HasCleanDisk (state S.Store tx.new.conn.now) → (state S.Store tx.old.conn.now).now.schema ≡ archive_schema → (s : State) (d : Driver) (lines : List EntryLine)
-        → given ≡ length d.entries → spans.now ≡ entered_spans (batch_of lines)
-        → AreNumbered (state S.Store tx.old.conn.now).now.trees s driver d (batch_of lines) gains.now
-        → OnOk result (((state S.Store tx.new.conn.now).now.schema ≡ archive_schema) × StandsFor (state S.Store tx.new.conn.now).now.trees (settled s (enter_own (batch_of lines) d)).after) }
+    ensures steps { StepsGiven S.Store tx.old.conn tx.new.conn result (AreToEnter driver given spans.now gains.now)
+        (λ done. done.first) (λ p. enter_turn p.1 p.0) }
     ensures count { IfOk result (λ done. done.count ≡ length spans.now) }
-    ensures clean { HasCleanDisk (state S.Store tx.new.conn.now) → HasCleanDisk (state S.Store tx.old.conn.now) }
-    ensures was_open { HasCleanDisk (state S.Store tx.new.conn.now) → IsTrue (state S.Store tx.new.conn.now).is_open → IsTrue (state S.Store tx.old.conn.now).is_open }
-    ensures keeps { HasCleanDisk (state S.Store tx.new.conn.now) → (state S.Store tx.old.conn.now).now.schema ≡ archive_schema → KeepsCommit (state S.Store tx.old.conn.now) (state S.Store tx.new.conn.now) }
-    ensures survives { Survives (state S.Store tx.old.conn.now) (state S.Store tx.new.conn.now) (λ _. ⊥) }
 {
     let Ok(count) = u32::try_from(spans.len()) else {
         return Err(StoreFault::Full);
@@ -154,17 +129,8 @@ fn enter_in<S: Alter>(
     lines: &[EntryLine],
 ) -> Result<Entered, StoreFault>
     requires { IsBatch lines.now }
-    ensures same_reference { tx.new.conn.ghost_name ≡ tx.old.conn.ghost_name }
-    ensures answer { HasCleanDisk (state S.Store tx.new.conn.now) → (state S.Store tx.old.conn.now).now.schema ≡ archive_schema → (s : State) → StandsFor (state S.Store tx.old.conn.now).now.trees s
-        → Answers (λ done. done.first) result (entered driver (batch_of lines.now) s).answer }
-    ensures made { HasCleanDisk (state S.Store tx.new.conn.now) → (state S.Store tx.old.conn.now).now.schema ≡ archive_schema → (s : State) → StandsFor (state S.Store tx.old.conn.now).now.trees s
-        → OnOk result (((state S.Store tx.new.conn.now).now.schema ≡ archive_schema) × StandsFor (state S.Store tx.new.conn.now).now.trees (entered driver (batch_of lines.now) s).after) }
+    ensures steps { Steps S.Store tx.old.conn tx.new.conn result (λ done. done.first) (entered driver (batch_of lines.now)) }
     ensures count { IfOk result (λ done. done.count ≡ length lines.now) }
-    ensures live { HasCleanDisk (state S.Store tx.new.conn.now) → IsAnswered result → IsTrue (state S.Store tx.old.conn.now).is_open }
-    ensures clean { HasCleanDisk (state S.Store tx.new.conn.now) → HasCleanDisk (state S.Store tx.old.conn.now) }
-    ensures was_open { HasCleanDisk (state S.Store tx.new.conn.now) → IsTrue (state S.Store tx.new.conn.now).is_open → IsTrue (state S.Store tx.old.conn.now).is_open }
-    ensures keeps { HasCleanDisk (state S.Store tx.new.conn.now) → (state S.Store tx.old.conn.now).now.schema ≡ archive_schema → KeepsCommit (state S.Store tx.old.conn.now) (state S.Store tx.new.conn.now) }
-    ensures survives { Survives (state S.Store tx.old.conn.now) (state S.Store tx.new.conn.now) (λ _. ⊥) }
 {
     let found = driver_with(tx, driver)?;
     let spans = spans_of_lines(alloc, lines)?;
@@ -182,8 +148,7 @@ pub fn enter<S: Alter>(
     requires open { conn.old.in_transaction ≡ false }
     requires batch { IsBatch lines.now }
     ensures autocommit { conn.new.in_transaction ≡ false }
-    ensures acts { Acts (λ c. Shows (state S.Store c)) (λ c. HasCleanDisk (state S.Store c)) (λ c. IsTrue (state S.Store c).is_open) (λ c. LeavesOneOf (state S.Store c)) (λ done. done.first) conn.old conn.new result
-        (entered driver (batch_of lines.now)) }
+    ensures acts { ActsOn S.Store (λ done. done.first) conn.old conn.new result (entered driver (batch_of lines.now)) }
     ensures count { IfOk result (λ done. done.count ≡ length lines.now) }
 {
     let _settled = conn.is_autocommit();

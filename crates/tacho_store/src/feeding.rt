@@ -1,24 +1,23 @@
 //! A scan that is fed what a driver holds, one row at a time.
 
-ghost use Rattle.std.specs.Prelude.{◌≡◌, ◌≤◌, false, IfOk, IfErr, OnOk, IsTrue};
-ghost use Rattle.sqlite.specs.State.{HasCleanDisk, Survives};
+ghost use Rattle.std.specs.Prelude.{◌≡◌, ◌≤◌, false, IfOk, IfErr};
+ghost use Rattle.sqlite.specs.State.{HasCleanDisk};
 ghost use Rattle.sqlite.specs.Held.{state};
 ghost use Rattle.tacho_time.specs.OrMemory.{OrMemory};
 ghost use Rattle.tacho_hours.specs.Limits.{latest};
 ghost use Rattle.tacho_rules.specs.Scan.{IsAt};
-ghost use Rattle.tacho_tables.specs.Next.{IsKept};
 ghost use Rattle.tacho_tables.specs.Schema.{archive_schema};
 ghost use Rattle.tacho_tables.specs.Tables.{Tables, Stand};
-ghost use Rattle.tacho_store.specs.Taken.{cut, IsStepOf, HasFed, AreFed};
+ghost use Rattle.tacho_store.specs.Taken.{cut, IsStepOf, HasFed, AreFed, EndsAt, ReadsRows, ReadsSettled};
 
 use crate::fault::store_fault;
 use crate::spans::span_of;
-use sqlite::{Alter, Connection, Rows, params};
+use sqlite::{Alter, Connection, Rows};
 use tacho_line::{Cause, Horizon};
 use tacho_pass::Found;
 use tacho_rules::Scan;
 use tacho_state::StoreFault;
-use tacho_tables::{StoredSpan, next_span};
+use tacho_tables::{StoredSpan, held, next_span};
 use tacho_time::{Minute, Span};
 
 /// The number of the last minute at which a span may end: 2100-01-01 00:00.
@@ -95,17 +94,10 @@ pub fn feed_rows<S: Alter>(
 ) -> Result<Horizon, StoreFault>
     requires at { IsAt scan.old base }
     requires early { base ≤ latest }
-    ensures same_reference { rows.new.conn.ghost_name ≡ rows.old.conn.ghost_name }
-    ensures at { IfOk result (λ horizon. IsAt scan.new horizon.minute) }
+    ensures reads { ReadsRows S.Store result rows.old.conn rows.new.conn }
+    ensures ends { EndsAt scan.new result }
     ensures fed { HasCleanDisk (state S.Store rows.new.conn.now)
         → IfOk result (HasFed S.Store rows.old.conn.now rows.new.conn.now base scan.old found.old scan.new found.new) }
-    ensures fault { IfErr result (λ fault. OrMemory StoreFault.Memory fault (fault ≡ StoreFault.Store)) }
-    ensures live { HasCleanDisk (state S.Store rows.new.conn.now)
-        → OnOk result (IsTrue (state S.Store rows.new.conn.now).is_open) }
-    ensures kept { HasCleanDisk (state S.Store rows.new.conn.now)
-        → IsKept (state S.Store rows.old.conn.now) (state S.Store rows.new.conn.now) }
-    ensures mode { rows.old.conn.now.in_transaction ≡ false → rows.new.conn.now.in_transaction ≡ false }
-    ensures survives { Survives (state S.Store rows.old.conn.now) (state S.Store rows.new.conn.now) (λ _. ⊥) }
 {
     let mut minute = base;
     'rows: for _ in 0..u64::MAX {
@@ -137,25 +129,14 @@ pub fn feed_held<S: Alter>(
     requires settled { conn.old.in_transaction ≡ false }
     requires at { IsAt scan.old base }
     requires early { base ≤ latest }
-    ensures autocommit { conn.new.in_transaction ≡ false }
-    ensures at { IfOk result (λ horizon. IsAt scan.new horizon.minute) }
+    ensures reads { ReadsSettled S.Store result conn.old conn.new }
+    ensures ends { EndsAt scan.new result }
     ensures fed { HasCleanDisk (state S.Store conn.new) → (state S.Store conn.old).now.schema ≡ archive_schema
         → (t : Tables) → Stand (state S.Store conn.old).now.trees t
         → IfOk result (AreFed driver start base t.held scan.old found.old scan.new found.new) }
-    ensures fault { IfErr result (λ fault. OrMemory StoreFault.Memory fault (fault ≡ StoreFault.Store)) }
-    ensures live { HasCleanDisk (state S.Store conn.new) → OnOk result (IsTrue (state S.Store conn.new).is_open) }
-    ensures clean { HasCleanDisk (state S.Store conn.new) → HasCleanDisk (state S.Store conn.old) }
-    ensures was_open { HasCleanDisk (state S.Store conn.new) → IsTrue (state S.Store conn.new).is_open
-        → IsTrue (state S.Store conn.old).is_open }
-    ensures same { HasCleanDisk (state S.Store conn.new) → IsTrue (state S.Store conn.new).is_open
-        → (state S.Store conn.new).now ≡ (state S.Store conn.old).now }
-    ensures survives { Survives (state S.Store conn.old) (state S.Store conn.new) (λ _. ⊥) }
 {
     let _settled = conn.is_autocommit();
-    let mut rows = match conn.query(
-        "SELECT start, past, mark FROM held WHERE driver = ?1 AND ?2 <= start ORDER BY start",
-        params![driver, start],
-    ) {
+    let mut rows = match held::onward(conn, driver, start) {
         Ok(rows) => rows,
         Err(_) => return Err(StoreFault::Store),
     };

@@ -1,17 +1,18 @@
-ghost use Rattle.std.specs.Prelude.{◌≡◌, ℕ, ◌∷◌, map, None, Some, Ok, List, false, IsTrue, OnOk};
-ghost use Rattle.sqlite.specs.State.{HasCleanDisk, Survives, KeepsCommit, IsUnchanged};
+ghost use Rattle.std.specs.Prelude.{◌≡◌, ℕ, None, Some, Ok, map, false};
+ghost use Rattle.sqlite.specs.State.{HasCleanDisk, IsUnchanged};
 ghost use Rattle.sqlite.specs.Held.{state};
-ghost use Rattle.tacho_time.specs.declared.span.Span.{Span as Stretch};
 ghost use Rattle.tacho_time.specs.Spans.{IsCanonical};
 ghost use Rattle.tacho_state.specs.State.{State, Driver, driver_of};
-ghost use Rattle.tacho_state.specs.Steps.{settled, import_own, imported};
+ghost use Rattle.tacho_state.specs.declared.imported.Imported.TheVariants.{Repeated};
+ghost use Rattle.tacho_state.specs.Steps.{imported};
 ghost use Rattle.tacho_state.specs.Content.{FileTells, part_number};
-ghost use Rattle.tacho_state.specs.Acts.{Acts, Answers, caller_number};
+ghost use Rattle.tacho_state.specs.Acts.{caller_number, IsOfNoFile};
 ghost use Rattle.tacho_tables.specs.Schema.{archive_schema};
-ghost use Rattle.tacho_tables.specs.Tables.{Turns, row_of};
-ghost use Rattle.tacho_store.specs.Standing.{StandsFor, span_row, kept};
-ghost use Rattle.tacho_store.specs.Kept.{Shows, LeavesOneOf, IsAnswered};
-ghost use Rattle.tacho_store.specs.Importing.{importer, IsImporterOf, IsImporter, AreAdded, AreDecided};
+ghost use Rattle.tacho_tables.specs.Tables.{row_of};
+ghost use Rattle.tacho_tables.specs.Calls.{Changes};
+ghost use Rattle.tacho_store.specs.Calls.{Tells, Steps, StepsGiven};
+ghost use Rattle.tacho_store.specs.Kept.{ActsOn, Shows, IsSame};
+ghost use Rattle.tacho_store.specs.Importing.{importer, IsImporter, AreDecided, AreToAdd, AreToImport, import_turn, content_told, written};
 
 use crate::content::CardContent;
 use crate::fault::store_fault;
@@ -39,15 +40,7 @@ fn importer_by_holder<S: Alter>(
     tx: &mut Transaction<'_, S>,
     holder: &[u8],
 ) -> Result<Importer, StoreFault>
-    ensures same_reference { tx.new.conn.ghost_name ≡ tx.old.conn.ghost_name }
-    ensures found { HasCleanDisk (state S.Store tx.new.conn.now) → (state S.Store tx.old.conn.now).now.schema ≡ archive_schema → (s : State) → StandsFor (state S.Store tx.old.conn.now).now.trees s
-        → IsImporter s result (importer None holder.now s) }
-    ensures same { HasCleanDisk (state S.Store tx.new.conn.now) → (state S.Store tx.old.conn.now).now.schema ≡ archive_schema → OnOk result (IsUnchanged (state S.Store tx.old.conn.now) (state S.Store tx.new.conn.now)) }
-    ensures live { HasCleanDisk (state S.Store tx.new.conn.now) → IsAnswered result → IsTrue (state S.Store tx.old.conn.now).is_open }
-    ensures clean { HasCleanDisk (state S.Store tx.new.conn.now) → HasCleanDisk (state S.Store tx.old.conn.now) }
-    ensures was_open { HasCleanDisk (state S.Store tx.new.conn.now) → IsTrue (state S.Store tx.new.conn.now).is_open → IsTrue (state S.Store tx.old.conn.now).is_open }
-    ensures keeps { HasCleanDisk (state S.Store tx.new.conn.now) → (state S.Store tx.old.conn.now).now.schema ≡ archive_schema → KeepsCommit (state S.Store tx.old.conn.now) (state S.Store tx.new.conn.now) }
-    ensures survives { Survives (state S.Store tx.old.conn.now) (state S.Store tx.new.conn.now) (λ _. ⊥) }
+    ensures { Tells S.Store tx.old.conn tx.new.conn result (λ _ s. IsImporter s result (importer None holder.now s)) }
 {
     let found = drivers::number_by_holder(tx, holder).map_err(store_fault)?;
     let Some(number) = found else {
@@ -67,15 +60,7 @@ fn importer_by_number<S: Alter>(
     number: u32,
     holder: &[u8],
 ) -> Result<Importer, StoreFault>
-    ensures same_reference { tx.new.conn.ghost_name ≡ tx.old.conn.ghost_name }
-    ensures found { HasCleanDisk (state S.Store tx.new.conn.now) → (state S.Store tx.old.conn.now).now.schema ≡ archive_schema → (s : State) → StandsFor (state S.Store tx.old.conn.now).now.trees s
-        → IsImporter s result (importer (Some number) holder.now s) }
-    ensures same { HasCleanDisk (state S.Store tx.new.conn.now) → (state S.Store tx.old.conn.now).now.schema ≡ archive_schema → OnOk result (IsUnchanged (state S.Store tx.old.conn.now) (state S.Store tx.new.conn.now)) }
-    ensures live { HasCleanDisk (state S.Store tx.new.conn.now) → IsAnswered result → IsTrue (state S.Store tx.old.conn.now).is_open }
-    ensures clean { HasCleanDisk (state S.Store tx.new.conn.now) → HasCleanDisk (state S.Store tx.old.conn.now) }
-    ensures was_open { HasCleanDisk (state S.Store tx.new.conn.now) → IsTrue (state S.Store tx.new.conn.now).is_open → IsTrue (state S.Store tx.old.conn.now).is_open }
-    ensures keeps { HasCleanDisk (state S.Store tx.new.conn.now) → (state S.Store tx.old.conn.now).now.schema ≡ archive_schema → KeepsCommit (state S.Store tx.old.conn.now) (state S.Store tx.new.conn.now) }
-    ensures survives { Survives (state S.Store tx.old.conn.now) (state S.Store tx.new.conn.now) (λ _. ⊥) }
+    ensures { Tells S.Store tx.old.conn tx.new.conn result (λ _ s. IsImporter s result (importer (Some number) holder.now s)) }
 {
     let driver = driver_with(tx, number)?;
     if driver.holder.as_slice() != holder {
@@ -93,15 +78,7 @@ fn importer_of<S: Alter>(
     caller: Caller,
     holder: &[u8],
 ) -> Result<Importer, StoreFault>
-    ensures same_reference { tx.new.conn.ghost_name ≡ tx.old.conn.ghost_name }
-    ensures found { HasCleanDisk (state S.Store tx.new.conn.now) → (state S.Store tx.old.conn.now).now.schema ≡ archive_schema → (s : State) → StandsFor (state S.Store tx.old.conn.now).now.trees s
-        → IsImporter s result (importer (caller_number caller) holder.now s) }
-    ensures same { HasCleanDisk (state S.Store tx.new.conn.now) → (state S.Store tx.old.conn.now).now.schema ≡ archive_schema → OnOk result (IsUnchanged (state S.Store tx.old.conn.now) (state S.Store tx.new.conn.now)) }
-    ensures live { HasCleanDisk (state S.Store tx.new.conn.now) → IsAnswered result → IsTrue (state S.Store tx.old.conn.now).is_open }
-    ensures clean { HasCleanDisk (state S.Store tx.new.conn.now) → HasCleanDisk (state S.Store tx.old.conn.now) }
-    ensures was_open { HasCleanDisk (state S.Store tx.new.conn.now) → IsTrue (state S.Store tx.new.conn.now).is_open → IsTrue (state S.Store tx.old.conn.now).is_open }
-    ensures keeps { HasCleanDisk (state S.Store tx.new.conn.now) → (state S.Store tx.old.conn.now).now.schema ≡ archive_schema → KeepsCommit (state S.Store tx.old.conn.now) (state S.Store tx.new.conn.now) }
-    ensures survives { Survives (state S.Store tx.old.conn.now) (state S.Store tx.new.conn.now) (λ _. ⊥) }
+    ensures { Tells S.Store tx.old.conn tx.new.conn result (λ _ s. IsImporter s result (importer (caller_number caller) holder.now s)) }
 {
     match caller {
         Caller::Office => importer_by_holder(tx, holder),
@@ -118,14 +95,8 @@ fn news_near<S: Alter>(
     spans: &[Span],
 ) -> Result<Option<News>, StoreFault>
     requires { IsCanonical spans.now }
-    ensures same_reference { tx.new.conn.ghost_name ≡ tx.old.conn.ghost_name }
-    ensures decided { HasCleanDisk (state S.Store tx.new.conn.now) → (state S.Store tx.old.conn.now).now.schema ≡ archive_schema → (s : State) → StandsFor (state S.Store tx.old.conn.now).now.trees s
-        → (d : Driver) → driver_of driver s ≡ Some d → AreDecided (state S.Store tx.old.conn.now).now.trees s driver d spans.now result }
-    ensures same { HasCleanDisk (state S.Store tx.new.conn.now) → (state S.Store tx.old.conn.now).now.schema ≡ archive_schema → OnOk result (IsUnchanged (state S.Store tx.old.conn.now) (state S.Store tx.new.conn.now)) }
-    ensures clean { HasCleanDisk (state S.Store tx.new.conn.now) → HasCleanDisk (state S.Store tx.old.conn.now) }
-    ensures was_open { HasCleanDisk (state S.Store tx.new.conn.now) → IsTrue (state S.Store tx.new.conn.now).is_open → IsTrue (state S.Store tx.old.conn.now).is_open }
-    ensures keeps { HasCleanDisk (state S.Store tx.new.conn.now) → (state S.Store tx.old.conn.now).now.schema ≡ archive_schema → KeepsCommit (state S.Store tx.old.conn.now) (state S.Store tx.new.conn.now) }
-    ensures survives { Survives (state S.Store tx.old.conn.now) (state S.Store tx.new.conn.now) (λ _. ⊥) }
+    ensures { Tells S.Store tx.old.conn tx.new.conn result (λ db s. (d : Driver) → driver_of driver s ≡ Some d
+        → AreDecided db s driver d spans.now result) }
 {
     let (start, past) = range_of(spans);
     let cards = cards_near(alloc, tx, driver, start, past).map_err(store_fault)?;
@@ -145,14 +116,8 @@ fn write_download<S: Alter>(
     cards: &[StoredSpan],
     helds: &[StoredSpan],
 ) -> Result<(), TableFault>
-    ensures same_reference { tx.new.conn.ghost_name ≡ tx.old.conn.ghost_name }
-    ensures turned { HasCleanDisk (state S.Store tx.new.conn.now) → (state S.Store tx.old.conn.now).now.schema ≡ archive_schema
-        → (card_gains gains : List Stretch) → map (row_of driver) cards.now ≡ map (span_row driver) card_gains → map (row_of driver) helds.now ≡ map (span_row driver) gains
-        → OnOk result (Turns (state S.Store tx.old.conn.now) (state S.Store tx.new.conn.now) (kept driver number part file.now card_gains gains)) }
-    ensures clean { HasCleanDisk (state S.Store tx.new.conn.now) → HasCleanDisk (state S.Store tx.old.conn.now) }
-    ensures was_open { HasCleanDisk (state S.Store tx.new.conn.now) → IsTrue (state S.Store tx.new.conn.now).is_open → IsTrue (state S.Store tx.old.conn.now).is_open }
-    ensures keeps { HasCleanDisk (state S.Store tx.new.conn.now) → KeepsCommit (state S.Store tx.old.conn.now) (state S.Store tx.new.conn.now) }
-    ensures survives { Survives (state S.Store tx.old.conn.now) (state S.Store tx.new.conn.now) (λ _. ⊥) }
+    ensures { Changes S.Store tx.old.conn tx.new.conn result
+        (written driver number part file.now (map (row_of driver) cards.now) (map (row_of driver) helds.now)) }
 {
     drivers::set_downloads(tx, driver, number)?;
     downloads::insert(tx, driver, number, part, file)?;
@@ -180,18 +145,9 @@ fn add_download<S: Alter>(
     file: &[u8],
     news: &News,
 ) -> Result<Imported, StoreFault>
-    ensures same_reference { tx.new.conn.ghost_name ≡ tx.old.conn.ghost_name }
-    ensures answer { HasCleanDisk (state S.Store tx.new.conn.now) → (state S.Store tx.old.conn.now).now.schema ≡ archive_schema → (s : State) → StandsFor (state S.Store tx.old.conn.now).now.trees s
-        → (d : Driver) (spans : List Stretch) → IsImporterOf s d importer → AreAdded (state S.Store tx.old.conn.now).now.trees s importer.number d spans news.now.card_spans.items news.now.held.items
-        → Answers (λ done. done) result (settled s (import_own (part_number part) file.now spans d)).answer }
-    ensures made { HasCleanDisk (state S.Store tx.new.conn.now) → (state S.Store tx.old.conn.now).now.schema ≡ archive_schema → (s : State) → StandsFor (state S.Store tx.old.conn.now).now.trees s
-        → (d : Driver) (spans : List Stretch) (holder : List ℕ) → IsImporterOf s d importer → AreAdded (state S.Store tx.old.conn.now).now.trees s importer.number d spans news.now.card_spans.items news.now.held.items
-        → FileTells part file.now (Ok (record { holder = holder; spans = spans }))
-        → OnOk result (((state S.Store tx.new.conn.now).now.schema ≡ archive_schema) × StandsFor (state S.Store tx.new.conn.now).now.trees (settled s (import_own (part_number part) file.now spans d)).after) }
-    ensures clean { HasCleanDisk (state S.Store tx.new.conn.now) → HasCleanDisk (state S.Store tx.old.conn.now) }
-    ensures was_open { HasCleanDisk (state S.Store tx.new.conn.now) → IsTrue (state S.Store tx.new.conn.now).is_open → IsTrue (state S.Store tx.old.conn.now).is_open }
-    ensures keeps { HasCleanDisk (state S.Store tx.new.conn.now) → (state S.Store tx.old.conn.now).now.schema ≡ archive_schema → KeepsCommit (state S.Store tx.old.conn.now) (state S.Store tx.new.conn.now) }
-    ensures survives { Survives (state S.Store tx.old.conn.now) (state S.Store tx.new.conn.now) (λ _. ⊥) }
+    ensures steps { StepsGiven S.Store tx.old.conn tx.new.conn result (AreToAdd importer part file.now news.now) (λ done. done)
+        (λ p. import_turn part file.now p.1 p.0) }
+    ensures added { (number : ℕ) → result ≡ Ok (Repeated number) → ⊥ }
 {
     let Some(number) = first_number(importer.downloads, 1) else {
         return Err(StoreFault::Full);
@@ -222,16 +178,11 @@ fn import_spans<S: Alter>(
     spans: &[Span],
 ) -> Result<Imported, StoreFault>
     requires { IsCanonical spans.now }
-    ensures same_reference { tx.new.conn.ghost_name ≡ tx.old.conn.ghost_name }
-    ensures answer { HasCleanDisk (state S.Store tx.new.conn.now) → (state S.Store tx.old.conn.now).now.schema ≡ archive_schema → (s : State) → StandsFor (state S.Store tx.old.conn.now).now.trees s
-        → (d : Driver) → IsImporterOf s d importer → Answers (λ done. done) result (settled s (import_own (part_number part) file.now spans.now d)).answer }
-    ensures made { HasCleanDisk (state S.Store tx.new.conn.now) → (state S.Store tx.old.conn.now).now.schema ≡ archive_schema → (s : State) → StandsFor (state S.Store tx.old.conn.now).now.trees s
-        → (d : Driver) (holder : List ℕ) → IsImporterOf s d importer → FileTells part file.now (Ok (record { holder = holder; spans = spans.now }))
-        → OnOk result (((state S.Store tx.new.conn.now).now.schema ≡ archive_schema) × StandsFor (state S.Store tx.new.conn.now).now.trees (settled s (import_own (part_number part) file.now spans.now d)).after) }
-    ensures clean { HasCleanDisk (state S.Store tx.new.conn.now) → HasCleanDisk (state S.Store tx.old.conn.now) }
-    ensures was_open { HasCleanDisk (state S.Store tx.new.conn.now) → IsTrue (state S.Store tx.new.conn.now).is_open → IsTrue (state S.Store tx.old.conn.now).is_open }
-    ensures keeps { HasCleanDisk (state S.Store tx.new.conn.now) → (state S.Store tx.old.conn.now).now.schema ≡ archive_schema → KeepsCommit (state S.Store tx.old.conn.now) (state S.Store tx.new.conn.now) }
-    ensures survives { Survives (state S.Store tx.old.conn.now) (state S.Store tx.new.conn.now) (λ _. ⊥) }
+    ensures steps { StepsGiven S.Store tx.old.conn tx.new.conn result (AreToImport importer part file.now spans.now) (λ done. done)
+        (λ p. import_turn part file.now spans.now p.0) }
+    ensures repeated { HasCleanDisk (state S.Store tx.new.conn.now) → (state S.Store tx.old.conn.now).now.schema ≡ archive_schema
+        → (number : ℕ) → result ≡ Ok (Repeated number)
+        → IsUnchanged (state S.Store tx.old.conn.now) (state S.Store tx.new.conn.now) }
 {
     match news_near(alloc, tx, importer.number, spans)? {
         None => Ok(Imported::Repeated {
@@ -250,19 +201,13 @@ fn import_in<S: Alter>(
     file: &[u8],
     content: &CardContent,
 ) -> Result<Imported, StoreFault>
-    requires { IsCanonical content.now.spans.items }
-    ensures same_reference { tx.new.conn.ghost_name ≡ tx.old.conn.ghost_name }
-    ensures answer { HasCleanDisk (state S.Store tx.new.conn.now) → (state S.Store tx.old.conn.now).now.schema ≡ archive_schema → (s : State) → StandsFor (state S.Store tx.old.conn.now).now.trees s
-        → Answers (λ done. done) result (imported (caller_number caller) (part_number part) file.now (Ok (record { holder = content.now.holder; spans = content.now.spans.items })) s).answer }
-    ensures made { HasCleanDisk (state S.Store tx.new.conn.now) → (state S.Store tx.old.conn.now).now.schema ≡ archive_schema → (s : State) → StandsFor (state S.Store tx.old.conn.now).now.trees s
-        → FileTells part file.now (Ok (record { holder = content.now.holder; spans = content.now.spans.items }))
-        → OnOk result (((state S.Store tx.new.conn.now).now.schema ≡ archive_schema)
-        × StandsFor (state S.Store tx.new.conn.now).now.trees (imported (caller_number caller) (part_number part) file.now (Ok (record { holder = content.now.holder; spans = content.now.spans.items })) s).after) }
-    ensures live { HasCleanDisk (state S.Store tx.new.conn.now) → IsAnswered result → IsTrue (state S.Store tx.old.conn.now).is_open }
-    ensures clean { HasCleanDisk (state S.Store tx.new.conn.now) → HasCleanDisk (state S.Store tx.old.conn.now) }
-    ensures was_open { HasCleanDisk (state S.Store tx.new.conn.now) → IsTrue (state S.Store tx.new.conn.now).is_open → IsTrue (state S.Store tx.old.conn.now).is_open }
-    ensures keeps { HasCleanDisk (state S.Store tx.new.conn.now) → (state S.Store tx.old.conn.now).now.schema ≡ archive_schema → KeepsCommit (state S.Store tx.old.conn.now) (state S.Store tx.new.conn.now) }
-    ensures survives { Survives (state S.Store tx.old.conn.now) (state S.Store tx.new.conn.now) (λ _. ⊥) }
+    requires canonical { IsCanonical content.now.spans.items }
+    requires tells { FileTells part file.now (Ok (content_told content.now)) }
+    ensures steps { Steps S.Store tx.old.conn tx.new.conn result (λ done. done)
+        (imported (caller_number caller) (part_number part) file.now (Ok (content_told content.now))) }
+    ensures repeated { HasCleanDisk (state S.Store tx.new.conn.now) → (state S.Store tx.old.conn.now).now.schema ≡ archive_schema
+        → (number : ℕ) → result ≡ Ok (Repeated number)
+        → IsUnchanged (state S.Store tx.old.conn.now) (state S.Store tx.new.conn.now) }
 {
     let importer = importer_of(tx, caller, &content.holder)?;
     import_spans(alloc, tx, importer, part, file, &content.spans)
@@ -278,11 +223,14 @@ pub fn import<S: Alter>(
     content: &CardContent,
 ) -> Result<Imported, StoreFault>
     requires open { conn.old.in_transaction ≡ false }
-    requires spans { IsCanonical content.now.spans.items }
+    requires canonical { IsCanonical content.now.spans.items }
+    requires tells { FileTells part file.now (Ok (content_told content.now)) }
     ensures autocommit { conn.new.in_transaction ≡ false }
-    ensures acts { FileTells part file.now (Ok (record { holder = content.now.holder; spans = content.now.spans.items }))
-        → Acts (λ c. Shows (state S.Store c)) (λ c. HasCleanDisk (state S.Store c)) (λ c. IsTrue (state S.Store c).is_open) (λ c. LeavesOneOf (state S.Store c)) (λ done. done) conn.old conn.new result
-        (imported (caller_number caller) (part_number part) file.now (Ok (record { holder = content.now.holder; spans = content.now.spans.items }))) }
+    ensures acts { ActsOn S.Store (λ done. done) conn.old conn.new result
+        (imported (caller_number caller) (part_number part) file.now (Ok (content_told content.now))) }
+    ensures repeated { HasCleanDisk (state S.Store conn.new) → (s : State) (number : ℕ) → Shows (state S.Store conn.old) s
+        → result ≡ Ok (Repeated number) → IsSame (state S.Store conn.old) (state S.Store conn.new) }
+    ensures of_no_file { IsOfNoFile result }
 {
     let _settled = conn.is_autocommit();
     let mut tx = conn.transaction();

@@ -1,13 +1,12 @@
 //! The rows of a driver near a range: those that have a minute in it, each whole. No row's minutes are another one's, so that at
 //! most one of them begins before the range, and the others are found by where they begin.
 
-ghost use Rattle.std.specs.Prelude.{◌≡◌, ◌++◌, map, filter, not, IfOk, OnOk, IsTrue};
-ghost use Rattle.sqlite.specs.State.{HasCleanDisk, Survives, KeepsCommit, IsUnchanged};
-ghost use Rattle.sqlite.specs.Held.{state};
-ghost use Rattle.tacho_tables.specs.Schema.{archive_schema};
-ghost use Rattle.tacho_tables.specs.Tables.{Tables, Stand, is_near};
+ghost use Rattle.std.specs.Prelude.{◌≡◌, filter, not};
+ghost use Rattle.tacho_tables.specs.Calls.{Finds};
+ghost use Rattle.tacho_tables.specs.Tables.{is_near};
 ghost use Rattle.tacho_store.specs.Standing.{IsReadNear};
 ghost use Rattle.tacho_store.specs.Apart.{AreApart, rows_of, near_from};
+ghost use Rattle.tacho_store.specs.Calls.{ChangesWhere};
 
 use sqlite::{Alter, Transaction};
 use std::alloc::Global;
@@ -31,15 +30,8 @@ pub fn cards_near<S: Alter>(
     start: u32,
     past: u32,
 ) -> Result<Vec<StoredSpan>, TableFault>
-    ensures same_reference { tx.new.conn.ghost_name ≡ tx.old.conn.ghost_name }
-    ensures found { HasCleanDisk (state S.Store tx.new.conn.now) → (state S.Store tx.old.conn.now).now.schema ≡ archive_schema
-        → IfOk result (λ found. (t : Tables) → Stand (state S.Store tx.old.conn.now).now.trees t → AreApart (rows_of driver t.card_spans) → IsReadNear t.card_spans driver start past found.items) }
-    ensures same { HasCleanDisk (state S.Store tx.new.conn.now) → (state S.Store tx.old.conn.now).now.schema ≡ archive_schema → OnOk result (IsUnchanged (state S.Store tx.old.conn.now) (state S.Store tx.new.conn.now)) }
-    ensures live { HasCleanDisk (state S.Store tx.new.conn.now) → OnOk result (IsTrue (state S.Store tx.new.conn.now).is_open) }
-    ensures clean { HasCleanDisk (state S.Store tx.new.conn.now) → HasCleanDisk (state S.Store tx.old.conn.now) }
-    ensures was_open { HasCleanDisk (state S.Store tx.new.conn.now) → IsTrue (state S.Store tx.new.conn.now).is_open → IsTrue (state S.Store tx.old.conn.now).is_open }
-    ensures keeps { HasCleanDisk (state S.Store tx.new.conn.now) → (state S.Store tx.old.conn.now).now.schema ≡ archive_schema → KeepsCommit (state S.Store tx.old.conn.now) (state S.Store tx.new.conn.now) }
-    ensures survives { Survives (state S.Store tx.old.conn.now) (state S.Store tx.new.conn.now) (λ _. ⊥) }
+    ensures { Finds S.Store tx.old.conn tx.new.conn result (λ t found. AreApart (rows_of driver t.card_spans)
+        → IsReadNear t.card_spans driver start past found.items) }
 {
     let before = card_spans::last_before(tx, driver, start)?;
     card_spans::begun(alloc, tx, driver, first_start(before, start, past), past)
@@ -53,15 +45,8 @@ pub fn helds_near<S: Alter>(
     start: u32,
     past: u32,
 ) -> Result<Vec<StoredSpan>, TableFault>
-    ensures same_reference { tx.new.conn.ghost_name ≡ tx.old.conn.ghost_name }
-    ensures found { HasCleanDisk (state S.Store tx.new.conn.now) → (state S.Store tx.old.conn.now).now.schema ≡ archive_schema
-        → IfOk result (λ found. (t : Tables) → Stand (state S.Store tx.old.conn.now).now.trees t → AreApart (rows_of driver t.held) → IsReadNear t.held driver start past found.items) }
-    ensures same { HasCleanDisk (state S.Store tx.new.conn.now) → (state S.Store tx.old.conn.now).now.schema ≡ archive_schema → OnOk result (IsUnchanged (state S.Store tx.old.conn.now) (state S.Store tx.new.conn.now)) }
-    ensures live { HasCleanDisk (state S.Store tx.new.conn.now) → OnOk result (IsTrue (state S.Store tx.new.conn.now).is_open) }
-    ensures clean { HasCleanDisk (state S.Store tx.new.conn.now) → HasCleanDisk (state S.Store tx.old.conn.now) }
-    ensures was_open { HasCleanDisk (state S.Store tx.new.conn.now) → IsTrue (state S.Store tx.new.conn.now).is_open → IsTrue (state S.Store tx.old.conn.now).is_open }
-    ensures keeps { HasCleanDisk (state S.Store tx.new.conn.now) → (state S.Store tx.old.conn.now).now.schema ≡ archive_schema → KeepsCommit (state S.Store tx.old.conn.now) (state S.Store tx.new.conn.now) }
-    ensures survives { Survives (state S.Store tx.old.conn.now) (state S.Store tx.new.conn.now) (λ _. ⊥) }
+    ensures { Finds S.Store tx.old.conn tx.new.conn result (λ t found. AreApart (rows_of driver t.held)
+        → IsReadNear t.held driver start past found.items) }
 {
     let before = held::last_before(tx, driver, start)?;
     held::begun(alloc, tx, driver, first_start(before, start, past), past)
@@ -74,14 +59,8 @@ pub fn delete_near<S: Alter>(
     start: u32,
     past: u32,
 ) -> Result<(), TableFault>
-    ensures same_reference { tx.new.conn.ghost_name ≡ tx.old.conn.ghost_name }
-    ensures left { HasCleanDisk (state S.Store tx.new.conn.now) → (state S.Store tx.old.conn.now).now.schema ≡ archive_schema → (t : Tables) → Stand (state S.Store tx.old.conn.now).now.trees t → AreApart (rows_of driver t.held)
-        → OnOk result (((state S.Store tx.new.conn.now).now.schema ≡ archive_schema) × Stand (state S.Store tx.new.conn.now).now.trees (record t { held = filter (λ r. not (is_near driver start past r)) t.held })) }
-    ensures schema { HasCleanDisk (state S.Store tx.new.conn.now) → (state S.Store tx.old.conn.now).now.schema ≡ archive_schema → OnOk result ((state S.Store tx.new.conn.now).now.schema ≡ archive_schema) }
-    ensures clean { HasCleanDisk (state S.Store tx.new.conn.now) → HasCleanDisk (state S.Store tx.old.conn.now) }
-    ensures was_open { HasCleanDisk (state S.Store tx.new.conn.now) → IsTrue (state S.Store tx.new.conn.now).is_open → IsTrue (state S.Store tx.old.conn.now).is_open }
-    ensures keeps { HasCleanDisk (state S.Store tx.new.conn.now) → (state S.Store tx.old.conn.now).now.schema ≡ archive_schema → KeepsCommit (state S.Store tx.old.conn.now) (state S.Store tx.new.conn.now) }
-    ensures survives { Survives (state S.Store tx.old.conn.now) (state S.Store tx.new.conn.now) (λ _. ⊥) }
+    ensures { ChangesWhere S.Store tx.old.conn tx.new.conn result (λ t. AreApart (rows_of driver t.held))
+        (λ t. record t { held = filter (λ r. not (is_near driver start past r)) t.held }) }
 {
     let before = held::last_before(tx, driver, start)?;
     held::delete_begun(tx, driver, first_start(before, start, past), past)

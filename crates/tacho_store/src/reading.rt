@@ -1,5 +1,5 @@
-ghost use Rattle.std.specs.Prelude.{◌≡◌, ◌≤◌, ◌∷◌, false, IsTrue, IfOk, OnOk, OnErr, Err, string_bytes};
-ghost use Rattle.sqlite.specs.State.{HasCleanDisk, Survives, KeepsCommit, IsUnchanged};
+ghost use Rattle.std.specs.Prelude.{◌≡◌, ◌≤◌, false, IfOk, string_bytes};
+ghost use Rattle.sqlite.specs.State.{HasCleanDisk};
 ghost use Rattle.sqlite.specs.Held.{state};
 ghost use Rattle.tacho_line.specs.Line.{mark_at};
 ghost use Rattle.tacho_hours.specs.Limits.{latest};
@@ -7,10 +7,9 @@ ghost use Rattle.tacho_hours.specs.Line.{IsBase};
 ghost use Rattle.tacho_state.specs.State.{State};
 ghost use Rattle.tacho_state.specs.Steps.{owner, named, lined, listed, downloaded, reported};
 ghost use Rattle.tacho_state.specs.Reported.{IsHeldWithin, IsReportOf};
-ghost use Rattle.tacho_state.specs.Acts.{Reads, Answers};
-ghost use Rattle.tacho_tables.specs.Schema.{archive_schema};
-ghost use Rattle.tacho_store.specs.Standing.{StandsFor};
-ghost use Rattle.tacho_store.specs.Kept.{Shows, LeavesOneOf, IsAnswered};
+ghost use Rattle.tacho_state.specs.Acts.{Answers};
+ghost use Rattle.tacho_store.specs.Calls.{Tells};
+ghost use Rattle.tacho_store.specs.Kept.{Shows, ReadsOn};
 ghost use Rattle.tacho_store.specs.Begun.{IsBegun};
 
 use crate::fault::store_fault;
@@ -29,14 +28,8 @@ use tacho_time::Minute;
 
 /// The driver whose key this is, within a transaction.
 fn who_in<S: Alter>(tx: &mut Transaction<'_, S>, key: &[u8]) -> Result<Option<u32>, StoreFault>
-    ensures same_reference { tx.new.conn.ghost_name ≡ tx.old.conn.ghost_name }
-    ensures answer { HasCleanDisk (state S.Store tx.new.conn.now) → (state S.Store tx.old.conn.now).now.schema ≡ archive_schema → (s : State) → StandsFor (state S.Store tx.old.conn.now).now.trees s
-        → Answers (λ found. found) result (owner key.now s) }
-    ensures live { HasCleanDisk (state S.Store tx.new.conn.now) → IsAnswered result → IsTrue (state S.Store tx.old.conn.now).is_open }
-    ensures clean { HasCleanDisk (state S.Store tx.new.conn.now) → HasCleanDisk (state S.Store tx.old.conn.now) }
-    ensures was_open { HasCleanDisk (state S.Store tx.new.conn.now) → IsTrue (state S.Store tx.new.conn.now).is_open → IsTrue (state S.Store tx.old.conn.now).is_open }
-    ensures keeps { HasCleanDisk (state S.Store tx.new.conn.now) → (state S.Store tx.old.conn.now).now.schema ≡ archive_schema → KeepsCommit (state S.Store tx.old.conn.now) (state S.Store tx.new.conn.now) }
-    ensures survives { Survives (state S.Store tx.old.conn.now) (state S.Store tx.new.conn.now) (λ _. ⊥) }
+    ensures { Tells S.Store tx.old.conn tx.new.conn result
+        (λ _ s. Answers (λ found. found) result (owner key.now s)) }
 {
     drivers::number_by_secret(tx, key).map_err(store_fault)
 }
@@ -45,8 +38,7 @@ fn who_in<S: Alter>(tx: &mut Transaction<'_, S>, key: &[u8]) -> Result<Option<u3
 pub fn who<S: Alter>(conn: &mut Connection<S>, key: &[u8]) -> Result<Option<u32>, StoreFault>
     requires { conn.old.in_transaction ≡ false }
     ensures autocommit { conn.new.in_transaction ≡ false }
-    ensures reads { Reads (λ c. Shows (state S.Store c)) (λ c. HasCleanDisk (state S.Store c)) (λ c. IsTrue (state S.Store c).is_open) (λ c. LeavesOneOf (state S.Store c)) (λ found. found) conn.old conn.new result
-        (owner key.now) }
+    ensures reads { ReadsOn S.Store (λ found. found) conn.old conn.new result (owner key.now) }
 {
     let _settled = conn.is_autocommit();
     let mut tx = conn.transaction();
@@ -58,14 +50,8 @@ pub fn who<S: Alter>(conn: &mut Connection<S>, key: &[u8]) -> Result<Option<u32>
 
 /// A driver's name, within a transaction: S4.
 fn name_in<S: Alter>(tx: &mut Transaction<'_, S>, driver: u32) -> Result<String, StoreFault>
-    ensures same_reference { tx.new.conn.ghost_name ≡ tx.old.conn.ghost_name }
-    ensures answer { HasCleanDisk (state S.Store tx.new.conn.now) → (state S.Store tx.old.conn.now).now.schema ≡ archive_schema → (s : State) → StandsFor (state S.Store tx.old.conn.now).now.trees s
-        → Answers (λ name. string_bytes name) result (named driver s) }
-    ensures live { HasCleanDisk (state S.Store tx.new.conn.now) → IsAnswered result → IsTrue (state S.Store tx.old.conn.now).is_open }
-    ensures clean { HasCleanDisk (state S.Store tx.new.conn.now) → HasCleanDisk (state S.Store tx.old.conn.now) }
-    ensures was_open { HasCleanDisk (state S.Store tx.new.conn.now) → IsTrue (state S.Store tx.new.conn.now).is_open → IsTrue (state S.Store tx.old.conn.now).is_open }
-    ensures keeps { HasCleanDisk (state S.Store tx.new.conn.now) → (state S.Store tx.old.conn.now).now.schema ≡ archive_schema → KeepsCommit (state S.Store tx.old.conn.now) (state S.Store tx.new.conn.now) }
-    ensures survives { Survives (state S.Store tx.old.conn.now) (state S.Store tx.new.conn.now) (λ _. ⊥) }
+    ensures { Tells S.Store tx.old.conn tx.new.conn result
+        (λ _ s. Answers (λ name. string_bytes name) result (named driver s)) }
 {
     let stored = driver_with(tx, driver)?;
     Ok(stored.name)
@@ -75,8 +61,7 @@ fn name_in<S: Alter>(tx: &mut Transaction<'_, S>, driver: u32) -> Result<String,
 pub fn name<S: Alter>(conn: &mut Connection<S>, driver: u32) -> Result<String, StoreFault>
     requires { conn.old.in_transaction ≡ false }
     ensures autocommit { conn.new.in_transaction ≡ false }
-    ensures reads { Reads (λ c. Shows (state S.Store c)) (λ c. HasCleanDisk (state S.Store c)) (λ c. IsTrue (state S.Store c).is_open) (λ c. LeavesOneOf (state S.Store c)) (λ name. string_bytes name) conn.old conn.new result
-        (named driver) }
+    ensures reads { ReadsOn S.Store (λ name. string_bytes name) conn.old conn.new result (named driver) }
 {
     let _settled = conn.is_autocommit();
     let mut tx = conn.transaction();
@@ -92,14 +77,8 @@ fn download_in<S: Alter>(
     driver: u32,
     number: u32,
 ) -> Result<Vec<u8>, StoreFault>
-    ensures same_reference { tx.new.conn.ghost_name ≡ tx.old.conn.ghost_name }
-    ensures answer { HasCleanDisk (state S.Store tx.new.conn.now) → (state S.Store tx.old.conn.now).now.schema ≡ archive_schema → (s : State) → StandsFor (state S.Store tx.old.conn.now).now.trees s
-        → Answers (λ bytes. bytes.items) result (downloaded driver number s) }
-    ensures live { HasCleanDisk (state S.Store tx.new.conn.now) → IsAnswered result → IsTrue (state S.Store tx.old.conn.now).is_open }
-    ensures clean { HasCleanDisk (state S.Store tx.new.conn.now) → HasCleanDisk (state S.Store tx.old.conn.now) }
-    ensures was_open { HasCleanDisk (state S.Store tx.new.conn.now) → IsTrue (state S.Store tx.new.conn.now).is_open → IsTrue (state S.Store tx.old.conn.now).is_open }
-    ensures keeps { HasCleanDisk (state S.Store tx.new.conn.now) → (state S.Store tx.old.conn.now).now.schema ≡ archive_schema → KeepsCommit (state S.Store tx.old.conn.now) (state S.Store tx.new.conn.now) }
-    ensures survives { Survives (state S.Store tx.old.conn.now) (state S.Store tx.new.conn.now) (λ _. ⊥) }
+    ensures { Tells S.Store tx.old.conn tx.new.conn result
+        (λ _ s. Answers (λ bytes. bytes.items) result (downloaded driver number s)) }
 {
     driver_with(tx, driver)?;
     let file = downloads::file(tx, driver, number).map_err(store_fault)?;
@@ -114,8 +93,7 @@ pub fn download<S: Alter>(
 ) -> Result<Vec<u8>, StoreFault>
     requires { conn.old.in_transaction ≡ false }
     ensures autocommit { conn.new.in_transaction ≡ false }
-    ensures reads { Reads (λ c. Shows (state S.Store c)) (λ c. HasCleanDisk (state S.Store c)) (λ c. IsTrue (state S.Store c).is_open) (λ c. LeavesOneOf (state S.Store c)) (λ bytes. bytes.items) conn.old conn.new result
-        (downloaded driver number) }
+    ensures reads { ReadsOn S.Store (λ bytes. bytes.items) conn.old conn.new result (downloaded driver number) }
 {
     let _settled = conn.is_autocommit();
     let mut tx = conn.transaction();
@@ -131,14 +109,8 @@ fn line_in<S: Alter>(
     tx: &mut Transaction<'_, S>,
     driver: u32,
 ) -> Result<Line, StoreFault>
-    ensures same_reference { tx.new.conn.ghost_name ≡ tx.old.conn.ghost_name }
-    ensures answer { HasCleanDisk (state S.Store tx.new.conn.now) → (state S.Store tx.old.conn.now).now.schema ≡ archive_schema → (s : State) → StandsFor (state S.Store tx.old.conn.now).now.trees s
-        → Answers (λ line. mark_at line) result (lined driver s) }
-    ensures live { HasCleanDisk (state S.Store tx.new.conn.now) → IsAnswered result → IsTrue (state S.Store tx.old.conn.now).is_open }
-    ensures clean { HasCleanDisk (state S.Store tx.new.conn.now) → HasCleanDisk (state S.Store tx.old.conn.now) }
-    ensures was_open { HasCleanDisk (state S.Store tx.new.conn.now) → IsTrue (state S.Store tx.new.conn.now).is_open → IsTrue (state S.Store tx.old.conn.now).is_open }
-    ensures keeps { HasCleanDisk (state S.Store tx.new.conn.now) → (state S.Store tx.old.conn.now).now.schema ≡ archive_schema → KeepsCommit (state S.Store tx.old.conn.now) (state S.Store tx.new.conn.now) }
-    ensures survives { Survives (state S.Store tx.old.conn.now) (state S.Store tx.new.conn.now) (λ _. ⊥) }
+    ensures { Tells S.Store tx.old.conn tx.new.conn result
+        (λ _ s. Answers (λ line. mark_at line) result (lined driver s)) }
 {
     driver_with(tx, driver)?;
     let rows = held::of_driver(alloc, tx, driver).map_err(store_fault)?;
@@ -153,8 +125,7 @@ pub fn line<S: Alter>(
 ) -> Result<Line, StoreFault>
     requires { conn.old.in_transaction ≡ false }
     ensures autocommit { conn.new.in_transaction ≡ false }
-    ensures reads { Reads (λ c. Shows (state S.Store c)) (λ c. HasCleanDisk (state S.Store c)) (λ c. IsTrue (state S.Store c).is_open) (λ c. LeavesOneOf (state S.Store c)) (λ line. mark_at line) conn.old conn.new result
-        (lined driver) }
+    ensures reads { ReadsOn S.Store (λ line. mark_at line) conn.old conn.new result (lined driver) }
 {
     let _settled = conn.is_autocommit();
     let mut tx = conn.transaction();
@@ -172,16 +143,8 @@ fn line_within_in<S: Alter>(
     start: Minute,
     past: Minute,
 ) -> Result<Line, StoreFault>
-    ensures same_reference { tx.new.conn.ghost_name ≡ tx.old.conn.ghost_name }
-    ensures answer { HasCleanDisk (state S.Store tx.new.conn.now) → (state S.Store tx.old.conn.now).now.schema ≡ archive_schema → (s : State) → StandsFor (state S.Store tx.old.conn.now).now.trees s
-        → Answers (λ _. tt) result (reported driver s) }
-    ensures within { HasCleanDisk (state S.Store tx.new.conn.now) → (state S.Store tx.old.conn.now).now.schema ≡ archive_schema → (s : State) → StandsFor (state S.Store tx.old.conn.now).now.trees s
-        → IfOk result (IsHeldWithin driver start past s) }
-    ensures live { HasCleanDisk (state S.Store tx.new.conn.now) → IsAnswered result → IsTrue (state S.Store tx.old.conn.now).is_open }
-    ensures clean { HasCleanDisk (state S.Store tx.new.conn.now) → HasCleanDisk (state S.Store tx.old.conn.now) }
-    ensures was_open { HasCleanDisk (state S.Store tx.new.conn.now) → IsTrue (state S.Store tx.new.conn.now).is_open → IsTrue (state S.Store tx.old.conn.now).is_open }
-    ensures keeps { HasCleanDisk (state S.Store tx.new.conn.now) → (state S.Store tx.old.conn.now).now.schema ≡ archive_schema → KeepsCommit (state S.Store tx.old.conn.now) (state S.Store tx.new.conn.now) }
-    ensures survives { Survives (state S.Store tx.old.conn.now) (state S.Store tx.new.conn.now) (λ _. ⊥) }
+    ensures { Tells S.Store tx.old.conn tx.new.conn result
+        (λ _ s. Answers (λ _. tt) result (reported driver s) × IfOk result (IsHeldWithin driver start past s)) }
 {
     driver_with(tx, driver)?;
     let rows = helds_near(alloc, tx, driver, start.number(), past.number()).map_err(store_fault)?;
@@ -198,9 +161,9 @@ pub fn line_within<S: Alter>(
 ) -> Result<Line, StoreFault>
     requires { conn.old.in_transaction ≡ false }
     ensures autocommit { conn.new.in_transaction ≡ false }
-    ensures reads { Reads (λ c. Shows (state S.Store c)) (λ c. HasCleanDisk (state S.Store c)) (λ c. IsTrue (state S.Store c).is_open) (λ c. LeavesOneOf (state S.Store c)) (λ _. tt) conn.old conn.new result
-        (reported driver) }
-    ensures within { HasCleanDisk (state S.Store conn.new) → (s : State) → Shows (state S.Store conn.old) s → IfOk result (IsHeldWithin driver start past s) }
+    ensures reads { ReadsOn S.Store (λ _. tt) conn.old conn.new result (reported driver) }
+    ensures within { HasCleanDisk (state S.Store conn.new) → (s : State) → Shows (state S.Store conn.old) s
+        → IfOk result (IsHeldWithin driver start past s) }
 {
     let _settled = conn.is_autocommit();
     let mut tx = conn.transaction();
@@ -216,14 +179,8 @@ fn entries_in<S: Alter>(
     tx: &mut Transaction<'_, S>,
     driver: u32,
 ) -> Result<Vec<Entry>, StoreFault>
-    ensures same_reference { tx.new.conn.ghost_name ≡ tx.old.conn.ghost_name }
-    ensures answer { HasCleanDisk (state S.Store tx.new.conn.now) → (state S.Store tx.old.conn.now).now.schema ≡ archive_schema → (s : State) → StandsFor (state S.Store tx.old.conn.now).now.trees s
-        → Answers (λ entries. entries.items) result (listed driver s) }
-    ensures live { HasCleanDisk (state S.Store tx.new.conn.now) → IsAnswered result → IsTrue (state S.Store tx.old.conn.now).is_open }
-    ensures clean { HasCleanDisk (state S.Store tx.new.conn.now) → HasCleanDisk (state S.Store tx.old.conn.now) }
-    ensures was_open { HasCleanDisk (state S.Store tx.new.conn.now) → IsTrue (state S.Store tx.new.conn.now).is_open → IsTrue (state S.Store tx.old.conn.now).is_open }
-    ensures keeps { HasCleanDisk (state S.Store tx.new.conn.now) → (state S.Store tx.old.conn.now).now.schema ≡ archive_schema → KeepsCommit (state S.Store tx.old.conn.now) (state S.Store tx.new.conn.now) }
-    ensures survives { Survives (state S.Store tx.old.conn.now) (state S.Store tx.new.conn.now) (λ _. ⊥) }
+    ensures { Tells S.Store tx.old.conn tx.new.conn result
+        (λ _ s. Answers (λ entries. entries.items) result (listed driver s)) }
 {
     driver_with(tx, driver)?;
     let rows = entries::of_driver(alloc, tx, driver).map_err(store_fault)?;
@@ -238,8 +195,7 @@ pub fn entries<S: Alter>(
 ) -> Result<Vec<Entry>, StoreFault>
     requires { conn.old.in_transaction ≡ false }
     ensures autocommit { conn.new.in_transaction ≡ false }
-    ensures reads { Reads (λ c. Shows (state S.Store c)) (λ c. HasCleanDisk (state S.Store c)) (λ c. IsTrue (state S.Store c).is_open) (λ c. LeavesOneOf (state S.Store c)) (λ entries. entries.items) conn.old conn.new result
-        (listed driver) }
+    ensures reads { ReadsOn S.Store (λ entries. entries.items) conn.old conn.new result (listed driver) }
 {
     let _settled = conn.is_autocommit();
     let mut tx = conn.transaction();
@@ -261,17 +217,9 @@ pub struct Beginning {
 /// Where a reading for a driver's report begins, within a transaction: S4. S12 where his base is no Monday from 2000-01-03 to
 /// the end of 2099: no archive has such a base.
 fn begin_in<S: Alter>(tx: &mut Transaction<'_, S>, driver: u32) -> Result<Beginning, StoreFault>
-    ensures same_reference { tx.new.conn.ghost_name ≡ tx.old.conn.ghost_name }
     ensures base { IfOk result (λ begin. IsBase begin.base × (begin.base ≤ latest)) }
-    ensures answer { HasCleanDisk (state S.Store tx.new.conn.now) → (state S.Store tx.old.conn.now).now.schema ≡ archive_schema → (s : State) → StandsFor (state S.Store tx.old.conn.now).now.trees s
-        → Answers (λ _. tt) result (reported driver s) }
-    ensures begun { HasCleanDisk (state S.Store tx.new.conn.now) → (state S.Store tx.old.conn.now).now.schema ≡ archive_schema → (s : State) → StandsFor (state S.Store tx.old.conn.now).now.trees s
-        → IfOk result (IsBegun (state S.Store tx.old.conn.now).now.trees driver s) }
-    ensures live { HasCleanDisk (state S.Store tx.new.conn.now) → IsAnswered result → IsTrue (state S.Store tx.old.conn.now).is_open }
-    ensures clean { HasCleanDisk (state S.Store tx.new.conn.now) → HasCleanDisk (state S.Store tx.old.conn.now) }
-    ensures was_open { HasCleanDisk (state S.Store tx.new.conn.now) → IsTrue (state S.Store tx.new.conn.now).is_open → IsTrue (state S.Store tx.old.conn.now).is_open }
-    ensures keeps { HasCleanDisk (state S.Store tx.new.conn.now) → (state S.Store tx.old.conn.now).now.schema ≡ archive_schema → KeepsCommit (state S.Store tx.old.conn.now) (state S.Store tx.new.conn.now) }
-    ensures survives { Survives (state S.Store tx.old.conn.now) (state S.Store tx.new.conn.now) (λ _. ⊥) }
+    ensures begun { Tells S.Store tx.old.conn tx.new.conn result
+        (λ db s. Answers (λ _. tt) result (reported driver s) × IfOk result (IsBegun db driver s)) }
 {
     let stored = driver_with(tx, driver)?;
     let Some(base) = base_of(stored.base) else {
@@ -290,9 +238,9 @@ fn begin<S: Alter>(conn: &mut Connection<S>, driver: u32) -> Result<Beginning, S
     requires { conn.old.in_transaction ≡ false }
     ensures autocommit { conn.new.in_transaction ≡ false }
     ensures base { IfOk result (λ begin. IsBase begin.base × (begin.base ≤ latest)) }
-    ensures reads { Reads (λ c. Shows (state S.Store c)) (λ c. HasCleanDisk (state S.Store c)) (λ c. IsTrue (state S.Store c).is_open) (λ c. LeavesOneOf (state S.Store c)) (λ _. tt) conn.old conn.new result
-        (reported driver) }
-    ensures begun { HasCleanDisk (state S.Store conn.new) → (s : State) → Shows (state S.Store conn.old) s → IfOk result (IsBegun (state S.Store conn.new).now.trees driver s) }
+    ensures reads { ReadsOn S.Store (λ _. tt) conn.old conn.new result (reported driver) }
+    ensures begun { HasCleanDisk (state S.Store conn.new) → (s : State) → Shows (state S.Store conn.old) s
+        → IfOk result (IsBegun (state S.Store conn.new).now.trees driver s) }
 {
     let _settled = conn.is_autocommit();
     let mut tx = conn.transaction();
@@ -310,9 +258,9 @@ pub fn report<S: Alter>(
 ) -> Result<Report, StoreFault>
     requires { conn.old.in_transaction ≡ false }
     ensures autocommit { conn.new.in_transaction ≡ false }
-    ensures reads { Reads (λ c. Shows (state S.Store c)) (λ c. HasCleanDisk (state S.Store c)) (λ c. IsTrue (state S.Store c).is_open) (λ c. LeavesOneOf (state S.Store c)) (λ _. tt) conn.old conn.new result
-        (reported driver) }
-    ensures report { HasCleanDisk (state S.Store conn.new) → (s : State) → Shows (state S.Store conn.old) s → IfOk result (IsReportOf driver s) }
+    ensures reads { ReadsOn S.Store (λ _. tt) conn.old conn.new result (reported driver) }
+    ensures report { HasCleanDisk (state S.Store conn.new) → (s : State) → Shows (state S.Store conn.old) s
+        → IfOk result (IsReportOf driver s) }
 {
     let Beginning { base, start } = begin(conn, driver)?;
     let mut scan = Scan::new(base);

@@ -1,12 +1,7 @@
-ghost use Rattle.std.specs.Prelude.{◌≡◌, ◌∷◌, false, IsTrue, OnOk};
-ghost use Rattle.sqlite.specs.State.{HasCleanDisk, Survives, KeepsCommit};
-ghost use Rattle.sqlite.specs.Held.{state};
-ghost use Rattle.tacho_state.specs.State.{State};
+ghost use Rattle.std.specs.Prelude.{◌≡◌, false};
 ghost use Rattle.tacho_state.specs.Steps.{registered};
-ghost use Rattle.tacho_state.specs.Acts.{Acts, Answers};
-ghost use Rattle.tacho_tables.specs.Schema.{archive_schema};
-ghost use Rattle.tacho_store.specs.Standing.{StandsFor};
-ghost use Rattle.tacho_store.specs.Kept.{Shows, LeavesOneOf, IsAnswered};
+ghost use Rattle.tacho_store.specs.Calls.{Steps};
+ghost use Rattle.tacho_store.specs.Kept.{ActsOn};
 
 use crate::base::is_monday;
 use crate::fault::store_fault;
@@ -17,16 +12,8 @@ use tacho_tables::drivers;
 
 /// Adds a driver, within a transaction: S1, S2, S3, S9.
 fn register_in<S: Alter>(tx: &mut Transaction<'_, S>, driver: &Driver) -> Result<(), StoreFault>
-    ensures same_reference { tx.new.conn.ghost_name ≡ tx.old.conn.ghost_name }
-    ensures answer { HasCleanDisk (state S.Store tx.new.conn.now) → (state S.Store tx.old.conn.now).now.schema ≡ archive_schema → (s : State) → StandsFor (state S.Store tx.old.conn.now).now.trees s
-        → Answers (λ _. tt) result (registered driver.now.number driver.now.holder driver.now.key driver.now.base driver.now.name s).answer }
-    ensures made { HasCleanDisk (state S.Store tx.new.conn.now) → (state S.Store tx.old.conn.now).now.schema ≡ archive_schema → (s : State) → StandsFor (state S.Store tx.old.conn.now).now.trees s
-        → OnOk result (((state S.Store tx.new.conn.now).now.schema ≡ archive_schema) × StandsFor (state S.Store tx.new.conn.now).now.trees (registered driver.now.number driver.now.holder driver.now.key driver.now.base driver.now.name s).after) }
-    ensures live { HasCleanDisk (state S.Store tx.new.conn.now) → IsAnswered result → IsTrue (state S.Store tx.old.conn.now).is_open }
-    ensures clean { HasCleanDisk (state S.Store tx.new.conn.now) → HasCleanDisk (state S.Store tx.old.conn.now) }
-    ensures was_open { HasCleanDisk (state S.Store tx.new.conn.now) → IsTrue (state S.Store tx.new.conn.now).is_open → IsTrue (state S.Store tx.old.conn.now).is_open }
-    ensures keeps { HasCleanDisk (state S.Store tx.new.conn.now) → (state S.Store tx.old.conn.now).now.schema ≡ archive_schema → KeepsCommit (state S.Store tx.old.conn.now) (state S.Store tx.new.conn.now) }
-    ensures survives { Survives (state S.Store tx.old.conn.now) (state S.Store tx.new.conn.now) (λ _. ⊥) }
+    ensures { Steps S.Store tx.old.conn tx.new.conn result (λ _. tt)
+        (registered driver.now.number driver.now.holder driver.now.key driver.now.base driver.now.name) }
 {
     ask_free(tx, driver)?;
     if !is_monday(driver.base()) {
@@ -47,7 +34,7 @@ fn register_in<S: Alter>(tx: &mut Transaction<'_, S>, driver: &Driver) -> Result
 pub fn register<S: Alter>(conn: &mut Connection<S>, driver: &Driver) -> Result<(), StoreFault>
     requires { conn.old.in_transaction ≡ false }
     ensures autocommit { conn.new.in_transaction ≡ false }
-    ensures acts { Acts (λ c. Shows (state S.Store c)) (λ c. HasCleanDisk (state S.Store c)) (λ c. IsTrue (state S.Store c).is_open) (λ c. LeavesOneOf (state S.Store c)) (λ _. tt) conn.old conn.new result
+    ensures acts { ActsOn S.Store (λ _. tt) conn.old conn.new result
         (registered driver.now.number driver.now.holder driver.now.key driver.now.base driver.now.name) }
 {
     let _settled = conn.is_autocommit();

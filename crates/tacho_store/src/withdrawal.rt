@@ -1,17 +1,16 @@
-ghost use Rattle.std.specs.Prelude.{◌≡◌, ◌++◌, map, filter, not, false, IfOk, IfErr, IsTrue, OnOk};
-ghost use Rattle.tacho_time.specs.OrMemory.{OrMemory};
-ghost use Rattle.sqlite.specs.State.{HasCleanDisk, Survives, KeepsCommit, IsUnchanged};
+ghost use Rattle.std.specs.Prelude.{◌≡◌, ◌++◌, map, filter, not, false, IfOk, IfErr, OnOk};
+ghost use Rattle.sqlite.specs.State.{HasCleanDisk};
 ghost use Rattle.sqlite.specs.Held.{state};
+ghost use Rattle.tacho_time.specs.OrMemory.{OrMemory};
 ghost use Rattle.tacho_time.specs.Spans.{Gives, IsCanonicalOf};
 ghost use Rattle.tacho_line.specs.Line.{IsWithin};
-ghost use Rattle.tacho_state.specs.State.{State};
 ghost use Rattle.tacho_state.specs.Disjoint.{outside};
 ghost use Rattle.tacho_state.specs.Steps.{withdrawn};
-ghost use Rattle.tacho_state.specs.Acts.{Acts, Answers};
 ghost use Rattle.tacho_tables.specs.Schema.{archive_schema};
-ghost use Rattle.tacho_tables.specs.Tables.{Tables, Stand, Turns, is_near, row_of, with_withdrawn};
-ghost use Rattle.tacho_store.specs.Standing.{StandsFor, stored_span};
-ghost use Rattle.tacho_store.specs.Kept.{Shows, LeavesOneOf, IsAnswered};
+ghost use Rattle.tacho_tables.specs.Tables.{Tables, Stand, is_near, row_of, with_withdrawn};
+ghost use Rattle.tacho_store.specs.Standing.{stored_span};
+ghost use Rattle.tacho_store.specs.Calls.{Tells, Steps, ChangesWhere};
+ghost use Rattle.tacho_store.specs.Kept.{ActsOn};
 ghost use Rattle.tacho_store.specs.Apart.{AreApart, rows_of};
 ghost use Rattle.tacho_store.specs.Withdrawing.{IsEntry, AreRowsFor, AreRenewed};
 
@@ -32,15 +31,7 @@ fn entry_with<S: Alter>(
     driver: u32,
     number: u32,
 ) -> Result<StoredEntry, StoreFault>
-    ensures same_reference { tx.new.conn.ghost_name ≡ tx.old.conn.ghost_name }
-    ensures found { HasCleanDisk (state S.Store tx.new.conn.now) → (state S.Store tx.old.conn.now).now.schema ≡ archive_schema → (s : State) → StandsFor (state S.Store tx.old.conn.now).now.trees s
-        → IsEntry s driver number result }
-    ensures same { HasCleanDisk (state S.Store tx.new.conn.now) → (state S.Store tx.old.conn.now).now.schema ≡ archive_schema → OnOk result (IsUnchanged (state S.Store tx.old.conn.now) (state S.Store tx.new.conn.now)) }
-    ensures live { HasCleanDisk (state S.Store tx.new.conn.now) → IsAnswered result → IsTrue (state S.Store tx.old.conn.now).is_open }
-    ensures clean { HasCleanDisk (state S.Store tx.new.conn.now) → HasCleanDisk (state S.Store tx.old.conn.now) }
-    ensures was_open { HasCleanDisk (state S.Store tx.new.conn.now) → IsTrue (state S.Store tx.new.conn.now).is_open → IsTrue (state S.Store tx.old.conn.now).is_open }
-    ensures keeps { HasCleanDisk (state S.Store tx.new.conn.now) → (state S.Store tx.old.conn.now).now.schema ≡ archive_schema → KeepsCommit (state S.Store tx.old.conn.now) (state S.Store tx.new.conn.now) }
-    ensures survives { Survives (state S.Store tx.old.conn.now) (state S.Store tx.new.conn.now) (λ _. ⊥) }
+    ensures { Tells S.Store tx.old.conn tx.new.conn result (λ _ s. IsEntry s driver number result) }
 {
     driver_with(tx, driver)?;
     let found = entries::by_number(tx, driver, number).map_err(store_fault)?;
@@ -121,15 +112,12 @@ fn mark<S: Alter>(
     start: u32,
     past: u32,
 ) -> Result<Vec<StoredSpan>, StoreFault>
-    ensures same_reference { tx.new.conn.ghost_name ≡ tx.old.conn.ghost_name }
-    ensures marked { HasCleanDisk (state S.Store tx.new.conn.now) → (state S.Store tx.old.conn.now).now.schema ≡ archive_schema → OnOk result (Turns (state S.Store tx.old.conn.now) (state S.Store tx.new.conn.now) (λ a. record a { entries = map (with_withdrawn driver number) a.entries })) }
-    ensures renewed { HasCleanDisk (state S.Store tx.new.conn.now) → (state S.Store tx.old.conn.now).now.schema ≡ archive_schema → IfOk result (λ rows. (a : Tables) → Stand (state S.Store tx.old.conn.now).now.trees a → AreApart (rows_of driver a.card_spans) → AreApart (rows_of driver a.held)
-        → AreRenewed a driver number start past rows.items) }
+    ensures marked { ChangesWhere S.Store tx.old.conn tx.new.conn result (λ _. Unit {0})
+        (λ t. record t { entries = map (with_withdrawn driver number) t.entries }) }
+    ensures renewed { HasCleanDisk (state S.Store tx.new.conn.now) → (state S.Store tx.old.conn.now).now.schema ≡ archive_schema
+        → IfOk result (λ rows. (t : Tables) → Stand (state S.Store tx.old.conn.now).now.trees t
+        → AreApart (rows_of driver t.card_spans) → AreApart (rows_of driver t.held) → AreRenewed t driver number start past rows.items) }
     ensures fault { IfErr result (λ fault. OrMemory StoreFault.Memory fault (fault ≡ StoreFault.Store)) }
-    ensures clean { HasCleanDisk (state S.Store tx.new.conn.now) → HasCleanDisk (state S.Store tx.old.conn.now) }
-    ensures was_open { HasCleanDisk (state S.Store tx.new.conn.now) → IsTrue (state S.Store tx.new.conn.now).is_open → IsTrue (state S.Store tx.old.conn.now).is_open }
-    ensures keeps { HasCleanDisk (state S.Store tx.new.conn.now) → (state S.Store tx.old.conn.now).now.schema ≡ archive_schema → KeepsCommit (state S.Store tx.old.conn.now) (state S.Store tx.new.conn.now) }
-    ensures survives { Survives (state S.Store tx.old.conn.now) (state S.Store tx.new.conn.now) (λ _. ⊥) }
 {
     entries::withdraw(tx, driver, number).map_err(store_fault)?;
     let cards = cards_near(alloc, tx, driver, start, past).map_err(store_fault)?;
@@ -146,14 +134,8 @@ fn rewrite<S: Alter>(
     past: u32,
     rows: &[StoredSpan],
 ) -> Result<(), TableFault>
-    ensures same_reference { tx.new.conn.ghost_name ≡ tx.old.conn.ghost_name }
-    ensures written { HasCleanDisk (state S.Store tx.new.conn.now) → (state S.Store tx.old.conn.now).now.schema ≡ archive_schema → (a : Tables) → Stand (state S.Store tx.old.conn.now).now.trees a → AreApart (rows_of driver a.held)
-        → OnOk result (((state S.Store tx.new.conn.now).now.schema ≡ archive_schema)
-        × Stand (state S.Store tx.new.conn.now).now.trees (record a { held = map (row_of driver) rows.now ++ filter (λ r. not (is_near driver start past r)) a.held })) }
-    ensures clean { HasCleanDisk (state S.Store tx.new.conn.now) → HasCleanDisk (state S.Store tx.old.conn.now) }
-    ensures was_open { HasCleanDisk (state S.Store tx.new.conn.now) → IsTrue (state S.Store tx.new.conn.now).is_open → IsTrue (state S.Store tx.old.conn.now).is_open }
-    ensures keeps { HasCleanDisk (state S.Store tx.new.conn.now) → (state S.Store tx.old.conn.now).now.schema ≡ archive_schema → KeepsCommit (state S.Store tx.old.conn.now) (state S.Store tx.new.conn.now) }
-    ensures survives { Survives (state S.Store tx.old.conn.now) (state S.Store tx.new.conn.now) (λ _. ⊥) }
+    ensures { ChangesWhere S.Store tx.old.conn tx.new.conn result (λ t. AreApart (rows_of driver t.held))
+        (λ t. record t { held = map (row_of driver) rows.now ++ filter (λ r. not (is_near driver start past r)) t.held }) }
 {
     delete_near(tx, driver, start, past)?;
     held::insert_all(tx, driver, rows)
@@ -166,16 +148,7 @@ fn withdraw_in<S: Alter>(
     driver: u32,
     number: u32,
 ) -> Result<(), StoreFault>
-    ensures same_reference { tx.new.conn.ghost_name ≡ tx.old.conn.ghost_name }
-    ensures answer { HasCleanDisk (state S.Store tx.new.conn.now) → (state S.Store tx.old.conn.now).now.schema ≡ archive_schema → (s : State) → StandsFor (state S.Store tx.old.conn.now).now.trees s
-        → Answers (λ _. tt) result (withdrawn driver number s).answer }
-    ensures made { HasCleanDisk (state S.Store tx.new.conn.now) → (state S.Store tx.old.conn.now).now.schema ≡ archive_schema → (s : State) → StandsFor (state S.Store tx.old.conn.now).now.trees s
-        → OnOk result (((state S.Store tx.new.conn.now).now.schema ≡ archive_schema) × StandsFor (state S.Store tx.new.conn.now).now.trees (withdrawn driver number s).after) }
-    ensures live { HasCleanDisk (state S.Store tx.new.conn.now) → IsAnswered result → IsTrue (state S.Store tx.old.conn.now).is_open }
-    ensures clean { HasCleanDisk (state S.Store tx.new.conn.now) → HasCleanDisk (state S.Store tx.old.conn.now) }
-    ensures was_open { HasCleanDisk (state S.Store tx.new.conn.now) → IsTrue (state S.Store tx.new.conn.now).is_open → IsTrue (state S.Store tx.old.conn.now).is_open }
-    ensures keeps { HasCleanDisk (state S.Store tx.new.conn.now) → (state S.Store tx.old.conn.now).now.schema ≡ archive_schema → KeepsCommit (state S.Store tx.old.conn.now) (state S.Store tx.new.conn.now) }
-    ensures survives { Survives (state S.Store tx.old.conn.now) (state S.Store tx.new.conn.now) (λ _. ⊥) }
+    ensures { Steps S.Store tx.old.conn tx.new.conn result (λ _. tt) (withdrawn driver number) }
 {
     let entry = entry_with(tx, driver, number)?;
     let rows = mark(alloc, tx, driver, number, entry.start, entry.past)?;
@@ -191,8 +164,7 @@ pub fn withdraw<S: Alter>(
 ) -> Result<(), StoreFault>
     requires { conn.old.in_transaction ≡ false }
     ensures autocommit { conn.new.in_transaction ≡ false }
-    ensures acts { Acts (λ c. Shows (state S.Store c)) (λ c. HasCleanDisk (state S.Store c)) (λ c. IsTrue (state S.Store c).is_open) (λ c. LeavesOneOf (state S.Store c)) (λ _. tt) conn.old conn.new result
-        (withdrawn driver number) }
+    ensures acts { ActsOn S.Store (λ _. tt) conn.old conn.new result (withdrawn driver number) }
 {
     let _settled = conn.is_autocommit();
     let mut tx = conn.transaction();

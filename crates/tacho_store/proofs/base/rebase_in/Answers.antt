@@ -1,35 +1,44 @@
-use Rattle.std.proofs.Common.{◌∙◌, sym}
+use Rattle.std.proofs.Common.{rules, ◌∙◌, sym}
 use Rattle.tacho_store.proofs.MappedLemmas.{on_ok_mapped, answers_mapped}
 use Rattle.tacho_store.proofs.FoundLemmas.{the_driver, unknown_refuses, handed_on}
 use Rattle.tacho_store.proofs.SeenLemmas.{still_seen}
 use Rattle.tacho_store.proofs.BaseLemmas.{no_driver, no_monday, is_set, day_set}
 use Rattle.tacho_store.proofs.base.rebase_in.Goals as goal
 
-pub returns-in_err-driver_with-clause-answer : goal.returns-in_err-driver_with-clause-answer
-returns-in_err-driver_with-clause-answer g c clean schema s stands =
-    handed_on _ _ c.from_residual.result _ (unknown_refuses c.args.driver s _ _ (no_driver c.args.driver c.args.base s)
-    (c.in_err-driver_with.ensures.found clean schema s stands)) c.from_residual.ensures
+pub returns-in_err-driver_with : goal.returns-in_err-driver_with
+returns-in_err-driver_with g c = record {
+  goes = search rules;
+  answer = λ clean schema s stands.
+      handed_on _ _ c.from_residual.result _ (unknown_refuses c.args.driver s _ _ (no_driver c.args.driver c.args.base s)
+      (c.in_err-driver_with.ensures.told clean schema s stands)) c.from_residual.ensures;
+  made = search rules;
+}
 
-pub returns-then-not-is_monday-clause-answer : goal.returns-then-not-is_monday-clause-answer
-returns-then-not-is_monday-clause-answer g c clean schema s stands =
-    let d = the_driver c.args.driver s _ (c.in_ok-driver_with.ensures.found clean schema s stands) in
-    no_monday c.args.driver c.args.base s d.0 d.1 (sym c.is_monday.ensures ∙ c.if-not-is_monday.true)
+pub returns-then-not-is_monday : goal.returns-then-not-is_monday
+returns-then-not-is_monday g c = record {
+  goes = search rules;
+  answer = λ clean schema s stands.
+      let d = the_driver c.args.driver s _ (c.in_ok-driver_with.ensures.told clean schema s stands) in
+      no_monday c.args.driver c.args.base s d.0 d.1 (sym c.is_monday.ensures ∙ c.if-not-is_monday.true);
+  made = search rules;
+}
 
-pub returns-clause-answer : goal.returns-clause-answer
-returns-clause-answer g c clean schema s stands =
-    let d = the_driver c.args.driver s _ (c.in_ok-driver_with.ensures.found (c.set_base.ensures.clean clean) schema s stands) in
-    answers_mapped c.set_base.result c.map_err.result _ c.map_err.ensures.cases
-    (λ _. is_set c.args.driver c.args.base s d.0 d.1 (sym c.is_monday.ensures ∙ c.if-not-is_monday.false))
-
-pub returns-clause-made : goal.returns-clause-made
-returns-clause-made g c clean schema s stands =
-    let clean_1 = c.set_base.ensures.clean clean in
-    let d = the_driver c.args.driver s _ (c.in_ok-driver_with.ensures.found clean_1 schema s stands) in
-    let seen = still_seen _ _ s (c.in_ok-driver_with.ensures.same clean_1 schema) schema stands in
-    on_ok_mapped c.set_base.result c.map_err.result _ _ _
-    (λ turns. (
-      turns.schema,
-      day_set c.args.driver c.args.base s d.0 d.1 _ _
-          (sym c.is_monday.ensures ∙ c.if-not-is_monday.false) seen.1 turns.stands,
-    )) c.map_err.ensures.cases
-    (rw c.number.ensures.value at (c.set_base.ensures.turned clean seen.0))
+pub returns : goal.returns
+returns g c = record {
+  goes = search rules;
+  answer = λ clean schema s stands.
+      let d = the_driver c.args.driver s _ (c.in_ok-driver_with.ensures.told (c.set_base.ensures.stays.clean clean) schema s stands) in
+      answers_mapped c.set_base.result c.map_err.result _ c.map_err.ensures.cases
+      (λ _. is_set c.args.driver c.args.base s d.0 d.1 (sym c.is_monday.ensures ∙ c.if-not-is_monday.false));
+  made = λ clean schema s stands.
+      let clean_1 = c.set_base.ensures.stays.clean clean in
+      let d = the_driver c.args.driver s _ (c.in_ok-driver_with.ensures.told clean_1 schema s stands) in
+      let seen = still_seen _ _ s (c.in_ok-driver_with.ensures.same clean_1 schema) schema stands in
+      on_ok_mapped c.set_base.result c.map_err.result _ _ _
+      (λ turns. (
+        turns.schema,
+        day_set c.args.driver c.args.base s d.0 d.1 _ _
+            (sym c.is_monday.ensures ∙ c.if-not-is_monday.false) seen.1 turns.stands,
+      )) c.map_err.ensures.cases
+      (rw c.number.ensures.value at (c.set_base.ensures.turned clean seen.0));
+}

@@ -1,4 +1,4 @@
-use Rattle.std.proofs.Common.{sym, subst}
+use Rattle.std.proofs.Common.{rules, sym, subst}
 use Rattle.tacho_state.specs.Acts.{Answers}
 use Rattle.tacho_state.specs.Steps.{downloaded}
 use Rattle.tacho_store.proofs.MappedLemmas.{was_ok}
@@ -7,16 +7,24 @@ use Rattle.tacho_store.proofs.SeenLemmas.{still_seen}
 use Rattle.tacho_store.proofs.ReadingLemmas.{nobody, file_told}
 use Rattle.tacho_store.proofs.reading.download_in.Goals as goal
 
-pub returns-in_err-driver_with-clause-answer : goal.returns-in_err-driver_with-clause-answer
-returns-in_err-driver_with-clause-answer g c clean schema s stands =
-    handed_on _ _ c.from_residual.result _ (unknown_refuses c.args.driver s _ _ (nobody c.args.driver s _)
-    (c.in_err-driver_with.ensures.found clean schema s stands)) c.from_residual.ensures
+pub returns-in_err-driver_with : goal.returns-in_err-driver_with
+returns-in_err-driver_with g c = record {
+  goes = search rules;
+  same = search rules;
+  told = λ clean schema s stands.
+      handed_on _ _ c.from_residual.result _ (unknown_refuses c.args.driver s _ _ (nobody c.args.driver s _)
+      (c.in_err-driver_with.ensures.told clean schema s stands)) c.from_residual.ensures;
+}
 
-pub returns-clause-answer : goal.returns-clause-answer
-returns-clause-answer g c clean schema s stands =
-    let clean_1 = c.file.ensures.clean clean in
-    let d = the_driver c.args.driver s _ (c.in_ok-driver_with.ensures.found clean_1 schema s stands) in
-    let seen = still_seen _ _ s (c.in_ok-driver_with.ensures.same clean_1 schema) schema stands in
-    subst (λ r. Answers (λ bytes. bytes.items) r (downloaded c.args.driver c.args.number s)) (sym c.ok_or.ensures.value)
-    (file_told (λ bytes. bytes.items) _ _ _ s c.in_ok-file.file d.0 d.1 seen.1
-    (was_ok c.file.result c.in_ok-file.file _ c.in_ok-file.ensures.cases (c.file.ensures.found clean seen.0)))
+pub returns : goal.returns
+returns g c = record {
+  goes = search rules;
+  same = search rules;
+  told = λ clean schema s stands.
+      let clean_1 = c.file.ensures.reads.stays.clean clean in
+      let d = the_driver c.args.driver s _ (c.in_ok-driver_with.ensures.told clean_1 schema s stands) in
+      let seen = still_seen _ _ s (c.in_ok-driver_with.ensures.same clean_1 schema) schema stands in
+      subst (λ r. Answers (λ bytes. bytes.items) r (downloaded c.args.driver c.args.number s)) (sym c.ok_or.ensures.value)
+      (file_told (λ bytes. bytes.items) _ _ _ s c.in_ok-file.file d.0 d.1 seen.1
+      (was_ok c.file.result c.in_ok-file.file _ c.in_ok-file.ensures.cases (c.file.ensures.found clean seen.0)));
+}

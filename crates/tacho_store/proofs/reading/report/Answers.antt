@@ -4,7 +4,7 @@ use Rattle.tacho_store.proofs.reading.report.Goals as goal
 
 pub returns-clause-report : goal.returns-clause-report
 returns-clause-report g c clean s shows =
-    let clean_1 = c.feed_held.ensures.clean clean in
+    let clean_1 = c.feed_held.ensures.reads.clean clean in
     let reads = c.in_ok-base.ensures.reads in
     let holds = reads.state clean_1 s shows (reads.live clean_1) in
     report_told (state g.S.Store c.begin.new.conn).now.trees c.args.driver s c.in_ok-base.field-0
