@@ -1,5 +1,7 @@
 //! Steps: what an archive is told or asked, and what it has to answer, whichever archive it is.
 
+ghost use Rattle.tacho_state.specs.Registration.{IsReadDay};
+
 use std::alloc::Global;
 use std::process::Abort;
 use std::test::Fail;
@@ -399,6 +401,8 @@ fn minute_of(minutes: u16) -> Minute {
 }
 
 /// The day that is so many after Monday.
-fn day_of(days: u8) -> Day {
+fn day_of(days: u8) -> Day
+    ensures { IsReadDay result }
+{
     Day::new(MONDAY + u32::from(days))
 }

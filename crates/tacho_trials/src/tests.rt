@@ -155,6 +155,24 @@ fn a_store_with_other_tables_has_no_archive(rt: HostRuntime) -> Result<(), Fail>
     Ok(())
 }
 
+#[test]
+fn tables_of_another_version_are_left_alone(rt: HostRuntime) -> Result<(), Fail> {
+    let row = "version 2";
+    let (before, after) = A_DAY_IS_ADDED.split_at(3);
+    let mut archive = open_memory(rt.alloc())?;
+    take(&rt, rt.alloc(), &mut archive, row, before)?;
+    let mut conn = archive.close();
+    conn.execute("UPDATE meta SET version = 2 WHERE id = 1", &[])?;
+    assert!(rt; conn.is_autocommit());
+    let mut conn = handed_back(&rt, Archive::adopt(conn))?;
+    let told = conn.query_row("SELECT version FROM meta", &[])?;
+    let version: u32 = told.get(0)?;
+    assert_same(&rt, version, 2);
+    conn.execute("UPDATE meta SET version = 1 WHERE id = 1", &[])?;
+    assert!(rt; conn.is_autocommit());
+    take(&rt, rt.alloc(), &mut adopted(conn)?, row, after)
+}
+
 /// Enters the same hours many times, and withdraws them in another order: they are held until the last.
 fn withdraw_one_by_one<K: Keeper>(
     rt: &impl Abort,
