@@ -1,8 +1,9 @@
 -- Empty tables stand for no drivers.
 use Rattle.std.proofs.Common.{[], refl}
+use Rattle.std.proofs.lemmas.List.Elements.{All-nil}
 use Rattle.sqlite.specs.Tree.{Trees}
 use Rattle.tacho_tables.specs.Tables.{Stand, no_rows}
-use Rattle.tacho_store.specs.Standing.{IsOf, StandsFor}
+use Rattle.tacho_store.specs.Standing.{IsOf, IsMark, StandsFor}
 
 -- as lists
 pub empty_is : IsOf no_rows []
@@ -11,6 +12,7 @@ empty_is = record {
   distinct = tt;
   each = tt;
   known = record { downloads = λ n h. refl; entries = λ n h. refl; card_spans = λ n h. refl; held = λ n h. refl };
+  marked = record { card_spans = All-nil (λ r. IsMark r.mark); held = All-nil (λ r. IsMark r.mark) };
 }
 
 -- as they are stored

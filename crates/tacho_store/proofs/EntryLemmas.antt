@@ -12,7 +12,7 @@ use Rattle.tacho_state.proofs.GainLemmas.{batch_kept}
 use Rattle.tacho_tables.specs.Rows.{DriverRow, EntryRow}
 use Rattle.tacho_tables.specs.Tables.{Tables, is_entry, with_entries}
 use Rattle.tacho_store.specs.Standing.{driver_columns, entry_row, entry_rows, entries_of, spans_of, IsOfDriver, IsOf, with_entered}
-use Rattle.tacho_store.proofs.RowLemmas.{eq_self, eq_not, eq_true, added_own, added_other}
+use Rattle.tacho_store.proofs.RowLemmas.{eq_self, eq_not, eq_true, added_own, added_other, added_marks}
 use Rattle.tacho_store.proofs.FindLemmas.{first_or_rest, none_there}
 use Rattle.tacho_store.proofs.StateLemmas.{SameOfDriver, found_number, found_of, put_is, rows_put}
 
@@ -214,6 +214,7 @@ entered_at t s d batch line gains a b h k w r l g =
     (λ x o. counted_other n count x o))
     (entered_own t d batch line gains a b (found_of t n s d k h.each) w r l g)
     (λ j o. entered_other t n (1 + length d.entries) count batch gains j o)
+    (record { card_spans = h.marked.card_spans; held = added_marks n t.held gains h.marked.held })
 
 -- the tables after a batch stand for the state after it
 pub entered_is : (t : Tables) (s : State) (n : ℕ) (d : Driver) (batch : List Entry) (line gains : List Span) (a b : ℕ)

@@ -12,7 +12,7 @@ use Rattle.tacho_state.proofs.GainLemmas.{download_kept}
 use Rattle.tacho_tables.specs.Rows.{DriverRow, DownloadRow}
 use Rattle.tacho_tables.specs.Tables.{Tables, with_downloads}
 use Rattle.tacho_store.specs.Standing.{driver_columns, spans_of, AreRead, IsOfDriver, IsOf, with_imported}
-use Rattle.tacho_store.proofs.RowLemmas.{eq_self, eq_not, added_own, added_other}
+use Rattle.tacho_store.proofs.RowLemmas.{eq_self, eq_not, added_own, added_other, added_marks}
 use Rattle.tacho_store.proofs.DownloadLemmas.{download_row, rows_append, own_added, other_added, one_more}
 use Rattle.tacho_store.proofs.StateLemmas.{SameOfDriver, found_number, found_of, put_is, rows_put}
 
@@ -96,6 +96,10 @@ imported_at t s d part file content card_line line card_gains gains a b h k tell
     (λ x o. counted_other n count x o))
     (imported_own t d part file content card_line line card_gains gains a b (found_of t n s d k h.each) tells r g)
     (λ j o. imported_other t n count (part_number part) file card_gains gains j o)
+    (record {
+      card_spans = added_marks n t.card_spans card_gains h.marked.card_spans;
+      held = added_marks n t.held gains h.marked.held;
+    })
 
 -- the tables after an import stand for the state after it
 pub imported_is : (t : Tables) (s : State) (n : ℕ) (d : Driver) (part : Part) (file : List ℕ) (content : Content)

@@ -1,5 +1,6 @@
 mod OrderedLemmas
 mod RowLemmas
+mod FaultyLemmas
 mod StateLemmas
 mod FindLemmas
 mod RegisterLemmas

@@ -116,6 +116,7 @@ registered_is t s d h n k o none empty =
         card_spans = λ j w. h.known.card_spans j (added_has j s d w);
         held = λ j w. h.known.held j (added_has j s d w);
       };
+      marked = record { card_spans = h.marked.card_spans; held = h.marked.held };
     }
 
 -- ---- another day
@@ -144,3 +145,4 @@ rebased_is t s n base d h k =
     (λ x o. based_other n base x o))
     (record { downloads = own.downloads; read = own.read; entries = own.entries; full = own.full; card_spans = own.card_spans; held = own.held })
     (λ j o. based_same t n base j)
+    (record { card_spans = h.marked.card_spans; held = h.marked.held })

@@ -2,6 +2,7 @@
 use Rattle.std.proofs.Common.{◌≡◌, ◌≢◌, ℕ, ◌+◌, ◌<◌, ◌≤◌, ◌==◌, ◌&&◌, ◌⊎◌, inl, inr, nat_lt, not, Bool, true, false, cond, List, [], ◌∷◌, ◌++◌, Some, length, map, filter, refl, sym, ap, ◌∙◌, subst, arith}
 use Rattle.std.specs.List.Sorted.{IsPermutation}
 use Rattle.std.proofs.lemmas.List.{map-id}
+use Rattle.std.proofs.lemmas.List.Elements.{All-filter}
 use Rattle.std.proofs.lemmas.List.Sorted.{IsPermutation-sym, IsPermutation-map}
 use Rattle.tacho_time.specs.declared.span.Span.{Span}
 use Rattle.tacho_time.specs.declared.span.Mark.{Mark}
@@ -19,8 +20,8 @@ use Rattle.tacho_state.proofs.WithdrawLemmas.{withdrawn_held}
 use Rattle.tacho_tables.specs.declared.rows.StoredSpan.{StoredSpan}
 use Rattle.tacho_tables.specs.Rows.{DriverRow, EntryRow, SpanRow}
 use Rattle.tacho_tables.specs.Tables.{Tables, is_near, is_kept_near, span_of, entry_span_of, with_withdrawn}
-use Rattle.tacho_store.specs.Standing.{activity_number, numbered_mark, driver_columns, entry_row, entry_rows, entries_of, row_span, span_row, spans_of, stored_span, IsReadNear, IsKeptNear, IsOfDriver, IsOf, with_renewed}
-use Rattle.tacho_store.proofs.RowLemmas.{eq_self, eq_not, eq_true, added_own, added_other, near_spans}
+use Rattle.tacho_store.specs.Standing.{IsMark, activity_number, numbered_mark, driver_columns, entry_row, entry_rows, entries_of, row_span, span_row, spans_of, stored_span, IsReadNear, IsKeptNear, IsOfDriver, IsOf, with_renewed}
+use Rattle.tacho_store.proofs.RowLemmas.{eq_self, eq_not, eq_true, added_own, added_other, added_marks, near_spans}
 use Rattle.tacho_store.proofs.NearRowLemmas.{permuted_gives}
 use Rattle.tacho_store.proofs.StateLemmas.{SameOfDriver, found_number, found_of, put_is, rows_put}
 
@@ -364,6 +365,11 @@ withdrawn_at t s d number e cards others helds inside h k f r =
     (λ x o. refl))
     (withdrawn_own t d number e cards others helds inside (found_of t n s d k h.each) f r)
     (λ j o. withdrawn_other t n number e.start e.past spans j o)
+    (record {
+      card_spans = h.marked.card_spans;
+      held = added_marks n (filter (λ r. not (is_near n e.start e.past r)) t.held) spans
+          (All-filter (λ r. not (is_near n e.start e.past r)) (λ r. IsMark r.mark) t.held h.marked.held);
+    })
 
 -- the tables after a withdrawal stand for the state after it
 pub withdrawn_is : (t : Tables) (s : State) (n : ℕ) (d : Driver) (number : ℕ) (e : Entry) (cards others helds : List StoredSpan)

@@ -1,10 +1,11 @@
 -- What the archive's tables stand for: rows by driver, and the state of all drivers.
-use Rattle.std.specs.Prelude.{◌≡◌, ◌≢◌, ℕ, ◌+◌, ◌==◌, nat_lt, true, false, List, [], ◌∷◌, ◌++◌, length, map, filter, not, IsPermutation, Ok, if◌then◌else◌}
+use Rattle.std.specs.Prelude.{◌≡◌, ◌≢◌, ℕ, ◌+◌, ◌==◌, ◌<◌, ◌≤◌, ◌⊎◌, nat_lt, All, true, false, List, [], ◌∷◌, ◌++◌, length, map, filter, not, IsPermutation, Ok, if◌then◌else◌}
 use Rattle.sqlite.specs.Tree.{Trees}
 use Rattle.tacho_time.specs.declared.span.Span.{Span}
 use Rattle.tacho_time.specs.declared.span.Mark.{Mark}
 use Rattle.tacho_time.specs.declared.span.Activity.{Activity}
 use Rattle.tacho_time.specs.declared.span.Activity.TheVariants.{Rest, Available, Work, Drive}
+use Rattle.tacho_time.specs.Spans.{Gives, IsFirstConflict}
 use Rattle.tacho_card.specs.declared.file.Part.{Part}
 use Rattle.tacho_state.specs.declared.entry.Entry.{Entry as Listed}
 use Rattle.tacho_state.specs.State.{Download, Entry, Driver, State, Given, Held, AreFull}
@@ -33,6 +34,10 @@ abbrev pub numbered_mark : ℕ → Mark
 numbered_mark n =
     if nat_lt n 4 then record { activity = numbered_activity n; crew = false }
     else record { activity = (if n == 4 then Rest else (if n == 5 then Available else (if n == 6 then Work else Drive))); crew = true }
+
+-- the numbers that marks have: a number above them is read as a mark too, and is the number of none
+abbrev pub IsMark : ℕ → Type 0
+IsMark n = n < 8
 
 -- ---- rows of a driver
 
@@ -116,12 +121,18 @@ pub record AreKnown (t : Tables) (s : State) : Type 0 where
   pub card_spans : (n : ℕ) → HasNot n s → spans_of n t.card_spans ≡ []
   pub held : (n : ℕ) → HasNot n s → spans_of n t.held ≡ []
 
+-- the rows of both tables of spans have numbers of marks
+pub record AreMarked (t : Tables) : Type 0 where
+  pub card_spans : All (λ r. IsMark r.mark) t.card_spans
+  pub held : All (λ r. IsMark r.mark) t.held
+
 -- the tables stand for the state
 pub record IsOf (t : Tables) (s : State) : Type 0 where
   pub drivers : t.drivers ≡ map driver_columns s
   pub distinct : AreDistinct s
   pub each : IsOfEach t s
   pub known : AreKnown t s
+  pub marked : AreMarked t
 
 -- what is stored stands for the state
 unfoldable pub StandsFor : Trees → State → Type 0
@@ -169,10 +180,29 @@ pub record SameRows (t u : Tables) : Type 0 where
   pub entries : IsPermutation t.entries u.entries
   pub held : IsPermutation t.held u.held
 
--- what is read near a range, in some order, as spans
+-- both numbers are of minutes: 68428800 is the last number of one
+pub record AreMinutes (from until : ℕ) : Type 0 where
+  pub start : from ≤ 68428800
+  pub past : until ≤ 68428800
+
+-- a stored span that an archive writes: its numbers are of minutes and of a mark
+pub record IsFit (s : StoredSpan) : Type 0 where
+  pub minutes : AreMinutes s.start s.past
+  pub mark : IsMark s.mark
+
+-- a stored entry that can be listed
+abbrev pub IsListed : StoredEntry → Type 0
+IsListed it = AreMinutes it.start it.past
+
+-- a stored span as a span
 abbrev pub stored_span : StoredSpan → Span
 stored_span s = record { start = s.start; past = s.past; mark = numbered_mark s.mark }
 
+-- stored rows that have no line: not all of them are fit, or they contradict
+abbrev pub AreFaulty : List StoredSpan → Type 0
+AreFaulty rows = (¬ All IsFit rows) ⊎ ((minute : ℕ) × IsFirstConflict (Gives (map stored_span rows)) minute)
+
+-- what is read near a range, in some order
 abbrev pub IsReadNear : List SpanRow → ℕ → ℕ → ℕ → List StoredSpan → Type 0
 IsReadNear rows n start past found = IsPermutation (map span_of (filter (is_near n start past) rows)) found
 

@@ -1,5 +1,5 @@
 -- What a withdrawal is made of: the entry, and the rows that come where it was.
-use Rattle.std.specs.Prelude.{◌≡◌, ℕ, ◌++◌, List, map, false, Some, Result, Ok, Err}
+use Rattle.std.specs.Prelude.{◌≡◌, ◌⊎◌, ℕ, ◌++◌, All, List, map, false, Some, Result, Ok, Err}
 use Rattle.tacho_time.specs.declared.span.Span.{Span}
 use Rattle.tacho_time.specs.Spans.{Gives, IsCanonicalOf}
 use Rattle.tacho_line.specs.Line.{IsWithin}
@@ -10,7 +10,7 @@ use Rattle.tacho_state.specs.Steps.{withdrawn}
 use Rattle.tacho_tables.specs.declared.rows.StoredSpan.{StoredSpan}
 use Rattle.tacho_tables.specs.declared.rows.StoredEntry.{StoredEntry}
 use Rattle.tacho_tables.specs.Tables.{Tables, row_of, entry_of, with_withdrawn}
-use Rattle.tacho_store.specs.Standing.{span_row, stored_span, entry_row, IsReadNear, IsKeptNear}
+use Rattle.tacho_store.specs.Standing.{AreFaulty, AreMinutes, IsFit, span_row, stored_span, entry_row, IsReadNear, IsKeptNear}
 use Rattle.tacho_store.specs.Finding.{Refuses}
 
 -- a driver's entry that is not withdrawn, as it is stored
@@ -30,6 +30,10 @@ pub record AreRowsFor (cards others helds : List StoredSpan) (start past : ℕ) 
   pub inside : List Span
   pub given : IsCanonicalOf (λ m k. IsWithin start past m × Gives (map stored_span cards ++ map stored_span others) m k) inside
   pub all : (n : ℕ) → map (row_of n) rows ≡ map (span_row n) (outside start past (map stored_span helds) ++ inside)
+
+-- none come: the range isn't one of minutes, a held row isn't fit, or rows of cards and entries have no line
+abbrev pub HaveNoRows : List StoredSpan → List StoredSpan → List StoredSpan → ℕ → ℕ → Type 0
+HaveNoRows cards others helds start past = (¬ AreMinutes start past) ⊎ (¬ All IsFit helds) ⊎ AreFaulty (cards ++ others)
 
 -- rows that come where a driver's entry was, by what the tables keep near it
 pub record AreRenewed (t : Tables) (n number start past : ℕ) (rows : List StoredSpan) : Type 0 where

@@ -1,9 +1,9 @@
-ghost use Rattle.std.specs.Prelude.{◌≡◌, ◌⊎◌, ◌↔◌, ◌<◌, ◌≤◌, ℕ, map, IfOk, IfErr, IfSome, IsNone};
+ghost use Rattle.std.specs.Prelude.{◌≡◌, ◌↔◌, ◌<◌, ◌≤◌, ℕ, All, Err, map, IfOk, IfErr, IfSome, IsNone};
 ghost use Rattle.tacho_time.specs.OrMemory.{OrMemory};
 ghost use Rattle.tacho_time.specs.Spans.{Gives, IsCanonical, IsCanonicalOf};
 ghost use Rattle.tacho_state.specs.Disjoint.{AreInRange};
 ghost use Rattle.tacho_tables.specs.Tables.{row_of};
-ghost use Rattle.tacho_store.specs.Standing.{activity_number, mark_number, numbered_activity, numbered_mark, stored_span, span_row, listed_as};
+ghost use Rattle.tacho_store.specs.Standing.{activity_number, mark_number, numbered_activity, numbered_mark, stored_span, span_row, listed_as, IsFit, IsListed, AreFaulty};
 
 use std::alloc::{AllocError, Global};
 use tacho_line::Line;
@@ -73,7 +73,8 @@ pub fn minute_of(number: u32) -> Option<Minute>
 
 /// The span of a stored row, where an archive writes such a row.
 pub fn span_of(row: &StoredSpan) -> Option<Span>
-    ensures { IfSome result (λ span. span ≡ stored_span row.now) }
+    ensures some { IfSome result (λ span. span ≡ stored_span row.now) }
+    ensures none { IsNone result ↔ (¬ IsFit row.now) }
 {
     Some(Span {
         start: minute_of(row.start)?,
@@ -86,6 +87,7 @@ pub fn span_of(row: &StoredSpan) -> Option<Span>
 pub fn spans_of(alloc: Global, rows: &[StoredSpan]) -> Result<Vec<Span>, StoreFault>
     ensures spans { IfOk result (λ spans. spans.items ≡ map stored_span rows.now) }
     ensures fault { IfErr result (λ fault. OrMemory StoreFault.Memory fault (fault ≡ StoreFault.Store)) }
+    ensures cause { result ≡ Err StoreFault.Store → ¬ All IsFit rows.now }
 {
     let mut spans = Vec::new(alloc);
     for row in rows {
@@ -99,7 +101,8 @@ pub fn spans_of(alloc: Global, rows: &[StoredSpan]) -> Result<Vec<Span>, StoreFa
 
 /// The fault of stored rows whose spans have that fault.
 pub fn fault_of_rows(fault: SpanFault) -> StoreFault
-    ensures { (result ≡ StoreFault.Memory) ⊎ (result ≡ StoreFault.Store) }
+    ensures { OrMemory StoreFault.Memory result
+        ((result ≡ StoreFault.Store) × ((minute : ℕ) × (fault ≡ SpanFault.Contradiction minute))) }
 {
     match fault {
         SpanFault::Contradiction(_) => StoreFault::Store,
@@ -112,6 +115,7 @@ pub fn fault_of_rows(fault: SpanFault) -> StoreFault
 pub fn line_of_stored(alloc: Global, rows: &[StoredSpan]) -> Result<Line, StoreFault>
     ensures line { IfOk result (λ line. IsCanonicalOf (Gives (map stored_span rows.now)) line) }
     ensures fault { IfErr result (λ fault. OrMemory StoreFault.Memory fault (fault ≡ StoreFault.Store)) }
+    ensures cause { result ≡ Err StoreFault.Store → AreFaulty rows.now }
 {
     let spans = spans_of(alloc, rows)?;
     match line_of(alloc, &spans) {
@@ -122,7 +126,8 @@ pub fn line_of_stored(alloc: Global, rows: &[StoredSpan]) -> Result<Line, StoreF
 
 /// The entry of a stored row, where an archive writes such a row.
 fn listed_entry(row: &StoredEntry) -> Option<Entry>
-    ensures { IfSome result (λ entry. entry ≡ listed_as row.now) }
+    ensures some { IfSome result (λ entry. entry ≡ listed_as row.now) }
+    ensures none { IsNone result ↔ (¬ IsListed row.now) }
 {
     Some(Entry {
         number: row.number,
@@ -139,6 +144,7 @@ fn listed_entry(row: &StoredEntry) -> Option<Entry>
 pub fn listed_entries(alloc: Global, rows: &[StoredEntry]) -> Result<Vec<Entry>, StoreFault>
     ensures entries { IfOk result (λ entries. entries.items ≡ map listed_as rows.now) }
     ensures fault { IfErr result (λ fault. OrMemory StoreFault.Memory fault (fault ≡ StoreFault.Store)) }
+    ensures cause { result ≡ Err StoreFault.Store → ¬ All IsListed rows.now }
 {
     let mut entries = Vec::new(alloc);
     for row in rows {

@@ -1,4 +1,4 @@
-ghost use Rattle.std.specs.Prelude.{◌≡◌, ◌++◌, map, filter, not, false, IfOk, IfErr, OnOk};
+ghost use Rattle.std.specs.Prelude.{◌≡◌, ◌++◌, map, All, Err, filter, not, false, IfOk, IfErr, OnOk};
 ghost use Rattle.sqlite.specs.State.{HasCleanDisk};
 ghost use Rattle.sqlite.specs.Held.{state};
 ghost use Rattle.tacho_time.specs.OrMemory.{OrMemory};
@@ -8,11 +8,11 @@ ghost use Rattle.tacho_state.specs.Disjoint.{outside};
 ghost use Rattle.tacho_state.specs.Steps.{withdrawn};
 ghost use Rattle.tacho_tables.specs.Schema.{archive_schema};
 ghost use Rattle.tacho_tables.specs.Tables.{Tables, Stand, is_near, row_of, with_withdrawn};
-ghost use Rattle.tacho_store.specs.Standing.{stored_span};
+ghost use Rattle.tacho_store.specs.Standing.{stored_span, IsFit, AreFaulty};
 ghost use Rattle.tacho_store.specs.Calls.{Tells, Steps, ChangesWhere};
 ghost use Rattle.tacho_store.specs.Kept.{ActsOn};
 ghost use Rattle.tacho_store.specs.Apart.{AreApart, rows_of};
-ghost use Rattle.tacho_store.specs.Withdrawing.{IsEntry, AreRowsFor, AreRenewed};
+ghost use Rattle.tacho_store.specs.Withdrawing.{IsEntry, AreRowsFor, HaveNoRows, AreRenewed};
 
 use crate::fault::store_fault;
 use crate::finding::driver_with;
@@ -53,6 +53,7 @@ fn parts_outside(
 ) -> Result<Vec<Span>, StoreFault>
     ensures parts { IfOk result (λ parts. parts.items ≡ outside start past (map stored_span helds.now)) }
     ensures fault { IfErr result (λ fault. OrMemory StoreFault.Memory fault (fault ≡ StoreFault.Store)) }
+    ensures cause { result ≡ Err StoreFault.Store → ¬ All IsFit helds.now }
 {
     let spans = spans_of(alloc, helds)?;
     Ok(outside_of(alloc, &spans, start, past)?)
@@ -69,6 +70,7 @@ fn given_inside(
 ) -> Result<Vec<Span>, StoreFault>
     ensures inside { IfOk result (λ inside. IsCanonicalOf (λ m k. IsWithin start past m × Gives (map stored_span cards.now ++ map stored_span others.now) m k) inside.items) }
     ensures fault { IfErr result (λ fault. OrMemory StoreFault.Memory fault (fault ≡ StoreFault.Store)) }
+    ensures cause { result ≡ Err StoreFault.Store → AreFaulty (cards.now ++ others.now) }
 {
     let card_spans = spans_of(alloc, cards)?;
     let entered = spans_of(alloc, others)?;
@@ -90,6 +92,7 @@ fn rows_for(
 ) -> Result<Vec<StoredSpan>, StoreFault>
     ensures rows { IfOk result (λ rows. AreRowsFor cards.now others.now helds.now start past rows.items) }
     ensures fault { IfErr result (λ fault. OrMemory StoreFault.Memory fault (fault ≡ StoreFault.Store)) }
+    ensures cause { result ≡ Err StoreFault.Store → HaveNoRows cards.now others.now helds.now start past }
 {
     let Some(first) = minute_of(start) else {
         return Err(StoreFault::Store);
