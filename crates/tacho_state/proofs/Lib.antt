@@ -8,3 +8,4 @@ pub mod StepLemmas
 pub mod MapLemmas
 mod PartLemmas
 pub mod ContentLemmas
+pub mod RunLemmas

@@ -27,6 +27,11 @@ IsAnswered (Err Store) = ⊥
 IsAnswered (Err (Card fault)) = ⊥
 IsAnswered (Err fault) = Unit {0}
 
+-- it answered, and with a refusal
+abbrev pub IsRefused : {A : Type 0} → Result A StoreFault → Type 0
+IsRefused (Ok x) = ⊥
+IsRefused (Err fault) = IsAnswered {A = Unit {0}} (Err fault)
+
 -- it is not answered with the fault of a file
 abbrev pub IsOfNoFile : {A : Type 0} → Result A StoreFault → Type 0
 IsOfNoFile (Err (Card fault)) = ⊥
@@ -39,7 +44,7 @@ left (Err fault) before after = before
 
 -- A call answers by a step and leaves its state, or it gives up and leaves the one before; a refusal changes nothing of what is
 -- kept. At each moment a stop leaves a state that could be left before the call, or the step's; after an Ok the step's alone. Only
--- what can be written to answers, and once it can't nothing that a stop leaves changes any more.
+-- what can be written to answers; a refusal, and a call on what can't be written to any more, change nothing that a stop leaves.
 pub record Acts {K A B : Type 0} (stands : K → State → Type 0) (is_clean is_live : K → Type 0) (leaves : K → List State → Type 0)
     (is_same : K → K → Type 0) (view : A → B) (old new : K) (result : Result A StoreFault) (step : State → Turn B) : Type 0 where
   pub clean : is_clean new → is_clean old
@@ -51,6 +56,7 @@ pub record Acts {K A B : Type 0} (stands : K → State → Type 0) (is_clean is_
   pub live : is_clean new → OnOk result (is_live new)
   pub crash : is_clean new → (s : State) (past : List State) → stands old s → leaves old past → leaves new ((step s).after ∷ past)
   pub shut : is_clean new → ¬ is_live old → (past : List State) → leaves old past → leaves new past
+  pub refused : is_clean new → IsRefused result → (past : List State) → leaves old past → leaves new past
   pub kept : is_clean new → (s : State) → stands old s → OnOk result (leaves new ((step s).after ∷ []))
 
 -- A call that reads: it answers by the state or gives up, and changes nothing.

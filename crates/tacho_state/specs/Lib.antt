@@ -8,3 +8,4 @@ pub mod Registration
 pub mod Content
 pub mod Reported
 pub mod Acts
+pub mod Runs

@@ -15,6 +15,9 @@ ghost use Rattle.tacho_card.specs.declared.file.Part.{Part as PartValue};
 ghost use Rattle.tacho_state.specs.Content.{FileTells};
 ghost use Rattle.tacho_state.specs.Steps.{Content, most, import_own, enter_own, withdrawn};
 ghost use Rattle.tacho_state.specs.declared.imported.Imported.TheVariants.{Added, Repeated};
+ghost use Rattle.tacho_state.specs.Runs.{Call, IsRun, AreAnswered, state_after};
+
+use crate::keeper::Keeper;
 
 /// A withdrawal by range: where the spans that don't overlap the entry stay, with the parts of the others outside it
 /// and what card spans and other entries near it give inside it, they keep what the driver holds then.
@@ -112,4 +115,18 @@ pub fn held_is_a_map()
 pub fn one_content()
     ensures some { (part : PartValue) (bytes : List ℕ) → (content : Result Content CardFault) × FileTells part bytes content }
     ensures one { (part : PartValue) (bytes : List ℕ) (a b : Result Content CardFault) → FileTells part bytes a → FileTells part bytes b → a ≡ b }
+{}
+
+/// Calls of an archive, one after the other. Where all of them answered, refusals among them, what is kept stands for the
+/// state that they lead to, and a stop leaves that state. Where one more gave up, a stop leaves that state or the one that
+/// its step leads to: so every call that answered Ok is there.
+pub fn a_run_of_calls<K: Keeper>()
+    ensures stands { (calls : List Call) (old new : K) (s : State) → IsRun K.stands K.is_clean K.leaves calls old new → K.is_clean new
+        → K.stands old s → K.stands new (state_after calls s) }
+    ensures leaves { (calls : List Call) (old new : K) (s : State) → IsRun K.stands K.is_clean K.leaves calls old new → K.is_clean new
+        → AreAnswered calls → K.stands old s → K.leaves old (s ∷ []) → K.leaves new (state_after calls s ∷ []) }
+    ensures stopped { (calls : List Call) (last : Call) (old new : K) (s : State)
+        → IsRun K.stands K.is_clean K.leaves (calls ++ last ∷ []) old new → K.is_clean new
+        → AreAnswered calls → K.stands old s → K.leaves old (s ∷ [])
+        → K.leaves new (last.after (state_after calls s) ∷ state_after calls s ∷ []) }
 {}

@@ -28,6 +28,7 @@ module _ {K L : Type 0} (f : L → K) {stands : K → State → Type 0} {is_clea
     live = h.live;
     crash = h.crash;
     shut = h.shut;
+    refused = h.refused;
     kept = h.kept;
   }
 
@@ -63,6 +64,7 @@ module _ {K : Type 0} (stands : K → State → Type 0) (is_clean is_live : K �
     live = λ _. tt;
     crash = λ _ s past _ left. more k _ past left;
     shut = λ _ _ past left. left;
+    refused = λ _ _ past left. left;
     kept = λ _ s _. tt;
   }
 

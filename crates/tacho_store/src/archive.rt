@@ -97,14 +97,18 @@ impl<S: Alter> Archive<S> {
     ghost use Rattle.tacho_store.specs.Kept.{IsBlank, Shows, LeavesOneOf, IsGivenUp};
     ghost use Rattle.tacho_store.specs.Opening.{IsUnmade, IsEmptyArchive, IsAdopted, IsLeftAlone};
 
-    /// An archive of no drivers in a store without tables, made in one transaction. S12 where the store has tables. A refusal
+    /// An archive of no drivers in a store without tables, made in one transaction. S12 where the store has tables.
+    /// A refusal
     /// hands the connection back, with the store as it was.
     pub fn create(mut conn: Connection<S>) -> Result<Archive<S>, (StoreFault, Connection<S>)>
         requires { conn.in_transaction ≡ false }
-        ensures created { IfOk result (λ archive. ⟦<Archive<S> as Keeper>⟧.is_clean archive → IsBlank (state S.Store conn)
-            → IsEmptyArchive ⟦<Archive<S> as Keeper>⟧.stands ⟦<Archive<S> as Keeper>⟧.is_live ⟦<Archive<S> as Keeper>⟧.leaves archive) }
+        ensures created { IfOk result (λ archive. ⟦<Archive<S> as Keeper>⟧.is_clean archive
+            → IsBlank (state S.Store conn)
+            → IsEmptyArchive ⟦<Archive<S> as Keeper>⟧.stands ⟦<Archive<S> as Keeper>⟧.is_live
+            ⟦<Archive<S> as Keeper>⟧.leaves archive) }
         ensures taken { (state S.Store conn).now.schema.tables ≢ [] → IsErr result }
-        ensures refused { IfErr result (λ e. IsGivenUp e.0 × (e.1.in_transaction ≡ false) × IsUnmade (state S.Store conn) (state S.Store e.1)) }
+        ensures refused { IfErr result (λ e. IsGivenUp e.0 × (e.1.in_transaction ≡ false)
+            × IsUnmade (state S.Store conn) (state S.Store e.1)) }
     {
         match make(&mut conn) {
             Ok(()) => Ok(Archive { conn }),
@@ -112,13 +116,16 @@ impl<S: Alter> Archive<S> {
         }
     }
 
-    /// The archive that a store has. S12 where the store has no tables, or tables of another schema. A refusal hands the
+    /// The archive that a store has. S12 where the store has no tables, or tables of another schema. A refusal hands
+    /// the
     /// connection back, with an archive's tables of whatever version, or the store without tables, as they were.
     pub fn adopt(mut conn: Connection<S>) -> Result<Archive<S>, (StoreFault, Connection<S>)>
         requires { conn.in_transaction ≡ false }
         ensures adopted { IfOk result (λ archive. ⟦<Archive<S> as Keeper>⟧.is_clean archive
-            → IsAdopted ⟦<Archive<S> as Keeper>⟧.stands ⟦<Archive<S> as Keeper>⟧.is_live ⟦<Archive<S> as Keeper>⟧.leaves (state S.Store conn) archive) }
-        ensures refused { IfErr result (λ e. IsGivenUp e.0 × (e.1.in_transaction ≡ false) × IsLeftAlone (state S.Store conn) (state S.Store e.1)) }
+            → IsAdopted ⟦<Archive<S> as Keeper>⟧.stands ⟦<Archive<S> as Keeper>⟧.is_live
+            ⟦<Archive<S> as Keeper>⟧.leaves (state S.Store conn) archive) }
+        ensures refused { IfErr result (λ e. IsGivenUp e.0 × (e.1.in_transaction ≡ false)
+            × IsLeftAlone (state S.Store conn) (state S.Store e.1)) }
     {
         match check(&mut conn) {
             Ok(()) => Ok(Archive { conn }),
@@ -132,7 +139,8 @@ impl<S: Alter> Archive<S> {
         ensures clean { (⟦<Archive<S> as Keeper>⟧.is_clean self ↔ HasCleanDisk (state S.Store result))
             × (⟦<Archive<S> as Keeper>⟧.is_live self ↔ IsTrue (state S.Store result).is_open) }
         ensures kept { ((s : State) → ⟦<Archive<S> as Keeper>⟧.stands self s → Shows (state S.Store result) s)
-            × ((states : List State) → ⟦<Archive<S> as Keeper>⟧.leaves self states → LeavesOneOf (state S.Store result) states) }
+            × ((states : List State) → ⟦<Archive<S> as Keeper>⟧.leaves self states
+            → LeavesOneOf (state S.Store result) states) }
     {
         let Archive { conn } = self;
         conn

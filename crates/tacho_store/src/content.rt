@@ -20,8 +20,12 @@ pub struct CardContent {
 
 /// What a card file tells, read by a part; S11 where it has a fault.
 pub fn content_of(alloc: Global, part: Part, file: &[u8]) -> Result<CardContent, StoreFault>
-    ensures told { MatchResult result (λ it. FileTells part file.now (Ok (record { holder = it.holder; spans = it.spans.items })))
-        (λ fault. OrMemory StoreFault.Memory fault ((f : OwnFault) × (fault ≡ StoreFault.Card f) × FileTells part file.now (Err f))) }
+    ensures told { MatchResult result (λ it. FileTells part file.now (Ok (record {
+      holder = it.holder;
+      spans = it.spans.items;
+    })))
+        (λ fault. OrMemory StoreFault.Memory fault ((f : OwnFault) × (fault ≡ StoreFault.Card f)
+        × FileTells part file.now (Err f))) }
     ensures canonical { IfOk result (λ it. IsCanonical it.spans.items) }
 {
     let card = CardFile::read(file)?;

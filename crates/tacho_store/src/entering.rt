@@ -1,4 +1,4 @@
-ghost use Rattle.std.specs.Prelude.{◌≡◌, ◌+◌, ◌<◌, ◌^◌, None, Some, length, map, false, IfOk, MatchResult};
+ghost use Rattle.std.specs.Prelude.{◌≡◌, ◌+◌, ◌<◌, ◌^◌, Some, length, map, false, IfOk, MatchResult};
 ghost use Rattle.tacho_state.specs.Batch.{IsBatch, entry_of, batch_of};
 ghost use Rattle.tacho_state.specs.Disjoint.{AreInRange};
 ghost use Rattle.tacho_state.specs.State.{Driver, driver_of, entry_span, entered_spans};
@@ -77,7 +77,8 @@ fn gains_near<S: Alter>(
     gains_of(alloc, &line, spans)
 }
 
-/// Writes a batch: how many entries the driver has then, the rows of its lines, numbered from `first` on, and the rows of what he
+/// Writes a batch: how many entries the driver has then, the rows of its lines, numbered from `first` on, and the
+/// rows of what he
 /// holds more.
 fn write_batch<S: Alter>(
     tx: &mut Transaction<'_, S>,
@@ -129,7 +130,8 @@ fn enter_in<S: Alter>(
     lines: &[EntryLine],
 ) -> Result<Entered, StoreFault>
     requires { IsBatch lines.now }
-    ensures steps { Steps S.Store tx.old.conn tx.new.conn result (λ done. done.first) (entered driver (batch_of lines.now)) }
+    ensures steps { Steps S.Store tx.old.conn tx.new.conn result
+        (λ done. done.first) (entered driver (batch_of lines.now)) }
     ensures count { IfOk result (λ done. done.count ≡ length lines.now) }
 {
     let found = driver_with(tx, driver)?;

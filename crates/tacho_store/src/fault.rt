@@ -1,5 +1,4 @@
 ghost use Rattle.std.specs.Prelude.{◌≡◌};
-ghost use Rattle.tacho_tables.specs.declared.fault.TableFault.{TableFault as Fault};
 ghost use Rattle.tacho_store.specs.Faults.{store_fault};
 
 use tacho_state::StoreFault;

@@ -60,7 +60,8 @@ fn importer_by_number<S: Alter>(
     number: u32,
     holder: &[u8],
 ) -> Result<Importer, StoreFault>
-    ensures { Tells S.Store tx.old.conn tx.new.conn result (λ _ s. IsImporter s result (importer (Some number) holder.now s)) }
+    ensures { Tells S.Store tx.old.conn tx.new.conn result
+        (λ _ s. IsImporter s result (importer (Some number) holder.now s)) }
 {
     let driver = driver_with(tx, number)?;
     if driver.holder.as_slice() != holder {
@@ -78,7 +79,8 @@ fn importer_of<S: Alter>(
     caller: Caller,
     holder: &[u8],
 ) -> Result<Importer, StoreFault>
-    ensures { Tells S.Store tx.old.conn tx.new.conn result (λ _ s. IsImporter s result (importer (caller_number caller) holder.now s)) }
+    ensures { Tells S.Store tx.old.conn tx.new.conn result
+        (λ _ s. IsImporter s result (importer (caller_number caller) holder.now s)) }
 {
     match caller {
         Caller::Office => importer_by_holder(tx, holder),
@@ -145,7 +147,8 @@ fn add_download<S: Alter>(
     file: &[u8],
     news: &News,
 ) -> Result<Imported, StoreFault>
-    ensures steps { StepsGiven S.Store tx.old.conn tx.new.conn result (AreToAdd importer part file.now news.now) (λ done. done)
+    ensures steps { StepsGiven S.Store tx.old.conn tx.new.conn result
+        (AreToAdd importer part file.now news.now) (λ done. done)
         (λ p. import_turn part file.now p.1 p.0) }
     ensures added { (number : ℕ) → result ≡ Ok (Repeated number) → ⊥ }
 {
@@ -178,9 +181,11 @@ fn import_spans<S: Alter>(
     spans: &[Span],
 ) -> Result<Imported, StoreFault>
     requires { IsCanonical spans.now }
-    ensures steps { StepsGiven S.Store tx.old.conn tx.new.conn result (AreToImport importer part file.now spans.now) (λ done. done)
+    ensures steps { StepsGiven S.Store tx.old.conn tx.new.conn result
+        (AreToImport importer part file.now spans.now) (λ done. done)
         (λ p. import_turn part file.now spans.now p.0) }
-    ensures repeated { HasCleanDisk (state S.Store tx.new.conn.now) → (state S.Store tx.old.conn.now).now.schema ≡ archive_schema
+    ensures repeated { HasCleanDisk (state S.Store tx.new.conn.now)
+        → (state S.Store tx.old.conn.now).now.schema ≡ archive_schema
         → (number : ℕ) → result ≡ Ok (Repeated number)
         → IsUnchanged (state S.Store tx.old.conn.now) (state S.Store tx.new.conn.now) }
 {
@@ -205,7 +210,8 @@ fn import_in<S: Alter>(
     requires tells { FileTells part file.now (Ok (content_told content.now)) }
     ensures steps { Steps S.Store tx.old.conn tx.new.conn result (λ done. done)
         (imported (caller_number caller) (part_number part) file.now (Ok (content_told content.now))) }
-    ensures repeated { HasCleanDisk (state S.Store tx.new.conn.now) → (state S.Store tx.old.conn.now).now.schema ≡ archive_schema
+    ensures repeated { HasCleanDisk (state S.Store tx.new.conn.now)
+        → (state S.Store tx.old.conn.now).now.schema ≡ archive_schema
         → (number : ℕ) → result ≡ Ok (Repeated number)
         → IsUnchanged (state S.Store tx.old.conn.now) (state S.Store tx.new.conn.now) }
 {
@@ -228,7 +234,8 @@ pub fn import<S: Alter>(
     ensures autocommit { conn.new.in_transaction ≡ false }
     ensures acts { ActsOn S.Store (λ done. done) conn.old conn.new result
         (imported (caller_number caller) (part_number part) file.now (Ok (content_told content.now))) }
-    ensures repeated { HasCleanDisk (state S.Store conn.new) → (s : State) (number : ℕ) → Shows (state S.Store conn.old) s
+    ensures repeated { HasCleanDisk (state S.Store conn.new) → (s : State) (number : ℕ)
+        → Shows (state S.Store conn.old) s
         → result ≡ Ok (Repeated number) → IsSame (state S.Store conn.old) (state S.Store conn.new) }
     ensures of_no_file { IsOfNoFile result }
 {

@@ -1,4 +1,5 @@
-//! The rows of a driver near a range: those that have a minute in it, each whole. No row's minutes are another one's, so that at
+//! The rows of a driver near a range: those that have a minute in it, each whole. No row's minutes are another
+//! one's, so that at
 //! most one of them begins before the range, and the others are found by where they begin.
 
 ghost use Rattle.std.specs.Prelude.{◌≡◌, filter, not};

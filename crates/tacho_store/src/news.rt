@@ -26,7 +26,8 @@ pub fn news_of(
 ) -> Result<Option<News>, StoreFault>
     requires { IsCanonical spans.now }
     ensures { MatchResult result
-        (λ found. MatchOption found (AreGains card_line.now spans.now []) (λ news. AreNews card_line.now line.now spans.now news.card_spans.items news.held.items))
+        (λ found. MatchOption found (AreGains card_line.now spans.now [])
+        (λ news. AreNews card_line.now line.now spans.now news.card_spans.items news.held.items))
         (IsRefused card_line.now line.now spans.now) }
 {
     match gains_of(alloc, card_line, spans) {
@@ -46,7 +47,8 @@ pub fn news_of(
 /// The gains of spans against a line; S6 where they contradict it.
 pub fn gains_of(alloc: Global, line: &Line, spans: &[Span]) -> Result<Vec<Span>, StoreFault>
     requires { first_empty spans.now ≡ None }
-    ensures { MatchResult result (λ gains. AreGains line.now spans.now gains.items) (λ fault. OrMemory StoreFault.Memory fault (IsContradicted line.now spans.now fault)) }
+    ensures { MatchResult result (λ gains. AreGains line.now spans.now gains.items)
+        (λ fault. OrMemory StoreFault.Memory fault (IsContradicted line.now spans.now fault)) }
 {
     match line.gains(alloc, spans) {
         Ok(gains) => Ok(gains),

@@ -214,7 +214,8 @@ pub struct Beginning {
     pub start: u32,
 }
 
-/// Where a reading for a driver's report begins, within a transaction: S4. S12 where his base is no Monday from 2000-01-03 to
+/// Where a reading for a driver's report begins, within a transaction: S4. S12 where his base is no Monday from
+/// 2000-01-03 to
 /// the end of 2099: no archive has such a base.
 fn begin_in<S: Alter>(tx: &mut Transaction<'_, S>, driver: u32) -> Result<Beginning, StoreFault>
     ensures base { IfOk result (λ begin. IsBase begin.base × (begin.base ≤ latest)) }
@@ -250,7 +251,8 @@ fn begin<S: Alter>(conn: &mut Connection<S>, driver: u32) -> Result<Beginning, S
     Ok(found)
 }
 
-/// The report of a driver from his base on: S4. His rows are read one at a time, from the base on and up to the horizon.
+/// The report of a driver from his base on: S4. His rows are read one at a time, from the base on and up to the
+/// horizon.
 pub fn report<S: Alter>(
     alloc: Global,
     conn: &mut Connection<S>,

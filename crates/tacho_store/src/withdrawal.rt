@@ -1,4 +1,4 @@
-ghost use Rattle.std.specs.Prelude.{◌≡◌, ◌++◌, map, All, Err, filter, not, false, IfOk, IfErr, OnOk};
+ghost use Rattle.std.specs.Prelude.{◌≡◌, ◌++◌, map, All, Err, filter, not, false, IfOk, IfErr};
 ghost use Rattle.sqlite.specs.State.{HasCleanDisk};
 ghost use Rattle.sqlite.specs.Held.{state};
 ghost use Rattle.tacho_time.specs.OrMemory.{OrMemory};
@@ -68,7 +68,8 @@ fn given_inside(
     start: Minute,
     past: Minute,
 ) -> Result<Vec<Span>, StoreFault>
-    ensures inside { IfOk result (λ inside. IsCanonicalOf (λ m k. IsWithin start past m × Gives (map stored_span cards.now ++ map stored_span others.now) m k) inside.items) }
+    ensures inside { IfOk result (λ inside. IsCanonicalOf (λ m k. IsWithin start past m
+        × Gives (map stored_span cards.now ++ map stored_span others.now) m k) inside.items) }
     ensures fault { IfErr result (λ fault. OrMemory StoreFault.Memory fault (fault ≡ StoreFault.Store)) }
     ensures cause { result ≡ Err StoreFault.Store → AreFaulty (cards.now ++ others.now) }
 {
@@ -117,9 +118,11 @@ fn mark<S: Alter>(
 ) -> Result<Vec<StoredSpan>, StoreFault>
     ensures marked { ChangesWhere S.Store tx.old.conn tx.new.conn result (λ _. Unit {0})
         (λ t. record t { entries = map (with_withdrawn driver number) t.entries }) }
-    ensures renewed { HasCleanDisk (state S.Store tx.new.conn.now) → (state S.Store tx.old.conn.now).now.schema ≡ archive_schema
+    ensures renewed { HasCleanDisk (state S.Store tx.new.conn.now)
+        → (state S.Store tx.old.conn.now).now.schema ≡ archive_schema
         → IfOk result (λ rows. (t : Tables) → Stand (state S.Store tx.old.conn.now).now.trees t
-        → AreApart (rows_of driver t.card_spans) → AreApart (rows_of driver t.held) → AreRenewed t driver number start past rows.items) }
+        → AreApart (rows_of driver t.card_spans) → AreApart (rows_of driver t.held)
+        → AreRenewed t driver number start past rows.items) }
     ensures fault { IfErr result (λ fault. OrMemory StoreFault.Memory fault (fault ≡ StoreFault.Store)) }
 {
     entries::withdraw(tx, driver, number).map_err(store_fault)?;
@@ -138,7 +141,10 @@ fn rewrite<S: Alter>(
     rows: &[StoredSpan],
 ) -> Result<(), TableFault>
     ensures { ChangesWhere S.Store tx.old.conn tx.new.conn result (λ t. AreApart (rows_of driver t.held))
-        (λ t. record t { held = map (row_of driver) rows.now ++ filter (λ r. not (is_near driver start past r)) t.held }) }
+        (λ t. record t {
+          held = map (row_of driver) rows.now ++ filter
+              (λ r. not (is_near driver start past r)) t.held;
+        }) }
 {
     delete_near(tx, driver, start, past)?;
     held::insert_all(tx, driver, rows)

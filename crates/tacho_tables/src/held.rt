@@ -1,15 +1,12 @@
 //! The rows of `held`: what a driver holds
 
-ghost use Rattle.std.specs.Prelude.{◌≡◌, not, ◌++◌, ◌∷◌, map, filter, IfOk, OnOk, IsTrue, IsPermutation, MatchOption, []};
-ghost use Rattle.sqlite.specs.State.{HasCleanDisk, Survives, IsUnchanged, KeepsCommit};
-ghost use Rattle.sqlite.specs.Held.{state};
-ghost use Rattle.tacho_tables.specs.Schema.{archive_schema};
+ghost use Rattle.std.specs.Prelude.{◌≡◌, not, ◌++◌, ◌∷◌, map, filter, IfOk, IsPermutation, MatchOption, []};
 ghost use Rattle.tacho_tables.specs.Rows.{SpanRow};
 ghost use Rattle.tacho_tables.specs.Calls.{Finds, Changes};
 ghost use Rattle.std.specs.Borrow.{sem, RestsIfErr};
 ghost use Rattle.sqlite.specs.contracts.connection.Connection.{the_row};
 ghost use Rattle.tacho_tables.specs.Next.{IsAsked, BeginsOnward};
-ghost use Rattle.tacho_tables.specs.Tables.{Tables, Stand, Turns, IsLatest, is_before, is_begun, is_of, row_of, span_of};
+ghost use Rattle.tacho_tables.specs.Tables.{IsLatest, is_before, is_begun, is_of, row_of, span_of};
 
 use crate::fault::TableFault;
 use crate::rows::{StoredSpan, first_span, stored_spans};
@@ -23,7 +20,9 @@ pub fn last_before<S: Alter>(
     driver: u32,
     minute: u32,
 ) -> Result<Option<StoredSpan>, TableFault>
-    ensures { Finds S.Store tx.old.conn tx.new.conn result (λ a found. MatchOption found (filter (is_before driver minute) a.held ≡ []) (λ span. (r : SpanRow) × IsLatest r (filter (is_before driver minute) a.held) × (span ≡ span_of r))) }
+    ensures { Finds S.Store tx.old.conn tx.new.conn result
+        (λ a found. MatchOption found (filter (is_before driver minute) a.held ≡ []) (λ span. (r : SpanRow)
+        × IsLatest r (filter (is_before driver minute) a.held) × (span ≡ span_of r))) }
 {
     let rows = read(
         tx,
@@ -41,7 +40,8 @@ pub fn begun<S: Alter>(
     start: u32,
     past: u32,
 ) -> Result<Vec<StoredSpan>, TableFault>
-    ensures { Finds S.Store tx.old.conn tx.new.conn result (λ a found. IsPermutation (map span_of (filter (is_begun driver start past) a.held)) found.items) }
+    ensures { Finds S.Store tx.old.conn tx.new.conn result
+        (λ a found. IsPermutation (map span_of (filter (is_begun driver start past) a.held)) found.items) }
 {
     let rows = read(
         tx,
@@ -57,7 +57,8 @@ pub fn of_driver<S: Alter>(
     tx: &mut Transaction<'_, S>,
     driver: u32,
 ) -> Result<Vec<StoredSpan>, TableFault>
-    ensures { Finds S.Store tx.old.conn tx.new.conn result (λ a found. IsPermutation (map span_of (filter (is_of driver) a.held)) found.items) }
+    ensures { Finds S.Store tx.old.conn tx.new.conn result
+        (λ a found. IsPermutation (map span_of (filter (is_of driver) a.held)) found.items) }
 {
     let rows = read(
         tx,
@@ -74,7 +75,8 @@ pub fn delete_begun<S: Alter>(
     start: u32,
     past: u32,
 ) -> Result<(), TableFault>
-    ensures { Changes S.Store tx.old.conn tx.new.conn result (λ a. record a { held = filter (λ r. not (is_begun driver start past r)) a.held }) }
+    ensures { Changes S.Store tx.old.conn tx.new.conn result
+        (λ a. record a { held = filter (λ r. not (is_begun driver start past r)) a.held }) }
 {
     run(
         tx,
@@ -89,7 +91,8 @@ pub fn insert<S: Alter>(
     driver: u32,
     span: &StoredSpan,
 ) -> Result<(), TableFault>
-    ensures { Changes S.Store tx.old.conn tx.new.conn result (λ a. record a { held = row_of driver span.now ∷ a.held }) }
+    ensures { Changes S.Store tx.old.conn tx.new.conn result
+        (λ a. record a { held = row_of driver span.now ∷ a.held }) }
 {
     run(
         tx,
@@ -104,7 +107,8 @@ pub fn insert_all<S: Alter>(
     driver: u32,
     spans: &[StoredSpan],
 ) -> Result<(), TableFault>
-    ensures { Changes S.Store tx.old.conn tx.new.conn result (λ a. record a { held = map (row_of driver) spans.now ++ a.held }) }
+    ensures { Changes S.Store tx.old.conn tx.new.conn result
+        (λ a. record a { held = map (row_of driver) spans.now ++ a.held }) }
 {
     for span in spans {
         insert(tx, driver, span)?;

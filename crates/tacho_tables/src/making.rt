@@ -1,7 +1,7 @@
 //! How the tables are made.
 
-ghost use Rattle.std.specs.Prelude.{◌≡◌, [], ◌∷◌, Some, IfOk, OnOk, IsErr, IsTrue};
-ghost use Rattle.sqlite.specs.State.{HasCleanDisk, Survives, IsUnchanged, KeepsCommit};
+ghost use Rattle.std.specs.Prelude.{◌≡◌, [], ◌∷◌, IfOk, OnOk, IsErr};
+ghost use Rattle.sqlite.specs.State.{HasCleanDisk, KeepsCommit};
 ghost use Rattle.sqlite.specs.Held.{state};
 ghost use Rattle.tacho_tables.specs.Schema.{no_schema, schema_3, archive_schema};
 ghost use Rattle.tacho_tables.specs.Calls.{Stays, Reads};
@@ -16,9 +16,11 @@ use sqlite::{Alter, Transaction};
 /// Makes one table.
 fn make_table<S: Alter>(tx: &mut Transaction<'_, S>, text: &str) -> Result<(), TableFault>
     ensures stays { Stays S.Store tx.old.conn tx.new.conn }
-    ensures made { HasCleanDisk (state S.Store tx.new.conn.now) → (schema : _) (table : _) → (state S.Store tx.old.conn.now).now.schema ≡ schema → IsCreate schema text.now table
+    ensures made { HasCleanDisk (state S.Store tx.new.conn.now) → (schema : _) (table : _)
+        → (state S.Store tx.old.conn.now).now.schema ≡ schema → IsCreate schema text.now table
         → OnOk result (HasMade schema table (state S.Store tx.old.conn.now) (state S.Store tx.new.conn.now)) }
-    ensures keeps { HasCleanDisk (state S.Store tx.new.conn.now) → KeepsCommit (state S.Store tx.old.conn.now) (state S.Store tx.new.conn.now) }
+    ensures keeps { HasCleanDisk (state S.Store tx.new.conn.now)
+        → KeepsCommit (state S.Store tx.old.conn.now) (state S.Store tx.new.conn.now) }
 {
     run(tx, text, &[])
 }
@@ -27,8 +29,10 @@ fn make_table<S: Alter>(tx: &mut Transaction<'_, S>, text: &str) -> Result<(), T
 fn make_first<S: Alter>(tx: &mut Transaction<'_, S>) -> Result<(), TableFault>
     ensures stays { Stays S.Store tx.old.conn tx.new.conn }
     ensures made { HasCleanDisk (state S.Store tx.new.conn.now) → (state S.Store tx.old.conn.now).now.schema ≡ no_schema
-        → OnOk result (((state S.Store tx.new.conn.now).now.schema ≡ schema_3) × AreEmpty (0 ∷ 1 ∷ 4 ∷ []) (state S.Store tx.new.conn.now).now.trees) }
-    ensures keeps { HasCleanDisk (state S.Store tx.new.conn.now) → KeepsCommit (state S.Store tx.old.conn.now) (state S.Store tx.new.conn.now) }
+        → OnOk result (((state S.Store tx.new.conn.now).now.schema ≡ schema_3)
+        × AreEmpty (0 ∷ 1 ∷ 4 ∷ []) (state S.Store tx.new.conn.now).now.trees) }
+    ensures keeps { HasCleanDisk (state S.Store tx.new.conn.now)
+        → KeepsCommit (state S.Store tx.old.conn.now) (state S.Store tx.new.conn.now) }
 {
     make_table(
         tx,
@@ -47,9 +51,13 @@ fn make_first<S: Alter>(tx: &mut Transaction<'_, S>) -> Result<(), TableFault>
 /// Makes the three other tables.
 fn make_rest<S: Alter>(tx: &mut Transaction<'_, S>) -> Result<(), TableFault>
     ensures stays { Stays S.Store tx.old.conn tx.new.conn }
-    ensures made { HasCleanDisk (state S.Store tx.new.conn.now) → (state S.Store tx.old.conn.now).now.schema ≡ schema_3 → AreEmpty (0 ∷ 1 ∷ 4 ∷ []) (state S.Store tx.old.conn.now).now.trees
-        → OnOk result (((state S.Store tx.new.conn.now).now.schema ≡ archive_schema) × AreEmpty (0 ∷ 1 ∷ 4 ∷ 6 ∷ 8 ∷ 10 ∷ []) (state S.Store tx.new.conn.now).now.trees) }
-    ensures keeps { HasCleanDisk (state S.Store tx.new.conn.now) → KeepsCommit (state S.Store tx.old.conn.now) (state S.Store tx.new.conn.now) }
+    ensures made { HasCleanDisk (state S.Store tx.new.conn.now)
+        → (state S.Store tx.old.conn.now).now.schema ≡ schema_3
+        → AreEmpty (0 ∷ 1 ∷ 4 ∷ []) (state S.Store tx.old.conn.now).now.trees
+        → OnOk result (((state S.Store tx.new.conn.now).now.schema ≡ archive_schema)
+        × AreEmpty (0 ∷ 1 ∷ 4 ∷ 6 ∷ 8 ∷ 10 ∷ []) (state S.Store tx.new.conn.now).now.trees) }
+    ensures keeps { HasCleanDisk (state S.Store tx.new.conn.now)
+        → KeepsCommit (state S.Store tx.old.conn.now) (state S.Store tx.new.conn.now) }
 {
     make_table(
         tx,
@@ -68,9 +76,11 @@ fn make_rest<S: Alter>(tx: &mut Transaction<'_, S>) -> Result<(), TableFault>
 /// Makes the six tables in a store that has none, and the row that says which schema they are.
 pub fn make_all<S: Alter>(tx: &mut Transaction<'_, S>) -> Result<(), TableFault>
     ensures stays { Stays S.Store tx.old.conn tx.new.conn }
-    ensures made { HasCleanDisk (state S.Store tx.new.conn.now) → (state S.Store tx.old.conn.now).now.schema ≡ no_schema → OnOk result ((state S.Store tx.new.conn.now).now.schema ≡ archive_schema) }
-    ensures empty { HasCleanDisk (state S.Store tx.new.conn.now) → (state S.Store tx.old.conn.now).now.schema ≡ no_schema → OnOk result (Stand (state S.Store tx.new.conn.now).now.trees no_rows) }
-    ensures keeps { HasCleanDisk (state S.Store tx.new.conn.now) → KeepsCommit (state S.Store tx.old.conn.now) (state S.Store tx.new.conn.now) }
+    ensures made { HasCleanDisk (state S.Store tx.new.conn.now) → (state S.Store tx.old.conn.now).now.schema ≡ no_schema
+        → OnOk result (((state S.Store tx.new.conn.now).now.schema ≡ archive_schema)
+        × Stand (state S.Store tx.new.conn.now).now.trees no_rows) }
+    ensures keeps { HasCleanDisk (state S.Store tx.new.conn.now)
+        → KeepsCommit (state S.Store tx.old.conn.now) (state S.Store tx.new.conn.now) }
 {
     make_first(tx)?;
     make_rest(tx)?;
@@ -81,9 +91,11 @@ pub fn make_all<S: Alter>(tx: &mut Transaction<'_, S>) -> Result<(), TableFault>
 /// tables gives `TableFault::Store`.
 pub fn version<S: Alter>(tx: &mut Transaction<'_, S>) -> Result<Option<u32>, TableFault>
     ensures reads { Reads S.Store tx.old.conn tx.new.conn result }
-    ensures found { HasCleanDisk (state S.Store tx.new.conn.now) → (state S.Store tx.old.conn.now).now.schema ≡ archive_schema
+    ensures found { HasCleanDisk (state S.Store tx.new.conn.now)
+        → (state S.Store tx.old.conn.now).now.schema ≡ archive_schema
         → IfOk result (TellsVersion (state S.Store tx.old.conn.now).now.trees) }
-    ensures missing { HasCleanDisk (state S.Store tx.new.conn.now) → (state S.Store tx.old.conn.now).now.schema ≡ no_schema → IsErr result }
+    ensures missing { HasCleanDisk (state S.Store tx.new.conn.now)
+        → (state S.Store tx.old.conn.now).now.schema ≡ no_schema → IsErr result }
 {
     let rows = read(tx, "SELECT version FROM meta WHERE id = 1", &[])?;
     first_number(&rows)

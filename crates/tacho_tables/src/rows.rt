@@ -5,7 +5,7 @@ ghost use Rattle.sqlite.specs.declared.types.Value.TheVariants.{Int};
 ghost use Rattle.sqlite.specs.Order.{Row as Values};
 ghost use Rattle.tacho_tables.specs.Rows.{SpanRow, DownloadRow, EntryRow, DriverRow};
 ghost use Rattle.tacho_tables.specs.Tables.{span_of, span_shown, entry_of, entry_shown, file_shown, driver_shown};
-ghost use Rattle.tacho_tables.specs.Next.{Tells, GivesNext, IsKept};
+ghost use Rattle.tacho_tables.specs.Next.{Tells, GivesNext, IsAsked};
 
 use crate::fault::TableFault;
 use sqlite::{Alter, Row, Rows};
@@ -19,7 +19,8 @@ pub struct StoredSpan {
     pub mark: u32,
 }
 
-/// Hours that were entered by hand: their number among the driver's, minutes from `start` to before `past`, the number of the mark,
+/// Hours that were entered by hand: their number among the driver's, minutes from `start` to before `past`, the
+/// number of the mark,
 /// and 1 where they were withdrawn, else 0.
 #[derive(Clone, Copy, Debug, PartialEq, Eq)]
 pub struct StoredEntry {
@@ -65,11 +66,10 @@ fn stored_span(row: &Row) -> Result<StoredSpan, TableFault>
 /// Moves to the next row of a query on start, past and mark, and tells its span, if there is one.
 pub fn next_span<S: Alter>(rows: &mut Rows<'_, S>) -> Result<Option<StoredSpan>, TableFault>
     ensures same_reference { rows.new.conn.ghost_name ≡ rows.old.conn.ghost_name }
-    ensures gives { HasCleanDisk (state S.Store rows.new.conn.now) → IfOk result (GivesNext S.Store rows.old.conn.now rows.new.conn.now) }
-    ensures same { HasCleanDisk (state S.Store rows.new.conn.now) → OnOk result (IsUnchanged (state S.Store rows.old.conn.now) (state S.Store rows.new.conn.now)) }
-    ensures kept { HasCleanDisk (state S.Store rows.new.conn.now) → IsKept (state S.Store rows.old.conn.now) (state S.Store rows.new.conn.now) }
-    ensures mode { rows.old.conn.now.in_transaction ≡ false → rows.new.conn.now.in_transaction ≡ false }
-    ensures survives { Survives (state S.Store rows.old.conn.now) (state S.Store rows.new.conn.now) (λ _. ⊥) }
+    ensures asked { IsAsked S.Store rows.old.conn.now rows.new.conn.now }
+    ensures gives { HasCleanDisk (state S.Store rows.new.conn.now)
+        → IfOk result (λ next. GivesNext S.Store rows.old.conn.now rows.new.conn.now next
+        × IsUnchanged (state S.Store rows.old.conn.now) (state S.Store rows.new.conn.now)) }
 {
     rows.advance()?;
     let Some(row) = rows.get() else {
@@ -82,7 +82,8 @@ pub fn next_span<S: Alter>(rows: &mut Rows<'_, S>) -> Result<Option<StoredSpan>,
 /// The span that the first of such rows shows, if there is one.
 pub(crate) fn first_span(rows: &[Row]) -> Result<Option<StoredSpan>, TableFault>
     ensures none { IfOk result (λ found. IsNone found ↔ (rows.now ≡ [])) }
-    ensures some { IfOk result (λ found. IfSome found (λ s. (r : SpanRow) (more : List Values) → rows.now ≡ span_shown r ∷ more → s ≡ span_of r)) }
+    ensures some { IfOk result (λ found. IfSome found (λ s. (r : SpanRow) (more : List Values)
+        → rows.now ≡ span_shown r ∷ more → s ≡ span_of r)) }
 {
     match rows.first() {
         None => Ok(None),
@@ -92,7 +93,8 @@ pub(crate) fn first_span(rows: &[Row]) -> Result<Option<StoredSpan>, TableFault>
 
 /// The spans that such rows show.
 pub(crate) fn stored_spans(alloc: Global, rows: &[Row]) -> Result<Vec<StoredSpan>, TableFault>
-    ensures { IfOk result (λ spans. (shown : List SpanRow) → rows.now ≡ map span_shown shown → spans.items ≡ map span_of shown) }
+    ensures { IfOk result (λ spans. (shown : List SpanRow) → rows.now ≡ map span_shown shown
+        → spans.items ≡ map span_of shown) }
 {
     let mut spans = Vec::new(alloc);
     for row in rows {
@@ -104,7 +106,8 @@ pub(crate) fn stored_spans(alloc: Global, rows: &[Row]) -> Result<Vec<StoredSpan
 /// The file that the first of such rows shows, if there is one.
 pub(crate) fn first_file(rows: &[Row]) -> Result<Option<Vec<u8>>, TableFault>
     ensures none { IfOk result (λ found. IsNone found ↔ (rows.now ≡ [])) }
-    ensures some { IfOk result (λ found. IfSome found (λ bytes. (r : DownloadRow) (more : List Values) → rows.now ≡ file_shown r ∷ more → bytes.items ≡ r.file)) }
+    ensures some { IfOk result (λ found. IfSome found (λ bytes. (r : DownloadRow) (more : List Values)
+        → rows.now ≡ file_shown r ∷ more → bytes.items ≡ r.file)) }
 {
     match rows.first() {
         None => Ok(None),
@@ -115,7 +118,8 @@ pub(crate) fn first_file(rows: &[Row]) -> Result<Option<Vec<u8>>, TableFault>
 /// The number that the first of such rows shows, if there is one.
 pub(crate) fn first_number(rows: &[Row]) -> Result<Option<u32>, TableFault>
     ensures none { IfOk result (λ found. IsNone found ↔ (rows.now ≡ [])) }
-    ensures some { IfOk result (λ found. IfSome found (λ number. (n : ℕ) (more : List Values) → rows.now ≡ (Int (pos n) ∷ []) ∷ more → number ≡ n)) }
+    ensures some { IfOk result (λ found. IfSome found (λ number. (n : ℕ) (more : List Values)
+        → rows.now ≡ (Int (pos n) ∷ []) ∷ more → number ≡ n)) }
 {
     match rows.first() {
         None => Ok(None),
@@ -126,8 +130,10 @@ pub(crate) fn first_number(rows: &[Row]) -> Result<Option<u32>, TableFault>
 /// The driver that the first of such rows shows, if there is one.
 pub(crate) fn first_driver(rows: &[Row]) -> Result<Option<StoredDriver>, TableFault>
     ensures none { IfOk result (λ found. IsNone found ↔ (rows.now ≡ [])) }
-    ensures some { IfOk result (λ found. IfSome found (λ d. (r : DriverRow) (more : List Values) → rows.now ≡ driver_shown r ∷ more
-        → (d.holder.items ≡ r.holder) × (d.base ≡ r.base) × (string_bytes d.name ≡ r.name) × (d.downloads ≡ r.downloads) × (d.entries ≡ r.entries))) }
+    ensures some { IfOk result (λ found. IfSome found (λ d. (r : DriverRow) (more : List Values)
+        → rows.now ≡ driver_shown r ∷ more
+        → (d.holder.items ≡ r.holder) × (d.base ≡ r.base) × (string_bytes d.name ≡ r.name)
+        × (d.downloads ≡ r.downloads) × (d.entries ≡ r.entries))) }
 {
     match rows.first() {
         None => Ok(None),
@@ -156,7 +162,8 @@ fn stored_entry(row: &Row) -> Result<StoredEntry, TableFault>
 
 /// The entries that such rows show.
 pub(crate) fn stored_entries(alloc: Global, rows: &[Row]) -> Result<Vec<StoredEntry>, TableFault>
-    ensures { IfOk result (λ entries. (shown : List EntryRow) → rows.now ≡ map entry_shown shown → entries.items ≡ map entry_of shown) }
+    ensures { IfOk result (λ entries. (shown : List EntryRow) → rows.now ≡ map entry_shown shown
+        → entries.items ≡ map entry_of shown) }
 {
     let mut entries = Vec::new(alloc);
     for row in rows {
@@ -168,7 +175,8 @@ pub(crate) fn stored_entries(alloc: Global, rows: &[Row]) -> Result<Vec<StoredEn
 /// The entry that the first of such rows shows, if there is one.
 pub(crate) fn first_entry(rows: &[Row]) -> Result<Option<StoredEntry>, TableFault>
     ensures none { IfOk result (λ found. IsNone found ↔ (rows.now ≡ [])) }
-    ensures some { IfOk result (λ found. IfSome found (λ e. (r : EntryRow) (more : List Values) → rows.now ≡ entry_shown r ∷ more → e ≡ entry_of r)) }
+    ensures some { IfOk result (λ found. IfSome found (λ e. (r : EntryRow) (more : List Values)
+        → rows.now ≡ entry_shown r ∷ more → e ≡ entry_of r)) }
 {
     match rows.first() {
         None => Ok(None),

@@ -1,5 +1,5 @@
 use Rattle.std.proofs.Common.{rules}
-use Rattle.tacho_store.proofs.MappedLemmas.{on_ok_mapped, on_ok_both}
+use Rattle.tacho_store.proofs.MappedLemmas.{on_ok_mapped}
 use Rattle.tacho_store.proofs.EmptyLemmas.{empty_stands}
 use Rattle.tacho_store.proofs.archive.make_in.Goals as goal
 
@@ -9,5 +9,5 @@ returns-clause-makes g c = record {
   keeps = search rules;
   made = λ clean blank.
       on_ok_mapped c.make_all.result c.map_err.result _ _ _ (λ both. (both.0, empty_stands _ both.1)) c.map_err.ensures.cases
-      (on_ok_both c.make_all.result _ _ (c.make_all.ensures.made clean blank) (c.make_all.ensures.empty clean blank));
+      (c.make_all.ensures.made clean blank);
 }
