@@ -32,3 +32,4 @@ mod ReportLemmas
 mod RangedLemmas
 mod TakenLemmas
 mod BegunLemmas
+mod StopLemmas

@@ -19,6 +19,7 @@ shuffled columns rows all other same s = stands_shuffled columns rows all other 
 -- and so do all five tables
 pub any_order_stands : (db : Trees) (t u : Tables) → SameRows t u → Stand db t → Stand db u
 any_order_stands db t u same s = record {
+  sound = s.sound;
   meta = s.meta;
   drivers = numbered_shuffled (db 1) t.drivers u.drivers s.drivers (IsPermutation-sym t.drivers u.drivers same.drivers);
   downloads = shuffled download_columns (db 4) t.downloads u.downloads same.downloads s.downloads;

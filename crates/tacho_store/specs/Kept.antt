@@ -12,10 +12,10 @@ use Rattle.tacho_state.specs.Acts.{Acts, Reads}
 use Rattle.tacho_tables.specs.Schema.{no_schema, archive_schema}
 use Rattle.tacho_store.specs.Standing.{StandsFor}
 
--- what is stored stands for one of these states
-abbrev pub StandsAmong : Trees → List State → Type 0
-StandsAmong db [] = ⊥
-StandsAmong db (s ∷ states) = StandsFor db s ⊎ StandsAmong db states
+-- this is true of one of the states
+abbrev pub IsOfOne : (State → Type 0) → List State → Type 0
+IsOfOne fact [] = ⊥
+IsOfOne fact (s ∷ states) = fact s ⊎ IsOfOne fact states
 
 -- the connection sees no tables
 abbrev pub IsBlank : Sqlite → Type 0
@@ -29,9 +29,9 @@ Holds c s = (c.now.schema ≡ archive_schema) × StandsFor c.now.trees s
 abbrev pub Shows : Sqlite → State → Type 0
 Shows c s = IsTrue c.is_open → Holds c s
 
--- whatever a stop now leaves stands for one of these states
+-- whatever a stop now leaves is an archive's database, and stands for one of these states
 abbrev pub LeavesOneOf : Sqlite → List State → Type 0
-LeavesOneOf c states = (db : Trees) → c.may_leave db → StandsAmong db states
+LeavesOneOf c states = (db : Trees) → c.may_leave db → IsOfOne (StandsFor db) states
 
 -- it gave up: there was no memory, or the store failed
 abbrev pub IsGivenUp : StoreFault → Type 0

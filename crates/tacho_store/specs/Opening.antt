@@ -72,7 +72,7 @@ module _ {K : Type 0} (stands : K → State → Type 0) (is_live : K → Type 0)
 
   -- the archive that a store had, of schema 1
   pub record IsAdopted (old : Sqlite) (archive : K) : Type 0 where
-    pub held : (s : State) → Holds old s → stands archive s
+    pub held : (s : State) → StandsFor old.now.trees s → stands archive s
     pub live : is_live archive
     pub left : (states : List State) → LeavesOneOf old states → leaves archive states
     pub found : ¬ IsBlank old

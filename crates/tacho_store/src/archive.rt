@@ -127,6 +127,7 @@ impl<S: Alter> Archive<S> {
         ensures refused { IfErr result (λ e. IsGivenUp e.0 × (e.1.in_transaction ≡ false)
             × IsLeftAlone (state S.Store conn) (state S.Store e.1)) }
     {
+        let _sound = conn.schema();
         match check(&mut conn) {
             Ok(()) => Ok(Archive { conn }),
             Err(fault) => Err((fault, conn)),

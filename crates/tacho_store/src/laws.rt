@@ -4,6 +4,7 @@
 
 ghost use Rattle.std.specs.Prelude.{◌≡◌, ◌↔◌, ℕ, ◌+◌, ◌++◌, List, [], ◌∷◌, None, Some, Ok, length, map, filter, Contains};
 ghost use Rattle.sqlite.specs.Tree.{Trees};
+ghost use Rattle.sqlite.specs.Held.{state};
 ghost use Rattle.tacho_time.specs.Spans.{Gives, IsCanonicalOf};
 ghost use Rattle.tacho_time.specs.declared.span.Span.{Span};
 ghost use Rattle.tacho_line.specs.Line.{AreGains, IsWithin};
@@ -15,11 +16,27 @@ ghost use Rattle.tacho_state.specs.Steps.{Content, file_of};
 ghost use Rattle.tacho_tables.specs.declared.rows.StoredSpan.{StoredSpan as StoredValue};
 ghost use Rattle.tacho_tables.specs.Rows.{DriverRow, DownloadRow, EntryRow, SpanRow};
 ghost use Rattle.tacho_tables.specs.Tables.{Tables, Stand, no_rows, has_number, has_secret, has_holder, is_download, is_entry, is_entry_of, with_withdrawn};
+ghost use Rattle.tacho_store.specs.Kept.{IsOfOne, LeavesOneOf};
+ghost use Rattle.tacho_store.specs.Opening.{IsAdopted};
 ghost use Rattle.tacho_store.specs.Standing.{IsOf, SameRows, spans_of, driver_columns, with_driver, with_rebased, entry_row, entry_rows, with_imported, with_entered, with_renewed, stored_span, IsReadNear, IsKeptNear};
+
+use crate::archive::Archive;
+use sqlite::{Alter, Connection};
+use tacho_state::Keeper;
 
 /// What is stored stands for lists of rows in any order.
 pub fn any_order()
     ensures { (db : Trees) (t u : Tables) → SameRows t u → Stand db t → Stand db u }
+{}
+
+/// What a stop leaves is found again: an archive that is adopted where these trees are found stands for one of the
+/// states that the stop could leave.
+pub fn a_stop_is_found_again<S: Alter>(left: &Connection<S>, found: &Connection<S>, archive: &Archive<S>)
+    ensures { (states : List State) → LeavesOneOf (state S.Store left.now) states
+        → (state S.Store left.now).may_leave (state S.Store found.now).now.trees
+        → IsAdopted ⟦<Archive<S> as Keeper>⟧.stands ⟦<Archive<S> as Keeper>⟧.is_live
+        ⟦<Archive<S> as Keeper>⟧.leaves (state S.Store found.now) archive.now
+        → IsOfOne (⟦<Archive<S> as Keeper>⟧.stands archive.now) states }
 {}
 
 /// Empty tables stand for the state with no drivers.

@@ -48,6 +48,6 @@ all_added driver number all old now last = record {
       let it = last.rows a s in
       let db = now.now.trees in
       let more = all ++ a.entries in
-      with_entries db db (record a { entries = it.0 }) more (λ _. refl, (λ _. refl, (λ _. refl, (λ _. refl, (λ _. refl, (λ _. refl, tt)))))) it.1
+      with_entries db db (record a { entries = it.0 }) more it.1.sound (λ _. refl, (λ _. refl, (λ _. refl, (λ _. refl, (λ _. refl, (λ _. refl, tt)))))) it.1
       (stands_shuffled entry_columns (db 8) it.0 more it.1.entries (IsPermutation-map entry_columns more it.0 it.2));
 }

@@ -42,7 +42,7 @@ adds_download old new x count has h =
           let it = subst (λ rs. Stands download_columns rs (x ∷ a.downloads)) (sym stored)
           (stands_put download_columns rows a.downloads (next_rowid rows) x s.downloads free) in
           subst (λ t. Stand t (record a { downloads = x ∷ a.downloads })) (sym (ap (λ d. d.trees) e.now_is))
-          (with_downloads old.now.trees e.next a (x ∷ a.downloads) e.applies.tables s it);
+          (with_downloads old.now.trees e.next a (x ∷ a.downloads) e.sound e.applies.tables s it);
     }
 
 -- the tests of a reading by number are those of a row

@@ -53,7 +53,7 @@ adds_driver old new driver holder secret base name count has h =
       stands = λ a s.
           let it = subst (λ rs. StandNumbered rs (x ∷ a.drivers)) (sym stored) (numbered_put (db 1) a.drivers x s.drivers free) in
           subst (λ t. Stand t (record a { drivers = x ∷ a.drivers })) (sym (ap (λ d. d.trees) e.now_is))
-          (with_drivers db e.next a (x ∷ a.drivers) e.applies.tables s it);
+          (with_drivers db e.next a (x ∷ a.drivers) e.sound e.applies.tables s it);
     }
 
 -- ---- readings
@@ -119,7 +119,7 @@ module _ (old new : State) (driver value count : ℕ) (has : old.now.schema ≡ 
             (λ (r : Row). eval_all terms (params ∷ r ∷ [])) new_of change finds makes e.0 found fresh in
             let it = subst (λ rs. StandNumbered rs all) (sym rows) turned in
             subst (λ ts. Stand ts (record a { drivers = all })) (sym (ap (λ d. d.trees) e.2.now_is))
-            (with_drivers db e.2.next a all e.2.applies.tables s it);
+            (with_drivers db e.2.next a all e.2.sound e.2.applies.tables s it);
       }
     where
       number_passes : (x : DriverRow) → passes (column_is 0) params (driver_row x) ≡ has_number driver x

@@ -50,7 +50,7 @@ deletes_begun old new driver start past count has h =
           let left = stands_left span_columns (db 10) a.held s.held (passes begun params) (is_begun driver start past) (begun_is driver start past) e.0 found in
           let rest = filter (λ r. not (is_begun driver start past r)) a.held in
           let held = subst (λ rs. Stands span_columns rs rest) (sym e.2.applies.rows) left in
-          subst (λ t. Stand t (record a { held = rest })) (sym (ap (λ d. d.trees) e.2.now_is)) (with_held db e.2.next a rest e.2.applies.tables s held);
+          subst (λ t. Stand t (record a { held = rest })) (sym (ap (λ d. d.trees) e.2.now_is)) (with_held db e.2.next a rest e.2.sound e.2.applies.tables s held);
     }
 
 -- ---- entries
@@ -73,7 +73,7 @@ adds_entry old new driver number x count has h =
       schema = ap (λ d. d.schema) e.now_is;
       stands = λ a s.
           let it = subst (λ rs. Stands entry_columns rs (row ∷ a.entries)) (sym stored) (stands_put entry_columns rows a.entries (next_rowid rows) row s.entries free) in
-          subst (λ t. Stand t (record a { entries = row ∷ a.entries })) (sym (ap (λ d. d.trees) e.now_is)) (with_entries old.now.trees e.next a (row ∷ a.entries) e.applies.tables s it);
+          subst (λ t. Stand t (record a { entries = row ∷ a.entries })) (sym (ap (λ d. d.trees) e.now_is)) (with_entries old.now.trees e.next a (row ∷ a.entries) e.sound e.applies.tables s it);
     }
 
 -- the tests of a reading by number are those of an entry
@@ -115,7 +115,7 @@ withdraws old new driver number count has h =
           (λ id x. rw (cast_int id, cast_int (pos x.driver), cast_int (pos x.number), cast_int (pos x.start), cast_int (pos x.past), cast_int (pos x.mark), cast_int (pos 1)) refl)
           (λ v x. rw (cast_int (pos x.driver), cast_int (pos x.number), cast_int (pos x.start), cast_int (pos x.past), cast_int (pos x.mark), cast_int (pos 1)) refl) e.0 found fresh in
           let it = subst (λ rs. Stands entry_columns rs all) (sym rows) turned in
-          subst (λ ts. Stand ts (record a { entries = all })) (sym (ap (λ d. d.trees) e.2.now_is)) (with_entries db e.2.next a all e.2.applies.tables s it);
+          subst (λ ts. Stand ts (record a { entries = all })) (sym (ap (λ d. d.trees) e.2.now_is)) (with_entries db e.2.next a all e.2.sound e.2.applies.tables s it);
     }
 
 -- a reading shows this of the entries that pass

@@ -2,6 +2,7 @@
 use Rattle.std.proofs.Common.{◌≡◌, ◌≢◌, ℕ, List, sym, subst, ◌∙◌, arith}
 use Rattle.std.specs.List.{AllByRecursion}
 use Rattle.sqlite.specs.Tree.{Trees}
+use Rattle.sqlite_catalog.specs.Listing.{IsSound}
 use Rattle.tacho_tables.specs.Schema.{archive_schema}
 use Rattle.tacho_tables.specs.Rows.{Stands, StandNumbered, SpanRow, DownloadRow, EntryRow, DriverRow, span_columns, download_columns, entry_columns}
 use Rattle.tacho_tables.specs.Tables.{Tables, Stand}
@@ -11,9 +12,10 @@ abbrev pub AreKept : ℕ → Trees → Trees → Type 0
 AreKept tree db next = AllByRecursion (λ t. t.tree ≢ tree → next t.tree ≡ db t.tree) archive_schema.tables
 
 -- only the rows of held changed
-pub with_held : (db next : Trees) (a : Tables) (held : List SpanRow) → AreKept 10 db next → Stand db a → Stands span_columns (next 10) held
+pub with_held : (db next : Trees) (a : Tables) (held : List SpanRow) → IsSound archive_schema next → AreKept 10 db next → Stand db a → Stands span_columns (next 10) held
     → Stand next (record a { held = held })
-with_held db next a held kept s it = record {
+with_held db next a held sound kept s it = record {
+  sound = sound;
   meta = kept.0 (λ e. omega (arith, e)) ∙ s.meta;
   drivers = subst (λ rows. StandNumbered rows a.drivers) (sym (kept.1.0 (λ e. omega (arith, e)))) s.drivers;
   downloads = subst (λ rows. Stands download_columns rows a.downloads) (sym (kept.1.1.0 (λ e. omega (arith, e)))) s.downloads;
@@ -23,9 +25,10 @@ with_held db next a held kept s it = record {
 }
 
 -- only the rows of card_spans changed
-pub with_card_spans : (db next : Trees) (a : Tables) (card_spans : List SpanRow) → AreKept 6 db next → Stand db a
+pub with_card_spans : (db next : Trees) (a : Tables) (card_spans : List SpanRow) → IsSound archive_schema next → AreKept 6 db next → Stand db a
     → Stands span_columns (next 6) card_spans → Stand next (record a { card_spans = card_spans })
-with_card_spans db next a card_spans kept s it = record {
+with_card_spans db next a card_spans sound kept s it = record {
+  sound = sound;
   meta = kept.0 (λ e. omega (arith, e)) ∙ s.meta;
   drivers = subst (λ rows. StandNumbered rows a.drivers) (sym (kept.1.0 (λ e. omega (arith, e)))) s.drivers;
   downloads = subst (λ rows. Stands download_columns rows a.downloads) (sym (kept.1.1.0 (λ e. omega (arith, e)))) s.downloads;
@@ -35,9 +38,10 @@ with_card_spans db next a card_spans kept s it = record {
 }
 
 -- only the rows of downloads changed
-pub with_downloads : (db next : Trees) (a : Tables) (downloads : List DownloadRow) → AreKept 4 db next → Stand db a
+pub with_downloads : (db next : Trees) (a : Tables) (downloads : List DownloadRow) → IsSound archive_schema next → AreKept 4 db next → Stand db a
     → Stands download_columns (next 4) downloads → Stand next (record a { downloads = downloads })
-with_downloads db next a downloads kept s it = record {
+with_downloads db next a downloads sound kept s it = record {
+  sound = sound;
   meta = kept.0 (λ e. omega (arith, e)) ∙ s.meta;
   drivers = subst (λ rows. StandNumbered rows a.drivers) (sym (kept.1.0 (λ e. omega (arith, e)))) s.drivers;
   downloads = it;
@@ -47,9 +51,10 @@ with_downloads db next a downloads kept s it = record {
 }
 
 -- only the rows of drivers changed
-pub with_drivers : (db next : Trees) (a : Tables) (drivers : List DriverRow) → AreKept 1 db next → Stand db a
+pub with_drivers : (db next : Trees) (a : Tables) (drivers : List DriverRow) → IsSound archive_schema next → AreKept 1 db next → Stand db a
     → StandNumbered (next 1) drivers → Stand next (record a { drivers = drivers })
-with_drivers db next a drivers kept s it = record {
+with_drivers db next a drivers sound kept s it = record {
+  sound = sound;
   meta = kept.0 (λ e. omega (arith, e)) ∙ s.meta;
   drivers = it;
   downloads = subst (λ rows. Stands download_columns rows a.downloads) (sym (kept.1.1.0 (λ e. omega (arith, e)))) s.downloads;
@@ -59,9 +64,10 @@ with_drivers db next a drivers kept s it = record {
 }
 
 -- only the rows of entries changed
-pub with_entries : (db next : Trees) (a : Tables) (entries : List EntryRow) → AreKept 8 db next → Stand db a → Stands entry_columns (next 8) entries
+pub with_entries : (db next : Trees) (a : Tables) (entries : List EntryRow) → IsSound archive_schema next → AreKept 8 db next → Stand db a → Stands entry_columns (next 8) entries
     → Stand next (record a { entries = entries })
-with_entries db next a entries kept s it = record {
+with_entries db next a entries sound kept s it = record {
+  sound = sound;
   meta = kept.0 (λ e. omega (arith, e)) ∙ s.meta;
   drivers = subst (λ rows. StandNumbered rows a.drivers) (sym (kept.1.0 (λ e. omega (arith, e)))) s.drivers;
   downloads = subst (λ rows. Stands download_columns rows a.downloads) (sym (kept.1.1.0 (λ e. omega (arith, e)))) s.downloads;

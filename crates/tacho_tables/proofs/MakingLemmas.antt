@@ -96,6 +96,7 @@ makes_archive old new count has none h =
     let kept = e.applies.tables in (
       ap (λ d. d.schema) e.now_is,
       subst (λ db. Stand db no_rows) (sym (ap (λ d. d.trees) e.now_is)) (record {
+        sound = e.sound;
         meta = stored;
         drivers = no_driver_stands (e.next 1) (kept.1.0 (λ e. omega (arith, e)) ∙ none.1.0);
         downloads = nothing_stands download_columns (e.next 4) (kept.1.1.0 (λ e. omega (arith, e)) ∙ none.1.1.0);

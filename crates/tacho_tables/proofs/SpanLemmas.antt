@@ -23,6 +23,7 @@ use Rattle.tacho_tables.specs.Tables.{Tables, Stand, Turns, is_before, is_begun,
 use Rattle.tacho_tables.proofs.Answers.{passes, listed, shows, eq_test, lt_test, le_test}
 use Rattle.tacho_tables.proofs.Stored.{stands_put, stands_shuffled, shown_of}
 use Rattle.tacho_tables.proofs.Idle.{idle}
+use Rattle.sqlite_catalog.specs.Listing.{IsSound}
 use Rattle.tacho_tables.proofs.Kept.{AreKept, with_held, with_card_spans}
 use Rattle.tacho_tables.proofs.Statements.{IsStatement, IsReading, four, before, begun, own, three_shown, by_start, span_names}
 use Rattle.tacho_tables.proofs.Writes.{flat, inserted, cast_null, cast_int}
@@ -33,7 +34,7 @@ pub record IsSpanTable (at tree : ℕ) (name : List ℕ) (get : Tables → List 
   pub got : (xs : List SpanRow) (a : Tables) → get (put xs a) ≡ xs
   pub again : (xs ys : List SpanRow) (a : Tables) → put ys (put xs a) ≡ put ys a
   pub stands : (db : Trees) (a : Tables) → Stand db a → Stands span_columns (db tree) (get a)
-  pub changed : (db next : Trees) (a : Tables) (xs : List SpanRow) → AreKept tree db next → Stand db a → Stands span_columns (next tree) xs → Stand next (put xs a)
+  pub changed : (db next : Trees) (a : Tables) (xs : List SpanRow) → IsSound archive_schema next → AreKept tree db next → Stand db a → Stands span_columns (next tree) xs → Stand next (put xs a)
 
 -- held, and what is read and set of it
 abbrev pub get_held : Tables → List SpanRow
@@ -123,7 +124,7 @@ module _ {at tree : ℕ} {name : List ℕ} {get : Tables → List SpanRow} {put 
         stands = λ a s.
             let more = x ∷ get a in
             let it = subst (λ rs. Stands span_columns rs more) (sym stored) (stands_put span_columns rows (get a) (next_rowid rows) x (table.stands old.now.trees a s) free) in
-            subst (λ db. Stand db (put more a)) (sym (ap (λ d. d.trees) e.now_is)) (table.changed old.now.trees e.next a more e.applies.tables s it);
+            subst (λ db. Stand db (put more a)) (sym (ap (λ d. d.trees) e.now_is)) (table.changed old.now.trees e.next a more e.sound e.applies.tables s it);
       }
 
   -- one more was added
@@ -150,5 +151,5 @@ module _ {at tree : ℕ} {name : List ℕ} {get : Tables → List SpanRow} {put 
         let more = map (row_of driver) all ++ get a in
         let some = subst (Stands span_columns (db tree)) (table.got it.0 a) (table.stands db (put it.0 a) it.1) in
         subst (Stand db) (table.again it.0 more a)
-        (table.changed db db (put it.0 a) more (λ _. refl, (λ _. refl, (λ _. refl, (λ _. refl, (λ _. refl, (λ _. refl, tt)))))) it.1 (stands_shuffled span_columns (db tree) it.0 more some (IsPermutation-map span_columns more it.0 it.2)));
+        (table.changed db db (put it.0 a) more it.1.sound (λ _. refl, (λ _. refl, (λ _. refl, (λ _. refl, (λ _. refl, (λ _. refl, tt)))))) it.1 (stands_shuffled span_columns (db tree) it.0 more some (IsPermutation-map span_columns more it.0 it.2)));
   }

@@ -4,6 +4,7 @@ use Rattle.sqlite.specs.declared.types.Value.TheVariants.{Null, Int, Text, Blob}
 use Rattle.sqlite.specs.Order.{Row}
 use Rattle.sqlite.specs.Tree.{Trees}
 use Rattle.sqlite.specs.State.{State}
+use Rattle.sqlite_catalog.specs.Listing.{IsSound}
 use Rattle.tacho_tables.specs.declared.rows.StoredSpan.{StoredSpan}
 use Rattle.tacho_tables.specs.declared.rows.StoredEntry.{StoredEntry}
 use Rattle.tacho_tables.specs.Schema.{archive_schema}
@@ -21,8 +22,9 @@ pub record Tables : Type 0 where
 abbrev pub IsVersion : ℕ → Trees → Type 0
 IsVersion version db = db tree.meta_rows ≡ (Int (pos 1) ∷ Null ∷ Int (pos version) ∷ []) ∷ []
 
--- what is stored stands for these lists; their order means nothing
+-- what is stored is an archive's database, and stands for these lists; their order means nothing
 pub record Stand (db : Trees) (a : Tables) : Type 0 where
+  pub sound : IsSound archive_schema db
   pub meta : IsVersion 1 db
   pub drivers : StandNumbered (db tree.driver_rows) a.drivers
   pub downloads : Stands download_columns (db tree.download_rows) a.downloads

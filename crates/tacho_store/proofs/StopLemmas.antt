@@ -1,0 +1,32 @@
+-- What a stop leaves is found again.
+use Rattle.std.proofs.Common.{◌≡◌, List, [], ◌∷◌, IsTrue, inl, inr, sym, subst}
+use Rattle.sqlite.specs.Effect.{Database}
+use Rattle.sqlite.specs.State.{State as Sqlite, IsLive}
+use Rattle.tacho_state.specs.State.{State}
+use Rattle.tacho_tables.specs.Schema.{archive_schema}
+use Rattle.tacho_tables.proofs.CatalogLemmas.{is_archive}
+use Rattle.tacho_store.specs.Standing.{StandsFor}
+use Rattle.tacho_store.specs.Kept.{Shows, IsOfOne, LeavesOneOf}
+use Rattle.tacho_store.specs.Opening.{IsKnown, IsAdopted}
+
+-- a connection that shows what one showed that had found a database whose rows stand for the state
+pub shows_found : (old new : Sqlite) → IsLive old → (IsTrue new.is_open → IsTrue old.is_open)
+    → (IsTrue new.is_open → IsKnown old → new.now ≡ old.now) → (s : State) → StandsFor old.now.trees s → Shows new s
+unfolding StandsFor
+shows_found old new live was_open same s it opened =
+    let has = is_archive old.now it.0 it.1 (live (was_open opened)).0 in
+    subst (λ (d : Database). (d.schema ≡ archive_schema) × StandsFor d.trees s) (sym (same opened (inl has))) (has, it)
+
+-- what follows of a fact is true of one of the states where the fact is
+one_weaker : (fact other : State → Type 0) → ((s : State) → fact s → other s) → (states : List State) → IsOfOne fact states
+    → IsOfOne other states
+one_weaker fact other f [] none = none
+one_weaker fact other f (s ∷ states) (inl is) = inl (f s is)
+one_weaker fact other f (s ∷ states) (inr more) = inr (one_weaker fact other f states more)
+
+-- an archive that is adopted where a stop has left its trees stands for one of the states
+pub found_again : (K : Type 0) (stands : K → State → Type 0) (is_live : K → Type 0) (leaves : K → List State → Type 0)
+    (left found : Sqlite) (archive : K) (states : List State) → LeavesOneOf left states → left.may_leave found.now.trees
+    → IsAdopted stands is_live leaves found archive → IsOfOne (stands archive) states
+found_again K stands is_live leaves left found archive states leave may it =
+    one_weaker _ (stands archive) it.held states (leave found.now.trees may)
