@@ -12,13 +12,13 @@ ghost use Rattle.tacho_store.specs.Entering.{AreNumbered, AreToEnter, enter_turn
 
 use crate::fault::store_fault;
 use crate::finding::driver_with;
-use crate::near::helds_near;
+use crate::near::rows_near;
 use crate::news::gains_of;
 use crate::spans::{line_of_stored, stored};
 use sqlite::{Alter, Connection, Transaction};
 use std::alloc::{AllocError, Global};
 use tacho_state::{Entered, EntryLine, StoreFault, first_number};
-use tacho_tables::{StoredSpan, TableFault, drivers, entries, held};
+use tacho_tables::{SpanTable, StoredSpan, TableFault, drivers, entries, spans};
 use tacho_time::{Mark, Span};
 
 /// What a line gives: nobody drives with him.
@@ -72,7 +72,7 @@ fn gains_near<S: Alter>(
         (λ fault. Refuses fault (enter_own (batch_of lines.now) d))) }
 {
     let (start, past) = range_of_lines(lines);
-    let helds = helds_near(alloc, tx, driver, start, past).map_err(store_fault)?;
+    let helds = rows_near(alloc, tx, SpanTable::Held, driver, start, past).map_err(store_fault)?;
     let line = line_of_stored(alloc, &helds)?;
     gains_of(alloc, &line, spans)
 }
@@ -94,7 +94,7 @@ fn write_batch<S: Alter>(
 {
     drivers::set_entries(tx, driver, count)?;
     entries::insert_all(tx, driver, first, rows)?;
-    held::insert_all(tx, driver, helds)
+    spans::insert_all(tx, SpanTable::Held, driver, helds)
 }
 
 /// Adds the lines of a batch to a driver who has `given` entries: S14. All memory is taken before the first write.

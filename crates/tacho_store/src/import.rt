@@ -17,14 +17,14 @@ ghost use Rattle.tacho_store.specs.Importing.{importer, IsImporter, AreDecided, 
 use crate::content::CardContent;
 use crate::fault::store_fault;
 use crate::finding::driver_with;
-use crate::near::{cards_near, helds_near};
+use crate::near::rows_near;
 use crate::news::{News, news_of};
 use crate::spans::{line_of_stored, range_of, stored};
 use sqlite::{Alter, Connection, Transaction};
 use std::alloc::Global;
 use tacho_card::Part;
 use tacho_state::{Caller, Imported, StoreFault, first_number};
-use tacho_tables::{StoredSpan, TableFault, card_spans, downloads, drivers, held};
+use tacho_tables::{SpanTable, StoredSpan, TableFault, downloads, drivers, spans};
 use tacho_time::Span;
 
 /// The driver whom an import is for, and how many downloads he has.
@@ -101,8 +101,8 @@ fn news_near<S: Alter>(
         → AreDecided db s driver d spans.now result) }
 {
     let (start, past) = range_of(spans);
-    let cards = cards_near(alloc, tx, driver, start, past).map_err(store_fault)?;
-    let helds = helds_near(alloc, tx, driver, start, past).map_err(store_fault)?;
+    let cards = rows_near(alloc, tx, SpanTable::CardSpans, driver, start, past).map_err(store_fault)?;
+    let helds = rows_near(alloc, tx, SpanTable::Held, driver, start, past).map_err(store_fault)?;
     let card_line = line_of_stored(alloc, &cards)?;
     let line = line_of_stored(alloc, &helds)?;
     news_of(alloc, &card_line, &line, spans)
@@ -123,8 +123,8 @@ fn write_download<S: Alter>(
 {
     drivers::set_downloads(tx, driver, number)?;
     downloads::insert(tx, driver, number, part, file)?;
-    card_spans::insert_all(tx, driver, cards)?;
-    held::insert_all(tx, driver, helds)
+    spans::insert_all(tx, SpanTable::CardSpans, driver, cards)?;
+    spans::insert_all(tx, SpanTable::Held, driver, helds)
 }
 
 /// How a part is stored: 0 both, 1 first, 2 second.

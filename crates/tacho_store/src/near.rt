@@ -1,9 +1,9 @@
 //! The rows of a driver near a range: those that have a minute in it, each whole. No row's minutes are another
-//! one's, so that at
-//! most one of them begins before the range, and the others are found by where they begin.
+//! one's, so that at most one of them begins before the range, and the others are found by where they begin.
 
 ghost use Rattle.std.specs.Prelude.{◌≡◌, filter, not};
 ghost use Rattle.tacho_tables.specs.Calls.{Finds};
+ghost use Rattle.tacho_tables.specs.Spans.{spans_in};
 ghost use Rattle.tacho_tables.specs.Tables.{is_near};
 ghost use Rattle.tacho_store.specs.Standing.{IsReadNear};
 ghost use Rattle.tacho_store.specs.Apart.{AreApart, rows_of, near_from};
@@ -11,7 +11,7 @@ ghost use Rattle.tacho_store.specs.Calls.{ChangesWhere};
 
 use sqlite::{Alter, Transaction};
 use std::alloc::Global;
-use tacho_tables::{StoredSpan, TableFault, card_spans, held};
+use tacho_tables::{SpanTable, StoredSpan, TableFault, held, spans};
 
 /// Where the first row near a range begins, by the latest row that begins before the range.
 pub fn first_start(before: Option<StoredSpan>, start: u32, past: u32) -> u32
@@ -23,34 +23,20 @@ pub fn first_start(before: Option<StoredSpan>, start: u32, past: u32) -> u32
     }
 }
 
-/// What a driver's downloads give near a range.
-pub fn cards_near<S: Alter>(
+/// What a driver's downloads give near a range, or what he holds there.
+pub fn rows_near<S: Alter>(
     alloc: Global,
     tx: &mut Transaction<'_, S>,
+    table: SpanTable,
     driver: u32,
     start: u32,
     past: u32,
 ) -> Result<Vec<StoredSpan>, TableFault>
-    ensures { Finds S.Store tx.old.conn tx.new.conn result (λ t found. AreApart (rows_of driver t.card_spans)
-        → IsReadNear t.card_spans driver start past found.items) }
+    ensures { Finds S.Store tx.old.conn tx.new.conn result (λ t found. AreApart (rows_of driver (spans_in table t))
+        → IsReadNear (spans_in table t) driver start past found.items) }
 {
-    let before = card_spans::last_before(tx, driver, start)?;
-    card_spans::begun(alloc, tx, driver, first_start(before, start, past), past)
-}
-
-/// What a driver holds near a range.
-pub fn helds_near<S: Alter>(
-    alloc: Global,
-    tx: &mut Transaction<'_, S>,
-    driver: u32,
-    start: u32,
-    past: u32,
-) -> Result<Vec<StoredSpan>, TableFault>
-    ensures { Finds S.Store tx.old.conn tx.new.conn result (λ t found. AreApart (rows_of driver t.held)
-        → IsReadNear t.held driver start past found.items) }
-{
-    let before = held::last_before(tx, driver, start)?;
-    held::begun(alloc, tx, driver, first_start(before, start, past), past)
+    let before = spans::last_before(tx, table, driver, start)?;
+    spans::begun(alloc, tx, table, driver, first_start(before, start, past), past)
 }
 
 /// Removes what a driver holds near a range.
@@ -63,6 +49,6 @@ pub fn delete_near<S: Alter>(
     ensures { ChangesWhere S.Store tx.old.conn tx.new.conn result (λ t. AreApart (rows_of driver t.held))
         (λ t. record t { held = filter (λ r. not (is_near driver start past r)) t.held }) }
 {
-    let before = held::last_before(tx, driver, start)?;
+    let before = spans::last_before(tx, SpanTable::Held, driver, start)?;
     held::delete_begun(tx, driver, first_start(before, start, past), past)
 }

@@ -15,7 +15,7 @@ ghost use Rattle.tacho_store.specs.Begun.{IsBegun};
 use crate::fault::store_fault;
 use crate::feeding::feed_held;
 use crate::finding::driver_with;
-use crate::near::{first_start, helds_near};
+use crate::near::{first_start, rows_near};
 use crate::spans::{line_of_stored, listed_entries};
 use sqlite::{Alter, Connection, Transaction};
 use std::alloc::Global;
@@ -23,7 +23,7 @@ use tacho_line::Line;
 use tacho_pass::Found;
 use tacho_rules::{Report, Scan};
 use tacho_state::{Entry, StoreFault, base_of};
-use tacho_tables::{downloads, drivers, entries, held, opening};
+use tacho_tables::{SpanTable, downloads, drivers, entries, held, opening, spans};
 use tacho_time::Minute;
 
 /// The driver whose key this is, within a transaction.
@@ -147,7 +147,7 @@ fn line_within_in<S: Alter>(
         (λ _ s. Answers (λ _. tt) result (reported driver s) × IfOk result (IsHeldWithin driver start past s)) }
 {
     driver_with(tx, driver)?;
-    let rows = helds_near(alloc, tx, driver, start.number(), past.number()).map_err(store_fault)?;
+    let rows = rows_near(alloc, tx, SpanTable::Held, driver, start.number(), past.number()).map_err(store_fault)?;
     line_of_stored(alloc, &rows)
 }
 
@@ -227,7 +227,7 @@ fn begin_in<S: Alter>(tx: &mut Transaction<'_, S>, driver: u32) -> Result<Beginn
         return Err(StoreFault::Store);
     };
     let first = base.number();
-    let before = held::last_before(tx, driver, first).map_err(store_fault)?;
+    let before = spans::last_before(tx, SpanTable::Held, driver, first).map_err(store_fault)?;
     Ok(Beginning {
         base,
         start: first_start(before, first, first + 1),

@@ -16,12 +16,12 @@ ghost use Rattle.tacho_store.specs.Withdrawing.{IsEntry, AreRowsFor, HaveNoRows,
 
 use crate::fault::store_fault;
 use crate::finding::driver_with;
-use crate::near::{cards_near, delete_near, helds_near};
+use crate::near::{delete_near, rows_near};
 use crate::spans::{fault_of_rows, minute_of, spans_of, stored};
 use sqlite::{Alter, Connection, Transaction};
 use std::alloc::Global;
 use tacho_state::{StoreFault, inside_of, outside_of};
-use tacho_tables::{StoredEntry, StoredSpan, TableFault, entries, held};
+use tacho_tables::{SpanTable, StoredEntry, StoredSpan, TableFault, entries, spans};
 use tacho_time::{Minute, Span};
 
 /// A driver's entry that is not withdrawn: S4, S7, S8.
@@ -126,9 +126,9 @@ fn mark<S: Alter>(
     ensures fault { IfErr result (λ fault. OrMemory StoreFault.Memory fault (fault ≡ StoreFault.Store)) }
 {
     entries::withdraw(tx, driver, number).map_err(store_fault)?;
-    let cards = cards_near(alloc, tx, driver, start, past).map_err(store_fault)?;
+    let cards = rows_near(alloc, tx, SpanTable::CardSpans, driver, start, past).map_err(store_fault)?;
     let others = entries::kept_near(alloc, tx, driver, start, past).map_err(store_fault)?;
-    let helds = helds_near(alloc, tx, driver, start, past).map_err(store_fault)?;
+    let helds = rows_near(alloc, tx, SpanTable::Held, driver, start, past).map_err(store_fault)?;
     rows_for(alloc, &cards, &others, &helds, start, past)
 }
 
@@ -147,7 +147,7 @@ fn rewrite<S: Alter>(
         }) }
 {
     delete_near(tx, driver, start, past)?;
-    held::insert_all(tx, driver, rows)
+    spans::insert_all(tx, SpanTable::Held, driver, rows)
 }
 
 /// Withdraws a driver's entry, within a transaction: S4, S7, S8.

@@ -26,7 +26,7 @@ use Rattle.tacho_tables.proofs.Stored.{stands_put, stands_left, shown_of}
 use Rattle.tacho_tables.proofs.Updates.{stands_updated}
 use Rattle.tacho_tables.proofs.Idle.{idle}
 use Rattle.tacho_tables.proofs.Kept.{with_held, with_entries}
-use Rattle.tacho_tables.proofs.SpanLemmas.{and-true, none_given, begun_is}
+use Rattle.tacho_tables.proofs.SpanLemmas.{and-true, none_given, tests_begun}
 use Rattle.tacho_tables.proofs.Statements.{IsReading, begun, own, numbered, held_delete_text, held_delete_is, new_entry, entry_insert_text, entry_insert_is, withdrawn_shown, withdraw_text, withdraw_is, kept_near}
 use Rattle.tacho_tables.proofs.Writes.{inserted, deleted, updated, cast_null, cast_int}
 
@@ -47,7 +47,7 @@ deletes_begun old new driver start past count has h =
     record {
       schema = ap (λ d. d.schema) e.2.now_is;
       stands = λ a s.
-          let left = stands_left span_columns (db 10) a.held s.held (passes begun params) (is_begun driver start past) (begun_is driver start past) e.0 found in
+          let left = stands_left span_columns (db 10) a.held s.held (passes begun params) (is_begun driver start past) (tests_begun driver start past) e.0 found in
           let rest = filter (λ r. not (is_begun driver start past r)) a.held in
           let held = subst (λ rs. Stands span_columns rs rest) (sym e.2.applies.rows) left in
           subst (λ t. Stand t (record a { held = rest })) (sym (ap (λ d. d.trees) e.2.now_is)) (with_held db e.2.next a rest e.2.sound e.2.applies.tables s held);

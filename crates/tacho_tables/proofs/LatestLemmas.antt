@@ -23,7 +23,7 @@ use Rattle.tacho_tables.specs.declared.rows.StoredSpan.{StoredSpan}
 use Rattle.tacho_tables.specs.Tables.{IsLatest, is_before, span_of, span_shown}
 use Rattle.tacho_tables.proofs.Answers.{simple, passes, listed_first}
 use Rattle.tacho_tables.proofs.Reading.{none_of_none}
-use Rattle.tacho_tables.proofs.SpanLemmas.{before_is, none_given}
+use Rattle.tacho_tables.proofs.SpanLemmas.{tests_before, none_given}
 use Rattle.tacho_tables.proofs.SortedLemmas.{sorted_before}
 use Rattle.tacho_tables.proofs.Statements.{IsReadingFirst, before, three_shown, by_start_down, span_names}
 use Rattle.tacho_tables.proofs.Stored.{shown_of}
@@ -93,7 +93,7 @@ finds_latest text tree it driver minute old new rows has h all s found none some
     let wanted = filter (is_before driver minute) all in
     let got = reads_as text params old new archive_schema has _ it.meant it.plain it.unlisted rows h in
     let l = listed_first tree before three_shown by_start_down (overlay db []) params rows (got.answer Null) in
-    let passed = shown_of span_columns (db tree) all s (passes before params) (is_before driver minute) (before_is driver minute) (λ (r : Row). output q (params ∷ r ∷ [])) shown_as (λ v x. refl) in
+    let passed = shown_of span_columns (db tree) all s (passes before params) (is_before driver minute) (tests_before driver minute) (λ (r : Row). output q (params ∷ r ∷ [])) shown_as (λ v x. refl) in
     let same = IsPermutation-trans _ _ _ passed (rw (none_given db tree) at l.same) in
     let back = pull_back shown_as _ l.all same wanted refl in
     let sorted = sorted_before shown_as (λ a b. is_lt (output_cmp q a b)) (λ x y. nat_lt y.start x.start) back.0 (by_starts tree) (subst (IsSorted (output_cmp q)) back.2 l.sorted) in

@@ -3,7 +3,7 @@ use Rattle.std.proofs.Common.{◌≡◌, codes, ℕ, pos, ◌==◌, ◌^◌, leb
 use Rattle.std.specs.Prelude.{nat_lt, nat_le}
 use Rattle.std.specs.List.Sorted.{IsPermutation}
 use Rattle.std.proofs.lemmas.Bool.{and_parts, not-true}
-use Rattle.std.proofs.lemmas.List.Sorted.{IsPermutation-trans, IsPermutation-sym, IsPermutation-map, IsPermutation-middle}
+use Rattle.std.proofs.lemmas.List.Sorted.{IsPermutation-refl, IsPermutation-trans, IsPermutation-sym, IsPermutation-map, IsPermutation-middle}
 use Rattle.sqlite.specs.declared.types.Value.{Value}
 use Rattle.sqlite.specs.declared.types.Value.TheVariants.{Null, Int}
 use Rattle.sqlite.specs.Command.TheVariants.{Insert}
@@ -19,46 +19,36 @@ use Rattle.sqlite.proofs.Callers.{reads_as}
 use Rattle.tacho_tables.specs.Schema.{archive_schema, to_driver, spans}
 use Rattle.tacho_tables.specs.Rows.{Stands, SpanRow, span_columns}
 use Rattle.tacho_tables.specs.declared.rows.StoredSpan.{StoredSpan}
+use Rattle.tacho_tables.specs.declared.spans.SpanTable.{SpanTable}
+use Rattle.tacho_tables.specs.declared.spans.SpanTable.TheVariants.{CardSpans, Held}
+use Rattle.tacho_tables.specs.Spans.{spans_in, with_spans, rows_of}
 use Rattle.tacho_tables.specs.Tables.{Tables, Stand, Turns, is_before, is_begun, is_of, span_shown, span_of, row_of}
 use Rattle.tacho_tables.proofs.Answers.{passes, listed, shows, eq_test, lt_test, le_test}
 use Rattle.tacho_tables.proofs.Stored.{stands_put, stands_shuffled, shown_of}
 use Rattle.tacho_tables.proofs.Idle.{idle}
 use Rattle.sqlite_catalog.specs.Listing.{IsSound}
 use Rattle.tacho_tables.proofs.Kept.{AreKept, with_held, with_card_spans}
-use Rattle.tacho_tables.proofs.Statements.{IsStatement, IsReading, four, before, begun, own, three_shown, by_start, span_names}
+use Rattle.tacho_tables.proofs.Statements.{IsStatement, IsReading, four, before, begun, own, three_shown, by_start, span_names, place_of}
 use Rattle.tacho_tables.proofs.Writes.{flat, inserted, cast_null, cast_int}
 
 -- a table of spans: its place, its tree and its name, and the list that its rows stand for
 pub record IsSpanTable (at tree : ℕ) (name : List ℕ) (get : Tables → List SpanRow) (put : List SpanRow → Tables → Tables) : Type 0 where
   pub place : slice_get archive_schema.tables at ≡ Some (flat name tree (spans name).columns None (1 ∷ 2 ∷ []) ((1 ∷ 2 ∷ []) ∷ []) (spans name).orders [] (to_driver ∷ []))
   pub got : (xs : List SpanRow) (a : Tables) → get (put xs a) ≡ xs
+  pub same : (a : Tables) → put (get a) a ≡ a
   pub again : (xs ys : List SpanRow) (a : Tables) → put ys (put xs a) ≡ put ys a
   pub stands : (db : Trees) (a : Tables) → Stand db a → Stands span_columns (db tree) (get a)
   pub changed : (db next : Trees) (a : Tables) (xs : List SpanRow) → IsSound archive_schema next → AreKept tree db next → Stand db a → Stands span_columns (next tree) xs → Stand next (put xs a)
 
--- held, and what is read and set of it
-abbrev pub get_held : Tables → List SpanRow
-get_held a = a.held
+-- its name
+abbrev pub name_of : SpanTable → List ℕ
+name_of CardSpans = codes "card_spans"
+name_of Held = codes "held"
 
--- sets held
-abbrev pub put_held : List SpanRow → Tables → Tables
-put_held xs a = record a { held = xs }
-
--- held is such a table
-pub held_table : IsSpanTable 5 10 (codes "held") get_held put_held
-held_table = record { place = refl; got = λ xs a. refl; again = λ xs ys a. refl; stands = λ db a s. s.held; changed = with_held }
-
--- card_spans, and what is read and set of it
-abbrev pub get_card : Tables → List SpanRow
-get_card a = a.card_spans
-
--- sets card_spans
-abbrev pub put_card : List SpanRow → Tables → Tables
-put_card xs a = record a { card_spans = xs }
-
--- card_spans is such a table
-pub card_table : IsSpanTable 3 6 (codes "card_spans") get_card put_card
-card_table = record { place = refl; got = λ xs a. refl; again = λ xs ys a. refl; stands = λ db a s. s.card_spans; changed = with_card_spans }
+-- each of the two is such a table
+pub span_table : (table : SpanTable) → IsSpanTable (place_of table) (rows_of table) (name_of table) (spans_in table) (with_spans table)
+span_table CardSpans = record { place = refl; got = λ xs a. refl; same = λ a. refl; again = λ xs ys a. refl; stands = λ db a s. s.card_spans; changed = with_card_spans }
+span_table Held = record { place = refl; got = λ xs a. refl; same = λ a. refl; again = λ xs ys a. refl; stands = λ db a s. s.held; changed = with_held }
 
 -- true is neutral
 pub and-true : (b : Bool) → (b && true) ≡ b
@@ -66,12 +56,12 @@ and-true true = refl
 and-true false = refl
 
 -- the tests of a reading of what begins in a range are those of a row
-pub begun_is : (driver start past : ℕ) (v : Value) (x : SpanRow) → passes begun (Int (pos driver) ∷ Int (pos start) ∷ Int (pos past) ∷ []) (v ∷ span_columns x) ≡ is_begun driver start past x
-begun_is driver start past v x = rw (eq_test x.driver driver, le_test start x.start, lt_test x.start past) (ap (λ b. (x.driver == driver) && (nat_le start x.start && b)) (and-true (nat_lt x.start past)))
+pub tests_begun : (driver start past : ℕ) (v : Value) (x : SpanRow) → passes begun (Int (pos driver) ∷ Int (pos start) ∷ Int (pos past) ∷ []) (v ∷ span_columns x) ≡ is_begun driver start past x
+tests_begun driver start past v x = rw (eq_test x.driver driver, le_test start x.start, lt_test x.start past) (ap (λ b. (x.driver == driver) && (nat_le start x.start && b)) (and-true (nat_lt x.start past)))
 
 -- and those of a reading of what begins before a minute
-pub before_is : (driver minute : ℕ) (v : Value) (x : SpanRow) → passes before (Int (pos driver) ∷ Int (pos minute) ∷ []) (v ∷ span_columns x) ≡ is_before driver minute x
-before_is driver minute v x = rw (eq_test x.driver driver, lt_test x.start minute) (ap (λ b. (x.driver == driver) && b) (and-true (nat_lt x.start minute)))
+pub tests_before : (driver minute : ℕ) (v : Value) (x : SpanRow) → passes before (Int (pos driver) ∷ Int (pos minute) ∷ []) (v ∷ span_columns x) ≡ is_before driver minute x
+tests_before driver minute v x = rw (eq_test x.driver driver, lt_test x.start minute) (ap (λ b. (x.driver == driver) && b) (and-true (nat_lt x.start minute)))
 
 -- a query has no earlier tables to read
 pub none_given : (db : Trees) (t : ℕ) → overlay db [] t ≡ db t
@@ -126,6 +116,13 @@ module _ {at tree : ℕ} {name : List ℕ} {get : Tables → List SpanRow} {put 
             let it = subst (λ rs. Stands span_columns rs more) (sym stored) (stands_put span_columns rows (get a) (next_rowid rows) x (table.stands old.now.trees a s) free) in
             subst (λ db. Stand db (put more a)) (sym (ap (λ d. d.trees) e.now_is)) (table.changed old.now.trees e.next a more e.sound e.applies.tables s it);
       }
+
+  -- before the first is added
+  pub all_left : (driver : ℕ) (all : List StoredSpan) (now : State) → now.now.schema ≡ archive_schema → HasLeft get put driver all all now now
+  all_left driver all now has = record {
+    schema = has;
+    rows = λ a stood. (get a, subst (Stand now.now.trees) (sym (table.same a)) stood, IsPermutation-refl (map (row_of driver) all ++ get a));
+  }
 
   -- one more was added
   pub leaves_one_less : (driver : ℕ) (all left : List StoredSpan) (s : StoredSpan) (old mid now : State) → HasLeft get put driver all (s ∷ left) old mid → Turns mid now (λ a. put (row_of driver s ∷ get a) a)

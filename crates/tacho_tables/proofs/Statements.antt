@@ -14,6 +14,9 @@ use Rattle.sqlite.specs.Listing.{understood, reads_listing, listing_schema}
 use Rattle.sqlite.proofs.Callers.{IsPlain, command_of}
 use Rattle.sqlite_resolve.specs.declared.error.CompileError.TheVariants.{NoSuchTable}
 use Rattle.tacho_tables.specs.Schema.{archive_schema, no_schema}
+use Rattle.tacho_tables.specs.declared.spans.SpanTable.{SpanTable}
+use Rattle.tacho_tables.specs.declared.spans.SpanTable.TheVariants.{CardSpans, Held}
+use Rattle.tacho_tables.specs.Spans.{rows_of, before_text, begun_text, insert_text}
 use Rattle.tacho_tables.proofs.Answers.{simple, first_of}
 
 -- the text is this statement, which reads no clock
@@ -91,34 +94,32 @@ pub version_is_unknown : understood no_schema version_text ≡ Err NoSuchTable
 unfolding understood listing_schema everything
 version_is_unknown = refl
 
+-- ---- the tables of spans
+
+-- its place among the tables
+abbrev pub place_of : SpanTable → ℕ
+place_of CardSpans = 3
+place_of Held = 5
+
+-- what the text that adds a span means
+pub insert_is : (table : SpanTable) → IsStatement (insert_text table) (Insert (place_of table) (Values four 5))
+unfolding understood everything
+insert_is CardSpans = record { meant = refl; plain = (refl, refl) }
+insert_is Held = record { meant = refl; plain = (refl, refl) }
+
+-- what the text means that reads the latest span that begins before a minute
+pub before_is : (table : SpanTable) → IsReadingFirst (before_text table) (rows_of table) before three_shown by_start_down span_names
+unfolding understood everything
+before_is CardSpans = record { meant = refl; unlisted = refl; plain = (refl, refl) }
+before_is Held = record { meant = refl; unlisted = refl; plain = (refl, refl) }
+
+-- what the text means that reads the spans that begin in a range
+pub begun_is : (table : SpanTable) → IsReading (begun_text table) (rows_of table) begun three_shown by_start span_names
+unfolding understood everything
+begun_is CardSpans = record { meant = refl; unlisted = refl; plain = (refl, refl) }
+begun_is Held = record { meant = refl; unlisted = refl; plain = (refl, refl) }
+
 -- ---- held
-
--- the text that adds a span
-abbrev pub held_insert_text : List ℕ
-held_insert_text = codes "INSERT INTO held (driver, start, past, mark) VALUES (?1, ?2, ?3, ?4)"
-
--- the text that reads the latest span that begins before a minute
-abbrev pub held_before_text : List ℕ
-held_before_text = codes "SELECT start, past, mark FROM held WHERE driver = ?1 AND start < ?2 ORDER BY start DESC LIMIT 1"
-
--- the text that reads the spans that begin in a range
-abbrev pub held_begun_text : List ℕ
-held_begun_text = codes "SELECT start, past, mark FROM held WHERE driver = ?1 AND ?2 <= start AND start < ?3 ORDER BY start"
-
--- what the first means
-pub held_insert_is : IsStatement held_insert_text (Insert 5 (Values four 5))
-unfolding understood everything
-held_insert_is = record { meant = refl; plain = (refl, refl) }
-
--- what the second means
-pub held_before_is : IsReadingFirst held_before_text 10 before three_shown by_start_down span_names
-unfolding understood everything
-held_before_is = record { meant = refl; unlisted = refl; plain = (refl, refl) }
-
--- what the third means
-pub held_begun_is : IsReading held_begun_text 10 begun three_shown by_start span_names
-unfolding understood everything
-held_begun_is = record { meant = refl; unlisted = refl; plain = (refl, refl) }
 
 -- the text that reads all spans of a driver
 abbrev pub held_own_text : List ℕ
@@ -137,35 +138,6 @@ held_delete_text = codes "DELETE FROM held WHERE driver = ?1 AND ?2 <= start AND
 pub held_delete_is : IsStatement held_delete_text (Delete 5 (record { lets = []; body = simple 10 begun (col 1 0 ∷ []) [] }))
 unfolding understood everything
 held_delete_is = record { meant = refl; plain = (refl, refl) }
-
--- ---- card_spans
-
--- the text that adds a span
-abbrev pub card_insert_text : List ℕ
-card_insert_text = codes "INSERT INTO card_spans (driver, start, past, mark) VALUES (?1, ?2, ?3, ?4)"
-
--- the text that reads the latest span that begins before a minute
-abbrev pub card_before_text : List ℕ
-card_before_text = codes "SELECT start, past, mark FROM card_spans WHERE driver = ?1 AND start < ?2 ORDER BY start DESC LIMIT 1"
-
--- the text that reads the spans that begin in a range
-abbrev pub card_begun_text : List ℕ
-card_begun_text = codes "SELECT start, past, mark FROM card_spans WHERE driver = ?1 AND ?2 <= start AND start < ?3 ORDER BY start"
-
--- what the first means
-pub card_insert_is : IsStatement card_insert_text (Insert 3 (Values four 5))
-unfolding understood everything
-card_insert_is = record { meant = refl; plain = (refl, refl) }
-
--- what the second means
-pub card_before_is : IsReadingFirst card_before_text 6 before three_shown by_start_down span_names
-unfolding understood everything
-card_before_is = record { meant = refl; unlisted = refl; plain = (refl, refl) }
-
--- what the third means
-pub card_begun_is : IsReading card_begun_text 6 begun three_shown by_start span_names
-unfolding understood everything
-card_begun_is = record { meant = refl; unlisted = refl; plain = (refl, refl) }
 
 -- ---- downloads
 

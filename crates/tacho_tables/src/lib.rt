@@ -2,7 +2,6 @@
 //! within a transaction.
 #![tactic(auto)]
 
-pub mod card_spans;
 pub mod downloads;
 pub mod drivers;
 pub mod entries;
@@ -11,7 +10,9 @@ pub mod held;
 pub mod making;
 pub mod opening;
 mod rows;
+pub mod spans;
 mod statement;
 
 pub use fault::TableFault;
 pub use rows::{StoredDriver, StoredEntry, StoredSpan, next_span};
+pub use spans::SpanTable;

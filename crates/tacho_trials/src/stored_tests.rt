@@ -13,7 +13,7 @@ use std::test::Fail;
 use tacho_card::Part;
 use tacho_state::{Caller, Imported, Keeper, StoreFault};
 use tacho_store::{Archive, open_memory};
-use tacho_tables::{StoredSpan, card_spans, held};
+use tacho_tables::{SpanTable, StoredSpan, spans};
 use tacho_time::{Activity, Mark, Minute, Span};
 
 /// The first minute of Monday 2024-03-04.
@@ -64,8 +64,8 @@ fn archive_of(
     take(rt, alloc, &mut archive, "stored rows", &[REGISTER_ANNA])?;
     let mut conn = archive.close();
     let mut tx = conn.transaction();
-    card_spans::insert_all(&mut tx, 17, cards)?;
-    held::insert_all(&mut tx, 17, helds)?;
+    spans::insert_all(&mut tx, SpanTable::CardSpans, 17, cards)?;
+    spans::insert_all(&mut tx, SpanTable::Held, 17, helds)?;
     tx.commit()?;
     Ok(adopted(conn)?)
 }

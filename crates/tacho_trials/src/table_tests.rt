@@ -5,8 +5,8 @@ use sqlite::{Alter, Connection, Transaction};
 use std::alloc::Global;
 use std::test::Fail;
 use tacho_tables::{
-    StoredDriver, StoredEntry, StoredSpan, TableFault, card_spans, downloads, drivers, entries,
-    held, making,
+    SpanTable, StoredDriver, StoredEntry, StoredSpan, TableFault, downloads, drivers, entries, held,
+    making, spans,
 };
 
 /// A span of the test.
@@ -100,21 +100,22 @@ fn held_spans_by_where_they_begin(rt: HostRuntime) -> Result<(), Fail> {
     let mut tx = conn.transaction();
     making::make_all(&mut tx)?;
     drivers::insert(&mut tx, 17, &[0x0d, 0x44], "anna-key-1", 19_786, "Anna")?;
-    held::insert_all(
+    spans::insert_all(
         &mut tx,
+        SpanTable::Held,
         17,
         &[span(300, 400, 1), span(100, 200, 3), span(200, 210, 2)],
     )?;
-    let middle = held::begun(alloc, &mut tx, 17, 200, 300)?;
+    let middle = spans::begun(alloc, &mut tx, SpanTable::Held, 17, 200, 300)?;
     assert_same(&rt, middle.as_slice(), [span(200, 210, 2)].as_slice());
-    let all = held::begun(alloc, &mut tx, 17, 100, 301)?;
+    let all = spans::begun(alloc, &mut tx, SpanTable::Held, 17, 100, 301)?;
     assert_same(
         &rt,
         all.as_slice(),
         [span(100, 200, 3), span(200, 210, 2), span(300, 400, 1)].as_slice(),
     );
-    assert!(rt; held::begun(alloc, &mut tx, 18, 100, 301)?.is_empty());
-    assert!(rt; card_spans::begun(alloc, &mut tx, 17, 100, 301)?.is_empty());
+    assert!(rt; spans::begun(alloc, &mut tx, SpanTable::Held, 18, 100, 301)?.is_empty());
+    assert!(rt; spans::begun(alloc, &mut tx, SpanTable::CardSpans, 17, 100, 301)?.is_empty());
     Ok(())
 }
 
@@ -125,28 +126,28 @@ fn the_latest_span_before_a_minute(rt: HostRuntime) -> Result<(), Fail> {
     making::make_all(&mut tx)?;
     drivers::insert(&mut tx, 17, &[0x0d, 0x44], "anna-key-1", 19_786, "Anna")?;
     let spans = [span(300, 400, 1), span(100, 200, 3), span(200, 210, 2)];
-    held::insert_all(&mut tx, 17, &spans)?;
-    card_spans::insert_all(&mut tx, 17, &spans[1..])?;
-    assert_same(&rt, held::last_before(&mut tx, 17, 100)?, None);
+    spans::insert_all(&mut tx, SpanTable::Held, 17, &spans)?;
+    spans::insert_all(&mut tx, SpanTable::CardSpans, 17, &spans[1..])?;
+    assert_same(&rt, spans::last_before(&mut tx, SpanTable::Held, 17, 100)?, None);
     assert_same(
         &rt,
-        held::last_before(&mut tx, 17, 101)?,
+        spans::last_before(&mut tx, SpanTable::Held, 17, 101)?,
         Some(span(100, 200, 3)),
     );
     assert_same(
         &rt,
-        held::last_before(&mut tx, 17, 300)?,
+        spans::last_before(&mut tx, SpanTable::Held, 17, 300)?,
         Some(span(200, 210, 2)),
     );
     assert_same(
         &rt,
-        held::last_before(&mut tx, 17, 900)?,
+        spans::last_before(&mut tx, SpanTable::Held, 17, 900)?,
         Some(span(300, 400, 1)),
     );
-    assert_same(&rt, held::last_before(&mut tx, 18, 900)?, None);
+    assert_same(&rt, spans::last_before(&mut tx, SpanTable::Held, 18, 900)?, None);
     assert_same(
         &rt,
-        card_spans::last_before(&mut tx, 17, 900)?,
+        spans::last_before(&mut tx, SpanTable::CardSpans, 17, 900)?,
         Some(span(200, 210, 2)),
     );
     Ok(())
@@ -158,8 +159,8 @@ fn card_spans_and_a_download(rt: HostRuntime) -> Result<(), Fail> {
     let mut tx = conn.transaction();
     making::make_all(&mut tx)?;
     drivers::insert(&mut tx, 17, &[0x0d, 0x44], "anna-key-1", 19_786, "Anna")?;
-    card_spans::insert_all(&mut tx, 17, &[span(100, 200, 3), span(200, 210, 2)])?;
-    let first = card_spans::begun(rt.alloc(), &mut tx, 17, 0, 200)?;
+    spans::insert_all(&mut tx, SpanTable::CardSpans, 17, &[span(100, 200, 3), span(200, 210, 2)])?;
+    let first = spans::begun(rt.alloc(), &mut tx, SpanTable::CardSpans, 17, 0, 200)?;
     assert_same(&rt, first.as_slice(), [span(100, 200, 3)].as_slice());
     downloads::insert(&mut tx, 17, 1, 0, &[1, 2, 3])?;
     downloads::insert(&mut tx, 17, 2, 2, &[4])?;
@@ -189,7 +190,7 @@ fn a_reading_is_right_or_fails(rt: HostRuntime) -> Result<(), Fail> {
     let mut tx = conn.transaction();
     making::make_all(&mut tx)?;
     drivers::insert(&mut tx, 17, &[0x0d, 0x44], "anna-key-1", 19_786, "Anna")?;
-    held::insert_all(&mut tx, 17, &[span(300, 400, 1), span(100, 200, 3)])?;
+    spans::insert_all(&mut tx, SpanTable::Held, 17, &[span(300, 400, 1), span(100, 200, 3)])?;
     downloads::insert(&mut tx, 17, 1, 0, &[1, 2, 3])?;
     tx.commit()?;
     let mut tx = conn.transaction();
@@ -206,7 +207,7 @@ fn a_reading_is_right_or_fails(rt: HostRuntime) -> Result<(), Fail> {
 fn has_right_spans<S: Alter>(alloc: Global, tx: &mut Transaction<'_, S>) -> bool
     ensures { tx.new.conn.ghost_name ≡ tx.old.conn.ghost_name }
 {
-    match held::begun(alloc, tx, 17, 100, 301) {
+    match spans::begun(alloc, tx, SpanTable::Held, 17, 100, 301) {
         Ok(spans) => spans.as_slice() == [span(100, 200, 3), span(300, 400, 1)].as_slice(),
         Err(_) => true,
     }
@@ -266,8 +267,9 @@ fn held_spans_that_begin_in_a_range_are_deleted(rt: HostRuntime) -> Result<(), F
     let mut tx = conn.transaction();
     making::make_all(&mut tx)?;
     drivers::insert(&mut tx, 17, &[0x0d, 0x44], "anna-key-1", 19_786, "Anna")?;
-    held::insert_all(
+    spans::insert_all(
         &mut tx,
+        SpanTable::Held,
         17,
         &[span(100, 200, 3), span(200, 210, 2), span(300, 400, 1)],
     )?;

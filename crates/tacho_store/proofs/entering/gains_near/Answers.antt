@@ -14,8 +14,8 @@ returns g c = record {
   same = search rules;
   told = λ clean schema s stands d is.
       let old = state g.S.Store c.args.tx.now.conn.now in
-      let helds = was_ok c.helds_near.result c.in_ok-helds.helds _ c.in_ok-helds.ensures.cases
-      (c.helds_near.ensures.found clean schema) in
+      let helds = was_ok c.rows_near.result c.in_ok-helds.helds _ c.in_ok-helds.ensures.cases
+      (c.rows_near.ensures.found clean schema) in
       gained old.now.trees s c.args.driver d _ _ c.args.lines.now c.args.spans.now c.in_ok-helds.helds.items _
       (λ gains. gains.items)
       c.gains_of.result stands is c.requires.batch c.requires.spans c.range_of_lines-start.ensures helds

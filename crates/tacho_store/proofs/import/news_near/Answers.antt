@@ -11,12 +11,12 @@ returns g c = record {
   goes = search rules;
   same = search rules;
   told = λ clean schema s stands d is.
-      let clean_1 = c.helds_near.ensures.reads.stays.clean clean in
+      let clean_1 = c.rows_near-2.ensures.reads.stays.clean clean in
       let old = state g.S.Store c.args.tx.now.conn.now in
-      let same = was_ok c.cards_near.result c.in_ok-cards.cards _ c.in_ok-cards.ensures.cases (c.cards_near.ensures.reads.same clean_1 schema) in
+      let same = was_ok c.rows_near.result c.in_ok-cards.cards _ c.in_ok-cards.ensures.cases (c.rows_near.ensures.reads.same clean_1 schema) in
       let seen = still_seen _ _ s same schema stands in
-      let cards = was_ok c.cards_near.result c.in_ok-cards.cards _ c.in_ok-cards.ensures.cases (c.cards_near.ensures.found clean_1 schema) in
-      let helds = was_ok c.helds_near.result c.in_ok-helds.helds _ c.in_ok-helds.ensures.cases (c.helds_near.ensures.found clean seen.0) in
+      let cards = was_ok c.rows_near.result c.in_ok-cards.cards _ c.in_ok-cards.ensures.cases (c.rows_near.ensures.found clean_1 schema) in
+      let helds = was_ok c.rows_near-2.result c.in_ok-helds.helds _ c.in_ok-helds.ensures.cases (c.rows_near-2.ensures.found clean seen.0) in
       decided old.now.trees s c.args.driver d _ _ c.args.spans.now c.in_ok-cards.cards.items c.in_ok-helds.helds.items _ _ c.news_of.result stands is cards
       (subst (λ (w : Database). AreRead (λ t. t.held) w.trees c.args.driver c.range_of-start.result.0 c.range_of-start.result.1 c.in_ok-helds.helds.items) same.0.now_is helds)
       (rw c.deref.ensures.value at c.in_ok-card_line.ensures.line)

@@ -22,10 +22,10 @@ returns g c = record {
   goes = search rules;
   same = search rules;
   told = λ clean schema s stands.
-      let clean_1 = c.helds_near.ensures.reads.stays.clean clean in
+      let clean_1 = c.rows_near.ensures.reads.stays.clean clean in
       let d = the_driver c.args.driver s _ (c.in_ok-driver_with.ensures.told clean_1 schema s stands) in
       let seen = still_seen _ _ s (c.in_ok-driver_with.ensures.same clean_1 schema) schema stands in
-      let read = was_ok c.helds_near.result c.in_ok-rows.rows _ c.in_ok-rows.ensures.cases (c.helds_near.ensures.found clean seen.0) in (
+      let read = was_ok c.rows_near.result c.in_ok-rows.rows _ c.in_ok-rows.ensures.cases (c.rows_near.ensures.found clean seen.0) in (
         range_answers c.args.driver s d.0 c.line_of_stored.result d.1 c.line_of_stored.ensures.fault,
         range_told _ s c.args.driver d.0 c.args.start c.args.past c.in_ok-rows.rows.items c.line_of_stored.result seen.1 d.1
             (rw (c.number.ensures.value, c.number-2.ensures.value) at read)

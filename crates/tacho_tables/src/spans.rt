@@ -1,0 +1,130 @@
+//! The rows of the two tables of spans.
+
+ghost use Rattle.std.specs.Prelude.{◌≡◌, ◌++◌, ◌∷◌, map, filter, IsPermutation, MatchOption, []};
+ghost use Rattle.tacho_tables.specs.Rows.{SpanRow};
+ghost use Rattle.tacho_tables.specs.Calls.{Finds, Changes};
+ghost use Rattle.tacho_tables.specs.Tables.{IsLatest, is_before, is_begun, row_of, span_of};
+ghost use Rattle.tacho_tables.specs.Spans.{spans_in, with_spans, before_text, begun_text, insert_text};
+
+use crate::fault::TableFault;
+use crate::rows::{StoredSpan, first_span, stored_spans};
+use crate::statement::{read, run};
+use sqlite::{Alter, Transaction, params};
+use std::alloc::Global;
+
+/// A table of drivers' spans.
+#[derive(Clone, Copy, Debug, PartialEq, Eq)]
+pub enum SpanTable {
+    /// `card_spans`: what accepted downloads give.
+    CardSpans,
+    /// `held`: what a driver holds.
+    Held,
+}
+
+impl SpanTable {
+    /// The text that reads the latest span that begins before a minute.
+    fn before_text(self) -> &'static str
+        ensures { result.now ≡ before_text self }
+    {
+        match self {
+            SpanTable::CardSpans => {
+                "SELECT start, past, mark FROM card_spans WHERE driver = ?1 AND start < ?2 ORDER BY start DESC LIMIT 1"
+            }
+            SpanTable::Held => {
+                "SELECT start, past, mark FROM held WHERE driver = ?1 AND start < ?2 ORDER BY start DESC LIMIT 1"
+            }
+        }
+    }
+
+    /// The text that reads the spans that begin in a range.
+    fn begun_text(self) -> &'static str
+        ensures { result.now ≡ begun_text self }
+    {
+        match self {
+            SpanTable::CardSpans => {
+                "SELECT start, past, mark FROM card_spans WHERE driver = ?1 AND ?2 <= start AND start < ?3 ORDER BY start"
+            }
+            SpanTable::Held => {
+                "SELECT start, past, mark FROM held WHERE driver = ?1 AND ?2 <= start AND start < ?3 ORDER BY start"
+            }
+        }
+    }
+
+    /// The text that adds a span.
+    fn insert_text(self) -> &'static str
+        ensures { result.now ≡ insert_text self }
+    {
+        match self {
+            SpanTable::CardSpans => {
+                "INSERT INTO card_spans (driver, start, past, mark) VALUES (?1, ?2, ?3, ?4)"
+            }
+            SpanTable::Held => {
+                "INSERT INTO held (driver, start, past, mark) VALUES (?1, ?2, ?3, ?4)"
+            }
+        }
+    }
+}
+
+/// The latest of a driver's spans that begin before a minute, if there is one.
+pub fn last_before<S: Alter>(
+    tx: &mut Transaction<'_, S>,
+    table: SpanTable,
+    driver: u32,
+    minute: u32,
+) -> Result<Option<StoredSpan>, TableFault>
+    ensures { Finds S.Store tx.old.conn tx.new.conn result
+        (λ a found. MatchOption found (filter (is_before driver minute) (spans_in table a) ≡ []) (λ span. (r : SpanRow)
+        × IsLatest r (filter (is_before driver minute) (spans_in table a)) × (span ≡ span_of r))) }
+{
+    let rows = read(tx, table.before_text(), params![driver, minute])?;
+    first_span(&rows)
+}
+
+/// The spans of a driver that begin from `start` to before `past`.
+pub fn begun<S: Alter>(
+    alloc: Global,
+    tx: &mut Transaction<'_, S>,
+    table: SpanTable,
+    driver: u32,
+    start: u32,
+    past: u32,
+) -> Result<Vec<StoredSpan>, TableFault>
+    ensures { Finds S.Store tx.old.conn tx.new.conn result
+        (λ a found. IsPermutation (map span_of (filter (is_begun driver start past) (spans_in table a))) found.items) }
+{
+    let rows = read(tx, table.begun_text(), params![driver, start, past])?;
+    stored_spans(alloc, &rows)
+}
+
+/// Adds a span of a driver.
+fn insert<S: Alter>(
+    tx: &mut Transaction<'_, S>,
+    table: SpanTable,
+    driver: u32,
+    span: &StoredSpan,
+) -> Result<(), TableFault>
+    ensures { Changes S.Store tx.old.conn tx.new.conn result
+        (λ a. with_spans table (row_of driver span.now ∷ spans_in table a) a) }
+{
+    run(
+        tx,
+        table.insert_text(),
+        params![driver, span.start, span.past, span.mark],
+    )
+}
+
+/// Adds spans of a driver.
+pub fn insert_all<S: Alter>(
+    tx: &mut Transaction<'_, S>,
+    table: SpanTable,
+    driver: u32,
+    spans: &[StoredSpan],
+) -> Result<(), TableFault>
+    ensures { Changes S.Store tx.old.conn tx.new.conn result
+        (λ a. with_spans table (map (row_of driver) spans.now ++ spans_in table a) a) }
+{
+    for span in spans {
+        insert(tx, table, driver, span)?;
+    }
+    Ok(())
+}
