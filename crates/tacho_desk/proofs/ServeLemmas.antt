@@ -139,10 +139,10 @@ module _ {K : Type 0} (stands : K → State → Type 0) (is_clean : K → Type 0
 
 -- a step of the archive
 module _ {K : Type 0} (stands : K → State → Type 0) (is_clean is_live : K → Type 0) (leaves : K → List State → Type 0)
-    {is_same : K → K → Type 0} where
+    {is_same : K → K → Type 0} {is_same_of : ℕ → K → K → Type 0} where
   -- a step that was refused
   pub refused_by : {A B : Type 0} (view : A → B) (words : B → Told) (old new : K) (f : StoreFault) (step : State → Turn B) → ((s : State) → Keeps s (step s))
-      → Acts stands is_clean is_live leaves is_same view old new (Err f) step
+      → Acts stands is_clean is_live leaves is_same is_same_of view old new (Err f) step
       → Serves stands is_clean leaves old new (Err (store_fault f)) (λ s. Steps words (step s))
   refused_by view words old new f step keeps acts = record {
     clean = acts.clean;
@@ -157,7 +157,7 @@ module _ {K : Type 0} (stands : K → State → Type 0) (is_clean is_live : K �
 
   -- a step that was taken
   pub taken_by : {A B : Type 0} (view : A → B) (words : B → Told) (old new : K) (x : A) (step : State → Turn B)
-      → Acts stands is_clean is_live leaves is_same view old new (Ok x) step
+      → Acts stands is_clean is_live leaves is_same is_same_of view old new (Ok x) step
       → Serves stands is_clean leaves old new (Ok (words (view x))) (λ s. Steps words (step s))
   taken_by view words old new x step acts = record {
     clean = acts.clean;
@@ -169,7 +169,7 @@ module _ {K : Type 0} (stands : K → State → Type 0) (is_clean is_live : K �
 
   pub import_refused : (old new : K) (caller : Caller) (p : Part) (input : List ℕ) (f : StoreFault)
       → ((content : Result Content CardFault) → FileTells p input content
-      → Acts stands is_clean is_live leaves is_same (λ (done : Imported). done) old new (Err f)
+      → Acts stands is_clean is_live leaves is_same is_same_of (λ (done : Imported). done) old new (Err f)
       (imported (caller_number caller) (part_number p) input content))
       → Serves stands is_clean leaves old new (Err (store_fault f)) (Imports caller p input)
   import_refused old new caller p input f acts =
@@ -183,7 +183,7 @@ module _ {K : Type 0} (stands : K → State → Type 0) (is_clean is_live : K �
 
   pub import_taken : (old new : K) (caller : Caller) (p : Part) (input : List ℕ) (x : Imported)
       → ((content : Result Content CardFault) → FileTells p input content
-      → Acts stands is_clean is_live leaves is_same (λ (done : Imported). done) old new (Ok x)
+      → Acts stands is_clean is_live leaves is_same is_same_of (λ (done : Imported). done) old new (Ok x)
       (imported (caller_number caller) (part_number p) input content))
       → Serves stands is_clean leaves old new (Ok (imported_told x)) (Imports caller p input)
   import_taken old new caller p input x acts =

@@ -292,6 +292,7 @@ impl Shelf {
 impl Keeper for Shelf {
     ghost use Rattle.std.specs.Prelude.{◌≡◌};
     ghost use Rattle.std.proofs.Common.{inr};
+    ghost use Rattle.tacho_state.specs.State.{driver_of};
     ghost use Rattle.tacho_shelf.specs.Among.{StandsAmong};
 
     ghost stands = { λ shelf s. shelf ≡ s };
@@ -303,6 +304,8 @@ impl Keeper for Shelf {
     ghost leaves = { StandsAmong };
 
     ghost is_same = { λ old new. new ≡ old };
+
+    ghost is_same_of = { λ n old new. driver_of n new ≡ driver_of n old };
 
     ghost leaves_more = { λ shelf s states among. inr among };
 

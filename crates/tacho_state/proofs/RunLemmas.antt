@@ -1,5 +1,5 @@
 -- A run of calls, and what a stop behind it leaves.
-use Rattle.std.proofs.Common.{◌≡◌, List, [], ◌∷◌, ◌++◌, Result, Ok, Err, refl, sym, subst}
+use Rattle.std.proofs.Common.{◌≡◌, ℕ, List, [], ◌∷◌, ◌++◌, Result, Ok, Err, refl, sym, subst}
 use Rattle.tacho_state.specs.declared.fault.StoreFault.{StoreFault}
 use Rattle.tacho_state.specs.declared.fault.StoreFault.TheVariants.{Memory, Store, Card}
 use Rattle.tacho_state.specs.State.{State}
@@ -8,10 +8,10 @@ use Rattle.tacho_state.specs.Acts.{Acts, IsAnswered, left}
 use Rattle.tacho_state.specs.Runs.{Call, untold, state_after, AreAnswered, IsCall, IsRun}
 
 module _ {K : Type 0} {stands : K → State → Type 0} {is_clean is_live : K → Type 0} {leaves : K → List State → Type 0}
-    {is_same : K → K → Type 0} where
+    {is_same : K → K → Type 0} {is_same_of : ℕ → K → K → Type 0} where
   -- a call that acts is one of a run
   pub acts_call : {A B : Type 0} {view : A → B} {old new : K} (r : Result A StoreFault) (step : State → Turn B)
-      → Acts stands is_clean is_live leaves is_same view old new r step
+      → Acts stands is_clean is_live leaves is_same is_same_of view old new r step
       → IsCall stands is_clean leaves old new (record { answer = untold r; after = λ s. (step s).after })
   acts_call (Ok x) step h = record { clean = h.clean; state = h.state; kept = h.kept; refused = h.refused; crash = h.crash }
   acts_call (Err fault) step h = record { clean = h.clean; state = h.state; kept = h.kept; refused = h.refused; crash = h.crash }

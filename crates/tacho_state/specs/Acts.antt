@@ -4,7 +4,7 @@ use Rattle.tacho_state.specs.declared.fault.StoreFault.{StoreFault}
 use Rattle.tacho_state.specs.declared.fault.StoreFault.TheVariants.{Memory, Store, Card}
 use Rattle.tacho_state.specs.declared.caller.Caller.{Caller}
 use Rattle.tacho_state.specs.declared.caller.Caller.TheVariants.{Office, Driver}
-use Rattle.tacho_state.specs.State.{State}
+use Rattle.tacho_state.specs.State.{State, driver_of}
 use Rattle.tacho_state.specs.Steps.{Turn}
 
 -- who calls: a driver by his number, or the office
@@ -45,12 +45,15 @@ left (Err fault) before after = before
 -- A call answers by a step and leaves its state, or it gives up and leaves the one before; a refusal changes nothing of what is
 -- kept. At each moment a stop leaves a state that could be left before the call, or the step's; after an Ok the step's alone. Only
 -- what can be written to answers; a refusal, and a call on what can't be written to any more, change nothing that a stop leaves.
+-- Of a driver of whom the step says nothing new the same rows are kept.
 pub record Acts {K A B : Type 0} (stands : K → State → Type 0) (is_clean is_live : K → Type 0) (leaves : K → List State → Type 0)
-    (is_same : K → K → Type 0) (view : A → B) (old new : K) (result : Result A StoreFault) (step : State → Turn B) : Type 0 where
+    (is_same : K → K → Type 0) (is_same_of : ℕ → K → K → Type 0) (view : A → B) (old new : K) (result : Result A StoreFault)
+    (step : State → Turn B) : Type 0 where
   pub clean : is_clean new → is_clean old
   pub answer : is_clean new → (s : State) → stands old s → Answers view result (step s).answer
   pub state : is_clean new → (s : State) → stands old s → stands new (left result s (step s).after)
   pub same : is_clean new → (s : State) → stands old s → OnErr result (is_same old new)
+  pub others : is_clean new → (s : State) → stands old s → (n : ℕ) → driver_of n (step s).after ≡ driver_of n s → is_same_of n old new
   pub answered : is_clean new → IsAnswered result → is_live old
   pub was_live : is_clean new → is_live new → is_live old
   pub live : is_clean new → OnOk result (is_live new)

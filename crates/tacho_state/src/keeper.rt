@@ -39,12 +39,15 @@ pub trait Keeper {
     /// The second is kept as the first is: no row of it is another, as long as it can be read.
     ghost is_same: { Self → Self → Type 0 };
 
+    /// The second keeps of the driver with this number what the first does, row for row, as long as it can be read.
+    ghost is_same_of: { ℕ → Self → Self → Type 0 };
+
     /// More states may be named.
     ghost leaves_more: { (keeper : Self) (s : State) (states : List State) → leaves keeper states → leaves keeper (s ∷ states) };
 
     /// Adds a driver: S1, S2, S3, S9.
     fn register(&mut self, driver: &Driver) -> Result<(), StoreFault>
-        ensures { Acts stands is_clean is_live leaves is_same (λ _. tt) self.old self.new result
+        ensures { Acts stands is_clean is_live leaves is_same is_same_of (λ _. tt) self.old self.new result
             (registered driver.now.number driver.now.holder driver.now.key driver.now.base driver.now.name) };
 
     /// Imports a card file by a part: S11 first; then S4, S5, S6, S14.
@@ -64,7 +67,8 @@ pub trait Keeper {
         ensures repeated { is_clean self.new → (s : State) (number : ℕ) → stands self.old s → result ≡ Ok (Repeated number)
             → is_same self.old self.new }
         ensures imported { (content : Result Content CardFault) → FileTells part file.now content
-            → Acts stands is_clean is_live leaves is_same (λ done. done) self.old self.new result (imported (caller_number caller) (part_number part) file.now content) };
+            → Acts stands is_clean is_live leaves is_same is_same_of (λ done. done) self.old self.new result
+            (imported (caller_number caller) (part_number part) file.now content) };
 
     /// Enters a batch of hours, which goes in whole or not at all: S4, S6, S14. Its lines are numbered on from the driver's last
     /// entry.
@@ -75,17 +79,18 @@ pub trait Keeper {
         lines: &[EntryLine],
     ) -> Result<Entered, StoreFault>
         requires { IsBatch lines.now }
-        ensures entered { Acts stands is_clean is_live leaves is_same (λ done. done.first) self.old self.new result (entered driver (batch_of lines.now)) }
+        ensures entered { Acts stands is_clean is_live leaves is_same is_same_of (λ done. done.first) self.old self.new result
+            (entered driver (batch_of lines.now)) }
         ensures count { IfOk result (λ done. done.count ≡ length lines.now) };
 
     /// Withdraws an entry of a driver, which stays listed: S4, S7, S8. What downloads and other entries give, he still holds.
     fn withdraw(&mut self, alloc: Global, driver: u32, number: u32) -> Result<(), StoreFault>
-        ensures { Acts stands is_clean is_live leaves is_same (λ _. tt) self.old self.new result (withdrawn driver number) };
+        ensures { Acts stands is_clean is_live leaves is_same is_same_of (λ _. tt) self.old self.new result (withdrawn driver number) };
 
     /// Sets the day, from 2000-01-03 to 2099-12-31, from which a driver is examined: S4, S9.
     fn rebase(&mut self, driver: u32, base: Day) -> Result<(), StoreFault>
         requires { IsReadDay base }
-        ensures { Acts stands is_clean is_live leaves is_same (λ _. tt) self.old self.new result (rebased driver base) };
+        ensures { Acts stands is_clean is_live leaves is_same is_same_of (λ _. tt) self.old self.new result (rebased driver base) };
 
     /// The driver whose key this is, if there is one.
     fn who(&mut self, key: &[u8]) -> Result<Option<u32>, StoreFault>

@@ -5,8 +5,9 @@ use Rattle.tacho_state.specs.declared.fault.StoreFault.TheVariants.{UnknownDrive
 use Rattle.tacho_state.specs.State.{Driver, State, driver_of}
 use Rattle.tacho_state.specs.Steps.{rebased, is_monday}
 use Rattle.tacho_tables.specs.Tables.{Tables, Stand, with_base}
-use Rattle.tacho_store.specs.Standing.{StandsFor, with_rebased}
+use Rattle.tacho_store.specs.Standing.{StandsFor, Follows, with_rebased}
 use Rattle.tacho_store.proofs.RegisterLemmas.{rebased_is}
+use Rattle.tacho_store.proofs.OthersLemmas.{followed}
 
 -- S4
 pub no_driver : (n base : ℕ) (s : State) → driver_of n s ≡ None → (rebased n base s).answer ≡ Err UnknownDriver
@@ -21,9 +22,11 @@ module _ (n base : ℕ) (s : State) (d : Driver) (is : driver_of n s ≡ Some d)
   pub is_set : is_monday base ≡ true → (rebased n base s).answer ≡ Ok tt
   is_set monday = rw (is, monday) refl
 
-  -- and the tables stand for the state after it
+  -- and tables with it follow
   pub day_set : (db next : Trees) → is_monday base ≡ true → StandsFor db s
       → ((a : Tables) → Stand db a → Stand next (record a { drivers = map (with_base n base) a.drivers }))
-      → StandsFor next (rebased n base s).after
+      → Follows db next s (rebased n base s).after
   unfolding StandsFor
-  day_set db next monday (t, stand, of) turn = rw (is, monday) (with_rebased n base t, turn t stand, rebased_is t s n base d of is)
+  day_set db next monday (t, stand, of) turn =
+      rw (is, monday) (followed db next t (with_rebased n base t) s _ stand of (turn t stand) (rebased_is t s n base d of is)
+      (λ j same. record { card_spans = refl; held = refl }))

@@ -29,8 +29,10 @@ use Rattle.tacho_store.specs.Importing.{AreAdded, AreDecided}
 use Rattle.tacho_store.proofs.NearRowLemmas.{read_line, card_kept, held_kept}
 use Rattle.tacho_store.proofs.ImportLemmas.{imported_is}
 use Rattle.tacho_store.specs.Finding.{Refuses}
-use Rattle.tacho_store.proofs.JoinLemmas.{kept_stands}
+use Rattle.tacho_store.proofs.JoinLemmas.{import_follows}
 use Rattle.tacho_store.proofs.FoundLemmas.{handed_on}
+use Rattle.tacho_store.proofs.OthersLemmas.{is_another, download_changes}
+use Rattle.tacho_store.proofs.StateLemmas.{found_number}
 
 -- rows of a table that were read near a range
 abbrev pub AreRead : (Tables → List SpanRow) → Trees → ℕ → ℕ → ℕ → List StoredSpan → Type 0
@@ -51,10 +53,13 @@ module _ (db : Trees) (s : State) (n : ℕ) (d : Driver) (a b : ℕ) (spans : Li
             (spans_of n t.held) card_line line spans helds a b given held within card_near held_near new news.4 room;
         full = λ part file most. full_import d part file (spans_of n t.card_spans)
             (spans_of n t.held) card_line line spans helds a b given held within card_near held_near new news.4 most;
-        stands = λ part file holder next tells written.
-            kept_stands next n (1 + length d.downloads) (part_number part) file cards helds t
-            (put (with_download (part_number part) file spans d) s) (written t stand)
-            (imported_is t s n d part file (record { holder = holder; spans = spans }) card_line line cards helds a b of is tells within card_near news.3 held_near news.4);
+        follows = λ part file holder next tells written.
+            let after : Driver = with_download (part_number part) file spans d in
+            import_follows db next n (1 + length d.downloads) (part_number part) file cards helds t s (put after s) stand of
+            (written t stand)
+            (imported_is t s n d part file (record { holder = holder; spans = spans }) card_line line cards helds a b of is tells within
+            card_near news.3 held_near news.4)
+            (is_another n d after s is (found_number n s d is) (download_changes (part_number part) file spans d));
       }
 
   -- nothing new, something new, a contradiction; or a call gave up

@@ -25,7 +25,7 @@ use Rattle.tacho_state.proofs.StepLemmas.{contradicted_batch, entered_batch, ful
 use Rattle.tacho_tables.specs.declared.rows.StoredSpan.{StoredSpan}
 use Rattle.tacho_tables.specs.Rows.{SpanRow, EntryRow}
 use Rattle.tacho_tables.specs.Tables.{Tables, Stand, entered_rows, row_of}
-use Rattle.tacho_store.specs.Standing.{StandsFor, IsOf, activity_number, spans_of, span_row, entry_row, entry_rows, stored_span}
+use Rattle.tacho_store.specs.Standing.{StandsFor, Follows, IsOf, activity_number, spans_of, span_row, entry_row, entry_rows, stored_span}
 use Rattle.tacho_store.specs.Entering.{AreNumbered, batched}
 use Rattle.tacho_store.specs.Finding.{Refuses}
 use Rattle.tacho_store.specs.News.{IsContradicted}
@@ -33,8 +33,9 @@ use Rattle.tacho_store.proofs.ApartLemmas.{held_apart}
 use Rattle.tacho_store.proofs.DecisionLemmas.{AreRead}
 use Rattle.tacho_store.proofs.EntryLemmas.{entered_is}
 use Rattle.tacho_store.proofs.FoundLemmas.{handed_on}
-use Rattle.tacho_store.proofs.JoinLemmas.{batch_stands}
+use Rattle.tacho_store.proofs.JoinLemmas.{batch_follows}
 use Rattle.tacho_store.proofs.NearRowLemmas.{read_line, held_kept}
+use Rattle.tacho_store.proofs.OthersLemmas.{another_or_none}
 
 -- ---- the spans of a batch's lines
 
@@ -175,9 +176,11 @@ module _ (db : Trees) (s : State) (n : ℕ) (d : Driver) (a b : ℕ) (lines : Li
       record {
         numbered = λ room. entered_batch d (batch_of lines) (spans_of n t.held) line gains a b held within held_near gained room;
         full = λ over. full_batch d (batch_of lines) (spans_of n t.held) line gains a b held within held_near gained over;
-        stands = λ next written. batch_stands next n (1 + length d.entries) (length d.entries + length (batch_of lines))
-            (batch_of lines) gains t (put (with_batch (batch_of lines) d) s) (written t stand)
-            (entered_is t s n d (batch_of lines) line gains a b of is (batch_full lines batch) within held_near gained);
+        follows = λ next written.
+            batch_follows db next n (1 + length d.entries) (length d.entries + length (batch_of lines)) (batch_of lines) gains t s
+            (put (with_batch (batch_of lines) d) s) stand of (written t stand)
+            (entered_is t s n d (batch_of lines) line gains a b of is (batch_full lines batch) within held_near gained)
+            (another_or_none n d s (batch_of lines) line gains is gained);
       }
 
   -- or it is refused
@@ -237,20 +240,20 @@ module _ (db : Trees) (s : State) (n : ℕ) (d : Driver) (lines : List EntryLine
   batch_answer first room next = ap (λ r. (settled s r).answer) (own room)
       ∙ ap Ok (let a = is in (let same : 1 + length d.entries ≡ first = omega (arith, a, next) in same))
 
-  -- and what its writes leave stands for the state after it
+  -- and what its writes leave follows
   pub batch_written : (first count : ℕ) (rows helds : List StoredSpan) (next : Trees) → given + length spans ≤ most → first ≡ 1 + given
       → count ≡ given + length spans
       → map (row_of n) rows ≡ map (span_row n) spans → map (row_of n) helds ≡ map (span_row n) gains
       → ((t : Tables) → Stand db t → Stand next (batched n count (entered_rows n first rows) (map (row_of n) helds) t))
-      → StandsFor next (settled s (enter_own (batch_of lines) d)).after
+      → Follows db next s (settled s (enter_own (batch_of lines) d)).after
   batch_written first count rows helds next room one counts same_rows same_helds written =
       let first_is : first ≡ 1 + length d.entries = (let a = is in omega (arith, a, one)) in
       let count_is : count ≡ length d.entries + length (batch_of lines) = (let a = is in let b = counted in omega (arith, a, b, counts)) in
       let entries_are : entered_rows n first rows ≡ entry_rows n (1 + length d.entries) (batch_of lines) =
       ap (λ i. entered_rows n i rows) first_is
       ∙ rows_entered n (1 + length d.entries) lines rows (same_rows ∙ ap (λ (x : List Span). map (span_row n) x) all) in
-      subst (λ (x : State). StandsFor next x) (sym (ap (λ r. (settled s r).after) (own room)))
-      (new.stands next (λ t stand. subst (λ (x : List SpanRow). Stand next
+      subst (Follows db next s) (sym (ap (λ r. (settled s r).after) (own room)))
+      (new.follows next (λ t stand. subst (λ (x : List SpanRow). Stand next
       (batched n (length d.entries + length (batch_of lines)) (entry_rows n (1 + length d.entries) (batch_of lines)) x t)) same_helds
       (subst (λ (x : List EntryRow). Stand next (batched n (length d.entries + length (batch_of lines)) x (map (row_of n) helds) t)) entries_are
       (subst (λ (x : ℕ). Stand next (batched n x (entered_rows n first rows) (map (row_of n) helds) t)) count_is (written t stand)))))

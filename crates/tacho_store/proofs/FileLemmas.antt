@@ -13,16 +13,18 @@ use Rattle.tacho_state.specs.Steps.{Content, Turn, imported}
 use Rattle.tacho_state.proofs.ContentLemmas.{one_content}
 
 module _ {K L : Type 0} (f : L → K) {stands : K → State → Type 0} {is_clean is_live : K → Type 0} {leaves : K → List State → Type 0}
-    {is_same : K → K → Type 0} where
+    {is_same : K → K → Type 0} {is_same_of : ℕ → K → K → Type 0} where
   -- a step of a part of it is a step of the whole
   pub acts_whole : {A B : Type 0} {view : A → B} {old new : L} {r : Result A StoreFault} {step : State → Turn B}
-      → Acts stands is_clean is_live leaves is_same view (f old) (f new) r step
-      → Acts (λ l. stands (f l)) (λ l. is_clean (f l)) (λ l. is_live (f l)) (λ l. leaves (f l)) (λ a b. is_same (f a) (f b)) view old new r step
+      → Acts stands is_clean is_live leaves is_same is_same_of view (f old) (f new) r step
+      → Acts (λ l. stands (f l)) (λ l. is_clean (f l)) (λ l. is_live (f l)) (λ l. leaves (f l)) (λ a b. is_same (f a) (f b))
+      (λ n a b. is_same_of n (f a) (f b)) view old new r step
   acts_whole h = record {
     clean = h.clean;
     answer = h.answer;
     state = h.state;
     same = h.same;
+    others = h.others;
     answered = h.answered;
     was_live = h.was_live;
     live = h.live;
@@ -33,14 +35,14 @@ module _ {K L : Type 0} (f : L → K) {stands : K → State → Type 0} {is_clea
   }
 
 module _ {K : Type 0} {stands : K → State → Type 0} {is_clean is_live : K → Type 0} {leaves : K → List State → Type 0}
-    {is_same : K → K → Type 0} where
+    {is_same : K → K → Type 0} {is_same_of : ℕ → K → K → Type 0} where
   -- a step by one content is a step by each that the file tells
   pub acts_told : {old new : K} {r : Result Imported StoreFault} (caller : Option ℕ) (part : Part) (file : List ℕ)
       (content other : Result Content CardFault) → FileTells part file content → FileTells part file other
-      → Acts stands is_clean is_live leaves is_same (λ done. done) old new r (imported caller (part_number part) file content)
-      → Acts stands is_clean is_live leaves is_same (λ done. done) old new r (imported caller (part_number part) file other)
+      → Acts stands is_clean is_live leaves is_same is_same_of (λ done. done) old new r (imported caller (part_number part) file content)
+      → Acts stands is_clean is_live leaves is_same is_same_of (λ done. done) old new r (imported caller (part_number part) file other)
   acts_told {old = old} {new = new} {r = r} caller part file content other one two = subst
-      (λ c. Acts stands is_clean is_live leaves is_same (λ done. done) old new r (imported caller (part_number part) file c))
+      (λ c. Acts stands is_clean is_live leaves is_same is_same_of (λ done. done) old new r (imported caller (part_number part) file c))
       (one_content part file content other one two)
 
 -- why the reading of a file ended
@@ -48,17 +50,19 @@ abbrev pub IsFileFault : Part → List ℕ → StoreFault → Type 0
 IsFileFault part file fault = (fault ≡ Memory) ⊎ ((f : CardFault) × (fault ≡ Card f) × FileTells part file (Err f))
 
 module _ {K : Type 0} (stands : K → State → Type 0) (is_clean is_live : K → Type 0) (leaves : K → List State → Type 0)
-    (is_same : K → K → Type 0) (more : (k : K) (s : State) (states : List State) → leaves k states → leaves k (s ∷ states))
-    (self : (k : K) → is_same k k) where
+    (is_same : K → K → Type 0) (is_same_of : ℕ → K → K → Type 0)
+    (more : (k : K) (s : State) (states : List State) → leaves k states → leaves k (s ∷ states))
+    (self : (k : K) → is_same k k) (self_of : (k : K) (s : State) → stands k s → (n : ℕ) → is_same_of n k k) where
   -- a call that gave up before anything was asked
   idle : (k : K) (fault : StoreFault) (step : State → Turn Imported)
       → ((s : State) → Answers (λ (done : Imported). done) (Err fault) (step s).answer) → (IsAnswered {A = Imported} (Err fault) → ⊥)
-      → Acts stands is_clean is_live leaves is_same (λ done. done) k k (Err fault) step
+      → Acts stands is_clean is_live leaves is_same is_same_of (λ done. done) k k (Err fault) step
   idle k fault step answers silent = record {
     clean = λ c. c;
     answer = λ _ s _. answers s;
     state = λ _ s h. h;
     same = λ _ _ _. self k;
+    others = λ _ s h n _. self_of k s h n;
     answered = λ _ answered. absurd (silent answered);
     was_live = λ _ live. live;
     live = λ _. tt;
@@ -72,14 +76,16 @@ module _ {K : Type 0} (stands : K → State → Type 0) (is_clean is_live : K �
   pub acts_fault : (k : K) (r : Result Imported StoreFault) (caller : Option ℕ) (part : Part) (file : List ℕ) (fault : StoreFault)
       (content : Result Content CardFault) → FileTells part file content
       → IsFileFault part file fault → IsErr r × IsErrAnd r (λ found. found ≡ fault)
-      → Acts stands is_clean is_live leaves is_same (λ done. done) k k r (imported caller (part_number part) file content)
+      → Acts stands is_clean is_live leaves is_same is_same_of (λ done. done) k k r (imported caller (part_number part) file content)
   acts_fault k (Ok done) caller part file fault content tells why e = let wrong = e.0 in cc
   acts_fault k (Err found) caller part file fault content tells (inl memory) e =
-      subst (λ g. Acts stands is_clean is_live leaves is_same (λ done. done) k k (Err g) (imported caller (part_number part) file content))
+      subst (λ g. Acts stands is_clean is_live leaves is_same is_same_of (λ done. done) k k (Err g)
+      (imported caller (part_number part) file content))
       (sym (e.1 ∙ memory)) (idle k Memory (imported caller (part_number part) file content) (λ s. tt) (λ wrong. wrong))
   acts_fault k (Err found) caller part file fault content tells (inr it) e =
       acts_told caller part file (Err it.0) content it.2 tells
-      (subst (λ g. Acts stands is_clean is_live leaves is_same (λ done. done) k k (Err g) (imported caller (part_number part) file (Err it.0)))
+      (subst (λ g. Acts stands is_clean is_live leaves is_same is_same_of (λ done. done) k k (Err g)
+      (imported caller (part_number part) file (Err it.0)))
       (sym (e.1 ∙ it.1)) (idle k (Card it.0) (imported caller (part_number part) file (Err it.0)) (λ s. refl) (λ wrong. wrong)))
 
 -- a file with a fault is refused with it, or there was no memory to read it

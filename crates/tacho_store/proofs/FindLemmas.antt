@@ -104,7 +104,7 @@ bytes_not xs ys d = go (bytes_eq xs ys) refl where
 -- ---- drivers that differ
 
 -- no row of a driver who isn't there
-no_number_row : (n : ℕ) (s : State) → HasNot n s → filter (has_number n) (map driver_columns s) ≡ []
+pub no_number_row : (n : ℕ) (s : State) → HasNot n s → filter (has_number n) (map driver_columns s) ≡ []
 no_number_row n [] h = refl
 no_number_row n (d ∷ s) h =
     ap (λ b. cond b (driver_columns d ∷ filter (has_number n) (map driver_columns s)) (filter (has_number n) (map driver_columns s)))

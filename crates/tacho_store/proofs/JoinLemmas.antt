@@ -1,16 +1,18 @@
 -- What joins a command's writes: one step after another, and rows that stand in front where the tables have them behind.
-use Rattle.std.proofs.Common.{ℕ, List, ◌∷◌, ◌++◌, map, filter, not}
+use Rattle.std.proofs.Common.{◌≡◌, ◌≢◌, ◌∙◌, ◌⊎◌, inl, inr, ℕ, List, [], ◌∷◌, ◌++◌, map, filter, not, refl, sym, ap}
+use Rattle.std.proofs.lemmas.List.{append-nil}
 use Rattle.std.proofs.lemmas.List.Sorted.{IsPermutation-refl, IsPermutation-sym, IsPermutation-append_comm, IsPermutation-to_front}
 use Rattle.sqlite.specs.State.{State as StoreState}
 use Rattle.sqlite.specs.Tree.{Trees}
 use Rattle.tacho_time.specs.declared.span.Span.{Span}
-use Rattle.tacho_state.specs.State.{Entry, State}
+use Rattle.tacho_state.specs.State.{Entry, State, driver_of}
 use Rattle.tacho_tables.specs.Rows.{SpanRow, DriverRow}
-use Rattle.tacho_tables.specs.Tables.{Tables, Stand, Turns, is_near, with_downloads, with_entries, with_withdrawn}
-use Rattle.tacho_store.specs.Standing.{IsOf, StandsFor, SameRows, span_row, entry_rows, with_driver, with_imported, with_entered, with_renewed}
+use Rattle.tacho_tables.specs.Tables.{Tables, Stand, Turns, is_of, is_near, with_downloads, with_entries, with_withdrawn}
+use Rattle.tacho_store.specs.Standing.{IsOf, Follows, SameRows, span_row, entry_rows, with_driver, with_imported, with_entered, with_renewed}
 use Rattle.tacho_store.specs.Importing.{written}
 use Rattle.tacho_store.specs.Entering.{batched}
 use Rattle.tacho_store.proofs.OrderedLemmas.{any_order_stands}
+use Rattle.tacho_store.proofs.OthersLemmas.{HaveSameSpansOf, followed, added_kept, renewed_kept}
 
 -- ---- steps
 
@@ -30,10 +32,11 @@ same_back t u same = record {
   held = IsPermutation-sym t.held u.held same.held;
 }
 
--- what stands for tables stands for a state that other tables with the same rows stand for
-same_stands : (db : Trees) (t u : Tables) (s : State) → SameRows u t → Stand db t → IsOf u s → StandsFor db s
-unfolding StandsFor
-same_stands db t u s same stands is = (u, any_order_stands db t u (same_back u t same) stands, is)
+-- what stands for tables follows where other tables with the same rows stand for the state after
+same_follow : (db next : Trees) (t u v : Tables) (s after : State) → Stand db t → IsOf t s → SameRows u v → Stand next v → IsOf u after
+    → ((j : ℕ) → driver_of j after ≡ driver_of j s → HaveSameSpansOf j t u) → Follows db next s after
+same_follow db next t u v s after stand of same stands is =
+    followed db next t u s after stand of (any_order_stands next v u (same_back u v same) stands) is
 
 -- ---- a registration
 
@@ -47,11 +50,12 @@ same_driver row t = record {
   held = IsPermutation-refl t.held;
 }
 
--- what was written of a registration stands for the state after it
-pub driver_stands : (db : Trees) (row : DriverRow) (t : Tables) (s : State) → Stand db (record t { drivers = row ∷ t.drivers })
-    → IsOf (with_driver row t) s → StandsFor db s
-driver_stands db row t s stands is = same_stands db (record t { drivers = row ∷ t.drivers }) (with_driver row t) s
-    (same_driver row t) stands is
+-- what was written of a registration follows
+pub driver_follows : (db next : Trees) (row : DriverRow) (t : Tables) (s after : State) → Stand db t → IsOf t s
+    → Stand next (record t { drivers = row ∷ t.drivers }) → IsOf (with_driver row t) after → Follows db next s after
+driver_follows db next row t s after stand of stands is =
+    same_follow db next t (with_driver row t) (record t { drivers = row ∷ t.drivers }) s after stand of
+    (same_driver row t) stands is (λ j same. record { card_spans = refl; held = refl })
 
 -- ---- an import
 
@@ -66,13 +70,19 @@ same_kept n number part file card_gains gains t = record {
   held = IsPermutation-append_comm t.held (map (span_row n) gains);
 }
 
--- what was written of an import stands for the state after it
-pub kept_stands : (db : Trees) (n number part : ℕ) (file : List ℕ) (card_gains gains : List Span) (t : Tables) (s : State)
-    → Stand db (written n number part file (map (span_row n) card_gains) (map (span_row n) gains) t)
-    → IsOf (with_imported n number part file card_gains gains t) s → StandsFor db s
-kept_stands db n number part file card_gains gains t s stands is =
-    same_stands db (written n number part file (map (span_row n) card_gains) (map (span_row n) gains) t) (with_imported n number part file card_gains gains t) s
+-- what was written of an import follows
+pub import_follows : (db next : Trees) (n number part : ℕ) (file : List ℕ) (card_gains gains : List Span) (t : Tables) (s after : State)
+    → Stand db t → IsOf t s → Stand next (written n number part file (map (span_row n) card_gains) (map (span_row n) gains) t)
+    → IsOf (with_imported n number part file card_gains gains t) after
+    → ((j : ℕ) → driver_of j after ≡ driver_of j s → j ≢ n) → Follows db next s after
+import_follows db next n number part file card_gains gains t s after stand of stands is other =
+    same_follow db next t (with_imported n number part file card_gains gains t)
+    (written n number part file (map (span_row n) card_gains) (map (span_row n) gains) t) s after stand of
     (same_kept n number part file card_gains gains t) stands is
+    (λ j same. record {
+      card_spans = added_kept j n t.card_spans card_gains (other j same);
+      held = added_kept j n t.held gains (other j same);
+    })
 
 -- ---- a batch
 
@@ -87,13 +97,23 @@ same_batched n first count batch gains t = record {
   held = IsPermutation-append_comm t.held (map (span_row n) gains);
 }
 
--- what was written of a batch stands for the state after it
-pub batch_stands : (db : Trees) (n first count : ℕ) (batch : List Entry) (gains : List Span) (t : Tables) (s : State)
-    → Stand db (batched n count (entry_rows n first batch) (map (span_row n) gains) t)
-    → IsOf (with_entered n first count batch gains t) s → StandsFor db s
-batch_stands db n first count batch gains t s stands is =
-    same_stands db (batched n count (entry_rows n first batch) (map (span_row n) gains) t) (with_entered n first count batch gains t) s
+-- rows that it gives are the driver's, or it gives none
+batch_kept : (j n : ℕ) (rows : List SpanRow) (gains : List Span) → (gains ≡ []) ⊎ (j ≢ n)
+    → filter (is_of j) rows ≡ filter (is_of j) (rows ++ map (span_row n) gains)
+batch_kept j n rows gains (inl none) = ap (λ (x : List SpanRow). filter (is_of j) x)
+    (sym (append-nil rows) ∙ ap (λ (x : List Span). rows ++ map (span_row n) x) (sym none))
+batch_kept j n rows gains (inr other) = added_kept j n rows gains other
+
+-- what was written of a batch follows
+pub batch_follows : (db next : Trees) (n first count : ℕ) (batch : List Entry) (gains : List Span) (t : Tables) (s after : State)
+    → Stand db t → IsOf t s → Stand next (batched n count (entry_rows n first batch) (map (span_row n) gains) t)
+    → IsOf (with_entered n first count batch gains t) after
+    → ((j : ℕ) → driver_of j after ≡ driver_of j s → (gains ≡ []) ⊎ (j ≢ n)) → Follows db next s after
+batch_follows db next n first count batch gains t s after stand of stands is other =
+    same_follow db next t (with_entered n first count batch gains t)
+    (batched n count (entry_rows n first batch) (map (span_row n) gains) t) s after stand of
     (same_batched n first count batch gains t) stands is
+    (λ j same. record { card_spans = refl; held = batch_kept j n t.held gains (other j same) })
 
 -- ---- a withdrawal
 
@@ -115,10 +135,12 @@ same_renewed n number start past spans t = record {
   held = IsPermutation-append_comm (filter (λ r. not (is_near n start past r)) t.held) (map (span_row n) spans);
 }
 
--- what was written of a withdrawal stands for the state after it
-pub renewed_stands : (db : Trees) (n number start past : ℕ) (spans : List Span) (t : Tables) (s : State)
-    → Stand db (renewed n number start past (map (span_row n) spans) t)
-    → IsOf (with_renewed n number start past spans t) s → StandsFor db s
-renewed_stands db n number start past spans t s stands is =
-    same_stands db (renewed n number start past (map (span_row n) spans) t) (with_renewed n number start past spans t) s
-    (same_renewed n number start past spans t) stands is
+-- what was written of a withdrawal follows
+pub renewed_follows : (db next : Trees) (n number start past : ℕ) (spans : List Span) (t : Tables) (s after : State)
+    → Stand db t → IsOf t s → Stand next (renewed n number start past (map (span_row n) spans) t)
+    → IsOf (with_renewed n number start past spans t) after
+    → ((j : ℕ) → driver_of j after ≡ driver_of j s → j ≢ n) → Follows db next s after
+renewed_follows db next n number start past spans t s after stand of stands is other =
+    same_follow db next t (with_renewed n number start past spans t) (renewed n number start past (map (span_row n) spans) t) s after
+    stand of (same_renewed n number start past spans t) stands is
+    (λ j same. record { card_spans = refl; held = renewed_kept j n start past t.held spans (other j same) })

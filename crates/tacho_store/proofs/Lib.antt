@@ -18,7 +18,9 @@ mod ReadingLemmas
 mod RangeLemmas
 mod NewsLemmas
 mod TimelineLemmas
+mod OthersLemmas
 mod JoinLemmas
+mod StepsLemmas
 mod ImporterLemmas
 mod DecisionLemmas
 mod AdditionLemmas

@@ -17,7 +17,7 @@ use Rattle.tacho_store.proofs.StateLemmas.{SameOfDriver, found_number, found_of,
 -- ---- a driver behind the others
 
 -- a number that wasn't found isn't there
-number_not : (n : ℕ) (s : State) → driver_of n s ≡ None → HasNot n s
+pub number_not : (n : ℕ) (s : State) → driver_of n s ≡ None → HasNot n s
 number_not n [] e = tt
 number_not n (x ∷ s) e = go (x.number == n) refl e (number_not n s) where
   go : (b : Bool) → (x.number == n) ≡ b → cond b (Some x) (driver_of n s) ≡ None → (driver_of n s ≡ None → HasNot n s) → HasNot n (x ∷ s)

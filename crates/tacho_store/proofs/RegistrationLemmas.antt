@@ -1,7 +1,6 @@
 -- What a registration answers, by what look-ups find.
 use Rattle.std.proofs.Common.{◌≡◌, ℕ, List, [], ◌∷◌, ◌++◌, true, false, Option, Some, None, Ok, Err, refl, sym, subst}
 use Rattle.std.specs.Prelude.{MatchOption, is_some}
-use Rattle.std.proofs.lemmas.List.Sorted.{IsPermutation-refl, IsPermutation-append_comm}
 use Rattle.sqlite.specs.Tree.{Trees}
 use Rattle.tacho_state.specs.declared.fault.StoreFault.{StoreFault}
 use Rattle.tacho_state.specs.declared.fault.StoreFault.TheVariants.{DriverTaken, KeyTaken, HolderTaken, NotMonday}
@@ -9,9 +8,9 @@ use Rattle.tacho_state.specs.State.{Driver, State, driver_of, keyed, holding}
 use Rattle.tacho_state.specs.Steps.{registered, is_monday}
 use Rattle.tacho_tables.specs.Tables.{Tables, Stand}
 use Rattle.tacho_store.specs.Finding.{Refuses, AreFree, IsAskedFree}
-use Rattle.tacho_store.specs.Standing.{StandsFor, driver_columns, with_driver}
+use Rattle.tacho_store.specs.Standing.{StandsFor, Follows, driver_columns}
 use Rattle.tacho_store.proofs.RegisterLemmas.{registered_is}
-use Rattle.tacho_store.proofs.OrderedLemmas.{any_order_stands}
+use Rattle.tacho_store.proofs.JoinLemmas.{driver_follows}
 
 module _ (number : ℕ) (holder key : List ℕ) (base : ℕ) (name : List ℕ) (s : State) where
   -- S1
@@ -45,29 +44,18 @@ module _ (number : ℕ) (holder key : List ℕ) (base : ℕ) (name : List ℕ) (
     pub goes_in : is_monday base ≡ true → (registered number holder key base name s).answer ≡ Ok tt
     goes_in is = rw (free.new_number, free.new_key, free.new_holder, is) refl
 
-    -- and with his row the tables stand for the state after it
+    -- and tables with his row follow
     pub row_added : (db next : Trees) → is_monday base ≡ true → StandsFor db s
         → ((a : Tables) → Stand db a → Stand next
         (record a { drivers = record { driver = number; holder = holder; secret = key; base = base; name = name; downloads = 0; entries = 0 } ∷ a.drivers }))
-        → StandsFor next (registered number holder key base name s).after
+        → Follows db next s (registered number holder key base name s).after
     unfolding StandsFor
     row_added db next is (t, stand, of) turn =
         let d : Driver = record { number = number; holder = holder; key = key; base = base; name = name; downloads = []; entries = [] } in
-        let row = driver_columns d in
-        let front : Tables = record t { drivers = row ∷ t.drivers } in
         let after : (registered number holder key base name s).after ≡ s ++ d ∷ [] = rw
         (free.new_number, free.new_key, free.new_holder, is) refl in
-        subst (StandsFor next) (sym after) (
-          with_driver row t,
-          any_order_stands next front (with_driver row t) (record {
-            drivers = IsPermutation-append_comm (row ∷ []) t.drivers;
-            downloads = IsPermutation-refl _;
-            card_spans = IsPermutation-refl _;
-            entries = IsPermutation-refl _;
-            held = IsPermutation-refl _;
-          }) (turn t stand),
-          registered_is t s d of free.new_number free.new_key free.new_holder refl refl,
-        )
+        subst (Follows db next s) (sym after) (driver_follows db next (driver_columns d) t s (s ++ d ∷ []) stand of (turn t stand)
+        (registered_is t s d of free.new_number free.new_key free.new_holder refl refl))
 
 -- what was asked: all are free
 pub all_free : (s : State) (number : ℕ) (key holder : List ℕ) (done : Unit {0}) → IsAskedFree s number key holder (Ok done)

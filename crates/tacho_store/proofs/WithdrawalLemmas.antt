@@ -17,14 +17,16 @@ use Rattle.tacho_tables.specs.declared.rows.StoredEntry.{StoredEntry}
 use Rattle.tacho_tables.specs.declared.rows.StoredSpan.{StoredSpan}
 use Rattle.tacho_tables.specs.Rows.{EntryRow, SpanRow}
 use Rattle.tacho_tables.specs.Tables.{Tables, Stand, Turns, is_entry, is_near, entry_of, row_of, with_withdrawn}
-use Rattle.tacho_store.specs.Standing.{StandsFor, IsOf, span_row, stored_span, entry_row, with_renewed, IsReadNear, IsKeptNear}
+use Rattle.tacho_store.specs.Standing.{StandsFor, Follows, IsOf, span_row, stored_span, entry_row, with_renewed, IsReadNear, IsKeptNear}
 use Rattle.tacho_store.specs.Finding.{Refuses}
 use Rattle.tacho_store.specs.Apart.{AreApart, rows_of}
 use Rattle.tacho_store.specs.Withdrawing.{IsThere, IsEntry, AreRowsFor, AreRenewed}
 use Rattle.tacho_store.proofs.ApartLemmas.{card_apart, held_apart}
 use Rattle.tacho_store.proofs.EntryLemmas.{entry_none, entry_some}
 use Rattle.tacho_store.proofs.WithdrawLemmas.{withdrawn_is}
-use Rattle.tacho_store.proofs.JoinLemmas.{renewed, renewed_stands}
+use Rattle.tacho_store.proofs.JoinLemmas.{renewed, renewed_follows}
+use Rattle.tacho_store.proofs.OthersLemmas.{is_another, mark_changes}
+use Rattle.tacho_store.proofs.StateLemmas.{found_number}
 
 -- ---- what the step answers
 
@@ -199,22 +201,24 @@ renewed_is t s n number it rows d e of there = subst
     (λ found. withdrawn_is t s n d number e found.cards found.others found.helds found.are_rows.inside of there.driver there.entry
     found.cards_near found.others_near found.helds_near found.are_rows.given)
 
--- what the writes of a withdrawal leave stands for the state after it
-pub withdrawal_stands : {E : Type 0} (db marked next : Trees) (s : State) (n number : ℕ) (it : StoredEntry)
+-- what the writes of a withdrawal leave follows
+pub withdrawal_follows : {E : Type 0} (db marked next : Trees) (s : State) (n number : ℕ) (it : StoredEntry)
     (rows : List StoredSpan) (r : Result (Unit {0}) E) → IsEntry s n number (Ok it) → StandsFor db s
     → ((a : Tables) → Stand db a → AreApart (rows_of n a.card_spans) → AreApart (rows_of n a.held) → AreRenewed a n number it.start it.past rows)
     → ((a : Tables) → Stand db a → Unit {0} → Stand marked (record a { entries = map (with_withdrawn n number) a.entries }))
     → ((a : Tables) → Stand marked a → AreApart (rows_of n a.held)
     → OnOk r (Stand next (record a { held = map (row_of n) rows ++ filter (λ r. not (is_near n it.start it.past r)) a.held })))
-    → OnOk r (StandsFor next (withdrawn n number s).after)
+    → OnOk r (Follows db next s (withdrawn n number s).after)
 unfolding StandsFor IsEntry
-withdrawal_stands db marked next s n number it rows r (d, e, there) (t, stand, of) renew mark rewrite =
+withdrawal_follows db marked next s n number it rows r (d, e, there) (t, stand, of) renew mark rewrite =
     let cards = card_apart t s n d of there.driver in
     let helds = held_apart t s n d of there.driver in
     let found = renew t stand cards helds in
     let spans = outside it.start it.past (map stored_span found.helds) ++ found.are_rows.inside in
     on_ok_weaker r (λ written.
-    subst (λ (x : State). StandsFor next x) (sym (marked_after n number s d there.driver e there.entry there.kept))
-    (renewed_stands next n number it.start it.past spans t (put (with_marked number d) s)
+    subst (Follows db next s) (sym (marked_after n number s d there.driver e there.entry there.kept))
+    (renewed_follows db next n number it.start it.past spans t s (put (with_marked number d) s) stand of
     (subst (λ (x : List SpanRow). Stand next (renewed n number it.start it.past x t)) (found.are_rows.all n) written)
-    (renewed_is t s n number it rows d e of there found))) (rewrite _ (mark t stand tt) helds)
+    (renewed_is t s n number it rows d e of there found)
+    (is_another n d (with_marked number d) s there.driver (found_number n s d there.driver)
+    (mark_changes number d e there.entry there.kept)))) (rewrite _ (mark t stand tt) helds)

@@ -9,7 +9,7 @@ use Rattle.tacho_state.specs.Batch.{batch_of}
 use Rattle.tacho_state.specs.Steps.{Turn, settled, enter_own, most}
 use Rattle.tacho_tables.specs.Rows.{SpanRow, EntryRow}
 use Rattle.tacho_tables.specs.Tables.{Tables, Stand, with_entries}
-use Rattle.tacho_store.specs.Standing.{StandsFor, entry_rows, span_row}
+use Rattle.tacho_store.specs.Standing.{Follows, entry_rows, span_row}
 
 -- the tables as the writes of a batch leave them: the count of the driver's entries, and rows in front of what was there
 abbrev pub batched : ℕ → ℕ → List EntryRow → List SpanRow → Tables → Tables
@@ -19,14 +19,14 @@ batched n count rows helds t = record t {
   held = helds ++ t.held;
 }
 
--- the driver's batch, of which these are new to what he holds: it goes in where there are numbers for all its lines, and with its rows
--- in the tables they stand for the state after it
+-- the driver's batch, of which these are new to what he holds: it goes in where there are numbers for all its lines, and tables with
+-- its rows follow it
 pub record AreNumbered (db : Trees) (s : State) (n : ℕ) (d : Driver) (batch : List Entry) (gains : List Span) : Type 0 where
   pub numbered : length d.entries + length batch ≤ most → enter_own batch d ≡ Ok (1 + length d.entries, with_batch batch d)
   pub full : most < length d.entries + length batch → enter_own batch d ≡ Err Full
-  pub stands : (next : Trees)
+  pub follows : (next : Trees)
       → ((t : Tables) → Stand db t → Stand next (batched n (length d.entries + length batch) (entry_rows n (1 + length d.entries) batch) (map (span_row n) gains) t))
-      → StandsFor next (put (with_batch batch d) s)
+      → Follows db next s (put (with_batch batch d) s)
 
 -- the driver's batch
 abbrev pub enter_turn : List EntryLine → Driver → State → Turn ℕ

@@ -15,7 +15,7 @@ use Rattle.tacho_tables.specs.Tables.{Tables, Stand, with_downloads}
 use Rattle.tacho_store.specs.declared.content.CardContent.{CardContent}
 use Rattle.tacho_store.specs.declared.import.Importer.{Importer}
 use Rattle.tacho_store.specs.declared.news.News.{News}
-use Rattle.tacho_store.specs.Standing.{StandsFor, span_row}
+use Rattle.tacho_store.specs.Standing.{Follows, span_row}
 use Rattle.tacho_store.specs.Finding.{Refuses}
 
 -- the driver, if there is one: S4
@@ -53,13 +53,13 @@ written n number part file cards helds t = record t {
 }
 
 -- the driver's import of spans, of which these are new to what downloads give and to what he holds: it is added where there is a
--- number, and with these in the tables they stand for the state after it
+-- number, and tables with these follow it
 pub record AreAdded (db : Trees) (s : State) (n : ℕ) (d : Driver) (spans cards helds : List Span) : Type 0 where
   pub added : (part : ℕ) (file : List ℕ) → length d.downloads < most → import_own part file spans d ≡ Ok (Added d.number (1 + length d.downloads), with_download part file spans d)
   pub full : (part : ℕ) (file : List ℕ) → most ≤ length d.downloads → import_own part file spans d ≡ Err Full
-  pub stands : (part : Part) (file holder : List ℕ) (next : Trees) → FileTells part file (Ok (record { holder = holder; spans = spans }))
+  pub follows : (part : Part) (file holder : List ℕ) (next : Trees) → FileTells part file (Ok (record { holder = holder; spans = spans }))
       → ((t : Tables) → Stand db t → Stand next (written n (1 + length d.downloads) (part_number part) file (map (span_row n) cards) (map (span_row n) helds) t))
-      → StandsFor next (put (with_download (part_number part) file spans d) s)
+      → Follows db next s (put (with_download (part_number part) file spans d) s)
 
 -- what is new of a file's spans decides the driver's import; or a call gave up
 unfoldable pub AreDecided : Trees → State → ℕ → Driver → List Span → Result (Option News) StoreFault → Type 0

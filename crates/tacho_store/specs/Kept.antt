@@ -1,5 +1,5 @@
 -- What a connection holds of an archive.
-use Rattle.std.specs.Prelude.{◌≡◌, ◌⊎◌, List, [], ◌∷◌, Result, IsTrue}
+use Rattle.std.specs.Prelude.{◌≡◌, ◌⊎◌, ℕ, List, [], ◌∷◌, Result, IsTrue}
 use Rattle.sqlite.specs.Tree.{Trees}
 use Rattle.sqlite.specs.State.{State as Sqlite, HasCleanDisk}
 use Rattle.sqlite.specs.Store.{Ghosts}
@@ -10,7 +10,7 @@ use Rattle.tacho_state.specs.State.{State}
 use Rattle.tacho_state.specs.Steps.{Turn}
 use Rattle.tacho_state.specs.Acts.{Acts, Reads}
 use Rattle.tacho_tables.specs.Schema.{no_schema, archive_schema}
-use Rattle.tacho_store.specs.Standing.{StandsFor}
+use Rattle.tacho_store.specs.Standing.{StandsFor, KeepsRowsOf}
 
 -- this is true of one of the states
 abbrev pub IsOfOne : (State → Type 0) → List State → Type 0
@@ -43,11 +43,16 @@ IsGivenUp fault = ⊥
 abbrev pub IsSame : Sqlite → Sqlite → Type 0
 IsSame a b = IsTrue b.is_open → b.now ≡ a.now
 
+-- of one driver the second sees the rows that the first does, while it is open
+abbrev pub IsSameOf : ℕ → Sqlite → Sqlite → Type 0
+IsSameOf n a b = IsTrue b.is_open → KeepsRowsOf n a.now.trees b.now.trees
+
 -- what a call does over a connection, where its tables are those of an archive
 module _ {S : Type 0} (g : Ghosts S) {A B : Type 0} (view : A → B) (old new : Held S) (result : Result A StoreFault) where
   abbrev pub ActsOn : (State → Turn B) → Type 0
   ActsOn step = Acts (λ (h : Held S). Shows (state g h)) (λ h. HasCleanDisk (state g h)) (λ h. IsTrue (state g h).is_open)
-      (λ h. LeavesOneOf (state g h)) (λ a b. IsSame (state g a) (state g b)) view old new result step
+      (λ h. LeavesOneOf (state g h)) (λ a b. IsSame (state g a) (state g b)) (λ n a b. IsSameOf n (state g a) (state g b))
+      view old new result step
 
   abbrev pub ReadsOn : (State → Result B StoreFault) → Type 0
   ReadsOn told = Reads (λ (h : Held S). Shows (state g h)) (λ h. HasCleanDisk (state g h)) (λ h. IsTrue (state g h).is_open)

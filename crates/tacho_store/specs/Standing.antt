@@ -8,13 +8,13 @@ use Rattle.tacho_time.specs.declared.span.Activity.TheVariants.{Rest, Available,
 use Rattle.tacho_time.specs.Spans.{Gives, IsFirstConflict}
 use Rattle.tacho_card.specs.declared.file.Part.{Part}
 use Rattle.tacho_state.specs.declared.entry.Entry.{Entry as Listed}
-use Rattle.tacho_state.specs.State.{Download, Entry, Driver, State, Given, Held, AreFull}
+use Rattle.tacho_state.specs.State.{Download, Entry, Driver, State, Given, Held, AreFull, driver_of}
 use Rattle.tacho_state.specs.Disjoint.{Keeps}
 use Rattle.tacho_state.specs.Content.{FileTells, part_number}
 use Rattle.tacho_tables.specs.Rows.{SpanRow, DownloadRow, EntryRow, DriverRow}
 use Rattle.tacho_tables.specs.declared.rows.StoredSpan.{StoredSpan}
 use Rattle.tacho_tables.specs.declared.rows.StoredEntry.{StoredEntry}
-use Rattle.tacho_tables.specs.Tables.{Tables, Stand, is_near, is_kept_near, span_of, entry_span_of, with_base, with_downloads, with_entries, with_withdrawn}
+use Rattle.tacho_tables.specs.Tables.{Tables, Stand, has_number, is_of, is_near, is_kept_near, span_of, entry_span_of, with_base, with_downloads, with_entries, with_withdrawn}
 
 -- ---- marks as numbers: 0 rest, 1 available, 2 work, 3 drive, and 4 more for crew
 
@@ -137,6 +137,23 @@ pub record IsOf (t : Tables) (s : State) : Type 0 where
 -- what is stored stands for the state
 unfoldable pub StandsFor : Trees → State → Type 0
 StandsFor db s = (t : Tables) × Stand db t × IsOf t s
+
+-- of one driver both have the same rows
+pub record HaveSameRowsOf (n : ℕ) (t u : Tables) : Type 0 where
+  pub drivers : filter (has_number n) t.drivers ≡ filter (has_number n) u.drivers
+  pub downloads : downloads_of n t.downloads ≡ downloads_of n u.downloads
+  pub card_spans : filter (is_of n) t.card_spans ≡ filter (is_of n) u.card_spans
+  pub entries : entries_of n t.entries ≡ entries_of n u.entries
+  pub held : filter (is_of n) t.held ≡ filter (is_of n) u.held
+
+-- what is stored before and after has the same rows of one driver
+unfoldable pub KeepsRowsOf : ℕ → Trees → Trees → Type 0
+KeepsRowsOf n db next = (t : Tables) × (u : Tables) × Stand db t × Stand next u × HaveSameRowsOf n t u
+
+-- what is stored after stands for the state after, and has the same rows of each driver of whom that says the same
+pub record Follows (db next : Trees) (s after : State) : Type 0 where
+  pub stands : StandsFor next after
+  pub others : (n : ℕ) → driver_of n after ≡ driver_of n s → KeepsRowsOf n db next
 
 -- ---- the tables after a command
 

@@ -153,7 +153,7 @@ impl<S: Alter> Keeper for Archive<S> {
     ghost use Rattle.std.proofs.Common.{inr};
     ghost use Rattle.sqlite.specs.State.{HasCleanDisk};
     ghost use Rattle.sqlite.specs.Held.{state};
-    ghost use Rattle.tacho_store.specs.Kept.{Shows, LeavesOneOf, IsSame};
+    ghost use Rattle.tacho_store.specs.Kept.{Shows, LeavesOneOf, IsSame, IsSameOf};
 
     ghost stands = { λ a s. Shows (state S.Store a.conn) s };
 
@@ -164,6 +164,8 @@ impl<S: Alter> Keeper for Archive<S> {
     ghost leaves = { λ a states. LeavesOneOf (state S.Store a.conn) states };
 
     ghost is_same = { λ a b. IsSame (state S.Store a.conn) (state S.Store b.conn) };
+
+    ghost is_same_of = { λ n a b. IsSameOf n (state S.Store a.conn) (state S.Store b.conn) };
 
     ghost leaves_more = { λ a s states leaves db may. inr (leaves db may) };
 

@@ -33,6 +33,7 @@ fn rebase_in<S: Alter>(
 }
 
 /// Sets the day from which a driver is examined: S4, S9.
+#[tactic(auto, using(crate::proofs::StepsLemmas::undone_keeps))]
 pub fn rebase<S: Alter>(conn: &mut Connection<S>, driver: u32, base: Day) -> Result<(), StoreFault>
     requires { conn.old.in_transaction ≡ false }
     ensures autocommit { conn.new.in_transaction ≡ false }

@@ -141,6 +141,7 @@ fn enter_in<S: Alter>(
 }
 
 /// Enters a batch of hours: S4, S6, S14.
+#[tactic(auto, using(crate::proofs::StepsLemmas::undone_keeps))]
 pub fn enter<S: Alter>(
     alloc: Global,
     conn: &mut Connection<S>,

@@ -220,6 +220,7 @@ fn import_in<S: Alter>(
 }
 
 /// Imports what a card file tells: S4, S5, S6, S14.
+#[tactic(auto, using(crate::proofs::StepsLemmas::undone_keeps))]
 pub fn import<S: Alter>(
     alloc: Global,
     conn: &mut Connection<S>,

@@ -31,6 +31,7 @@ fn register_in<S: Alter>(tx: &mut Transaction<'_, S>, driver: &Driver) -> Result
 }
 
 /// Adds a driver: S1, S2, S3, S9.
+#[tactic(auto, using(crate::proofs::StepsLemmas::undone_keeps))]
 pub fn register<S: Alter>(conn: &mut Connection<S>, driver: &Driver) -> Result<(), StoreFault>
     requires { conn.old.in_transaction ≡ false }
     ensures autocommit { conn.new.in_transaction ≡ false }

@@ -165,6 +165,7 @@ fn withdraw_in<S: Alter>(
 }
 
 /// Withdraws a driver's entry: S4, S7, S8.
+#[tactic(auto, using(crate::proofs::StepsLemmas::undone_keeps))]
 pub fn withdraw<S: Alter>(
     alloc: Global,
     conn: &mut Connection<S>,

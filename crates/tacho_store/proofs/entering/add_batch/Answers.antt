@@ -1,8 +1,10 @@
 use Rattle.std.proofs.Common.{rules, ◌≡◌, ◌∙◌, ◌+◌, ◌≤◌, ◌<◌, map, length, sym, ap, subst, arith}
+use Rattle.sqlite.specs.Held.{state}
 use Rattle.tacho_tables.specs.Tables.{row_of}
 use Rattle.tacho_state.specs.Steps.{most}
 use Rattle.tacho_store.specs.Standing.{span_row}
 use Rattle.tacho_store.proofs.MappedLemmas.{was_ok}
+use Rattle.tacho_store.proofs.StepsLemmas.{given_by}
 use Rattle.tacho_store.proofs.EnteringLemmas.{rows_counted, numbers_left, no_numbers, too_many, batch_answer, batch_written}
 use Rattle.tacho_store.proofs.entering.add_batch.Goals as goal
 
@@ -16,6 +18,7 @@ returns-in_default-clause-steps g c = record {
       too_many _ s c.args.driver p.0 p.1 c.args.gains.now all.2 c.args.given all.0 c.args.spans.now all.1
       (omega (arith, long));
   made = search rules;
+  others = search rules;
 }
 
 pub returns-in_default-first_number-clause-steps : goal.returns-in_default-first_number-clause-steps
@@ -28,6 +31,7 @@ returns-in_default-first_number-clause-steps g c = record {
       too_many _ s c.args.driver p.0 p.1 c.args.gains.now all.2 c.args.given all.0 c.args.spans.now all.1
       (subst (λ n. most < c.args.given + n) c.in-Ok.ensures.1 over);
   made = search rules;
+  others = search rules;
 }
 
 pub write_batch-requires : goal.write_batch-requires
@@ -41,28 +45,26 @@ write_batch-requires g c =
     omega (arith, rows, counted, most_of, first, value)
 
 pub returns-clause-steps : goal.returns-clause-steps
-returns-clause-steps g c = record {
-  stays = search rules;
-  keeps = search rules;
-  of_no_file = search rules;
-  answer = λ clean schema s stands p all.
-      let room = numbers_left c.args.given c.in-Ok.count c.in-Some.first (sym c.first_number.ensures ∙ c.in-Some.is) in
-      batch_answer _ s c.args.driver p.0 p.1 c.args.gains.now all.2 c.args.given all.0 c.args.spans.now all.1
-      c.in-Some.first (subst (λ n. c.args.given + n ≤ most) c.in-Ok.ensures.1 room.0) room.1;
-  made = λ clean schema s stands p all.
-      let n = c.args.driver in
-      let room = numbers_left c.args.given c.in-Ok.count c.in-Some.first (sym c.first_number.ensures ∙ c.in-Some.is) in
-      let wrote = was_ok c.write_batch.result c.in_ok-map_err.field-0 _ c.in_ok-map_err.ensures.cases
-      (c.write_batch.ensures.turned clean schema) in (
-        wrote.schema,
-        batch_written _ s n p.0 p.1 c.args.gains.now all.2 c.args.given all.0 c.args.spans.now all.1 c.in-Some.first
-            (c.args.given + c.in-Ok.count) c.deref.result.now c.deref-2.result.now _
-            (subst (λ k. c.args.given + k ≤ most) c.in-Ok.ensures.1 room.0) room.1
-            (ap (λ k. c.args.given + k) c.in-Ok.ensures.1)
-            (subst (λ x. map (row_of n) x ≡ map (span_row n) c.args.spans.now) (sym c.deref.ensures.value)
-            (c.in_ok-rows.ensures n))
-            (subst (λ x. map (row_of n) x ≡ map (span_row n) c.args.gains.now) (sym c.deref-2.ensures.value)
-            (c.in_ok-helds.ensures n))
-            wrote.stands,
-      );
-}
+returns-clause-steps g c = given_by (search rules) (search rules) (search rules)
+    (λ clean schema s stands p all.
+    let room = numbers_left c.args.given c.in-Ok.count c.in-Some.first (sym c.first_number.ensures ∙ c.in-Some.is) in
+    batch_answer _ s c.args.driver p.0 p.1 c.args.gains.now all.2 c.args.given all.0 c.args.spans.now all.1
+    c.in-Some.first (subst (λ n. c.args.given + n ≤ most) c.in-Ok.ensures.1 room.0) room.1)
+    (λ clean schema s stands p all.
+    let n = c.args.driver in
+    let room = numbers_left c.args.given c.in-Ok.count c.in-Some.first (sym c.first_number.ensures ∙ c.in-Some.is) in
+    let wrote = was_ok c.write_batch.result c.in_ok-map_err.field-0 _ c.in_ok-map_err.ensures.cases
+    (c.write_batch.ensures.turned clean schema) in (
+      wrote.schema,
+      batch_written (state g.S.Store c.args.tx.now.conn.now).now.trees s n p.0 p.1 c.args.gains.now all.2 c.args.given all.0
+          c.args.spans.now all.1 c.in-Some.first
+          (c.args.given + c.in-Ok.count) c.deref.result.now c.deref-2.result.now
+          (state g.S.Store c.write_batch.new.tx.conn.now).now.trees
+          (subst (λ k. c.args.given + k ≤ most) c.in-Ok.ensures.1 room.0) room.1
+          (ap (λ k. c.args.given + k) c.in-Ok.ensures.1)
+          (subst (λ x. map (row_of n) x ≡ map (span_row n) c.args.spans.now) (sym c.deref.ensures.value)
+          (c.in_ok-rows.ensures n))
+          (subst (λ x. map (row_of n) x ≡ map (span_row n) c.args.gains.now) (sym c.deref-2.ensures.value)
+          (c.in_ok-helds.ensures n))
+          wrote.stands,
+    ))

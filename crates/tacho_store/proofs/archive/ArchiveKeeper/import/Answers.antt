@@ -2,6 +2,7 @@ use Rattle.std.proofs.Common.{rules, inr, refl}
 use Rattle.tacho_state.specs.Acts.{caller_number}
 use Rattle.tacho_store.specs.declared.archive.Archive.{Archive}
 use Rattle.tacho_store.proofs.FileLemmas.{acts_whole, acts_told, acts_fault, unreadable, readable, was_read, not_of_file}
+use Rattle.tacho_store.proofs.OthersLemmas.{kept_rows}
 use Rattle.tacho_store.proofs.archive.ArchiveKeeper.import.Goals as goal
 
 pub returns-in_err-content : goal.returns-in_err-content
@@ -13,7 +14,8 @@ returns-in_err-content g c = record {
   readable = readable c.args.part c.args.file.now c.from_residual.result _ c.in_err-content.ensures.told c.from_residual.ensures;
   repeated = search rules;
   imported = λ content tells.
-      acts_fault _ _ _ _ _ (λ k s states leaves db may. inr (leaves db may)) (λ k opened. refl) c.args.self.now c.from_residual.result
+      acts_fault _ _ _ _ _ _ (λ k s states leaves db may. inr (leaves db may)) (λ k opened. refl)
+      (λ k s stands n opened. kept_rows n _ s (stands opened).1) c.args.self.now c.from_residual.result
       (caller_number c.args.caller) c.args.part c.args.file.now _ content tells c.in_err-content.ensures.told c.from_residual.ensures;
 }
 
