@@ -5,7 +5,8 @@ use Rattle.tacho_state.specs.declared.fault.StoreFault.TheVariants.{UnknownDrive
 use Rattle.tacho_state.specs.State.{Driver, State, driver_of}
 use Rattle.tacho_state.specs.Steps.{rebased, is_monday}
 use Rattle.tacho_tables.specs.Tables.{Tables, Stand, with_base}
-use Rattle.tacho_store.specs.Standing.{StandsFor, Follows, with_rebased}
+use Rattle.tacho_reading.specs.Standing.{StandsFor, Follows}
+use Rattle.tacho_store.specs.After.{with_rebased}
 use Rattle.tacho_store.proofs.RegisterLemmas.{rebased_is}
 use Rattle.tacho_store.proofs.OthersLemmas.{followed}
 

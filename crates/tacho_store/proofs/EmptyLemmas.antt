@@ -3,7 +3,7 @@ use Rattle.std.proofs.Common.{[], refl}
 use Rattle.std.proofs.lemmas.List.Elements.{All-nil}
 use Rattle.sqlite.specs.Tree.{Trees}
 use Rattle.tacho_tables.specs.Tables.{Stand, no_rows}
-use Rattle.tacho_store.specs.Standing.{IsOf, IsMark, StandsFor}
+use Rattle.tacho_reading.specs.Standing.{IsOf, IsMark, StandsFor}
 
 -- as lists
 pub empty_is : IsOf no_rows []

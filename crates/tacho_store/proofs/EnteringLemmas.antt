@@ -25,16 +25,16 @@ use Rattle.tacho_state.proofs.StepLemmas.{contradicted_batch, entered_batch, ful
 use Rattle.tacho_tables.specs.declared.rows.StoredSpan.{StoredSpan}
 use Rattle.tacho_tables.specs.Rows.{SpanRow, EntryRow}
 use Rattle.tacho_tables.specs.Tables.{Tables, Stand, entered_rows, row_of}
-use Rattle.tacho_store.specs.Standing.{StandsFor, Follows, IsOf, activity_number, spans_of, span_row, entry_row, entry_rows, stored_span}
+use Rattle.tacho_reading.specs.Standing.{StandsFor, Follows, IsOf, activity_number, spans_of, span_row, entry_row, entry_rows, stored_span}
+use Rattle.tacho_reading.specs.Finding.{Refuses}
+use Rattle.tacho_reading.proofs.ApartLemmas.{held_apart}
+use Rattle.tacho_reading.proofs.RangedLemmas.{AreRead}
+use Rattle.tacho_reading.proofs.FoundLemmas.{handed_on}
+use Rattle.tacho_reading.proofs.NearRowLemmas.{read_line, held_kept}
 use Rattle.tacho_store.specs.Entering.{AreNumbered, batched}
-use Rattle.tacho_store.specs.Finding.{Refuses}
 use Rattle.tacho_store.specs.News.{IsContradicted}
-use Rattle.tacho_store.proofs.ApartLemmas.{held_apart}
-use Rattle.tacho_store.proofs.DecisionLemmas.{AreRead}
-use Rattle.tacho_store.proofs.EntryLemmas.{entered_is}
-use Rattle.tacho_store.proofs.FoundLemmas.{handed_on}
+use Rattle.tacho_store.proofs.BatchLemmas.{entered_is}
 use Rattle.tacho_store.proofs.JoinLemmas.{batch_follows}
-use Rattle.tacho_store.proofs.NearRowLemmas.{read_line, held_kept}
 use Rattle.tacho_store.proofs.OthersLemmas.{another_or_none}
 
 -- ---- the spans of a batch's lines

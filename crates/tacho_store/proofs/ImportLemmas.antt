@@ -11,10 +11,11 @@ use Rattle.tacho_state.specs.Steps.{Content}
 use Rattle.tacho_state.proofs.GainLemmas.{download_kept}
 use Rattle.tacho_tables.specs.Rows.{DriverRow, DownloadRow}
 use Rattle.tacho_tables.specs.Tables.{Tables, with_downloads}
-use Rattle.tacho_store.specs.Standing.{driver_columns, spans_of, AreRead, IsOfDriver, IsOf, with_imported}
-use Rattle.tacho_store.proofs.RowLemmas.{eq_self, eq_not, added_own, added_other, added_marks}
-use Rattle.tacho_store.proofs.DownloadLemmas.{download_row, rows_append, own_added, other_added, one_more}
-use Rattle.tacho_store.proofs.StateLemmas.{SameOfDriver, found_number, found_of, put_is, rows_put}
+use Rattle.tacho_reading.specs.Standing.{driver_columns, spans_of, AreRead, IsOfDriver, IsOf}
+use Rattle.tacho_reading.proofs.RowLemmas.{eq_self, eq_not, added_own, added_other, added_marks}
+use Rattle.tacho_reading.proofs.DownloadLemmas.{download_row, rows_append, own_added, other_added, one_more}
+use Rattle.tacho_reading.proofs.StateLemmas.{SameOfDriver, found_number, found_of, put_is, rows_put}
+use Rattle.tacho_store.specs.After.{with_imported}
 
 -- the spans of one more download are read from its file
 read_more : (ds : List Download) (part : Part) (file : List ℕ) (content : Content) → AreRead ds → FileTells part file (Ok content)

@@ -8,10 +8,11 @@ use Rattle.tacho_time.specs.declared.span.Span.{Span}
 use Rattle.tacho_state.specs.State.{Entry, State, driver_of}
 use Rattle.tacho_tables.specs.Rows.{SpanRow, DriverRow}
 use Rattle.tacho_tables.specs.Tables.{Tables, Stand, Turns, is_of, is_near, with_downloads, with_entries, with_withdrawn}
-use Rattle.tacho_store.specs.Standing.{IsOf, Follows, SameRows, span_row, entry_rows, with_driver, with_imported, with_entered, with_renewed}
+use Rattle.tacho_reading.specs.Standing.{IsOf, Follows, SameRows, span_row, entry_rows}
+use Rattle.tacho_reading.proofs.OrderedLemmas.{any_order_stands}
+use Rattle.tacho_store.specs.After.{with_driver, with_imported, with_entered, with_renewed}
 use Rattle.tacho_store.specs.Importing.{written}
 use Rattle.tacho_store.specs.Entering.{batched}
-use Rattle.tacho_store.proofs.OrderedLemmas.{any_order_stands}
 use Rattle.tacho_store.proofs.OthersLemmas.{HaveSameSpansOf, followed, added_kept, renewed_kept}
 
 -- ---- steps

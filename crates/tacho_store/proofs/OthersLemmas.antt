@@ -8,12 +8,12 @@ use Rattle.tacho_line.specs.Line.{AreGains}
 use Rattle.tacho_state.specs.State.{Entry, Driver, State, driver_of, entry_from, marked_from, entered_spans, put, with_download, with_batch, with_marked}
 use Rattle.tacho_tables.specs.Rows.{SpanRow, DownloadRow, EntryRow, DriverRow}
 use Rattle.tacho_tables.specs.Tables.{Tables, Stand, has_number, is_of, is_near}
-use Rattle.tacho_store.specs.Standing.{StandsFor, IsOf, AreDistinct, HaveSameRowsOf, KeepsRowsOf, Follows, driver_columns, downloads_of, entries_of, download_rows, entry_rows, span_row}
-use Rattle.tacho_store.proofs.RowLemmas.{eq_self, eq_not, eq_true}
-use Rattle.tacho_store.proofs.StateLemmas.{found_number, found_of}
-use Rattle.tacho_store.proofs.FindLemmas.{no_number_row}
+use Rattle.tacho_reading.specs.Standing.{StandsFor, IsOf, AreDistinct, HaveSameRowsOf, KeepsRowsOf, Follows, driver_columns, downloads_of, entries_of, download_rows, entry_rows, span_row}
+use Rattle.tacho_reading.proofs.RowLemmas.{eq_self, eq_not, eq_true}
+use Rattle.tacho_reading.proofs.StateLemmas.{found_number, found_of}
+use Rattle.tacho_reading.proofs.FindLemmas.{no_number_row}
+use Rattle.tacho_reading.proofs.EntryLemmas.{entry_all}
 use Rattle.tacho_store.proofs.RegisterLemmas.{number_not}
-use Rattle.tacho_store.proofs.EntryLemmas.{entry_all}
 
 -- ---- rows that the state tells
 

@@ -9,10 +9,11 @@ use Rattle.tacho_state.specs.State.{Download, Entry, Driver, State, driver_of, k
 use Rattle.tacho_tables.specs.Rows.{DriverRow}
 use Rattle.tacho_tables.specs.Tables as tables
 use Rattle.tacho_tables.specs.Tables.{Tables}
-use Rattle.tacho_store.specs.Standing.{driver_columns, IsOfDriver, IsOfEach, HasNot, HasNoKey, HasNoHolder, AreDistinct, AreKnown, IsOf, with_driver, with_rebased}
-use Rattle.tacho_store.proofs.RowLemmas.{eq_self, eq_not, eq_false}
-use Rattle.tacho_store.proofs.FindLemmas.{bytes_false}
-use Rattle.tacho_store.proofs.StateLemmas.{SameOfDriver, found_number, found_of, put_is, rows_put}
+use Rattle.tacho_reading.specs.Standing.{driver_columns, IsOfDriver, IsOfEach, HasNot, HasNoKey, HasNoHolder, AreDistinct, AreKnown, IsOf}
+use Rattle.tacho_reading.proofs.RowLemmas.{eq_self, eq_not, eq_false}
+use Rattle.tacho_reading.proofs.FindLemmas.{bytes_false}
+use Rattle.tacho_reading.proofs.StateLemmas.{SameOfDriver, found_number, found_of, put_is, rows_put}
+use Rattle.tacho_store.specs.After.{with_driver, with_rebased}
 
 -- ---- a driver behind the others
 

@@ -7,8 +7,9 @@ use Rattle.tacho_state.specs.declared.fault.StoreFault.TheVariants.{DriverTaken,
 use Rattle.tacho_state.specs.State.{Driver, State, driver_of, keyed, holding}
 use Rattle.tacho_state.specs.Steps.{registered, is_monday}
 use Rattle.tacho_tables.specs.Tables.{Tables, Stand}
-use Rattle.tacho_store.specs.Finding.{Refuses, AreFree, IsAskedFree}
-use Rattle.tacho_store.specs.Standing.{StandsFor, Follows, driver_columns}
+use Rattle.tacho_reading.specs.Finding.{Refuses}
+use Rattle.tacho_reading.specs.Standing.{StandsFor, Follows, driver_columns}
+use Rattle.tacho_store.specs.Registering.{AreFree, IsAskedFree}
 use Rattle.tacho_store.proofs.RegisterLemmas.{registered_is}
 use Rattle.tacho_store.proofs.JoinLemmas.{driver_follows}
 

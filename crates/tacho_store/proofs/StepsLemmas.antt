@@ -13,10 +13,10 @@ use Rattle.tacho_state.specs.State.{State, driver_of}
 use Rattle.tacho_state.specs.Steps.{Turn}
 use Rattle.tacho_tables.specs.Calls.{Stays}
 use Rattle.tacho_tables.specs.Schema.{archive_schema}
-use Rattle.tacho_store.specs.Calls.{Goes, Steps, StepsGiven}
-use Rattle.tacho_store.specs.Standing.{StandsFor, KeepsRowsOf, Follows}
+use Rattle.tacho_reading.specs.Calls.{Goes, Steps, StepsGiven}
+use Rattle.tacho_reading.specs.Standing.{StandsFor, KeepsRowsOf, Follows}
+use Rattle.tacho_reading.proofs.SeenLemmas.{still_seen}
 use Rattle.tacho_store.proofs.OthersLemmas.{kept_rows, unchanged_follows}
-use Rattle.tacho_store.proofs.SeenLemmas.{still_seen}
 
 -- an archive that follows another one
 abbrev pub FollowsIn : Sqlite → Sqlite → State → State → Type 0

@@ -5,8 +5,8 @@ use Rattle.sqlite.specs.State.{State as Sqlite, IsLive}
 use Rattle.tacho_state.specs.State.{State}
 use Rattle.tacho_tables.specs.Schema.{archive_schema}
 use Rattle.tacho_tables.proofs.CatalogLemmas.{is_archive}
-use Rattle.tacho_store.specs.Standing.{StandsFor}
-use Rattle.tacho_store.specs.Kept.{Shows, IsOfOne, LeavesOneOf}
+use Rattle.tacho_reading.specs.Standing.{StandsFor}
+use Rattle.tacho_reading.specs.Kept.{Shows, IsOfOne, LeavesOneOf}
 use Rattle.tacho_store.specs.Opening.{IsKnown, IsAdopted}
 
 -- a connection that shows what one showed that had found a database whose rows stand for the state

@@ -20,10 +20,11 @@ use Rattle.tacho_state.proofs.WithdrawLemmas.{withdrawn_held}
 use Rattle.tacho_tables.specs.declared.rows.StoredSpan.{StoredSpan}
 use Rattle.tacho_tables.specs.Rows.{DriverRow, EntryRow, SpanRow}
 use Rattle.tacho_tables.specs.Tables.{Tables, is_near, is_kept_near, span_of, entry_span_of, with_withdrawn}
-use Rattle.tacho_store.specs.Standing.{IsMark, activity_number, numbered_mark, driver_columns, entry_row, entry_rows, entries_of, row_span, span_row, spans_of, stored_span, IsReadNear, IsKeptNear, IsOfDriver, IsOf, with_renewed}
-use Rattle.tacho_store.proofs.RowLemmas.{eq_self, eq_not, eq_true, added_own, added_other, added_marks, near_spans}
-use Rattle.tacho_store.proofs.NearRowLemmas.{permuted_gives}
-use Rattle.tacho_store.proofs.StateLemmas.{SameOfDriver, found_number, found_of, put_is, rows_put}
+use Rattle.tacho_reading.specs.Standing.{IsMark, activity_number, numbered_mark, driver_columns, entry_row, entry_rows, entries_of, row_span, span_row, spans_of, stored_span, IsReadNear, IsKeptNear, IsOfDriver, IsOf}
+use Rattle.tacho_reading.proofs.RowLemmas.{eq_self, eq_not, eq_true, added_own, added_other, added_marks, near_spans}
+use Rattle.tacho_reading.proofs.NearRowLemmas.{permuted_gives}
+use Rattle.tacho_reading.proofs.StateLemmas.{SameOfDriver, found_number, found_of, put_is, rows_put}
+use Rattle.tacho_store.specs.After.{with_renewed}
 
 -- ---- rows that are not near a range
 

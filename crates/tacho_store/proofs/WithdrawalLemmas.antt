@@ -17,16 +17,17 @@ use Rattle.tacho_tables.specs.declared.rows.StoredEntry.{StoredEntry}
 use Rattle.tacho_tables.specs.declared.rows.StoredSpan.{StoredSpan}
 use Rattle.tacho_tables.specs.Rows.{EntryRow, SpanRow}
 use Rattle.tacho_tables.specs.Tables.{Tables, Stand, Turns, is_entry, is_near, entry_of, row_of, with_withdrawn}
-use Rattle.tacho_store.specs.Standing.{StandsFor, Follows, IsOf, span_row, stored_span, entry_row, with_renewed, IsReadNear, IsKeptNear}
-use Rattle.tacho_store.specs.Finding.{Refuses}
-use Rattle.tacho_store.specs.Apart.{AreApart, rows_of}
+use Rattle.tacho_reading.specs.Standing.{StandsFor, Follows, IsOf, span_row, stored_span, entry_row, IsReadNear, IsKeptNear}
+use Rattle.tacho_reading.specs.Finding.{Refuses}
+use Rattle.tacho_reading.specs.Apart.{AreApart, rows_of}
+use Rattle.tacho_reading.proofs.ApartLemmas.{card_apart, held_apart}
+use Rattle.tacho_reading.proofs.EntryLemmas.{entry_none, entry_some}
+use Rattle.tacho_reading.proofs.StateLemmas.{found_number}
+use Rattle.tacho_store.specs.After.{with_renewed}
 use Rattle.tacho_store.specs.Withdrawing.{IsThere, IsEntry, AreRowsFor, AreRenewed}
-use Rattle.tacho_store.proofs.ApartLemmas.{card_apart, held_apart}
-use Rattle.tacho_store.proofs.EntryLemmas.{entry_none, entry_some}
 use Rattle.tacho_store.proofs.WithdrawLemmas.{withdrawn_is}
 use Rattle.tacho_store.proofs.JoinLemmas.{renewed, renewed_follows}
 use Rattle.tacho_store.proofs.OthersLemmas.{is_another, mark_changes}
-use Rattle.tacho_store.proofs.StateLemmas.{found_number}
 
 -- ---- what the step answers
 

@@ -9,7 +9,7 @@ use Rattle.tacho_state.specs.Batch.{batch_of}
 use Rattle.tacho_state.specs.Steps.{Turn, settled, enter_own, most}
 use Rattle.tacho_tables.specs.Rows.{SpanRow, EntryRow}
 use Rattle.tacho_tables.specs.Tables.{Tables, Stand, with_entries}
-use Rattle.tacho_store.specs.Standing.{Follows, entry_rows, span_row}
+use Rattle.tacho_reading.specs.Standing.{Follows, entry_rows, span_row}
 
 -- the tables as the writes of a batch leave them: the count of the driver's entries, and rows in front of what was there
 abbrev pub batched : ℕ → ℕ → List EntryRow → List SpanRow → Tables → Tables

@@ -12,11 +12,11 @@ use Rattle.tacho_state.specs.State.{Driver, State, driver_of, holding, put, with
 use Rattle.tacho_state.specs.Steps.{Content, Turn, settled, import_own, most}
 use Rattle.tacho_tables.specs.Rows.{SpanRow}
 use Rattle.tacho_tables.specs.Tables.{Tables, Stand, with_downloads}
+use Rattle.tacho_reading.specs.Standing.{Follows, span_row}
+use Rattle.tacho_reading.specs.Finding.{Refuses}
 use Rattle.tacho_store.specs.declared.content.CardContent.{CardContent}
 use Rattle.tacho_store.specs.declared.import.Importer.{Importer}
 use Rattle.tacho_store.specs.declared.news.News.{News}
-use Rattle.tacho_store.specs.Standing.{Follows, span_row}
-use Rattle.tacho_store.specs.Finding.{Refuses}
 
 -- the driver, if there is one: S4
 abbrev pub known : Option Driver → Result Driver StoreFault

@@ -1,13 +1,7 @@
-pub mod Standing
-pub mod Kept
-pub mod Faults
 pub mod News
 pub mod Importing
-pub mod Finding
 pub mod Withdrawing
 pub mod Entering
-pub mod Apart
-pub mod Taken
-pub mod Begun
-pub mod Calls
 pub mod Opening
+pub mod After
+pub mod Registering

@@ -10,8 +10,8 @@ use Rattle.tacho_tables.specs.Schema.{archive_schema}
 use Rattle.tacho_tables.specs.Making.{TellsVersion}
 use Rattle.tacho_tables.specs.Tables.{IsVersion}
 use Rattle.tacho_tables.specs.Calls.{Stays}
-use Rattle.tacho_store.specs.Standing.{StandsFor}
-use Rattle.tacho_store.specs.Kept.{IsBlank, Holds, LeavesOneOf}
+use Rattle.tacho_reading.specs.Standing.{StandsFor}
+use Rattle.tacho_reading.specs.Kept.{IsBlank, Holds, LeavesOneOf}
 
 -- within a transaction, the tables of an archive of no drivers are made
 pub record Makes {S : Type 0} (g : Ghosts S) (old new : MutBor (Held S)) {A : Type 0} (result : Result A StoreFault) : Type 0 where

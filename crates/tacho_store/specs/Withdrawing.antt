@@ -10,8 +10,8 @@ use Rattle.tacho_state.specs.Steps.{withdrawn}
 use Rattle.tacho_tables.specs.declared.rows.StoredSpan.{StoredSpan}
 use Rattle.tacho_tables.specs.declared.rows.StoredEntry.{StoredEntry}
 use Rattle.tacho_tables.specs.Tables.{Tables, row_of, entry_of, with_withdrawn}
-use Rattle.tacho_store.specs.Standing.{AreFaulty, AreMinutes, IsFit, span_row, stored_span, entry_row, IsReadNear, IsKeptNear}
-use Rattle.tacho_store.specs.Finding.{Refuses}
+use Rattle.tacho_reading.specs.Standing.{AreFaulty, AreMinutes, IsFit, span_row, stored_span, entry_row, IsReadNear, IsKeptNear}
+use Rattle.tacho_reading.specs.Finding.{Refuses}
 
 -- a driver's entry that is not withdrawn, as it is stored
 pub record IsThere (s : State) (n number : ℕ) (it : StoredEntry) (d : Driver) (e : Entry) : Type 0 where

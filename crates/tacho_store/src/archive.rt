@@ -2,21 +2,21 @@ ghost use Rattle.std.specs.Prelude.{◌≡◌, ◌≢◌, ◌↔◌, [], List, f
 ghost use Rattle.sqlite.specs.State.{HasCleanDisk};
 ghost use Rattle.sqlite.specs.Held.{state};
 ghost use Rattle.tacho_state.specs.State.{State};
-ghost use Rattle.tacho_store.specs.Kept.{IsBlank, Shows, LeavesOneOf, IsSame, IsGivenUp};
+ghost use Rattle.tacho_reading.specs.Kept.{IsBlank, Shows, LeavesOneOf, IsSame, IsGivenUp};
 ghost use Rattle.tacho_store.specs.Opening.{Makes, IsMade, IsUnmade, TellsSchema, IsChecked, IsEmptyArchive, IsAdopted, IsLeftAlone};
 
 use crate::base::rebase;
 use crate::content::content_of;
 use crate::entering::enter;
-use crate::fault::store_fault;
 use crate::import::import;
-use crate::reading::{download, entries, line, line_within, name, report, who};
 use crate::registration::register;
 use crate::withdrawal::withdraw;
 use sqlite::{Alter, Connection, MemStore, Transaction};
 use std::alloc::Global;
 use tacho_card::Part;
 use tacho_line::Line;
+use tacho_reading::fault::store_fault;
+use tacho_reading::reading::{download, entries, line, line_within, name, report, who};
 use tacho_rules::Report;
 use tacho_state::{Caller, Driver, Entered, Entry, EntryLine, Imported, Keeper, StoreFault};
 use tacho_tables::{making, opening};
@@ -94,7 +94,7 @@ impl<S: Alter> Archive<S> {
     ghost use Rattle.sqlite.specs.State.{HasCleanDisk};
     ghost use Rattle.sqlite.specs.Held.{state};
     ghost use Rattle.tacho_state.specs.State.{State};
-    ghost use Rattle.tacho_store.specs.Kept.{IsBlank, Shows, LeavesOneOf, IsGivenUp};
+    ghost use Rattle.tacho_reading.specs.Kept.{IsBlank, Shows, LeavesOneOf, IsGivenUp};
     ghost use Rattle.tacho_store.specs.Opening.{IsUnmade, IsEmptyArchive, IsAdopted, IsLeftAlone};
 
     /// An archive of no drivers in a store without tables, made in one transaction. S12 where the store has tables.
@@ -153,7 +153,7 @@ impl<S: Alter> Keeper for Archive<S> {
     ghost use Rattle.std.proofs.Common.{inr};
     ghost use Rattle.sqlite.specs.State.{HasCleanDisk};
     ghost use Rattle.sqlite.specs.Held.{state};
-    ghost use Rattle.tacho_store.specs.Kept.{Shows, LeavesOneOf, IsSame, IsSameOf};
+    ghost use Rattle.tacho_reading.specs.Kept.{Shows, LeavesOneOf, IsSame, IsSameOf};
 
     ghost stands = { λ a s. Shows (state S.Store a.conn) s };
 

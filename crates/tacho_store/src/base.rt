@@ -1,11 +1,11 @@
 ghost use Rattle.std.specs.Prelude.{◌≡◌, false};
 ghost use Rattle.tacho_state.specs.Steps.{rebased, is_monday};
-ghost use Rattle.tacho_store.specs.Calls.{Steps};
-ghost use Rattle.tacho_store.specs.Kept.{ActsOn};
+ghost use Rattle.tacho_reading.specs.Calls.{Steps};
+ghost use Rattle.tacho_reading.specs.Kept.{ActsOn};
 
-use crate::fault::store_fault;
-use crate::finding::driver_with;
 use sqlite::{Alter, Connection, Transaction};
+use tacho_reading::fault::store_fault;
+use tacho_reading::finding::driver_with;
 use tacho_state::StoreFault;
 use tacho_tables::drivers;
 use tacho_time::Day;

@@ -5,18 +5,18 @@ ghost use Rattle.tacho_state.specs.State.{Driver, driver_of, entry_span, entered
 ghost use Rattle.tacho_state.specs.Steps.{enter_own, entered};
 ghost use Rattle.tacho_tables.specs.Tables.{entered_rows, row_of};
 ghost use Rattle.tacho_tables.specs.Calls.{Changes};
-ghost use Rattle.tacho_store.specs.Calls.{Tells, Steps, StepsGiven};
-ghost use Rattle.tacho_store.specs.Kept.{ActsOn};
-ghost use Rattle.tacho_store.specs.Finding.{Refuses};
+ghost use Rattle.tacho_reading.specs.Calls.{Tells, Steps, StepsGiven};
+ghost use Rattle.tacho_reading.specs.Kept.{ActsOn};
+ghost use Rattle.tacho_reading.specs.Finding.{Refuses};
 ghost use Rattle.tacho_store.specs.Entering.{AreNumbered, AreToEnter, enter_turn, batched};
 
-use crate::fault::store_fault;
-use crate::finding::driver_with;
-use crate::near::rows_near;
 use crate::news::gains_of;
-use crate::spans::{line_of_stored, stored};
 use sqlite::{Alter, Connection, Transaction};
 use std::alloc::{AllocError, Global};
+use tacho_reading::fault::store_fault;
+use tacho_reading::finding::driver_with;
+use tacho_reading::near::rows_near;
+use tacho_reading::spans::{line_of_stored, stored};
 use tacho_state::{Entered, EntryLine, StoreFault, first_number};
 use tacho_tables::{SpanTable, StoredSpan, TableFault, drivers, entries, spans};
 use tacho_time::{Mark, Span};

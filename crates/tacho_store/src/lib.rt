@@ -5,20 +5,13 @@ mod archive;
 mod base;
 mod content;
 mod entering;
-mod fault;
-mod feeding;
-mod finding;
 mod import;
 pub mod laws;
-mod near;
 mod news;
-mod reading;
 mod registration;
-mod spans;
 mod withdrawal;
 
 pub use archive::{Archive, open_memory};
-pub use feeding::feed_rows;
 pub use tacho_state::{
     Caller, Column, Driver, Entered, Entry, EntryLine, Imported, Keeper, StoreFault, first_number,
     is_key, is_name,

@@ -1,14 +1,35 @@
 ghost use Rattle.std.specs.Prelude.{◌≡◌, false};
 ghost use Rattle.tacho_state.specs.Steps.{registered};
-ghost use Rattle.tacho_store.specs.Calls.{Steps};
-ghost use Rattle.tacho_store.specs.Kept.{ActsOn};
+ghost use Rattle.tacho_reading.specs.Calls.{Steps, Tells};
+ghost use Rattle.tacho_reading.specs.Kept.{ActsOn};
+ghost use Rattle.tacho_store.specs.Registering.{IsAskedFree};
 
 use crate::base::is_monday;
-use crate::fault::store_fault;
-use crate::finding::ask_free;
 use sqlite::{Alter, Connection, Transaction};
+use tacho_reading::fault::store_fault;
 use tacho_state::{Driver, StoreFault};
 use tacho_tables::drivers;
+
+/// Whether nobody has the number, the key or the holder of a new driver: S1, S2, S3.
+#[tactic(auto, unfolding(crate::specs::Registering::IsAskedFree))]
+fn ask_free<S: Alter>(tx: &mut Transaction<'_, S>, driver: &Driver) -> Result<(), StoreFault>
+    ensures { Tells S.Store tx.old.conn tx.new.conn result
+        (λ _ s. IsAskedFree s driver.now.number driver.now.key driver.now.holder result) }
+{
+    let by_number = drivers::by_number(tx, driver.number()).map_err(store_fault)?;
+    if by_number.is_some() {
+        return Err(StoreFault::DriverTaken);
+    }
+    let by_key = drivers::number_by_secret(tx, driver.key().as_bytes()).map_err(store_fault)?;
+    if by_key.is_some() {
+        return Err(StoreFault::KeyTaken);
+    }
+    let by_holder = drivers::number_by_holder(tx, driver.holder()).map_err(store_fault)?;
+    if by_holder.is_some() {
+        return Err(StoreFault::HolderTaken);
+    }
+    Ok(())
+}
 
 /// Adds a driver, within a transaction: S1, S2, S3, S9.
 fn register_in<S: Alter>(tx: &mut Transaction<'_, S>, driver: &Driver) -> Result<(), StoreFault>

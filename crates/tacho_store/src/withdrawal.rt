@@ -8,20 +8,20 @@ ghost use Rattle.tacho_state.specs.Disjoint.{outside};
 ghost use Rattle.tacho_state.specs.Steps.{withdrawn};
 ghost use Rattle.tacho_tables.specs.Schema.{archive_schema};
 ghost use Rattle.tacho_tables.specs.Tables.{Tables, Stand, is_near, row_of, with_withdrawn};
-ghost use Rattle.tacho_store.specs.Standing.{stored_span, IsFit, AreFaulty};
-ghost use Rattle.tacho_store.specs.Calls.{Tells, Steps, ChangesWhere};
-ghost use Rattle.tacho_store.specs.Kept.{ActsOn};
-ghost use Rattle.tacho_store.specs.Apart.{AreApart, rows_of};
+ghost use Rattle.tacho_reading.specs.Standing.{stored_span, IsFit, AreFaulty};
+ghost use Rattle.tacho_reading.specs.Calls.{Tells, Steps, ChangesWhere};
+ghost use Rattle.tacho_reading.specs.Kept.{ActsOn};
+ghost use Rattle.tacho_reading.specs.Apart.{AreApart, rows_of};
 ghost use Rattle.tacho_store.specs.Withdrawing.{IsEntry, AreRowsFor, HaveNoRows, AreRenewed};
 
-use crate::fault::store_fault;
-use crate::finding::driver_with;
-use crate::near::{delete_near, rows_near};
-use crate::spans::{fault_of_rows, minute_of, spans_of, stored};
 use sqlite::{Alter, Connection, Transaction};
 use std::alloc::Global;
+use tacho_reading::fault::store_fault;
+use tacho_reading::finding::driver_with;
+use tacho_reading::near::{first_start, rows_near};
+use tacho_reading::spans::{fault_of_rows, minute_of, spans_of, stored};
 use tacho_state::{StoreFault, inside_of, outside_of};
-use tacho_tables::{SpanTable, StoredEntry, StoredSpan, TableFault, entries, spans};
+use tacho_tables::{SpanTable, StoredEntry, StoredSpan, TableFault, entries, held, spans};
 use tacho_time::{Minute, Span};
 
 /// A driver's entry that is not withdrawn: S4, S7, S8.
@@ -130,6 +130,20 @@ fn mark<S: Alter>(
     let others = entries::kept_near(alloc, tx, driver, start, past).map_err(store_fault)?;
     let helds = rows_near(alloc, tx, SpanTable::Held, driver, start, past).map_err(store_fault)?;
     rows_for(alloc, &cards, &others, &helds, start, past)
+}
+
+/// Removes what a driver holds near a range.
+fn delete_near<S: Alter>(
+    tx: &mut Transaction<'_, S>,
+    driver: u32,
+    start: u32,
+    past: u32,
+) -> Result<(), TableFault>
+    ensures { ChangesWhere S.Store tx.old.conn tx.new.conn result (λ t. AreApart (rows_of driver t.held))
+        (λ t. record t { held = filter (λ r. not (is_near driver start past r)) t.held }) }
+{
+    let before = spans::last_before(tx, SpanTable::Held, driver, start)?;
+    held::delete_begun(tx, driver, first_start(before, start, past), past)
 }
 
 /// Puts rows in the place of a driver's held rows near a range.

@@ -1,5 +1,5 @@
 use Rattle.std.proofs.Common.{rules}
-use Rattle.tacho_store.proofs.MappedLemmas.{on_ok_mapped}
+use Rattle.tacho_reading.proofs.MappedLemmas.{on_ok_mapped}
 use Rattle.tacho_store.proofs.EmptyLemmas.{empty_stands}
 use Rattle.tacho_store.proofs.archive.make_in.Goals as goal
 

@@ -2,8 +2,8 @@ use Rattle.std.proofs.Common.{rules, ◌≡◌, ◌∙◌, ◌+◌, ◌≤◌, �
 use Rattle.sqlite.specs.Held.{state}
 use Rattle.tacho_tables.specs.Tables.{row_of}
 use Rattle.tacho_state.specs.Steps.{most}
-use Rattle.tacho_store.specs.Standing.{span_row}
-use Rattle.tacho_store.proofs.MappedLemmas.{was_ok}
+use Rattle.tacho_reading.specs.Standing.{span_row}
+use Rattle.tacho_reading.proofs.MappedLemmas.{was_ok}
 use Rattle.tacho_store.proofs.StepsLemmas.{given_by}
 use Rattle.tacho_store.proofs.EnteringLemmas.{rows_counted, numbers_left, no_numbers, too_many, batch_answer, batch_written}
 use Rattle.tacho_store.proofs.entering.add_batch.Goals as goal

@@ -1,7 +1,7 @@
 use Rattle.std.proofs.Common.{rules, ap, ◌∙◌}
 use Rattle.sqlite.specs.Held.{state}
 use Rattle.tacho_line.specs.Line.{first_empty}
-use Rattle.tacho_store.proofs.MappedLemmas.{was_ok}
+use Rattle.tacho_reading.proofs.MappedLemmas.{was_ok}
 use Rattle.tacho_store.proofs.EnteringLemmas.{none_empty_line, gained}
 use Rattle.tacho_store.proofs.entering.gains_near.Goals as goal
 

@@ -2,9 +2,9 @@ use Rattle.std.proofs.Common.{rules, ◌≡◌, ◌∙◌, map, sym, subst}
 use Rattle.sqlite.specs.Held.{state}
 use Rattle.tacho_state.specs.Content.{part_number}
 use Rattle.tacho_tables.specs.Tables.{Turns, row_of}
-use Rattle.tacho_store.specs.Standing.{Follows, span_row}
+use Rattle.tacho_reading.specs.Standing.{Follows, span_row}
+use Rattle.tacho_reading.proofs.MappedLemmas.{was_ok}
 use Rattle.tacho_store.specs.Importing.{written}
-use Rattle.tacho_store.proofs.MappedLemmas.{was_ok}
 use Rattle.tacho_store.proofs.StepsLemmas.{given_by}
 use Rattle.tacho_store.proofs.AdditionLemmas.{full_answer, added_answer, added_after, count_is}
 use Rattle.tacho_store.proofs.import.add_download.Goals as goal

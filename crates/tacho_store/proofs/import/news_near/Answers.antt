@@ -1,9 +1,10 @@
 use Rattle.std.proofs.Common.{rules, subst}
 use Rattle.sqlite.specs.Effect.{Database}
 use Rattle.sqlite.specs.Held.{state}
-use Rattle.tacho_store.proofs.MappedLemmas.{was_ok}
-use Rattle.tacho_store.proofs.SeenLemmas.{still_seen}
-use Rattle.tacho_store.proofs.DecisionLemmas.{AreRead, decided}
+use Rattle.tacho_reading.proofs.MappedLemmas.{was_ok}
+use Rattle.tacho_reading.proofs.SeenLemmas.{still_seen}
+use Rattle.tacho_reading.proofs.RangedLemmas.{AreRead}
+use Rattle.tacho_store.proofs.DecisionLemmas.{decided}
 use Rattle.tacho_store.proofs.import.news_near.Goals as goal
 
 pub returns : goal.returns

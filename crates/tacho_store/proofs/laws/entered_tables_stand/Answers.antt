@@ -1,4 +1,4 @@
-use Rattle.tacho_store.proofs.EntryLemmas.{entered_is}
+use Rattle.tacho_store.proofs.BatchLemmas.{entered_is}
 use Rattle.tacho_store.proofs.laws.entered_tables_stand.Goals as goal
 
 pub returns : goal.returns

@@ -1,7 +1,7 @@
 use Rattle.std.proofs.Common.{rules, ◌∙◌}
 use Rattle.std.specs.List.{All}
-use Rattle.tacho_store.specs.Standing.{IsFit}
-use Rattle.tacho_store.proofs.FaultyLemmas.{faulty_rows, front_faulty, back_faulty, spans_of_both}
+use Rattle.tacho_reading.specs.Standing.{IsFit}
+use Rattle.tacho_reading.proofs.FaultyLemmas.{faulty_rows, front_faulty, back_faulty, spans_of_both}
 use Rattle.tacho_store.proofs.withdrawal.given_inside.Goals as goal
 
 pub returns-in_err-card_spans-clause-cause : goal.returns-in_err-card_spans-clause-cause

@@ -1,7 +1,7 @@
 use Rattle.std.proofs.Common.{◌∙◌, ap}
 use Rattle.std.proofs.lemmas.Result.{IfOk-weaker}
 use Rattle.sqlite.specs.Effect.{Database}
-use Rattle.tacho_store.proofs.MappedLemmas.{was_ok}
+use Rattle.tacho_reading.proofs.MappedLemmas.{was_ok}
 use Rattle.tacho_store.proofs.WithdrawalLemmas.{are_renewed}
 use Rattle.tacho_store.proofs.withdrawal.mark.Goals as goal
 

@@ -1,0 +1,88 @@
+-- Where a reading of a driver's rows begins for his report.
+use Rattle.std.proofs.Common.{◌≡◌, ◌∙◌, ℕ, ◌+◌, ◌*◌, ◌<◌, ◌==◌, ◌&&◌, Bool, true, false, cond, List, [], filter, Option, Some, None, refl, sym, ap, subst, arith}
+use Rattle.std.specs.Prelude.{nat_lt, nat_le, MatchOption}
+use Rattle.std.proofs.lemmas.Bool.Decides.{nat_tests}
+use Rattle.sqlite.specs.Tree.{Trees}
+use Rattle.sqlite_rules.specs.Lists.{Has}
+use Rattle.sqlite_rules.proofs.ListLemmas.{all_from, has_filtered, has_kept, has_contained}
+use Rattle.sqlite_trees.proofs.ListLemmas.{filter_same}
+use Rattle.tacho_state.specs.State.{Driver, State, driver_of}
+use Rattle.tacho_tables.specs.declared.rows.StoredDriver.{StoredDriver}
+use Rattle.tacho_tables.specs.declared.rows.StoredSpan.{StoredSpan}
+use Rattle.tacho_tables.specs.Rows.{SpanRow}
+use Rattle.tacho_tables.specs.Tables.{Tables, Stand, IsLatest, is_before, is_of, is_onward, span_of}
+use Rattle.tacho_reading.specs.Apart.{AreApart, rows_of, near_from}
+use Rattle.tacho_reading.specs.Begun.{is_behind, IsBegun}
+use Rattle.tacho_reading.specs.Finding.{IsStored}
+use Rattle.tacho_reading.proofs.ApartLemmas.{IsFrom, from_found, held_apart}
+
+module _ (n base : ℕ) (rows : List SpanRow) (apart : AreApart (rows_of n rows)) where
+  -- the latest row before the base, if there is one
+  abbrev Latest : Option StoredSpan → Type 0
+  Latest b = MatchOption b (filter (is_before n base) rows ≡ [])
+      (λ s. (r : SpanRow) × IsLatest r (filter (is_before n base) rows) × (s ≡ span_of r))
+
+  -- where the rows begin that are near a range doesn't depend on the range's end
+  near_same : (past : ℕ) (b : Option StoredSpan) → base < past → Latest b
+      → near_from base past b ≡ near_from base (base + 1) b
+  near_same past None m none = refl
+  near_same past (Some s) m (r, latest, is) = ap (λ (b : Bool). cond (b && nat_lt base s.past) s.start base)
+      (early past m ∙ sym (early (base + 1) (omega arith))) where
+        in_list : is_before n base r ≡ true
+        in_list =
+            (has_filtered (is_before n base) rows r (has_contained (filter (is_before n base) rows) r latest.one)).1
+
+        before : s.start < base
+        before =
+            let a = s.start in
+            let e : s.start ≡ r.start = ap (λ (x : StoredSpan). x.start) is in
+            let c = r.start in
+            let l : nat_lt c base ≡ true = second (r.driver == n) (nat_lt c base) in_list in
+            let k : c < base = grind (arith, nat_tests) in omega arith where
+              second : (a b : Bool) → (a && b) ≡ true → b ≡ true
+              second true b e = e
+              second false b e = absurd (let wrong = e in cc)
+
+        early : (past : ℕ) → base < past → nat_lt s.start past ≡ true
+        early past m = let a = s.start in let l : a < base = before in grind (arith, nat_tests)
+
+  -- a row begins from there on where it ends behind the base
+  begins_behind : (b : Option StoredSpan) → Latest b → (x : SpanRow) → Has (rows_of n rows) x
+      → nat_le (near_from base (base + 1) b) x.start ≡ nat_lt base x.past
+  begins_behind b h x c =
+      let past = base + x.start + 1 in
+      let from : IsFrom base past (near_from base past b) x = from_found n base past rows apart b h x c in
+      let start = x.start in
+      let within : nat_lt start past ≡ true = grind (arith, nat_tests) in
+      whole (nat_le (near_from base (base + 1) b) x.start) (nat_lt base x.past) (nat_lt x.start past) within
+      (subst (λ (k : ℕ). IsFrom base past k x) (near_same past b (omega arith) h) from) where
+        whole : (u v w : Bool) → w ≡ true → (u && w) ≡ (w && v) → u ≡ v
+        whole true v true e f = f
+        whole false v true e f = f
+        whole u v false e f = absurd (let wrong = e in cc)
+
+  -- so these rows are those that end behind the base
+  onward_behind : (b : Option StoredSpan) → Latest b
+      → filter (is_onward n (near_from base (base + 1) b)) rows ≡ filter (is_behind n base) rows
+  onward_behind b h = filter_same (is_onward n (near_from base (base + 1) b)) (is_behind n base) rows
+      (all_from _ rows (λ x c. go x c (x.driver == n) refl)) where
+        go : (x : SpanRow) → Has rows x → (o : Bool) → (x.driver == n) ≡ o
+            → (o && nat_le (near_from base (base + 1) b) x.start) ≡ (o && nat_lt base x.past)
+        go x c true e = begins_behind b h x (has_kept (is_of n) rows x c e)
+        go x c false e = refl
+
+-- the reading begins where the first row does that ends behind the base
+pub is_begun : (db : Trees) (n : ℕ) (s : State) (d : Driver) (it : StoredDriver) (base start : ℕ)
+    (b : Option StoredSpan) → driver_of n s ≡ Some d → IsStored it d
+    → base ≡ 1440 * it.base → start ≡ near_from base (base + 1) b
+    → ((t : Tables) → Stand db t → MatchOption b (filter (is_before n base) t.held ≡ [])
+    (λ s. (r : SpanRow) × IsLatest r (filter (is_before n base) t.held) × (s ≡ span_of r)))
+    → IsBegun db n s (record { base = base; start = start })
+is_begun db n s d it base start b is stored from first h = record {
+  driver = d;
+  is = is;
+  base = from ∙ ap (λ (k : ℕ). 1440 * k) stored.base;
+  rows = λ t stand of.
+      subst (λ (k : ℕ). filter (is_onward n k) t.held ≡ filter (is_behind n base) t.held) (sym first)
+      (onward_behind n base t.held (held_apart t s n d of is) b (h t stand));
+}

@@ -1,0 +1,106 @@
+-- What look-ups find, by the state that the tables stand for.
+use Rattle.std.proofs.Common.{◌≡◌, ◌∙◌, ℕ, List, [], filter, false, Option, Some, None, Result, Ok, Err, sym, ap, subst}
+use Rattle.std.specs.Prelude.{Contains, MatchOption, is_some, ok_or, IsErr, IsErrAnd, string_bytes}
+use Rattle.sqlite.specs.Tree.{Trees}
+use Rattle.tacho_state.specs.declared.fault.StoreFault.{StoreFault}
+use Rattle.tacho_state.specs.declared.fault.StoreFault.TheVariants.{Memory, Store, UnknownDriver}
+use Rattle.tacho_state.specs.Acts.{Answers}
+use Rattle.tacho_state.specs.State.{Driver, State, driver_of, keyed, holding}
+use Rattle.tacho_tables.specs.declared.rows.StoredDriver.{StoredDriver}
+use Rattle.tacho_tables.specs.Rows.{DriverRow}
+use Rattle.tacho_tables.specs.Tables.{Tables, Stand, has_number, has_secret, has_holder}
+use Rattle.tacho_reading.specs.Standing.{StandsFor}
+use Rattle.tacho_reading.specs.Finding.{Refuses, IsStored, IsDriver}
+use Rattle.tacho_reading.proofs.FindLemmas.{number_none, number_some, key_none, key_some, holder_none, holder_some}
+
+-- the number is the driver's, and finds him
+pub record IsNumberOf (s : State) (n : ℕ) (d : Driver) : Type 0 where
+  pub number : n ≡ d.number
+  pub found : driver_of n s ≡ Some d
+
+-- a look-up by number finds the driver
+pub number_found : (db : Trees) (s : State) (n : ℕ) (found : Option StoredDriver) → StandsFor db s
+    → ((a : Tables) → Stand db a → MatchOption found (filter (has_number n) a.drivers ≡ [])
+    (λ it. (r : DriverRow) × Contains (filter (has_number n) a.drivers) r × (it.holder.items ≡ r.holder) × (it.base ≡ r.base)
+    × (string_bytes it.name ≡ r.name) × (it.downloads ≡ r.downloads) × (it.entries ≡ r.entries)))
+    → MatchOption found (driver_of n s ≡ None) (λ it. (d : Driver) × (driver_of n s ≡ Some d) × IsStored it d)
+unfolding StandsFor
+number_found db s n None (t, stand, is) h = (number_none t s n is).0 (h t stand)
+number_found db s n (Some it) (t, stand, is) h =
+    let found = h t stand in
+    let d = number_some t s n found.0 is found.1 in (
+      d.0,
+      d.1,
+      record {
+        holder = found.2 ∙ ap (λ (r : DriverRow). r.holder) d.2;
+        base = found.3 ∙ ap (λ (r : DriverRow). r.base) d.2;
+        name = found.4 ∙ ap (λ (r : DriverRow). r.name) d.2;
+        downloads = found.5
+            ∙ ap (λ (r : DriverRow). r.downloads) d.2;
+        entries = found.6 ∙ ap (λ (r : DriverRow). r.entries) d.2;
+      },
+    )
+
+-- a look-up by key finds his number
+pub key_found : (db : Trees) (s : State) (key : List ℕ) (found : Option ℕ) → StandsFor db s
+    → ((a : Tables) → Stand db a → MatchOption found (filter (has_secret key) a.drivers ≡ [])
+    (λ n. (r : DriverRow) × Contains (filter (has_secret key) a.drivers) r × (n ≡ r.driver)))
+    → MatchOption found (keyed key s ≡ None) (λ n. (d : Driver) × (keyed key s ≡ Some d) × (n ≡ d.number))
+unfolding StandsFor
+key_found db s key None (t, stand, is) h = (key_none t s key is).0 (h t stand)
+key_found db s key (Some n) (t, stand, is) h =
+    let found = h t stand in
+    let d = key_some t s key found.0 is found.1 in
+    (d.0, d.1, found.2 ∙ ap (λ (r : DriverRow). r.driver) d.2)
+
+-- a look-up by holder finds his number
+pub holder_found : (db : Trees) (s : State) (holder : List ℕ) (found : Option ℕ) → StandsFor db s
+    → ((a : Tables) → Stand db a → MatchOption found (filter (has_holder holder) a.drivers ≡ [])
+    (λ n. (r : DriverRow) × Contains (filter (has_holder holder) a.drivers) r × (n ≡ r.driver)))
+    → MatchOption found (holding holder s ≡ None) (λ n. (d : Driver) × (holding holder s ≡ Some d) × IsNumberOf s n d)
+unfolding StandsFor
+holder_found db s holder None (t, stand, is) h = (holder_none t s holder is).0 (h t stand)
+holder_found db s holder (Some n) (t, stand, is) h =
+    let found = h t stand in
+    let d = holder_some t s holder found.0 is found.1 in
+    let number : n ≡ d.0.number = found.2 ∙ ap (λ (r : DriverRow). r.driver) d.3 in
+    (d.0, d.1, record { number = number; found = ap (λ m. driver_of m s) number ∙ d.2 })
+
+-- where nothing was found
+pub not_found : {X : Type 0} (found : Option X) (P : Type 0) (Q : X → Type 0) → is_some found ≡ false → MatchOption found P Q → P
+not_found None P Q is h = h
+not_found (Some x) P Q is h = absurd (let e = is in cc)
+
+-- ---- the driver with a number, or S4
+
+-- what a look-up by number comes to
+pub driver_found : (n : ℕ) (s : State) (found : Option StoredDriver)
+    → MatchOption found (driver_of n s ≡ None) (λ it. (d : Driver) × (driver_of n s ≡ Some d) × IsStored it d)
+    → IsDriver s n (ok_or found UnknownDriver)
+unfolding IsDriver
+driver_found n s None h = h
+driver_found n s (Some it) h = h
+
+-- the driver who is there
+pub the_driver : (n : ℕ) (s : State) (it : StoredDriver) → IsDriver s n (Ok it) → (d : Driver) × (driver_of n s ≡ Some d) × IsStored it d
+unfolding IsDriver
+the_driver n s it h = h
+
+-- a step that answers S4 where nobody has the number is refused as the look-up was
+pub unknown_refuses : {A : Type 0} (n : ℕ) (s : State) (fault : StoreFault) (told : Result A StoreFault)
+    → (driver_of n s ≡ None → told ≡ Err UnknownDriver) → IsDriver s n (Err fault) → Refuses fault told
+unfolding IsDriver
+unknown_refuses n s UnknownDriver told none h = none h
+unknown_refuses n s Memory told none h = tt
+unknown_refuses n s Store told none h = tt
+unknown_refuses n s fault told none h = absurd h
+
+-- a fault that is handed on answers what it refuses
+pub handed_on : {A B : Type 0} (view : A → B) (fault : StoreFault) (r : Result A StoreFault) (told : Result B StoreFault)
+    → Refuses fault told → IsErr r × IsErrAnd r (λ found. found ≡ fault) → Answers view r told
+handed_on view fault (Ok x) told h e = let wrong = e.0 in cc
+handed_on view fault (Err found) told h e = subst (λ f. Answers view (Err f) told) (sym e.1) (go fault h) where
+  go : (f : StoreFault) → Refuses f told → Answers view (Err f) told
+  go Memory h = tt
+  go Store h = tt
+  go f h = h

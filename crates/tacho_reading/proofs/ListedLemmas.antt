@@ -1,0 +1,98 @@
+-- A driver's entries are listed by their numbers.
+use Rattle.std.proofs.Common.{◌≡◌, ◌∙◌, ℕ, ◌+◌, ◌<◌, ◌⊎◌, ◌==◌, Bool, true, false, cond, not, List, [], ◌∷◌, map, filter, Ordering, Less, Some, Result, Ok, Err, IfOk, IfErr, refl, sym, ap, subst, arith}
+use Rattle.std.specs.Cmp.{IsTotalOrder}
+use Rattle.std.specs.List.{AllByRecursion}
+use Rattle.std.specs.List.Sorted.{IsPermutation, IsSorted}
+use Rattle.std.specs.Ordering.{nat_cmp}
+use Rattle.std.proofs.lemmas.Bool.Decides.{nat_tests}
+use Rattle.std.proofs.lemmas.Cmp.{nat_cmp_total}
+use Rattle.sqlite.specs.Tree.{Trees}
+use Rattle.sqlite_keyed.proofs.SortLemmas.{sorted_unique}
+use Rattle.sqlite_trees.specs.Tree.{IsAscending}
+use Rattle.tacho_time.specs.declared.span.Activity.{Activity}
+use Rattle.tacho_time.specs.declared.span.Activity.TheVariants.{Rest, Available, Work, Drive}
+use Rattle.tacho_state.specs.declared.entry.Entry.{Entry as Listed}
+use Rattle.tacho_state.specs.declared.fault.StoreFault.{StoreFault}
+use Rattle.tacho_state.specs.declared.fault.StoreFault.TheVariants.{Memory, Store}
+use Rattle.tacho_state.specs.Acts.{Answers}
+use Rattle.tacho_state.specs.State.{Driver, Entry, State, driver_of}
+use Rattle.tacho_state.specs.Steps.{numbered_from, listed}
+use Rattle.tacho_tables.specs.declared.rows.StoredEntry.{StoredEntry}
+use Rattle.tacho_tables.specs.Rows.{EntryRow}
+use Rattle.tacho_tables.specs.Tables.{Tables, Stand, is_entry_of, entry_of}
+use Rattle.tacho_reading.specs.Standing.{StandsFor, activity_number, numbered_activity, entry_row, entry_rows, listed_as}
+use Rattle.tacho_reading.proofs.EntryLemmas.{entry_all}
+use Rattle.tacho_reading.proofs.TimelineLemmas.{gave_up}
+
+-- ---- order
+
+-- stored entries are ordered by their numbers
+abbrev by_number : StoredEntry → StoredEntry → Ordering
+by_number x y = nat_cmp x.number y.number
+
+total : IsTotalOrder by_number
+total = record {
+  antisymm = λ x y. nat_cmp_total.antisymm x.number y.number;
+  trans = λ x y z. nat_cmp_total.trans x.number y.number z.number;
+  congr = λ x y z. nat_cmp_total.congr x.number y.number z.number;
+}
+
+-- a smaller number is before a greater one
+less_is : (i j : ℕ) → i < j → nat_cmp i j ≡ Less
+less_is i j h = grind (arith, nat_tests)
+
+-- the numbers of a driver's rows rise
+rows_above : (n i j : ℕ) (es : List Entry) → i < j → AllByRecursion (λ (x : StoredEntry). nat_cmp i x.number ≡ Less) (map entry_of (entry_rows n j es))
+rows_above n i j [] h = tt
+rows_above n i j (e ∷ es) h = (less_is i j h, rows_above n i (j + 1) es (omega (arith, h)))
+
+rows_rise : (n i : ℕ) (es : List Entry) → IsAscending (λ x y. by_number x y ≡ Less) (map entry_of (entry_rows n i es))
+rows_rise n i [] = tt
+rows_rise n i (e ∷ es) = (rows_above n i (i + 1) es (omega arith), rows_rise n (i + 1) es)
+
+-- ---- rows as entries
+
+-- an activity has its number
+activity_is : (a : Activity) → numbered_activity (activity_number a) ≡ a
+activity_is Rest = refl
+activity_is Available = refl
+activity_is Work = refl
+activity_is Drive = refl
+
+-- and a mark of a withdrawal is one
+flag_is : (b : Bool) → not (cond b 1 0 == 0) ≡ b
+flag_is true = refl
+flag_is false = refl
+
+-- a row is listed as its entry
+row_listed : (n i : ℕ) (e : Entry)
+    → listed_as (entry_of (entry_row n i e)) ≡ record { number = i; line = record { start = e.start; past = e.past; activity = e.activity }; withdrawn = e.withdrawn }
+row_listed n i e =
+    ap (λ (a : Activity). record { number = i; line = record { start = e.start; past = e.past; activity = a }; withdrawn = not (cond e.withdrawn 1 0 == 0) })
+    (activity_is e.activity)
+    ∙ ap (λ (w : Bool). record { number = i; line = record { start = e.start; past = e.past; activity = e.activity }; withdrawn = w }) (flag_is e.withdrawn)
+
+rows_listed : (n i : ℕ) (es : List Entry) → map listed_as (map entry_of (entry_rows n i es)) ≡ numbered_from i es
+rows_listed n i [] = refl
+rows_listed n i (e ∷ es) =
+    ap (λ (x : Listed). x ∷ map listed_as (map entry_of (entry_rows n (i + 1) es))) (row_listed n i e)
+    ∙ ap (λ (x : List Listed). record { number = i; line = record { start = e.start; past = e.past; activity = e.activity }; withdrawn = e.withdrawn } ∷ x)
+    (rows_listed n (i + 1) es)
+
+-- ---- what is read
+
+-- a driver's rows, by their numbers, are listed as his entries
+pub entries_told : (db : Trees) (n : ℕ) (s : State) (d : Driver) (found : List StoredEntry) → StandsFor db s → driver_of n s ≡ Some d
+    → ((a : Tables) → Stand db a → IsPermutation (map entry_of (filter (is_entry_of n) a.entries)) found)
+    → ((a : Tables) → Stand db a → IsSorted by_number found) → map listed_as found ≡ numbered_from 1 d.entries
+unfolding StandsFor
+entries_told db n s d found (t, stand, of) is same sorted =
+    let rows : IsPermutation (map entry_of (entry_rows n 1 d.entries)) found =
+    subst (λ (x : List EntryRow). IsPermutation (map entry_of x) found) (entry_all t s n d of is) (same t stand) in
+    ap (map listed_as) (sorted_unique by_number total _ found (rows_rise n 1 d.entries) rows (sorted t stand)) ∙ rows_listed n 1 d.entries
+
+-- they are answered, or the call gave up
+pub entries_answer : {V : Type 0} (items : V → List Listed) (n : ℕ) (s : State) (d : Driver) (r : Result V StoreFault) → driver_of n s ≡ Some d
+    → IfOk r (λ v. items v ≡ numbered_from 1 d.entries) → IfErr r (λ f. (f ≡ Memory) ⊎ (f ≡ Store)) → Answers items r (listed n s)
+entries_answer items n s d (Ok v) is told up = rw is (ap Ok (sym told))
+entries_answer items n s d (Err f) is told up = gave_up items f (listed n s) up

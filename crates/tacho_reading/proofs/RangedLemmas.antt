@@ -1,0 +1,54 @@
+-- The line of a driver's rows near a range has the marks that he holds there.
+use Rattle.std.proofs.Common.{◌≡◌, ◌⊎◌, ℕ, List, map, Option, Some, Result, Ok, Err, IfErr, IfOk, sym, ap, subst}
+use Rattle.std.specs.Prelude.{IfSome}
+use Rattle.sqlite.specs.Tree.{Trees}
+use Rattle.tacho_time.specs.declared.span.Span.{Span}
+use Rattle.tacho_time.specs.Spans.{Gives, IsCanonicalOf}
+use Rattle.tacho_line.specs.Line.{AgreeWithin}
+use Rattle.tacho_state.specs.declared.fault.StoreFault.{StoreFault}
+use Rattle.tacho_state.specs.declared.fault.StoreFault.TheVariants.{Memory, Store}
+use Rattle.tacho_state.specs.Acts.{Answers}
+use Rattle.tacho_state.specs.Reported.{IsHeldWithin}
+use Rattle.tacho_state.specs.State.{Driver, State, Held, driver_of, held_spans}
+use Rattle.tacho_state.specs.Steps.{told_of, reported}
+use Rattle.tacho_state.proofs.GainLemmas.{kept_line, line_kept}
+use Rattle.tacho_state.proofs.MapLemmas.{held_map}
+use Rattle.tacho_tables.specs.declared.rows.StoredSpan.{StoredSpan}
+use Rattle.tacho_tables.specs.Rows.{SpanRow}
+use Rattle.tacho_tables.specs.Tables.{Tables, Stand}
+use Rattle.tacho_reading.specs.Standing.{StandsFor, spans_of, stored_span, IsReadNear}
+use Rattle.tacho_reading.proofs.ApartLemmas.{held_apart}
+use Rattle.tacho_reading.proofs.NearRowLemmas.{held_kept, read_line}
+use Rattle.tacho_reading.proofs.TimelineLemmas.{gave_up, same_option}
+use Rattle.tacho_reading.specs.Apart.{AreApart, rows_of}
+
+-- rows of a table that were read near a range
+abbrev pub AreRead : (Tables → List SpanRow) → Trees → ℕ → ℕ → ℕ → List StoredSpan → Type 0
+AreRead get db n a b found = (t : Tables) → Stand db t → AreApart (rows_of n (get t)) → IsReadNear (get t) n a b found
+
+agreed : (db : Trees) (s : State) (n : ℕ) (d : Driver) (a b : ℕ) (helds : List StoredSpan) (line : List Span) → StandsFor db s
+    → driver_of n s ≡ Some d → AreRead (λ t. t.held) db n a b helds → IsCanonicalOf (Gives (map stored_span helds)) line
+    → AgreeWithin a b line (held_spans d)
+unfolding StandsFor
+agreed db s n d a b helds line (t, stand, of) is read canonical m w =
+    let keeps = held_kept t s n d of is in
+    let near = read_line t.held n a b helds line (read t stand (held_apart t s n d of is)) canonical in
+    same_option _ _ (λ k. (
+      λ e. (held_map d (spans_of n t.held) m k keeps).0 (line_kept a b (spans_of n t.held) line (Held d) m k keeps.same near e),
+      λ e. kept_line a b (spans_of n t.held) line (Held d) m k keeps.same near w ((held_map d (spans_of n t.held) m k keeps).1 e),
+    ))
+
+-- so it is one of what he holds in the range
+pub range_told : (db : Trees) (s : State) (n : ℕ) (d : Driver) (a b : ℕ) (helds : List StoredSpan) (r : Result (List Span) StoreFault)
+    → StandsFor db s → driver_of n s ≡ Some d → AreRead (λ t. t.held) db n a b helds
+    → IfOk r (IsCanonicalOf (Gives (map stored_span helds))) → IfOk r (IsHeldWithin n a b s)
+range_told db s n d a b helds (Ok line) stands is read canonical =
+    subst (λ (o : Option Driver). IfSome o (λ d. AgreeWithin a b line (held_spans d))) (sym is)
+    (agreed db s n d a b helds line stands is read canonical)
+range_told db s n d a b helds (Err f) stands is read canonical = tt
+
+-- there is a driver to tell of, or the call gave up
+pub range_answers : (n : ℕ) (s : State) (d : Driver) (r : Result (List Span) StoreFault) → driver_of n s ≡ Some d
+    → IfErr r (λ f. (f ≡ Memory) ⊎ (f ≡ Store)) → Answers (λ _. tt) r (reported n s)
+range_answers n s d (Ok line) is up = ap (told_of (λ d. Ok tt)) is
+range_answers n s d (Err f) is up = gave_up {A = List Span} (λ _. tt) f (reported n s) up

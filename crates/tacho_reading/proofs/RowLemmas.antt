@@ -1,0 +1,126 @@
+-- Rows of a driver, and the spans that they stand for.
+use Rattle.std.proofs.Common.{◌≡◌, ◌≢◌, ℕ, ◌==◌, ◌&&◌, Bool, true, false, cond, List, [], ◌∷◌, ◌++◌, map, filter, refl, sym, ap, ◌∙◌, arith, lit<}
+use Rattle.std.specs.List.{All, slice_index_or}
+use Rattle.std.proofs.lemmas.Bool.Decides.{nat_tests}
+use Rattle.std.proofs.lemmas.List.{append-nil}
+use Rattle.std.proofs.lemmas.List.Elements.{All-append, All-map}
+use Rattle.tacho_time.specs.declared.span.Span.{Span}
+use Rattle.tacho_time.specs.declared.span.Mark.{Mark}
+use Rattle.tacho_time.specs.declared.span.Activity.TheVariants.{Rest, Available, Work, Drive}
+use Rattle.tacho_time.specs.declared.span.Activity.{Activity}
+use Rattle.tacho_state.specs.Disjoint as disjoint
+use Rattle.tacho_tables.specs.Rows.{SpanRow}
+use Rattle.tacho_tables.specs.Tables.{is_near, span_of}
+use Rattle.tacho_reading.specs.Standing.{IsMark, mark_number, numbered_mark, row_span, span_row, spans_of, stored_span}
+
+-- ---- numbers
+
+-- a number is equal to itself
+pub eq_self : (n : ℕ) → (n == n) ≡ true
+eq_self n = grind (arith, nat_tests)
+
+-- numbers that differ don't pass the test
+pub eq_not : (j n : ℕ) → j ≢ n → (j == n) ≡ false
+eq_not j n d = go (j == n) refl where
+  go : (b : Bool) → (j == n) ≡ b → b ≡ false
+  go true e = let f : j ≡ n = grind (arith, nat_tests) in absurd (d f)
+  go false e = refl
+
+-- numbers that pass the test are equal
+pub eq_true : (j n : ℕ) → (j == n) ≡ true → j ≡ n
+eq_true j n e = grind (arith, nat_tests)
+
+-- numbers that don't pass the test differ
+pub eq_false : (j n : ℕ) → (j == n) ≡ false → j ≢ n
+eq_false j n e f = let g : (j == n) ≡ true = grind (arith, nat_tests) in cc
+
+-- ---- marks
+
+-- a mark's number is that mark's
+mark_back : (a : Activity) (c : Bool) → numbered_mark (mark_number (record { activity = a; crew = c })) ≡ record { activity = a; crew = c }
+mark_back Rest true = refl
+mark_back Rest false = refl
+mark_back Available true = refl
+mark_back Available false = refl
+mark_back Work true = refl
+mark_back Work false = refl
+mark_back Drive true = refl
+mark_back Drive false = refl
+
+-- the row of a span stands for that span
+span_back : (n : ℕ) (s : Span) → row_span (span_row n s) ≡ s
+span_back n s = ap (λ (k : Mark). record { start = s.start; past = s.past; mark = k }) (mark_back s.mark.activity s.mark.crew)
+
+-- a mark's number is a number that a mark has
+mark_below : (a : Activity) (c : Bool) → IsMark (mark_number (record { activity = a; crew = c }))
+mark_below Rest true = lit< tt
+mark_below Rest false = lit< tt
+mark_below Available true = lit< tt
+mark_below Available false = lit< tt
+mark_below Work true = lit< tt
+mark_below Work false = lit< tt
+mark_below Drive true = lit< tt
+mark_below Drive false = lit< tt
+
+-- ---- rows and spans
+
+-- the spans of rows that are joined
+spans_append : (n : ℕ) (xs ys : List SpanRow) → spans_of n (xs ++ ys) ≡ spans_of n xs ++ spans_of n ys
+spans_append n [] ys = refl
+spans_append n (r ∷ xs) ys = go (r.driver == n) (spans_append n xs ys) where
+  go : (b : Bool) → spans_of n (xs ++ ys) ≡ spans_of n xs ++ spans_of n ys
+      → cond b (row_span r ∷ spans_of n (xs ++ ys)) (spans_of n (xs ++ ys)) ≡ cond b (row_span r ∷ spans_of n xs)
+      (spans_of n xs) ++ spans_of n ys
+  go true e = ap (λ (x : List Span). row_span r ∷ x) e
+  go false e = e
+
+-- the spans of a driver's rows that were made of spans
+spans_rows : (n : ℕ) (spans : List Span) → spans_of n (map (span_row n) spans) ≡ spans
+spans_rows n [] = refl
+spans_rows n (s ∷ ss) =
+    ap (λ b. cond b (row_span (span_row n s) ∷ spans_of n (map (span_row n) ss)) (spans_of n (map (span_row n) ss))) (eq_self n)
+    ∙ ap (λ (x : Span). x ∷ spans_of n (map (span_row n) ss)) (span_back n s)
+    ∙ ap (λ (x : List Span). s ∷ x) (spans_rows n ss)
+
+-- and another driver has none of them
+spans_other : (j n : ℕ) (spans : List Span) → j ≢ n → spans_of j (map (span_row n) spans) ≡ []
+spans_other j n [] d = refl
+spans_other j n (s ∷ ss) d =
+    ap (λ b. cond b (row_span (span_row n s) ∷ spans_of j (map (span_row n) ss)) (spans_of j (map (span_row n) ss)))
+    (eq_not n j (λ e. d (sym e)))
+    ∙ spans_other j n ss d
+
+-- rows of a driver that are added are his
+pub added_own : (n : ℕ) (rows : List SpanRow) (spans : List Span) → spans_of n (rows ++ map (span_row n) spans) ≡ spans_of n rows ++ spans
+added_own n rows spans = spans_append n rows (map (span_row n) spans) ∙ ap (λ (x : List Span). spans_of n rows ++ x) (spans_rows n spans)
+
+-- and nobody else's
+pub added_other : (j n : ℕ) (rows : List SpanRow) (spans : List Span) → j ≢ n
+    → spans_of j (rows ++ map (span_row n) spans) ≡ spans_of j rows
+added_other j n rows spans d = spans_append j rows (map (span_row n) spans)
+    ∙ ap (λ (x : List Span). spans_of j rows ++ x) (spans_other j n spans d) ∙ append-nil (spans_of j rows)
+
+-- rows of spans that are added have numbers of marks
+pub added_marks : (n : ℕ) (rows : List SpanRow) (spans : List Span) → All (λ r. IsMark r.mark) rows
+    → All (λ r. IsMark r.mark) (rows ++ map (span_row n) spans)
+added_marks n rows spans h = All-append (λ r. IsMark r.mark) rows (map (span_row n) spans) h
+    (All-map (λ r. IsMark r.mark) (span_row n) spans (λ i s w. mark_below (slice_index_or spans i s).mark.activity (slice_index_or spans i s).mark.crew))
+
+-- ---- rows near a range
+
+-- a driver's rows near a range stand for his spans near it
+pub near_spans : (n a b : ℕ) (rows : List SpanRow)
+    → map stored_span (map span_of (filter (is_near n a b) rows)) ≡ disjoint.near a b (spans_of n rows)
+near_spans n a b [] = refl
+near_spans n a b (r ∷ rows) = go (r.driver == n) (near_spans n a b rows) where
+  own : (v : Bool) → map stored_span (map span_of (filter (is_near n a b) rows)) ≡ disjoint.near a b (spans_of n rows)
+      → map stored_span (map span_of (cond v (r ∷ filter (is_near n a b) rows) (filter (is_near n a b) rows))) ≡ cond v
+      (row_span r ∷ disjoint.near a b (spans_of n rows)) (disjoint.near a b (spans_of n rows))
+  own true e = ap (λ (x : List Span). row_span r ∷ x) e
+  own false e = e
+
+  go : (o : Bool) → map stored_span (map span_of (filter (is_near n a b) rows)) ≡ disjoint.near a b (spans_of n rows)
+      → map stored_span (map span_of (cond (o && disjoint.is_near a b (row_span r)) (r ∷ filter (is_near n a b) rows)
+      (filter (is_near n a b) rows))) ≡ disjoint.near a b (cond o (row_span r ∷ spans_of n rows) (spans_of n rows))
+  go true e = own (disjoint.is_near a b (row_span r)) e
+  go false e = e

@@ -1,0 +1,76 @@
+-- The line of all held rows of a driver is what he holds.
+use Rattle.std.proofs.Common.{◌≡◌, ◌⊎◌, inl, inr, ℕ, ◌==◌, ◌↔◌, Bool, true, false, cond, List, [], ◌∷◌, map, filter, Option, Some, None, Result, Ok, Err, IfOk, IfErr, refl, sym, ap, subst}
+use Rattle.std.specs.List.Sorted.{IsPermutation}
+use Rattle.std.proofs.lemmas.List.Sorted.{IsPermutation-sym, IsPermutation-map}
+use Rattle.sqlite.specs.Tree.{Trees}
+use Rattle.tacho_time.specs.declared.span.Span.{Span}
+use Rattle.tacho_time.specs.declared.span.Mark.{Mark}
+use Rattle.tacho_time.specs.Spans.{Gives, IsCanonicalOf}
+use Rattle.tacho_line.specs.Line.{mark_at}
+use Rattle.tacho_line.proofs.LineLemmas.{line_map}
+use Rattle.tacho_state.specs.State.{Driver, State, held_mark, driver_of}
+use Rattle.tacho_state.specs.Steps.{lined}
+use Rattle.tacho_state.specs.Acts.{Answers}
+use Rattle.tacho_state.specs.declared.fault.StoreFault.{StoreFault}
+use Rattle.tacho_state.specs.declared.fault.StoreFault.TheVariants.{Memory, Store}
+use Rattle.tacho_state.proofs.MapLemmas.{held_map}
+use Rattle.tacho_tables.specs.declared.rows.StoredSpan.{StoredSpan}
+use Rattle.tacho_tables.specs.Rows.{SpanRow}
+use Rattle.tacho_tables.specs.Tables.{Tables, Stand, is_of, span_of}
+use Rattle.tacho_reading.specs.Standing.{StandsFor, spans_of, stored_span, row_span}
+use Rattle.tacho_reading.proofs.NearRowLemmas.{permuted_gives, held_kept}
+
+-- the rows of a driver stand for his spans
+own_spans : (n : ℕ) (rows : List SpanRow) → map stored_span (map span_of (filter (is_of n) rows)) ≡ spans_of n rows
+own_spans n [] = refl
+own_spans n (r ∷ rows) = go (r.driver == n) (own_spans n rows) where
+  go : (o : Bool) → map stored_span (map span_of (filter (is_of n) rows)) ≡ spans_of n rows
+      → map stored_span (map span_of (cond o (r ∷ filter (is_of n) rows) (filter (is_of n) rows))) ≡ cond o (row_span r ∷ spans_of n rows)
+      (spans_of n rows)
+  go true e = ap (λ (x : List Span). row_span r ∷ x) e
+  go false e = e
+
+-- two options that have the same values are one
+pub same_option : {X : Type 0} (a b : Option X) → ((x : X) → (a ≡ Some x) ↔ (b ≡ Some x)) → a ≡ b
+same_option None None same = refl
+same_option None (Some x) same = (same x).1 refl
+same_option (Some x) b same = sym ((same x).0 refl)
+
+-- the line gives each minute the mark that he holds it with
+line_is : (d : Driver) (helds line : List Span) → IsCanonicalOf (Gives helds) line
+    → ((m : ℕ) (k : Mark) → Gives helds m k ↔ (held_mark d m ≡ Some k)) → (m : ℕ) → mark_at line m ≡ held_mark d m
+line_is d helds line of held m = same_option (mark_at line m) (held_mark d m) (λ k.
+    let map = line_map line m k of.canonical in
+    let given = of.same m k in
+    let kept = held m k in
+    (λ e. kept.0 (given.0 (map.0 e)), λ e. map.1 (given.1 (kept.1 e))))
+
+-- so the line of all his rows, in any order, is his timeline
+pub line_told : (db : Trees) (n : ℕ) (s : State) (d : Driver) (found : List StoredSpan) (line : List Span) → StandsFor db s
+    → driver_of n s ≡ Some d
+    → ((a : Tables) → Stand db a → IsPermutation (map span_of (filter (is_of n) a.held)) found)
+    → IsCanonicalOf (Gives (map stored_span found)) line → mark_at line ≡ held_mark d
+unfolding StandsFor
+line_told db n s d found line (t, stand, of) is read canonical =
+    let keeps = held_kept t s n d of is in
+    let rows : IsPermutation (spans_of n t.held) (map stored_span found) =
+    subst (λ (x : List Span). IsPermutation x (map stored_span found)) (own_spans n t.held)
+    (IsPermutation-map stored_span _ found (read t stand)) in
+    let each = line_is d (map stored_span found) line canonical (λ m k.
+    let held = held_map d (spans_of n t.held) m k keeps in
+    let kept = keeps.same m k in
+    (λ g. held.0 (kept.0 (permuted_gives _ _ m k (IsPermutation-sym _ _ rows) g)), λ e. permuted_gives _ _ m k rows (kept.1 (held.1 e))))
+    in λ i m. each m i
+
+-- a call that gave up answers as any step does
+pub gave_up : {A B : Type 0} (view : A → B) (f : StoreFault) (told : Result B StoreFault) → (f ≡ Memory) ⊎ (f ≡ Store)
+    → Answers view (Err f) told
+gave_up view f told (inl e) = subst (λ g. Answers view (Err g) told) (sym e) tt
+gave_up view f told (inr e) = subst (λ g. Answers view (Err g) told) (sym e) tt
+
+-- the timeline is answered, or the call gave up
+pub line_answers : (n : ℕ) (s : State) (d : Driver) (r : Result (List Span) StoreFault) → driver_of n s ≡ Some d
+    → IfOk r (λ line. mark_at line ≡ held_mark d) → IfErr r (λ f. (f ≡ Memory) ⊎ (f ≡ Store))
+    → Answers (λ line. mark_at line) r (lined n s)
+line_answers n s d (Ok line) is told up = rw is (ap Ok (sym told))
+line_answers n s d (Err f) is told up = gave_up (λ line. mark_at line) f (lined n s) up

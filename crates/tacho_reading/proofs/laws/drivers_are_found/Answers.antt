@@ -1,0 +1,5 @@
+use Rattle.tacho_reading.proofs.FindLemmas.{number_none, number_some}
+use Rattle.tacho_reading.proofs.laws.drivers_are_found.Goals as goal
+
+pub returns : goal.returns
+returns c = record { none = number_none; some = number_some }

@@ -1,0 +1,30 @@
+use Rattle.std.proofs.Common.{rules, sym, subst}
+use Rattle.tacho_state.specs.Acts.{Answers}
+use Rattle.tacho_state.specs.Steps.{downloaded}
+use Rattle.tacho_reading.proofs.MappedLemmas.{was_ok}
+use Rattle.tacho_reading.proofs.FoundLemmas.{the_driver, unknown_refuses, handed_on}
+use Rattle.tacho_reading.proofs.SeenLemmas.{still_seen}
+use Rattle.tacho_reading.proofs.ReadingLemmas.{nobody, file_told}
+use Rattle.tacho_reading.proofs.reading.download_in.Goals as goal
+
+pub returns-in_err-driver_with : goal.returns-in_err-driver_with
+returns-in_err-driver_with g c = record {
+  goes = search rules;
+  same = search rules;
+  told = λ clean schema s stands.
+      handed_on _ _ c.from_residual.result _ (unknown_refuses c.args.driver s _ _ (nobody c.args.driver s _)
+      (c.in_err-driver_with.ensures.told clean schema s stands)) c.from_residual.ensures;
+}
+
+pub returns : goal.returns
+returns g c = record {
+  goes = search rules;
+  same = search rules;
+  told = λ clean schema s stands.
+      let clean_1 = c.file.ensures.reads.stays.clean clean in
+      let d = the_driver c.args.driver s _ (c.in_ok-driver_with.ensures.told clean_1 schema s stands) in
+      let seen = still_seen _ _ s (c.in_ok-driver_with.ensures.same clean_1 schema) schema stands in
+      subst (λ r. Answers (λ bytes. bytes.items) r (downloaded c.args.driver c.args.number s)) (sym c.ok_or.ensures.value)
+      (file_told (λ bytes. bytes.items) _ _ _ s c.in_ok-file.file d.0 d.1 seen.1
+      (was_ok c.file.result c.in_ok-file.file _ c.in_ok-file.ensures.cases (c.file.ensures.found clean seen.0)));
+}

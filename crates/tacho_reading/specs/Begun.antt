@@ -1,0 +1,20 @@
+-- Where a reading of a driver's rows begins for his report.
+use Rattle.std.specs.Prelude.{◌≡◌, ℕ, ◌*◌, ◌==◌, ◌&&◌, nat_lt, Bool, filter, Some}
+use Rattle.sqlite.specs.Tree.{Trees}
+use Rattle.tacho_state.specs.State.{Driver, State, driver_of}
+use Rattle.tacho_tables.specs.Rows.{SpanRow}
+use Rattle.tacho_tables.specs.Tables.{Tables, Stand, is_onward}
+use Rattle.tacho_reading.specs.declared.reading.Beginning.{Beginning}
+use Rattle.tacho_reading.specs.Standing.{IsOf}
+
+-- a row of the driver that ends behind a minute
+abbrev pub is_behind : ℕ → ℕ → SpanRow → Bool
+is_behind driver minute r = (r.driver == driver) && nat_lt minute r.past
+
+-- the driver is examined from the base on, and his rows that begin from the start on are those that end behind the base
+pub record IsBegun (db : Trees) (n : ℕ) (s : State) (b : Beginning) : Type 0 where
+  pub driver : Driver
+  pub is : driver_of n s ≡ Some driver
+  pub base : b.base ≡ 1440 * driver.base
+  pub rows : (t : Tables) → Stand db t → IsOf t s → filter (is_onward n b.start) t.held ≡ filter
+      (is_behind n b.base) t.held

@@ -1,0 +1,201 @@
+-- What the archive's tables stand for: rows by driver, and the state of all drivers.
+use Rattle.std.specs.Prelude.{◌≡◌, ◌≢◌, ℕ, ◌+◌, ◌==◌, ◌<◌, ◌≤◌, ◌⊎◌, nat_lt, All, true, false, List, [], ◌∷◌, length, map, filter, not, IsPermutation, Ok, if◌then◌else◌}
+use Rattle.sqlite.specs.Tree.{Trees}
+use Rattle.tacho_time.specs.declared.span.Span.{Span}
+use Rattle.tacho_time.specs.declared.span.Mark.{Mark}
+use Rattle.tacho_time.specs.declared.span.Activity.{Activity}
+use Rattle.tacho_time.specs.declared.span.Activity.TheVariants.{Rest, Available, Work, Drive}
+use Rattle.tacho_time.specs.Spans.{Gives, IsFirstConflict}
+use Rattle.tacho_card.specs.declared.file.Part.{Part}
+use Rattle.tacho_state.specs.declared.entry.Entry.{Entry as Listed}
+use Rattle.tacho_state.specs.State.{Download, Entry, Driver, State, Given, Held, AreFull, driver_of}
+use Rattle.tacho_state.specs.Disjoint.{Keeps}
+use Rattle.tacho_state.specs.Content.{FileTells, part_number}
+use Rattle.tacho_tables.specs.Rows.{SpanRow, DownloadRow, EntryRow, DriverRow}
+use Rattle.tacho_tables.specs.declared.rows.StoredSpan.{StoredSpan}
+use Rattle.tacho_tables.specs.declared.rows.StoredEntry.{StoredEntry}
+use Rattle.tacho_tables.specs.Tables.{Tables, Stand, has_number, is_of, is_near, is_kept_near, span_of, entry_span_of}
+
+-- ---- marks as numbers: 0 rest, 1 available, 2 work, 3 drive, and 4 more for crew
+
+abbrev pub activity_number : Activity → ℕ
+activity_number Rest = 0
+activity_number Available = 1
+activity_number Work = 2
+activity_number Drive = 3
+
+abbrev pub mark_number : Mark → ℕ
+mark_number k = activity_number k.activity + (if k.crew then 4 else 0)
+
+abbrev pub numbered_activity : ℕ → Activity
+numbered_activity n = if n == 0 then Rest else (if n == 1 then Available else (if n == 2 then Work else Drive))
+
+abbrev pub numbered_mark : ℕ → Mark
+numbered_mark n =
+    if nat_lt n 4 then record { activity = numbered_activity n; crew = false }
+    else record { activity = (if n == 4 then Rest else (if n == 5 then Available else (if n == 6 then Work else Drive))); crew = true }
+
+-- the numbers that marks have: a number above them is read as a mark too, and is the number of none
+abbrev pub IsMark : ℕ → Type 0
+IsMark n = n < 8
+
+-- ---- rows of a driver
+
+-- the span of a row, and the row of a driver's span
+abbrev pub row_span : SpanRow → Span
+row_span r = record { start = r.start; past = r.past; mark = numbered_mark r.mark }
+
+abbrev pub span_row : ℕ → Span → SpanRow
+span_row n s = record { driver = n; start = s.start; past = s.past; mark = mark_number s.mark }
+
+-- the spans of a driver's rows
+abbrev pub spans_of : ℕ → List SpanRow → List Span
+spans_of n [] = []
+spans_of n (r ∷ rows) = if r.driver == n then row_span r ∷ spans_of n rows else spans_of n rows
+
+-- the rows of his downloads and of his entries, numbered from a number on
+abbrev pub download_rows : ℕ → ℕ → List Download → List DownloadRow
+download_rows n i [] = []
+download_rows n i (d ∷ ds) = record { driver = n; number = i; part = d.part; file = d.file } ∷ download_rows n (i + 1) ds
+
+abbrev pub entry_row : ℕ → ℕ → Entry → EntryRow
+entry_row n i e = record { driver = n; number = i; start = e.start; past = e.past; mark = activity_number e.activity; withdrawn = (if e.withdrawn then 1 else 0) }
+
+abbrev pub entry_rows : ℕ → ℕ → List Entry → List EntryRow
+entry_rows n i [] = []
+entry_rows n i (e ∷ es) = entry_row n i e ∷ entry_rows n (i + 1) es
+
+-- his own row: the columns downloads and entries count the numbers that were given out
+abbrev pub driver_columns : Driver → DriverRow
+driver_columns d = record { driver = d.number; holder = d.holder; secret = d.key; base = d.base; name = d.name; downloads = length d.downloads; entries = length d.entries }
+
+abbrev pub downloads_of : ℕ → List DownloadRow → List DownloadRow
+downloads_of n rows = filter (λ r. r.driver == n) rows
+
+abbrev pub entries_of : ℕ → List EntryRow → List EntryRow
+entries_of n rows = filter (λ r. r.driver == n) rows
+
+-- ---- what the tables stand for
+
+-- each download's spans are what its file tells by its part
+abbrev pub AreRead : List Download → Type 0
+AreRead [] = Unit {0}
+AreRead (d ∷ ds) =
+    ((part : Part) × (holder : List ℕ) × (part_number part ≡ d.part) × FileTells part d.file (Ok (record { holder = holder; spans = d.spans }))) × AreRead ds
+
+-- the rows of one driver: card_spans give exactly what his downloads give, and held exactly what he holds, each in disjoint rows
+pub record IsOfDriver (t : Tables) (d : Driver) : Type 0 where
+  pub downloads : downloads_of d.number t.downloads ≡ download_rows d.number 1 d.downloads
+  pub read : AreRead d.downloads
+  pub entries : entries_of d.number t.entries ≡ entry_rows d.number 1 d.entries
+  pub full : AreFull d.entries
+  pub card_spans : Keeps (spans_of d.number t.card_spans) (Given d)
+  pub held : Keeps (spans_of d.number t.held) (Held d)
+
+abbrev pub IsOfEach : Tables → State → Type 0
+IsOfEach t [] = Unit {0}
+IsOfEach t (d ∷ s) = IsOfDriver t d × IsOfEach t s
+
+-- no driver of the state has the number, the key, or the holder
+abbrev pub HasNot : ℕ → State → Type 0
+HasNot n [] = Unit {0}
+HasNot n (d ∷ s) = (d.number ≢ n) × HasNot n s
+
+abbrev pub HasNoKey : List ℕ → State → Type 0
+HasNoKey key [] = Unit {0}
+HasNoKey key (d ∷ s) = (d.key ≢ key) × HasNoKey key s
+
+abbrev pub HasNoHolder : List ℕ → State → Type 0
+HasNoHolder holder [] = Unit {0}
+HasNoHolder holder (d ∷ s) = (d.holder ≢ holder) × HasNoHolder holder s
+
+-- no two drivers have one number, one key or one holder
+abbrev pub AreDistinct : State → Type 0
+AreDistinct [] = Unit {0}
+AreDistinct (d ∷ s) = HasNot d.number s × HasNoKey d.key s × HasNoHolder d.holder s × AreDistinct s
+
+-- no row is without its driver
+pub record AreKnown (t : Tables) (s : State) : Type 0 where
+  pub downloads : (n : ℕ) → HasNot n s → downloads_of n t.downloads ≡ []
+  pub entries : (n : ℕ) → HasNot n s → entries_of n t.entries ≡ []
+  pub card_spans : (n : ℕ) → HasNot n s → spans_of n t.card_spans ≡ []
+  pub held : (n : ℕ) → HasNot n s → spans_of n t.held ≡ []
+
+-- the rows of both tables of spans have numbers of marks
+pub record AreMarked (t : Tables) : Type 0 where
+  pub card_spans : All (λ r. IsMark r.mark) t.card_spans
+  pub held : All (λ r. IsMark r.mark) t.held
+
+-- the tables stand for the state
+pub record IsOf (t : Tables) (s : State) : Type 0 where
+  pub drivers : t.drivers ≡ map driver_columns s
+  pub distinct : AreDistinct s
+  pub each : IsOfEach t s
+  pub known : AreKnown t s
+  pub marked : AreMarked t
+
+-- what is stored stands for the state
+unfoldable pub StandsFor : Trees → State → Type 0
+StandsFor db s = (t : Tables) × Stand db t × IsOf t s
+
+-- of one driver both have the same rows
+pub record HaveSameRowsOf (n : ℕ) (t u : Tables) : Type 0 where
+  pub drivers : filter (has_number n) t.drivers ≡ filter (has_number n) u.drivers
+  pub downloads : downloads_of n t.downloads ≡ downloads_of n u.downloads
+  pub card_spans : filter (is_of n) t.card_spans ≡ filter (is_of n) u.card_spans
+  pub entries : entries_of n t.entries ≡ entries_of n u.entries
+  pub held : filter (is_of n) t.held ≡ filter (is_of n) u.held
+
+-- what is stored before and after has the same rows of one driver
+unfoldable pub KeepsRowsOf : ℕ → Trees → Trees → Type 0
+KeepsRowsOf n db next = (t : Tables) × (u : Tables) × Stand db t × Stand next u × HaveSameRowsOf n t u
+
+-- what is stored after stands for the state after, and has the same rows of each driver of whom that says the same
+pub record Follows (db next : Trees) (s after : State) : Type 0 where
+  pub stands : StandsFor next after
+  pub others : (n : ℕ) → driver_of n after ≡ driver_of n s → KeepsRowsOf n db next
+
+-- ---- rows in another order, and rows that were read
+
+-- the same rows in another order
+pub record SameRows (t u : Tables) : Type 0 where
+  pub drivers : IsPermutation t.drivers u.drivers
+  pub downloads : IsPermutation t.downloads u.downloads
+  pub card_spans : IsPermutation t.card_spans u.card_spans
+  pub entries : IsPermutation t.entries u.entries
+  pub held : IsPermutation t.held u.held
+
+-- both numbers are of minutes: 68428800 is the last number of one
+pub record AreMinutes (from until : ℕ) : Type 0 where
+  pub start : from ≤ 68428800
+  pub past : until ≤ 68428800
+
+-- a stored span that an archive writes: its numbers are of minutes and of a mark
+pub record IsFit (s : StoredSpan) : Type 0 where
+  pub minutes : AreMinutes s.start s.past
+  pub mark : IsMark s.mark
+
+-- a stored entry that can be listed
+abbrev pub IsListed : StoredEntry → Type 0
+IsListed it = AreMinutes it.start it.past
+
+-- a stored span as a span
+abbrev pub stored_span : StoredSpan → Span
+stored_span s = record { start = s.start; past = s.past; mark = numbered_mark s.mark }
+
+-- stored rows that have no line: not all of them are fit, or they contradict
+abbrev pub AreFaulty : List StoredSpan → Type 0
+AreFaulty rows = (¬ All IsFit rows) ⊎ ((minute : ℕ) × IsFirstConflict (Gives (map stored_span rows)) minute)
+
+-- what is read near a range, in some order
+abbrev pub IsReadNear : List SpanRow → ℕ → ℕ → ℕ → List StoredSpan → Type 0
+IsReadNear rows n start past found = IsPermutation (map span_of (filter (is_near n start past) rows)) found
+
+-- and of the entries that are not withdrawn
+abbrev pub IsKeptNear : List EntryRow → ℕ → ℕ → ℕ → List StoredSpan → Type 0
+IsKeptNear rows n start past found = IsPermutation (map entry_span_of (filter (is_kept_near n start past) rows)) found
+
+-- an entry as it is listed
+abbrev pub listed_as : StoredEntry → Listed
+listed_as it =
+    record { number = it.number; line = record { start = it.start; past = it.past; activity = numbered_activity it.mark }; withdrawn = not (it.withdrawn == 0) }

@@ -1,0 +1,135 @@
+-- What a scan takes of a driver's rows that come one at a time: their spans, cut at a base, up to the horizon.
+use Rattle.std.specs.Prelude.{◌≡◌, ℕ, ◌<◌, ◌≤◌, ◌⊎◌, nat_lt, nat_le, false, true, All, List, [], ◌∷◌, ◌++◌, map}
+use Rattle.std.specs.Prelude.{if◌then◌else◌, Result, IfOk, IfErr, OnOk, IsTrue}
+use Rattle.std.specs.Borrow.{MutBor}
+use Rattle.sqlite.specs.Held.{Held, state}
+use Rattle.sqlite.specs.Given.{HasGiven}
+use Rattle.sqlite.specs.Order.{Row}
+use Rattle.sqlite.specs.State.{Shown, HasCleanDisk, Survives}
+use Rattle.sqlite.specs.Store.{Ghosts}
+use Rattle.tacho_time.specs.declared.span.Span.{Span}
+use Rattle.tacho_time.specs.Spans.{Covers}
+use Rattle.tacho_time.specs.OrMemory.{OrMemory}
+use Rattle.tacho_line.specs.declared.horizon.Cause.{Cause}
+use Rattle.tacho_line.specs.declared.horizon.Cause.TheVariants.{Unknown, Crew}
+use Rattle.tacho_line.specs.declared.horizon.Horizon.{Horizon}
+use Rattle.tacho_hours.specs.Line.{Joined}
+use Rattle.tacho_hours.specs.Limits.{latest}
+use Rattle.tacho_pass.specs.declared.found.Found.{Found}
+use Rattle.tacho_rules.specs.declared.scan.Scan.{Scan}
+use Rattle.tacho_rules.specs.Scan.{IsAt, IsScanOf}
+use Rattle.tacho_state.specs.declared.fault.StoreFault.{StoreFault}
+use Rattle.tacho_state.specs.declared.fault.StoreFault.TheVariants.{Memory, Store}
+use Rattle.tacho_tables.specs.declared.rows.StoredSpan.{StoredSpan}
+use Rattle.tacho_tables.specs.Next.{Tells, AreOnward, IsKept}
+use Rattle.tacho_tables.specs.Rows.{SpanRow}
+use Rattle.tacho_reading.specs.Kept.{IsSame}
+use Rattle.tacho_reading.specs.Standing.{row_span, stored_span}
+use Rattle.tacho_reading.specs.declared.feeding.Step.{Step}
+use Rattle.tacho_reading.specs.declared.feeding.Step.TheVariants.{On, Stop}
+
+-- ---- spans from a base on
+
+-- a span without what lies before the base
+abbrev pub cut : ℕ → Span → Span
+cut base s = record { start = (if nat_lt s.start base then base else s.start); past = s.past; mark = s.mark }
+
+-- spans without what lies before the base: of one that ends by it nothing is left
+abbrev pub cuts : ℕ → List Span → List Span
+cuts base [] = []
+cuts base (s ∷ spans) = if nat_le s.past base then cuts base spans else cut base s ∷ cuts base spans
+
+-- what is left of them goes from one minute to another without a gap, and no part of it is crew
+pub record AreWhole (base from past : ℕ) (spans : List Span) : Type 0 where
+  pub joined : Joined (cuts base spans) from past
+  pub single : All (λ s. s.mark.crew ≡ false) (cuts base spans)
+  pub within : past ≤ latest
+
+-- and a scan was fed it
+pub record HasTaken (base from past : ℕ) (spans : List Span) (old : Scan) (was : Found) (new : Scan)
+    (found : Found) : Type 0 where
+  pub whole : AreWhole base from past spans
+  pub at : IsAt new past
+  pub fed : (before : List Span) → IsScanOf old was base before → IsScanOf new found base (before ++ cuts base spans)
+
+-- ---- where it stops
+
+-- a span behind a gap, or one that is crew: the minute is the horizon, and this is why
+abbrev pub StopsAt : ℕ → Cause → Span → Type 0
+StopsAt minute Unknown s = minute < s.start
+StopsAt minute Crew s = Covers s minute × (s.mark.crew ≡ true)
+
+-- what one row does to a scan that stands at a minute: it is taken up to another, or it stops the scan
+abbrev pub IsStepOf : ℕ → ℕ → StoredSpan → Scan → Found → Scan → Found → Step → Type 0
+IsStepOf base minute row old was new found (On past) =
+    HasTaken base minute past (stored_span row ∷ []) old was new found
+IsStepOf base minute row old was new found (Stop cause) =
+    StopsAt minute cause (stored_span row) × (new ≡ old) × (found ≡ was)
+
+-- ---- the rows of a query
+
+-- each row tells the span in its place
+abbrev pub AreTold : List Row → List StoredSpan → Type 0
+AreTold [] [] = Unit {0}
+AreTold [] (s ∷ spans) = ⊥
+AreTold (r ∷ rows) [] = ⊥
+AreTold (r ∷ rows) (s ∷ spans) = Tells r s × AreTold rows spans
+
+-- the rows so far are all that the query has; or it has given one more, which stops a scan at the horizon
+abbrev pub HasStopped : {S : Type 0} → Ghosts S → List ℕ → Row → Held S → Held S → List Row → Horizon → Type 0
+HasStopped {S = S} g sql params old new rows h =
+    ((h.cause ≡ Unknown) × (last : Held S) × ((state g last).now ≡ (state g old).now)
+    × Shown sql params (state g last) (state g new) rows)
+    ⊎ ((row : Row) × (next : StoredSpan) × Tells row next × StopsAt h.minute h.cause (stored_span next)
+    × HasGiven g sql params new (rows ++ row ∷ []))
+
+-- a scan took the spans of the rows that came next, from the base to the horizon, and there it stopped
+pub record HasFed {S : Type 0} (g : Ghosts S) (old new : Held S) (base : ℕ) (scan : Scan) (was : Found) (fed : Scan)
+    (found : Found) (h : Horizon) : Type 0 where
+  pub spans : List StoredSpan
+  pub taken : HasTaken base base h.minute (map stored_span spans) scan was fed found
+  pub stopped : (sql : List ℕ) (params : Row) (given : List Row) → HasGiven g sql params old given
+      → (rows : List Row) × AreTold rows spans × HasStopped g sql params old new (given ++ rows) h
+
+-- ---- a driver's rows
+
+-- what comes behind the horizon is nothing, or begins with what stops a scan there
+abbrev pub StopsBefore : Horizon → List Span → Type 0
+StopsBefore h [] = h.cause ≡ Unknown
+StopsBefore h (s ∷ spans) = StopsAt h.minute h.cause s
+
+-- of the driver's rows that begin from a start on, in order, a scan took those up to the horizon, from the base on
+pub record AreFed (driver start base : ℕ) (rows : List SpanRow) (scan : Scan) (was : Found) (fed : Scan) (found : Found)
+    (h : Horizon) : Type 0 where
+  pub taken : List SpanRow
+  pub others : List SpanRow
+  pub onward : AreOnward driver start rows (taken ++ others)
+  pub took : HasTaken base base h.minute (map row_span taken) scan was fed found
+  pub stops : StopsBefore h (map row_span others)
+
+-- ---- whatever a reading answers
+
+-- the scan stands at the horizon, unless there was no memory or the store failed
+pub record EndsAt (scan : Scan) (result : Result Horizon StoreFault) : Type 0 where
+  pub at : IfOk result (λ horizon. IsAt scan horizon.minute)
+  pub fault : IfErr result (λ fault. OrMemory Memory fault (fault ≡ Store))
+
+module _ {S A : Type 0} (g : Ghosts S) (result : Result A StoreFault) where
+  -- Of the rows of a query: it is the same connection, what is open was so before and sees what it saw, and a stop
+  -- leaves what it could leave before.
+  pub record ReadsRows (old new : MutBor (Held S)) : Type 0 where
+    pub same_reference : new.ghost_name ≡ old.ghost_name
+    pub live : HasCleanDisk (state g new.now) → OnOk result (IsTrue (state g new.now).is_open)
+    pub kept : HasCleanDisk (state g new.now) → IsKept (state g old.now) (state g new.now)
+    pub mode : old.now.in_transaction ≡ false → new.now.in_transaction ≡ false
+    pub survives : Survives (state g old.now) (state g new.now) (λ _. ⊥)
+
+  -- Of a connection that is in no transaction, and stays so: what is open was so before and sees what it saw, a clean
+  -- disk was clean before, and a stop leaves what it could leave before.
+  pub record ReadsSettled (old new : Held S) : Type 0 where
+    pub autocommit : new.in_transaction ≡ false
+    pub live : HasCleanDisk (state g new) → OnOk result (IsTrue (state g new).is_open)
+    pub clean : HasCleanDisk (state g new) → HasCleanDisk (state g old)
+    pub was_open : HasCleanDisk (state g new) → IsTrue (state g new).is_open → IsTrue (state g old).is_open
+    pub same : HasCleanDisk (state g new) → IsSame (state g old) (state g new)
+    pub survives : Survives (state g old) (state g new) (λ _. ⊥)

@@ -1,0 +1,84 @@
+//! Laws about what the archive's tables stand for. A law is a function without a body: what it ensures is proved, and
+//! holds for all that it names.
+
+ghost use Rattle.std.specs.Prelude.{◌≡◌, ◌↔◌, ℕ, List, [], None, Some, Ok, map, filter, Contains};
+ghost use Rattle.sqlite.specs.Tree.{Trees};
+ghost use Rattle.tacho_time.specs.Spans.{Gives, IsCanonicalOf};
+ghost use Rattle.tacho_time.specs.declared.span.Span.{Span};
+ghost use Rattle.tacho_state.specs.Disjoint.{Keeps, near};
+ghost use Rattle.tacho_state.specs.State.{Driver, Entry, State, Given, Held, driver_of, keyed, holding, download_from, entry_from};
+ghost use Rattle.tacho_state.specs.Steps.{file_of};
+ghost use Rattle.tacho_tables.specs.declared.rows.StoredSpan.{StoredSpan as StoredValue};
+ghost use Rattle.tacho_tables.specs.Rows.{DriverRow, DownloadRow, EntryRow, SpanRow};
+ghost use Rattle.tacho_tables.specs.Tables.{Tables, Stand, has_number, has_secret, has_holder, is_download, is_entry, is_entry_of};
+ghost use Rattle.tacho_reading.specs.Standing.{IsOf, SameRows, spans_of, driver_columns, entry_row, entry_rows, stored_span, IsReadNear};
+
+
+/// What is stored stands for lists of rows in any order.
+pub fn any_order()
+    ensures { (db : Trees) (t u : Tables) → SameRows t u → Stand db t → Stand db u }
+{}
+
+/// A driver is found in the tables by his number as in the state.
+pub fn drivers_are_found()
+    ensures none { (t : Tables) (s : State) (n : ℕ) → IsOf t s
+        → (filter (has_number n) t.drivers ≡ []) ↔ (driver_of n s ≡ None) }
+    ensures some { (t : Tables) (s : State) (n : ℕ) (row : DriverRow) → IsOf t s
+        → Contains (filter (has_number n) t.drivers) row
+        → (d : Driver) × (driver_of n s ≡ Some d) × (row ≡ driver_columns d) }
+{}
+
+/// And by his key.
+pub fn keys_are_found()
+    ensures none { (t : Tables) (s : State) (key : List ℕ) → IsOf t s
+        → (filter (has_secret key) t.drivers ≡ []) ↔ (keyed key s ≡ None) }
+    ensures some { (t : Tables) (s : State) (key : List ℕ) (row : DriverRow) → IsOf t s
+        → Contains (filter (has_secret key) t.drivers) row
+        → (d : Driver) × (keyed key s ≡ Some d) × (row ≡ driver_columns d) }
+{}
+
+/// And by his card's holder.
+pub fn holders_are_found()
+    ensures none { (t : Tables) (s : State) (holder : List ℕ) → IsOf t s
+        → (filter (has_holder holder) t.drivers ≡ []) ↔ (holding holder s ≡ None) }
+    ensures some { (t : Tables) (s : State) (holder : List ℕ) (row : DriverRow) → IsOf t s
+        → Contains (filter (has_holder holder) t.drivers) row
+        → (d : Driver) × (holding holder s ≡ Some d) × (driver_of d.number s ≡ Some d) × (row ≡ driver_columns d) }
+{}
+
+/// A driver's rows keep what his downloads give, and what he holds.
+pub fn rows_are_kept()
+    ensures card { (t : Tables) (s : State) (n : ℕ) (d : Driver) → IsOf t s → driver_of n s ≡ Some d
+        → Keeps (spans_of n t.card_spans) (Given d) }
+    ensures held { (t : Tables) (s : State) (n : ℕ) (d : Driver) → IsOf t s → driver_of n s ≡ Some d
+        → Keeps (spans_of n t.held) (Held d) }
+{}
+
+/// What is read near a range is what the driver's rows keep there; and with the whole range, all that they keep.
+pub fn rows_are_near()
+    ensures { (rows : List SpanRow) (n start past : ℕ) (found : List StoredValue) (line : List Span)
+        → IsReadNear rows n start past found → IsCanonicalOf (Gives (map stored_span found)) line
+        → IsCanonicalOf (Gives (near start past (spans_of n rows))) line }
+{}
+
+/// Downloads are found in the tables by their numbers as in the state.
+pub fn downloads_are_found()
+    ensures none { (t : Tables) (s : State) (n number : ℕ) (d : Driver) → IsOf t s → driver_of n s ≡ Some d
+        → (filter (is_download n number) t.downloads ≡ []) ↔ (download_from 1 number d.downloads ≡ None) }
+    ensures some { (t : Tables) (s : State) (n number : ℕ) (d : Driver) (row : DownloadRow) → IsOf t s
+        → driver_of n s ≡ Some d
+        → Contains (filter (is_download n number) t.downloads) row
+        → file_of (download_from 1 number d.downloads) ≡ Ok row.file }
+{}
+
+/// Entries are found in the tables by their numbers as in the state.
+pub fn entries_are_found()
+    ensures none { (t : Tables) (s : State) (n number : ℕ) (d : Driver) → IsOf t s → driver_of n s ≡ Some d
+        → (filter (is_entry n number) t.entries ≡ []) ↔ (entry_from 1 number d.entries ≡ None) }
+    ensures some { (t : Tables) (s : State) (n number : ℕ) (d : Driver) (row : EntryRow) → IsOf t s
+        → driver_of n s ≡ Some d
+        → Contains (filter (is_entry n number) t.entries) row
+        → (e : Entry) × (entry_from 1 number d.entries ≡ Some e) × (row ≡ entry_row n number e) }
+    ensures all { (t : Tables) (s : State) (n : ℕ) (d : Driver) → IsOf t s → driver_of n s ≡ Some d
+        → filter (is_entry_of n) t.entries ≡ entry_rows n 1 d.entries }
+{}

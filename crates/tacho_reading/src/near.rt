@@ -1,0 +1,38 @@
+//! The rows of a driver near a range: those that have a minute in it, each whole. No row's minutes are another
+//! one's, so that at most one of them begins before the range, and the others are found by where they begin.
+
+ghost use Rattle.std.specs.Prelude.{◌≡◌};
+ghost use Rattle.tacho_tables.specs.Calls.{Finds};
+ghost use Rattle.tacho_tables.specs.Spans.{spans_in};
+ghost use Rattle.tacho_reading.specs.Standing.{IsReadNear};
+ghost use Rattle.tacho_reading.specs.Apart.{AreApart, rows_of, near_from};
+
+use sqlite::{Alter, Transaction};
+use std::alloc::Global;
+use tacho_tables::{SpanTable, StoredSpan, TableFault, spans};
+
+/// Where the first row near a range begins, by the latest row that begins before the range.
+pub fn first_start(before: Option<StoredSpan>, start: u32, past: u32) -> u32
+    ensures { result ≡ near_from start past before }
+{
+    match before {
+        Some(span) if span.start < past && start < span.past => span.start,
+        _ => start,
+    }
+}
+
+/// What a driver's downloads give near a range, or what he holds there.
+pub fn rows_near<S: Alter>(
+    alloc: Global,
+    tx: &mut Transaction<'_, S>,
+    table: SpanTable,
+    driver: u32,
+    start: u32,
+    past: u32,
+) -> Result<Vec<StoredSpan>, TableFault>
+    ensures { Finds S.Store tx.old.conn tx.new.conn result (λ t found. AreApart (rows_of driver (spans_in table t))
+        → IsReadNear (spans_in table t) driver start past found.items) }
+{
+    let before = spans::last_before(tx, table, driver, start)?;
+    spans::begun(alloc, tx, table, driver, first_start(before, start, past), past)
+}

@@ -1,0 +1,272 @@
+ghost use Rattle.std.specs.Prelude.{◌≡◌, ◌≤◌, false, IfOk, string_bytes};
+ghost use Rattle.sqlite.specs.State.{HasCleanDisk};
+ghost use Rattle.sqlite.specs.Held.{state};
+ghost use Rattle.tacho_line.specs.Line.{mark_at};
+ghost use Rattle.tacho_hours.specs.Limits.{latest};
+ghost use Rattle.tacho_hours.specs.Line.{IsBase};
+ghost use Rattle.tacho_state.specs.State.{State};
+ghost use Rattle.tacho_state.specs.Steps.{owner, named, lined, listed, downloaded, reported};
+ghost use Rattle.tacho_state.specs.Reported.{IsHeldWithin, IsReportOf};
+ghost use Rattle.tacho_state.specs.Acts.{Answers};
+ghost use Rattle.tacho_reading.specs.Calls.{Tells};
+ghost use Rattle.tacho_reading.specs.Kept.{Shows, ReadsOn};
+ghost use Rattle.tacho_reading.specs.Begun.{IsBegun};
+
+use crate::fault::store_fault;
+use crate::feeding::feed_held;
+use crate::finding::driver_with;
+use crate::near::{first_start, rows_near};
+use crate::spans::{line_of_stored, listed_entries};
+use sqlite::{Alter, Connection, Transaction};
+use std::alloc::Global;
+use tacho_line::Line;
+use tacho_pass::Found;
+use tacho_rules::{Report, Scan};
+use tacho_state::{Entry, StoreFault, base_of};
+use tacho_tables::{SpanTable, downloads, drivers, entries, held, opening, spans};
+use tacho_time::Minute;
+
+/// The driver whose key this is, within a transaction.
+fn who_in<S: Alter>(tx: &mut Transaction<'_, S>, key: &[u8]) -> Result<Option<u32>, StoreFault>
+    ensures { Tells S.Store tx.old.conn tx.new.conn result
+        (λ _ s. Answers (λ found. found) result (owner key.now s)) }
+{
+    drivers::number_by_secret(tx, key).map_err(store_fault)
+}
+
+/// The driver whose key this is, if there is one.
+pub fn who<S: Alter>(conn: &mut Connection<S>, key: &[u8]) -> Result<Option<u32>, StoreFault>
+    requires { conn.old.in_transaction ≡ false }
+    ensures autocommit { conn.new.in_transaction ≡ false }
+    ensures reads { ReadsOn S.Store (λ found. found) conn.old conn.new result (owner key.now) }
+{
+    let _settled = conn.is_autocommit();
+    let mut tx = conn.transaction();
+    let found = who_in(&mut tx, key)?;
+    tx.rollback();
+    opening::ask(conn).map_err(store_fault)?;
+    Ok(found)
+}
+
+/// A driver's name, within a transaction: S4.
+fn name_in<S: Alter>(tx: &mut Transaction<'_, S>, driver: u32) -> Result<String, StoreFault>
+    ensures { Tells S.Store tx.old.conn tx.new.conn result
+        (λ _ s. Answers (λ name. string_bytes name) result (named driver s)) }
+{
+    let stored = driver_with(tx, driver)?;
+    Ok(stored.name)
+}
+
+/// A driver's name: S4.
+pub fn name<S: Alter>(conn: &mut Connection<S>, driver: u32) -> Result<String, StoreFault>
+    requires { conn.old.in_transaction ≡ false }
+    ensures autocommit { conn.new.in_transaction ≡ false }
+    ensures reads { ReadsOn S.Store (λ name. string_bytes name) conn.old conn.new result (named driver) }
+{
+    let _settled = conn.is_autocommit();
+    let mut tx = conn.transaction();
+    let found = name_in(&mut tx, driver)?;
+    tx.rollback();
+    opening::ask(conn).map_err(store_fault)?;
+    Ok(found)
+}
+
+/// The bytes of a driver's download, within a transaction: S4, S10.
+fn download_in<S: Alter>(
+    tx: &mut Transaction<'_, S>,
+    driver: u32,
+    number: u32,
+) -> Result<Vec<u8>, StoreFault>
+    ensures { Tells S.Store tx.old.conn tx.new.conn result
+        (λ _ s. Answers (λ bytes. bytes.items) result (downloaded driver number s)) }
+{
+    driver_with(tx, driver)?;
+    let file = downloads::file(tx, driver, number).map_err(store_fault)?;
+    file.ok_or(StoreFault::UnknownDownload)
+}
+
+/// The bytes of a driver's download: S4, S10.
+pub fn download<S: Alter>(
+    conn: &mut Connection<S>,
+    driver: u32,
+    number: u32,
+) -> Result<Vec<u8>, StoreFault>
+    requires { conn.old.in_transaction ≡ false }
+    ensures autocommit { conn.new.in_transaction ≡ false }
+    ensures reads { ReadsOn S.Store (λ bytes. bytes.items) conn.old conn.new result (downloaded driver number) }
+{
+    let _settled = conn.is_autocommit();
+    let mut tx = conn.transaction();
+    let file = download_in(&mut tx, driver, number)?;
+    tx.rollback();
+    opening::ask(conn).map_err(store_fault)?;
+    Ok(file)
+}
+
+/// A driver's timeline, within a transaction: S4.
+fn line_in<S: Alter>(
+    alloc: Global,
+    tx: &mut Transaction<'_, S>,
+    driver: u32,
+) -> Result<Line, StoreFault>
+    ensures { Tells S.Store tx.old.conn tx.new.conn result
+        (λ _ s. Answers (λ line. mark_at line) result (lined driver s)) }
+{
+    driver_with(tx, driver)?;
+    let rows = held::of_driver(alloc, tx, driver).map_err(store_fault)?;
+    line_of_stored(alloc, &rows)
+}
+
+/// A driver's timeline: S4.
+pub fn line<S: Alter>(
+    alloc: Global,
+    conn: &mut Connection<S>,
+    driver: u32,
+) -> Result<Line, StoreFault>
+    requires { conn.old.in_transaction ≡ false }
+    ensures autocommit { conn.new.in_transaction ≡ false }
+    ensures reads { ReadsOn S.Store (λ line. mark_at line) conn.old conn.new result (lined driver) }
+{
+    let _settled = conn.is_autocommit();
+    let mut tx = conn.transaction();
+    let line = line_in(alloc, &mut tx, driver)?;
+    tx.rollback();
+    opening::ask(conn).map_err(store_fault)?;
+    Ok(line)
+}
+
+/// What a driver holds in a range, within a transaction: S4. The rows near the range alone are read.
+fn line_within_in<S: Alter>(
+    alloc: Global,
+    tx: &mut Transaction<'_, S>,
+    driver: u32,
+    start: Minute,
+    past: Minute,
+) -> Result<Line, StoreFault>
+    ensures { Tells S.Store tx.old.conn tx.new.conn result
+        (λ _ s. Answers (λ _. tt) result (reported driver s) × IfOk result (IsHeldWithin driver start past s)) }
+{
+    driver_with(tx, driver)?;
+    let rows = rows_near(alloc, tx, SpanTable::Held, driver, start.number(), past.number()).map_err(store_fault)?;
+    line_of_stored(alloc, &rows)
+}
+
+/// What a driver holds in a range: S4.
+pub fn line_within<S: Alter>(
+    alloc: Global,
+    conn: &mut Connection<S>,
+    driver: u32,
+    start: Minute,
+    past: Minute,
+) -> Result<Line, StoreFault>
+    requires { conn.old.in_transaction ≡ false }
+    ensures autocommit { conn.new.in_transaction ≡ false }
+    ensures reads { ReadsOn S.Store (λ _. tt) conn.old conn.new result (reported driver) }
+    ensures within { HasCleanDisk (state S.Store conn.new) → (s : State) → Shows (state S.Store conn.old) s
+        → IfOk result (IsHeldWithin driver start past s) }
+{
+    let _settled = conn.is_autocommit();
+    let mut tx = conn.transaction();
+    let line = line_within_in(alloc, &mut tx, driver, start, past)?;
+    tx.rollback();
+    opening::ask(conn).map_err(store_fault)?;
+    Ok(line)
+}
+
+/// A driver's entries, within a transaction: S4.
+fn entries_in<S: Alter>(
+    alloc: Global,
+    tx: &mut Transaction<'_, S>,
+    driver: u32,
+) -> Result<Vec<Entry>, StoreFault>
+    ensures { Tells S.Store tx.old.conn tx.new.conn result
+        (λ _ s. Answers (λ entries. entries.items) result (listed driver s)) }
+{
+    driver_with(tx, driver)?;
+    let rows = entries::of_driver(alloc, tx, driver).map_err(store_fault)?;
+    listed_entries(alloc, &rows)
+}
+
+/// A driver's entries by their numbers: S4.
+pub fn entries<S: Alter>(
+    alloc: Global,
+    conn: &mut Connection<S>,
+    driver: u32,
+) -> Result<Vec<Entry>, StoreFault>
+    requires { conn.old.in_transaction ≡ false }
+    ensures autocommit { conn.new.in_transaction ≡ false }
+    ensures reads { ReadsOn S.Store (λ entries. entries.items) conn.old conn.new result (listed driver) }
+{
+    let _settled = conn.is_autocommit();
+    let mut tx = conn.transaction();
+    let found = entries_in(alloc, &mut tx, driver)?;
+    tx.rollback();
+    opening::ask(conn).map_err(store_fault)?;
+    Ok(found)
+}
+
+/// Where a reading of a driver's rows begins for his report.
+#[derive(Clone, Copy)]
+pub struct Beginning {
+    /// The first minute that is examined.
+    pub base: Minute,
+    /// Where the first of his rows begins that ends behind the base, or a minute up to there.
+    pub start: u32,
+}
+
+/// Where a reading for a driver's report begins, within a transaction: S4. S12 where his base is no Monday from
+/// 2000-01-03 to
+/// the end of 2099: no archive has such a base.
+fn begin_in<S: Alter>(tx: &mut Transaction<'_, S>, driver: u32) -> Result<Beginning, StoreFault>
+    ensures base { IfOk result (λ begin. IsBase begin.base × (begin.base ≤ latest)) }
+    ensures begun { Tells S.Store tx.old.conn tx.new.conn result
+        (λ db s. Answers (λ _. tt) result (reported driver s) × IfOk result (IsBegun db driver s)) }
+{
+    let stored = driver_with(tx, driver)?;
+    let Some(base) = base_of(stored.base) else {
+        return Err(StoreFault::Store);
+    };
+    let first = base.number();
+    let before = spans::last_before(tx, SpanTable::Held, driver, first).map_err(store_fault)?;
+    Ok(Beginning {
+        base,
+        start: first_start(before, first, first + 1),
+    })
+}
+
+/// Where a reading for a driver's report begins: S4.
+fn begin<S: Alter>(conn: &mut Connection<S>, driver: u32) -> Result<Beginning, StoreFault>
+    requires { conn.old.in_transaction ≡ false }
+    ensures autocommit { conn.new.in_transaction ≡ false }
+    ensures base { IfOk result (λ begin. IsBase begin.base × (begin.base ≤ latest)) }
+    ensures reads { ReadsOn S.Store (λ _. tt) conn.old conn.new result (reported driver) }
+    ensures begun { HasCleanDisk (state S.Store conn.new) → (s : State) → Shows (state S.Store conn.old) s
+        → IfOk result (IsBegun (state S.Store conn.new).now.trees driver s) }
+{
+    let _settled = conn.is_autocommit();
+    let mut tx = conn.transaction();
+    let found = begin_in(&mut tx, driver)?;
+    tx.rollback();
+    opening::ask(conn).map_err(store_fault)?;
+    Ok(found)
+}
+
+/// The report of a driver from his base on: S4. His rows are read one at a time, from the base on and up to the
+/// horizon.
+pub fn report<S: Alter>(
+    alloc: Global,
+    conn: &mut Connection<S>,
+    driver: u32,
+) -> Result<Report, StoreFault>
+    requires { conn.old.in_transaction ≡ false }
+    ensures autocommit { conn.new.in_transaction ≡ false }
+    ensures reads { ReadsOn S.Store (λ _. tt) conn.old conn.new result (reported driver) }
+    ensures report { HasCleanDisk (state S.Store conn.new) → (s : State) → Shows (state S.Store conn.old) s
+        → IfOk result (IsReportOf driver s) }
+{
+    let Beginning { base, start } = begin(conn, driver)?;
+    let mut scan = Scan::new(base);
+    let mut found = Found::empty(alloc);
+    let horizon = feed_held(conn, driver, start, base, &mut scan, &mut found)?;
+    Ok(scan.finish(horizon, found)?)
+}

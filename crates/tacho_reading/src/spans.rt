@@ -1,0 +1,191 @@
+ghost use Rattle.std.specs.Prelude.{◌≡◌, ◌↔◌, ◌<◌, ◌≤◌, ℕ, All, Err, map, IfOk, IfErr, IfSome, IsNone};
+ghost use Rattle.tacho_time.specs.OrMemory.{OrMemory};
+ghost use Rattle.tacho_time.specs.Spans.{Gives, IsCanonical, IsCanonicalOf};
+ghost use Rattle.tacho_state.specs.Disjoint.{AreInRange};
+ghost use Rattle.tacho_tables.specs.Tables.{row_of};
+ghost use Rattle.tacho_reading.specs.Standing.{activity_number, mark_number, numbered_activity, numbered_mark, stored_span, span_row, listed_as, IsFit, IsListed, AreFaulty};
+
+use std::alloc::{AllocError, Global};
+use tacho_line::Line;
+use tacho_state::{Entry, EntryLine, StoreFault, line_of};
+use tacho_tables::{StoredEntry, StoredSpan};
+use tacho_time::{Activity, Mark, Minute, Span, SpanFault};
+
+/// The last number of a minute.
+const LAST: u32 = 68_428_800;
+
+/// The number of what a driver does: 0 rest, 1 available, 2 work, 3 drive.
+fn number_of_activity(activity: Activity) -> u32
+    ensures value { result ≡ activity_number activity }
+    ensures bound { result < 4 }
+{
+    match activity {
+        Activity::Rest => 0,
+        Activity::Available => 1,
+        Activity::Work => 2,
+        Activity::Drive => 3,
+    }
+}
+
+/// The number of a mark: that of what the driver does, and 4 more for crew.
+fn number_of(mark: Mark) -> u32
+    ensures { result ≡ mark_number mark }
+{
+    number_of_activity(mark.activity) + if mark.crew { 4 } else { 0 }
+}
+
+/// What a driver does, by its number: above 2 he drives.
+fn activity_of(number: u32) -> Activity
+    ensures { result ≡ numbered_activity number }
+{
+    match number {
+        0 => Activity::Rest,
+        1 => Activity::Available,
+        2 => Activity::Work,
+        _ => Activity::Drive,
+    }
+}
+
+/// The mark with this number; marks have the numbers to 7.
+fn mark_of(number: u32) -> Option<Mark>
+    ensures some { IfSome result (λ mark. mark ≡ numbered_mark number) }
+    ensures none { IsNone result ↔ (8 ≤ number) }
+{
+    if number >= 8 {
+        return None;
+    }
+    Some(Mark {
+        activity: activity_of(number % 4),
+        crew: number >= 4,
+    })
+}
+
+/// The minute with this number, if there is one.
+pub fn minute_of(number: u32) -> Option<Minute>
+    ensures some { IfSome result (λ minute. minute ≡ number) }
+    ensures none { IsNone result ↔ (LAST < number) }
+{
+    if number > LAST {
+        return None;
+    }
+    Some(Minute::new(number))
+}
+
+/// The span of a stored row, where an archive writes such a row.
+pub fn span_of(row: &StoredSpan) -> Option<Span>
+    ensures some { IfSome result (λ span. span ≡ stored_span row.now) }
+    ensures none { IsNone result ↔ (¬ IsFit row.now) }
+{
+    Some(Span {
+        start: minute_of(row.start)?,
+        past: minute_of(row.past)?,
+        mark: mark_of(row.mark)?,
+    })
+}
+
+/// The spans of stored rows; a row that no archive writes is a fault of the store.
+pub fn spans_of(alloc: Global, rows: &[StoredSpan]) -> Result<Vec<Span>, StoreFault>
+    ensures spans { IfOk result (λ spans. spans.items ≡ map stored_span rows.now) }
+    ensures fault { IfErr result (λ fault. OrMemory StoreFault.Memory fault (fault ≡ StoreFault.Store)) }
+    ensures cause { result ≡ Err StoreFault.Store → ¬ All IsFit rows.now }
+{
+    let mut spans = Vec::new(alloc);
+    for row in rows {
+        let Some(span) = span_of(row) else {
+            return Err(StoreFault::Store);
+        };
+        spans.push(span)?;
+    }
+    Ok(spans)
+}
+
+/// The fault of stored rows whose spans have that fault.
+pub fn fault_of_rows(fault: SpanFault) -> StoreFault
+    ensures { OrMemory StoreFault.Memory result
+        ((result ≡ StoreFault.Store) × ((minute : ℕ) × (fault ≡ SpanFault.Contradiction minute))) }
+{
+    match fault {
+        SpanFault::Contradiction(_) => StoreFault::Store,
+        SpanFault::Memory => StoreFault::Memory,
+    }
+}
+
+/// The line of stored rows, in any order; a row that no archive writes (a minute past 68,428,800, a mark over 7), or
+/// two that
+/// contradict, is a fault of the store.
+pub fn line_of_stored(alloc: Global, rows: &[StoredSpan]) -> Result<Line, StoreFault>
+    ensures line { IfOk result (λ line. IsCanonicalOf (Gives (map stored_span rows.now)) line) }
+    ensures fault { IfErr result (λ fault. OrMemory StoreFault.Memory fault (fault ≡ StoreFault.Store)) }
+    ensures cause { result ≡ Err StoreFault.Store → AreFaulty rows.now }
+{
+    let spans = spans_of(alloc, rows)?;
+    match line_of(alloc, &spans) {
+        Ok(line) => Ok(line),
+        Err(fault) => Err(fault_of_rows(fault)),
+    }
+}
+
+/// The entry of a stored row, where an archive writes such a row.
+fn listed_entry(row: &StoredEntry) -> Option<Entry>
+    ensures some { IfSome result (λ entry. entry ≡ listed_as row.now) }
+    ensures none { IsNone result ↔ (¬ IsListed row.now) }
+{
+    Some(Entry {
+        number: row.number,
+        line: EntryLine {
+            start: minute_of(row.start)?,
+            past: minute_of(row.past)?,
+            activity: activity_of(row.mark),
+        },
+        withdrawn: row.withdrawn != 0,
+    })
+}
+
+/// The entries of stored rows; a row that no archive writes is a fault of the store.
+pub fn listed_entries(alloc: Global, rows: &[StoredEntry]) -> Result<Vec<Entry>, StoreFault>
+    ensures entries { IfOk result (λ entries. entries.items ≡ map listed_as rows.now) }
+    ensures fault { IfErr result (λ fault. OrMemory StoreFault.Memory fault (fault ≡ StoreFault.Store)) }
+    ensures cause { result ≡ Err StoreFault.Store → ¬ All IsListed rows.now }
+{
+    let mut entries = Vec::new(alloc);
+    for row in rows {
+        let Some(entry) = listed_entry(row) else {
+            return Err(StoreFault::Store);
+        };
+        entries.push(entry)?;
+    }
+    Ok(entries)
+}
+
+/// A span as it is stored.
+fn stored_row(span: &Span) -> StoredSpan
+    ensures { (n : ℕ) → row_of n result ≡ span_row n span.now }
+{
+    StoredSpan {
+        start: span.start.number(),
+        past: span.past.number(),
+        mark: number_of(span.mark),
+    }
+}
+
+/// Spans as they are stored.
+pub fn stored(alloc: Global, spans: &[Span]) -> Result<Vec<StoredSpan>, AllocError>
+    ensures { IfOk result (λ rows. (n : ℕ) → map (row_of n) rows.items ≡ map (span_row n) spans.now) }
+{
+    let mut rows = Vec::new(alloc);
+    for span in spans {
+        rows.push(stored_row(span))?;
+    }
+    Ok(rows)
+}
+
+/// From the first minute of spans to before their past, or from 0 to before 0 where there are none.
+pub fn range_of(spans: &[Span]) -> (u32, u32)
+    requires { IsCanonical spans.now }
+    ensures { AreInRange result.0 result.1 spans.now }
+{
+    match (spans.first(), spans.last()) {
+        (Some(first), Some(last)) => (first.start.number(), last.past.number()),
+        _ => (0, 0),
+    }
+}

@@ -1,0 +1,124 @@
+-- The tables after a batch of entries.
+use Rattle.std.proofs.Common.{◌≡◌, ◌≢◌, ℕ, ◌+◌, ◌==◌, true, cond, List, [], ◌∷◌, ◌++◌, Some, length, map, refl, sym, ap, ◌∙◌, subst, arith}
+use Rattle.std.proofs.lemmas.List.{append-nil}
+use Rattle.std.proofs.lemmas.List.Elements.{filter-append}
+use Rattle.tacho_time.specs.declared.span.Span.{Span}
+use Rattle.tacho_time.specs.Spans.{Gives, IsCanonicalOf}
+use Rattle.tacho_line.specs.Line.{AreGains}
+use Rattle.tacho_state.specs.Disjoint.{Keeps, near, AreInRange}
+use Rattle.tacho_state.specs.State.{Entry, Driver, State, Held, AreFull, driver_of, entered_spans, put, with_batch}
+use Rattle.tacho_state.proofs.GainLemmas.{batch_kept}
+use Rattle.tacho_tables.specs.Rows.{DriverRow, EntryRow}
+use Rattle.tacho_tables.specs.Tables.{Tables, with_entries}
+use Rattle.tacho_reading.specs.Standing.{driver_columns, entry_row, entry_rows, entries_of, spans_of, IsOfDriver, IsOf}
+use Rattle.tacho_reading.proofs.RowLemmas.{eq_self, eq_not, added_own, added_other, added_marks}
+use Rattle.tacho_reading.proofs.StateLemmas.{SameOfDriver, found_number, found_of, put_is, rows_put}
+use Rattle.tacho_store.specs.After.{with_entered}
+
+-- ---- rows of a batch
+
+-- rows of entries behind others come behind theirs
+rows_append : (n i : ℕ) (es fs : List Entry) → entry_rows n i (es ++ fs) ≡ entry_rows n i es ++ entry_rows n (i + length es) fs
+rows_append n i [] fs = ap (λ (k : ℕ). entry_rows n k fs) (omega arith)
+rows_append n i (e ∷ es) fs =
+    let d : (i + 1) + length es ≡ i + length (e ∷ es) = omega arith in
+    ap (λ (y : List EntryRow). entry_row n i e ∷ y) (rows_append n (i + 1) es fs)
+    ∙ ap (λ (k : ℕ). entry_row n i e ∷ (entry_rows n (i + 1) es ++ entry_rows n k fs)) d
+
+-- they are their driver's
+own_rows : (n i : ℕ) (es : List Entry) → entries_of n (entry_rows n i es) ≡ entry_rows n i es
+own_rows n i [] = refl
+own_rows n i (e ∷ es) =
+    let more = entries_of n (entry_rows n (i + 1) es) in
+    ap (λ b. cond b (entry_row n i e ∷ more) more) (eq_self n)
+    ∙ ap (λ (x : List EntryRow). entry_row n i e ∷ x) (own_rows n (i + 1) es)
+
+-- and nobody else's
+other_rows : (j n i : ℕ) (es : List Entry) → j ≢ n → entries_of j (entry_rows n i es) ≡ []
+other_rows j n i [] d = refl
+other_rows j n i (e ∷ es) d =
+    let more = entries_of j (entry_rows n (i + 1) es) in
+    ap (λ b. cond b (entry_row n i e ∷ more) more) (eq_not n j (λ f. d (sym f))) ∙ other_rows j n (i + 1) es d
+
+-- they are counted
+more_entries : (es fs : List Entry) → length es + length fs ≡ length (es ++ fs)
+more_entries [] fs = omega arith
+more_entries (e ∷ es) fs = let d = more_entries es fs in omega (arith, d)
+
+-- none of them is empty where none was
+full_append : (es fs : List Entry) → AreFull es → AreFull fs → AreFull (es ++ fs)
+full_append [] fs h f = f
+full_append (e ∷ es) fs h f = (h.0, full_append es fs h.1 f)
+
+-- ---- the tables after a batch
+
+-- the tables stand for the driver with the batch
+entered_own : (t : Tables) (d : Driver) (batch : List Entry) (line gains : List Span) (a b : ℕ) → IsOfDriver t d → AreFull batch
+    → AreInRange a b (entered_spans batch)
+    → IsCanonicalOf (Gives (near a b (spans_of d.number t.held))) line → AreGains line (entered_spans batch) gains
+    → IsOfDriver (with_entered d.number (1 + length d.entries) (length d.entries + length batch) batch gains t) (with_batch batch d)
+entered_own t d batch line gains a b h w r l g = record {
+  downloads = h.downloads;
+  read = h.read;
+  entries =
+      filter-append (λ (x : EntryRow). x.driver == d.number) t.entries (entry_rows d.number (1 + length d.entries) batch)
+      ∙ ap (λ (x : List EntryRow). x ++ entries_of d.number (entry_rows d.number (1 + length d.entries) batch)) h.entries
+      ∙ ap (λ (x : List EntryRow). entry_rows d.number 1 d.entries ++ x) (own_rows d.number (1 + length d.entries) batch)
+      ∙ sym (rows_append d.number 1 d.entries batch);
+  full = full_append d.entries batch h.full w;
+  card_spans = h.card_spans;
+  held = subst (λ (x : List Span). Keeps x (Held (with_batch batch d))) (sym (added_own d.number t.held gains))
+      (batch_kept d (spans_of d.number t.held) line gains batch a b h.held r l g);
+}
+
+-- and no row of another driver is another one
+entered_other : (t : Tables) (n first count : ℕ) (batch : List Entry) (gains : List Span) (j : ℕ) → j ≢ n
+    → SameOfDriver j t (with_entered n first count batch gains t)
+entered_other t n first count batch gains j d = record {
+  downloads = refl;
+  entries =
+      filter-append (λ (x : EntryRow). x.driver == j) t.entries (entry_rows n first batch)
+      ∙ ap (λ (x : List EntryRow). entries_of j t.entries ++ x) (other_rows j n first batch d)
+      ∙ append-nil (entries_of j t.entries);
+  card_spans = refl;
+  held = added_other j n t.held gains d;
+}
+
+-- the driver's own row gets the count
+counted_own : (n count : ℕ) (r : DriverRow) → r.driver ≡ n → with_entries n count r ≡ record r { entries = count }
+counted_own n count r e = ap (λ b. cond b (record r { entries = count }) r) (subst (λ (k : ℕ). (k == n) ≡ true) (sym e) (eq_self n))
+
+-- and no other row does
+counted_other : (n count : ℕ) (r : DriverRow) → r.driver ≢ n → with_entries n count r ≡ r
+counted_other n count r d = ap (λ b. cond b (record r { entries = count }) r) (eq_not r.driver n d)
+
+-- the tables stand for the state after a batch by the driver's own number
+entered_at : (t : Tables) (s : State) (d : Driver) (batch : List Entry) (line gains : List Span) (a b : ℕ) → IsOf t s
+    → driver_of d.number s ≡ Some d → AreFull batch → AreInRange a b (entered_spans batch)
+    → IsCanonicalOf (Gives (near a b (spans_of d.number t.held))) line → AreGains line (entered_spans batch) gains
+    → IsOf (with_entered d.number (1 + length d.entries) (length d.entries + length batch) batch gains t)
+    (put (with_batch batch d) s)
+entered_at t s d batch line gains a b h k w r l g =
+    let n = d.number in
+    let count = length d.entries + length batch in
+    let next = with_batch batch d in
+    put_is t (with_entered n (1 + length d.entries) count batch gains t) n next d s h k refl (record { key = refl; holder = refl })
+    (ap (λ (x : List DriverRow). map (with_entries n count) x) h.drivers
+    ∙ rows_put (with_entries n count) n next d s k refl h.distinct
+    (counted_own n count (driver_columns d) refl
+    ∙ ap (λ (y : ℕ). record (driver_columns d) { entries = y }) (more_entries d.entries batch))
+    (λ x o. counted_other n count x o))
+    (entered_own t d batch line gains a b (found_of t n s d k h.each) w r l g)
+    (λ j o. entered_other t n (1 + length d.entries) count batch gains j o)
+    (record { card_spans = h.marked.card_spans; held = added_marks n t.held gains h.marked.held })
+
+-- the tables after a batch stand for the state after it
+pub entered_is : (t : Tables) (s : State) (n : ℕ) (d : Driver) (batch : List Entry) (line gains : List Span) (a b : ℕ)
+    → IsOf t s → driver_of n s ≡ Some d → AreFull batch → AreInRange a b (entered_spans batch)
+    → IsCanonicalOf (Gives (near a b (spans_of n t.held))) line → AreGains line (entered_spans batch) gains
+    → IsOf (with_entered n (1 + length d.entries) (length d.entries + length batch) batch gains t) (put (with_batch batch d) s)
+entered_is t s n d batch line gains a b h k w r l g =
+    subst (λ (j : ℕ). driver_of j s ≡ Some d → IsCanonicalOf (Gives (near a b (spans_of j t.held))) line
+    → IsOf (with_entered j (1 + length d.entries) (length d.entries + length batch) batch gains t)
+    (put (with_batch batch d) s))
+    (found_number n s d k) (λ k l. entered_at t s d batch line gains a b h k w r l g) k l

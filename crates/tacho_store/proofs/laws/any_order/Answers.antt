@@ -1,5 +1,0 @@
-use Rattle.tacho_store.proofs.OrderedLemmas.{any_order_stands}
-use Rattle.tacho_store.proofs.laws.any_order.Goals as goal
-
-pub returns : goal.returns
-returns c = any_order_stands

@@ -1,5 +1,0 @@
-use Rattle.tacho_store.proofs.DownloadLemmas.{download_none, download_some}
-use Rattle.tacho_store.proofs.laws.downloads_are_found.Goals as goal
-
-pub returns : goal.returns
-returns c = record { none = download_none; some = download_some }

@@ -1,5 +1,0 @@
-use Rattle.tacho_store.proofs.FindLemmas.{number_none, number_some}
-use Rattle.tacho_store.proofs.laws.drivers_are_found.Goals as goal
-
-pub returns : goal.returns
-returns c = record { none = number_none; some = number_some }

@@ -1,5 +1,0 @@
-use Rattle.tacho_store.proofs.FindLemmas.{holder_none, holder_some}
-use Rattle.tacho_store.proofs.laws.holders_are_found.Goals as goal
-
-pub returns : goal.returns
-returns c = record { none = holder_none; some = holder_some }

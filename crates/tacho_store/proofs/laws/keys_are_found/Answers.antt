@@ -1,5 +1,0 @@
-use Rattle.tacho_store.proofs.FindLemmas.{key_none, key_some}
-use Rattle.tacho_store.proofs.laws.keys_are_found.Goals as goal
-
-pub returns : goal.returns
-returns c = record { none = key_none; some = key_some }

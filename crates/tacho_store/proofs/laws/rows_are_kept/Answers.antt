@@ -1,5 +1,0 @@
-use Rattle.tacho_store.proofs.NearRowLemmas.{card_kept, held_kept}
-use Rattle.tacho_store.proofs.laws.rows_are_kept.Goals as goal
-
-pub returns : goal.returns
-returns c = record { card = card_kept; held = held_kept }

@@ -1,7 +1,0 @@
-use Rattle.std.proofs.Common.{◌≡◌, ◌++◌, map, drop}
-use Rattle.tacho_store.specs.Standing.{stored_span}
-use Rattle.tacho_store.proofs.spans.spans_of.Given as goal
-
--- the spans so far, before those of the rows that are left
-abbrev pub invariant-loop-row : goal.invariant-loop-row
-invariant-loop-row l = l.spans.items ++ map stored_span (drop l.row-index l.rows) ≡ map stored_span l.rows

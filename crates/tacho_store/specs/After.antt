@@ -1,0 +1,39 @@
+-- The tables after a command.
+use Rattle.std.specs.Prelude.{ℕ, List, [], ◌∷◌, ◌++◌, map, filter, not}
+use Rattle.tacho_time.specs.declared.span.Span.{Span}
+use Rattle.tacho_state.specs.State.{Entry}
+use Rattle.tacho_tables.specs.Rows.{DriverRow}
+use Rattle.tacho_tables.specs.Tables.{Tables, is_near, with_base, with_downloads, with_entries, with_withdrawn}
+use Rattle.tacho_reading.specs.Standing.{span_row, entry_rows}
+
+-- a driver is registered
+abbrev pub with_driver : DriverRow → Tables → Tables
+with_driver row t = record t { drivers = t.drivers ++ row ∷ [] }
+
+-- a driver is examined from another day
+abbrev pub with_rebased : ℕ → ℕ → Tables → Tables
+with_rebased n base t = record t { drivers = map (with_base n base) t.drivers }
+
+-- a download goes in: its row, its number as the count, and what it gives that downloads, and the driver, didn't have
+abbrev pub with_imported : ℕ → ℕ → ℕ → List ℕ → List Span → List Span → Tables → Tables
+with_imported n number part file card_gains gains t = record t {
+  drivers = map (with_downloads n number) t.drivers;
+  downloads = t.downloads ++ record { driver = n; number = number; part = part; file = file } ∷ [];
+  card_spans = t.card_spans ++ map (span_row n) card_gains;
+  held = t.held ++ map (span_row n) gains;
+}
+
+-- a batch goes in: its rows by the numbers that come next, the count of numbers, and what it gives that the driver didn't hold
+abbrev pub with_entered : ℕ → ℕ → ℕ → List Entry → List Span → Tables → Tables
+with_entered n first count batch gains t = record t {
+  drivers = map (with_entries n count) t.drivers;
+  entries = t.entries ++ entry_rows n first batch;
+  held = t.held ++ map (span_row n) gains;
+}
+
+-- an entry is withdrawn: its row is marked; of the driver's held rows those near it go, and these spans come
+abbrev pub with_renewed : ℕ → ℕ → ℕ → ℕ → List Span → Tables → Tables
+with_renewed n number start past spans t = record t {
+  entries = map (with_withdrawn n number) t.entries;
+  held = filter (λ r. not (is_near n start past r)) t.held ++ map (span_row n) spans;
+}
