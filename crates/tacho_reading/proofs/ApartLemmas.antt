@@ -16,7 +16,7 @@ use Rattle.tacho_state.specs.State.{Driver, State, driver_of}
 use Rattle.tacho_tables.specs.declared.rows.StoredSpan.{StoredSpan}
 use Rattle.tacho_tables.specs.Rows.{SpanRow}
 use Rattle.tacho_tables.specs.Tables.{Tables, IsLatest, is_before, is_begun, is_near, is_of, span_of}
-use Rattle.tacho_reading.specs.Standing.{IsOf, IsReadNear, row_span, spans_of}
+use Rattle.tacho_reading.specs.Standing.{TablesStandFor, IsReadNear, row_span, spans_of}
 use Rattle.tacho_reading.specs.Apart.{AreAside, AreApart, rows_of, near_from}
 use Rattle.tacho_reading.proofs.NearRowLemmas.{card_kept, held_kept}
 
@@ -270,8 +270,8 @@ apart_of n (r ∷ rows) h = go (r.driver == n) h (apart_of n rows) where
   go false h more = more h
 
 -- so are a driver's rows in an archive's tables
-pub card_apart : (t : Tables) (s : State) (n : ℕ) (d : Driver) → IsOf t s → driver_of n s ≡ Some d → AreApart (rows_of n t.card_spans)
+pub card_apart : (t : Tables) (s : State) (n : ℕ) (d : Driver) → TablesStandFor t s → driver_of n s ≡ Some d → AreApart (rows_of n t.card_spans)
 card_apart t s n d of is = apart_of n t.card_spans (card_kept t s n d of is).disjoint
 
-pub held_apart : (t : Tables) (s : State) (n : ℕ) (d : Driver) → IsOf t s → driver_of n s ≡ Some d → AreApart (rows_of n t.held)
+pub held_apart : (t : Tables) (s : State) (n : ℕ) (d : Driver) → TablesStandFor t s → driver_of n s ≡ Some d → AreApart (rows_of n t.held)
 held_apart t s n d of is = apart_of n t.held (held_kept t s n d of is).disjoint

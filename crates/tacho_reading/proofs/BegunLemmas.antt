@@ -10,7 +10,7 @@ use Rattle.tacho_state.specs.State.{Driver, State, driver_of}
 use Rattle.tacho_tables.specs.declared.rows.StoredDriver.{StoredDriver}
 use Rattle.tacho_tables.specs.declared.rows.StoredSpan.{StoredSpan}
 use Rattle.tacho_tables.specs.Rows.{SpanRow}
-use Rattle.tacho_tables.specs.Tables.{Tables, Stand, IsLatest, is_before, is_of, is_onward, span_of}
+use Rattle.tacho_tables.specs.Tables.{Tables, HasTables, IsLatest, is_before, is_of, is_onward, span_of}
 use Rattle.tacho_reading.specs.Apart.{AreApart, rows_of, near_from}
 use Rattle.tacho_reading.specs.Begun.{is_behind, IsBegun}
 use Rattle.tacho_reading.specs.Finding.{IsStored}
@@ -75,7 +75,7 @@ module _ (n base : ℕ) (rows : List SpanRow) (apart : AreApart (rows_of n rows)
 pub is_begun : (db : Trees) (n : ℕ) (s : State) (d : Driver) (it : StoredDriver) (base start : ℕ)
     (b : Option StoredSpan) → driver_of n s ≡ Some d → IsStored it d
     → base ≡ 1440 * it.base → start ≡ near_from base (base + 1) b
-    → ((t : Tables) → Stand db t → MatchOption b (filter (is_before n base) t.held ≡ [])
+    → ((t : Tables) → HasTables db t → MatchOption b (filter (is_before n base) t.held ≡ [])
     (λ s. (r : SpanRow) × IsLatest r (filter (is_before n base) t.held) × (s ≡ span_of r)))
     → IsBegun db n s (record { base = base; start = start })
 is_begun db n s d it base start b is stored from first h = record {

@@ -7,9 +7,9 @@ use Rattle.tacho_state.specs.State.{Download, Driver, State, driver_of, download
 use Rattle.tacho_state.specs.Steps.{file_of}
 use Rattle.tacho_tables.specs.Rows.{DownloadRow}
 use Rattle.tacho_tables.specs.Tables.{Tables, is_download}
-use Rattle.tacho_reading.specs.Standing.{IsOf, download_rows, downloads_of}
+use Rattle.tacho_reading.specs.Standing.{TablesStandFor, download_rows, downloads_of}
 use Rattle.tacho_reading.proofs.RowLemmas.{eq_self, eq_not, eq_true}
-use Rattle.tacho_reading.proofs.FindLemmas.{first_or_rest, none_there}
+use Rattle.tacho_reading.proofs.DriverRowLemmas.{first_or_rest, none_there}
 use Rattle.tacho_reading.proofs.StateLemmas.{found_number, found_of}
 
 -- the row of a number, whoever's it is
@@ -84,7 +84,7 @@ row_file n i number (d ∷ ds) row h = go (i == number) refl h (row_file n (i + 
   go false o w more = more w
 
 -- a driver's rows that have a number are those of his downloads
-numbered_rows : (t : Tables) (s : State) (n number : ℕ) (d : Driver) → IsOf t s → driver_of n s ≡ Some d
+numbered_rows : (t : Tables) (s : State) (n number : ℕ) (d : Driver) → TablesStandFor t s → driver_of n s ≡ Some d
     → filter (is_download n number) t.downloads ≡ filter (has_own_number number) (download_rows n 1 d.downloads)
 numbered_rows t s n number d h k =
     among_own n number t.downloads
@@ -93,14 +93,14 @@ numbered_rows t s n number d h k =
     (found_of t n s d k h.each).downloads)
 
 -- without a row of the number the driver has no such download
-pub download_none : (t : Tables) (s : State) (n number : ℕ) (d : Driver) → IsOf t s → driver_of n s ≡ Some d
+pub download_none : (t : Tables) (s : State) (n number : ℕ) (d : Driver) → TablesStandFor t s → driver_of n s ≡ Some d
     → (filter (is_download n number) t.downloads ≡ []) ↔ (download_from 1 number d.downloads ≡ None)
 download_none t s n number d h k =
     let rows = numbered_rows t s n number d h k in
     (λ e. rows_none n 1 number d.downloads (sym rows ∙ e), λ e. rows ∙ none_rows n 1 number d.downloads e)
 
 -- a row of the number has his download's file
-pub download_some : (t : Tables) (s : State) (n number : ℕ) (d : Driver) (row : DownloadRow) → IsOf t s → driver_of n s ≡ Some d
+pub download_some : (t : Tables) (s : State) (n number : ℕ) (d : Driver) (row : DownloadRow) → TablesStandFor t s → driver_of n s ≡ Some d
     → Contains (filter (is_download n number) t.downloads) row
     → file_of (download_from 1 number d.downloads) ≡ Ok row.file
 download_some t s n number d row h k w = row_file n 1 number d.downloads row

@@ -4,9 +4,9 @@ use Rattle.std.specs.List.{Contains}
 use Rattle.tacho_state.specs.State.{Entry, Driver, State, driver_of, entry_from}
 use Rattle.tacho_tables.specs.Rows.{EntryRow}
 use Rattle.tacho_tables.specs.Tables.{Tables, is_entry}
-use Rattle.tacho_reading.specs.Standing.{entry_row, entry_rows, entries_of, IsOf}
+use Rattle.tacho_reading.specs.Standing.{entry_row, entry_rows, entries_of, TablesStandFor}
 use Rattle.tacho_reading.proofs.RowLemmas.{eq_not, eq_true}
-use Rattle.tacho_reading.proofs.FindLemmas.{first_or_rest, none_there}
+use Rattle.tacho_reading.proofs.DriverRowLemmas.{first_or_rest, none_there}
 use Rattle.tacho_reading.proofs.StateLemmas.{found_number, found_of}
 
 -- the row of a number, whoever's it is
@@ -85,26 +85,26 @@ row_entry n i number (x ∷ es) row h = go (i == number) refl h (row_entry n (i 
   go false o w more = more w
 
 -- a driver's rows are those of his entries
-pub entry_all : (t : Tables) (s : State) (n : ℕ) (d : Driver) → IsOf t s → driver_of n s ≡ Some d
+pub entry_all : (t : Tables) (s : State) (n : ℕ) (d : Driver) → TablesStandFor t s → driver_of n s ≡ Some d
     → entries_of n t.entries ≡ entry_rows n 1 d.entries
 entry_all t s n d h k = subst (λ (j : ℕ). entries_of j t.entries ≡ entry_rows j 1 d.entries) (found_number n s d k)
     (found_of t n s d k h.each).entries
 
 -- and those that have a number too
-numbered_rows : (t : Tables) (s : State) (n number : ℕ) (d : Driver) → IsOf t s → driver_of n s ≡ Some d
+numbered_rows : (t : Tables) (s : State) (n number : ℕ) (d : Driver) → TablesStandFor t s → driver_of n s ≡ Some d
     → filter (is_entry n number) t.entries ≡ filter (has_own_number number) (entry_rows n 1 d.entries)
 numbered_rows t s n number d h k =
     among_own n number t.entries ∙ ap (λ (x : List EntryRow). filter (has_own_number number) x) (entry_all t s n d h k)
 
 -- without a row of the number the driver has no such entry
-pub entry_none : (t : Tables) (s : State) (n number : ℕ) (d : Driver) → IsOf t s → driver_of n s ≡ Some d
+pub entry_none : (t : Tables) (s : State) (n number : ℕ) (d : Driver) → TablesStandFor t s → driver_of n s ≡ Some d
     → (filter (is_entry n number) t.entries ≡ []) ↔ (entry_from 1 number d.entries ≡ None)
 entry_none t s n number d h k =
     let rows = numbered_rows t s n number d h k in
     (λ e. rows_none n 1 number d.entries (sym rows ∙ e), λ e. rows ∙ none_rows n 1 number d.entries e)
 
 -- a row of the number is that of his entry
-pub entry_some : (t : Tables) (s : State) (n number : ℕ) (d : Driver) (row : EntryRow) → IsOf t s → driver_of n s ≡ Some d
+pub entry_some : (t : Tables) (s : State) (n number : ℕ) (d : Driver) (row : EntryRow) → TablesStandFor t s → driver_of n s ≡ Some d
     → Contains (filter (is_entry n number) t.entries) row
     → (e : Entry) × (entry_from 1 number d.entries ≡ Some e) × (row ≡ entry_row n number e)
 entry_some t s n number d row h k w = row_entry n 1 number d.entries row

@@ -2,19 +2,19 @@ pub mod OrderedLemmas
 pub mod RowLemmas
 pub mod FaultyLemmas
 pub mod StateLemmas
-pub mod FindLemmas
+pub mod DriverRowLemmas
 pub mod NearRowLemmas
 pub mod DownloadLemmas
 pub mod EntryLemmas
 pub mod MappedLemmas
-pub mod FoundLemmas
+pub mod LookUpLemmas
 pub mod SeenLemmas
 mod ReadingLemmas
-mod RangeLemmas
+mod ExtentLemmas
 mod TimelineLemmas
 pub mod ApartLemmas
 mod ListedLemmas
 mod ReportLemmas
-pub mod RangedLemmas
+pub mod LineWithinLemmas
 mod TakenLemmas
 mod BegunLemmas

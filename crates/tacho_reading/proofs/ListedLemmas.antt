@@ -19,7 +19,7 @@ use Rattle.tacho_state.specs.State.{Driver, Entry, State, driver_of}
 use Rattle.tacho_state.specs.Steps.{numbered_from, listed}
 use Rattle.tacho_tables.specs.declared.rows.StoredEntry.{StoredEntry}
 use Rattle.tacho_tables.specs.Rows.{EntryRow}
-use Rattle.tacho_tables.specs.Tables.{Tables, Stand, is_entry_of, entry_of}
+use Rattle.tacho_tables.specs.Tables.{Tables, HasTables, is_entry_of, entry_of}
 use Rattle.tacho_reading.specs.Standing.{StandsFor, activity_number, numbered_activity, entry_row, entry_rows, listed_as}
 use Rattle.tacho_reading.proofs.EntryLemmas.{entry_all}
 use Rattle.tacho_reading.proofs.TimelineLemmas.{gave_up}
@@ -83,8 +83,8 @@ rows_listed n i (e ∷ es) =
 
 -- a driver's rows, by their numbers, are listed as his entries
 pub entries_told : (db : Trees) (n : ℕ) (s : State) (d : Driver) (found : List StoredEntry) → StandsFor db s → driver_of n s ≡ Some d
-    → ((a : Tables) → Stand db a → IsPermutation (map entry_of (filter (is_entry_of n) a.entries)) found)
-    → ((a : Tables) → Stand db a → IsSorted by_number found) → map listed_as found ≡ numbered_from 1 d.entries
+    → ((a : Tables) → HasTables db a → IsPermutation (map entry_of (filter (is_entry_of n) a.entries)) found)
+    → ((a : Tables) → HasTables db a → IsSorted by_number found) → map listed_as found ≡ numbered_from 1 d.entries
 unfolding StandsFor
 entries_told db n s d found (t, stand, of) is same sorted =
     let rows : IsPermutation (map entry_of (entry_rows n 1 d.entries)) found =

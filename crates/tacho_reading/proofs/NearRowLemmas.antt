@@ -11,9 +11,9 @@ use Rattle.tacho_state.specs.State.{Driver, State, Given, Held, driver_of}
 use Rattle.tacho_tables.specs.declared.rows.StoredSpan.{StoredSpan}
 use Rattle.tacho_tables.specs.Rows.{SpanRow}
 use Rattle.tacho_tables.specs.Tables.{Tables, is_near, span_of}
-use Rattle.tacho_reading.specs.Standing.{IsOf, spans_of, stored_span, IsReadNear}
+use Rattle.tacho_reading.specs.Standing.{TablesStandFor, spans_of, stored_span, IsReadNear}
 use Rattle.tacho_reading.proofs.RowLemmas.{near_spans}
-use Rattle.tacho_reading.proofs.FindLemmas.{first_or_rest, none_there}
+use Rattle.tacho_reading.proofs.DriverRowLemmas.{first_or_rest, none_there}
 use Rattle.tacho_reading.proofs.StateLemmas.{found_number, found_of}
 
 -- what a list of spans gives is given by one of them
@@ -58,11 +58,11 @@ read_line rows n a b found line p h =
     }
 
 -- a driver's card spans keep what he is given
-pub card_kept : (t : Tables) (s : State) (n : ℕ) (d : Driver) → IsOf t s → driver_of n s ≡ Some d
+pub card_kept : (t : Tables) (s : State) (n : ℕ) (d : Driver) → TablesStandFor t s → driver_of n s ≡ Some d
     → Keeps (spans_of n t.card_spans) (Given d)
 card_kept t s n d h k = subst (λ (j : ℕ). Keeps (spans_of j t.card_spans) (Given d)) (found_number n s d k)
     (found_of t n s d k h.each).card_spans
 
 -- and his held rows what he holds
-pub held_kept : (t : Tables) (s : State) (n : ℕ) (d : Driver) → IsOf t s → driver_of n s ≡ Some d → Keeps (spans_of n t.held) (Held d)
+pub held_kept : (t : Tables) (s : State) (n : ℕ) (d : Driver) → TablesStandFor t s → driver_of n s ≡ Some d → Keeps (spans_of n t.held) (Held d)
 held_kept t s n d h k = subst (λ (j : ℕ). Keeps (spans_of j t.held) (Held d)) (found_number n s d k) (found_of t n s d k h.each).held

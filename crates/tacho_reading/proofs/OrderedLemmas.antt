@@ -4,20 +4,20 @@ use Rattle.std.specs.List.Sorted.{IsPermutation}
 use Rattle.std.proofs.lemmas.List.Sorted.{IsPermutation-sym, IsPermutation-map}
 use Rattle.sqlite.specs.Order.{Row}
 use Rattle.sqlite.specs.Tree.{Trees}
-use Rattle.tacho_tables.specs.Rows.{Stands, span_columns, download_columns, entry_columns}
-use Rattle.tacho_tables.specs.Tables.{Tables, Stand}
+use Rattle.tacho_tables.specs.Rows.{AreRowsOf, span_columns, download_columns, entry_columns}
+use Rattle.tacho_tables.specs.Tables.{Tables, HasTables}
 use Rattle.tacho_tables.proofs.Stored.{stands_shuffled}
 use Rattle.tacho_tables.proofs.Numbered.{numbered_shuffled}
 use Rattle.tacho_reading.specs.Standing.{SameRows}
 
 -- stored rows that stand for a list stand for it in another order
-shuffled : {X : Type 0} (columns : X → Row) (rows : List Row) (all other : List X) → IsPermutation all other → Stands columns rows all
-    → Stands columns rows other
+shuffled : {X : Type 0} (columns : X → Row) (rows : List Row) (all other : List X) → IsPermutation all other → AreRowsOf columns rows all
+    → AreRowsOf columns rows other
 shuffled columns rows all other same s = stands_shuffled columns rows all other s
     (IsPermutation-map columns other all (IsPermutation-sym all other same))
 
 -- and so do all five tables
-pub any_order_stands : (db : Trees) (t u : Tables) → SameRows t u → Stand db t → Stand db u
+pub any_order_stands : (db : Trees) (t u : Tables) → SameRows t u → HasTables db t → HasTables db u
 any_order_stands db t u same s = record {
   sound = s.sound;
   meta = s.meta;

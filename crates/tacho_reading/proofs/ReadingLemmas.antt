@@ -8,7 +8,7 @@ use Rattle.tacho_state.specs.State.{Driver, State, driver_of, keyed, download_fr
 use Rattle.tacho_state.specs.Steps.{told_of, owner, file_of, downloaded}
 use Rattle.tacho_state.specs.Acts.{Answers}
 use Rattle.tacho_tables.specs.Rows.{DownloadRow}
-use Rattle.tacho_tables.specs.Tables.{Tables, Stand, is_download}
+use Rattle.tacho_tables.specs.Tables.{Tables, HasTables, is_download}
 use Rattle.tacho_reading.specs.Standing.{StandsFor}
 use Rattle.tacho_reading.proofs.DownloadLemmas.{download_none, download_some}
 
@@ -26,7 +26,7 @@ owner_told key s (Some n) (d, is, number) = rw (is, number) refl
 -- S10, or the file
 pub file_told : {X : Type 0} (items : X → List ℕ) (db : Trees) (n number : ℕ) (s : State) (found : Option X) (d : Driver)
     → driver_of n s ≡ Some d → StandsFor db s
-    → ((a : Tables) → Stand db a → MatchOption found (filter (is_download n number) a.downloads ≡ [])
+    → ((a : Tables) → HasTables db a → MatchOption found (filter (is_download n number) a.downloads ≡ [])
     (λ x. (r : DownloadRow) × Contains (filter (is_download n number) a.downloads) r × (items x ≡ r.file)))
     → Answers items (ok_or found UnknownDownload) (downloaded n number s)
 unfolding StandsFor

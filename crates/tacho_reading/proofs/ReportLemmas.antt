@@ -33,7 +33,7 @@ use Rattle.tacho_state.specs.Reported.{IsReportOf}
 use Rattle.tacho_state.proofs.MapLemmas.{held_map}
 use Rattle.tacho_tables.specs.declared.rows.StoredDriver.{StoredDriver}
 use Rattle.tacho_tables.specs.Rows.{SpanRow}
-use Rattle.tacho_tables.specs.Tables.{Tables, Stand}
+use Rattle.tacho_tables.specs.Tables.{Tables, HasTables}
 use Rattle.tacho_reading.specs.declared.reading.Beginning.{Beginning}
 use Rattle.tacho_reading.specs.Begun.{is_behind, IsBegun}
 use Rattle.tacho_reading.specs.Finding.{IsStored}
@@ -293,7 +293,7 @@ behind_gives n base m k (r ∷ rows) le = go (r.driver == n) (nat_lt base r.past
 pub report_told : (db : Trees) (n : ℕ) (s : State) (b : Beginning) (h : Horizon) (scan : Scan) (was : Found)
     (fed : Scan) (found : Found) (report : Report)
     → StandsFor db s → IsBegun db n s b → IsBase b.base → IsScanOf scan was b.base []
-    → ((t : Tables) → Stand db t → AreFed n b.start b.base t.held scan was fed found h) → report.horizon ≡ h
+    → ((t : Tables) → HasTables db t → AreFed n b.start b.base t.held scan was fed found h) → report.horizon ≡ h
     → ((base : ℕ) (spans : List Span) → IsScanOf fed found base spans → IsExamined spans base h.minute
     → AreFindings (line_of spans) base h.minute report.breaches.items report.debts.items)
     → IsReportOf n s report

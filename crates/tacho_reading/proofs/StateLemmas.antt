@@ -5,7 +5,7 @@ use Rattle.tacho_state.specs.Disjoint.{Keeps}
 use Rattle.tacho_state.specs.State.{Driver, State, Given, Held, driver_of, put}
 use Rattle.tacho_tables.specs.Rows.{DriverRow}
 use Rattle.tacho_tables.specs.Tables.{Tables}
-use Rattle.tacho_reading.specs.Standing.{driver_columns, downloads_of, entries_of, spans_of, IsOfDriver, IsOfEach, HasNot, HasNoKey, HasNoHolder, AreDistinct, AreKnown, AreMarked, IsOf}
+use Rattle.tacho_reading.specs.Standing.{driver_columns, downloads_of, entries_of, spans_of, RowsStandFor, RowsStandForEach, HasNot, HasNoKey, HasNoHolder, AreDistinct, AreKnown, AreMarked, TablesStandFor}
 use Rattle.tacho_reading.proofs.RowLemmas.{eq_true, eq_false}
 
 -- the rows of one driver are the same in both
@@ -16,7 +16,7 @@ pub record SameOfDriver (n : ℕ) (t u : Tables) : Type 0 where
   pub held : spans_of n u.held ≡ spans_of n t.held
 
 -- a driver whose rows are the same
-moved : (t u : Tables) (d : Driver) → SameOfDriver d.number t u → IsOfDriver t d → IsOfDriver u d
+moved : (t u : Tables) (d : Driver) → SameOfDriver d.number t u → RowsStandFor t d → RowsStandFor u d
 moved t u d s h = record {
   downloads = s.downloads ∙ h.downloads;
   read = h.read;
@@ -27,7 +27,7 @@ moved t u d s h = record {
 }
 
 -- drivers of other numbers than the changed one
-moved_each : (t u : Tables) (n : ℕ) (s : State) → HasNot n s → ((j : ℕ) → j ≢ n → SameOfDriver j t u) → IsOfEach t s → IsOfEach u s
+moved_each : (t u : Tables) (n : ℕ) (s : State) → HasNot n s → ((j : ℕ) → j ≢ n → SameOfDriver j t u) → RowsStandForEach t s → RowsStandForEach u s
 moved_each t u n [] o f h = tt
 moved_each t u n (d ∷ s) o f h = (moved t u d (f d.number o.0) h.0, moved_each t u n s o.1 f h.1)
 
@@ -40,11 +40,11 @@ found_number n (x ∷ s) d e = go (x.number == n) refl e (found_number n s d) wh
   go false o f more = more f
 
 -- and the tables stand for him
-pub found_of : (t : Tables) (n : ℕ) (s : State) (d : Driver) → driver_of n s ≡ Some d → IsOfEach t s → IsOfDriver t d
+pub found_of : (t : Tables) (n : ℕ) (s : State) (d : Driver) → driver_of n s ≡ Some d → RowsStandForEach t s → RowsStandFor t d
 found_of t n [] d e h = cc
 found_of t n (x ∷ s) d e h = go (x.number == n) e (λ f. found_of t n s d f h.1) where
-  go : (b : Bool) → cond b (Some x) (driver_of n s) ≡ Some d → (driver_of n s ≡ Some d → IsOfDriver t d) → IsOfDriver t d
-  go true f more = let same : x ≡ d = cc in subst (IsOfDriver t) same h.0
+  go : (b : Bool) → cond b (Some x) (driver_of n s) ≡ Some d → (driver_of n s ≡ Some d → RowsStandFor t d) → RowsStandFor t d
+  go true f more = let same : x ≡ d = cc in subst (RowsStandFor t) same h.0
   go false f more = more f
 
 -- the first driver has the number
@@ -130,11 +130,11 @@ distinct_put n d old (x ∷ s) e k same h = go (x.number == d.number) refl (λ w
       (has_put x.number d s h.0, no_key_put x.key n d old s tail k same.key h.1, no_holder_put x.holder n d old s tail k same.holder h.2, more tail)
 
 -- the tables stand for each driver
-each_put : (t u : Tables) (n : ℕ) (d : Driver) (s : State) → d.number ≡ n → AreDistinct s → IsOfEach t s → IsOfDriver u d
-    → ((j : ℕ) → j ≢ n → SameOfDriver j t u) → IsOfEach u (put d s)
+each_put : (t u : Tables) (n : ℕ) (d : Driver) (s : State) → d.number ≡ n → AreDistinct s → RowsStandForEach t s → RowsStandFor u d
+    → ((j : ℕ) → j ≢ n → SameOfDriver j t u) → RowsStandForEach u (put d s)
 each_put t u n d [] e k h own f = tt
 each_put t u n d (x ∷ s) e k h own f = go (x.number == d.number) refl (each_put t u n d s e k.3 h.1 own f) where
-  go : (b : Bool) → (x.number == d.number) ≡ b → IsOfEach u (put d s) → IsOfEach u (cond b (d ∷ s) (x ∷ put d s))
+  go : (b : Bool) → (x.number == d.number) ≡ b → RowsStandForEach u (put d s) → RowsStandForEach u (cond b (d ∷ s) (x ∷ put d s))
   go true o more = (own, moved_each t u n s (subst (λ (m : ℕ). HasNot m s) (eq_true x.number d.number o ∙ e) k.0) f h.1)
   go false o more = (moved t u x (f x.number (λ g. eq_false x.number d.number o (g ∙ sym e))) h.0, more)
 
@@ -151,9 +151,9 @@ known_put t u n d old s e h f = record {
   other j w g = found_not n s old e (subst (λ (m : ℕ). HasNot m s) g w)
 
 -- one driver is changed, and his rows with him; no other row is
-pub put_is : (t u : Tables) (n : ℕ) (d old : Driver) (s : State) → IsOf t s → driver_of n s ≡ Some old → d.number ≡ n → SamePerson d old
-    → u.drivers ≡ map driver_columns (put d s) → IsOfDriver u d → ((j : ℕ) → j ≢ n → SameOfDriver j t u) → AreMarked u
-    → IsOf u (put d s)
+pub put_is : (t u : Tables) (n : ℕ) (d old : Driver) (s : State) → TablesStandFor t s → driver_of n s ≡ Some old → d.number ≡ n → SamePerson d old
+    → u.drivers ≡ map driver_columns (put d s) → RowsStandFor u d → ((j : ℕ) → j ≢ n → SameOfDriver j t u) → AreMarked u
+    → TablesStandFor u (put d s)
 put_is t u n d old s h e k same r own f marked = record {
   drivers = r;
   distinct = distinct_put n d old s e k same h.distinct;

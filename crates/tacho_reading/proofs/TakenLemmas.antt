@@ -14,7 +14,7 @@ use Rattle.sqlite.specs.Effect.{Database}
 use Rattle.sqlite_trees.proofs.ListLemmas.{map-map}
 use Rattle.tacho_state.specs.declared.fault.StoreFault.{StoreFault}
 use Rattle.tacho_line.specs.declared.horizon.Horizon.{Horizon}
-use Rattle.tacho_tables.specs.Rows.{Stands, SpanRow, span_columns}
+use Rattle.tacho_tables.specs.Rows.{AreRowsOf, SpanRow, span_columns}
 use Rattle.tacho_tables.specs.Schema.{archive_schema}
 use Rattle.tacho_tables.specs.Tables.{span_of, span_shown}
 use Rattle.tacho_tables.proofs.NextLemmas.{shown_onward, given_onward}
@@ -301,7 +301,7 @@ told_split (r ∷ rows) tail (s ∷ spans) (x ∷ shown) t e =
 module _ {S : Type 0} (g : Ghosts S) (driver start base : ℕ) (all : List SpanRow) (old new : Held S) (scan : Scan)
     (was : Found) (fed : Scan) (found : Found)
     (schema : old.schema ≡ archive_schema) (same : IsTrue (state g new).is_open
-    → (state g new).now ≡ (state g old).now) (stands : Stands span_columns ((state g old).now.trees 10) all)
+    → (state g new).now ≡ (state g old).now) (stands : AreRowsOf span_columns ((state g old).now.trees 10) all)
     (given : HasGiven g onward_text (Int (pos driver) ∷ Int (pos start) ∷ []) old []) where
   -- by what the rows show
   fed_of : (h : Horizon) (f : HasFed g old new base scan was fed found h) (rows tail : List Row) (shown : List SpanRow)
@@ -343,12 +343,12 @@ module _ {S : Type 0} (g : Ghosts S) (driver start base : ℕ) (all : List SpanR
         | inl ended ↦
             let whole = shown_onward driver start all (state g ended.1) (state g new) it.0
             (ap (λ (d : Database). d.schema) ended.2 ∙ schema) ended.3
-            (subst (λ (d : Database). Stands span_columns (d.trees 10) all) (sym ended.2) stands) in
+            (subst (λ (d : Database). AreRowsOf span_columns (d.trees 10) all) (sym ended.2) stands) in
             fed_of h f it.0 [] whole.0 it.1 (append-nil it.0 ∙ whole.1) whole.2 (ends_all h ended.0)
         | inr more ↦
             let some = given_onward driver start all g new (it.0 ++ more.0 ∷ [])
             (ap (λ (d : Database). d.schema) (same live) ∙ schema) live more.4
-            (subst (λ (d : Database). Stands span_columns (d.trees 10) all) (sym (same live)) stands) in
+            (subst (λ (d : Database). AreRowsOf span_columns (d.trees 10) all) (sym (same live)) stands) in
             fed_of h f it.0 (more.0 ∷ some.0) some.1 it.1 (sym (append_assoc it.0 (more.0 ∷ []) some.0) ∙ some.2) some.3
             (stops_there h more.0 some.0 more.1 more.2 more.3)
       ]

@@ -16,7 +16,7 @@ use Rattle.tacho_state.specs.declared.fault.StoreFault.TheVariants.{Memory, Stor
 use Rattle.tacho_state.proofs.MapLemmas.{held_map}
 use Rattle.tacho_tables.specs.declared.rows.StoredSpan.{StoredSpan}
 use Rattle.tacho_tables.specs.Rows.{SpanRow}
-use Rattle.tacho_tables.specs.Tables.{Tables, Stand, is_of, span_of}
+use Rattle.tacho_tables.specs.Tables.{Tables, HasTables, is_of, span_of}
 use Rattle.tacho_reading.specs.Standing.{StandsFor, spans_of, stored_span, row_span}
 use Rattle.tacho_reading.proofs.NearRowLemmas.{permuted_gives, held_kept}
 
@@ -48,7 +48,7 @@ line_is d helds line of held m = same_option (mark_at line m) (held_mark d m) (�
 -- so the line of all his rows, in any order, is his timeline
 pub line_told : (db : Trees) (n : ℕ) (s : State) (d : Driver) (found : List StoredSpan) (line : List Span) → StandsFor db s
     → driver_of n s ≡ Some d
-    → ((a : Tables) → Stand db a → IsPermutation (map span_of (filter (is_of n) a.held)) found)
+    → ((a : Tables) → HasTables db a → IsPermutation (map span_of (filter (is_of n) a.held)) found)
     → IsCanonicalOf (Gives (map stored_span found)) line → mark_at line ≡ held_mark d
 unfolding StandsFor
 line_told db n s d found line (t, stand, of) is read canonical =

@@ -3,9 +3,9 @@ use Rattle.std.specs.Prelude.{◌≡◌, ℕ, ◌*◌, ◌==◌, ◌&&◌, nat_l
 use Rattle.sqlite.specs.Tree.{Trees}
 use Rattle.tacho_state.specs.State.{Driver, State, driver_of}
 use Rattle.tacho_tables.specs.Rows.{SpanRow}
-use Rattle.tacho_tables.specs.Tables.{Tables, Stand, is_onward}
+use Rattle.tacho_tables.specs.Tables.{Tables, HasTables, is_onward}
 use Rattle.tacho_reading.specs.declared.reading.Beginning.{Beginning}
-use Rattle.tacho_reading.specs.Standing.{IsOf}
+use Rattle.tacho_reading.specs.Standing.{TablesStandFor}
 
 -- a row of the driver that ends behind a minute
 abbrev pub is_behind : ℕ → ℕ → SpanRow → Bool
@@ -16,5 +16,5 @@ pub record IsBegun (db : Trees) (n : ℕ) (s : State) (b : Beginning) : Type 0 w
   pub driver : Driver
   pub is : driver_of n s ≡ Some driver
   pub base : b.base ≡ 1440 * driver.base
-  pub rows : (t : Tables) → Stand db t → IsOf t s → filter (is_onward n b.start) t.held ≡ filter
+  pub rows : (t : Tables) → HasTables db t → TablesStandFor t s → filter (is_onward n b.start) t.held ≡ filter
       (is_behind n b.base) t.held

@@ -10,7 +10,7 @@ use Rattle.tacho_state.specs.State.{State, driver_of}
 use Rattle.tacho_state.specs.Steps.{Turn}
 use Rattle.tacho_state.specs.Acts.{Answers, IsAnswered, IsOfNoFile}
 use Rattle.tacho_tables.specs.Schema.{archive_schema}
-use Rattle.tacho_tables.specs.Tables.{Tables, Stand}
+use Rattle.tacho_tables.specs.Tables.{Tables, HasTables}
 use Rattle.tacho_tables.specs.Calls.{Stays}
 use Rattle.tacho_reading.specs.Standing.{StandsFor, KeepsRowsOf}
 
@@ -68,4 +68,4 @@ module _ {S : Type 0} (g : Ghosts S) (old new : MutBor (Held S)) where
     pub schema : HasCleanDisk (state g new.now) → (state g old.now).now.schema ≡ archive_schema
         → OnOk result ((state g new.now).now.schema ≡ archive_schema)
     pub turned : HasCleanDisk (state g new.now) → (state g old.now).now.schema ≡ archive_schema
-        → (t : Tables) → Stand (state g old.now).now.trees t → given t → OnOk result (Stand (state g new.now).now.trees (step t))
+        → (t : Tables) → HasTables (state g old.now).now.trees t → given t → OnOk result (HasTables (state g new.now).now.trees (step t))

@@ -22,12 +22,12 @@ abbrev pub IsBlank : Sqlite → Type 0
 IsBlank c = c.now.schema ≡ no_schema
 
 -- it sees an archive's tables, and they stand for the state
-abbrev pub Holds : Sqlite → State → Type 0
-Holds c s = (c.now.schema ≡ archive_schema) × StandsFor c.now.trees s
+abbrev pub Sees : Sqlite → State → Type 0
+Sees c s = (c.now.schema ≡ archive_schema) × StandsFor c.now.trees s
 
 -- it does while it is open: of a connection that a failure has shut nothing is said
-abbrev pub Shows : Sqlite → State → Type 0
-Shows c s = IsTrue c.is_open → Holds c s
+abbrev pub SeesWhileOpen : Sqlite → State → Type 0
+SeesWhileOpen c s = IsTrue c.is_open → Sees c s
 
 -- whatever a stop now leaves is an archive's database, and stands for one of these states
 abbrev pub LeavesOneOf : Sqlite → List State → Type 0
@@ -50,10 +50,10 @@ IsSameOf n a b = IsTrue b.is_open → KeepsRowsOf n a.now.trees b.now.trees
 -- what a call does over a connection, where its tables are those of an archive
 module _ {S : Type 0} (g : Ghosts S) {A B : Type 0} (view : A → B) (old new : Held S) (result : Result A StoreFault) where
   abbrev pub ActsOn : (State → Turn B) → Type 0
-  ActsOn step = Acts (λ (h : Held S). Shows (state g h)) (λ h. HasCleanDisk (state g h)) (λ h. IsTrue (state g h).is_open)
+  ActsOn step = Acts (λ (h : Held S). SeesWhileOpen (state g h)) (λ h. HasCleanDisk (state g h)) (λ h. IsTrue (state g h).is_open)
       (λ h. LeavesOneOf (state g h)) (λ a b. IsSame (state g a) (state g b)) (λ n a b. IsSameOf n (state g a) (state g b))
       view old new result step
 
   abbrev pub ReadsOn : (State → Result B StoreFault) → Type 0
-  ReadsOn told = Reads (λ (h : Held S). Shows (state g h)) (λ h. HasCleanDisk (state g h)) (λ h. IsTrue (state g h).is_open)
+  ReadsOn told = Reads (λ (h : Held S). SeesWhileOpen (state g h)) (λ h. HasCleanDisk (state g h)) (λ h. IsTrue (state g h).is_open)
       (λ h. LeavesOneOf (state g h)) (λ a b. IsSame (state g a) (state g b)) view old new result told

@@ -14,7 +14,7 @@ use Rattle.tacho_state.specs.Content.{FileTells, part_number}
 use Rattle.tacho_tables.specs.Rows.{SpanRow, DownloadRow, EntryRow, DriverRow}
 use Rattle.tacho_tables.specs.declared.rows.StoredSpan.{StoredSpan}
 use Rattle.tacho_tables.specs.declared.rows.StoredEntry.{StoredEntry}
-use Rattle.tacho_tables.specs.Tables.{Tables, Stand, has_number, is_of, is_near, is_kept_near, span_of, entry_span_of}
+use Rattle.tacho_tables.specs.Tables.{Tables, HasTables, has_number, is_of, is_near, is_kept_near, span_of, entry_span_of}
 
 -- ---- marks as numbers: 0 rest, 1 available, 2 work, 3 drive, and 4 more for crew
 
@@ -84,7 +84,7 @@ AreRead (d ∷ ds) =
     ((part : Part) × (holder : List ℕ) × (part_number part ≡ d.part) × FileTells part d.file (Ok (record { holder = holder; spans = d.spans }))) × AreRead ds
 
 -- the rows of one driver: card_spans give exactly what his downloads give, and held exactly what he holds, each in disjoint rows
-pub record IsOfDriver (t : Tables) (d : Driver) : Type 0 where
+pub record RowsStandFor (t : Tables) (d : Driver) : Type 0 where
   pub downloads : downloads_of d.number t.downloads ≡ download_rows d.number 1 d.downloads
   pub read : AreRead d.downloads
   pub entries : entries_of d.number t.entries ≡ entry_rows d.number 1 d.entries
@@ -92,9 +92,9 @@ pub record IsOfDriver (t : Tables) (d : Driver) : Type 0 where
   pub card_spans : Keeps (spans_of d.number t.card_spans) (Given d)
   pub held : Keeps (spans_of d.number t.held) (Held d)
 
-abbrev pub IsOfEach : Tables → State → Type 0
-IsOfEach t [] = Unit {0}
-IsOfEach t (d ∷ s) = IsOfDriver t d × IsOfEach t s
+abbrev pub RowsStandForEach : Tables → State → Type 0
+RowsStandForEach t [] = Unit {0}
+RowsStandForEach t (d ∷ s) = RowsStandFor t d × RowsStandForEach t s
 
 -- no driver of the state has the number, the key, or the holder
 abbrev pub HasNot : ℕ → State → Type 0
@@ -127,16 +127,16 @@ pub record AreMarked (t : Tables) : Type 0 where
   pub held : All (λ r. IsMark r.mark) t.held
 
 -- the tables stand for the state
-pub record IsOf (t : Tables) (s : State) : Type 0 where
+pub record TablesStandFor (t : Tables) (s : State) : Type 0 where
   pub drivers : t.drivers ≡ map driver_columns s
   pub distinct : AreDistinct s
-  pub each : IsOfEach t s
+  pub each : RowsStandForEach t s
   pub known : AreKnown t s
   pub marked : AreMarked t
 
 -- what is stored stands for the state
 unfoldable pub StandsFor : Trees → State → Type 0
-StandsFor db s = (t : Tables) × Stand db t × IsOf t s
+StandsFor db s = (t : Tables) × HasTables db t × TablesStandFor t s
 
 -- of one driver both have the same rows
 pub record HaveSameRowsOf (n : ℕ) (t u : Tables) : Type 0 where
@@ -148,7 +148,7 @@ pub record HaveSameRowsOf (n : ℕ) (t u : Tables) : Type 0 where
 
 -- what is stored before and after has the same rows of one driver
 unfoldable pub KeepsRowsOf : ℕ → Trees → Trees → Type 0
-KeepsRowsOf n db next = (t : Tables) × (u : Tables) × Stand db t × Stand next u × HaveSameRowsOf n t u
+KeepsRowsOf n db next = (t : Tables) × (u : Tables) × HasTables db t × HasTables next u × HaveSameRowsOf n t u
 
 -- what is stored after stands for the state after, and has the same rows of each driver of whom that says the same
 pub record Follows (db next : Trees) (s after : State) : Type 0 where

@@ -7,7 +7,7 @@ ghost use Rattle.tacho_time.specs.OrMemory.{OrMemory};
 ghost use Rattle.tacho_hours.specs.Limits.{latest};
 ghost use Rattle.tacho_rules.specs.Scan.{IsAt};
 ghost use Rattle.tacho_tables.specs.Schema.{archive_schema};
-ghost use Rattle.tacho_tables.specs.Tables.{Tables, Stand};
+ghost use Rattle.tacho_tables.specs.Tables.{Tables, HasTables};
 ghost use Rattle.tacho_reading.specs.Taken.{cut, IsStepOf, HasFed, AreFed, EndsAt, ReadsRows, ReadsSettled};
 
 use crate::fault::store_fault;
@@ -132,7 +132,7 @@ pub fn feed_held<S: Alter>(
     ensures reads { ReadsSettled S.Store result conn.old conn.new }
     ensures ends { EndsAt scan.new result }
     ensures fed { HasCleanDisk (state S.Store conn.new) → (state S.Store conn.old).now.schema ≡ archive_schema
-        → (t : Tables) → Stand (state S.Store conn.old).now.trees t
+        → (t : Tables) → HasTables (state S.Store conn.old).now.trees t
         → IfOk result (AreFed driver start base t.held scan.old found.old scan.new found.new) }
 {
     let _settled = conn.is_autocommit();

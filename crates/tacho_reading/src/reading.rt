@@ -9,7 +9,7 @@ ghost use Rattle.tacho_state.specs.Steps.{owner, named, lined, listed, downloade
 ghost use Rattle.tacho_state.specs.Reported.{IsHeldWithin, IsReportOf};
 ghost use Rattle.tacho_state.specs.Acts.{Answers};
 ghost use Rattle.tacho_reading.specs.Calls.{Tells};
-ghost use Rattle.tacho_reading.specs.Kept.{Shows, ReadsOn};
+ghost use Rattle.tacho_reading.specs.Kept.{SeesWhileOpen, ReadsOn};
 ghost use Rattle.tacho_reading.specs.Begun.{IsBegun};
 
 use crate::fault::store_fault;
@@ -162,7 +162,7 @@ pub fn line_within<S: Alter>(
     requires { conn.old.in_transaction ≡ false }
     ensures autocommit { conn.new.in_transaction ≡ false }
     ensures reads { ReadsOn S.Store (λ _. tt) conn.old conn.new result (reported driver) }
-    ensures within { HasCleanDisk (state S.Store conn.new) → (s : State) → Shows (state S.Store conn.old) s
+    ensures within { HasCleanDisk (state S.Store conn.new) → (s : State) → SeesWhileOpen (state S.Store conn.old) s
         → IfOk result (IsHeldWithin driver start past s) }
 {
     let _settled = conn.is_autocommit();
@@ -240,7 +240,7 @@ fn begin<S: Alter>(conn: &mut Connection<S>, driver: u32) -> Result<Beginning, S
     ensures autocommit { conn.new.in_transaction ≡ false }
     ensures base { IfOk result (λ begin. IsBase begin.base × (begin.base ≤ latest)) }
     ensures reads { ReadsOn S.Store (λ _. tt) conn.old conn.new result (reported driver) }
-    ensures begun { HasCleanDisk (state S.Store conn.new) → (s : State) → Shows (state S.Store conn.old) s
+    ensures begun { HasCleanDisk (state S.Store conn.new) → (s : State) → SeesWhileOpen (state S.Store conn.old) s
         → IfOk result (IsBegun (state S.Store conn.new).now.trees driver s) }
 {
     let _settled = conn.is_autocommit();
@@ -261,7 +261,7 @@ pub fn report<S: Alter>(
     requires { conn.old.in_transaction ≡ false }
     ensures autocommit { conn.new.in_transaction ≡ false }
     ensures reads { ReadsOn S.Store (λ _. tt) conn.old conn.new result (reported driver) }
-    ensures report { HasCleanDisk (state S.Store conn.new) → (s : State) → Shows (state S.Store conn.old) s
+    ensures report { HasCleanDisk (state S.Store conn.new) → (s : State) → SeesWhileOpen (state S.Store conn.old) s
         → IfOk result (IsReportOf driver s) }
 {
     let Beginning { base, start } = begin(conn, driver)?;

@@ -3,6 +3,6 @@ use Rattle.std.specs.Prelude.{◌≡◌, ◌⊎◌, List, [], ◌∷◌}
 use Rattle.tacho_state.specs.State.{State}
 
 -- the state is one of these
-abbrev pub StandsAmong : State → List State → Type 0
-StandsAmong s [] = ⊥
-StandsAmong s (x ∷ xs) = (s ≡ x) ⊎ StandsAmong s xs
+abbrev pub IsAmong : State → List State → Type 0
+IsAmong s [] = ⊥
+IsAmong s (x ∷ xs) = (s ≡ x) ⊎ IsAmong s xs

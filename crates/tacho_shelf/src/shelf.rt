@@ -293,7 +293,7 @@ impl Keeper for Shelf {
     ghost use Rattle.std.specs.Prelude.{◌≡◌};
     ghost use Rattle.std.proofs.Common.{inr};
     ghost use Rattle.tacho_state.specs.State.{driver_of};
-    ghost use Rattle.tacho_shelf.specs.Among.{StandsAmong};
+    ghost use Rattle.tacho_shelf.specs.Among.{IsAmong};
 
     ghost stands = { λ shelf s. shelf ≡ s };
 
@@ -301,7 +301,7 @@ impl Keeper for Shelf {
 
     ghost is_live = { λ _. Unit {0} };
 
-    ghost leaves = { StandsAmong };
+    ghost leaves = { IsAmong };
 
     ghost is_same = { λ old new. new ≡ old };
 

@@ -4,10 +4,10 @@ use Rattle.sqlite.specs.Tree.{Trees}
 use Rattle.tacho_state.specs.declared.fault.StoreFault.TheVariants.{UnknownDriver, NotMonday}
 use Rattle.tacho_state.specs.State.{Driver, State, driver_of}
 use Rattle.tacho_state.specs.Steps.{rebased, is_monday}
-use Rattle.tacho_tables.specs.Tables.{Tables, Stand, with_base}
+use Rattle.tacho_tables.specs.Tables.{Tables, HasTables, with_base}
 use Rattle.tacho_reading.specs.Standing.{StandsFor, Follows}
 use Rattle.tacho_store.specs.After.{with_rebased}
-use Rattle.tacho_store.proofs.RegisterLemmas.{rebased_is}
+use Rattle.tacho_store.proofs.RegistrationTablesLemmas.{rebased_is}
 use Rattle.tacho_store.proofs.OthersLemmas.{followed}
 
 -- S4
@@ -25,7 +25,7 @@ module _ (n base : ℕ) (s : State) (d : Driver) (is : driver_of n s ≡ Some d)
 
   -- and tables with it follow
   pub day_set : (db next : Trees) → is_monday base ≡ true → StandsFor db s
-      → ((a : Tables) → Stand db a → Stand next (record a { drivers = map (with_base n base) a.drivers }))
+      → ((a : Tables) → HasTables db a → HasTables next (record a { drivers = map (with_base n base) a.drivers }))
       → Follows db next s (rebased n base s).after
   unfolding StandsFor
   day_set db next monday (t, stand, of) turn =

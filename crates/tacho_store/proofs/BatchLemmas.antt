@@ -10,7 +10,7 @@ use Rattle.tacho_state.specs.State.{Entry, Driver, State, Held, AreFull, driver_
 use Rattle.tacho_state.proofs.GainLemmas.{batch_kept}
 use Rattle.tacho_tables.specs.Rows.{DriverRow, EntryRow}
 use Rattle.tacho_tables.specs.Tables.{Tables, with_entries}
-use Rattle.tacho_reading.specs.Standing.{driver_columns, entry_row, entry_rows, entries_of, spans_of, IsOfDriver, IsOf}
+use Rattle.tacho_reading.specs.Standing.{driver_columns, entry_row, entry_rows, entries_of, spans_of, RowsStandFor, TablesStandFor}
 use Rattle.tacho_reading.proofs.RowLemmas.{eq_self, eq_not, added_own, added_other, added_marks}
 use Rattle.tacho_reading.proofs.StateLemmas.{SameOfDriver, found_number, found_of, put_is, rows_put}
 use Rattle.tacho_store.specs.After.{with_entered}
@@ -53,10 +53,10 @@ full_append (e ∷ es) fs h f = (h.0, full_append es fs h.1 f)
 -- ---- the tables after a batch
 
 -- the tables stand for the driver with the batch
-entered_own : (t : Tables) (d : Driver) (batch : List Entry) (line gains : List Span) (a b : ℕ) → IsOfDriver t d → AreFull batch
+entered_own : (t : Tables) (d : Driver) (batch : List Entry) (line gains : List Span) (a b : ℕ) → RowsStandFor t d → AreFull batch
     → AreInRange a b (entered_spans batch)
     → IsCanonicalOf (Gives (near a b (spans_of d.number t.held))) line → AreGains line (entered_spans batch) gains
-    → IsOfDriver (with_entered d.number (1 + length d.entries) (length d.entries + length batch) batch gains t) (with_batch batch d)
+    → RowsStandFor (with_entered d.number (1 + length d.entries) (length d.entries + length batch) batch gains t) (with_batch batch d)
 entered_own t d batch line gains a b h w r l g = record {
   downloads = h.downloads;
   read = h.read;
@@ -93,10 +93,10 @@ counted_other : (n count : ℕ) (r : DriverRow) → r.driver ≢ n → with_entr
 counted_other n count r d = ap (λ b. cond b (record r { entries = count }) r) (eq_not r.driver n d)
 
 -- the tables stand for the state after a batch by the driver's own number
-entered_at : (t : Tables) (s : State) (d : Driver) (batch : List Entry) (line gains : List Span) (a b : ℕ) → IsOf t s
+entered_at : (t : Tables) (s : State) (d : Driver) (batch : List Entry) (line gains : List Span) (a b : ℕ) → TablesStandFor t s
     → driver_of d.number s ≡ Some d → AreFull batch → AreInRange a b (entered_spans batch)
     → IsCanonicalOf (Gives (near a b (spans_of d.number t.held))) line → AreGains line (entered_spans batch) gains
-    → IsOf (with_entered d.number (1 + length d.entries) (length d.entries + length batch) batch gains t)
+    → TablesStandFor (with_entered d.number (1 + length d.entries) (length d.entries + length batch) batch gains t)
     (put (with_batch batch d) s)
 entered_at t s d batch line gains a b h k w r l g =
     let n = d.number in
@@ -114,11 +114,11 @@ entered_at t s d batch line gains a b h k w r l g =
 
 -- the tables after a batch stand for the state after it
 pub entered_is : (t : Tables) (s : State) (n : ℕ) (d : Driver) (batch : List Entry) (line gains : List Span) (a b : ℕ)
-    → IsOf t s → driver_of n s ≡ Some d → AreFull batch → AreInRange a b (entered_spans batch)
+    → TablesStandFor t s → driver_of n s ≡ Some d → AreFull batch → AreInRange a b (entered_spans batch)
     → IsCanonicalOf (Gives (near a b (spans_of n t.held))) line → AreGains line (entered_spans batch) gains
-    → IsOf (with_entered n (1 + length d.entries) (length d.entries + length batch) batch gains t) (put (with_batch batch d) s)
+    → TablesStandFor (with_entered n (1 + length d.entries) (length d.entries + length batch) batch gains t) (put (with_batch batch d) s)
 entered_is t s n d batch line gains a b h k w r l g =
     subst (λ (j : ℕ). driver_of j s ≡ Some d → IsCanonicalOf (Gives (near a b (spans_of j t.held))) line
-    → IsOf (with_entered j (1 + length d.entries) (length d.entries + length batch) batch gains t)
+    → TablesStandFor (with_entered j (1 + length d.entries) (length d.entries + length batch) batch gains t)
     (put (with_batch batch d) s))
     (found_number n s d k) (λ k l. entered_at t s d batch line gains a b h k w r l g) k l

@@ -18,23 +18,23 @@ use Rattle.tacho_state.specs.Disjoint.{AreInRange, IsNew, near}
 use Rattle.tacho_state.specs.State.{Driver, State, driver_of, put, with_download}
 use Rattle.tacho_state.proofs.StepLemmas.{repeated_import, contradicted_import, added_import, full_import}
 use Rattle.tacho_tables.specs.declared.rows.StoredSpan.{StoredSpan}
-use Rattle.tacho_tables.specs.Tables.{Tables, Stand}
-use Rattle.tacho_reading.specs.Standing.{StandsFor, IsOf, spans_of, stored_span}
+use Rattle.tacho_tables.specs.Tables.{Tables, HasTables}
+use Rattle.tacho_reading.specs.Standing.{StandsFor, TablesStandFor, spans_of, stored_span}
 use Rattle.tacho_reading.proofs.ApartLemmas.{card_apart, held_apart}
 use Rattle.tacho_reading.proofs.NearRowLemmas.{read_line, card_kept, held_kept}
 use Rattle.tacho_reading.specs.Finding.{Refuses}
-use Rattle.tacho_reading.proofs.FoundLemmas.{handed_on}
+use Rattle.tacho_reading.proofs.LookUpLemmas.{handed_on}
 use Rattle.tacho_reading.proofs.StateLemmas.{found_number}
-use Rattle.tacho_reading.proofs.RangedLemmas.{AreRead}
+use Rattle.tacho_reading.proofs.LineWithinLemmas.{AreRead}
 use Rattle.tacho_store.specs.declared.news.News.{News}
 use Rattle.tacho_store.specs.News.{AreNews, IsRefused}
 use Rattle.tacho_store.specs.Importing.{AreAdded, AreDecided}
-use Rattle.tacho_store.proofs.ImportLemmas.{imported_is}
+use Rattle.tacho_store.proofs.ImportTablesLemmas.{imported_is}
 use Rattle.tacho_store.proofs.JoinLemmas.{import_follows}
 use Rattle.tacho_store.proofs.OthersLemmas.{is_another, download_changes}
 
 module _ (db : Trees) (s : State) (n : ℕ) (d : Driver) (a b : ℕ) (spans : List Span) (is : driver_of n s ≡ Some d)
-    (within : AreInRange a b spans) (t : Tables) (stand : Stand db t) (of : IsOf t s)
+    (within : AreInRange a b spans) (t : Tables) (stand : HasTables db t) (of : TablesStandFor t s)
     (card_line line : List Span) (card_near : IsCanonicalOf (Gives (near a b (spans_of n t.card_spans))) card_line)
     (held_near : IsCanonicalOf (Gives (near a b (spans_of n t.held))) line) where
   -- what is new goes in

@@ -2,11 +2,11 @@
 use Rattle.std.proofs.Common.{[], refl}
 use Rattle.std.proofs.lemmas.List.Elements.{All-nil}
 use Rattle.sqlite.specs.Tree.{Trees}
-use Rattle.tacho_tables.specs.Tables.{Stand, no_rows}
-use Rattle.tacho_reading.specs.Standing.{IsOf, IsMark, StandsFor}
+use Rattle.tacho_tables.specs.Tables.{HasTables, no_rows}
+use Rattle.tacho_reading.specs.Standing.{TablesStandFor, IsMark, StandsFor}
 
 -- as lists
-pub empty_is : IsOf no_rows []
+pub empty_is : TablesStandFor no_rows []
 empty_is = record {
   drivers = refl;
   distinct = tt;
@@ -16,6 +16,6 @@ empty_is = record {
 }
 
 -- as they are stored
-pub empty_stands : (db : Trees) → Stand db no_rows → StandsFor db []
+pub empty_stands : (db : Trees) → HasTables db no_rows → StandsFor db []
 unfolding StandsFor
 empty_stands db stand = (no_rows, stand, empty_is)

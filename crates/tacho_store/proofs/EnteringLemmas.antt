@@ -24,12 +24,12 @@ use Rattle.tacho_state.specs.Steps.{Turn, settled, enter_own, entered, most}
 use Rattle.tacho_state.proofs.StepLemmas.{contradicted_batch, entered_batch, full_batch}
 use Rattle.tacho_tables.specs.declared.rows.StoredSpan.{StoredSpan}
 use Rattle.tacho_tables.specs.Rows.{SpanRow, EntryRow}
-use Rattle.tacho_tables.specs.Tables.{Tables, Stand, entered_rows, row_of}
-use Rattle.tacho_reading.specs.Standing.{StandsFor, Follows, IsOf, activity_number, spans_of, span_row, entry_row, entry_rows, stored_span}
+use Rattle.tacho_tables.specs.Tables.{Tables, HasTables, entered_rows, row_of}
+use Rattle.tacho_reading.specs.Standing.{StandsFor, Follows, TablesStandFor, activity_number, spans_of, span_row, entry_row, entry_rows, stored_span}
 use Rattle.tacho_reading.specs.Finding.{Refuses}
 use Rattle.tacho_reading.proofs.ApartLemmas.{held_apart}
-use Rattle.tacho_reading.proofs.RangedLemmas.{AreRead}
-use Rattle.tacho_reading.proofs.FoundLemmas.{handed_on}
+use Rattle.tacho_reading.proofs.LineWithinLemmas.{AreRead}
+use Rattle.tacho_reading.proofs.LookUpLemmas.{handed_on}
 use Rattle.tacho_reading.proofs.NearRowLemmas.{read_line, held_kept}
 use Rattle.tacho_store.specs.Entering.{AreNumbered, batched}
 use Rattle.tacho_store.specs.News.{IsContradicted}
@@ -167,8 +167,8 @@ no_numbers given count is = go (nat_le (given + count) 1000000) refl is where
 -- ---- what is near a batch decides it
 
 module _ (db : Trees) (s : State) (n : ℕ) (d : Driver) (a b : ℕ) (lines : List EntryLine) (is : driver_of n s ≡ Some d)
-    (batch : IsBatch lines) (within : AreInRange a b (entered_spans (batch_of lines))) (t : Tables) (stand : Stand db t)
-    (of : IsOf t s) (line : List Span) (held_near : IsCanonicalOf (Gives (near a b (spans_of n t.held))) line) where
+    (batch : IsBatch lines) (within : AreInRange a b (entered_spans (batch_of lines))) (t : Tables) (stand : HasTables db t)
+    (of : TablesStandFor t s) (line : List Span) (held_near : IsCanonicalOf (Gives (near a b (spans_of n t.held))) line) where
   -- it goes in
   are_numbered : (gains : List Span) → AreGains line (entered_spans (batch_of lines)) gains → AreNumbered db s n d (batch_of lines) gains
   are_numbered gains gained =
@@ -244,7 +244,7 @@ module _ (db : Trees) (s : State) (n : ℕ) (d : Driver) (lines : List EntryLine
   pub batch_written : (first count : ℕ) (rows helds : List StoredSpan) (next : Trees) → given + length spans ≤ most → first ≡ 1 + given
       → count ≡ given + length spans
       → map (row_of n) rows ≡ map (span_row n) spans → map (row_of n) helds ≡ map (span_row n) gains
-      → ((t : Tables) → Stand db t → Stand next (batched n count (entered_rows n first rows) (map (row_of n) helds) t))
+      → ((t : Tables) → HasTables db t → HasTables next (batched n count (entered_rows n first rows) (map (row_of n) helds) t))
       → Follows db next s (settled s (enter_own (batch_of lines) d)).after
   batch_written first count rows helds next room one counts same_rows same_helds written =
       let first_is : first ≡ 1 + length d.entries = (let a = is in omega (arith, a, one)) in
@@ -253,10 +253,10 @@ module _ (db : Trees) (s : State) (n : ℕ) (d : Driver) (lines : List EntryLine
       ap (λ i. entered_rows n i rows) first_is
       ∙ rows_entered n (1 + length d.entries) lines rows (same_rows ∙ ap (λ (x : List Span). map (span_row n) x) all) in
       subst (Follows db next s) (sym (ap (λ r. (settled s r).after) (own room)))
-      (new.follows next (λ t stand. subst (λ (x : List SpanRow). Stand next
+      (new.follows next (λ t stand. subst (λ (x : List SpanRow). HasTables next
       (batched n (length d.entries + length (batch_of lines)) (entry_rows n (1 + length d.entries) (batch_of lines)) x t)) same_helds
-      (subst (λ (x : List EntryRow). Stand next (batched n (length d.entries + length (batch_of lines)) x (map (row_of n) helds) t)) entries_are
-      (subst (λ (x : ℕ). Stand next (batched n x (entered_rows n first rows) (map (row_of n) helds) t)) count_is (written t stand)))))
+      (subst (λ (x : List EntryRow). HasTables next (batched n (length d.entries + length (batch_of lines)) x (map (row_of n) helds) t)) entries_are
+      (subst (λ (x : ℕ). HasTables next (batched n x (entered_rows n first rows) (map (row_of n) helds) t)) count_is (written t stand)))))
 
 -- ---- the driver's step
 

@@ -7,8 +7,8 @@ use Rattle.sqlite.specs.Tree.{Trees}
 use Rattle.tacho_time.specs.declared.span.Span.{Span}
 use Rattle.tacho_state.specs.State.{Entry, State, driver_of}
 use Rattle.tacho_tables.specs.Rows.{SpanRow, DriverRow}
-use Rattle.tacho_tables.specs.Tables.{Tables, Stand, Turns, is_of, is_near, with_downloads, with_entries, with_withdrawn}
-use Rattle.tacho_reading.specs.Standing.{IsOf, Follows, SameRows, span_row, entry_rows}
+use Rattle.tacho_tables.specs.Tables.{Tables, HasTables, Turns, is_of, is_near, with_downloads, with_entries, with_withdrawn}
+use Rattle.tacho_reading.specs.Standing.{TablesStandFor, Follows, SameRows, span_row, entry_rows}
 use Rattle.tacho_reading.proofs.OrderedLemmas.{any_order_stands}
 use Rattle.tacho_store.specs.After.{with_driver, with_imported, with_entered, with_renewed}
 use Rattle.tacho_store.specs.Importing.{written}
@@ -34,7 +34,7 @@ same_back t u same = record {
 }
 
 -- what stands for tables follows where other tables with the same rows stand for the state after
-same_follow : (db next : Trees) (t u v : Tables) (s after : State) → Stand db t → IsOf t s → SameRows u v → Stand next v → IsOf u after
+same_follow : (db next : Trees) (t u v : Tables) (s after : State) → HasTables db t → TablesStandFor t s → SameRows u v → HasTables next v → TablesStandFor u after
     → ((j : ℕ) → driver_of j after ≡ driver_of j s → HaveSameSpansOf j t u) → Follows db next s after
 same_follow db next t u v s after stand of same stands is =
     followed db next t u s after stand of (any_order_stands next v u (same_back u v same) stands) is
@@ -52,8 +52,8 @@ same_driver row t = record {
 }
 
 -- what was written of a registration follows
-pub driver_follows : (db next : Trees) (row : DriverRow) (t : Tables) (s after : State) → Stand db t → IsOf t s
-    → Stand next (record t { drivers = row ∷ t.drivers }) → IsOf (with_driver row t) after → Follows db next s after
+pub driver_follows : (db next : Trees) (row : DriverRow) (t : Tables) (s after : State) → HasTables db t → TablesStandFor t s
+    → HasTables next (record t { drivers = row ∷ t.drivers }) → TablesStandFor (with_driver row t) after → Follows db next s after
 driver_follows db next row t s after stand of stands is =
     same_follow db next t (with_driver row t) (record t { drivers = row ∷ t.drivers }) s after stand of
     (same_driver row t) stands is (λ j same. record { card_spans = refl; held = refl })
@@ -73,8 +73,8 @@ same_kept n number part file card_gains gains t = record {
 
 -- what was written of an import follows
 pub import_follows : (db next : Trees) (n number part : ℕ) (file : List ℕ) (card_gains gains : List Span) (t : Tables) (s after : State)
-    → Stand db t → IsOf t s → Stand next (written n number part file (map (span_row n) card_gains) (map (span_row n) gains) t)
-    → IsOf (with_imported n number part file card_gains gains t) after
+    → HasTables db t → TablesStandFor t s → HasTables next (written n number part file (map (span_row n) card_gains) (map (span_row n) gains) t)
+    → TablesStandFor (with_imported n number part file card_gains gains t) after
     → ((j : ℕ) → driver_of j after ≡ driver_of j s → j ≢ n) → Follows db next s after
 import_follows db next n number part file card_gains gains t s after stand of stands is other =
     same_follow db next t (with_imported n number part file card_gains gains t)
@@ -107,8 +107,8 @@ batch_kept j n rows gains (inr other) = added_kept j n rows gains other
 
 -- what was written of a batch follows
 pub batch_follows : (db next : Trees) (n first count : ℕ) (batch : List Entry) (gains : List Span) (t : Tables) (s after : State)
-    → Stand db t → IsOf t s → Stand next (batched n count (entry_rows n first batch) (map (span_row n) gains) t)
-    → IsOf (with_entered n first count batch gains t) after
+    → HasTables db t → TablesStandFor t s → HasTables next (batched n count (entry_rows n first batch) (map (span_row n) gains) t)
+    → TablesStandFor (with_entered n first count batch gains t) after
     → ((j : ℕ) → driver_of j after ≡ driver_of j s → (gains ≡ []) ⊎ (j ≢ n)) → Follows db next s after
 batch_follows db next n first count batch gains t s after stand of stands is other =
     same_follow db next t (with_entered n first count batch gains t)
@@ -138,8 +138,8 @@ same_renewed n number start past spans t = record {
 
 -- what was written of a withdrawal follows
 pub renewed_follows : (db next : Trees) (n number start past : ℕ) (spans : List Span) (t : Tables) (s after : State)
-    → Stand db t → IsOf t s → Stand next (renewed n number start past (map (span_row n) spans) t)
-    → IsOf (with_renewed n number start past spans t) after
+    → HasTables db t → TablesStandFor t s → HasTables next (renewed n number start past (map (span_row n) spans) t)
+    → TablesStandFor (with_renewed n number start past spans t) after
     → ((j : ℕ) → driver_of j after ≡ driver_of j s → j ≢ n) → Follows db next s after
 renewed_follows db next n number start past spans t s after stand of stands is other =
     same_follow db next t (with_renewed n number start past spans t) (renewed n number start past (map (span_row n) spans) t) s after

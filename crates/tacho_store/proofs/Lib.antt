@@ -1,13 +1,13 @@
-mod RegisterLemmas
-mod ImportLemmas
-mod WithdrawLemmas
+mod RegistrationTablesLemmas
+mod ImportTablesLemmas
+mod WithdrawalTablesLemmas
 mod RegistrationLemmas
 mod BaseLemmas
 mod NewsLemmas
 mod OthersLemmas
 mod JoinLemmas
 mod StepsLemmas
-mod ImporterLemmas
+mod ImportDriverLemmas
 mod DecisionLemmas
 mod AdditionLemmas
 mod EmptyLemmas

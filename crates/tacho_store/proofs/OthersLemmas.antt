@@ -7,13 +7,13 @@ use Rattle.tacho_time.specs.declared.span.Span.{Span}
 use Rattle.tacho_line.specs.Line.{AreGains}
 use Rattle.tacho_state.specs.State.{Entry, Driver, State, driver_of, entry_from, marked_from, entered_spans, put, with_download, with_batch, with_marked}
 use Rattle.tacho_tables.specs.Rows.{SpanRow, DownloadRow, EntryRow, DriverRow}
-use Rattle.tacho_tables.specs.Tables.{Tables, Stand, has_number, is_of, is_near}
-use Rattle.tacho_reading.specs.Standing.{StandsFor, IsOf, AreDistinct, HaveSameRowsOf, KeepsRowsOf, Follows, driver_columns, downloads_of, entries_of, download_rows, entry_rows, span_row}
+use Rattle.tacho_tables.specs.Tables.{Tables, HasTables, has_number, is_of, is_near}
+use Rattle.tacho_reading.specs.Standing.{StandsFor, TablesStandFor, AreDistinct, HaveSameRowsOf, KeepsRowsOf, Follows, driver_columns, downloads_of, entries_of, download_rows, entry_rows, span_row}
 use Rattle.tacho_reading.proofs.RowLemmas.{eq_self, eq_not, eq_true}
 use Rattle.tacho_reading.proofs.StateLemmas.{found_number, found_of}
-use Rattle.tacho_reading.proofs.FindLemmas.{no_number_row}
+use Rattle.tacho_reading.proofs.DriverRowLemmas.{no_number_row}
 use Rattle.tacho_reading.proofs.EntryLemmas.{entry_all}
-use Rattle.tacho_store.proofs.RegisterLemmas.{number_not}
+use Rattle.tacho_store.proofs.RegistrationTablesLemmas.{number_not}
 
 -- ---- rows that the state tells
 
@@ -44,11 +44,11 @@ own_row n (x ∷ s) h = go (x.number == n) refl (own_row n s h.3) where
   go false o more = more
 
 -- a table's row of the number is the state's
-drivers_are : (t : Tables) (s : State) (n : ℕ) → IsOf t s → filter (has_number n) t.drivers ≡ driver_told (driver_of n s)
+drivers_are : (t : Tables) (s : State) (n : ℕ) → TablesStandFor t s → filter (has_number n) t.drivers ≡ driver_told (driver_of n s)
 drivers_are t s n of = ap (λ (rows : List DriverRow). filter (has_number n) rows) of.drivers ∙ own_row n s of.distinct
 
 -- so are those of his downloads
-downloads_are : (t : Tables) (s : State) (n : ℕ) → IsOf t s → downloads_of n t.downloads ≡ downloads_told n (driver_of n s)
+downloads_are : (t : Tables) (s : State) (n : ℕ) → TablesStandFor t s → downloads_of n t.downloads ≡ downloads_told n (driver_of n s)
 downloads_are t s n of = go (driver_of n s) refl where
   go : (o : Option Driver) → driver_of n s ≡ o → downloads_of n t.downloads ≡ downloads_told n o
   go None e = of.known.downloads n (number_not n s e)
@@ -56,7 +56,7 @@ downloads_are t s n of = go (driver_of n s) refl where
       (found_of t n s d e of.each).downloads
 
 -- and those of his entries
-entries_are : (t : Tables) (s : State) (n : ℕ) → IsOf t s → entries_of n t.entries ≡ entries_told n (driver_of n s)
+entries_are : (t : Tables) (s : State) (n : ℕ) → TablesStandFor t s → entries_of n t.entries ≡ entries_told n (driver_of n s)
 entries_are t s n of = go (driver_of n s) refl where
   go : (o : Option Driver) → driver_of n s ≡ o → entries_of n t.entries ≡ entries_told n o
   go None e = of.known.entries n (number_not n s e)
@@ -70,7 +70,7 @@ pub record HaveSameSpansOf (n : ℕ) (t u : Tables) : Type 0 where
   pub held : filter (is_of n) t.held ≡ filter (is_of n) u.held
 
 -- of whom two states say the same, of him their tables have the same other rows
-same_rows : (t u : Tables) (s after : State) (n : ℕ) → IsOf t s → IsOf u after → driver_of n after ≡ driver_of n s
+same_rows : (t u : Tables) (s after : State) (n : ℕ) → TablesStandFor t s → TablesStandFor u after → driver_of n after ≡ driver_of n s
     → HaveSameSpansOf n t u → HaveSameRowsOf n t u
 same_rows t u s after n of is same spans = record {
   drivers = drivers_are t s n of ∙ ap driver_told (sym same) ∙ sym (drivers_are u after n is);
@@ -81,7 +81,7 @@ same_rows t u s after n of is same spans = record {
 }
 
 -- so tables follow that have the same rows of spans
-pub followed : (db next : Trees) (t u : Tables) (s after : State) → Stand db t → IsOf t s → Stand next u → IsOf u after
+pub followed : (db next : Trees) (t u : Tables) (s after : State) → HasTables db t → TablesStandFor t s → HasTables next u → TablesStandFor u after
     → ((n : ℕ) → driver_of n after ≡ driver_of n s → HaveSameSpansOf n t u) → Follows db next s after
 unfolding StandsFor KeepsRowsOf
 followed db next t u s after stand of stand_next is spans = record {

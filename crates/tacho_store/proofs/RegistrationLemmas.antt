@@ -6,11 +6,11 @@ use Rattle.tacho_state.specs.declared.fault.StoreFault.{StoreFault}
 use Rattle.tacho_state.specs.declared.fault.StoreFault.TheVariants.{DriverTaken, KeyTaken, HolderTaken, NotMonday}
 use Rattle.tacho_state.specs.State.{Driver, State, driver_of, keyed, holding}
 use Rattle.tacho_state.specs.Steps.{registered, is_monday}
-use Rattle.tacho_tables.specs.Tables.{Tables, Stand}
+use Rattle.tacho_tables.specs.Tables.{Tables, HasTables}
 use Rattle.tacho_reading.specs.Finding.{Refuses}
 use Rattle.tacho_reading.specs.Standing.{StandsFor, Follows, driver_columns}
 use Rattle.tacho_store.specs.Registering.{AreFree, IsAskedFree}
-use Rattle.tacho_store.proofs.RegisterLemmas.{registered_is}
+use Rattle.tacho_store.proofs.RegistrationTablesLemmas.{registered_is}
 use Rattle.tacho_store.proofs.JoinLemmas.{driver_follows}
 
 module _ (number : ℕ) (holder key : List ℕ) (base : ℕ) (name : List ℕ) (s : State) where
@@ -47,7 +47,7 @@ module _ (number : ℕ) (holder key : List ℕ) (base : ℕ) (name : List ℕ) (
 
     -- and tables with his row follow
     pub row_added : (db next : Trees) → is_monday base ≡ true → StandsFor db s
-        → ((a : Tables) → Stand db a → Stand next
+        → ((a : Tables) → HasTables db a → HasTables next
         (record a { drivers = record { driver = number; holder = holder; secret = key; base = base; name = name; downloads = 0; entries = 0 } ∷ a.drivers }))
         → Follows db next s (registered number holder key base name s).after
     unfolding StandsFor

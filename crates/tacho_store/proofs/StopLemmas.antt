@@ -6,12 +6,12 @@ use Rattle.tacho_state.specs.State.{State}
 use Rattle.tacho_tables.specs.Schema.{archive_schema}
 use Rattle.tacho_tables.proofs.CatalogLemmas.{is_archive}
 use Rattle.tacho_reading.specs.Standing.{StandsFor}
-use Rattle.tacho_reading.specs.Kept.{Shows, IsOfOne, LeavesOneOf}
+use Rattle.tacho_reading.specs.Kept.{SeesWhileOpen, IsOfOne, LeavesOneOf}
 use Rattle.tacho_store.specs.Opening.{IsKnown, IsAdopted}
 
 -- a connection that shows what one showed that had found a database whose rows stand for the state
 pub shows_found : (old new : Sqlite) → IsLive old → (IsTrue new.is_open → IsTrue old.is_open)
-    → (IsTrue new.is_open → IsKnown old → new.now ≡ old.now) → (s : State) → StandsFor old.now.trees s → Shows new s
+    → (IsTrue new.is_open → IsKnown old → new.now ≡ old.now) → (s : State) → StandsFor old.now.trees s → SeesWhileOpen new s
 unfolding StandsFor
 shows_found old new live was_open same s it opened =
     let has = is_archive old.now it.0 it.1 (live (was_open opened)).0 in

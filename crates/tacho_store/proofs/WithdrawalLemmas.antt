@@ -16,8 +16,8 @@ use Rattle.tacho_state.specs.Steps.{withdrawn}
 use Rattle.tacho_tables.specs.declared.rows.StoredEntry.{StoredEntry}
 use Rattle.tacho_tables.specs.declared.rows.StoredSpan.{StoredSpan}
 use Rattle.tacho_tables.specs.Rows.{EntryRow, SpanRow}
-use Rattle.tacho_tables.specs.Tables.{Tables, Stand, Turns, is_entry, is_near, entry_of, row_of, with_withdrawn}
-use Rattle.tacho_reading.specs.Standing.{StandsFor, Follows, IsOf, span_row, stored_span, entry_row, IsReadNear, IsKeptNear}
+use Rattle.tacho_tables.specs.Tables.{Tables, HasTables, Turns, is_entry, is_near, entry_of, row_of, with_withdrawn}
+use Rattle.tacho_reading.specs.Standing.{StandsFor, Follows, TablesStandFor, span_row, stored_span, entry_row, IsReadNear, IsKeptNear}
 use Rattle.tacho_reading.specs.Finding.{Refuses}
 use Rattle.tacho_reading.specs.Apart.{AreApart, rows_of}
 use Rattle.tacho_reading.proofs.ApartLemmas.{card_apart, held_apart}
@@ -25,7 +25,7 @@ use Rattle.tacho_reading.proofs.EntryLemmas.{entry_none, entry_some}
 use Rattle.tacho_reading.proofs.StateLemmas.{found_number}
 use Rattle.tacho_store.specs.After.{with_renewed}
 use Rattle.tacho_store.specs.Withdrawing.{IsThere, IsEntry, AreRowsFor, AreRenewed}
-use Rattle.tacho_store.proofs.WithdrawLemmas.{withdrawn_is}
+use Rattle.tacho_store.proofs.WithdrawalTablesLemmas.{withdrawn_is}
 use Rattle.tacho_store.proofs.JoinLemmas.{renewed, renewed_follows}
 use Rattle.tacho_store.proofs.OthersLemmas.{is_another, mark_changes}
 
@@ -60,7 +60,7 @@ module _ (n number : ℕ) (s : State) (d : Driver) (is : driver_of n s ≡ Some 
 -- a look-up by number finds the entry
 pub entry_found : (db : Trees) (s : State) (n number : ℕ) (d : Driver) (found : Option StoredEntry)
     → StandsFor db s → driver_of n s ≡ Some d
-    → ((a : Tables) → Stand db a → MatchOption found (filter (is_entry n number) a.entries ≡ [])
+    → ((a : Tables) → HasTables db a → MatchOption found (filter (is_entry n number) a.entries ≡ [])
     (λ it. (r : EntryRow) × Contains (filter (is_entry n number) a.entries) r × (it ≡ entry_of r)))
     → MatchOption found (entry_from 1 number d.entries ≡ None)
     (λ it. (e : Entry) × (entry_from 1 number d.entries ≡ Some e) × (it ≡ entry_of (entry_row n number e)))
@@ -165,16 +165,16 @@ rows_are cards others helds start past first end parts inside whole rows is_firs
 pub are_renewed : (old marked now next : Sqlite) (n number start past : ℕ) (cards others helds rows : List StoredSpan)
     → Turns old marked (λ t. record t { entries = map (with_withdrawn n number) t.entries })
     → IsUnchanged marked now → IsUnchanged now next
-    → ((t : Tables) → Stand marked.now.trees t → AreApart (rows_of n t.card_spans) → IsReadNear t.card_spans n start past cards)
-    → ((t : Tables) → Stand now.now.trees t → IsKeptNear t.entries n start past others)
-    → ((t : Tables) → Stand next.now.trees t → AreApart (rows_of n t.held) → IsReadNear t.held n start past helds)
+    → ((t : Tables) → HasTables marked.now.trees t → AreApart (rows_of n t.card_spans) → IsReadNear t.card_spans n start past cards)
+    → ((t : Tables) → HasTables now.now.trees t → IsKeptNear t.entries n start past others)
+    → ((t : Tables) → HasTables next.now.trees t → AreApart (rows_of n t.held) → IsReadNear t.held n start past helds)
     → AreRowsFor cards others helds start past rows
-    → (a : Tables) → Stand old.now.trees a → AreApart (rows_of n a.card_spans) → AreApart (rows_of n a.held) → AreRenewed a n number start past rows
+    → (a : Tables) → HasTables old.now.trees a → AreApart (rows_of n a.card_spans) → AreApart (rows_of n a.held) → AreRenewed a n number start past rows
 are_renewed old marked now next n number start past cards others helds rows turned same same_2 c o h are a stand card_apart held_apart =
     let t : Tables = record a { entries = map (with_withdrawn n number) a.entries } in
     let at_marked = turned.stands a stand in
-    let at_now = subst (λ (w : Database). Stand w.trees t) (sym same.0.now_is) at_marked in
-    let at_next = subst (λ (w : Database). Stand w.trees t) (sym same_2.0.now_is) at_now in
+    let at_now = subst (λ (w : Database). HasTables w.trees t) (sym same.0.now_is) at_marked in
+    let at_next = subst (λ (w : Database). HasTables w.trees t) (sym same_2.0.now_is) at_now in
     record {
       cards = cards;
       others = others;
@@ -189,13 +189,13 @@ are_renewed old marked now next n number start past cards others helds rows turn
 
 -- the tables after the entry was withdrawn stand for the state after it
 renewed_is : (t : Tables) (s : State) (n number : ℕ) (it : StoredEntry) (rows : List StoredSpan) (d : Driver) (e : Entry)
-    → IsOf t s → IsThere s n number it d e → (found : AreRenewed t n number it.start it.past rows)
-    → IsOf (with_renewed n number it.start it.past
+    → TablesStandFor t s → IsThere s n number it d e → (found : AreRenewed t n number it.start it.past rows)
+    → TablesStandFor (with_renewed n number it.start it.past
     (outside it.start it.past (map stored_span found.helds) ++ found.are_rows.inside) t)
     (put (with_marked number d) s)
 renewed_is t s n number it rows d e of there = subst
     (λ (x : StoredEntry). (found : AreRenewed t n number x.start x.past rows)
-    → IsOf (with_renewed n number x.start x.past
+    → TablesStandFor (with_renewed n number x.start x.past
     (outside x.start x.past (map stored_span found.helds) ++ found.are_rows.inside) t)
     (put (with_marked number d) s))
     (sym there.row)
@@ -205,10 +205,10 @@ renewed_is t s n number it rows d e of there = subst
 -- what the writes of a withdrawal leave follows
 pub withdrawal_follows : {E : Type 0} (db marked next : Trees) (s : State) (n number : ℕ) (it : StoredEntry)
     (rows : List StoredSpan) (r : Result (Unit {0}) E) → IsEntry s n number (Ok it) → StandsFor db s
-    → ((a : Tables) → Stand db a → AreApart (rows_of n a.card_spans) → AreApart (rows_of n a.held) → AreRenewed a n number it.start it.past rows)
-    → ((a : Tables) → Stand db a → Unit {0} → Stand marked (record a { entries = map (with_withdrawn n number) a.entries }))
-    → ((a : Tables) → Stand marked a → AreApart (rows_of n a.held)
-    → OnOk r (Stand next (record a { held = map (row_of n) rows ++ filter (λ r. not (is_near n it.start it.past r)) a.held })))
+    → ((a : Tables) → HasTables db a → AreApart (rows_of n a.card_spans) → AreApart (rows_of n a.held) → AreRenewed a n number it.start it.past rows)
+    → ((a : Tables) → HasTables db a → Unit {0} → HasTables marked (record a { entries = map (with_withdrawn n number) a.entries }))
+    → ((a : Tables) → HasTables marked a → AreApart (rows_of n a.held)
+    → OnOk r (HasTables next (record a { held = map (row_of n) rows ++ filter (λ r. not (is_near n it.start it.past r)) a.held })))
     → OnOk r (Follows db next s (withdrawn n number s).after)
 unfolding StandsFor IsEntry
 withdrawal_follows db marked next s n number it rows r (d, e, there) (t, stand, of) renew mark rewrite =
@@ -219,7 +219,7 @@ withdrawal_follows db marked next s n number it rows r (d, e, there) (t, stand, 
     on_ok_weaker r (λ written.
     subst (Follows db next s) (sym (marked_after n number s d there.driver e there.entry there.kept))
     (renewed_follows db next n number it.start it.past spans t s (put (with_marked number d) s) stand of
-    (subst (λ (x : List SpanRow). Stand next (renewed n number it.start it.past x t)) (found.are_rows.all n) written)
+    (subst (λ (x : List SpanRow). HasTables next (renewed n number it.start it.past x t)) (found.are_rows.all n) written)
     (renewed_is t s n number it rows d e of there found)
     (is_another n d (with_marked number d) s there.driver (found_number n s d there.driver)
     (mark_changes number d e there.entry there.kept)))) (rewrite _ (mark t stand tt) helds)

@@ -8,7 +8,7 @@ use Rattle.tacho_state.specs.declared.entry.EntryLine.{EntryLine}
 use Rattle.tacho_state.specs.Batch.{batch_of}
 use Rattle.tacho_state.specs.Steps.{Turn, settled, enter_own, most}
 use Rattle.tacho_tables.specs.Rows.{SpanRow, EntryRow}
-use Rattle.tacho_tables.specs.Tables.{Tables, Stand, with_entries}
+use Rattle.tacho_tables.specs.Tables.{Tables, HasTables, with_entries}
 use Rattle.tacho_reading.specs.Standing.{Follows, entry_rows, span_row}
 
 -- the tables as the writes of a batch leave them: the count of the driver's entries, and rows in front of what was there
@@ -25,7 +25,7 @@ pub record AreNumbered (db : Trees) (s : State) (n : ℕ) (d : Driver) (batch : 
   pub numbered : length d.entries + length batch ≤ most → enter_own batch d ≡ Ok (1 + length d.entries, with_batch batch d)
   pub full : most < length d.entries + length batch → enter_own batch d ≡ Err Full
   pub follows : (next : Trees)
-      → ((t : Tables) → Stand db t → Stand next (batched n (length d.entries + length batch) (entry_rows n (1 + length d.entries) batch) (map (span_row n) gains) t))
+      → ((t : Tables) → HasTables db t → HasTables next (batched n (length d.entries + length batch) (entry_rows n (1 + length d.entries) batch) (map (span_row n) gains) t))
       → Follows db next s (put (with_batch batch d) s)
 
 -- the driver's batch

@@ -11,7 +11,7 @@ use Rattle.tacho_state.specs.Content.{FileTells, part_number}
 use Rattle.tacho_state.specs.State.{Driver, State, driver_of, holding, put, with_download}
 use Rattle.tacho_state.specs.Steps.{Content, Turn, settled, import_own, most}
 use Rattle.tacho_tables.specs.Rows.{SpanRow}
-use Rattle.tacho_tables.specs.Tables.{Tables, Stand, with_downloads}
+use Rattle.tacho_tables.specs.Tables.{Tables, HasTables, with_downloads}
 use Rattle.tacho_reading.specs.Standing.{Follows, span_row}
 use Rattle.tacho_reading.specs.Finding.{Refuses}
 use Rattle.tacho_store.specs.declared.content.CardContent.{CardContent}
@@ -58,7 +58,7 @@ pub record AreAdded (db : Trees) (s : State) (n : ℕ) (d : Driver) (spans cards
   pub added : (part : ℕ) (file : List ℕ) → length d.downloads < most → import_own part file spans d ≡ Ok (Added d.number (1 + length d.downloads), with_download part file spans d)
   pub full : (part : ℕ) (file : List ℕ) → most ≤ length d.downloads → import_own part file spans d ≡ Err Full
   pub follows : (part : Part) (file holder : List ℕ) (next : Trees) → FileTells part file (Ok (record { holder = holder; spans = spans }))
-      → ((t : Tables) → Stand db t → Stand next (written n (1 + length d.downloads) (part_number part) file (map (span_row n) cards) (map (span_row n) helds) t))
+      → ((t : Tables) → HasTables db t → HasTables next (written n (1 + length d.downloads) (part_number part) file (map (span_row n) cards) (map (span_row n) helds) t))
       → Follows db next s (put (with_download (part_number part) file spans d) s)
 
 -- what is new of a file's spans decides the driver's import; or a call gave up

@@ -11,13 +11,13 @@ use Rattle.tacho_tables.specs.Making.{TellsVersion}
 use Rattle.tacho_tables.specs.Tables.{IsVersion}
 use Rattle.tacho_tables.specs.Calls.{Stays}
 use Rattle.tacho_reading.specs.Standing.{StandsFor}
-use Rattle.tacho_reading.specs.Kept.{IsBlank, Holds, LeavesOneOf}
+use Rattle.tacho_reading.specs.Kept.{IsBlank, Sees, LeavesOneOf}
 
 -- within a transaction, the tables of an archive of no drivers are made
 pub record Makes {S : Type 0} (g : Ghosts S) (old new : MutBor (Held S)) {A : Type 0} (result : Result A StoreFault) : Type 0 where
   pub stays : Stays g old new
   pub keeps : HasCleanDisk (state g new.now) → KeepsCommit (state g old.now) (state g new.now)
-  pub made : HasCleanDisk (state g new.now) → IsBlank (state g old.now) → OnOk result (Holds (state g new.now) [])
+  pub made : HasCleanDisk (state g new.now) → IsBlank (state g old.now) → OnOk result (Sees (state g new.now) [])
 
 -- the schema that a store's catalog tells is an archive's, of whatever version, or it tells no table
 abbrev pub IsKnown : Sqlite → Type 0
@@ -39,7 +39,7 @@ module _ (old new : Sqlite) where
     -- the tables were made where there was none, or nothing has changed
     pub record IsMade : Type 0 where
       pub clean : HasCleanDisk new → HasCleanDisk old
-      pub made : HasCleanDisk new → IsBlank old → OnOk result (Holds new [])
+      pub made : HasCleanDisk new → IsBlank old → OnOk result (Sees new [])
       pub taken : old.now.schema.tables ≢ [] → IsErr result
       pub live : HasCleanDisk new → OnOk result (IsTrue new.is_open)
       pub same : HasCleanDisk new → IsTrue new.is_open → OnErr result (new.now ≡ old.now)

@@ -2,7 +2,7 @@ ghost use Rattle.std.specs.Prelude.{◌≡◌, ◌≢◌, ◌↔◌, [], List, f
 ghost use Rattle.sqlite.specs.State.{HasCleanDisk};
 ghost use Rattle.sqlite.specs.Held.{state};
 ghost use Rattle.tacho_state.specs.State.{State};
-ghost use Rattle.tacho_reading.specs.Kept.{IsBlank, Shows, LeavesOneOf, IsSame, IsGivenUp};
+ghost use Rattle.tacho_reading.specs.Kept.{IsBlank, SeesWhileOpen, LeavesOneOf, IsSame, IsGivenUp};
 ghost use Rattle.tacho_store.specs.Opening.{Makes, IsMade, IsUnmade, TellsSchema, IsChecked, IsEmptyArchive, IsAdopted, IsLeftAlone};
 
 use crate::base::rebase;
@@ -94,7 +94,7 @@ impl<S: Alter> Archive<S> {
     ghost use Rattle.sqlite.specs.State.{HasCleanDisk};
     ghost use Rattle.sqlite.specs.Held.{state};
     ghost use Rattle.tacho_state.specs.State.{State};
-    ghost use Rattle.tacho_reading.specs.Kept.{IsBlank, Shows, LeavesOneOf, IsGivenUp};
+    ghost use Rattle.tacho_reading.specs.Kept.{IsBlank, SeesWhileOpen, LeavesOneOf, IsGivenUp};
     ghost use Rattle.tacho_store.specs.Opening.{IsUnmade, IsEmptyArchive, IsAdopted, IsLeftAlone};
 
     /// An archive of no drivers in a store without tables, made in one transaction. S12 where the store has tables.
@@ -139,7 +139,7 @@ impl<S: Alter> Archive<S> {
         ensures autocommit { result.in_transaction ≡ false }
         ensures clean { (⟦<Archive<S> as Keeper>⟧.is_clean self ↔ HasCleanDisk (state S.Store result))
             × (⟦<Archive<S> as Keeper>⟧.is_live self ↔ IsTrue (state S.Store result).is_open) }
-        ensures kept { ((s : State) → ⟦<Archive<S> as Keeper>⟧.stands self s → Shows (state S.Store result) s)
+        ensures kept { ((s : State) → ⟦<Archive<S> as Keeper>⟧.stands self s → SeesWhileOpen (state S.Store result) s)
             × ((states : List State) → ⟦<Archive<S> as Keeper>⟧.leaves self states
             → LeavesOneOf (state S.Store result) states) }
     {
@@ -153,9 +153,9 @@ impl<S: Alter> Keeper for Archive<S> {
     ghost use Rattle.std.proofs.Common.{inr};
     ghost use Rattle.sqlite.specs.State.{HasCleanDisk};
     ghost use Rattle.sqlite.specs.Held.{state};
-    ghost use Rattle.tacho_reading.specs.Kept.{Shows, LeavesOneOf, IsSame, IsSameOf};
+    ghost use Rattle.tacho_reading.specs.Kept.{SeesWhileOpen, LeavesOneOf, IsSame, IsSameOf};
 
-    ghost stands = { λ a s. Shows (state S.Store a.conn) s };
+    ghost stands = { λ a s. SeesWhileOpen (state S.Store a.conn) s };
 
     ghost is_clean = { λ a. HasCleanDisk (state S.Store a.conn) };
 

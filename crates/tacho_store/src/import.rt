@@ -11,7 +11,7 @@ ghost use Rattle.tacho_tables.specs.Schema.{archive_schema};
 ghost use Rattle.tacho_tables.specs.Tables.{row_of};
 ghost use Rattle.tacho_tables.specs.Calls.{Changes};
 ghost use Rattle.tacho_reading.specs.Calls.{Tells, Steps, StepsGiven};
-ghost use Rattle.tacho_reading.specs.Kept.{ActsOn, Shows, IsSame};
+ghost use Rattle.tacho_reading.specs.Kept.{ActsOn, SeesWhileOpen, IsSame};
 ghost use Rattle.tacho_store.specs.Importing.{importer, IsImporter, AreDecided, AreToAdd, AreToImport, import_turn, content_told, written};
 
 use crate::content::CardContent;
@@ -236,7 +236,7 @@ pub fn import<S: Alter>(
     ensures acts { ActsOn S.Store (λ done. done) conn.old conn.new result
         (imported (caller_number caller) (part_number part) file.now (Ok (content_told content.now))) }
     ensures repeated { HasCleanDisk (state S.Store conn.new) → (s : State) (number : ℕ)
-        → Shows (state S.Store conn.old) s
+        → SeesWhileOpen (state S.Store conn.old) s
         → result ≡ Ok (Repeated number) → IsSame (state S.Store conn.old) (state S.Store conn.new) }
     ensures of_no_file { IsOfNoFile result }
 {

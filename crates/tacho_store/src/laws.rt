@@ -14,7 +14,7 @@ ghost use Rattle.tacho_state.specs.Steps.{Content};
 ghost use Rattle.tacho_tables.specs.declared.rows.StoredSpan.{StoredSpan as StoredValue};
 ghost use Rattle.tacho_tables.specs.Tables.{Tables, no_rows, with_withdrawn};
 ghost use Rattle.tacho_reading.specs.Kept.{IsOfOne, LeavesOneOf};
-ghost use Rattle.tacho_reading.specs.Standing.{IsOf, spans_of, driver_columns, stored_span, IsReadNear, IsKeptNear};
+ghost use Rattle.tacho_reading.specs.Standing.{TablesStandFor, spans_of, driver_columns, stored_span, IsReadNear, IsKeptNear};
 ghost use Rattle.tacho_store.specs.Opening.{IsAdopted};
 ghost use Rattle.tacho_store.specs.After.{with_driver, with_rebased, with_imported, with_entered, with_renewed};
 
@@ -34,20 +34,20 @@ pub fn a_stop_is_found_again<S: Alter>(left: &Connection<S>, found: &Connection<
 
 /// Empty tables stand for the state with no drivers.
 pub fn empty_tables_stand()
-    ensures { IsOf no_rows [] }
+    ensures { TablesStandFor no_rows [] }
 {}
 
 /// A registration, on the tables.
 pub fn registered_tables_stand()
-    ensures { (t : Tables) (s : State) (d : Driver) → IsOf t s → driver_of d.number s ≡ None → keyed d.key s ≡ None
+    ensures { (t : Tables) (s : State) (d : Driver) → TablesStandFor t s → driver_of d.number s ≡ None → keyed d.key s ≡ None
         → holding d.holder s ≡ None
-        → d.downloads ≡ [] → d.entries ≡ [] → IsOf (with_driver (driver_columns d) t) (s ++ d ∷ []) }
+        → d.downloads ≡ [] → d.entries ≡ [] → TablesStandFor (with_driver (driver_columns d) t) (s ++ d ∷ []) }
 {}
 
 /// A change of the day from which a driver is examined, on the tables.
 pub fn rebased_tables_stand()
-    ensures { (t : Tables) (s : State) (n base : ℕ) (d : Driver) → IsOf t s → driver_of n s ≡ Some d
-        → IsOf (with_rebased n base t) (put (with_base base d) s) }
+    ensures { (t : Tables) (s : State) (n base : ℕ) (d : Driver) → TablesStandFor t s → driver_of n s ≡ Some d
+        → TablesStandFor (with_rebased n base t) (put (with_base base d) s) }
 {}
 
 /// An import, on the tables: the gains against card spans near the file's spans and those against held rows near
@@ -55,20 +55,20 @@ pub fn rebased_tables_stand()
 pub fn imported_tables_stand()
     ensures { (t : Tables)
         (s : State) (n : ℕ) (d : Driver) (part : PartValue) (file : List ℕ) (content : Content) (card_line line card_gains gains : List Span) (start past : ℕ)
-        → IsOf t s → driver_of n s ≡ Some d → FileTells part file (Ok content) → AreInRange start past content.spans
+        → TablesStandFor t s → driver_of n s ≡ Some d → FileTells part file (Ok content) → AreInRange start past content.spans
         → IsCanonicalOf (Gives (near start past (spans_of n t.card_spans))) card_line
         → AreGains card_line content.spans card_gains
         → IsCanonicalOf (Gives (near start past (spans_of n t.held))) line → AreGains line content.spans gains
-        → IsOf (with_imported n (1 + length d.downloads) (part_number part) file card_gains gains t) (put (with_download (part_number part) file content.spans d) s) }
+        → TablesStandFor (with_imported n (1 + length d.downloads) (part_number part) file card_gains gains t) (put (with_download (part_number part) file content.spans d) s) }
 {}
 
 /// A batch of entries, on the tables: its rows are added, and its gains against held rows near it.
 pub fn entered_tables_stand()
     ensures { (t : Tables)
         (s : State) (n : ℕ) (d : Driver) (batch : List Entry) (line gains : List Span) (start past : ℕ)
-        → IsOf t s → driver_of n s ≡ Some d → AreFull batch → AreInRange start past (entered_spans batch)
+        → TablesStandFor t s → driver_of n s ≡ Some d → AreFull batch → AreInRange start past (entered_spans batch)
         → IsCanonicalOf (Gives (near start past (spans_of n t.held))) line → AreGains line (entered_spans batch) gains
-        → IsOf (with_entered n (1 + length d.entries) (length d.entries + length batch) batch gains t) (put (with_batch batch d) s) }
+        → TablesStandFor (with_entered n (1 + length d.entries) (length d.entries + length batch) batch gains t) (put (with_batch batch d) s) }
 {}
 
 /// A withdrawal, on the tables: the entry's row is marked; of the driver's held rows those near the entry go, and
@@ -77,12 +77,12 @@ pub fn entered_tables_stand()
 pub fn withdrawn_tables_stand()
     ensures { (t : Tables)
         (s : State) (n : ℕ) (d : Driver) (number : ℕ) (e : Entry) (cards others helds : List StoredValue) (inside : List Span)
-        → IsOf t s → driver_of n s ≡ Some d → entry_from 1 number d.entries ≡ Some e
+        → TablesStandFor t s → driver_of n s ≡ Some d → entry_from 1 number d.entries ≡ Some e
         → IsReadNear t.card_spans n e.start e.past cards
         → IsKeptNear (map (with_withdrawn n number) t.entries) n e.start e.past others
         → IsReadNear t.held n e.start e.past helds
         → IsCanonicalOf (λ m k. IsWithin e.start e.past m
         × Gives (map stored_span cards ++ map stored_span others) m k) inside
-        → IsOf (with_renewed n number e.start e.past (outside e.start e.past (map stored_span helds)
+        → TablesStandFor (with_renewed n number e.start e.past (outside e.start e.past (map stored_span helds)
         ++ inside) t) (put (with_marked number d) s) }
 {}

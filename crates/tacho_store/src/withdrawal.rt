@@ -7,7 +7,7 @@ ghost use Rattle.tacho_line.specs.Line.{IsWithin};
 ghost use Rattle.tacho_state.specs.Disjoint.{outside};
 ghost use Rattle.tacho_state.specs.Steps.{withdrawn};
 ghost use Rattle.tacho_tables.specs.Schema.{archive_schema};
-ghost use Rattle.tacho_tables.specs.Tables.{Tables, Stand, is_near, row_of, with_withdrawn};
+ghost use Rattle.tacho_tables.specs.Tables.{Tables, HasTables, is_near, row_of, with_withdrawn};
 ghost use Rattle.tacho_reading.specs.Standing.{stored_span, IsFit, AreFaulty};
 ghost use Rattle.tacho_reading.specs.Calls.{Tells, Steps, ChangesWhere};
 ghost use Rattle.tacho_reading.specs.Kept.{ActsOn};
@@ -120,7 +120,7 @@ fn mark<S: Alter>(
         (λ t. record t { entries = map (with_withdrawn driver number) t.entries }) }
     ensures renewed { HasCleanDisk (state S.Store tx.new.conn.now)
         → (state S.Store tx.old.conn.now).now.schema ≡ archive_schema
-        → IfOk result (λ rows. (t : Tables) → Stand (state S.Store tx.old.conn.now).now.trees t
+        → IfOk result (λ rows. (t : Tables) → HasTables (state S.Store tx.old.conn.now).now.trees t
         → AreApart (rows_of driver t.card_spans) → AreApart (rows_of driver t.held)
         → AreRenewed t driver number start past rows.items) }
     ensures fault { IfErr result (λ fault. OrMemory StoreFault.Memory fault (fault ≡ StoreFault.Store)) }

@@ -6,15 +6,15 @@ use Rattle.sqlite.specs.State.{State}
 use Rattle.tacho_tables.specs.Schema.{archive_schema}
 use Rattle.tacho_tables.specs.Rows.{EntryRow, entry_columns}
 use Rattle.tacho_tables.specs.declared.rows.StoredSpan.{StoredSpan}
-use Rattle.tacho_tables.specs.Tables.{Tables, Stand, Turns, entered_row, entered_rows}
+use Rattle.tacho_tables.specs.Tables.{Tables, HasTables, Turns, entered_row, entered_rows}
 use Rattle.tacho_tables.proofs.Stored.{stands_shuffled}
 use Rattle.tacho_tables.proofs.Kept.{with_entries}
 
 -- what is left to add, from a number on, and what stands now have all rows of the batch and what stood, but for the order
 pub record HasLeft (driver number : ℕ) (all : List EntryRow) (left : List StoredSpan) (old now : State) : Type 0 where
   pub schema : now.now.schema ≡ archive_schema
-  pub rows : (a : Tables) → Stand old.now.trees a
-      → (some : List EntryRow) × Stand now.now.trees (record a { entries = some }) × IsPermutation (all ++ a.entries) (entered_rows driver number left ++ some)
+  pub rows : (a : Tables) → HasTables old.now.trees a
+      → (some : List EntryRow) × HasTables now.now.trees (record a { entries = some }) × IsPermutation (all ++ a.entries) (entered_rows driver number left ++ some)
 
 -- at first all is left
 pub all_left : (driver first : ℕ) (spans : List StoredSpan) (old : State) → old.now.schema ≡ archive_schema

@@ -13,8 +13,8 @@ use Rattle.sqlite.specs.State.{State, Executes, Shown}
 use Rattle.sqlite.proofs.Callers.{reads_as}
 use Rattle.tacho_tables.specs.Schema.{archive_schema, to_driver}
 use Rattle.tacho_tables.specs.Schema as made
-use Rattle.tacho_tables.specs.Rows.{Stands, DownloadRow, download_columns}
-use Rattle.tacho_tables.specs.Tables.{Stand, Turns, is_download, file_shown}
+use Rattle.tacho_tables.specs.Rows.{AreRowsOf, DownloadRow, download_columns}
+use Rattle.tacho_tables.specs.Tables.{HasTables, Turns, is_download, file_shown}
 use Rattle.tacho_tables.proofs.Answers.{passes, listed, shows, eq_test}
 use Rattle.tacho_tables.proofs.Stored.{stands_put, shown_of}
 use Rattle.tacho_tables.proofs.Idle.{idle}
@@ -39,9 +39,9 @@ adds_download old new x count has h =
     record {
       schema = ap (λ d. d.schema) e.now_is;
       stands = λ a s.
-          let it = subst (λ rs. Stands download_columns rs (x ∷ a.downloads)) (sym stored)
+          let it = subst (λ rs. AreRowsOf download_columns rs (x ∷ a.downloads)) (sym stored)
           (stands_put download_columns rows a.downloads (next_rowid rows) x s.downloads free) in
-          subst (λ t. Stand t (record a { downloads = x ∷ a.downloads })) (sym (ap (λ d. d.trees) e.now_is))
+          subst (λ t. HasTables t (record a { downloads = x ∷ a.downloads })) (sym (ap (λ d. d.trees) e.now_is))
           (with_downloads old.now.trees e.next a (x ∷ a.downloads) e.sound e.applies.tables s it);
     }
 
@@ -54,7 +54,7 @@ download_test driver number v x = rw (eq_test x.driver driver, eq_test x.number 
 -- the reading of a file shows the files of the downloads with this number
 pub shows_file : (old new : State) (driver number : ℕ) (rows : List Row) → old.now.schema ≡ archive_schema
     → Shown file_text (Int (pos driver) ∷ Int (pos number) ∷ []) old new rows
-    → (all : List DownloadRow) → Stands download_columns (old.now.trees 4) all
+    → (all : List DownloadRow) → AreRowsOf download_columns (old.now.trees 4) all
     → IsPermutation (map file_shown (filter (is_download driver number) all)) rows
 shows_file old new driver number rows has h all s =
     let db = old.now.trees in

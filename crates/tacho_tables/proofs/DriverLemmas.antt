@@ -18,8 +18,8 @@ use Rattle.sqlite.specs.State.{State, Executes, Shown}
 use Rattle.sqlite.proofs.Callers.{reads_as}
 use Rattle.tacho_tables.specs.Schema.{archive_schema}
 use Rattle.tacho_tables.specs.Schema as made
-use Rattle.tacho_tables.specs.Rows.{DriverRow, driver_row, StandNumbered}
-use Rattle.tacho_tables.specs.Tables.{Stand, Turns, has_number, has_secret, has_holder, with_base, with_downloads, with_entries}
+use Rattle.tacho_tables.specs.Rows.{DriverRow, driver_row, AreNumberedRowsOf}
+use Rattle.tacho_tables.specs.Tables.{HasTables, Turns, has_number, has_secret, has_holder, with_base, with_downloads, with_entries}
 use Rattle.tacho_tables.proofs.Answers.{simple, passes, listed, shows, eq_test, text_test, blob_test}
 use Rattle.tacho_tables.proofs.Idle.{idle}
 use Rattle.tacho_tables.proofs.Kept.{with_drivers}
@@ -51,8 +51,8 @@ adds_driver old new driver holder secret base name count has h =
     record {
       schema = ap (λ d. d.schema) e.now_is;
       stands = λ a s.
-          let it = subst (λ rs. StandNumbered rs (x ∷ a.drivers)) (sym stored) (numbered_put (db 1) a.drivers x s.drivers free) in
-          subst (λ t. Stand t (record a { drivers = x ∷ a.drivers })) (sym (ap (λ d. d.trees) e.now_is))
+          let it = subst (λ rs. AreNumberedRowsOf rs (x ∷ a.drivers)) (sym stored) (numbered_put (db 1) a.drivers x s.drivers free) in
+          subst (λ t. HasTables t (record a { drivers = x ∷ a.drivers })) (sym (ap (λ d. d.trees) e.now_is))
           (with_drivers db e.next a (x ∷ a.drivers) e.sound e.applies.tables s it);
     }
 
@@ -75,7 +75,7 @@ pub shows_drivers : (text : List ℕ) (tests terms : List Term) (names : List (L
     → (params : Row) (t : DriverRow → Bool) → ((x : DriverRow) → passes tests params (driver_row x) ≡ t x)
     → (show : DriverRow → Row) → ((x : DriverRow) → eval_all terms (params ∷ driver_row x ∷ []) ≡ show x)
     → (old new : State) (rows : List Row) → old.now.schema ≡ archive_schema → Shown text params old new rows
-    → (all : List DriverRow) → StandNumbered (old.now.trees 1) all → IsPermutation (map show (filter t all)) rows
+    → (all : List DriverRow) → AreNumberedRowsOf (old.now.trees 1) all → IsPermutation (map show (filter t all)) rows
 shows_drivers text tests terms names it params t deaf show same old new rows has h all s =
     let db = old.now.trees in
     let got = reads_as text params old new archive_schema has _ it.meant it.plain it.unlisted rows h in
@@ -117,8 +117,8 @@ module _ (old new : State) (driver value count : ℕ) (has : old.now.schema ≡ 
             let all = map (λ x. cond (has_number driver x) (change x) x) a.drivers in
             let turned = numbered_updated (db 1) a.drivers s.drivers (passes (column_is 0) params) (has_number driver) (number_passes)
             (λ (r : Row). eval_all terms (params ∷ r ∷ [])) new_of change finds makes e.0 found fresh in
-            let it = subst (λ rs. StandNumbered rs all) (sym rows) turned in
-            subst (λ ts. Stand ts (record a { drivers = all })) (sym (ap (λ d. d.trees) e.2.now_is))
+            let it = subst (λ rs. AreNumberedRowsOf rs all) (sym rows) turned in
+            subst (λ ts. HasTables ts (record a { drivers = all })) (sym (ap (λ d. d.trees) e.2.now_is))
             (with_drivers db e.2.next a all e.2.sound e.2.applies.tables s it);
       }
     where

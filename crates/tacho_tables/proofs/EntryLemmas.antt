@@ -18,9 +18,9 @@ use Rattle.sqlite.proofs.Callers.{reads_as}
 use Rattle.sqlite_value.specs.declared.keys.Key.{Key}
 use Rattle.tacho_tables.specs.Schema.{archive_schema, spans, to_driver}
 use Rattle.tacho_tables.specs.Schema as made
-use Rattle.tacho_tables.specs.Rows.{Stands, SpanRow, EntryRow, span_columns, entry_columns}
+use Rattle.tacho_tables.specs.Rows.{AreRowsOf, SpanRow, EntryRow, span_columns, entry_columns}
 use Rattle.tacho_tables.specs.declared.rows.StoredSpan.{StoredSpan}
-use Rattle.tacho_tables.specs.Tables.{Stand, Turns, is_begun, is_entry, is_entry_of, is_kept_near, entered_row, with_withdrawn}
+use Rattle.tacho_tables.specs.Tables.{HasTables, Turns, is_begun, is_entry, is_entry_of, is_kept_near, entered_row, with_withdrawn}
 use Rattle.tacho_tables.proofs.Answers.{passes, listed, shows, eq_test, lt_test}
 use Rattle.tacho_tables.proofs.Stored.{stands_put, stands_left, shown_of}
 use Rattle.tacho_tables.proofs.Updates.{stands_updated}
@@ -49,8 +49,8 @@ deletes_begun old new driver start past count has h =
       stands = λ a s.
           let left = stands_left span_columns (db 10) a.held s.held (passes begun params) (is_begun driver start past) (tests_begun driver start past) e.0 found in
           let rest = filter (λ r. not (is_begun driver start past r)) a.held in
-          let held = subst (λ rs. Stands span_columns rs rest) (sym e.2.applies.rows) left in
-          subst (λ t. Stand t (record a { held = rest })) (sym (ap (λ d. d.trees) e.2.now_is)) (with_held db e.2.next a rest e.2.sound e.2.applies.tables s held);
+          let held = subst (λ rs. AreRowsOf span_columns rs rest) (sym e.2.applies.rows) left in
+          subst (λ t. HasTables t (record a { held = rest })) (sym (ap (λ d. d.trees) e.2.now_is)) (with_held db e.2.next a rest e.2.sound e.2.applies.tables s held);
     }
 
 -- ---- entries
@@ -72,8 +72,8 @@ adds_entry old new driver number x count has h =
     record {
       schema = ap (λ d. d.schema) e.now_is;
       stands = λ a s.
-          let it = subst (λ rs. Stands entry_columns rs (row ∷ a.entries)) (sym stored) (stands_put entry_columns rows a.entries (next_rowid rows) row s.entries free) in
-          subst (λ t. Stand t (record a { entries = row ∷ a.entries })) (sym (ap (λ d. d.trees) e.now_is)) (with_entries old.now.trees e.next a (row ∷ a.entries) e.sound e.applies.tables s it);
+          let it = subst (λ rs. AreRowsOf entry_columns rs (row ∷ a.entries)) (sym stored) (stands_put entry_columns rows a.entries (next_rowid rows) row s.entries free) in
+          subst (λ t. HasTables t (record a { entries = row ∷ a.entries })) (sym (ap (λ d. d.trees) e.now_is)) (with_entries old.now.trees e.next a (row ∷ a.entries) e.sound e.applies.tables s it);
     }
 
 -- the tests of a reading by number are those of an entry
@@ -114,14 +114,14 @@ withdraws old new driver number count has h =
           (λ (r : Row). eval_all withdrawn_shown (params ∷ r ∷ [])) new_of (λ x. record x { withdrawn = 1 }) (λ v x. refl)
           (λ id x. rw (cast_int id, cast_int (pos x.driver), cast_int (pos x.number), cast_int (pos x.start), cast_int (pos x.past), cast_int (pos x.mark), cast_int (pos 1)) refl)
           (λ v x. rw (cast_int (pos x.driver), cast_int (pos x.number), cast_int (pos x.start), cast_int (pos x.past), cast_int (pos x.mark), cast_int (pos 1)) refl) e.0 found fresh in
-          let it = subst (λ rs. Stands entry_columns rs all) (sym rows) turned in
-          subst (λ ts. Stand ts (record a { entries = all })) (sym (ap (λ d. d.trees) e.2.now_is)) (with_entries db e.2.next a all e.2.sound e.2.applies.tables s it);
+          let it = subst (λ rs. AreRowsOf entry_columns rs all) (sym rows) turned in
+          subst (λ ts. HasTables ts (record a { entries = all })) (sym (ap (λ d. d.trees) e.2.now_is)) (with_entries db e.2.next a all e.2.sound e.2.applies.tables s it);
     }
 
 -- a reading shows this of the entries that pass
 pub shows_entries : (text : List ℕ) (tests terms : List Term) (order : List (Term × Key)) (names : List (List ℕ)) → IsReading text 8 tests terms order names → (params : Row) (t : EntryRow → Bool)
     → ((v : Value) (x : EntryRow) → passes tests params (v ∷ entry_columns x) ≡ t x) → (show : EntryRow → Row) → ((v : Value) (x : EntryRow) → eval_all terms (params ∷ (v ∷ entry_columns x) ∷ []) ≡ show x)
-    → (old new : State) (rows : List Row) → old.now.schema ≡ archive_schema → Shown text params old new rows → (all : List EntryRow) → Stands entry_columns (old.now.trees 8) all
+    → (old new : State) (rows : List Row) → old.now.schema ≡ archive_schema → Shown text params old new rows → (all : List EntryRow) → AreRowsOf entry_columns (old.now.trees 8) all
     → IsPermutation (map show (filter t all)) rows
 shows_entries text tests terms order names it params t deaf show same old new rows has h all s =
     let db = old.now.trees in

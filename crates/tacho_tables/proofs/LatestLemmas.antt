@@ -18,7 +18,7 @@ use Rattle.sqlite.specs.Program.{overlay}
 use Rattle.sqlite.specs.State.{State, Shown}
 use Rattle.sqlite.proofs.Callers.{reads_as}
 use Rattle.tacho_tables.specs.Schema.{archive_schema}
-use Rattle.tacho_tables.specs.Rows.{Stands, SpanRow, span_columns}
+use Rattle.tacho_tables.specs.Rows.{AreRowsOf, SpanRow, span_columns}
 use Rattle.tacho_tables.specs.declared.rows.StoredSpan.{StoredSpan}
 use Rattle.tacho_tables.specs.Tables.{IsLatest, is_before, span_of, span_shown}
 use Rattle.tacho_tables.proofs.Answers.{simple, passes, listed_first}
@@ -83,7 +83,7 @@ found_in wanted (r ∷ to) rows (Some s) moved sorted shown none some =
 -- a reading of the latest span that begins before a minute finds it
 pub finds_latest : (text : List ℕ) (tree : ℕ) → IsReadingFirst text tree before three_shown by_start_down span_names → (driver minute : ℕ) (old new : State) (rows : List Row)
     → old.now.schema ≡ archive_schema → Shown text (Int (pos driver) ∷ Int (pos minute) ∷ []) old new rows
-    → (all : List SpanRow) → Stands span_columns (old.now.trees tree) all → (found : Option StoredSpan) → (IsNone found ↔ (rows ≡ []))
+    → (all : List SpanRow) → AreRowsOf span_columns (old.now.trees tree) all → (found : Option StoredSpan) → (IsNone found ↔ (rows ≡ []))
     → IfSome found (λ s. (r : SpanRow) (more : List Row) → rows ≡ span_shown r ∷ more → s ≡ span_of r)
     → MatchOption found (filter (is_before driver minute) all ≡ []) (λ s. (r : SpanRow) × IsLatest r (filter (is_before driver minute) all) × (s ≡ span_of r))
 finds_latest text tree it driver minute old new rows has h all s found none some =

@@ -11,8 +11,8 @@ use Rattle.sqlite_tied.specs.Compute.{everything}
 use Rattle.sqlite.specs.Listing.{understood}
 use Rattle.tacho_tables.specs.Schema.{archive_schema}
 use Rattle.tacho_tables.specs.Schema as made
-use Rattle.tacho_tables.specs.Rows.{Stands, StandNumbered, span_columns, download_columns, entry_columns}
-use Rattle.tacho_tables.specs.Tables.{Stand, IsVersion, no_rows}
+use Rattle.tacho_tables.specs.Rows.{AreRowsOf, AreNumberedRowsOf, span_columns, download_columns, entry_columns}
+use Rattle.tacho_tables.specs.Tables.{HasTables, IsVersion, no_rows}
 use Rattle.tacho_tables.specs.Making.{AreEmpty}
 use Rattle.tacho_tables.proofs.Idle.{idle}
 use Rattle.tacho_tables.proofs.Answers.{listed, shows, eq_test}
@@ -75,19 +75,19 @@ unfolding understood everything
 meta_row_is = record { meant = refl; plain = (refl, refl) }
 
 -- no rows stand for nothing
-nothing_stands : {X : Type 0} (columns : X → Row) (rows : List Row) → rows ≡ [] → Stands columns rows []
-nothing_stands columns rows none = subst (λ rs. Stands columns rs []) (sym none)
+nothing_stands : {X : Type 0} (columns : X → Row) (rows : List Row) → rows ≡ [] → AreRowsOf columns rows []
+nothing_stands columns rows none = subst (λ rs. AreRowsOf columns rs []) (sym none)
     (record { stored = λ r has. absurd has; apart = λ a b has other same. absurd has; same = IsPermutation-refl [] })
 
 -- and no drivers
-no_driver_stands : (rows : List Row) → rows ≡ [] → StandNumbered rows []
-no_driver_stands rows none = subst (λ rs. StandNumbered rs []) (sym none)
+no_driver_stands : (rows : List Row) → rows ≡ [] → AreNumberedRowsOf rows []
+no_driver_stands rows none = subst (λ rs. AreNumberedRowsOf rs []) (sym none)
     (record { apart = λ a b has other same. absurd has; same = IsPermutation-refl [] })
 
 -- with its row in meta, six empty tables are an archive of no drivers
 pub makes_archive : (old new : State) (count : ℕ) → old.now.schema ≡ archive_schema → AreEmpty (0 ∷ 1 ∷ 4 ∷ 6 ∷ 8 ∷ 10 ∷ []) old.now.trees
     → Executes meta_row_text [] old new (Ok count)
-    → (new.now.schema ≡ archive_schema) × Stand new.now.trees no_rows
+    → (new.now.schema ≡ archive_schema) × HasTables new.now.trees no_rows
 makes_archive old new count has none h =
     let t = made.meta in
     let e = inserted archive_schema old new has meta_row_text meta_row_is.plain [] count 0 (codes "meta") 0 t.columns (Some 0)
@@ -95,7 +95,7 @@ makes_archive old new count has none h =
     let stored = rw (cast_int (pos 1), cast_null, none.0) at e.applies.rows in
     let kept = e.applies.tables in (
       ap (λ d. d.schema) e.now_is,
-      subst (λ db. Stand db no_rows) (sym (ap (λ d. d.trees) e.now_is)) (record {
+      subst (λ db. HasTables db no_rows) (sym (ap (λ d. d.trees) e.now_is)) (record {
         sound = e.sound;
         meta = stored;
         drivers = no_driver_stands (e.next 1) (kept.1.0 (λ e. omega (arith, e)) ∙ none.1.0);

@@ -41,7 +41,7 @@ use Rattle.sqlite_trees.proofs.ListLemmas.{pull_back, map-map}
 use Rattle.sqlite_value.specs.Order.{value_cmp}
 use Rattle.sqlite_value.proofs.OrderLemmas.{value_cmp-Int}
 use Rattle.tacho_tables.specs.Next.{AreOnward, IsKept, onward_text, IsAsked, BeginsOnward}
-use Rattle.tacho_tables.specs.Rows.{Stands, SpanRow, span_columns}
+use Rattle.tacho_tables.specs.Rows.{AreRowsOf, SpanRow, span_columns}
 use Rattle.tacho_tables.specs.Schema.{archive_schema}
 use Rattle.tacho_tables.specs.Tables.{is_onward, span_shown}
 use Rattle.tacho_tables.proofs.Answers.{simple, passes, listed, eq_test, le_test}
@@ -221,7 +221,7 @@ module _ (driver start : ℕ) (all : List SpanRow) where
   -- a whole answer shows all of them
   pub shown_onward : (old new : State) (rows : List Row) → old.now.schema ≡ archive_schema
       → Shown onward_text (Int (pos driver) ∷ Int (pos start) ∷ []) old new rows
-      → Stands span_columns (old.now.trees 10) all
+      → AreRowsOf span_columns (old.now.trees 10) all
       → (shown : List SpanRow) × (rows ≡ map span_shown shown) × AreOnward driver start all shown
   shown_onward old new rows has h s =
       let db = old.now.trees in
@@ -248,7 +248,7 @@ module _ (driver start : ℕ) (all : List SpanRow) where
   pub given_onward : {S : Type 0} (g : Ghosts S) (h : Held S) (given : List Row) → h.schema ≡ archive_schema
       → IsTrue (state g h).is_open
       → HasGiven g onward_text (Int (pos driver) ∷ Int (pos start) ∷ []) h given
-      → Stands span_columns ((state g h).now.trees 10) all
+      → AreRowsOf span_columns ((state g h).now.trees 10) all
       → (tail : List Row) × (shown : List SpanRow) × (given ++ tail ≡ map span_shown shown) × AreOnward driver start all
       shown
   given_onward g h given has opened it s =

@@ -13,7 +13,7 @@ use Rattle.sqlite_rules.specs.Lists.{Has}
 use Rattle.sqlite_rules.specs.Edit.{without_all, put_all, are_fresh, is_taken}
 use Rattle.sqlite_rules.proofs.ListLemmas.{all_from, has_filtered}
 use Rattle.sqlite_rules.proofs.TableLemmas.{put_has}
-use Rattle.tacho_tables.specs.Rows.{DriverRow, driver_row, StandNumbered}
+use Rattle.tacho_tables.specs.Rows.{DriverRow, driver_row, AreNumberedRowsOf}
 use Rattle.tacho_tables.proofs.Stored.{AreNumbered, left_is, put_shuffles, map_same, free_from}
 
 -- what holds of all rows holds of one
@@ -32,11 +32,11 @@ each_driver [] = tt
 each_driver (x ∷ all) = ((x, refl), each_driver all)
 
 -- each stored row is a driver's
-drivers_only : (rows : List Row) (all : List DriverRow) → StandNumbered rows all → (r : Row) → Has rows r → IsDriver r
+drivers_only : (rows : List Row) (all : List DriverRow) → AreNumberedRowsOf rows all → (r : Row) → Has rows r → IsDriver r
 drivers_only rows all s = picked IsDriver rows (all-permutation IsDriver (map driver_row all) rows s.same (each_driver all))
 
 -- so the rows have numbers
-are_numbered : (rows : List Row) (all : List DriverRow) → StandNumbered rows all → AreNumbered rows
+are_numbered : (rows : List Row) (all : List DriverRow) → AreNumberedRowsOf rows all → AreNumbered rows
 are_numbered rows all s = record {
   numbered = λ r has. let it = drivers_only rows all s r has in
       (pos it.0.driver, ap rowid it.1);
@@ -44,8 +44,8 @@ are_numbered rows all s = record {
 }
 
 -- the order of the list means nothing
-pub numbered_shuffled : (rows : List Row) (all other : List DriverRow) → StandNumbered rows all → IsPermutation other all
-    → StandNumbered rows other
+pub numbered_shuffled : (rows : List Row) (all other : List DriverRow) → AreNumberedRowsOf rows all → IsPermutation other all
+    → AreNumberedRowsOf rows other
 numbered_shuffled rows all other s same = record {
   apart = s.apart;
   same = IsPermutation-trans _ _ _
@@ -53,8 +53,8 @@ numbered_shuffled rows all other s same = record {
 }
 
 -- one driver more
-pub numbered_put : (rows : List Row) (all : List DriverRow) (x : DriverRow) → StandNumbered rows all → is_taken rows (driver_row x) ≡ false
-    → StandNumbered (put_row (driver_row x) rows) (x ∷ all)
+pub numbered_put : (rows : List Row) (all : List DriverRow) (x : DriverRow) → AreNumberedRowsOf rows all → is_taken rows (driver_row x) ≡ false
+    → AreNumberedRowsOf (put_row (driver_row x) rows) (x ∷ all)
 numbered_put rows all x s free =
     let new : Row = driver_row x in
     record {
@@ -72,8 +72,8 @@ numbered_put rows all x s free =
     }
 
 -- more drivers, one after the other
-numbered_put_all : (xs : List DriverRow) (rows : List Row) (all : List DriverRow) → StandNumbered rows all
-    → are_fresh rows (map driver_row xs) ≡ true → StandNumbered (put_all rows (map driver_row xs)) (xs ++ all)
+numbered_put_all : (xs : List DriverRow) (rows : List Row) (all : List DriverRow) → AreNumberedRowsOf rows all
+    → are_fresh rows (map driver_row xs) ≡ true → AreNumberedRowsOf (put_all rows (map driver_row xs)) (xs ++ all)
 numbered_put_all [] rows all s fresh = s
 numbered_put_all (x ∷ xs) rows all s fresh =
     let parts = and_parts _ _ fresh in
@@ -82,7 +82,7 @@ numbered_put_all (x ∷ xs) rows all s fresh =
 
 -- the drivers that pass
 numbered_filter : (p : Row → Bool) (t : DriverRow → Bool) (deaf : (x : DriverRow) → p (driver_row x) ≡ t x) (rows : List Row)
-    (all : List DriverRow) → StandNumbered rows all → StandNumbered (filter p rows) (filter t all)
+    (all : List DriverRow) → AreNumberedRowsOf rows all → AreNumberedRowsOf (filter p rows) (filter t all)
 numbered_filter p t deaf rows all s = record {
   apart = λ a b here there. s.apart a b (has_filtered p rows a here).0 (has_filtered p rows b there).0;
   same = subst (λ xs. IsPermutation xs (filter p rows))
@@ -93,7 +93,7 @@ numbered_filter p t deaf rows all s = record {
 -- what a query shows of the rows that pass
 pub numbered_shown : (p : Row → Bool) (t : DriverRow → Bool) (deaf : (x : DriverRow) → p (driver_row x) ≡ t x) (f : Row → Row)
     (show : DriverRow → Row) → ((x : DriverRow) → f (driver_row x) ≡ show x)
-    → (rows : List Row) (all : List DriverRow) → StandNumbered rows all → IsPermutation (map show (filter t all)) (map f (filter p rows))
+    → (rows : List Row) (all : List DriverRow) → AreNumberedRowsOf rows all → IsPermutation (map show (filter t all)) (map f (filter p rows))
 numbered_shown p t deaf f show same rows all s =
     let k = numbered_filter p t deaf rows all s in
     let left : map f (map driver_row (filter t all)) ≡ map show (filter t all) = map-map f driver_row (filter t all)
@@ -106,16 +106,16 @@ unmoved f [] all = refl
 unmoved f (x ∷ xs) all = rw (all.0, unmoved f xs all.1) refl
 
 -- an UPDATE changes the drivers that pass
-module _ (rows : List Row) (all : List DriverRow) (s : StandNumbered rows all) (p : Row → Bool) (t : DriverRow → Bool)
+module _ (rows : List Row) (all : List DriverRow) (s : AreNumberedRowsOf rows all) (p : Row → Bool) (t : DriverRow → Bool)
     (deaf : (x : DriverRow) → p (driver_row x) ≡ t x)
     (shown new_of : Row → Row) (change : DriverRow → DriverRow)
     (finds : (x : DriverRow) → rowid (shown (driver_row x)) ≡ rowid (driver_row x))
     (makes : (x : DriverRow) → new_of (shown (driver_row x)) ≡ driver_row (change x)) where
   pub numbered_updated : (out : List Row) → IsPermutation (map shown (filter p rows)) out
       → are_fresh (without_all rows (ids_of out)) (map new_of out) ≡ true
-      → StandNumbered (put_all (without_all rows (ids_of out)) (map new_of out)) (map (λ x. cond (t x) (change x) x) all)
+      → AreNumberedRowsOf (put_all (without_all rows (ids_of out)) (map new_of out)) (map (λ x. cond (t x) (change x) x) all)
   numbered_updated out same fresh = numbered_shuffled _ _ _
-      (subst (λ ns. StandNumbered (put_all (without_all rows (ids_of out)) ns) (pulled.0 ++ rest)) (sym pulled.2) placed) mixed
+      (subst (λ ns. AreNumberedRowsOf (put_all (without_all rows (ids_of out)) ns) (pulled.0 ++ rest)) (sym pulled.2) placed) mixed
     where
       rest : List DriverRow
       rest = filter (λ x. not (t x)) all
@@ -137,8 +137,8 @@ module _ (rows : List Row) (all : List DriverRow) (s : StandNumbered rows all) (
       remains : without_all rows (ids_of out) ≡ filter (λ r. not (p r)) rows
       remains = ap (without_all rows) (sym (map-map _ cut out)) ∙ left_is rows (are_numbered rows all s) p (map cut out) numbers
 
-      left : StandNumbered (without_all rows (ids_of out)) rest
-      left = subst (λ xs. StandNumbered xs rest) (sym remains)
+      left : AreNumberedRowsOf (without_all rows (ids_of out)) rest
+      left = subst (λ xs. AreNumberedRowsOf xs rest) (sym remains)
           (numbered_filter (λ r. not (p r)) (λ x. not (t x)) (λ x. ap not (deaf x)) rows all s)
 
       moved : IsPermutation (map driver_row turned) (map new_of out)
@@ -152,7 +152,7 @@ module _ (rows : List Row) (all : List DriverRow) (s : StandNumbered rows all) (
       pulled : (to : List DriverRow) × IsPermutation turned to × (map new_of out ≡ map driver_row to)
       pulled = pull_back driver_row _ _ moved turned refl
 
-      placed : StandNumbered (put_all (without_all rows (ids_of out)) (map driver_row pulled.0)) (pulled.0 ++ rest)
+      placed : AreNumberedRowsOf (put_all (without_all rows (ids_of out)) (map driver_row pulled.0)) (pulled.0 ++ rest)
       placed = numbered_put_all pulled.0 (without_all rows (ids_of out)) rest left
           (subst (λ ns. are_fresh (without_all rows (ids_of out)) ns ≡ true) pulled.2 fresh)
 

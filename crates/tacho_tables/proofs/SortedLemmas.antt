@@ -16,7 +16,7 @@ use Rattle.sqlite.specs.Program.{overlay}
 use Rattle.sqlite.specs.State.{State, Shown}
 use Rattle.sqlite.proofs.Callers.{reads_as}
 use Rattle.tacho_tables.specs.Schema.{archive_schema}
-use Rattle.tacho_tables.specs.Rows.{Stands, EntryRow, entry_columns}
+use Rattle.tacho_tables.specs.Rows.{AreRowsOf, EntryRow, entry_columns}
 use Rattle.tacho_tables.specs.declared.rows.StoredEntry.{StoredEntry}
 use Rattle.tacho_tables.specs.Tables.{is_entry_of, entry_of, entry_shown}
 use Rattle.tacho_tables.proofs.Answers.{simple, passes, listed}
@@ -68,7 +68,7 @@ sorted_after f less lt xs none same h k d low high =
 
 -- the rows of a reading of all entries of a driver show his entries in the order of their numbers
 pub shows_sorted : (driver : ℕ) (old new : State) (rows : List Row) → old.now.schema ≡ archive_schema
-    → Shown entries_text (Int (pos driver) ∷ []) old new rows → (all : List EntryRow) → Stands entry_columns (old.now.trees 8) all
+    → Shown entries_text (Int (pos driver) ∷ []) old new rows → (all : List EntryRow) → AreRowsOf entry_columns (old.now.trees 8) all
     → (shown : List EntryRow) × (rows ≡ map entry_shown shown) × IsSorted (λ x y. nat_cmp x.number y.number) shown
 shows_sorted driver old new rows has h all s =
     let db = old.now.trees in
@@ -86,7 +86,7 @@ shows_sorted driver old new rows has h all s =
 
 -- so they are read in that order
 pub read_sorted : (driver : ℕ) (old new : State) (rows : List Row) (found : List StoredEntry) → old.now.schema ≡ archive_schema
-    → Shown entries_text (Int (pos driver) ∷ []) old new rows → (all : List EntryRow) → Stands entry_columns (old.now.trees 8) all
+    → Shown entries_text (Int (pos driver) ∷ []) old new rows → (all : List EntryRow) → AreRowsOf entry_columns (old.now.trees 8) all
     → ((shown : List EntryRow) → rows ≡ map entry_shown shown → found ≡ map entry_of shown)
     → IsSorted (λ x y. nat_cmp x.number y.number) found
 read_sorted driver old new rows found has h all s reads =

@@ -17,12 +17,12 @@ use Rattle.sqlite.specs.Program.{overlay}
 use Rattle.sqlite.specs.State.{State, Executes, Shown}
 use Rattle.sqlite.proofs.Callers.{reads_as}
 use Rattle.tacho_tables.specs.Schema.{archive_schema, to_driver, spans}
-use Rattle.tacho_tables.specs.Rows.{Stands, SpanRow, span_columns}
+use Rattle.tacho_tables.specs.Rows.{AreRowsOf, SpanRow, span_columns}
 use Rattle.tacho_tables.specs.declared.rows.StoredSpan.{StoredSpan}
 use Rattle.tacho_tables.specs.declared.spans.SpanTable.{SpanTable}
 use Rattle.tacho_tables.specs.declared.spans.SpanTable.TheVariants.{CardSpans, Held}
 use Rattle.tacho_tables.specs.Spans.{spans_in, with_spans, rows_of}
-use Rattle.tacho_tables.specs.Tables.{Tables, Stand, Turns, is_before, is_begun, is_of, span_shown, span_of, row_of}
+use Rattle.tacho_tables.specs.Tables.{Tables, HasTables, Turns, is_before, is_begun, is_of, span_shown, span_of, row_of}
 use Rattle.tacho_tables.proofs.Answers.{passes, listed, shows, eq_test, lt_test, le_test}
 use Rattle.tacho_tables.proofs.Stored.{stands_put, stands_shuffled, shown_of}
 use Rattle.tacho_tables.proofs.Idle.{idle}
@@ -37,8 +37,8 @@ pub record IsSpanTable (at tree : ℕ) (name : List ℕ) (get : Tables → List 
   pub got : (xs : List SpanRow) (a : Tables) → get (put xs a) ≡ xs
   pub same : (a : Tables) → put (get a) a ≡ a
   pub again : (xs ys : List SpanRow) (a : Tables) → put ys (put xs a) ≡ put ys a
-  pub stands : (db : Trees) (a : Tables) → Stand db a → Stands span_columns (db tree) (get a)
-  pub changed : (db next : Trees) (a : Tables) (xs : List SpanRow) → IsSound archive_schema next → AreKept tree db next → Stand db a → Stands span_columns (next tree) xs → Stand next (put xs a)
+  pub stands : (db : Trees) (a : Tables) → HasTables db a → AreRowsOf span_columns (db tree) (get a)
+  pub changed : (db next : Trees) (a : Tables) (xs : List SpanRow) → IsSound archive_schema next → AreKept tree db next → HasTables db a → AreRowsOf span_columns (next tree) xs → HasTables next (put xs a)
 
 -- its name
 abbrev pub name_of : SpanTable → List ℕ
@@ -73,7 +73,7 @@ own_is driver v x = rw (eq_test x.driver driver) (and-true (x.driver == driver))
 
 module _ (text : List ℕ) (tree : ℕ) (tests : List Term) (params : Row) (p : SpanRow → Bool) (tested : (v : Value) (x : SpanRow) → passes tests params (v ∷ span_columns x) ≡ p x)
     (old new : State) (rows : List Row) (has : old.now.schema ≡ archive_schema) (it : IsReading text tree tests three_shown by_start span_names) (h : Shown text params old new rows)
-    (all : List SpanRow) (s : Stands span_columns (old.now.trees tree) all) where
+    (all : List SpanRow) (s : AreRowsOf span_columns (old.now.trees tree) all) where
   -- a reading shows the spans that pass its tests
   shows_spans : IsPermutation (map span_shown (filter p all)) rows
   shows_spans =
@@ -95,8 +95,8 @@ module _ (text : List ℕ) (tree : ℕ) (tests : List Term) (params : Row) (p : 
 -- what is left to add, on top of what stands, is all on top of what stood, but for the order
 pub record HasLeft (get : Tables → List SpanRow) (put : List SpanRow → Tables → Tables) (driver : ℕ) (all left : List StoredSpan) (old now : State) : Type 0 where
   pub schema : now.now.schema ≡ archive_schema
-  pub rows : (a : Tables) → Stand old.now.trees a
-      → (some : List SpanRow) × Stand now.now.trees (put some a) × IsPermutation (map (row_of driver) all ++ get a) (map (row_of driver) left ++ some)
+  pub rows : (a : Tables) → HasTables old.now.trees a
+      → (some : List SpanRow) × HasTables now.now.trees (put some a) × IsPermutation (map (row_of driver) all ++ get a) (map (row_of driver) left ++ some)
 
 module _ {at tree : ℕ} {name : List ℕ} {get : Tables → List SpanRow} {put : List SpanRow → Tables → Tables} (table : IsSpanTable at tree name get put) where
   -- an INSERT adds a row to the table, and changes no other
@@ -113,15 +113,15 @@ module _ {at tree : ℕ} {name : List ℕ} {get : Tables → List SpanRow} {put 
         schema = ap (λ d. d.schema) e.now_is;
         stands = λ a s.
             let more = x ∷ get a in
-            let it = subst (λ rs. Stands span_columns rs more) (sym stored) (stands_put span_columns rows (get a) (next_rowid rows) x (table.stands old.now.trees a s) free) in
-            subst (λ db. Stand db (put more a)) (sym (ap (λ d. d.trees) e.now_is)) (table.changed old.now.trees e.next a more e.sound e.applies.tables s it);
+            let it = subst (λ rs. AreRowsOf span_columns rs more) (sym stored) (stands_put span_columns rows (get a) (next_rowid rows) x (table.stands old.now.trees a s) free) in
+            subst (λ db. HasTables db (put more a)) (sym (ap (λ d. d.trees) e.now_is)) (table.changed old.now.trees e.next a more e.sound e.applies.tables s it);
       }
 
   -- before the first is added
   pub all_left : (driver : ℕ) (all : List StoredSpan) (now : State) → now.now.schema ≡ archive_schema → HasLeft get put driver all all now now
   all_left driver all now has = record {
     schema = has;
-    rows = λ a stood. (get a, subst (Stand now.now.trees) (sym (table.same a)) stood, IsPermutation-refl (map (row_of driver) all ++ get a));
+    rows = λ a stood. (get a, subst (HasTables now.now.trees) (sym (table.same a)) stood, IsPermutation-refl (map (row_of driver) all ++ get a));
   }
 
   -- one more was added
@@ -146,7 +146,7 @@ module _ {at tree : ℕ} {name : List ℕ} {get : Tables → List SpanRow} {put 
         let it = last.rows a s in
         let db = now.now.trees in
         let more = map (row_of driver) all ++ get a in
-        let some = subst (Stands span_columns (db tree)) (table.got it.0 a) (table.stands db (put it.0 a) it.1) in
-        subst (Stand db) (table.again it.0 more a)
+        let some = subst (AreRowsOf span_columns (db tree)) (table.got it.0 a) (table.stands db (put it.0 a) it.1) in
+        subst (HasTables db) (table.again it.0 more a)
         (table.changed db db (put it.0 a) more it.1.sound (λ _. refl, (λ _. refl, (λ _. refl, (λ _. refl, (λ _. refl, (λ _. refl, tt)))))) it.1 (stands_shuffled span_columns (db tree) it.0 more some (IsPermutation-map span_columns more it.0 it.2)));
   }

@@ -19,7 +19,7 @@ use Rattle.sqlite_rules.specs.Lists.{Has}
 use Rattle.sqlite_rules.specs.Edit.{id_in, without_all, is_taken}
 use Rattle.sqlite_rules.proofs.ListLemmas.{has_filtered, has_kept, some_has, some_from, all_from}
 use Rattle.sqlite_rules.proofs.TableLemmas.{put_has}
-use Rattle.tacho_tables.specs.Rows.{Stands}
+use Rattle.tacho_tables.specs.Rows.{AreRowsOf}
 
 -- a row that is put is one row more
 pub put_shuffles : (new : Row) (rows : List Row) → is_taken rows new ≡ false → IsPermutation (new ∷ rows) (put_row new rows)
@@ -65,13 +65,13 @@ free_from rows id rest b free has is = true≢false
 
 module _ {X : Type 0} (columns : X → Row) where
   -- the order of the list means nothing
-  pub stands_shuffled : (rows : List Row) (all other : List X) → Stands columns rows all
-      → IsPermutation (map columns other) (map columns all) → Stands columns rows other
+  pub stands_shuffled : (rows : List Row) (all other : List X) → AreRowsOf columns rows all
+      → IsPermutation (map columns other) (map columns all) → AreRowsOf columns rows other
   stands_shuffled rows all other s same = record { stored = s.stored; apart = s.apart; same = IsPermutation-trans _ _ _ same s.same }
 
   -- one value more
-  pub stands_put : (rows : List Row) (all : List X) (id : ℤ) (x : X) → Stands columns rows all → is_taken rows (Int id ∷ columns x) ≡ false
-      → Stands columns (put_row (Int id ∷ columns x) rows) (x ∷ all)
+  pub stands_put : (rows : List Row) (all : List X) (id : ℤ) (x : X) → AreRowsOf columns rows all → is_taken rows (Int id ∷ columns x) ≡ false
+      → AreRowsOf columns (put_row (Int id ∷ columns x) rows) (x ∷ all)
   stands_put rows all id x s free =
       let new : Row = Int id ∷ columns x in
       record {
@@ -91,11 +91,11 @@ module _ {X : Type 0} (columns : X → Row) where
       }
 
   module _ (p : Row → Bool) (t : X → Bool) (deaf : (v : Value) (x : X) → p (v ∷ columns x) ≡ t x) where
-    blind : (rows : List Row) (all : List X) → Stands columns rows all → (r : Row) → Has rows r → p r ≡ p (Null ∷ drop 1 r)
+    blind : (rows : List Row) (all : List X) → AreRowsOf columns rows all → (r : Row) → Has rows r → p r ≡ p (Null ∷ drop 1 r)
     blind rows all s r has = let it = s.stored r has in subst (λ (z : Row). p z ≡ p (Null ∷ drop 1 z)) (sym it.2)
         (deaf _ it.1 ∙ sym (deaf Null it.1))
 
-    pub stands_filter : (rows : List Row) (all : List X) → Stands columns rows all → Stands columns (filter p rows) (filter t all)
+    pub stands_filter : (rows : List Row) (all : List X) → AreRowsOf columns rows all → AreRowsOf columns (filter p rows) (filter t all)
     stands_filter rows all s = record {
       stored = λ r has. s.stored r (has_filtered p rows r has).0;
       apart = λ a b here there. s.apart a b (has_filtered p rows a here).0 (has_filtered p rows b there).0;
@@ -168,7 +168,7 @@ module _ (rows : List Row) (s : AreNumbered rows) (p : Row → Bool) where
   left_is out same = without_all_is (ids_of out) rows
       ∙ filter_same _ (λ r. not (p r)) rows (all_from _ rows (λ r has. ap not (found_is out same r has)))
 
-module _ {X : Type 0} (columns : X → Row) (rows : List Row) (all : List X) (s : Stands columns rows all) (p : Row → Bool) (t : X → Bool)
+module _ {X : Type 0} (columns : X → Row) (rows : List Row) (all : List X) (s : AreRowsOf columns rows all) (p : Row → Bool) (t : X → Bool)
     (deaf : (v : Value) (x : X) → p (v ∷ columns x) ≡ t x) where
   -- what a query shows of the rows that pass
   pub shown_of : {Y : Type 0} (f : Row → Y) (show : X → Y) → ((v : Value) (x : X) → f (v ∷ columns x) ≡ show x)
@@ -193,7 +193,7 @@ module _ {X : Type 0} (columns : X → Row) (rows : List Row) (all : List X) (s 
 
   -- what a DELETE of the rows that pass leaves
   pub stands_left : (out : List Row) → IsPermutation (map (λ r. rowid r ∷ []) (filter p rows)) out
-      → Stands columns (without_all rows (ids_of out)) (filter (λ x. not (t x)) all)
+      → AreRowsOf columns (without_all rows (ids_of out)) (filter (λ x. not (t x)) all)
   stands_left out same =
-      subst (λ xs. Stands columns xs (filter (λ x. not (t x)) all)) (sym (left_is rows are_numbered p out same))
+      subst (λ xs. AreRowsOf columns xs (filter (λ x. not (t x)) all)) (sym (left_is rows are_numbered p out same))
       (stands_filter columns (λ r. not (p r)) (λ x. not (t x)) (λ v x. ap not (deaf v x)) rows all s)

@@ -14,7 +14,7 @@ use Rattle.sqlite_rules.specs.Calls.{ids_of}
 use Rattle.sqlite_rules.specs.Lists.{Has}
 use Rattle.sqlite_rules.specs.Edit.{without_all, put_all, are_fresh}
 use Rattle.sqlite_rules.proofs.ListLemmas.{all_from, has_filtered}
-use Rattle.tacho_tables.specs.Rows.{Stands}
+use Rattle.tacho_tables.specs.Rows.{AreRowsOf}
 use Rattle.tacho_tables.proofs.Stored.{stands_put, stands_shuffled, stands_left, shown_of, map_same}
 
 module _ {X : Type 0} (columns : X → Row) where
@@ -27,8 +27,8 @@ module _ {X : Type 0} (columns : X → Row) where
   IsStored r = (id : ℤ) × (x : X) × (r ≡ Int id ∷ columns x)
 
   -- values that are put are values more
-  stands_put_all : (pairs : List (ℤ × X)) (rows : List Row) (all : List X) → Stands columns rows all → are_fresh rows (map as_row pairs) ≡ true
-      → Stands columns (put_all rows (map as_row pairs)) (map (λ (p : ℤ × X). p.1) pairs ++ all)
+  stands_put_all : (pairs : List (ℤ × X)) (rows : List Row) (all : List X) → AreRowsOf columns rows all → are_fresh rows (map as_row pairs) ≡ true
+      → AreRowsOf columns (put_all rows (map as_row pairs)) (map (λ (p : ℤ × X). p.1) pairs ++ all)
   stands_put_all [] rows all s fresh = s
   stands_put_all (p ∷ ps) rows all s fresh =
       let parts = and_parts _ _ fresh in
@@ -40,13 +40,13 @@ module _ {X : Type 0} (columns : X → Row) where
   pairs_of [] all = ([], refl)
   pairs_of (r ∷ rows) all = let more = pairs_of rows all.1 in ((all.0.0, all.0.1) ∷ more.0, rw (all.0.2, more.1) refl)
 
-  module _ (rows : List Row) (all : List X) (s : Stands columns rows all) (p : Row → Bool) (t : X → Bool) (deaf : (v : Value) (x : X) → p (v ∷ columns x) ≡ t x)
+  module _ (rows : List Row) (all : List X) (s : AreRowsOf columns rows all) (p : Row → Bool) (t : X → Bool) (deaf : (v : Value) (x : X) → p (v ∷ columns x) ≡ t x)
       (shown new_of : Row → Row) (change : X → X) (finds : (v : Value) (x : X) → rowid (shown (v ∷ columns x)) ≡ v)
       (makes : (id : ℤ) (x : X) → new_of (shown (Int id ∷ columns x)) ≡ Int id ∷ columns (change x)) (rest : (v : Value) (x : X) → drop 1 (new_of (shown (v ∷ columns x))) ≡ columns (change x)) where
     -- an UPDATE changes the values that pass, and leaves the others
     pub stands_updated : (out : List Row) → IsPermutation (map shown (filter p rows)) out → are_fresh (without_all rows (ids_of out)) (map new_of out) ≡ true
-        → Stands columns (put_all (without_all rows (ids_of out)) (map new_of out)) (map (λ x. cond (t x) (change x) x) all)
-    stands_updated out same fresh = stands_shuffled columns _ _ _ (subst (λ ns. Stands columns (put_all (without_all rows (ids_of out)) ns) (map (λ (q : ℤ × X). q.1) pairs.0 ++ filter (λ x. not (t x)) all)) (sym pairs.1) placed) mixed
+        → AreRowsOf columns (put_all (without_all rows (ids_of out)) (map new_of out)) (map (λ x. cond (t x) (change x) x) all)
+    stands_updated out same fresh = stands_shuffled columns _ _ _ (subst (λ ns. AreRowsOf columns (put_all (without_all rows (ids_of out)) ns) (map (λ (q : ℤ × X). q.1) pairs.0 ++ filter (λ x. not (t x)) all)) (sym pairs.1) placed) mixed
       where
         -- the number of a row
         cut : Row → Row
@@ -66,8 +66,8 @@ module _ {X : Type 0} (columns : X → Row) where
             subst (λ xs. IsPermutation xs (map cut out)) each moved
 
         -- what is left without them
-        left : Stands columns (without_all rows (ids_of out)) (filter (λ x. not (t x)) all)
-        left = subst (λ is. Stands columns (without_all rows is) (filter (λ x. not (t x)) all)) ids (stands_left columns rows all s p t deaf (map cut out) numbers)
+        left : AreRowsOf columns (without_all rows (ids_of out)) (filter (λ x. not (t x)) all)
+        left = subst (λ is. AreRowsOf columns (without_all rows is) (filter (λ x. not (t x)) all)) ids (stands_left columns rows all s p t deaf (map cut out) numbers)
 
         -- what was put are such rows
         all_stored : AllByRecursion IsStored (map new_of out)
@@ -86,7 +86,7 @@ module _ {X : Type 0} (columns : X → Row) where
         pairs = pairs_of (map new_of out) all_stored
 
         -- with them the rows stand for their values and those that are left
-        placed : Stands columns (put_all (without_all rows (ids_of out)) (map as_row pairs.0)) (map (λ (q : ℤ × X). q.1) pairs.0 ++ filter (λ x. not (t x)) all)
+        placed : AreRowsOf columns (put_all (without_all rows (ids_of out)) (map as_row pairs.0)) (map (λ (q : ℤ × X). q.1) pairs.0 ++ filter (λ x. not (t x)) all)
         placed = stands_put_all pairs.0 (without_all rows (ids_of out)) (filter (λ x. not (t x)) all) left (subst (λ ns. are_fresh (without_all rows (ids_of out)) ns ≡ true) pairs.1 fresh)
 
         -- the columns of what was put are those of what passed, changed

@@ -8,7 +8,7 @@ use Rattle.sqlite_rules.specs.Lists.{Has}
 -- ---- tables whose rows have a hidden number
 
 -- each stored row is a hidden number of its own and then the columns of one of these values, in some order
-pub record Stands {X : Type 0} (columns : X → Row) (rows : List Row) (all : List X) : Type 0 where
+pub record AreRowsOf {X : Type 0} (columns : X → Row) (rows : List Row) (all : List X) : Type 0 where
   pub stored : (r : Row) → Has rows r → (id : ℤ) × (x : X) × (r ≡ Int id ∷ columns x)
   pub apart : (a b : Row) → Has rows a → Has rows b → rowid a ≡ rowid b → a ≡ b
   pub same : IsPermutation (map columns all) (map (drop 1) rows)
@@ -63,6 +63,6 @@ driver_row r =
     Int (pos r.driver) ∷ Null ∷ Blob r.holder ∷ Text r.secret ∷ Int (pos r.base) ∷ Text r.name ∷ Int (pos r.downloads) ∷ Int (pos r.entries) ∷ []
 
 -- the stored rows are those of these drivers, in some order, and no two have one number
-pub record StandNumbered (rows : List Row) (all : List DriverRow) : Type 0 where
+pub record AreNumberedRowsOf (rows : List Row) (all : List DriverRow) : Type 0 where
   pub apart : (a b : Row) → Has rows a → Has rows b → rowid a ≡ rowid b → a ≡ b
   pub same : IsPermutation (map driver_row all) rows

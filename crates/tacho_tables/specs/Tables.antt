@@ -9,7 +9,7 @@ use Rattle.tacho_tables.specs.declared.rows.StoredSpan.{StoredSpan}
 use Rattle.tacho_tables.specs.declared.rows.StoredEntry.{StoredEntry}
 use Rattle.tacho_tables.specs.Schema.{archive_schema}
 use Rattle.tacho_tables.specs.Schema as tree
-use Rattle.tacho_tables.specs.Rows.{Stands, SpanRow, span_columns, DownloadRow, download_columns, EntryRow, entry_columns, DriverRow, StandNumbered}
+use Rattle.tacho_tables.specs.Rows.{AreRowsOf, SpanRow, span_columns, DownloadRow, download_columns, EntryRow, entry_columns, DriverRow, AreNumberedRowsOf}
 
 pub record Tables : Type 0 where
   pub drivers : List DriverRow
@@ -23,19 +23,19 @@ abbrev pub IsVersion : ℕ → Trees → Type 0
 IsVersion version db = db tree.meta_rows ≡ (Int (pos 1) ∷ Null ∷ Int (pos version) ∷ []) ∷ []
 
 -- what is stored is an archive's database, and stands for these lists; their order means nothing
-pub record Stand (db : Trees) (a : Tables) : Type 0 where
+pub record HasTables (db : Trees) (a : Tables) : Type 0 where
   pub sound : IsSound archive_schema db
   pub meta : IsVersion 1 db
-  pub drivers : StandNumbered (db tree.driver_rows) a.drivers
-  pub downloads : Stands download_columns (db tree.download_rows) a.downloads
-  pub card_spans : Stands span_columns (db tree.card_span_rows) a.card_spans
-  pub entries : Stands entry_columns (db tree.entry_rows) a.entries
-  pub held : Stands span_columns (db tree.held_rows) a.held
+  pub drivers : AreNumberedRowsOf (db tree.driver_rows) a.drivers
+  pub downloads : AreRowsOf download_columns (db tree.download_rows) a.downloads
+  pub card_spans : AreRowsOf span_columns (db tree.card_span_rows) a.card_spans
+  pub entries : AreRowsOf entry_columns (db tree.entry_rows) a.entries
+  pub held : AreRowsOf span_columns (db tree.held_rows) a.held
 
 -- a step that makes of what stands for some lists what stands for others
 pub record Turns (old new : State) (step : Tables → Tables) : Type 0 where
   pub schema : new.now.schema ≡ archive_schema
-  pub stands : (a : Tables) → Stand old.now.trees a → Stand new.now.trees (step a)
+  pub stands : (a : Tables) → HasTables old.now.trees a → HasTables new.now.trees (step a)
 
 -- a row of the driver that has a minute in the range
 abbrev pub is_near : ℕ → ℕ → ℕ → SpanRow → Bool

@@ -6,7 +6,7 @@ ghost use Rattle.sqlite.specs.Held.{state};
 ghost use Rattle.tacho_tables.specs.Schema.{no_schema, schema_3, archive_schema};
 ghost use Rattle.tacho_tables.specs.Calls.{Stays, Reads};
 ghost use Rattle.tacho_tables.specs.Making.{AreEmpty, IsCreate, HasMade, TellsVersion};
-ghost use Rattle.tacho_tables.specs.Tables.{Stand, no_rows};
+ghost use Rattle.tacho_tables.specs.Tables.{HasTables, no_rows};
 
 use crate::fault::TableFault;
 use crate::rows::first_number;
@@ -78,7 +78,7 @@ pub fn make_all<S: Alter>(tx: &mut Transaction<'_, S>) -> Result<(), TableFault>
     ensures stays { Stays S.Store tx.old.conn tx.new.conn }
     ensures made { HasCleanDisk (state S.Store tx.new.conn.now) → (state S.Store tx.old.conn.now).now.schema ≡ no_schema
         → OnOk result (((state S.Store tx.new.conn.now).now.schema ≡ archive_schema)
-        × Stand (state S.Store tx.new.conn.now).now.trees no_rows) }
+        × HasTables (state S.Store tx.new.conn.now).now.trees no_rows) }
     ensures keeps { HasCleanDisk (state S.Store tx.new.conn.now)
         → KeepsCommit (state S.Store tx.old.conn.now) (state S.Store tx.new.conn.now) }
 {

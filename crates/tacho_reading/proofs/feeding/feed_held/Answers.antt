@@ -2,7 +2,7 @@ use Rattle.std.proofs.Common.{rules, ◌∙◌, not, sym, ap, subst, arith}
 use Rattle.sqlite.specs.Effect.{Database}
 use Rattle.sqlite.specs.Held.{state}
 use Rattle.sqlite.specs.State.{HasCleanDisk}
-use Rattle.tacho_tables.specs.Rows.{Stands, span_columns}
+use Rattle.tacho_tables.specs.Rows.{AreRowsOf, span_columns}
 use Rattle.tacho_reading.specs.Taken.{ReadsSettled}
 use Rattle.tacho_reading.proofs.TakenLemmas.{settled_where_refused, settled_where_read, are_fed}
 use Rattle.tacho_reading.proofs.feeding.feed_held.Goals as goal
@@ -37,6 +37,6 @@ returns-clause-fed g c clean schema t stand =
     c.args.scan.now c.args.found.now
     c.feed_rows.new.scan c.feed_rows.new.found (ap (λ (d : Database). d.schema) same.0.now_is ∙ schema)
     (λ live. kept.same live (same.0.now_is ∙ settled ∙ sym same.0.committed_is))
-    (subst (λ (d : Database). Stands span_columns (d.trees 10) t.held) (sym same.0.now_is) stand.held)
+    (subst (λ (d : Database). AreRowsOf span_columns (d.trees 10) t.held) (sym same.0.now_is) stand.held)
     (c.in-Ok.ensures.begun.given early) c.feed_rows.result
     (c.feed_rows.ensures.reads.live late) (c.feed_rows.ensures.fed late)

@@ -1,7 +1,7 @@
 use Rattle.std.proofs.Common.{rules, sym, subst}
 use Rattle.tacho_reading.specs.Finding.{IsDriver}
 use Rattle.tacho_reading.proofs.MappedLemmas.{was_ok}
-use Rattle.tacho_reading.proofs.FoundLemmas.{number_found, driver_found}
+use Rattle.tacho_reading.proofs.LookUpLemmas.{number_found, driver_found}
 use Rattle.tacho_reading.proofs.finding.driver_with.Goals as goal
 
 pub returns : goal.returns

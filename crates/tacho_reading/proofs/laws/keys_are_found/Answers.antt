@@ -1,4 +1,4 @@
-use Rattle.tacho_reading.proofs.FindLemmas.{key_none, key_some}
+use Rattle.tacho_reading.proofs.DriverRowLemmas.{key_none, key_some}
 use Rattle.tacho_reading.proofs.laws.keys_are_found.Goals as goal
 
 pub returns : goal.returns

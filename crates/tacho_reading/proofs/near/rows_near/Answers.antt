@@ -2,7 +2,7 @@ use Rattle.std.proofs.Common.{rules, ◌∙◌, ap, sym, subst}
 use Rattle.std.proofs.lemmas.Result.{IfOk-weaker}
 use Rattle.sqlite.specs.Effect.{Database}
 use Rattle.tacho_tables.specs.Spans.{spans_in}
-use Rattle.tacho_tables.specs.Tables.{Stand}
+use Rattle.tacho_tables.specs.Tables.{HasTables}
 use Rattle.tacho_reading.proofs.ApartLemmas.{read_begun}
 use Rattle.tacho_reading.proofs.near.rows_near.Goals as goal
 
@@ -15,5 +15,5 @@ returns g c = record {
       let schema_2 = ap (λ (d : Database). d.schema) same.0.now_is ∙ schema in
       IfOk-weaker c.begun.result _ _ (λ found all t stand apart. read_begun c.args.driver c.args.start c.args.past (spans_in c.args.table t) apart c.in_ok-before.before found.items
       (c.in_ok-before.ensures.found clean_1 schema t stand)
-      (rw c.first_start.ensures at (all t (subst (λ (d : Database). Stand d.trees t) (sym same.0.now_is) stand)))) (c.begun.ensures.found clean schema_2);
+      (rw c.first_start.ensures at (all t (subst (λ (d : Database). HasTables d.trees t) (sym same.0.now_is) stand)))) (c.begun.ensures.found clean schema_2);
 }

@@ -1,8 +1,8 @@
 use Rattle.std.proofs.Common.{rules, ◌∙◌, ap, sym, subst}
 use Rattle.sqlite.specs.Effect.{Database}
-use Rattle.tacho_tables.specs.Tables.{Stand}
+use Rattle.tacho_tables.specs.Tables.{HasTables}
 use Rattle.tacho_reading.proofs.MappedLemmas.{was_ok}
-use Rattle.tacho_reading.proofs.FoundLemmas.{the_driver, unknown_refuses, handed_on}
+use Rattle.tacho_reading.proofs.LookUpLemmas.{the_driver, unknown_refuses, handed_on}
 use Rattle.tacho_reading.proofs.ReadingLemmas.{nobody}
 use Rattle.tacho_reading.proofs.ReportLemmas.{somebody}
 use Rattle.tacho_reading.proofs.BegunLemmas.{is_begun}
@@ -34,7 +34,7 @@ returns-clause-begun g c = record {
         is_begun _ c.args.driver s d.0 c.in_ok-stored.stored c.in-Some.base c.first_start.result c.in_ok-before.before d.1
             d.2
             c.in-Some.ensures.some.0 (rw c.number-first.ensures.value at c.first_start.ensures)
-            (λ t stand. rw c.number-first.ensures.value at (read t (subst (λ (db : Database). Stand db.trees t)
+            (λ t stand. rw c.number-first.ensures.value at (read t (subst (λ (db : Database). HasTables db.trees t)
             (sym same.0.now_is) stand))),
       );
 }

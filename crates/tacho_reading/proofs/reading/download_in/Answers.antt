@@ -2,7 +2,7 @@ use Rattle.std.proofs.Common.{rules, sym, subst}
 use Rattle.tacho_state.specs.Acts.{Answers}
 use Rattle.tacho_state.specs.Steps.{downloaded}
 use Rattle.tacho_reading.proofs.MappedLemmas.{was_ok}
-use Rattle.tacho_reading.proofs.FoundLemmas.{the_driver, unknown_refuses, handed_on}
+use Rattle.tacho_reading.proofs.LookUpLemmas.{the_driver, unknown_refuses, handed_on}
 use Rattle.tacho_reading.proofs.SeenLemmas.{still_seen}
 use Rattle.tacho_reading.proofs.ReadingLemmas.{nobody, file_told}
 use Rattle.tacho_reading.proofs.reading.download_in.Goals as goal

@@ -2,7 +2,7 @@ use Rattle.std.proofs.Common.{rules, ◌∙◌, ap, map}
 use Rattle.std.proofs.lemmas.Result.{IfOk-weaker}
 use Rattle.tacho_reading.specs.Standing.{listed_as}
 use Rattle.tacho_reading.proofs.MappedLemmas.{was_ok}
-use Rattle.tacho_reading.proofs.FoundLemmas.{the_driver, unknown_refuses, handed_on}
+use Rattle.tacho_reading.proofs.LookUpLemmas.{the_driver, unknown_refuses, handed_on}
 use Rattle.tacho_reading.proofs.SeenLemmas.{still_seen}
 use Rattle.tacho_reading.proofs.ReadingLemmas.{nobody}
 use Rattle.tacho_reading.proofs.ListedLemmas.{entries_told, entries_answer}

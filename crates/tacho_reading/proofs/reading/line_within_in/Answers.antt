@@ -1,9 +1,9 @@
 use Rattle.std.proofs.Common.{rules}
 use Rattle.tacho_reading.proofs.MappedLemmas.{was_ok}
-use Rattle.tacho_reading.proofs.FoundLemmas.{the_driver, unknown_refuses, handed_on}
+use Rattle.tacho_reading.proofs.LookUpLemmas.{the_driver, unknown_refuses, handed_on}
 use Rattle.tacho_reading.proofs.SeenLemmas.{still_seen}
 use Rattle.tacho_reading.proofs.ReadingLemmas.{nobody}
-use Rattle.tacho_reading.proofs.RangedLemmas.{range_answers, range_told}
+use Rattle.tacho_reading.proofs.LineWithinLemmas.{range_answers, range_told}
 use Rattle.tacho_reading.proofs.reading.line_within_in.Goals as goal
 
 pub returns-in_err-driver_with : goal.returns-in_err-driver_with

@@ -1,5 +1,5 @@
 use Rattle.std.proofs.Common.{rules}
-use Rattle.tacho_reading.proofs.FoundLemmas.{the_driver, unknown_refuses, handed_on}
+use Rattle.tacho_reading.proofs.LookUpLemmas.{the_driver, unknown_refuses, handed_on}
 use Rattle.tacho_reading.proofs.ReadingLemmas.{nobody}
 use Rattle.tacho_reading.proofs.ReportLemmas.{name_told}
 use Rattle.tacho_reading.proofs.reading.name_in.Goals as goal

@@ -1,7 +1,7 @@
 use Rattle.std.proofs.Common.{rules}
 use Rattle.std.proofs.lemmas.Result.{IfOk-weaker}
 use Rattle.tacho_reading.proofs.MappedLemmas.{answers_found}
-use Rattle.tacho_reading.proofs.FoundLemmas.{key_found}
+use Rattle.tacho_reading.proofs.LookUpLemmas.{key_found}
 use Rattle.tacho_reading.proofs.ReadingLemmas.{owner_told}
 use Rattle.tacho_reading.proofs.reading.who_in.Goals as goal
 

@@ -1,6 +1,6 @@
 use Rattle.std.proofs.Common.{sym, ap, ◌∙◌}
 use Rattle.std.specs.Option.{option_copied}
-use Rattle.tacho_reading.proofs.RangeLemmas.{in_range}
+use Rattle.tacho_reading.proofs.ExtentLemmas.{in_range}
 use Rattle.tacho_reading.proofs.spans.range_of.Goals as goal
 
 pub returns-in-Some-Some : goal.returns-in-Some-Some

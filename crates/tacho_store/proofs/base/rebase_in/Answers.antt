@@ -1,6 +1,6 @@
 use Rattle.std.proofs.Common.{rules, ◌∙◌, sym}
 use Rattle.tacho_reading.proofs.MappedLemmas.{on_ok_mapped, answers_mapped}
-use Rattle.tacho_reading.proofs.FoundLemmas.{the_driver, unknown_refuses, handed_on}
+use Rattle.tacho_reading.proofs.LookUpLemmas.{the_driver, unknown_refuses, handed_on}
 use Rattle.tacho_reading.proofs.SeenLemmas.{still_seen}
 use Rattle.tacho_store.proofs.StepsLemmas.{steps_by, follows_then}
 use Rattle.tacho_store.proofs.BaseLemmas.{no_driver, no_monday, is_set, day_set}

@@ -4,7 +4,7 @@ use Rattle.sqlite.specs.Effect.{Database}
 use Rattle.sqlite.proofs.Callers.{unchanged_then}
 use Rattle.tacho_state.specs.Batch.{batch_of}
 use Rattle.tacho_reading.proofs.SeenLemmas.{still_seen}
-use Rattle.tacho_reading.proofs.FoundLemmas.{the_driver, unknown_refuses, handed_on}
+use Rattle.tacho_reading.proofs.LookUpLemmas.{the_driver, unknown_refuses, handed_on}
 use Rattle.tacho_store.proofs.StepsLemmas.{steps_then}
 use Rattle.tacho_store.proofs.EnteringLemmas.{lines_counted, nobody_enters, enters, handed_refusal, still_numbered}
 use Rattle.tacho_store.proofs.entering.enter_in.Goals as goal

@@ -2,10 +2,10 @@ use Rattle.std.proofs.Common.{rules}
 use Rattle.tacho_state.specs.Acts.{caller_number}
 use Rattle.tacho_state.specs.Content.{part_number}
 use Rattle.tacho_state.specs.Steps.{Content}
-use Rattle.tacho_reading.proofs.FoundLemmas.{handed_on}
+use Rattle.tacho_reading.proofs.LookUpLemmas.{handed_on}
 use Rattle.tacho_store.specs.Importing.{content_told}
 use Rattle.tacho_store.proofs.StepsLemmas.{steps_then}
-use Rattle.tacho_store.proofs.ImporterLemmas.{the_importer, not_importer, imports_his}
+use Rattle.tacho_store.proofs.ImportDriverLemmas.{the_importer, not_importer, imports_his}
 use Rattle.tacho_store.proofs.import.import_in.Goals as goal
 
 pub returns-in_err-importer-clause-steps : goal.returns-in_err-importer-clause-steps

@@ -3,7 +3,7 @@ use Rattle.sqlite.specs.Effect.{Database}
 use Rattle.sqlite.specs.Held.{state}
 use Rattle.tacho_reading.proofs.MappedLemmas.{was_ok}
 use Rattle.tacho_reading.proofs.SeenLemmas.{still_seen}
-use Rattle.tacho_reading.proofs.RangedLemmas.{AreRead}
+use Rattle.tacho_reading.proofs.LineWithinLemmas.{AreRead}
 use Rattle.tacho_store.proofs.DecisionLemmas.{decided}
 use Rattle.tacho_store.proofs.import.news_near.Goals as goal
 

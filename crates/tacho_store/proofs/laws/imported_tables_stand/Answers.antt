@@ -1,4 +1,4 @@
-use Rattle.tacho_store.proofs.ImportLemmas.{imported_is}
+use Rattle.tacho_store.proofs.ImportTablesLemmas.{imported_is}
 use Rattle.tacho_store.proofs.laws.imported_tables_stand.Goals as goal
 
 pub returns : goal.returns

@@ -1,4 +1,4 @@
-use Rattle.tacho_store.proofs.RegisterLemmas.{rebased_is}
+use Rattle.tacho_store.proofs.RegistrationTablesLemmas.{rebased_is}
 use Rattle.tacho_store.proofs.laws.rebased_tables_stand.Goals as goal
 
 pub returns : goal.returns

@@ -1,4 +1,4 @@
-use Rattle.tacho_store.proofs.RegisterLemmas.{registered_is}
+use Rattle.tacho_store.proofs.RegistrationTablesLemmas.{registered_is}
 use Rattle.tacho_store.proofs.laws.registered_tables_stand.Goals as goal
 
 pub returns : goal.returns

@@ -1,6 +1,6 @@
 use Rattle.std.proofs.Common.{rules, ◌∙◌, sym}
 use Rattle.tacho_reading.proofs.MappedLemmas.{was_ok}
-use Rattle.tacho_reading.proofs.FoundLemmas.{number_found, key_found, holder_found, not_found}
+use Rattle.tacho_reading.proofs.LookUpLemmas.{number_found, key_found, holder_found, not_found}
 use Rattle.tacho_reading.proofs.SeenLemmas.{still_seen}
 use Rattle.tacho_store.specs.Registering.{IsAskedFree}
 use Rattle.tacho_store.proofs.RegistrationLemmas.{number_taken, key_taken, holder_taken}

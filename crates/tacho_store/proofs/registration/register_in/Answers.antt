@@ -1,6 +1,6 @@
 use Rattle.std.proofs.Common.{rules, ◌∙◌, sym}
 use Rattle.tacho_reading.proofs.MappedLemmas.{on_ok_mapped, answers_mapped}
-use Rattle.tacho_reading.proofs.FoundLemmas.{handed_on}
+use Rattle.tacho_reading.proofs.LookUpLemmas.{handed_on}
 use Rattle.tacho_reading.proofs.SeenLemmas.{still_seen}
 use Rattle.tacho_store.proofs.StepsLemmas.{steps_by, follows_then}
 use Rattle.tacho_store.proofs.RegistrationLemmas.{all_free, not_free, no_monday, goes_in, row_added}

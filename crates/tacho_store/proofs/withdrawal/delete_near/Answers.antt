@@ -2,7 +2,7 @@ use Rattle.std.proofs.Common.{rules, ◌∙◌, ap, sym, subst}
 use Rattle.std.proofs.lemmas.Result.{on_ok_weaker}
 use Rattle.sqlite.specs.Effect.{Database}
 use Rattle.sqlite.specs.Held.{state}
-use Rattle.tacho_tables.specs.Tables.{Stand}
+use Rattle.tacho_tables.specs.Tables.{HasTables}
 use Rattle.tacho_reading.proofs.ApartLemmas.{left_begun}
 use Rattle.tacho_store.proofs.withdrawal.delete_near.Goals as goal
 
@@ -22,7 +22,7 @@ returns g c = record {
       let left = left_begun c.args.driver c.args.start c.args.past t.held apart c.in_ok-before.before
       (c.in_ok-before.ensures.found clean_1 schema t stand) in
       on_ok_weaker c.delete_begun.result (λ turned.
-      subst (λ rows. Stand now.now.trees (record t { held = rows })) left
-      (rw c.first_start.ensures at (turned.stands t (subst (λ (d : Database). Stand d.trees t) (sym same.0.now_is) stand))))
+      subst (λ rows. HasTables now.now.trees (record t { held = rows })) left
+      (rw c.first_start.ensures at (turned.stands t (subst (λ (d : Database). HasTables d.trees t) (sym same.0.now_is) stand))))
       (c.delete_begun.ensures.turned clean schema_2);
 }

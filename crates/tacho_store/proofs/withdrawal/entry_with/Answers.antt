@@ -1,7 +1,7 @@
 use Rattle.std.proofs.Common.{rules}
 use Rattle.tacho_reading.proofs.MappedLemmas.{was_ok}
 use Rattle.tacho_reading.proofs.SeenLemmas.{still_seen}
-use Rattle.tacho_reading.proofs.FoundLemmas.{the_driver, unknown_refuses}
+use Rattle.tacho_reading.proofs.LookUpLemmas.{the_driver, unknown_refuses}
 use Rattle.tacho_store.proofs.WithdrawalLemmas.{no_driver, entry_found, unknown_entry, some_entry, entry_gone, entry_kept, handed_entry}
 use Rattle.tacho_store.proofs.withdrawal.entry_with.Goals as goal
 

@@ -4,7 +4,7 @@ use Rattle.sqlite.specs.Held.{state}
 use Rattle.tacho_tables.proofs.CallLemmas.{stays_then}
 use Rattle.sqlite.proofs.InsideLemmas.{keeps_then}
 use Rattle.tacho_reading.proofs.MappedLemmas.{on_ok_mapped, on_ok_both, answers_mapped}
-use Rattle.tacho_reading.proofs.FoundLemmas.{handed_on}
+use Rattle.tacho_reading.proofs.LookUpLemmas.{handed_on}
 use Rattle.tacho_reading.proofs.SeenLemmas.{still_seen}
 use Rattle.tacho_store.proofs.StepsLemmas.{steps_by, follows_then}
 use Rattle.tacho_store.proofs.WithdrawalLemmas.{not_entry, entry_marked, withdrawal_follows}

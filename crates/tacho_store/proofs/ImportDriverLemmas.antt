@@ -8,7 +8,7 @@ use Rattle.tacho_state.specs.State.{Driver, State, driver_of, holding}
 use Rattle.tacho_state.specs.Steps.{Content, Turn, own_turn, settled, refused, import_own, import_his, imported}
 use Rattle.tacho_tables.specs.declared.rows.StoredDriver.{StoredDriver}
 use Rattle.tacho_reading.specs.Finding.{Refuses, IsStored, IsDriver}
-use Rattle.tacho_reading.proofs.FoundLemmas.{IsNumberOf, unknown_refuses}
+use Rattle.tacho_reading.proofs.LookUpLemmas.{IsNumberOf, unknown_refuses}
 use Rattle.tacho_store.specs.Importing.{known, with_card, importer, IsImporterOf, IsImporter}
 use Rattle.tacho_store.specs.declared.import.Importer.{Importer}
 

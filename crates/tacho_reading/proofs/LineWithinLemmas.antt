@@ -15,7 +15,7 @@ use Rattle.tacho_state.proofs.GainLemmas.{kept_line, line_kept}
 use Rattle.tacho_state.proofs.MapLemmas.{held_map}
 use Rattle.tacho_tables.specs.declared.rows.StoredSpan.{StoredSpan}
 use Rattle.tacho_tables.specs.Rows.{SpanRow}
-use Rattle.tacho_tables.specs.Tables.{Tables, Stand}
+use Rattle.tacho_tables.specs.Tables.{Tables, HasTables}
 use Rattle.tacho_reading.specs.Standing.{StandsFor, spans_of, stored_span, IsReadNear}
 use Rattle.tacho_reading.proofs.ApartLemmas.{held_apart}
 use Rattle.tacho_reading.proofs.NearRowLemmas.{held_kept, read_line}
@@ -24,7 +24,7 @@ use Rattle.tacho_reading.specs.Apart.{AreApart, rows_of}
 
 -- rows of a table that were read near a range
 abbrev pub AreRead : (Tables → List SpanRow) → Trees → ℕ → ℕ → ℕ → List StoredSpan → Type 0
-AreRead get db n a b found = (t : Tables) → Stand db t → AreApart (rows_of n (get t)) → IsReadNear (get t) n a b found
+AreRead get db n a b found = (t : Tables) → HasTables db t → AreApart (rows_of n (get t)) → IsReadNear (get t) n a b found
 
 agreed : (db : Trees) (s : State) (n : ℕ) (d : Driver) (a b : ℕ) (helds : List StoredSpan) (line : List Span) → StandsFor db s
     → driver_of n s ≡ Some d → AreRead (λ t. t.held) db n a b helds → IsCanonicalOf (Gives (map stored_span helds)) line

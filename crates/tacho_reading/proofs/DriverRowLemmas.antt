@@ -6,7 +6,7 @@ use Rattle.std.proofs.lemmas.Slice.Eq.{bytes_eq-Decides}
 use Rattle.tacho_state.specs.State.{Driver, State, driver_of, keyed, holding}
 use Rattle.tacho_tables.specs.Rows.{DriverRow}
 use Rattle.tacho_tables.specs.Tables.{Tables, has_number, has_secret, has_holder}
-use Rattle.tacho_reading.specs.Standing.{driver_columns, HasNot, HasNoKey, HasNoHolder, AreDistinct, IsOf}
+use Rattle.tacho_reading.specs.Standing.{driver_columns, HasNot, HasNoKey, HasNoHolder, AreDistinct, TablesStandFor}
 use Rattle.tacho_reading.proofs.RowLemmas.{eq_self, eq_true, eq_not}
 use Rattle.tacho_reading.proofs.StateLemmas.{found_not}
 
@@ -174,37 +174,37 @@ row_passes : (p : DriverRow → Bool) (t : Tables) (s : State) (row : DriverRow)
 row_passes p t s row h o w = row_found p s row o (subst (λ (x : List DriverRow). Contains (filter p x) row) h w)
 
 -- without a row of the number there is no such driver
-pub number_none : (t : Tables) (s : State) (n : ℕ) → IsOf t s → (filter (has_number n) t.drivers ≡ []) ↔ (driver_of n s ≡ None)
+pub number_none : (t : Tables) (s : State) (n : ℕ) → TablesStandFor t s → (filter (has_number n) t.drivers ≡ []) ↔ (driver_of n s ≡ None)
 number_none t s n h = subst (λ (x : Option Driver). (filter (has_number n) t.drivers ≡ []) ↔ (x ≡ None)) (by_number n s)
     (none_passes (has_number n) t s h.drivers)
 
 -- without a row of the key there is no such driver
-pub key_none : (t : Tables) (s : State) (key : List ℕ) → IsOf t s → (filter (has_secret key) t.drivers ≡ []) ↔ (keyed key s ≡ None)
+pub key_none : (t : Tables) (s : State) (key : List ℕ) → TablesStandFor t s → (filter (has_secret key) t.drivers ≡ []) ↔ (keyed key s ≡ None)
 key_none t s key h = subst (λ (x : Option Driver). (filter (has_secret key) t.drivers ≡ []) ↔ (x ≡ None)) (by_key key s)
     (none_passes (has_secret key) t s h.drivers)
 
 -- without a row of the holder there is no such driver
-pub holder_none : (t : Tables) (s : State) (holder : List ℕ) → IsOf t s
+pub holder_none : (t : Tables) (s : State) (holder : List ℕ) → TablesStandFor t s
     → (filter (has_holder holder) t.drivers ≡ []) ↔ (holding holder s ≡ None)
 holder_none t s holder h = subst (λ (x : Option Driver). (filter (has_holder holder) t.drivers ≡ []) ↔ (x ≡ None)) (by_holder holder s)
     (none_passes (has_holder holder) t s h.drivers)
 
 -- a row of the number is its driver's
-pub number_some : (t : Tables) (s : State) (n : ℕ) (row : DriverRow) → IsOf t s → Contains (filter (has_number n) t.drivers) row
+pub number_some : (t : Tables) (s : State) (n : ℕ) (row : DriverRow) → TablesStandFor t s → Contains (filter (has_number n) t.drivers) row
     → (d : Driver) × (driver_of n s ≡ Some d) × (row ≡ driver_columns d)
 number_some t s n row h w =
     let it = row_passes (has_number n) t s row h.drivers (once_number n s h.distinct) w in
     (it.0, sym (by_number n s) ∙ it.1, it.2)
 
 -- a row of the key is its driver's
-pub key_some : (t : Tables) (s : State) (key : List ℕ) (row : DriverRow) → IsOf t s → Contains (filter (has_secret key) t.drivers) row
+pub key_some : (t : Tables) (s : State) (key : List ℕ) (row : DriverRow) → TablesStandFor t s → Contains (filter (has_secret key) t.drivers) row
     → (d : Driver) × (keyed key s ≡ Some d) × (row ≡ driver_columns d)
 key_some t s key row h w =
     let it = row_passes (has_secret key) t s row h.drivers (once_key key s h.distinct) w in
     (it.0, sym (by_key key s) ∙ it.1, it.2)
 
 -- a row of the holder is its driver's
-pub holder_some : (t : Tables) (s : State) (holder : List ℕ) (row : DriverRow) → IsOf t s
+pub holder_some : (t : Tables) (s : State) (holder : List ℕ) (row : DriverRow) → TablesStandFor t s
     → Contains (filter (has_holder holder) t.drivers) row
     → (d : Driver) × (holding holder s ≡ Some d) × (driver_of d.number s ≡ Some d) × (row ≡ driver_columns d)
 holder_some t s holder row h w =

@@ -9,9 +9,9 @@ use Rattle.tacho_state.specs.State.{Download, Entry, Driver, State, driver_of, k
 use Rattle.tacho_tables.specs.Rows.{DriverRow}
 use Rattle.tacho_tables.specs.Tables as tables
 use Rattle.tacho_tables.specs.Tables.{Tables}
-use Rattle.tacho_reading.specs.Standing.{driver_columns, IsOfDriver, IsOfEach, HasNot, HasNoKey, HasNoHolder, AreDistinct, AreKnown, IsOf}
+use Rattle.tacho_reading.specs.Standing.{driver_columns, RowsStandFor, RowsStandForEach, HasNot, HasNoKey, HasNoHolder, AreDistinct, AreKnown, TablesStandFor}
 use Rattle.tacho_reading.proofs.RowLemmas.{eq_self, eq_not, eq_false}
-use Rattle.tacho_reading.proofs.FindLemmas.{bytes_false}
+use Rattle.tacho_reading.proofs.DriverRowLemmas.{bytes_false}
 use Rattle.tacho_reading.proofs.StateLemmas.{SameOfDriver, found_number, found_of, put_is, rows_put}
 use Rattle.tacho_store.specs.After.{with_driver, with_rebased}
 
@@ -75,8 +75,8 @@ distinct_added (x ∷ s) d n k o h = (
 )
 
 -- the tables stand for the others, who have the rows that they had, and for the new one
-each_added : (t : Tables) (row : DriverRow) (s : State) (d : Driver) → IsOfEach t s → IsOfDriver (with_driver row t) d
-    → IsOfEach (with_driver row t) (s ++ d ∷ [])
+each_added : (t : Tables) (row : DriverRow) (s : State) (d : Driver) → RowsStandForEach t s → RowsStandFor (with_driver row t) d
+    → RowsStandForEach (with_driver row t) (s ++ d ∷ [])
 each_added t row [] d h own = (own, tt)
 each_added t row (x ∷ s) d h own = (record { downloads = h.0.downloads; read = h.0.read; entries = h.0.entries; full = h.0.full; card_spans = h.0.card_spans; held = h.0.held }, each_added t row s d h.1 own)
 
@@ -87,11 +87,11 @@ nothing_kept = record { disjoint = tt; same = λ m k. (λ g. g, λ g. g) }
 -- a driver without downloads and entries needs no rows
 new_is : (t : Tables) (s : State) (d : Driver) (downloads : List Download) (entries : List Entry) → downloads ≡ [] → entries ≡ []
     → AreKnown t s → HasNot d.number s
-    → IsOfDriver (with_driver (driver_columns d) t) (record d { downloads = downloads; entries = entries })
+    → RowsStandFor (with_driver (driver_columns d) t) (record d { downloads = downloads; entries = entries })
 new_is t s d downloads entries none empty known free =
-    subst (λ (ds : List Download). IsOfDriver (with_driver (driver_columns d) t) (record d { downloads = ds; entries = entries }))
+    subst (λ (ds : List Download). RowsStandFor (with_driver (driver_columns d) t) (record d { downloads = ds; entries = entries }))
     (sym none)
-    (subst (λ (es : List Entry). IsOfDriver (with_driver (driver_columns d) t) (record d { downloads = []; entries = es })) (sym empty)
+    (subst (λ (es : List Entry). RowsStandFor (with_driver (driver_columns d) t) (record d { downloads = []; entries = es })) (sym empty)
     (record {
       downloads = known.downloads d.number free;
       read = tt;
@@ -102,9 +102,9 @@ new_is t s d downloads entries none empty known free =
     }))
 
 -- the tables with a new driver's row stand for the state with him
-pub registered_is : (t : Tables) (s : State) (d : Driver) → IsOf t s → driver_of d.number s ≡ None → keyed d.key s ≡ None
+pub registered_is : (t : Tables) (s : State) (d : Driver) → TablesStandFor t s → driver_of d.number s ≡ None → keyed d.key s ≡ None
     → holding d.holder s ≡ None
-    → d.downloads ≡ [] → d.entries ≡ [] → IsOf (with_driver (driver_columns d) t) (s ++ d ∷ [])
+    → d.downloads ≡ [] → d.entries ≡ [] → TablesStandFor (with_driver (driver_columns d) t) (s ++ d ∷ [])
 registered_is t s d h n k o none empty =
     let free = number_not d.number s n in
     record {
@@ -135,8 +135,8 @@ based_same : (t : Tables) (n base j : ℕ) → SameOfDriver j t (with_rebased n 
 based_same t n base j = record { downloads = refl; entries = refl; card_spans = refl; held = refl }
 
 -- the tables with another day in the driver's row stand for the state with it
-pub rebased_is : (t : Tables) (s : State) (n base : ℕ) (d : Driver) → IsOf t s → driver_of n s ≡ Some d
-    → IsOf (with_rebased n base t) (put (with_base base d) s)
+pub rebased_is : (t : Tables) (s : State) (n base : ℕ) (d : Driver) → TablesStandFor t s → driver_of n s ≡ Some d
+    → TablesStandFor (with_rebased n base t) (put (with_base base d) s)
 rebased_is t s n base d h k =
     let same = found_number n s d k in
     let own = found_of t n s d k h.each in

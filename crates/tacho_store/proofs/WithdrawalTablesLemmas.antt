@@ -20,7 +20,7 @@ use Rattle.tacho_state.proofs.WithdrawLemmas.{withdrawn_held}
 use Rattle.tacho_tables.specs.declared.rows.StoredSpan.{StoredSpan}
 use Rattle.tacho_tables.specs.Rows.{DriverRow, EntryRow, SpanRow}
 use Rattle.tacho_tables.specs.Tables.{Tables, is_near, is_kept_near, span_of, entry_span_of, with_withdrawn}
-use Rattle.tacho_reading.specs.Standing.{IsMark, activity_number, numbered_mark, driver_columns, entry_row, entry_rows, entries_of, row_span, span_row, spans_of, stored_span, IsReadNear, IsKeptNear, IsOfDriver, IsOf}
+use Rattle.tacho_reading.specs.Standing.{IsMark, activity_number, numbered_mark, driver_columns, entry_row, entry_rows, entries_of, row_span, span_row, spans_of, stored_span, IsReadNear, IsKeptNear, RowsStandFor, TablesStandFor}
 use Rattle.tacho_reading.proofs.RowLemmas.{eq_self, eq_not, eq_true, added_own, added_other, added_marks, near_spans}
 use Rattle.tacho_reading.proofs.NearRowLemmas.{permuted_gives}
 use Rattle.tacho_reading.proofs.StateLemmas.{SameOfDriver, found_number, found_of, put_is, rows_put}
@@ -301,8 +301,8 @@ pub record IsRenewed (t : Tables) (n number : ℕ) (e : Entry) (cards others hel
 
 -- the tables stand for the driver whose entry is withdrawn
 withdrawn_own : (t : Tables) (d : Driver) (number : ℕ) (e : Entry) (cards others helds : List StoredSpan) (inside : List Span)
-    → IsOfDriver t d → entry_from 1 number d.entries ≡ Some e → IsRenewed t d.number number e cards others helds inside
-    → IsOfDriver (with_renewed d.number number e.start e.past (outside e.start e.past (map stored_span helds) ++ inside) t)
+    → RowsStandFor t d → entry_from 1 number d.entries ≡ Some e → IsRenewed t d.number number e cards others helds inside
+    → RowsStandFor (with_renewed d.number number e.start e.past (outside e.start e.past (map stored_span helds) ++ inside) t)
     (with_marked number d)
 withdrawn_own t d number e cards others helds inside h f r = record {
   downloads = h.downloads;
@@ -351,9 +351,9 @@ withdrawn_other t n number a b spans j d = record {
 
 -- the tables stand for the state after a withdrawal by the driver's own number
 withdrawn_at : (t : Tables) (s : State) (d : Driver) (number : ℕ) (e : Entry) (cards others helds : List StoredSpan)
-    (inside : List Span) → IsOf t s → driver_of d.number s ≡ Some d → entry_from 1 number d.entries ≡ Some e
+    (inside : List Span) → TablesStandFor t s → driver_of d.number s ≡ Some d → entry_from 1 number d.entries ≡ Some e
     → IsRenewed t d.number number e cards others helds inside
-    → IsOf (with_renewed d.number number e.start e.past (outside e.start e.past (map stored_span helds) ++ inside) t)
+    → TablesStandFor (with_renewed d.number number e.start e.past (outside e.start e.past (map stored_span helds) ++ inside) t)
     (put (with_marked number d) s)
 withdrawn_at t s d number e cards others helds inside h k f r =
     let n = d.number in
@@ -374,16 +374,16 @@ withdrawn_at t s d number e cards others helds inside h k f r =
 
 -- the tables after a withdrawal stand for the state after it
 pub withdrawn_is : (t : Tables) (s : State) (n : ℕ) (d : Driver) (number : ℕ) (e : Entry) (cards others helds : List StoredSpan)
-    (inside : List Span) → IsOf t s → driver_of n s ≡ Some d → entry_from 1 number d.entries ≡ Some e
+    (inside : List Span) → TablesStandFor t s → driver_of n s ≡ Some d → entry_from 1 number d.entries ≡ Some e
     → IsReadNear t.card_spans n e.start e.past cards
     → IsKeptNear (map (with_withdrawn n number) t.entries) n e.start e.past others
     → IsReadNear t.held n e.start e.past helds
     → IsCanonicalOf (λ m k. IsWithin e.start e.past m × Gives (map stored_span cards ++ map stored_span others) m k) inside
-    → IsOf (with_renewed n number e.start e.past (outside e.start e.past (map stored_span helds) ++ inside) t)
+    → TablesStandFor (with_renewed n number e.start e.past (outside e.start e.past (map stored_span helds) ++ inside) t)
     (put (with_marked number d) s)
 withdrawn_is t s n d number e cards others helds inside h k f c o r i =
     subst (λ (j : ℕ). driver_of j s ≡ Some d → IsRenewed t j number e cards others helds inside
-    → IsOf (with_renewed j number e.start e.past (outside e.start e.past (map stored_span helds) ++ inside) t)
+    → TablesStandFor (with_renewed j number e.start e.past (outside e.start e.past (map stored_span helds) ++ inside) t)
     (put (with_marked number d) s))
     (found_number n s d k) (λ k r. withdrawn_at t s d number e cards others helds inside h k f r) k
     (record { cards_near = c; others_near = o; helds_near = r; is_inside = i })

@@ -8,10 +8,10 @@ use Rattle.tacho_state.specs.Acts.{Answers}
 use Rattle.tacho_state.specs.State.{Driver, State, driver_of, keyed, holding}
 use Rattle.tacho_tables.specs.declared.rows.StoredDriver.{StoredDriver}
 use Rattle.tacho_tables.specs.Rows.{DriverRow}
-use Rattle.tacho_tables.specs.Tables.{Tables, Stand, has_number, has_secret, has_holder}
+use Rattle.tacho_tables.specs.Tables.{Tables, HasTables, has_number, has_secret, has_holder}
 use Rattle.tacho_reading.specs.Standing.{StandsFor}
 use Rattle.tacho_reading.specs.Finding.{Refuses, IsStored, IsDriver}
-use Rattle.tacho_reading.proofs.FindLemmas.{number_none, number_some, key_none, key_some, holder_none, holder_some}
+use Rattle.tacho_reading.proofs.DriverRowLemmas.{number_none, number_some, key_none, key_some, holder_none, holder_some}
 
 -- the number is the driver's, and finds him
 pub record IsNumberOf (s : State) (n : ℕ) (d : Driver) : Type 0 where
@@ -20,7 +20,7 @@ pub record IsNumberOf (s : State) (n : ℕ) (d : Driver) : Type 0 where
 
 -- a look-up by number finds the driver
 pub number_found : (db : Trees) (s : State) (n : ℕ) (found : Option StoredDriver) → StandsFor db s
-    → ((a : Tables) → Stand db a → MatchOption found (filter (has_number n) a.drivers ≡ [])
+    → ((a : Tables) → HasTables db a → MatchOption found (filter (has_number n) a.drivers ≡ [])
     (λ it. (r : DriverRow) × Contains (filter (has_number n) a.drivers) r × (it.holder.items ≡ r.holder) × (it.base ≡ r.base)
     × (string_bytes it.name ≡ r.name) × (it.downloads ≡ r.downloads) × (it.entries ≡ r.entries)))
     → MatchOption found (driver_of n s ≡ None) (λ it. (d : Driver) × (driver_of n s ≡ Some d) × IsStored it d)
@@ -43,7 +43,7 @@ number_found db s n (Some it) (t, stand, is) h =
 
 -- a look-up by key finds his number
 pub key_found : (db : Trees) (s : State) (key : List ℕ) (found : Option ℕ) → StandsFor db s
-    → ((a : Tables) → Stand db a → MatchOption found (filter (has_secret key) a.drivers ≡ [])
+    → ((a : Tables) → HasTables db a → MatchOption found (filter (has_secret key) a.drivers ≡ [])
     (λ n. (r : DriverRow) × Contains (filter (has_secret key) a.drivers) r × (n ≡ r.driver)))
     → MatchOption found (keyed key s ≡ None) (λ n. (d : Driver) × (keyed key s ≡ Some d) × (n ≡ d.number))
 unfolding StandsFor
@@ -55,7 +55,7 @@ key_found db s key (Some n) (t, stand, is) h =
 
 -- a look-up by holder finds his number
 pub holder_found : (db : Trees) (s : State) (holder : List ℕ) (found : Option ℕ) → StandsFor db s
-    → ((a : Tables) → Stand db a → MatchOption found (filter (has_holder holder) a.drivers ≡ [])
+    → ((a : Tables) → HasTables db a → MatchOption found (filter (has_holder holder) a.drivers ≡ [])
     (λ n. (r : DriverRow) × Contains (filter (has_holder holder) a.drivers) r × (n ≡ r.driver)))
     → MatchOption found (holding holder s ≡ None) (λ n. (d : Driver) × (holding holder s ≡ Some d) × IsNumberOf s n d)
 unfolding StandsFor

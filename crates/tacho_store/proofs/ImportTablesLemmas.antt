@@ -11,7 +11,7 @@ use Rattle.tacho_state.specs.Steps.{Content}
 use Rattle.tacho_state.proofs.GainLemmas.{download_kept}
 use Rattle.tacho_tables.specs.Rows.{DriverRow, DownloadRow}
 use Rattle.tacho_tables.specs.Tables.{Tables, with_downloads}
-use Rattle.tacho_reading.specs.Standing.{driver_columns, spans_of, AreRead, IsOfDriver, IsOf}
+use Rattle.tacho_reading.specs.Standing.{driver_columns, spans_of, AreRead, RowsStandFor, TablesStandFor}
 use Rattle.tacho_reading.proofs.RowLemmas.{eq_self, eq_not, added_own, added_other, added_marks}
 use Rattle.tacho_reading.proofs.DownloadLemmas.{download_row, rows_append, own_added, other_added, one_more}
 use Rattle.tacho_reading.proofs.StateLemmas.{SameOfDriver, found_number, found_of, put_is, rows_put}
@@ -32,9 +32,9 @@ pub record AreGained (t : Tables) (n a b : ℕ) (spans card_line line card_gains
 
 -- the tables stand for the driver with the download
 imported_own : (t : Tables) (d : Driver) (part : Part) (file : List ℕ) (content : Content) (card_line line card_gains gains : List Span)
-    (a b : ℕ) → IsOfDriver t d → FileTells part file (Ok content) → AreInRange a b content.spans
+    (a b : ℕ) → RowsStandFor t d → FileTells part file (Ok content) → AreInRange a b content.spans
     → AreGained t d.number a b content.spans card_line line card_gains gains
-    → IsOfDriver (with_imported d.number (1 + length d.downloads) (part_number part) file card_gains gains t)
+    → RowsStandFor (with_imported d.number (1 + length d.downloads) (part_number part) file card_gains gains t)
     (with_download (part_number part) file content.spans d)
 imported_own t d part file content card_line line card_gains gains a b h tells r g =
     record {
@@ -80,9 +80,9 @@ counted_other n count r d = ap (λ b. cond b (record r { downloads = count }) r)
 
 -- the tables stand for the state after an import by the driver's own number
 imported_at : (t : Tables) (s : State) (d : Driver) (part : Part) (file : List ℕ) (content : Content)
-    (card_line line card_gains gains : List Span) (a b : ℕ) → IsOf t s → driver_of d.number s ≡ Some d
+    (card_line line card_gains gains : List Span) (a b : ℕ) → TablesStandFor t s → driver_of d.number s ≡ Some d
     → FileTells part file (Ok content) → AreInRange a b content.spans → AreGained t d.number a b content.spans card_line line card_gains gains
-    → IsOf (with_imported d.number (1 + length d.downloads) (part_number part) file card_gains gains t)
+    → TablesStandFor (with_imported d.number (1 + length d.downloads) (part_number part) file card_gains gains t)
     (put (with_download (part_number part) file content.spans d) s)
 imported_at t s d part file content card_line line card_gains gains a b h k tells r g =
     let n = d.number in
@@ -104,15 +104,15 @@ imported_at t s d part file content card_line line card_gains gains a b h k tell
 
 -- the tables after an import stand for the state after it
 pub imported_is : (t : Tables) (s : State) (n : ℕ) (d : Driver) (part : Part) (file : List ℕ) (content : Content)
-    (card_line line card_gains gains : List Span) (a b : ℕ) → IsOf t s → driver_of n s ≡ Some d
+    (card_line line card_gains gains : List Span) (a b : ℕ) → TablesStandFor t s → driver_of n s ≡ Some d
     → FileTells part file (Ok content) → AreInRange a b content.spans
     → IsCanonicalOf (Gives (near a b (spans_of n t.card_spans))) card_line → AreGains card_line content.spans card_gains
     → IsCanonicalOf (Gives (near a b (spans_of n t.held))) line → AreGains line content.spans gains
-    → IsOf (with_imported n (1 + length d.downloads) (part_number part) file card_gains gains t)
+    → TablesStandFor (with_imported n (1 + length d.downloads) (part_number part) file card_gains gains t)
     (put (with_download (part_number part) file content.spans d) s)
 imported_is t s n d part file content card_line line card_gains gains a b h k tells r cl cg l g =
     subst (λ (j : ℕ). driver_of j s ≡ Some d → AreGained t j a b content.spans card_line line card_gains gains
-    → IsOf (with_imported j (1 + length d.downloads) (part_number part) file card_gains gains t)
+    → TablesStandFor (with_imported j (1 + length d.downloads) (part_number part) file card_gains gains t)
     (put (with_download (part_number part) file content.spans d) s)) (found_number n s d k)
     (λ k g. imported_at t s d part file content card_line line card_gains gains a b h k tells r g) k
     (record { card_near = cl; card_gained = cg; held_near = l; held_gained = g })
