@@ -13,7 +13,6 @@ ghost use Rattle.tacho_tables.specs.Rows.{DriverRow, DownloadRow, EntryRow, Span
 ghost use Rattle.tacho_tables.specs.Tables.{Tables, HasTables, has_number, has_secret, has_holder, is_download, is_entry, is_entry_of};
 ghost use Rattle.tacho_reading.specs.Standing.{TablesStandFor, SameRows, spans_of, driver_columns, entry_row, entry_rows, stored_span, IsReadNear};
 
-
 /// What is stored stands for lists of rows in any order.
 pub fn any_order()
     ensures { (db : Trees) (t u : Tables) → SameRows t u → HasTables db t → HasTables db u }

@@ -1,5 +1,5 @@
-//! The rows of a driver near a range: those that have a minute in it, each whole. No row's minutes are another
-//! one's, so that at most one of them begins before the range, and the others are found by where they begin.
+//! The rows of a driver near a range: those that have a minute in it, each whole. No row's minutes are another one's,
+//! so that at most one of them begins before the range, and the others are found by where they begin.
 
 ghost use Rattle.std.specs.Prelude.{◌≡◌};
 ghost use Rattle.tacho_tables.specs.Calls.{Finds};
@@ -34,5 +34,12 @@ pub fn rows_near<S: Alter>(
         → IsReadNear (spans_in table t) driver start past found.items) }
 {
     let before = spans::last_before(tx, table, driver, start)?;
-    spans::begun(alloc, tx, table, driver, first_start(before, start, past), past)
+    spans::begun(
+        alloc,
+        tx,
+        table,
+        driver,
+        first_start(before, start, past),
+        past,
+    )
 }

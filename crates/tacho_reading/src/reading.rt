@@ -147,7 +147,15 @@ fn line_within_in<S: Alter>(
         (λ _ s. Answers (λ _. tt) result (reported driver s) × IfOk result (IsHeldWithin driver start past s)) }
 {
     driver_with(tx, driver)?;
-    let rows = rows_near(alloc, tx, SpanTable::Held, driver, start.number(), past.number()).map_err(store_fault)?;
+    let rows = rows_near(
+        alloc,
+        tx,
+        SpanTable::Held,
+        driver,
+        start.number(),
+        past.number(),
+    )
+    .map_err(store_fault)?;
     line_of_stored(alloc, &rows)
 }
 
@@ -215,8 +223,7 @@ pub struct Beginning {
 }
 
 /// Where a reading for a driver's report begins, within a transaction: S4. S12 where his base is no Monday from
-/// 2000-01-03 to
-/// the end of 2099: no archive has such a base.
+/// 2000-01-03 to the end of 2099: no archive has such a base.
 fn begin_in<S: Alter>(tx: &mut Transaction<'_, S>, driver: u32) -> Result<Beginning, StoreFault>
     ensures base { IfOk result (λ begin. IsBase begin.base × (begin.base ≤ latest)) }
     ensures begun { Tells S.Store tx.old.conn tx.new.conn result

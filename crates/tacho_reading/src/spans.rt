@@ -111,8 +111,7 @@ pub fn fault_of_rows(fault: SpanFault) -> StoreFault
 }
 
 /// The line of stored rows, in any order; a row that no archive writes (a minute past 68,428,800, a mark over 7), or
-/// two that
-/// contradict, is a fault of the store.
+/// two that contradict, is a fault of the store.
 pub fn line_of_stored(alloc: Global, rows: &[StoredSpan]) -> Result<Line, StoreFault>
     ensures line { IfOk result (λ line. IsCanonicalOf (Gives (map stored_span rows.now)) line) }
     ensures fault { IfErr result (λ fault. OrMemory StoreFault.Memory fault (fault ≡ StoreFault.Store)) }

@@ -97,9 +97,8 @@ impl<S: Alter> Archive<S> {
     ghost use Rattle.tacho_reading.specs.Kept.{IsBlank, SeesWhileOpen, LeavesOneOf, IsGivenUp};
     ghost use Rattle.tacho_store.specs.Opening.{IsUnmade, IsEmptyArchive, IsAdopted, IsLeftAlone};
 
-    /// An archive of no drivers in a store without tables, made in one transaction. S12 where the store has tables.
-    /// A refusal
-    /// hands the connection back, with the store as it was.
+    /// An archive of no drivers in a store without tables, made in one transaction. S12 where the store has tables. A
+    /// refusal hands the connection back, with the store as it was.
     pub fn create(mut conn: Connection<S>) -> Result<Archive<S>, (StoreFault, Connection<S>)>
         requires { conn.in_transaction ≡ false }
         ensures created { IfOk result (λ archive. ⟦<Archive<S> as Keeper>⟧.is_clean archive
@@ -117,8 +116,7 @@ impl<S: Alter> Archive<S> {
     }
 
     /// The archive that a store has. S12 where the store has no tables, or tables of another schema. A refusal hands
-    /// the
-    /// connection back, with an archive's tables of whatever version, or the store without tables, as they were.
+    /// the connection back, with an archive's tables of whatever version, or the store without tables, as they were.
     pub fn adopt(mut conn: Connection<S>) -> Result<Archive<S>, (StoreFault, Connection<S>)>
         requires { conn.in_transaction ≡ false }
         ensures adopted { IfOk result (λ archive. ⟦<Archive<S> as Keeper>⟧.is_clean archive

@@ -77,9 +77,8 @@ fn gains_near<S: Alter>(
     gains_of(alloc, &line, spans)
 }
 
-/// Writes a batch: how many entries the driver has then, the rows of its lines, numbered from `first` on, and the
-/// rows of what he
-/// holds more.
+/// Writes a batch: how many entries the driver has then, the rows of its lines, numbered from `first` on, and the rows
+/// of what he holds more.
 fn write_batch<S: Alter>(
     tx: &mut Transaction<'_, S>,
     driver: u32,

@@ -101,7 +101,9 @@ fn news_near<S: Alter>(
         → AreDecided db s driver d spans.now result) }
 {
     let (start, past) = range_of(spans);
-    let cards = rows_near(alloc, tx, SpanTable::CardSpans, driver, start, past).map_err(store_fault)?;
+    let cards = rows_near(alloc, tx, SpanTable::CardSpans, driver, start, past).map_err(
+        store_fault,
+    )?;
     let helds = rows_near(alloc, tx, SpanTable::Held, driver, start, past).map_err(store_fault)?;
     let card_line = line_of_stored(alloc, &cards)?;
     let line = line_of_stored(alloc, &helds)?;

@@ -1,5 +1,5 @@
-//! Laws about what the archive's tables stand for after a command. A law is a function without a body: what it ensures is
-//! proved, and holds for all that it names.
+//! Laws about what the archive's tables stand for after a command. A law is a function without a body: what it ensures
+//! is proved, and holds for all that it names.
 
 ghost use Rattle.std.specs.Prelude.{◌≡◌, ℕ, ◌+◌, ◌++◌, List, [], ◌∷◌, None, Some, Ok, length, map};
 ghost use Rattle.sqlite.specs.Held.{state};
@@ -24,7 +24,11 @@ use tacho_state::Keeper;
 
 /// What a stop leaves is found again: an archive that is adopted where these trees are found stands for one of the
 /// states that the stop could leave.
-pub fn a_stop_is_found_again<S: Alter>(left: &Connection<S>, found: &Connection<S>, archive: &Archive<S>)
+pub fn a_stop_is_found_again<S: Alter>(
+    left: &Connection<S>,
+    found: &Connection<S>,
+    archive: &Archive<S>,
+)
     ensures { (states : List State) → LeavesOneOf (state S.Store left.now) states
         → (state S.Store left.now).may_leave (state S.Store found.now).now.trees
         → IsAdopted ⟦<Archive<S> as Keeper>⟧.stands ⟦<Archive<S> as Keeper>⟧.is_live
@@ -50,8 +54,8 @@ pub fn rebased_tables_stand()
         → TablesStandFor (with_rebased n base t) (put (with_base base d) s) }
 {}
 
-/// An import, on the tables: the gains against card spans near the file's spans and those against held rows near
-/// them are added.
+/// An import, on the tables: the gains against card spans near the file's spans and those against held rows near them
+/// are added.
 pub fn imported_tables_stand()
     ensures { (t : Tables)
         (s : State) (n : ℕ) (d : Driver) (part : PartValue) (file : List ℕ) (content : Content) (card_line line card_gains gains : List Span) (start past : ℕ)
@@ -72,8 +76,7 @@ pub fn entered_tables_stand()
 {}
 
 /// A withdrawal, on the tables: the entry's row is marked; of the driver's held rows those near the entry go, and
-/// their parts outside
-/// it come, with what card spans and the other entries near it give inside it.
+/// their parts outside it come, with what card spans and the other entries near it give inside it.
 pub fn withdrawn_tables_stand()
     ensures { (t : Tables)
         (s : State) (n : ℕ) (d : Driver) (number : ℕ) (e : Entry) (cards others helds : List StoredValue) (inside : List Span)

@@ -59,8 +59,7 @@ fn parts_outside(
     Ok(outside_of(alloc, &spans, start, past)?)
 }
 
-/// What stored rows of cards and of entries give in a range; two that contradict are a fault of
-/// the store.
+/// What stored rows of cards and of entries give in a range; two that contradict are a fault of the store.
 fn given_inside(
     alloc: Global,
     cards: &[StoredSpan],
@@ -81,8 +80,8 @@ fn given_inside(
     }
 }
 
-/// The rows that come where an entry was, by the rows near it: parts of held rows outside it, and
-/// inside it what cards and other entries give.
+/// The rows that come where an entry was, by the rows near it: parts of held rows outside it, and inside it what cards
+/// and other entries give.
 fn rows_for(
     alloc: Global,
     cards: &[StoredSpan],
@@ -126,7 +125,9 @@ fn mark<S: Alter>(
     ensures fault { IfErr result (λ fault. OrMemory StoreFault.Memory fault (fault ≡ StoreFault.Store)) }
 {
     entries::withdraw(tx, driver, number).map_err(store_fault)?;
-    let cards = rows_near(alloc, tx, SpanTable::CardSpans, driver, start, past).map_err(store_fault)?;
+    let cards = rows_near(alloc, tx, SpanTable::CardSpans, driver, start, past).map_err(
+        store_fault,
+    )?;
     let others = entries::kept_near(alloc, tx, driver, start, past).map_err(store_fault)?;
     let helds = rows_near(alloc, tx, SpanTable::Held, driver, start, past).map_err(store_fault)?;
     rows_for(alloc, &cards, &others, &helds, start, past)

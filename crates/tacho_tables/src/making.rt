@@ -87,8 +87,8 @@ pub fn make_all<S: Alter>(tx: &mut Transaction<'_, S>) -> Result<(), TableFault>
     run(tx, "INSERT INTO meta (id, version) VALUES (1, 1)", &[])
 }
 
-/// The number of the schema that the tables are of, or none where its row is missing. A store without
-/// tables gives `TableFault::Store`.
+/// The number of the schema that the tables are of, or none where its row is missing. A store without tables gives
+/// `TableFault::Store`.
 pub fn version<S: Alter>(tx: &mut Transaction<'_, S>) -> Result<Option<u32>, TableFault>
     ensures reads { Reads S.Store tx.old.conn tx.new.conn result }
     ensures found { HasCleanDisk (state S.Store tx.new.conn.now)

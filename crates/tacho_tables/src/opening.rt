@@ -16,9 +16,8 @@ pub fn has_tables<S: Alter>(conn: &Connection<S>) -> bool
     !conn.schema().tables.is_empty()
 }
 
-/// Asks a connection for the table that says which schema it is, and reads nothing. It answers where the store is
-/// open and
-/// has the table.
+/// Asks a connection for the table that says which schema it is, and reads nothing. It answers where the store is open
+/// and has the table.
 pub fn ask<S: Alter>(conn: &mut Connection<S>) -> Result<(), TableFault>
     ensures asks { Asks S.Store conn.old conn.new result }
     ensures missing { HasCleanDisk (state S.Store conn.new) → (state S.Store conn.old).now.schema ≡ no_schema → IsErr result }

@@ -19,9 +19,8 @@ pub struct StoredSpan {
     pub mark: u32,
 }
 
-/// Hours that were entered by hand: their number among the driver's, minutes from `start` to before `past`, the
-/// number of the mark,
-/// and 1 where they were withdrawn, else 0.
+/// Hours that were entered by hand: their number among the driver's, minutes from `start` to before `past`, the number
+/// of the mark, and 1 where they were withdrawn, else 0.
 #[derive(Clone, Copy, Debug, PartialEq, Eq)]
 pub struct StoredEntry {
     pub number: u32,

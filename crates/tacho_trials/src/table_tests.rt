@@ -5,8 +5,8 @@ use sqlite::{Alter, Connection, Transaction};
 use std::alloc::Global;
 use std::test::Fail;
 use tacho_tables::{
-    SpanTable, StoredDriver, StoredEntry, StoredSpan, TableFault, downloads, drivers, entries, held,
-    making, spans,
+    SpanTable, StoredDriver, StoredEntry, StoredSpan, TableFault, downloads, drivers, entries,
+    held, making, spans,
 };
 
 /// A span of the test.
@@ -128,7 +128,11 @@ fn the_latest_span_before_a_minute(rt: HostRuntime) -> Result<(), Fail> {
     let spans = [span(300, 400, 1), span(100, 200, 3), span(200, 210, 2)];
     spans::insert_all(&mut tx, SpanTable::Held, 17, &spans)?;
     spans::insert_all(&mut tx, SpanTable::CardSpans, 17, &spans[1..])?;
-    assert_same(&rt, spans::last_before(&mut tx, SpanTable::Held, 17, 100)?, None);
+    assert_same(
+        &rt,
+        spans::last_before(&mut tx, SpanTable::Held, 17, 100)?,
+        None,
+    );
     assert_same(
         &rt,
         spans::last_before(&mut tx, SpanTable::Held, 17, 101)?,
@@ -144,7 +148,11 @@ fn the_latest_span_before_a_minute(rt: HostRuntime) -> Result<(), Fail> {
         spans::last_before(&mut tx, SpanTable::Held, 17, 900)?,
         Some(span(300, 400, 1)),
     );
-    assert_same(&rt, spans::last_before(&mut tx, SpanTable::Held, 18, 900)?, None);
+    assert_same(
+        &rt,
+        spans::last_before(&mut tx, SpanTable::Held, 18, 900)?,
+        None,
+    );
     assert_same(
         &rt,
         spans::last_before(&mut tx, SpanTable::CardSpans, 17, 900)?,
@@ -159,7 +167,12 @@ fn card_spans_and_a_download(rt: HostRuntime) -> Result<(), Fail> {
     let mut tx = conn.transaction();
     making::make_all(&mut tx)?;
     drivers::insert(&mut tx, 17, &[0x0d, 0x44], "anna-key-1", 19_786, "Anna")?;
-    spans::insert_all(&mut tx, SpanTable::CardSpans, 17, &[span(100, 200, 3), span(200, 210, 2)])?;
+    spans::insert_all(
+        &mut tx,
+        SpanTable::CardSpans,
+        17,
+        &[span(100, 200, 3), span(200, 210, 2)],
+    )?;
     let first = spans::begun(rt.alloc(), &mut tx, SpanTable::CardSpans, 17, 0, 200)?;
     assert_same(&rt, first.as_slice(), [span(100, 200, 3)].as_slice());
     downloads::insert(&mut tx, 17, 1, 0, &[1, 2, 3])?;
@@ -190,7 +203,12 @@ fn a_reading_is_right_or_fails(rt: HostRuntime) -> Result<(), Fail> {
     let mut tx = conn.transaction();
     making::make_all(&mut tx)?;
     drivers::insert(&mut tx, 17, &[0x0d, 0x44], "anna-key-1", 19_786, "Anna")?;
-    spans::insert_all(&mut tx, SpanTable::Held, 17, &[span(300, 400, 1), span(100, 200, 3)])?;
+    spans::insert_all(
+        &mut tx,
+        SpanTable::Held,
+        17,
+        &[span(300, 400, 1), span(100, 200, 3)],
+    )?;
     downloads::insert(&mut tx, 17, 1, 0, &[1, 2, 3])?;
     tx.commit()?;
     let mut tx = conn.transaction();

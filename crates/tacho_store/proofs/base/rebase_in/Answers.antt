@@ -41,6 +41,6 @@ returns g c = steps_by (search rules)
     (λ turns. (
       turns.schema,
       follows_then _ _ _ s _ same (day_set c.args.driver c.args.base s d.0 d.1 _ _
-      (sym c.is_monday.ensures ∙ c.if-not-is_monday.false) seen.1 turns.stands),
+          (sym c.is_monday.ensures ∙ c.if-not-is_monday.false) seen.1 turns.stands),
     )) c.map_err.ensures.cases
     (rw c.number.ensures.value at (c.set_base.ensures.turned clean seen.0)))

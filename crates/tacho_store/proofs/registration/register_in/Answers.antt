@@ -43,5 +43,5 @@ returns g c = steps_by (search rules)
     (λ turns. (
       turns.schema,
       follows_then _ _ _ s _ same (row_added _ _ _ _ _ s free _ _
-      (rw c.base.ensures at (sym c.is_monday.ensures ∙ c.if-not-is_monday.false)) seen.1 turns.stands),
+          (rw c.base.ensures at (sym c.is_monday.ensures ∙ c.if-not-is_monday.false)) seen.1 turns.stands),
     )) c.map_err.ensures.cases turned)
