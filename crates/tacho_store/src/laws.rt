@@ -43,9 +43,10 @@ pub fn empty_tables_stand()
 
 /// A registration, on the tables.
 pub fn registered_tables_stand()
-    ensures { (t : Tables) (s : State) (d : Driver) → TablesStandFor t s → driver_of d.number s ≡ None → keyed d.key s ≡ None
-        → holding d.holder s ≡ None
-        → d.downloads ≡ [] → d.entries ≡ [] → TablesStandFor (with_driver (driver_columns d) t) (s ++ d ∷ []) }
+    ensures { (t : Tables) (s : State) (d : Driver) → TablesStandFor t s
+        → driver_of d.number s ≡ None → keyed d.key s ≡ None → holding d.holder s ≡ None
+        → d.downloads ≡ [] → d.entries ≡ []
+        → TablesStandFor (with_driver (driver_columns d) t) (s ++ d ∷ []) }
 {}
 
 /// A change of the day from which a driver is examined, on the tables.
@@ -57,29 +58,32 @@ pub fn rebased_tables_stand()
 /// An import, on the tables: the gains against card spans near the file's spans and those against held rows near them
 /// are added.
 pub fn imported_tables_stand()
-    ensures { (t : Tables)
-        (s : State) (n : ℕ) (d : Driver) (part : PartValue) (file : List ℕ) (content : Content) (card_line line card_gains gains : List Span) (start past : ℕ)
-        → TablesStandFor t s → driver_of n s ≡ Some d → FileTells part file (Ok content) → AreInRange start past content.spans
+    ensures { (t : Tables) (s : State) (n : ℕ) (d : Driver) (part : PartValue) (file : List ℕ) (content : Content)
+        (card_line line card_gains gains : List Span) (start past : ℕ)
+        → TablesStandFor t s → driver_of n s ≡ Some d
+        → FileTells part file (Ok content) → AreInRange start past content.spans
         → IsCanonicalOf (Gives (near start past (spans_of n t.card_spans))) card_line
         → AreGains card_line content.spans card_gains
         → IsCanonicalOf (Gives (near start past (spans_of n t.held))) line → AreGains line content.spans gains
-        → TablesStandFor (with_imported n (1 + length d.downloads) (part_number part) file card_gains gains t) (put (with_download (part_number part) file content.spans d) s) }
+        → TablesStandFor (with_imported n (1 + length d.downloads) (part_number part) file card_gains gains t)
+        (put (with_download (part_number part) file content.spans d) s) }
 {}
 
 /// A batch of entries, on the tables: its rows are added, and its gains against held rows near it.
 pub fn entered_tables_stand()
-    ensures { (t : Tables)
-        (s : State) (n : ℕ) (d : Driver) (batch : List Entry) (line gains : List Span) (start past : ℕ)
+    ensures { (t : Tables) (s : State) (n : ℕ) (d : Driver) (batch : List Entry) (line gains : List Span)
+        (start past : ℕ)
         → TablesStandFor t s → driver_of n s ≡ Some d → AreFull batch → AreInRange start past (entered_spans batch)
         → IsCanonicalOf (Gives (near start past (spans_of n t.held))) line → AreGains line (entered_spans batch) gains
-        → TablesStandFor (with_entered n (1 + length d.entries) (length d.entries + length batch) batch gains t) (put (with_batch batch d) s) }
+        → TablesStandFor (with_entered n (1 + length d.entries) (length d.entries + length batch) batch gains t)
+        (put (with_batch batch d) s) }
 {}
 
 /// A withdrawal, on the tables: the entry's row is marked; of the driver's held rows those near the entry go, and
 /// their parts outside it come, with what card spans and the other entries near it give inside it.
 pub fn withdrawn_tables_stand()
-    ensures { (t : Tables)
-        (s : State) (n : ℕ) (d : Driver) (number : ℕ) (e : Entry) (cards others helds : List StoredValue) (inside : List Span)
+    ensures { (t : Tables) (s : State) (n : ℕ) (d : Driver) (number : ℕ) (e : Entry)
+        (cards others helds : List StoredValue) (inside : List Span)
         → TablesStandFor t s → driver_of n s ≡ Some d → entry_from 1 number d.entries ≡ Some e
         → IsReadNear t.card_spans n e.start e.past cards
         → IsKeptNear (map (with_withdrawn n number) t.entries) n e.start e.past others

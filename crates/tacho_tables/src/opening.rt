@@ -20,7 +20,8 @@ pub fn has_tables<S: Alter>(conn: &Connection<S>) -> bool
 /// and has the table.
 pub fn ask<S: Alter>(conn: &mut Connection<S>) -> Result<(), TableFault>
     ensures asks { Asks S.Store conn.old conn.new result }
-    ensures missing { HasCleanDisk (state S.Store conn.new) → (state S.Store conn.old).now.schema ≡ no_schema → IsErr result }
+    ensures missing { HasCleanDisk (state S.Store conn.new) → (state S.Store conn.old).now.schema ≡ no_schema
+        → IsErr result }
 {
     conn.prepare("SELECT version FROM meta WHERE id = 1")?;
     Ok(())
