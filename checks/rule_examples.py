@@ -202,7 +202,100 @@ SHORT_RESTS = [
         + [(3, MINUTE + 1 + 541 * turn, MINUTE, turn - 2) for turn in (16, 17)], NONE),
 ]
 
-ROWS = BREAKS + SHORT_NIGHTS + DAYS + WEEKS + DEBTS + HORIZONS + WEEKLY_RESTS + MONTHS + EDGES + SHORT_RESTS
+# Each of these tells a reading of the law that no row above tells: a limit from below, since when, which of two comes first.
+BREAKS_FROM_BELOW = [
+    Row("a break of 44 minutes", at(5, "00:00"), drive([4], "06:00-10:00", "10:44-11:15"),
+        [(1, at(4, "11:14"), at(4, "06:00"), 1)], NONE),
+    Row("breaks, 14 and then 30", at(5, "00:00"), drive([4], "06:00-08:00", "08:14-10:00", "10:30-11:15"),
+        [(1, at(4, "11:14"), at(4, "06:00"), 1)], NONE),
+    Row("breaks, 15 and then 29", at(5, "00:00"), drive([4], "06:00-08:00", "08:15-10:00", "10:29-11:15"),
+        [(1, at(4, "11:14"), at(4, "06:00"), 1)], NONE),
+    Row("work before the first driving", at(5, "00:00"), work([4], "06:00-07:00") + drive([4], "07:00-11:31"),
+        [(1, at(4, "11:30"), at(4, "07:00"), 1)], NONE),
+]
+
+# A time above 24:00 is on the next day.
+LONG_DAY = drive([8, 9], "06:00-10:30", "11:15-15:45", "16:30-16:31")
+DAYS_FROM_BELOW = [
+    Row("a rest of 539 minutes ends no day", at(5, "06:00"), work([4], "06:00-20:00") + work([5], "04:59-06:00"),
+        [(2, at(4, "21:00"), at(4, "06:00"), 540)], NONE),
+    Row("a first part of 179 minutes", at(9, "00:00"),
+        work([4, 5, 7], "06:00-21:00") + work([6], "06:00-12:00", "14:59-21:00") + work([8], "06:00-12:00"),
+        [(3, at(7, "21:00"), at(4, "06:00"), 1)], NONE),
+    Row("rests of 13 hours, 9 of them in time", at(8, "23:00"),
+        work([4], "06:00-21:00") + work([5], "10:00-25:00") + work([6], "14:00-29:00") + work([7], "18:00-33:00")
+        + work([8], "22:00-23:00"),
+        [(3, at(8, "09:00"), at(4, "06:00"), 1)], NONE),
+    Row("reduced rests are counted from a rest of 24 hours on", at(11, "22:00"),
+        work([4, 5, 6, 7], "06:00-21:00") + work([8, 9, 10], "21:00-36:00") + work([11], "21:00-22:00"),
+        NONE, [(WEEK_4, 1260, at(32, "00:00"), None)]),
+    Row("a fourth rest, of 24 hours", at(8, "22:00"), work([4, 5, 6, 7], "06:00-21:00") + work([8], "21:00-22:00"),
+        NONE, NONE),
+    Row("a fourth rest, of 24 hours but a minute", at(8, "22:00"), work([4, 5, 6, 7], "06:00-21:00") + work([8], "20:59-22:00"),
+        [(3, at(7, "21:00"), at(4, "06:00"), 1)], NONE),
+    Row("a day of just 9 hours of driving after three longer ones", at(8, "00:00"),
+        drive([4, 5, 6], "06:00-10:30", "11:15-15:45", "16:30-16:31") + drive([7], "06:00-10:30", "11:15-15:45"),
+        [(5, at(6, "16:30"), at(6, "06:00"), 1)], NONE),
+    Row("extended days on Saturday, Sunday and Monday", at(12, "00:00"),
+        work([8], "06:00-07:00") + drive([9, 10, 11], "06:00-10:30", "11:15-15:45", "16:30-16:31"), NONE, NONE),
+    Row("a third extended day begins on Sunday", at(12, "00:00"),
+        LONG_DAY + drive([10], "20:00-24:00") + drive([11], "00:00-00:30", "01:15-05:46"),
+        [(1, at(11, "05:45"), at(11, "01:15"), 1), (5, at(11, "05:45"), at(10, "20:00"), 1)],
+        [(WEEK_4, 1051, at(32, "00:00"), None)]),
+]
+
+RESTS_FROM_BELOW = [
+    Row("the second week is wholly at rest", at(18, "00:00"), work([4], "00:00-01:00") + work(range(4, 11), "06:00-07:00"),
+        [(8, at(10, "00:00"), at(4, "00:00"), 420)], NONE),
+    Row("the first week is wholly at rest", at(18, "00:00"), work(range(11, 18), "06:00-07:00") + work([17], "23:00-24:00"),
+        [(8, at(17, "06:00"), at(11, "06:00"), 1080)], NONE),
+    Row("one rest of 45 hours for two weeks", at(18, "00:00"),
+        work([4], "00:00-01:00") + work([*range(4, 10), *range(12, 18)], "06:00-07:00") + work([17], "23:00-24:00"),
+        [(9, at(18, "00:00"), at(4, "00:00"), 0)], NONE),
+    Row("a rest of 45 hours but a minute, and one of 24", at(18, "00:00"),
+        work([4], "00:00-01:00") + work([*range(4, 9), *range(11, 17)], "06:00-07:00") + work([10], "03:59-07:00")
+        + work([17], "07:00-08:00", "23:00-24:00"),
+        [(8, at(16, "03:59"), at(10, "03:59"), 181), (9, at(18, "00:00"), at(4, "00:00"), 0)],
+        [(WEEK_4, 1, at(32, "00:00"), at(10, "07:00")), (WEEK_11, 1260, at(39, "00:00"), None)]),
+    Row("a rest of 24 hours but a minute", at(12, "00:00"), work(range(4, 10), "06:00-18:00") + work([10], "17:59-19:00"),
+        [(8, at(10, "06:00"), at(4, "06:00"), 780)], NONE),
+]
+
+DEBTS_IN_TURN = [
+    Row("the week of the last rest owes nothing yet", at(11, "00:00"),
+        work(range(4, 9), "06:00-07:00") + work([9], "07:00-08:00") + work([10], "08:00-09:00"), NONE, NONE),
+    Row("two debts, and the first of two rests has room for one", at(26, "00:00"),
+        SHORT_WEEK + work(range(11, 17), "06:00-07:00") + work([17], "07:00-08:00")
+        + work([18, 21, 22, 23, 25], "06:00-07:00"),
+        NONE, [(WEEK_4, 1260, at(32, "00:00"), at(18, "07:00")), (WEEK_11, 1260, at(39, "00:00"), at(23, "07:00"))]),
+    Row("a rest pays too late, after the deadline", at(40, "00:00"),
+        THREE_WEEKS + work([30, *range(35, 40)], "06:00-07:00"),
+        [(10, at(32, "00:00"), at(4, "00:00"), 1260)], [(WEEK_4, 1260, at(32, "00:00"), None)]),
+    Row("a week's rest of just 24 hours", at(18, "00:00"),
+        work([4], "06:00-07:00") + work([5], "07:00-08:00") + work(range(6, 12), "06:00-07:00"),
+        NONE, [(WEEK_4, 1260, at(32, "00:00"), at(11, "07:00"))]),
+    Row("of two equal rests the first is the week's, and the second pays", at(12, "00:00"),
+        work([4], "06:00-07:00") + work([5], "10:00-11:00") + work([6], "14:00-15:00") + work(range(7, 12), "06:00-07:00"),
+        NONE, [(WEEK_4, 1080, at(32, "00:00"), at(5, "11:00"))]),
+    Row("a daily rest is a minute too short to pay", at(18, "07:00"),
+        SHORT_WEEK + work([11, 12, 14, 15], "06:00-07:00") + work([13], "12:59-14:00") + work([17], "04:00-05:00")
+        + work([18], "06:00-07:00"),
+        NONE, [(WEEK_4, 1260, at(32, "00:00"), None)]),
+    Row("the last rest pays while 24 hours of it are not known", at(12, "13:44"),
+        SIX_DAYS_OF_DRIVING + drive([11], "06:00-10:00", "10:45-13:45"), NONE, OWES_345),
+    Row("the week's rest begins on Monday at 00:00, and keeps 45 hours", at(17, "00:00"),
+        SHORT_WEEK + work([10], "23:00-24:00") + work([12], "20:00-21:00") + work(range(13, 17), "06:00-07:00"),
+        NONE, [(WEEK_4, 1260, at(32, "00:00"), None)]),
+    Row("the week's rest begins on Sunday at 23:59, and keeps 45 hours", at(23, "00:00"),
+        SHORT_WEEK + work(range(11, 17), "06:00-07:00") + work([17], "07:00-08:00", "23:58-23:59")
+        + work([19], "20:00-21:00") + work(range(20, 23), "06:00-07:00"),
+        NONE, [(WEEK_4, 1260, at(32, "00:00"), None), (WEEK_11, 59, at(39, "00:00"), at(20, "07:00"))]),
+]
+
+ROWS = (
+    BREAKS + SHORT_NIGHTS + DAYS + WEEKS + DEBTS + HORIZONS + WEEKLY_RESTS + MONTHS + EDGES + SHORT_RESTS
+    + BREAKS_FROM_BELOW + DAYS_FROM_BELOW + RESTS_FROM_BELOW + DEBTS_IN_TURN
+)
 
 # What the rows say of a day's rest: the row, the portion, and whether it is regular or reduced.
 DAILY_RESTS = [
@@ -228,46 +321,46 @@ def row_of(name):
     return next(row for row in ROWS if row.name == name)
 
 
-def runs_of(row):
+def runs_of(row, reading):
     """The rest runs of a row."""
-    return slow_rules.rest_runs(slow_rules.line_of(joined(row.busy, BASE, row.horizon)))
+    return reading.rest_runs(reading.line_of(joined(row.busy, BASE, row.horizon)))
 
 
-def examined(row):
+def examined(row, reading):
     """The breaches and debts found in a row, against those expected."""
-    found = slow_rules.examine(joined(row.busy, BASE, row.horizon), BASE, row.horizon)
+    found = reading.examine(joined(row.busy, BASE, row.horizon), BASE, row.horizon)
     return found, (row.breaches, row.debts)
 
 
-def daily_rest(name, expected_portion, expected_kind):
+def daily_rest(name, expected_portion, expected_kind, reading):
     """The portion and kind of a row's first daily rest, against those expected."""
-    runs = runs_of(row_of(name))
-    day = slow_rules.duty_days(runs)[0]
+    runs = runs_of(row_of(name), reading)
+    day = reading.duty_days(runs)[0]
     kind = "neither"
-    if slow_rules.is_regular(runs, day):
+    if reading.is_regular(runs, day):
         kind = "regular"
-    if slow_rules.is_reduced(runs, day):
+    if reading.is_reduced(runs, day):
         kind = "reduced"
-    return (slow_rules.portion(day), kind), (expected_portion, expected_kind)
+    return (reading.portion(day), kind), (expected_portion, expected_kind)
 
 
-def rest(name, start, minutes, place):
+def rest(name, start, minutes, place, reading):
     """The known minutes of a row's rest and whether it is its week's main rest, against those expected."""
     row = row_of(name)
-    runs = runs_of(row)
+    runs = runs_of(row, reading)
     run = next(run for run in runs if run.start == start)
-    main = slow_rules.main_rest(runs, row.horizon, slow_rules.week_of(start))
-    return (slow_rules.minutes_before(row.horizon, run), "main" if main == run else "other"), (minutes, place)
+    main = reading.main_rest(runs, row.horizon, reading.week_of(start))
+    return (reading.minutes_before(row.horizon, run), "main" if main == run else "other"), (minutes, place)
 
 
-def comparisons():
-    """What is found in each row, and what is expected of it."""
+def comparisons(reading=slow_rules):
+    """What a reading of the rules finds in each row, and what is expected of it."""
     for row in ROWS:
-        yield f"row {row.name}", *examined(row)
+        yield f"row {row.name}", *examined(row, reading)
     for case in DAILY_RESTS:
-        yield f"daily rest of {case[0]}", *daily_rest(*case)
+        yield f"daily rest of {case[0]}", *daily_rest(*case, reading)
     for case in RESTS:
-        yield f"rest at {case[1]} of {case[0]}", *rest(*case)
+        yield f"rest at {case[1]} of {case[0]}", *rest(*case, reading)
 
 
 if __name__ == "__main__":

@@ -65,8 +65,9 @@ def rest_runs(line):
         return [Run(0, FAR)]
     runs = [Run(0, line.busy[0])]
     for one, next_one in zip(line.busy, line.busy[1:]):
-        if one + 1 < next_one:
-            runs.append(Run(one + 1, next_one))
+        start = one + 1
+        if start < next_one:
+            runs.append(Run(start, next_one))
     runs.append(Run(line.busy[-1] + 1, FAR))
     return runs
 
