@@ -3,6 +3,7 @@ use Rattle.std.proofs.Common.{◌≡◌, ◌∙◌, ℕ, ◌≤◌, Bool, true, 
 use Rattle.std.specs.Prelude.{nat_le}
 use Rattle.std.specs.Borrow.{MutBor}
 use Rattle.std.specs.List.{All}
+use Rattle.std.proofs.lemmas.Bool.{le-leb}
 use Rattle.std.proofs.lemmas.List.{map-append}
 use Rattle.std.proofs.lemmas.List.Elements.{All-append, All-nil}
 use Rattle.sqlite.specs.Given.{HasGiven}
@@ -13,6 +14,7 @@ use Rattle.sqlite.specs.declared.types.Value.TheVariants.{Int}
 use Rattle.sqlite.specs.Effect.{Database}
 use Rattle.sqlite_trees.proofs.ListLemmas.{map-map}
 use Rattle.tacho_state.specs.declared.fault.StoreFault.{StoreFault}
+use Rattle.tacho_state.specs.declared.fault.StoreFault.TheVariants.{Memory, Store}
 use Rattle.tacho_line.specs.declared.horizon.Horizon.{Horizon}
 use Rattle.tacho_tables.specs.Rows.{AreRowsOf, SpanRow, span_columns}
 use Rattle.tacho_tables.specs.Schema.{archive_schema}
@@ -26,11 +28,17 @@ use Rattle.tacho_line.specs.declared.horizon.Cause.TheVariants.{Unknown}
 use Rattle.tacho_hours.specs.Line.{Joined}
 use Rattle.tacho_hours.proofs.RunsLemmas.{joined_le}
 use Rattle.tacho_pass.specs.declared.found.Found.{Found}
+use Rattle.tacho_pass.specs.Kinds.{is_any}
+use Rattle.tacho_pass.proofs.AppendingLemmas.{appends_none, appends_then}
 use Rattle.tacho_rules.specs.declared.scan.Scan.{Scan}
 use Rattle.tacho_rules.specs.Scan.{IsAt, IsScanOf}
 use Rattle.tacho_tables.specs.declared.rows.StoredSpan.{StoredSpan}
+use Rattle.tacho_tables.specs.declared.fault.TableFault.{TableFault}
+use Rattle.tacho_tables.specs.declared.fault.TableFault.TheVariants as table
 use Rattle.tacho_tables.specs.Next.{Tells, GivesNext, IsKept, AreOnward, IsAsked, BeginsOnward, onward_text}
 use Rattle.tacho_reading.specs.Standing.{row_span, stored_span}
+use Rattle.tacho_reading.specs.Faults.{store_fault}
+use Rattle.tacho_reading.specs.Taken.{HasTakenSome, IsRefusalOf, IsLeftAt}
 use Rattle.tacho_reading.specs.Taken.{cut, cuts, HasTaken, StopsAt, AreTold, HasFed, StopsBefore, AreFed, ReadsRows, ReadsSettled}
 
 -- ---- spans
@@ -52,13 +60,30 @@ joined_append [] ys from mid past h k = subst (λ (m : ℕ). Joined ys m past) (
 joined_append (s ∷ xs) ys from mid past h k = (h.0, h.1, joined_append xs ys s.past mid past h.2 k)
 
 -- nothing was taken yet
-taken_none : (base : ℕ) (scan : Scan) (found : Found) → IsAt scan base → base ≤ 68374080
+pub taken_none : (base : ℕ) (scan : Scan) (found : Found) → IsAt scan base → base ≤ 68374080
     → HasTaken base base base [] scan found scan found
 taken_none base scan found at early = record {
   whole = record { joined = refl; single = All-nil (λ (s : Span). s.mark.crew ≡ false); within = early };
   at = at;
+  grown = appends_none is_any true found;
   fed = λ before is. subst (IsScanOf scan found base) (sym (append-nil before)) is;
 }
+
+-- nor of a span that ends by the base
+pub taken_behind : (base minute : ℕ) (s : Span) (scan : Scan) (found : Found) → IsAt scan minute → minute ≤ 68374080
+    → s.past ≤ base → HasTaken base minute minute (s ∷ []) scan found scan found
+taken_behind base minute s scan found at early behind =
+    let none : cuts base (s ∷ []) ≡ [] = rw (le-leb s.past base behind) refl in
+    record {
+      whole = record {
+        joined = rw none refl;
+        single = rw none (All-nil (λ (s : Span). s.mark.crew ≡ false));
+        within = early;
+      };
+      at = at;
+      grown = appends_none is_any true found;
+      fed = λ before is. rw none (subst (IsScanOf scan found base) (sym (append-nil before)) is);
+    }
 
 -- spans, and then others
 taken_then : (base from mid past : ℕ) (xs ys : List Span) (one : Scan) (a : Found) (two : Scan) (b : Found)
@@ -77,6 +102,7 @@ taken_then base from mid past xs ys one a two b three c h k =
         within = k.whole.within;
       };
       at = k.at;
+      grown = appends_then is_any true a b c h.grown k.grown;
       fed = λ before is. subst (λ (zs : List Span). IsScanOf three c base zs)
           (append_assoc before (cuts base xs) (cuts base ys) ∙ ap (λ (zs : List Span). before ++ zs) cuts_are)
           (k.fed (before ++ cuts base xs) (h.fed before is));
@@ -256,6 +282,22 @@ module _ {S : Type 0} (g : Ghosts S) (old mid new : Held S) (base minute : ℕ) 
           ),
         );
   }
+
+-- what a fault leaves of it: a row that was refused, or the store
+module _ {S : Type 0} (g : Ghosts S) (old now : Held S) (base minute : ℕ) (scan : Scan) (was : Found) (fed : Scan)
+    (found : Found) (h : IsFeeding g old now base minute scan was fed found) where
+  taken_some : HasTakenSome base scan was fed found
+  taken_some = (minute, map stored_span h.spans, h.taken)
+
+  pub left_where_refused : (row : StoredSpan) (then : Scan) (has : Found) (fault : StoreFault)
+      → IsRefusalOf base minute row fed found then has fault → IsLeftAt base scan was then has fault
+  left_where_refused row then has Memory r = inl (r.0, appends_then is_any true was found has h.taken.grown r.1)
+  left_where_refused row then has Store r = rw (r.1, r.2) taken_some
+  left_where_refused row then has fault r = absurd r
+
+  pub left_where_failed : (fault : TableFault) → IsLeftAt base scan was fed found (store_fault fault)
+  left_where_failed table.Memory = inr taken_some
+  left_where_failed table.Store = taken_some
 
 -- ---- a driver's rows
 

@@ -9,22 +9,23 @@ use Rattle.sqlite.specs.State.{Shown, HasCleanDisk, Survives}
 use Rattle.sqlite.specs.Store.{Ghosts}
 use Rattle.tacho_time.specs.declared.span.Span.{Span}
 use Rattle.tacho_time.specs.Spans.{Covers}
-use Rattle.tacho_time.specs.OrMemory.{OrMemory}
 use Rattle.tacho_line.specs.declared.horizon.Cause.{Cause}
 use Rattle.tacho_line.specs.declared.horizon.Cause.TheVariants.{Unknown, Crew}
 use Rattle.tacho_line.specs.declared.horizon.Horizon.{Horizon}
 use Rattle.tacho_hours.specs.Line.{Joined}
 use Rattle.tacho_hours.specs.Limits.{latest}
 use Rattle.tacho_pass.specs.declared.found.Found.{Found}
+use Rattle.tacho_pass.specs.Found.{Appends}
+use Rattle.tacho_pass.specs.Kinds.{is_any}
 use Rattle.tacho_rules.specs.declared.scan.Scan.{Scan}
-use Rattle.tacho_rules.specs.Scan.{IsAt, IsScanOf}
+use Rattle.tacho_rules.specs.Scan.{IsAt, HasFailed, IsScanOf}
 use Rattle.tacho_state.specs.declared.fault.StoreFault.{StoreFault}
 use Rattle.tacho_state.specs.declared.fault.StoreFault.TheVariants.{Memory, Store}
 use Rattle.tacho_tables.specs.declared.rows.StoredSpan.{StoredSpan}
 use Rattle.tacho_tables.specs.Next.{Tells, AreOnward, IsKept}
 use Rattle.tacho_tables.specs.Rows.{SpanRow}
 use Rattle.tacho_reading.specs.Kept.{IsSame}
-use Rattle.tacho_reading.specs.Standing.{row_span, stored_span}
+use Rattle.tacho_reading.specs.Standing.{row_span, stored_span, IsFit}
 use Rattle.tacho_reading.specs.declared.feeding.Step.{Step}
 use Rattle.tacho_reading.specs.declared.feeding.Step.TheVariants.{On, Stop}
 
@@ -45,11 +46,12 @@ pub record AreWhole (base from past : ℕ) (spans : List Span) : Type 0 where
   pub single : All (λ s. s.mark.crew ≡ false) (cuts base spans)
   pub within : past ≤ latest
 
--- and a scan was fed it
+-- and a scan was fed it: what it found comes behind what was found
 pub record HasTaken (base from past : ℕ) (spans : List Span) (old : Scan) (was : Found) (new : Scan)
     (found : Found) : Type 0 where
   pub whole : AreWhole base from past spans
   pub at : IsAt new past
+  pub grown : Appends is_any true was found
   pub fed : (before : List Span) → IsScanOf old was base before → IsScanOf new found base (before ++ cuts base spans)
 
 -- ---- where it stops
@@ -65,6 +67,20 @@ IsStepOf base minute row old was new found (On past) =
     HasTaken base minute past (stored_span row ∷ []) old was new found
 IsStepOf base minute row old was new found (Stop cause) =
     StopsAt minute cause (stored_span row) × (new ≡ old) × (found ≡ was)
+
+-- a row that an archive writes, of some minutes by the end of 2099, and what is left of it begins at the minute or later
+pub record CanFollow (base minute : ℕ) (row : StoredSpan) : Type 0 where
+  pub fit : IsFit row
+  pub some : row.start < row.past
+  pub within : row.past ≤ latest
+  pub from : minute ≤ (cut base (stored_span row)).start
+
+-- what a row leaves that it refuses: for want of memory a scan that has failed, and what was found first; of a row that
+-- cannot follow all as it was
+abbrev pub IsRefusalOf : ℕ → ℕ → StoredSpan → Scan → Found → Scan → Found → StoreFault → Type 0
+IsRefusalOf base minute row old was new found Memory = HasFailed new × Appends is_any true was found
+IsRefusalOf base minute row old was new found Store = (¬ CanFollow base minute row) × (new ≡ old) × (found ≡ was)
+IsRefusalOf base minute row old was new found fault = ⊥
 
 -- ---- the rows of a query
 
@@ -109,10 +125,24 @@ pub record AreFed (driver start base : ℕ) (rows : List SpanRow) (scan : Scan) 
 
 -- ---- whatever a reading answers
 
--- the scan stands at the horizon, unless there was no memory or the store failed
-pub record EndsAt (scan : Scan) (result : Result Horizon StoreFault) : Type 0 where
-  pub at : IfOk result (λ horizon. IsAt scan horizon.minute)
-  pub fault : IfErr result (λ fault. OrMemory Memory fault (fault ≡ Store))
+-- a scan has taken some spans from the base on
+abbrev pub HasTakenSome : ℕ → Scan → Found → Scan → Found → Type 0
+HasTakenSome base old was new found =
+    (past : ℕ) × (spans : List Span) × HasTaken base base past spans old was new found
+
+-- what a fault leaves of it: where the store failed it has taken some spans and is as good as it was; and so it is for
+-- want of memory, or it has failed, and what it found comes behind what was found
+abbrev pub IsLeftAt : ℕ → Scan → Found → Scan → Found → StoreFault → Type 0
+IsLeftAt base old was new found Memory =
+    (HasFailed new × Appends is_any true was found) ⊎ HasTakenSome base old was new found
+IsLeftAt base old was new found Store = HasTakenSome base old was new found
+IsLeftAt base old was new found fault = ⊥
+
+-- where it has taken what came it stands at the horizon; a fault leaves what it took before
+pub record EndsAt (base : ℕ) (old : Scan) (was : Found) (new : Scan) (found : Found)
+    (result : Result Horizon StoreFault) : Type 0 where
+  pub at : IfOk result (λ horizon. IsAt new horizon.minute)
+  pub left : IfErr result (IsLeftAt base old was new found)
 
 module _ {S A : Type 0} (g : Ghosts S) (result : Result A StoreFault) where
   -- Of the rows of a query: it is the same connection, what is open was so before and sees what it saw, and a stop

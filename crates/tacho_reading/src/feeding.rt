@@ -3,12 +3,11 @@
 ghost use Rattle.std.specs.Prelude.{◌≡◌, ◌≤◌, false, IfOk, IfErr};
 ghost use Rattle.sqlite.specs.State.{HasCleanDisk};
 ghost use Rattle.sqlite.specs.Held.{state};
-ghost use Rattle.tacho_time.specs.OrMemory.{OrMemory};
 ghost use Rattle.tacho_hours.specs.Limits.{latest};
 ghost use Rattle.tacho_rules.specs.Scan.{IsAt};
 ghost use Rattle.tacho_tables.specs.Schema.{archive_schema};
 ghost use Rattle.tacho_tables.specs.Tables.{Tables, HasTables};
-ghost use Rattle.tacho_reading.specs.Taken.{cut, IsStepOf, HasFed, AreFed, EndsAt, ReadsRows, ReadsSettled};
+ghost use Rattle.tacho_reading.specs.Taken.{cut, IsStepOf, IsRefusalOf, HasFed, AreFed, EndsAt, ReadsRows, ReadsSettled};
 
 use crate::fault::store_fault;
 use crate::spans::span_of;
@@ -47,7 +46,7 @@ fn cut(span: Span, base: Minute) -> Span
 }
 
 /// Feeds a scan that stands at a minute the span of one row, without what lies before the base. A row that no archive
-/// writes, or that begins before the minute, is a fault of the store.
+/// writes, or that begins before the minute, is a fault of the store, and nothing has changed.
 fn take(
     row: &StoredSpan,
     base: Minute,
@@ -59,7 +58,7 @@ fn take(
     requires from { base ≤ minute }
     requires early { minute ≤ latest }
     ensures step { IfOk result (IsStepOf base minute row.now scan.old found.old scan.new found.new) }
-    ensures fault { IfErr result (λ fault. OrMemory StoreFault.Memory fault (fault ≡ StoreFault.Store)) }
+    ensures refused { IfErr result (IsRefusalOf base minute row.now scan.old found.old scan.new found.new) }
 {
     let Some(span) = span_of(row) else {
         return Err(StoreFault::Store);
@@ -85,7 +84,8 @@ fn take(
 }
 
 /// Feeds a scan that stands at the base the spans of the next rows of a query on start, past and mark, without what
-/// lies before the base, up to the horizon: where the rows end, or the next one begins behind a gap or is crew.
+/// lies before the base, up to the horizon: where the rows end, or the next one begins behind a gap or is crew. At a
+/// fault the scan has failed for want of memory, or stands behind the rows that it took.
 pub fn feed_rows<S: Alter>(
     rows: &mut Rows<'_, S>,
     base: Minute,
@@ -95,7 +95,7 @@ pub fn feed_rows<S: Alter>(
     requires at { IsAt scan.old base }
     requires early { base ≤ latest }
     ensures reads { ReadsRows S.Store result rows.old.conn rows.new.conn }
-    ensures ends { EndsAt scan.new result }
+    ensures ends { EndsAt base scan.old found.old scan.new found.new result }
     ensures fed { HasCleanDisk (state S.Store rows.new.conn.now)
         → IfOk result (HasFed S.Store rows.old.conn.now rows.new.conn.now base scan.old found.old scan.new found.new) }
 {
@@ -117,7 +117,8 @@ pub fn feed_rows<S: Alter>(
 }
 
 /// Feeds a scan that stands at the base what a driver holds from there on, up to the horizon. Of his rows that begin
-/// from the start on it reads no more than it takes and the one behind.
+/// from the start on it reads no more than it takes and the one behind. At a fault the scan has failed for want of
+/// memory, or stands behind the rows that it took.
 pub fn feed_held<S: Alter>(
     conn: &mut Connection<S>,
     driver: u32,
@@ -130,7 +131,7 @@ pub fn feed_held<S: Alter>(
     requires at { IsAt scan.old base }
     requires early { base ≤ latest }
     ensures reads { ReadsSettled S.Store result conn.old conn.new }
-    ensures ends { EndsAt scan.new result }
+    ensures ends { EndsAt base scan.old found.old scan.new found.new result }
     ensures fed { HasCleanDisk (state S.Store conn.new) → (state S.Store conn.old).now.schema ≡ archive_schema
         → (t : Tables) → HasTables (state S.Store conn.old).now.trees t
         → IfOk result (AreFed driver start base t.held scan.old found.old scan.new found.new) }

@@ -1,10 +1,10 @@
-use Rattle.std.proofs.Common.{rules, ◌∙◌, not, sym, ap, subst, arith}
+use Rattle.std.proofs.Common.{rules, [], ◌∙◌, not, sym, ap, subst, arith}
 use Rattle.sqlite.specs.Effect.{Database}
 use Rattle.sqlite.specs.Held.{state}
 use Rattle.sqlite.specs.State.{HasCleanDisk}
 use Rattle.tacho_tables.specs.Rows.{AreRowsOf, span_columns}
 use Rattle.tacho_reading.specs.Taken.{ReadsSettled}
-use Rattle.tacho_reading.proofs.TakenLemmas.{settled_where_refused, settled_where_read, are_fed}
+use Rattle.tacho_reading.proofs.TakenLemmas.{settled_where_refused, settled_where_read, are_fed, taken_none}
 use Rattle.tacho_reading.proofs.feeding.feed_held.Goals as goal
 
 pub returns-in-Err-clause-reads : goal.returns-in-Err-clause-reads
@@ -12,6 +12,16 @@ returns-in-Err-clause-reads g c =
     settled_where_refused g.S.Store c.args.conn.now c.requires.settled
     (c.is_autocommit-settled.ensures.settled (c.is_autocommit-settled.ensures.value ∙ ap not c.requires.settled)) _ _
     (rw c.in-Err.is at c.onward.follows.holds-at-none)
+
+pub returns-in-Err-clause-ends : goal.returns-in-Err-clause-ends
+returns-in-Err-clause-ends g c = record {
+  at = tt;
+  left = (
+    c.args.base,
+    [],
+    taken_none c.args.base c.args.scan.now c.args.found.now c.requires.at c.requires.early,
+  );
+}
 
 pub returns-clause-reads : goal.returns-clause-reads
 returns-clause-reads g c =
