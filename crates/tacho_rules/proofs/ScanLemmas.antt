@@ -1,157 +1,69 @@
--- The four passes of a scan over one `Found` (specs/Scan): each has its own kinds, which no other has, and every kind
--- is some pass's.
-use Rattle.std.proofs.Common.{◌≡◌, ℕ, ◌↔◌, List, refl, ◌∙◌, Bool, true, false}
-use Rattle.std.specs.Prelude.{IsTrue}
+-- What the rules of a scan have found in one `Found` (specs/Scan): each has its own kinds, and every kind is some rule's.
+use Rattle.std.proofs.Common.{◌≡◌, ℕ, ◌↔◌, ◌++◌, List, [], get_or, refl, sym, subst, ◌∙◌, Bool, true, false}
+use Rattle.std.specs.Prelude.{IsTrue, ◌||◌}
+use Rattle.std.specs.List.{Contains}
+use Rattle.std.proofs.lemmas.List.Elements.{Contains-append_left}
+use Rattle.tacho_time.specs.declared.span.Span.{Span}
 use Rattle.tacho_hours.specs.declared.run.Run.{Run}
 use Rattle.tacho_hours.specs.declared.breach.Breach.{Breach}
 use Rattle.tacho_hours.specs.declared.breach.Kind.{Kind}
 use Rattle.tacho_hours.specs.declared.breach.Kind.TheVariants.{B1, B2, B3, B4, B5, B6, B7, B8, B9, B10}
 use Rattle.tacho_hours.specs.declared.debt.Debt.{Debt}
-use Rattle.tacho_hours.specs.Line.{Line}
+use Rattle.tacho_hours.specs.Line.{Line, line_of}
 use Rattle.tacho_hours.specs.Order.{Apart, AreCollected}
 use Rattle.tacho_hours.specs.Breaches.{IsBreach, IsBreakBreach, IsDayBreach, IsWeekBreach, IsRestBreach}
 use Rattle.tacho_hours.proofs.ExactlyLemmas.{exactly_as}
 use Rattle.tacho_pass.specs.declared.found.Found.{Found}
 use Rattle.tacho_pass.specs.Found.{Appends, own_of}
-use Rattle.tacho_pass.specs.Kinds.{is_b1, is_b2_to_b5, is_b6_or_b7, is_b8_to_b10, is_any}
-use Rattle.tacho_pass.proofs.AppendingLemmas.{appends_then, appends_wider, others_keep, others_keep_debts}
+use Rattle.tacho_pass.specs.Kinds.{is_b1, is_b2_or_b3, is_b4_or_b5, is_b2_to_b5, is_b6_or_b7, is_b8, is_b9, is_b10}
+use Rattle.tacho_pass.specs.Kinds.{is_b8_or_b10, is_b8_to_b10, is_b6_to_b10, is_b2_to_b10, is_any}
+use Rattle.tacho_pass.proofs.AppendingLemmas.{own_sub}
 use Rattle.tacho_pass.proofs.JoiningLemmas.{IsPart, joined}
+use Rattle.tacho_driving.specs.Periods.{PeriodsDefined}
+use Rattle.tacho_driving.specs.Sums.{SumsDefined}
+use Rattle.tacho_days.specs.DailyRests.{RestsDefined}
+use Rattle.tacho_days.specs.DailyDriving.{DrivingDefined}
+use Rattle.tacho_days.specs.Days.{DaysDefined}
+use Rattle.tacho_days.proofs.DaysLemmas.{days_defined}
+use Rattle.tacho_rests.specs.Lateness.{LateDefined}
+use Rattle.tacho_rests.specs.Owing.{OwingDefined}
+use Rattle.tacho_rests.specs.Pairs.{PairsDefined}
+use Rattle.tacho_rests.specs.WeekRests.{WeekRestsDefined}
+use Rattle.tacho_rests.proofs.WeekRestsLemmas.{week_rests_defined}
+use Rattle.tacho_rules.specs.Scan.{AreGathered}
 
--- which kinds a test leaves to the others
-Leaves : (Kind → Bool) → (Kind → Bool) → Type 0
-Leaves own other = (k : Kind) → other k ≡ true → own k ≡ false
+-- ---- what was found stays
 
-breaks_days : Leaves is_b1 is_b2_to_b5
-unfolding Leaves
-breaks_days B1 e = absurd (let f : false ≡ true = e in cc)
-breaks_days kind e = refl
+module _ (old new : Found) (a : Appends is_any true old new) where
+  pub breach_stays : (breach : Breach) → Contains old.breaches.items breach → Contains new.breaches.items breach
+  breach_stays breach in' = subst (λ (xs : List Breach). Contains xs breach) (sym a.longer)
+      (Contains-append_left old.breaches.items a.breaches breach in')
 
-breaks_sums : Leaves is_b1 is_b6_or_b7
-unfolding Leaves
-breaks_sums B1 e = absurd (let f : false ≡ true = e in cc)
-breaks_sums kind e = refl
+  pub debt_stays : (debt : Debt) → Contains old.debts.items debt → Contains new.debts.items debt
+  debt_stays debt in' = subst (λ (xs : List Debt). Contains xs debt) (sym a.more)
+      (Contains-append_left old.debts.items a.debts debt in')
 
-breaks_rests : Leaves is_b1 is_b8_to_b10
-unfolding Leaves
-breaks_rests B1 e = absurd (let f : false ≡ true = e in cc)
-breaks_rests kind e = refl
+-- ---- the breaches of all rules
 
-days_breaks : Leaves is_b2_to_b5 is_b1
-unfolding Leaves
-days_breaks B1 e = refl
-days_breaks kind e = absurd (let f : false ≡ true = e in cc)
-
-days_sums : Leaves is_b2_to_b5 is_b6_or_b7
-unfolding Leaves
-days_sums B6 e = refl
-days_sums B7 e = refl
-days_sums kind e = absurd (let f : false ≡ true = e in cc)
-
-days_rests : Leaves is_b2_to_b5 is_b8_to_b10
-unfolding Leaves
-days_rests B8 e = refl
-days_rests B9 e = refl
-days_rests B10 e = refl
-days_rests kind e = absurd (let f : false ≡ true = e in cc)
-
-sums_breaks : Leaves is_b6_or_b7 is_b1
-unfolding Leaves
-sums_breaks B1 e = refl
-sums_breaks kind e = absurd (let f : false ≡ true = e in cc)
-
-sums_days : Leaves is_b6_or_b7 is_b2_to_b5
-unfolding Leaves
-sums_days B6 e = absurd (let f : false ≡ true = e in cc)
-sums_days B7 e = absurd (let f : false ≡ true = e in cc)
-sums_days kind e = refl
-
-sums_rests : Leaves is_b6_or_b7 is_b8_to_b10
-unfolding Leaves
-sums_rests B6 e = absurd (let f : false ≡ true = e in cc)
-sums_rests B7 e = absurd (let f : false ≡ true = e in cc)
-sums_rests kind e = refl
-
-rests_breaks : Leaves is_b8_to_b10 is_b1
-unfolding Leaves
-rests_breaks B1 e = refl
-rests_breaks kind e = absurd (let f : false ≡ true = e in cc)
-
-rests_days : Leaves is_b8_to_b10 is_b2_to_b5
-unfolding Leaves
-rests_days B8 e = absurd (let f : false ≡ true = e in cc)
-rests_days B9 e = absurd (let f : false ≡ true = e in cc)
-rests_days B10 e = absurd (let f : false ≡ true = e in cc)
-rests_days kind e = refl
-
-rests_sums : Leaves is_b8_to_b10 is_b6_or_b7
-unfolding Leaves
-rests_sums B8 e = absurd (let f : false ≡ true = e in cc)
-rests_sums B9 e = absurd (let f : false ≡ true = e in cc)
-rests_sums B10 e = absurd (let f : false ≡ true = e in cc)
-rests_sums kind e = refl
-
--- what the four append, one after the other
-module _ (old one two three new : Found) (a : Appends is_b1 false old one) (b : Appends is_b2_to_b5 false one two)
-    (c : Appends is_b6_or_b7 false two three) (d : Appends is_b8_to_b10 true three new) where
-  -- the breaks' own stay as they were when theirs were appended
-  pub breaks_after : own_of is_b1 new.breaches.items ≡ own_of is_b1 one.breaches.items
-  unfolding Leaves
-  breaks_after = others_keep is_b1 is_b8_to_b10 true three new breaks_rests d
-      ∙ (others_keep is_b1 is_b6_or_b7 false two three breaks_sums c
-      ∙ others_keep is_b1 is_b2_to_b5 false one two breaks_days b)
-
-  -- before the days' and behind them
-  pub days_before : own_of is_b2_to_b5 one.breaches.items ≡ own_of is_b2_to_b5 old.breaches.items
-  unfolding Leaves
-  days_before = others_keep is_b2_to_b5 is_b1 false old one days_breaks a
-
-  pub days_after : own_of is_b2_to_b5 new.breaches.items ≡ own_of is_b2_to_b5 two.breaches.items
-  unfolding Leaves
-  days_after = others_keep is_b2_to_b5 is_b8_to_b10 true three new days_rests d
-      ∙ others_keep is_b2_to_b5 is_b6_or_b7 false two three days_sums c
-
-  -- the weeks'
-  pub sums_before : own_of is_b6_or_b7 two.breaches.items ≡ own_of is_b6_or_b7 old.breaches.items
-  unfolding Leaves
-  sums_before = others_keep is_b6_or_b7 is_b2_to_b5 false one two sums_days b
-      ∙ others_keep is_b6_or_b7 is_b1 false old one sums_breaks a
-
-  pub sums_after : own_of is_b6_or_b7 new.breaches.items ≡ own_of is_b6_or_b7 three.breaches.items
-  unfolding Leaves
-  sums_after = others_keep is_b6_or_b7 is_b8_to_b10 true three new sums_rests d
-
-  -- and the weekly rests', with the debts
-  pub rests_before : own_of is_b8_to_b10 three.breaches.items ≡ own_of is_b8_to_b10 old.breaches.items
-  unfolding Leaves
-  rests_before = others_keep is_b8_to_b10 is_b6_or_b7 false two three rests_sums c
-      ∙ (others_keep is_b8_to_b10 is_b2_to_b5 false one two rests_days b
-      ∙ others_keep is_b8_to_b10 is_b1 false old one rests_breaks a)
-
-  pub debts_before : three.debts.items ≡ old.debts.items
-  debts_before = others_keep_debts true is_b6_or_b7 two three c
-      ∙ (others_keep_debts true is_b2_to_b5 one two b ∙ others_keep_debts true is_b1 old one a)
-
--- a pass appends breaches of some kind
-any_append : (own : Kind → Bool) (owes : Bool) (old new : Found) → Appends own owes old new
-    → Appends is_any true old new
-any_append own owes old new a =
-    appends_wider own is_any owes true old new (λ k e. refl) (λ e. absurd (let f : true ≡ false = e in cc)) a
-
--- and so do all four
-pub all_append : (old one two three new : Found) → Appends is_b1 false old one → Appends is_b2_to_b5 false one two
-    → Appends is_b6_or_b7 false two three → Appends is_b8_to_b10 true three new → Appends is_any true old new
-all_append old one two three new a b c d =
-    appends_then is_any true old one new (any_append is_b1 false old one a)
-    (appends_then is_any true one two new (any_append is_b2_to_b5 false one two b)
-    (appends_then is_any true two three new (any_append is_b6_or_b7 false two three c)
-    (any_append is_b8_to_b10 true three new d)))
+-- every kind is some rule's
+every : (kind : Kind) → is_any kind ≡ true
+every B1 = refl
+every B2 = refl
+every B3 = refl
+every B4 = refl
+every B5 = refl
+every B6 = refl
+every B7 = refl
+every B8 = refl
+every B9 = refl
+every B10 = refl
 
 module _ (line : Line) (base horizon : ℕ) (breaks : List Run) (debts : List Debt) where
   -- a breach of a kind
   Is : Kind → Breach → Type 0
   Is kind breach = IsBreach line base horizon breaks debts kind breach
 
-  -- those of each pass are those of its kinds
+  -- those of each rule, or of some together, are those of its kinds
   of_breaks : (kind : Kind) (breach : Breach)
       → IsBreakBreach line breaks kind breach ↔ (Is kind breach × IsTrue (is_b1 kind))
   unfolding Is
@@ -187,10 +99,10 @@ module _ (line : Line) (base horizon : ℕ) (breaks : List Run) (debts : List De
       (d : AreCollected (λ x. IsDayBreach line x.kind x) (own_of is_b2_to_b5 found))
       (s : AreCollected (λ x. IsWeekBreach line x.kind x) (own_of is_b6_or_b7 found))
       (r : AreCollected (λ x. IsRestBreach line base horizon debts x.kind x) (own_of is_b8_to_b10 found)) where
-    of_pass : (P : Kind → Breach → Type 0) (own : Kind → Bool) (kind : Kind) → own kind ≡ true
+    of_rule : (P : Kind → Breach → Type 0) (own : Kind → Bool) (kind : Kind) → own kind ≡ true
         → ((k : Kind) (x : Breach) → P k x ↔ (Is k x × IsTrue (own k)))
         → AreCollected (λ x. P x.kind x) (own_of own found) → IsPart Is kind found
-    of_pass P own kind takes same are = record {
+    of_rule P own kind takes same are = record {
       own = own;
       takes = takes;
       are =
@@ -199,18 +111,105 @@ module _ (line : Line) (base horizon : ℕ) (breaks : List Run) (debts : List De
     }
 
     part : (kind : Kind) → is_any kind ≡ true → IsPart Is kind found
-    part B1 e = of_pass (IsBreakBreach line breaks) is_b1 B1 refl of_breaks b
-    part B2 e = of_pass (IsDayBreach line) is_b2_to_b5 B2 refl of_days d
-    part B3 e = of_pass (IsDayBreach line) is_b2_to_b5 B3 refl of_days d
-    part B4 e = of_pass (IsDayBreach line) is_b2_to_b5 B4 refl of_days d
-    part B5 e = of_pass (IsDayBreach line) is_b2_to_b5 B5 refl of_days d
-    part B6 e = of_pass (IsWeekBreach line) is_b6_or_b7 B6 refl of_sums s
-    part B7 e = of_pass (IsWeekBreach line) is_b6_or_b7 B7 refl of_sums s
-    part B8 e = of_pass (IsRestBreach line base horizon debts) is_b8_to_b10 B8 refl of_rests r
-    part B9 e = of_pass (IsRestBreach line base horizon debts) is_b8_to_b10 B9 refl of_rests r
-    part B10 e = of_pass (IsRestBreach line base horizon debts) is_b8_to_b10 B10 refl of_rests r
+    part B1 e = of_rule (IsBreakBreach line breaks) is_b1 B1 refl of_breaks b
+    part B2 e = of_rule (IsDayBreach line) is_b2_to_b5 B2 refl of_days d
+    part B3 e = of_rule (IsDayBreach line) is_b2_to_b5 B3 refl of_days d
+    part B4 e = of_rule (IsDayBreach line) is_b2_to_b5 B4 refl of_days d
+    part B5 e = of_rule (IsDayBreach line) is_b2_to_b5 B5 refl of_days d
+    part B6 e = of_rule (IsWeekBreach line) is_b6_or_b7 B6 refl of_sums s
+    part B7 e = of_rule (IsWeekBreach line) is_b6_or_b7 B7 refl of_sums s
+    part B8 e = of_rule (IsRestBreach line base horizon debts) is_b8_to_b10 B8 refl of_rests r
+    part B9 e = of_rule (IsRestBreach line base horizon debts) is_b8_to_b10 B9 refl of_rests r
+    part B10 e = of_rule (IsRestBreach line base horizon debts) is_b8_to_b10 B10 refl of_rests r
 
-    -- what the four have found are the breaches of all rules
+    -- what they have found are the breaches of all rules
     pub all_found : AreCollected (λ x. IsBreach line base horizon breaks debts x.kind x) found
     unfolding Is
-    all_found = joined Is is_any found (λ i x within. refl) (λ x is. refl) part
+    all_found = joined Is is_any found (λ i d within. every (get_or found i d).kind) (λ x is. every x.kind) part
+
+-- ---- rules in pairs
+
+either_left : (a b : Bool) → a ≡ true → (a || b) ≡ true
+either_left a b e = rw e refl
+
+either_right : (a b : Bool) → b ≡ true → (a || b) ≡ true
+either_right true b e = refl
+either_right false b e = e
+
+-- of what the rules on days and weeks have found
+behind_breaks : (own : Kind → Bool) → ((k : Kind) → own k ≡ true → is_b2_to_b10 k ≡ true) → (new : List Breach)
+    → own_of own (own_of is_b2_to_b10 (own_of is_any new)) ≡ own_of own new
+behind_breaks own within new =
+    own_sub own is_b2_to_b10 (own_of is_any new) within
+    ∙ own_sub own is_any new (λ k e. either_right (is_b1 k) (is_b2_to_b10 k) (within k e))
+
+-- and the rules on weeks
+behind_days : (own : Kind → Bool) → ((k : Kind) → own k ≡ true → is_b6_to_b10 k ≡ true) → (new : List Breach)
+    → own_of own (own_of is_b6_to_b10 (own_of is_b2_to_b10 (own_of is_any new))) ≡ own_of own new
+behind_days own within new =
+    own_sub own is_b6_to_b10 (own_of is_b2_to_b10 (own_of is_any new)) within
+    ∙ behind_breaks own (λ k e. either_right (is_b2_to_b5 k) (is_b6_to_b10 k) (within k e)) new
+
+-- the rules on days in one
+of_two : (new : List Breach) (base horizon : ℕ) (spans : List Span)
+    → RestsDefined (own_of is_b2_or_b3 (own_of is_b2_to_b5 (own_of is_b2_to_b10 (own_of is_any new)))) []
+    base horizon spans
+    × DrivingDefined (own_of is_b4_or_b5 (own_of is_b2_to_b5 (own_of is_b2_to_b10 (own_of is_any new)))) []
+    base horizon spans
+    → DaysDefined (own_of is_b2_to_b5 new) [] base horizon spans
+of_two new base horizon spans (rests, driving) =
+    subst (λ (xs : List Breach). DaysDefined xs [] base horizon spans)
+    (behind_breaks is_b2_to_b5 (λ k e. either_left (is_b2_to_b5 k) (is_b6_to_b10 k) e) new)
+    (days_defined (own_of is_b2_to_b10 (own_of is_any new)) [] [] base horizon spans rests driving)
+
+-- those on weekly rests in one
+of_three : (new : List Breach) (owed : List Debt) (base horizon : ℕ) (spans : List Span)
+    → PairsDefined (own_of is_b9 (own_of is_b8_to_b10 (own_of is_b6_to_b10 (own_of is_b2_to_b10 (own_of is_any new)))))
+    [] base horizon spans
+    × LateDefined (own_of is_b8 (own_of is_b8_or_b10 (own_of is_b8_to_b10 (own_of is_b6_to_b10 (own_of is_b2_to_b10
+    (own_of is_any new)))))) [] base horizon spans
+    × OwingDefined (own_of is_b10 (own_of is_b8_or_b10 (own_of is_b8_to_b10 (own_of is_b6_to_b10 (own_of is_b2_to_b10
+    (own_of is_any new)))))) owed base horizon spans
+    → WeekRestsDefined (own_of is_b8_to_b10 new) owed base horizon spans
+of_three new owed base horizon spans (pairs, late, owing) =
+    subst (λ (xs : List Breach). WeekRestsDefined xs owed base horizon spans)
+    (behind_days is_b8_to_b10 (λ k e. either_right (is_b6_or_b7 k) (is_b8_to_b10 k) e) new)
+    (week_rests_defined (own_of is_b6_to_b10 (own_of is_b2_to_b10 (own_of is_any new))) owed base horizon spans
+    pairs (late, owing))
+
+-- what the rules of a scan find of what is examined
+pub rules_defined : (new : List Breach) (owed : List Debt) (base horizon : ℕ) (spans : List Span)
+    → PeriodsDefined (own_of is_b1 (own_of is_any new)) [] base horizon spans
+    × (RestsDefined (own_of is_b2_or_b3 (own_of is_b2_to_b5 (own_of is_b2_to_b10 (own_of is_any new)))) []
+    base horizon spans
+    × DrivingDefined (own_of is_b4_or_b5 (own_of is_b2_to_b5 (own_of is_b2_to_b10 (own_of is_any new)))) []
+    base horizon spans)
+    × SumsDefined (own_of is_b6_or_b7 (own_of is_b6_to_b10 (own_of is_b2_to_b10 (own_of is_any new)))) []
+    base horizon spans
+    × PairsDefined (own_of is_b9 (own_of is_b8_to_b10 (own_of is_b6_to_b10 (own_of is_b2_to_b10 (own_of is_any new)))))
+    [] base horizon spans
+    × LateDefined (own_of is_b8 (own_of is_b8_or_b10 (own_of is_b8_to_b10 (own_of is_b6_to_b10 (own_of is_b2_to_b10
+    (own_of is_any new)))))) [] base horizon spans
+    × OwingDefined (own_of is_b10 (own_of is_b8_or_b10 (own_of is_b8_to_b10 (own_of is_b6_to_b10 (own_of is_b2_to_b10
+    (own_of is_any new)))))) owed base horizon spans
+    → AreGathered (line_of spans) base horizon new owed
+rules_defined new owed base horizon spans (breaks, days, sums, pairs, late, owing) =
+    let line : Line = line_of spans in
+    let all : DaysDefined (own_of is_b2_to_b5 new) [] base horizon spans = of_two new base horizon spans days in
+    let rests : WeekRestsDefined (own_of is_b8_to_b10 new) owed base horizon spans =
+    of_three new owed base horizon spans (pairs, late, owing) in
+    record {
+      runs = breaks.runs;
+      breaks = breaks.breaks;
+      are_runs = breaks.are_runs;
+      are_breaks = breaks.are_breaks;
+      are_debts = rests.are_debts;
+      exactly =
+          all_found line base horizon breaks.breaks owed new
+          (subst (λ (xs : List Breach). AreCollected (λ y. IsBreakBreach line breaks.breaks y.kind y) xs)
+          (own_sub is_b1 is_any new (λ k e. either_left (is_b1 k) (is_b2_to_b10 k) e)) breaks.breaches)
+          all.breaches
+          (subst (λ (xs : List Breach). AreCollected (λ y. IsWeekBreach line y.kind y) xs)
+          (behind_days is_b6_or_b7 (λ k e. either_left (is_b6_or_b7 k) (is_b8_to_b10 k) e) new) sums.breaches)
+          rests.breaches;
+    }

@@ -5,10 +5,12 @@ mod examination;
 pub mod laws;
 pub mod plain;
 mod report;
+mod rules;
 mod scan;
 
 pub use examination::examine;
 pub use report::Report;
+pub use rules::{BreaksFirst, DayAndWeekRules, DaysFirst, Rules, SumsFirst, WeekRules};
 pub use scan::Scan;
 pub use tacho_days::Days;
 pub use tacho_driving::{Breaks, WeekSums};

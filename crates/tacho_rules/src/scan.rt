@@ -1,5 +1,7 @@
-ghost use Rattle.std.specs.Prelude.{◌≡◌, ◌⊎◌, ◌++◌, ◌∷◌, [], ◌<◌, ◌≤◌, ℕ, List, true, IsErr, IfOk, OnOk, OnErr};
+ghost use Rattle.std.specs.Prelude.{◌≡◌, ◌⊎◌, ◌++◌, ◌∷◌, [], ◌<◌, ◌≤◌, ℕ, List, Contains, true, IsErr, IfOk, OnOk, OnErr};
 ghost use Rattle.tacho_time.specs.declared.span.Span.{Span as SpanValue};
+ghost use Rattle.tacho_hours.specs.declared.breach.Breach.{Breach as BreachValue};
+ghost use Rattle.tacho_hours.specs.declared.debt.Debt.{Debt as DebtValue};
 ghost use Rattle.tacho_hours.specs.Line.{line_of, Joined, IsBase, IsExamined};
 ghost use Rattle.tacho_hours.specs.Limits.{latest};
 ghost use Rattle.tacho_pass.specs.declared.found.Found.{Found as FoundValue};
@@ -8,13 +10,11 @@ ghost use Rattle.tacho_pass.specs.Kinds.{is_any};
 ghost use Rattle.tacho_rules.specs.Scan.{AreFindings, AreGathered, IsAt, CanTake, HasFailed, IsScanOf};
 
 use crate::report::Report;
+use crate::rules::Rules;
 use std::alloc::AllocError;
-use tacho_days::Days;
-use tacho_driving::{Breaks, WeekSums};
 use tacho_hours::put_in_order;
 use tacho_line::Horizon;
-use tacho_pass::{Found, Pass};
-use tacho_rests::WeekRests;
+use tacho_pass::{Found, Hearing, Pass};
 use tacho_time::{Minute, Span};
 
 /// All rules on driving and rest hours (Articles 6, 7 and 8 of Regulation (EC) 561/2006) over spans that come one at a
@@ -22,10 +22,7 @@ use tacho_time::{Minute, Span};
 /// first. Minutes are those of UTC.
 #[derive(Clone, Copy)]
 pub struct Scan {
-    breaks: Breaks,
-    days: Days,
-    sums: WeekSums,
-    rests: WeekRests,
+    hearing: Hearing<Rules>,
 }
 
 impl Scan {
@@ -38,10 +35,7 @@ impl Scan {
             → IsScanOf result found base [] }
     {
         Scan {
-            breaks: Breaks::new(base),
-            days: Days::new(base),
-            sums: WeekSums::new(base),
-            rests: WeekRests::new(base),
+            hearing: Hearing::new(base),
         }
     }
 
@@ -57,16 +51,7 @@ impl Scan {
         ensures err { OnErr result (HasFailed self.new) }
         ensures stays { HasFailed self.old → IsErr result }
     {
-        let Span { start, past, mark } = span;
-        let one = self.breaks.feed(Span { start, past, mark }, found);
-        let two = self.days.feed(Span { start, past, mark }, found);
-        let three = self.sums.feed(Span { start, past, mark }, found);
-        let four = self.rests.feed(Span { start, past, mark }, found);
-        one?;
-        two?;
-        three?;
-        four?;
-        Ok(())
+        self.hearing.feed(span, found)
     }
 
     /// Takes spans in order, the first of which starts where the last one ended, as each next one does.
@@ -92,27 +77,26 @@ impl Scan {
         ensures gathered { OnOk result ((base : ℕ) (spans : List SpanValue) → IsScanOf self found.old base spans
             → IsExamined spans base horizon
             → AreGathered (line_of spans) base horizon found.new.breaches.items found.new.debts.items) }
+        ensures appends { Appends is_any true found.old found.new }
         ensures stays { HasFailed self → IsErr result }
     {
-        let mut breaks = self.breaks;
-        let mut days = self.days;
-        let mut sums = self.sums;
-        let mut rests = self.rests;
-        breaks.finish(horizon, found)?;
-        days.finish(horizon, found)?;
-        sums.finish(horizon, found)?;
-        rests.finish(horizon, found)?;
+        let mut hearing = self.hearing;
+        hearing.finish(horizon, found)?;
         Ok(())
     }
 
     /// The report at the horizon, where the last span ended (the base if there was none): every breach once and in
-    /// order, and every debt.
+    /// order, and every debt. All that was found before is in it.
     pub fn finish(self, horizon: Horizon, found: Found) -> Result<Report, AllocError>
         requires { IsAt self horizon.minute }
         ensures horizon { IfOk result (λ report. report.horizon ≡ horizon) }
         ensures report { IfOk result (λ report. (base : ℕ) (spans : List SpanValue) → IsScanOf self found base spans
             → IsExamined spans base horizon.minute
             → AreFindings (line_of spans) base horizon.minute report.breaches.items report.debts.items) }
+        ensures told { IfOk result (λ report. (breach : BreachValue) → Contains found.breaches.items breach
+            → Contains report.breaches.items breach) }
+        ensures owed { IfOk result (λ report. (debt : DebtValue) → Contains found.debts.items debt
+            → Contains report.debts.items debt) }
         ensures stays { HasFailed self → IsErr result }
     {
         let mut found = found;

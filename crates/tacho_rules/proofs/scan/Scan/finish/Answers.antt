@@ -1,3 +1,4 @@
+use Rattle.tacho_rules.proofs.ScanLemmas.{breach_stays, debt_stays}
 use Rattle.tacho_rules.proofs.scan.Scan.finish.Goals as goal
 
 pub returns-clause-report : goal.returns-clause-report
@@ -17,3 +18,12 @@ returns-clause-report c = λ base spans r x.
         in_order = c.put_in_order.ensures.order gathered.exactly.in_order;
       };
     })
+
+pub returns-clause-told : goal.returns-clause-told
+returns-clause-told c = λ breach in'.
+    ((c.put_in_order.ensures.same breach).1
+    (breach_stays c.args.found c.end.new.found c.in_ok-end.ensures.appends breach in'))
+
+pub returns-clause-owed : goal.returns-clause-owed
+returns-clause-owed c = λ debt in'.
+    (debt_stays c.args.found c.end.new.found c.in_ok-end.ensures.appends debt in')
