@@ -12,11 +12,9 @@ use std::alloc::Global;
 use std::rt::Env;
 use std::{env, io};
 use tacho_line::{Line, LineFault};
+use tacho_rules::limits::FIRST_BASE;
 use tacho_time::{Activity, Device, Mark, Minute, Span, read_all};
 use years::Way;
-
-/// The first minute of 3 January 2000.
-pub(crate) const START: u32 = 15_780_960;
 
 /// How many bytes an input has at the most.
 const LIMIT: usize = 1_048_576;
@@ -34,8 +32,8 @@ enum Work {
 
 /// The span of an hour, from so many hours after the start on. Two that touch have different marks.
 fn hour(number: u32) -> Span {
-    let start = Minute::new(START + 60 * (number % 800_000));
-    let past = Minute::new(START + 60 * (number % 800_000) + 60);
+    let start = Minute::new(FIRST_BASE + 60 * (number % 800_000));
+    let past = Minute::new(FIRST_BASE + 60 * (number % 800_000) + 60);
     let activity = if number % 2 == 0 {
         Activity::Work
     } else {

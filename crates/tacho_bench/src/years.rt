@@ -1,15 +1,10 @@
-ghost use Rattle.std.specs.Prelude.{◌≤◌, All, IsTrue};
-ghost use Rattle.tacho_hours.specs.Line.{IsBase};
-
+use crate::add;
 use crate::passes::examine_plainly;
-use crate::{START, add};
 use std::alloc::{AllocError, Global};
 use tacho_line::{Line, LineFault};
-use tacho_rules::examine;
-use tacho_time::{Activity, Mark, Minute, Span, first_minute, week_of};
-
-/// 2100-01-01 00:00, where the last day ends that is examined.
-const LAST: u32 = 68_374_080;
+use tacho_rules::limits::{FIRST_BASE, LATEST};
+use tacho_rules::{can_be_examined, examine};
+use tacho_time::{Activity, Mark, Minute, Span};
 
 /// The minutes of a shift.
 const SHIFT: u32 = 360;
@@ -33,7 +28,7 @@ pub(crate) struct Count {
 
 /// So many minutes after the start.
 fn minute(number: u32) -> Minute {
-    Minute::new(START.wrapping_add(number).min(LAST))
+    Minute::new(FIRST_BASE.wrapping_add(number).min(LATEST))
 }
 
 /// What a driver who is alone does, in minutes after the start.
@@ -118,16 +113,6 @@ fn line_of(alloc: Global, days: u32, pieces: u32) -> Result<Line, LineFault> {
     Ok(line)
 }
 
-/// Whether a line can be examined from a base on.
-fn can_be_examined(line: &Line, base: Minute) -> bool
-    ensures base { IsTrue result → IsBase base }
-    ensures within { IsTrue result → All (λ span. span.past ≤ 68374080) line.now }
-{
-    base.number() >= START
-        && first_minute(week_of(base)) == base
-        && line.spans().iter().all(|span| span.past.number() <= LAST)
-}
-
 /// What is found in the line of so many days when it is examined so many times.
 pub(crate) fn examined(
     alloc: Global,
@@ -137,7 +122,7 @@ pub(crate) fn examined(
     times: u32,
 ) -> Result<Count, LineFault> {
     let line = line_of(alloc, days, pieces)?;
-    let base = Minute::new(START);
+    let base = Minute::new(FIRST_BASE);
     let mut count = Count {
         spans: line.spans().len(),
         breaches: 0,

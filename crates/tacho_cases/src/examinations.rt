@@ -1,10 +1,10 @@
-ghost use Rattle.std.specs.Prelude.{◌≤◌, All, IsTrue};
+ghost use Rattle.std.specs.Prelude.{◌≤◌};
 
 use crate::same::assert_same;
 use std::alloc::{AllocError, Global};
 use std::test::Fail;
 use tacho_line::{Line, LineFault};
-use tacho_rules::{Breach, Cause, Debt, Kind, Report, examine};
+use tacho_rules::{Breach, Cause, Debt, Kind, Report, can_be_examined, examine};
 use tacho_time::{Activity, Mark, Minute, Span, Week, first_minute};
 
 /// 2024-03-04 00:00, a Monday's first minute.
@@ -12,9 +12,6 @@ const BASE: u32 = 28_491_840;
 
 /// The week of that Monday.
 const WEEK: u32 = 2826;
-
-/// 2100-01-01 00:00, which no span passes.
-const LAST: u32 = 68_374_080;
 
 /// What is done on days of March 2024, from one minute of the day to another. April goes on with the 32nd.
 #[derive(Clone, Copy)]
@@ -107,21 +104,15 @@ fn line_of(alloc: Global, pieces: &[Piece], horizon: Minute) -> Result<Line, Lin
     Ok(line)
 }
 
-/// Whether no span passes the last minute.
-fn are_early(spans: &[Span]) -> bool
-    ensures { IsTrue result → All (λ span. span.past ≤ 68374080) spans.now }
-{
-    spans.iter().all(|span| span.past.number() <= LAST)
-}
-
 /// The report of a line from the base's week or the next.
 fn report_of(alloc: Global, line: &Line, week: u32) -> Result<Report, Fail>
     requires { week ≤ 1 }
 {
-    if !are_early(line.spans()) {
-        return Err(Fail::new("a late span"));
+    let base = first_minute(Week::new(WEEK + week));
+    if !can_be_examined(line, base) {
+        return Err(Fail::new("a line that can't be examined"));
     }
-    Ok(examine(alloc, line, first_minute(Week::new(WEEK + week)))?)
+    Ok(examine(alloc, line, base)?)
 }
 
 /// Whether the report of pieces with rest between them has a horizon that isn't held, these breaches and these debts.

@@ -57,3 +57,9 @@ pub const WEEKS_TO_PAY: u32 = 4;
 
 /// The first minute of week 0, a Monday at 00:00 (Article 4(i)).
 pub const FIRST_WEEK: u32 = 5760;
+
+/// The first minute from which a line is examined, that of Monday 2000-01-03; no Article rules it.
+pub const FIRST_BASE: u32 = 15_780_960;
+
+/// Where what is examined ends at the latest, 2100-01-01 00:00; no Article rules it.
+pub const LATEST: u32 = 68_374_080;

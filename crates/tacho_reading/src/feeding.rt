@@ -15,12 +15,10 @@ use sqlite::{Alter, Connection, Rows};
 use tacho_line::{Cause, Horizon};
 use tacho_pass::Found;
 use tacho_rules::Scan;
+use tacho_rules::limits::LATEST;
 use tacho_state::StoreFault;
 use tacho_tables::{StoredSpan, held, next_span};
 use tacho_time::{Minute, Span};
-
-/// The number of the last minute at which a span may end: 2100-01-01 00:00.
-const LATEST: u32 = 68_374_080;
 
 /// What one row does to a scan.
 #[derive(Clone, Copy)]

@@ -1,19 +1,10 @@
-ghost use Rattle.std.specs.Prelude.{◌≤◌, All, IsTrue};
-
-use crate::rules::{LAST, is_base, print_breaches, print_debts};
+use crate::rules::{print_breaches, print_debts};
 use crate::timeline::{gain, minute_of, numbers_of};
 use std::alloc::Global;
 use std::{io, str};
 use tacho_line::{Line, LineFault};
-use tacho_rules::{Report, examine};
-use tacho_time::{Minute, Span};
-
-/// Whether all of the spans end by 2100.
-fn are_early(spans: &[Span]) -> bool
-    ensures { IsTrue result → All (λ span. span.past ≤ 68374080) spans.now }
-{
-    spans.iter().all(|span| span.past.number() <= LAST)
-}
+use tacho_rules::{Report, can_be_examined, examine};
+use tacho_time::Minute;
 
 /// A line that holds the spans of numbers, three a span.
 fn line_of(alloc: Global, numbers: &[u32]) -> Result<Line, LineFault> {
@@ -32,7 +23,7 @@ fn print_report(rt: &impl Print, report: &Report) -> io::Result<()> {
 
 /// Prints the report of a line from a base on.
 fn tell_report(rt: &impl Print, alloc: Global, line: &Line, base: Minute) -> io::Result<()> {
-    if !is_base(base) || base.number() > LAST || !are_early(line.spans()) {
+    if !can_be_examined(line, base) {
         return println!(rt; "no examined line");
     }
     match examine(alloc, line, base) {

@@ -4,14 +4,9 @@ ghost use Rattle.tacho_hours.specs.Line.{Joined, IsBase, IsExamined};
 use crate::timeline::{numbers_of, spans_of};
 use std::alloc::{AllocError, Global};
 use std::{io, str};
+use tacho_rules::limits::{FIRST_BASE, LATEST};
 use tacho_rules::{Breach, Cause, Debt, Found, Horizon, Report, Scan, plain};
 use tacho_time::{Minute, Span, first_minute, week_of};
-
-/// 2000-01-03 00:00, the first Monday that is a base.
-const FIRST: u32 = 15_780_960;
-
-/// 2100-01-01 00:00, where the last day ends that is read.
-pub(crate) const LAST: u32 = 68_374_080;
 
 /// Whether none of the spans is as crew.
 fn are_single(spans: &[Span]) -> bool
@@ -35,17 +30,17 @@ fn are_joined(spans: &[Span], from: Minute, to: Minute) -> bool
 }
 
 /// Whether a minute is the first one of a Monday from that on.
-pub(crate) fn is_base(minute: Minute) -> bool
+fn is_base(minute: Minute) -> bool
     ensures { IsTrue result → IsBase minute }
 {
-    minute.number() >= FIRST && first_minute(week_of(minute)) == minute
+    minute.number() >= FIRST_BASE && first_minute(week_of(minute)) == minute
 }
 
 /// Whether these are the spans of an examined line from a base to before a minute.
 fn are_examined(spans: &[Span], base: Minute, past: Minute) -> bool
     ensures { IsTrue result → IsExamined spans.now base past }
 {
-    if !is_base(base) || past.number() > LAST {
+    if !is_base(base) || past.number() > LATEST {
         return false;
     }
     are_single(spans) && are_joined(spans, base, past)
@@ -165,7 +160,7 @@ pub(crate) fn answer(
             println!(rt; "not read")?;
             continue;
         };
-        let base = spans.first().map_or(Minute::new(FIRST), |span| span.start);
+        let base = spans.first().map_or(Minute::new(FIRST_BASE), |span| span.start);
         let past = spans.last().map_or(base, |span| span.past);
         if by_scan {
             tell_scan(rt, alloc, &spans, base, past)?;

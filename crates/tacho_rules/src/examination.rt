@@ -1,4 +1,4 @@
-ghost use Rattle.std.specs.Prelude.{◌≤◌, All, IfOk};
+ghost use Rattle.std.specs.Prelude.{◌≤◌, All, IfOk, IsTrue};
 ghost use Rattle.tacho_hours.specs.Line.{IsBase};
 ghost use Rattle.tacho_hours.specs.Limits.{latest};
 ghost use Rattle.tacho_rules.specs.Report.{IsReport};
@@ -6,9 +6,24 @@ ghost use Rattle.tacho_rules.specs.Report.{IsReport};
 use crate::report::Report;
 use crate::scan::Scan;
 use std::alloc::{AllocError, Global};
+use tacho_hours::limits::{FIRST_BASE, LATEST};
 use tacho_line::Line;
 use tacho_pass::Found;
-use tacho_time::Minute;
+use tacho_time::{Minute, first_minute, week_of};
+
+/// Whether a timeline can be examined from a base on: that is the first minute of a Monday from 2000-01-03 to the end of
+/// 2099, and no span goes past that end. Minutes are those of UTC.
+pub fn can_be_examined(line: &Line, base: Minute) -> bool
+    ensures monday { IsTrue result → IsBase base }
+    ensures early { IsTrue result → base ≤ latest }
+    ensures within { IsTrue result → All (λ span. span.past ≤ latest) line.now }
+    ensures all { IsBase base → base ≤ latest → All (λ span. span.past ≤ latest) line.now → IsTrue result }
+{
+    FIRST_BASE <= base.number()
+        && base.number() <= LATEST
+        && first_minute(week_of(base)) == base
+        && line.spans().iter().all(|span| span.past.number() <= LATEST)
+}
 
 /// The report of a timeline from a base, the first minute of a Monday, to its horizon: every breach of the rules on
 /// driving and rest hours (Articles 6, 7 and 8 of Regulation (EC) 561/2006) once, and every debt. Minutes are those of

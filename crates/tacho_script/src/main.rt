@@ -20,15 +20,13 @@ use std::io::{self, BufRead, BufReader, Write};
 use std::{env, fs};
 use tacho_card::Part;
 use tacho_cli::{parse, perform};
+use tacho_rules::limits::LATEST;
 use tacho_sheet::{Fault, breach_text, fault_line, imported_line};
 use tacho_shelf::Shelf;
 use tacho_state::{Caller, Keeper, StoreFault, base_of, report_of};
 use tacho_store::{Archive, open_memory};
 use tacho_tables::opening;
 use tacho_time::{Device, Minute};
-
-/// 2100-01-01 00:00, where the last day ends that is examined.
-const LAST: u32 = 68_374_080;
 
 /// What of all that a driver holds is read to be examined.
 #[derive(Clone, Copy)]
@@ -93,7 +91,7 @@ fn examined<K: Keeper>(
         return Err(StoreFault::NotMonday);
     };
     let line = match extent {
-        Extent::FromBase => keeper.line_within(alloc, driver, base, Minute::new(LAST))?,
+        Extent::FromBase => keeper.line_within(alloc, driver, base, Minute::new(LATEST))?,
         Extent::Whole => keeper.line(alloc, driver)?,
     };
     let report = report_of(alloc, &line, day)?;

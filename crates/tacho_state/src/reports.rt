@@ -1,6 +1,7 @@
-ghost use Rattle.std.specs.Prelude.{◌≡◌, ◌⊎◌, ◌*◌, ◌<◌, ◌≤◌, ◌↔◌, false, All, IfOk, IfErr, IfSome, IsNone, IsTrue};
+ghost use Rattle.std.specs.Prelude.{◌≡◌, ◌⊎◌, ◌*◌, ◌<◌, ◌≤◌, false, IfOk, IfErr, IfSome, IsNone};
 ghost use Rattle.tacho_time.specs.OrMemory.{OrMemory};
 ghost use Rattle.tacho_hours.specs.Line.{IsBase};
+ghost use Rattle.tacho_hours.specs.Limits.{latest};
 ghost use Rattle.tacho_rules.specs.Report.{IsReport};
 ghost use Rattle.tacho_state.specs.Steps.{is_monday};
 ghost use Rattle.tacho_state.specs.Reported.{IsNoBase, IsOutOfLimits};
@@ -8,25 +9,18 @@ ghost use Rattle.tacho_state.specs.Reported.{IsNoBase, IsOutOfLimits};
 use crate::fault::StoreFault;
 use std::alloc::Global;
 use tacho_line::Line;
-use tacho_rules::{Report, examine};
-use tacho_time::{Minute, Span};
+use tacho_rules::{Report, can_be_examined, examine};
+use tacho_time::Minute;
 
 /// The first minute of a day, where it is a Monday from 2000-01-03 to the end of 2099.
 pub fn base_of(day: u32) -> Option<Minute>
-    ensures some { IfSome result (λ base. (base ≡ 1440 * day) × IsBase base × (base ≤ 68374080)) }
+    ensures some { IfSome result (λ base. (base ≡ 1440 * day) × IsBase base × (base ≤ latest)) }
     ensures none { IsNone result → IsNoBase day }
 {
     if day < 10_959 || day > 47_481 || (day + 3) % 7 != 0 {
         return None;
     }
     Some(Minute::new(day * 1440))
-}
-
-/// Whether no span goes past the end of 2099.
-fn are_early(spans: &[Span]) -> bool
-    ensures { IsTrue result ↔ All (λ span. span.past ≤ 68374080) spans.now }
-{
-    spans.iter().all(|span| span.past.number() <= 68_374_080)
 }
 
 /// The report of a line from the first minute of a day on. S12 where the day is no Monday from 2000-01-03 to the end of 2099, or
@@ -38,7 +32,7 @@ pub fn report_of(alloc: Global, line: &Line, base: u32) -> Result<Report, StoreF
     let Some(first) = base_of(base) else {
         return Err(StoreFault::Store);
     };
-    if !are_early(line.spans()) {
+    if !can_be_examined(line, first) {
         return Err(StoreFault::Store);
     }
     Ok(examine(alloc, line, first)?)
