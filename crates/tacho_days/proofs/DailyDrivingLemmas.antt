@@ -309,7 +309,7 @@ module _ (line : Line) (start place q : ℕ) (d : DutyDriving) (own : List Breac
 
 -- a span more
 module _ (spans : List Span) (s : Span) (base start : ℕ) (d : DutyDriving) (own : List Breach) (owed : List Debt)
-    (r : DrivingStands start s.start d false own owed base spans)
+    (r : DrivingStands start s.start d own owed base spans)
     (some : s.start < s.past) (far : s.past < FAR) (late : 5760 ≤ d.from) where
   module _ (line : Line) (c : Continues line (spans ++ s ∷ []) s.past) where
     at : (m : ℕ) → s.start ≤ m → m < s.past → line m ≡ s.mark.activity
@@ -335,16 +335,14 @@ module _ (spans : List Span) (s : Span) (base start : ℕ) (d : DutyDriving) (ow
       → DrivingStands (if b then start else s.past) s.past
       (duty_with (is_drive s.mark.activity) s.start s.past
       (duty_any (if b then None else (if g then Some (run_of start s.start) else None)) d))
-      false (own ++ found_any (if b then None else (if g then Some (run_of start s.start) else None)) d) owed base
+      (own ++ found_any (if b then None else (if g then Some (run_of start s.start) else None)) d) owed base
       (spans ++ s ∷ [])
   by true g e f = record {
-    alive = refl;
     none = r.none;
     joined = joined_append spans s base r.joined some;
     kept = λ line c. quiet line c (rests_yes s.mark.activity e);
   }
   by false true e f = record {
-    alive = refl;
     none = r.none;
     joined = joined_append spans s base r.joined some;
     kept = λ line c.
@@ -352,7 +350,6 @@ module _ (spans : List Span) (s : Span) (base start : ℕ) (d : DutyDriving) (ow
         (busy line c e) (let k : start < s.start = grind (arith, nat_tests) in k) (omega arith) late;
   }
   by false false e f = record {
-    alive = refl;
     none = r.none;
     joined = joined_append spans s base r.joined some;
     kept = λ line c.
@@ -364,7 +361,7 @@ module _ (spans : List Span) (s : Span) (base start : ℕ) (d : DutyDriving) (ow
   }
 
   pub driven_fed : DrivingStands (start_after start s) s.past
-      (duty_with (is_drive s.mark.activity) s.start s.past (duty_any (run_before start s) d)) false
+      (duty_with (is_drive s.mark.activity) s.start s.past (duty_any (run_before start s) d))
       (own ++ found_any (run_before start s) d) owed base (spans ++ s ∷ [])
   driven_fed = by (is_rest s.mark.activity) (nat_lt start s.start) refl refl
 
@@ -376,9 +373,8 @@ counted_none line limit from = record {
 }
 
 -- before the first span
-pub driven_none : (base : ℕ) → 540 ≤ base → DrivingStands 0 base (duty_none base) false [] [] base []
+pub driven_none : (base : ℕ) → 540 ≤ base → DrivingStands 0 base (duty_none base) [] [] base []
 driven_none base late = record {
-  alive = refl;
   none = refl;
   joined = refl;
   kept = λ line c. record {
@@ -413,7 +409,7 @@ all_driving line runs all b = (
 
 -- at the end
 pub driven_end : (spans : List Span) (base past start : ℕ) (d : DutyDriving) (own : List Breach) (owed : List Debt)
-    → DrivingStands start past d false own owed base spans → IsExamined spans base past → 5760 ≤ d.from
+    → DrivingStands start past d own owed base spans → IsExamined spans base past → 5760 ≤ d.from
     → DrivingDefined (own ++ duty_found (run_of start FAR) d) owed base past spans
 driven_end spans base past start d own owed r x late =
     let line : Line = line_of spans in

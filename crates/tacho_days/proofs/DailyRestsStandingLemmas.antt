@@ -430,7 +430,7 @@ module _ (line : Line) (start place q : ℕ) (d : RestingDay) (own : List Breach
 
 -- a span more
 module _ (spans : List Span) (s : Span) (base start : ℕ) (d : RestingDay) (own : List Breach) (owed : List Debt)
-    (r : RestsStand start s.start d false own owed base spans) (some : s.start < s.past) (far : s.past < FAR) where
+    (r : RestsStand start s.start d own owed base spans) (some : s.start < s.past) (far : s.past < FAR) where
   module _ (line : Line) (c : Continues line (spans ++ s ∷ []) s.past) where
     -- in the span the line has its activity
     at : (m : ℕ) → s.start ≤ m → m < s.past → line m ≡ s.mark.activity
@@ -454,17 +454,15 @@ module _ (spans : List Span) (s : Span) (base start : ℕ) (d : RestingDay) (own
   -- whether the span is rest, and whether a run ends before it
   by : (b g : Bool) → is_rest s.mark.activity ≡ b → nat_lt start s.start ≡ g
       → RestsStand (if b then start else s.past) s.past
-      (after_any (if b then None else (if g then Some (run_of start s.start) else None)) d) false
+      (after_any (if b then None else (if g then Some (run_of start s.start) else None)) d)
       (own ++ found_any (if b then None else (if g then Some (run_of start s.start) else None)) d)
       owed base (spans ++ s ∷ [])
   by true g e f = record {
-    alive = refl;
     none = r.none;
     joined = joined_append spans s base r.joined some;
     kept = λ line c. quiet line c (rests_yes s.mark.activity e);
   }
   by false true e f = record {
-    alive = refl;
     none = r.none;
     joined = joined_append spans s base r.joined some;
     kept = λ line c.
@@ -472,7 +470,6 @@ module _ (spans : List Span) (s : Span) (base start : ℕ) (d : RestingDay) (own
         (let k : start < s.start = grind (arith, nat_tests) in k) (omega arith);
   }
   by false false e f = record {
-    alive = refl;
     none = r.none;
     joined = joined_append spans s base r.joined some;
     kept = λ line c.
@@ -482,14 +479,13 @@ module _ (spans : List Span) (s : Span) (base start : ℕ) (d : RestingDay) (own
   }
 
   -- and so as the code goes
-  pub rests_fed : RestsStand (start_after start s) s.past (after_any (run_before start s) d) false
+  pub rests_fed : RestsStand (start_after start s) s.past (after_any (run_before start s) d)
       (own ++ found_any (run_before start s) d) owed base (spans ++ s ∷ [])
   rests_fed = by (is_rest s.mark.activity) (nat_lt start s.start) refl refl
 
 -- before the first span
-pub rests_none : (base : ℕ) → 1440 ≤ base → RestsStand 0 base resting_none false [] [] base []
+pub rests_none : (base : ℕ) → 1440 ≤ base → RestsStand 0 base resting_none [] [] base []
 rests_none base late = record {
-  alive = refl;
   none = refl;
   joined = refl;
   kept = λ line c. record {
@@ -508,7 +504,7 @@ rests_none base late = record {
 
 -- at the end
 pub rests_end : (spans : List Span) (base past start : ℕ) (d : RestingDay) (own : List Breach) (owed : List Debt)
-    → RestsStand start past d false own owed base spans → IsExamined spans base past
+    → RestsStand start past d own owed base spans → IsExamined spans base past
     → RestsDefined (own ++ rest_found (run_of start FAR) d) owed base past spans
 rests_end spans base past start d own owed r x =
     let line : Line = line_of spans in

@@ -1,4 +1,4 @@
--- The two passes over the rules on days in one: the kinds of both, and what they find together (specs/Days).
+-- The two rules on days in one: the kinds of both, and what they find together (specs/Days).
 use Rattle.std.proofs.Common.{◌≡◌, ℕ, ◌⊎◌, ◌↔◌, inl, inr, List, refl, sym, ap, subst, ◌∙◌, Bool, true, false}
 use Rattle.std.specs.Prelude.{IsTrue}
 use Rattle.std.specs.List.{All}
@@ -13,7 +13,6 @@ use Rattle.tacho_hours.specs.Breaches.{IsDayBreach}
 use Rattle.tacho_hours.proofs.ExactlyLemmas.{exactly_as}
 use Rattle.tacho_pass.specs.Found.{own_of}
 use Rattle.tacho_pass.specs.Kinds.{is_b2_or_b3, is_b4_or_b5, is_b2_to_b5}
-use Rattle.tacho_pass.proofs.SharingLemmas.{AreTwo}
 use Rattle.tacho_pass.proofs.JoiningLemmas.{IsPart, joined, own_kinds}
 use Rattle.tacho_days.specs.DailyRests.{IsDailyRestBreach, RestsDefined}
 use Rattle.tacho_days.specs.DailyDriving.{IsDailyDriving, DrivingDefined}
@@ -29,22 +28,6 @@ driving_kind : (k : Kind) → is_b4_or_b5 k ≡ true → (k ≡ B4) ⊎ (k ≡ B
 driving_kind B4 e = inl refl
 driving_kind B5 e = inr refl
 driving_kind kind e = absurd (let f : false ≡ true = e in cc)
-
--- what is so of both kinds of a pass is so of each
-so_of_each : (first second : Kind) (test : Kind → Bool) (value : Bool) → test first ≡ value → test second ≡ value
-    → (k : Kind) → (k ≡ first) ⊎ (k ≡ second) → test k ≡ value
-so_of_each first second test value one two k which = elim which [ inl e ↦ ap test e ∙ one | inr e ↦ ap test e ∙ two ]
-
--- daily rests and daily driving
-pub rests_and_driving : AreTwo is_b2_or_b3 is_b4_or_b5 is_b2_to_b5 false false false
-rests_and_driving = record {
-  first_in = λ k e. so_of_each B2 B3 is_b2_to_b5 true refl refl k (rests_kind k e);
-  second_in = λ k e. so_of_each B4 B5 is_b2_to_b5 true refl refl k (driving_kind k e);
-  first_out = λ k e. so_of_each B4 B5 is_b2_or_b3 false refl refl k (driving_kind k e);
-  second_out = λ k e. so_of_each B2 B3 is_b4_or_b5 false refl refl k (rests_kind k e);
-  first_owes = λ e. refl;
-  second_owes = λ e. refl;
-}
 
 module _ (line : Line) where
   -- a breach of one of two kinds is a breach of its own kind
@@ -94,13 +77,21 @@ module _ (line : Line) where
         → AreCollected (λ b. IsDayBreach line b.kind b) own
     days_join kinds = joined (λ k b. IsDayBreach line k b) is_b2_to_b5 own kinds (λ b is. of_days b.kind b is) part
 
--- what both find of what is examined
+-- what both find, which is of no other kinds
+pub days_of_both : (own : List Breach) (owed debts : List Debt) (base horizon : ℕ) (spans : List Span)
+    → All (λ (b : Breach). IsTrue (is_b2_to_b5 b.kind)) own
+    → RestsDefined (own_of is_b2_or_b3 own) owed base horizon spans
+    → DrivingDefined (own_of is_b4_or_b5 own) debts base horizon spans
+    → DaysDefined own debts base horizon spans
+days_of_both own owed debts base horizon spans kinds rests driving = record {
+  none = driving.none;
+  breaches = days_join (line_of spans) own rests.breaches driving.breaches kinds;
+}
+
+-- and so those of their kinds among all that is found
 pub days_defined : (new : List Breach) (owed debts : List Debt) (base horizon : ℕ) (spans : List Span)
     → RestsDefined (own_of is_b2_or_b3 (own_of is_b2_to_b5 new)) owed base horizon spans
     → DrivingDefined (own_of is_b4_or_b5 (own_of is_b2_to_b5 new)) debts base horizon spans
     → DaysDefined (own_of is_b2_to_b5 new) debts base horizon spans
-days_defined new owed debts base horizon spans rests driving = record {
-  none = driving.none;
-  breaches =
-      days_join (line_of spans) (own_of is_b2_to_b5 new) rests.breaches driving.breaches (own_kinds is_b2_to_b5 new);
-}
+days_defined new owed debts base horizon spans rests driving =
+    days_of_both (own_of is_b2_to_b5 new) owed debts base horizon spans (own_kinds is_b2_to_b5 new) rests driving

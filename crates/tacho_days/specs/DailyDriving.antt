@@ -1,6 +1,6 @@
 -- Driving in duty days and the extended days of a week (Regulation (EC) 561/2006, Article 6(1)), span by span: what is
 -- kept of them, and what that stands for.
-use Rattle.std.specs.Prelude.{◌≡◌, ℕ, ◌+◌, ◌-◌, ◌/◌, ◌++◌, ◌≤◌, ◌⊎◌, nat_lt, nat_eq, Bool, false}
+use Rattle.std.specs.Prelude.{◌≡◌, ℕ, ◌+◌, ◌-◌, ◌/◌, ◌++◌, ◌≤◌, ◌⊎◌, nat_lt, nat_eq, Bool}
 use Rattle.std.specs.Prelude.{if◌then◌else◌, Option, None, Some, List, Contains, []}
 use Rattle.tacho_time.specs.declared.span.Span.{Span}
 use Rattle.tacho_hours.specs.declared.run.Run.{Run}
@@ -120,9 +120,8 @@ pub record IsDriven (line : Line) (start place : ℕ) (d : DutyDriving) (own : L
   pub found : AreCollected (λ breach. IsDrivingSeen line runs breach) own
 
 -- what is kept stands for the spans: it is so of each line that goes on as they say
-pub record DrivingStands (start place : ℕ) (d : DutyDriving) (failed : Bool) (own : List Breach)
-    (owed : List Debt) (base : ℕ) (spans : List Span) : Type 0 where
-  pub alive : failed ≡ false
+pub record DrivingStands (start place : ℕ) (d : DutyDriving) (own : List Breach) (owed : List Debt) (base : ℕ)
+    (spans : List Span) : Type 0 where
   pub none : owed ≡ []
   pub joined : Joined spans base place
   pub kept : (line : Line) → Continues line spans place → IsDriven line start place d own

@@ -1,5 +1,5 @@
 -- What the pass over daily rests stands for (Regulation (EC) 561/2006, Articles 4(g), 8(2) and 8(4)).
-use Rattle.std.specs.Prelude.{◌≡◌, ℕ, ◌<◌, ◌≤◌, ◌⊎◌, ◌↔◌, IsTrue, Bool, false, List, Contains, []}
+use Rattle.std.specs.Prelude.{◌≡◌, ℕ, ◌<◌, ◌≤◌, ◌⊎◌, ◌↔◌, IsTrue, List, Contains, []}
 use Rattle.tacho_time.specs.declared.span.Span.{Span}
 use Rattle.tacho_hours.specs.declared.run.Run.{Run}
 use Rattle.tacho_hours.specs.declared.days.DutyDay.{DutyDay}
@@ -62,9 +62,8 @@ pub record IsResting (line : Line) (start place : ℕ) (d : RestingDay) (own : L
   pub found : AreCollected (IsRestSeen line runs) own
 
 -- and so for each line that does what the spans say
-pub record RestsStand (start place : ℕ) (d : RestingDay) (failed : Bool) (own : List Breach) (owed : List Debt)
-    (base : ℕ) (spans : List Span) : Type 0 where
-  pub alive : failed ≡ false
+pub record RestsStand (start place : ℕ) (d : RestingDay) (own : List Breach) (owed : List Debt) (base : ℕ)
+    (spans : List Span) : Type 0 where
   pub none : owed ≡ []
   pub joined : Joined spans base place
   pub kept : (line : Line) → Continues line spans place → IsResting line start place d own

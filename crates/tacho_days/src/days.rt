@@ -1,62 +1,34 @@
-ghost use Rattle.std.specs.Prelude.{◌≡◌, ◌⊎◌, [], true, false};
-ghost use Rattle.tacho_pass.specs.Found.{own_of};
-ghost use Rattle.tacho_pass.specs.Kinds.{is_b2_or_b3, is_b4_or_b5, is_b2_to_b5};
-ghost use Rattle.tacho_days.specs.DailyRests.{RestsStand};
-ghost use Rattle.tacho_days.specs.DailyDriving.{DrivingStands};
-ghost use Rattle.tacho_days.specs.Days.{DaysDefined};
+ghost use Rattle.std.specs.Prelude.{◌≡◌, true, false};
+ghost use Rattle.std.proofs.Common.{refl, sym};
+ghost use Rattle.tacho_hours.specs.declared.breach.Kind.TheVariants.{B1, B2, B3, B4, B5, B6, B7, B8, B9, B10};
 
-use crate::daily_driving::DailyDriving;
-use crate::daily_rests::DailyRests;
-use std::alloc::AllocError;
-use tacho_pass::{Found, Pass};
-use tacho_time::{Minute, Span};
+use crate::duty_driving::DutyDriving;
+use crate::resting_day::RestingDay;
+use tacho_pass::{Apart, Both, Hearing};
+
+/// Daily rests go before driving in a day.
+#[derive(Clone, Copy)]
+pub struct RestsFirst {}
+
+impl Apart<RestingDay, DutyDriving> for RestsFirst {
+    ghost apart = { elim [
+      | B1 ↦ λ e. refl
+      | B2 ↦ λ e. sym e
+      | B3 ↦ λ e. sym e
+      | B4 ↦ λ e. refl
+      | B5 ↦ λ e. refl
+      | B6 ↦ λ e. refl
+      | B7 ↦ λ e. refl
+      | B8 ↦ λ e. refl
+      | B9 ↦ λ e. refl
+      | B10 ↦ λ e. refl
+    ] };
+
+    ghost no_debts = { refl };
+}
+
+/// Both rules on days.
+pub type DayRules = Both<RestingDay, DutyDriving, RestsFirst>;
 
 /// The rules on days: daily rests, and driving in a day (Articles 6(1), 8(2) and 8(4) of Regulation (EC) 561/2006).
-#[derive(Clone, Copy)]
-pub struct Days {
-    rests: DailyRests,
-    driving: DailyDriving,
-    ghost together: { rests.runs.place ≡ driving.runs.place },
-}
-
-impl Pass for Days {
-    ghost own = { is_b2_to_b5 };
-
-    ghost owes = { false };
-
-    ghost place = { λ p. p.driving.runs.place };
-
-    ghost stands = { λ p own owed base spans.
-        RestsStand p.rests.runs.start p.rests.runs.place p.rests.day p.rests.failed
-        (own_of is_b2_or_b3 own) [] base spans
-        × DrivingStands p.driving.runs.start p.driving.runs.place p.driving.duty p.driving.failed
-        (own_of is_b4_or_b5 own) owed base spans };
-
-    ghost failed = { λ p. (p.rests.failed ≡ true) ⊎ (p.driving.failed ≡ true) };
-
-    ghost defined = { DaysDefined };
-
-    fn new(base: Minute) -> Self {
-        Days {
-            rests: DailyRests::new(base),
-            driving: DailyDriving::new(base),
-        }
-    }
-
-    fn feed(&mut self, span: Span, found: &mut Found) -> Result<(), AllocError> {
-        let again = span;
-        let first = self.rests.feed(span, found);
-        let second = self.driving.feed(again, found);
-        first?;
-        second?;
-        Ok(())
-    }
-
-    fn finish(&mut self, horizon: Minute, found: &mut Found) -> Result<(), AllocError> {
-        let first = self.rests.finish(horizon, found);
-        let second = self.driving.finish(horizon, found);
-        first?;
-        second?;
-        Ok(())
-    }
-}
+pub type Days = Hearing<DayRules>;

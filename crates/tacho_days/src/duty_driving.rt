@@ -1,16 +1,17 @@
-ghost use Rattle.std.specs.Prelude.{◌≡◌, ◌<◌, ◌≤◌, ◌+◌, ◌++◌, ⊤, false, OnOk, MatchOption};
+ghost use Rattle.std.specs.Prelude.{◌≡◌, ◌<◌, ◌≤◌, ◌+◌, ◌++◌, ◌&&◌, ⊤, nat_le, false, OnOk, MatchOption};
 ghost use Rattle.tacho_hours.specs.Limits.{first_week, latest};
 ghost use Rattle.tacho_pass.specs.Found.{Appends, listed};
 ghost use Rattle.tacho_pass.specs.Kinds.{is_b4_or_b5};
 ghost use Rattle.tacho_days.specs.DutyDays.{is_long};
+ghost use Rattle.tacho_days.specs.DailyDriving.{DrivingStands, DrivingDefined};
 ghost use Rattle.tacho_days.specs.DailyDriving.{duty_none, duty_with, ordinal_of, often_of, next_day};
 ghost use Rattle.tacho_days.specs.DailyDriving.{duty_after, duty_found, duty_any, found_any};
 
 use std::alloc::AllocError;
 use tacho_hours::limits::{DAILY_REST, DRIVING_IN_DAY, DRIVING_IN_EXTENDED_DAY, EXTENDED_DAYS};
-use tacho_hours::{Breach, Kind, Run};
-use tacho_pass::{Count, Found, put};
-use tacho_time::{Minute, week_of};
+use tacho_hours::{Breach, FAR, Kind, Run};
+use tacho_pass::{Count, Found, Judge, is_drive, put};
+use tacho_time::{Minute, Span, week_of};
 
 /// The driving of the duty day that is open, and the extended days of a week before it (Article 6(1) of Regulation
 /// (EC) 561/2006).
@@ -30,7 +31,7 @@ pub struct DutyDriving {
 
 impl DutyDriving {
     /// Before the first daily rest, with nothing driven.
-    pub fn none(from: Minute) -> DutyDriving
+    fn none(from: Minute) -> DutyDriving
         ensures { result ≡ duty_none from }
     {
         DutyDriving {
@@ -109,10 +110,11 @@ impl DutyDriving {
     }
 
     /// Puts the breaches of the day that a rest run ends to what is found.
-    pub fn end(&self, run: Run, found: &mut Found) -> Result<(), AllocError>
+    fn end(&self, run: Run, found: &mut Found) -> Result<(), AllocError>
         requires from { first_week ≤ self.now.from }
         requires few { self.now.extended ≤ latest }
-        ensures breaches { OnOk result (found.new.breaches.items ≡ found.old.breaches.items ++ duty_found run self.now) }
+        ensures breaches { OnOk result (
+            found.new.breaches.items ≡ found.old.breaches.items ++ duty_found run self.now) }
         ensures appends { Appends is_b4_or_b5 false found.old found.new }
     {
         if ends_day(run) {
@@ -143,7 +145,7 @@ impl DutyDriving {
     }
 
     /// Takes a span, which may end a rest run where it starts.
-    pub fn feed(
+    fn hear(
         &mut self,
         run: Option<Run>,
         drives: bool,
@@ -164,7 +166,8 @@ impl DutyDriving {
         ensures nine { self.new.nine.minutes ≤ to }
         ensures ten { self.new.ten.minutes ≤ to }
         ensures few { self.new.extended ≤ to }
-        ensures breaches { OnOk result (found.new.breaches.items ≡ found.old.breaches.items ++ found_any run self.old) }
+        ensures breaches { OnOk result (
+            found.new.breaches.items ≡ found.old.breaches.items ++ found_any run self.old) }
         ensures appends { Appends is_b4_or_b5 false found.old found.new }
     {
         if let Some(run) = run {
@@ -172,6 +175,40 @@ impl DutyDriving {
             self.turn(run);
         }
         self.add(drives, from, to);
+        Ok(())
+    }
+}
+
+impl Judge for DutyDriving {
+    ghost own = { is_b4_or_b5 };
+
+    ghost owes = { false };
+
+    ghost fits = { λ d place. nat_le first_week d.from
+        && (nat_le d.nine.minutes place && (nat_le d.ten.minutes place && nat_le d.extended place)) };
+
+    ghost stands = { λ d start place own owed base spans. DrivingStands start place d own owed base spans };
+
+    ghost defined = { DrivingDefined };
+
+    fn new(base: Minute) -> Self {
+        DutyDriving::none(base)
+    }
+
+    fn feed(
+        &mut self,
+        _start: u32,
+        run: Option<Run>,
+        span: Span,
+        found: &mut Found,
+    ) -> Result<(), AllocError> {
+        let drives = is_drive(span.mark.activity);
+        self.hear(run, drives, span.start.number(), span.past.number(), found)?;
+        Ok(())
+    }
+
+    fn finish(self, start: u32, _horizon: Minute, found: &mut Found) -> Result<(), AllocError> {
+        self.end(Run { start, past: FAR }, found)?;
         Ok(())
     }
 }

@@ -1,8 +1,9 @@
-ghost use Rattle.std.specs.Prelude.{◌≡◌, ◌≤◌, ◌+◌, ◌++◌, ⊤, false, OnOk, MatchOption};
+ghost use Rattle.std.specs.Prelude.{◌≡◌, ◌≤◌, ◌+◌, ◌++◌, ⊤, nat_le, false, OnOk, MatchOption};
 ghost use Rattle.tacho_hours.specs.Runs.{minutes_of};
 ghost use Rattle.tacho_hours.specs.Limits.{latest, daily_rest};
 ghost use Rattle.tacho_pass.specs.Found.{Appends};
 ghost use Rattle.tacho_pass.specs.Kinds.{is_b2_or_b3};
+ghost use Rattle.tacho_days.specs.DailyRests.{RestsStand, RestsDefined};
 ghost use Rattle.tacho_days.specs.DutyDays.{day_to};
 ghost use Rattle.tacho_days.specs.RestingDays.{resting_none, regular_of, reduced_of};
 ghost use Rattle.tacho_days.specs.RestingDays.{short_of, often_of, rest_found, after_rest, after_any, found_any};
@@ -12,11 +13,11 @@ use tacho_hours::limits::{
     DAILY_REST, FIRST_PART_OF_DAILY_REST, MINUTES_OF_DAY, REDUCED_DAILY_RESTS, REGULAR_DAILY_REST,
     WEEKLY_REST,
 };
-use tacho_hours::{Breach, DutyDay, Kind, Run, has_portion};
-use tacho_pass::{Found, put};
-use tacho_time::Minute;
+use tacho_hours::{Breach, DutyDay, FAR, Kind, Run, has_portion};
+use tacho_pass::{Found, Judge, put};
+use tacho_time::{Minute, Span};
 
-/// The duty day so far, and the reduced daily rests before it.
+/// The duty day so far, and the reduced daily rests before it (Articles 8(2) and 8(4) of Regulation (EC) 561/2006).
 #[derive(Clone, Copy)]
 pub struct RestingDay {
     /// Where the day starts: the end of the last daily rest.
@@ -31,7 +32,7 @@ pub struct RestingDay {
 
 impl RestingDay {
     /// Before the first rest.
-    pub fn none() -> RestingDay
+    fn none() -> RestingDay
         ensures { result ≡ resting_none }
     {
         RestingDay {
@@ -149,10 +150,11 @@ impl RestingDay {
     }
 
     /// Puts the breaches of a rest to what is found.
-    pub fn end(&self, rest: Run, found: &mut Found) -> Result<(), AllocError>
+    fn end(&self, rest: Run, found: &mut Found) -> Result<(), AllocError>
         requires start { rest.start ≤ latest }
         requires few { self.now.number ≤ latest }
-        ensures breaches { OnOk result (found.new.breaches.items ≡ found.old.breaches.items ++ rest_found rest self.now) }
+        ensures breaches { OnOk result (
+            found.new.breaches.items ≡ found.old.breaches.items ++ rest_found rest self.now) }
         ensures appends { Appends is_b2_or_b3 false found.old found.new }
     {
         if rest.past.saturating_sub(rest.start) >= DAILY_REST {
@@ -163,19 +165,52 @@ impl RestingDay {
     }
 
     /// Takes a rest that a span ends, or none.
-    pub fn feed(&mut self, rest: Option<Run>, found: &mut Found) -> Result<(), AllocError>
+    fn hear(&mut self, rest: Option<Run>, found: &mut Found) -> Result<(), AllocError>
         requires start { MatchOption rest ⊤ (λ rest. rest.start ≤ latest) }
         requires past { MatchOption rest ⊤ (λ rest. rest.past ≤ latest) }
         requires few { self.old.number ≤ latest }
         ensures after { OnOk result (self.new ≡ after_any rest self.old) }
         ensures few { self.new.number ≤ self.old.number + 1 }
-        ensures breaches { OnOk result (found.new.breaches.items ≡ found.old.breaches.items ++ found_any rest self.old) }
+        ensures breaches { OnOk result (
+            found.new.breaches.items ≡ found.old.breaches.items ++ found_any rest self.old) }
         ensures appends { Appends is_b2_or_b3 false found.old found.new }
     {
         if let Some(rest) = rest {
             self.end(rest, found)?;
             *self = self.after(rest);
         }
+        Ok(())
+    }
+}
+
+impl Judge for RestingDay {
+    ghost own = { is_b2_or_b3 };
+
+    ghost owes = { false };
+
+    ghost fits = { λ d place. nat_le d.number place };
+
+    ghost stands = { λ d start place own owed base spans. RestsStand start place d own owed base spans };
+
+    ghost defined = { RestsDefined };
+
+    fn new(_base: Minute) -> Self {
+        RestingDay::none()
+    }
+
+    fn feed(
+        &mut self,
+        _start: u32,
+        run: Option<Run>,
+        _span: Span,
+        found: &mut Found,
+    ) -> Result<(), AllocError> {
+        self.hear(run, found)?;
+        Ok(())
+    }
+
+    fn finish(self, start: u32, _horizon: Minute, found: &mut Found) -> Result<(), AllocError> {
+        self.end(Run { start, past: FAR }, found)?;
         Ok(())
     }
 }

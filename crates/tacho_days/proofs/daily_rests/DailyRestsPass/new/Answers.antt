@@ -1,8 +1,0 @@
-use Rattle.std.proofs.Common.{◌≤◌, arith}
-use Rattle.tacho_days.proofs.DailyRestsStandingLemmas.{rests_none}
-use Rattle.tacho_days.proofs.daily_rests.DailyRestsPass.new.Goals as goal
-
-pub returns-clause-none : goal.returns-clause-none
-returns-clause-none c =
-    let late : 15780960 ≤ c.args.base = c.requires.monday.from in
-    rw (c.new.ensures.start, c.new.ensures.place, c.none.ensures) (rests_none c.args.base (omega arith))
