@@ -13,3 +13,4 @@ mod slice;
 pub use gap::Gap;
 pub use horizon::{Cause, Horizon};
 pub use line::{Line, LineFault};
+pub use slice::cut;

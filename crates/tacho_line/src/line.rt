@@ -1,13 +1,14 @@
-ghost use Rattle.std.specs.Prelude.{◌≡◌, [], OnOk, OnErr, IfOk, MatchResult};
+ghost use Rattle.std.specs.Prelude.{◌≡◌, [], map, OnOk, OnErr, IfOk, MatchResult};
 ghost use Rattle.tacho_time.specs.Spans.{Gives, IsCanonical, IsCanonicalOf, SamePairs};
 ghost use Rattle.tacho_line.specs.Line.{mark_at, Holds, Together, AreGains, IsGainFault, AreNotHeld, AreGaps, HoldsWithin, IsHorizon};
+ghost use Rattle.tacho_line.specs.Walk.{cut_to};
 
 use crate::gains::gains_of;
 use crate::gap::{Gap, gaps_of};
 use crate::horizon::{Horizon, horizon_of};
 use crate::merge::add_to;
 use crate::search;
-use crate::slice::slice_of;
+use crate::slice::{meeting, slice_of};
 use std::alloc::{AllocError, Global};
 use std::marker::Model;
 use tacho_time::{Mark, Minute, Span, SpanFault};
@@ -108,6 +109,14 @@ impl Line {
         ensures { IfOk result (λ spans. IsCanonicalOf (HoldsWithin self.now start past) spans.items) }
     {
         slice_of(alloc, &self.spans, start, past)
+    }
+
+    /// Its spans that have a minute from a start to before a past, in order. The first and the last may go beyond; their
+    /// parts within the range (`cut`) are what `slice` copies.
+    pub fn meeting(&self, start: Minute, past: Minute) -> &[Span]
+        ensures { IsCanonicalOf (HoldsWithin self.now start past) (map (cut_to start past) result.now) }
+    {
+        meeting(&self.spans, start, past)
     }
 
     /// The maximal runs of minutes from a start to before a past that it lacks, in order.

@@ -8,6 +8,17 @@ use crate::search::overlap;
 use std::alloc::{AllocError, Global};
 use tacho_time::{Minute, Span};
 
+/// Of spans in order those that have a minute from a start to before a past. The first and the last may go beyond.
+pub(crate) fn meeting(spans: &[Span], start: Minute, past: Minute) -> &[Span]
+    requires { IsCanonical spans.now }
+    ensures { IsCanonicalOf (HoldsWithin spans.now start past) (map (cut_to start past) result.now) }
+{
+    if past <= start {
+        return &spans[..0];
+    }
+    overlap(spans, start, past)
+}
+
 /// What spans in order give in the minutes from a start to before a past.
 pub(crate) fn slice_of(
     alloc: Global,
@@ -18,10 +29,7 @@ pub(crate) fn slice_of(
     requires { IsCanonical spans.now }
     ensures { IfOk result (λ within. IsCanonicalOf (HoldsWithin spans.now start past) within.items) }
 {
-    if past <= start {
-        return Ok(Vec::new(alloc));
-    }
-    cut_all(alloc, overlap(spans, start, past), start, past)
+    cut_all(alloc, meeting(spans, start, past), start, past)
 }
 
 /// The parts of spans that lie in a range.
@@ -39,8 +47,8 @@ pub(crate) fn cut_all(
         .collect(alloc)
 }
 
-/// The part of a span that lies in a range.
-fn cut(span: &Span, start: Minute, past: Minute) -> Span
+/// The part of a span from a start to before a past, where it has a minute there.
+pub fn cut(span: &Span, start: Minute, past: Minute) -> Span
     ensures { result ≡ cut_to start past span.now }
 {
     Span {

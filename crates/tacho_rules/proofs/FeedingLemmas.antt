@@ -1,7 +1,7 @@
--- A scan that is fed spans one after the other (`Scan::feed_all`, `examine`).
-use Rattle.std.proofs.Common.{◌≡◌, ℕ, ◌+◌, ◌<◌, ◌≤◌, List, [], ◌∷◌, ◌++◌, length, get_or, take, drop, refl, sym, ap}
+-- A scan that is fed spans one after the other (`Scan::feed_within`, `examine`).
+use Rattle.std.proofs.Common.{◌≡◌, ℕ, ◌+◌, ◌<◌, ◌≤◌, List, [], ◌∷◌, ◌++◌, length, get_or, map, take, drop, refl, sym, ap}
 use Rattle.std.proofs.Common.{subst, ◌∙◌, arith, true, Result, Ok, Err, IfOk}
-use Rattle.std.proofs.lemmas.List.{drop_more, drop_all, take_more, take_all, append-nil, append_assoc}
+use Rattle.std.proofs.lemmas.List.{length-map, get_or-map, drop_more, drop_all, take_more, take_all, append-nil, append_assoc}
 use Rattle.tacho_time.specs.declared.span.Span.{Span}
 use Rattle.tacho_line.specs.declared.horizon.Horizon.{Horizon}
 use Rattle.tacho_line.specs.Line.{IsHorizon}
@@ -109,9 +109,21 @@ module _ (spans : List Span) (was : Scan) (had : Found) (s : Scan) (found : Foun
       subst (λ (left : List Span). IsAt s (place_of left past))
       (drop_all i spans all) (f.at place past start joined).0
 
-  -- a scan that had failed took none
-  pub failed_takes_none : HasFailed was → spans ≡ []
-  failed_takes_none h = none_left spans (let e : i ≡ 0 = (f.failed h).0 in omega arith)
+  -- a scan that had failed took none, of which no part was left to take
+  pub failed_takes_none : (others : List Span) → length others ≤ i → HasFailed was → others ≡ []
+  failed_takes_none others all h = none_left others (let e : i ≡ 0 = (f.failed h).0 in omega arith)
+
+-- the part of the i-th span is the i-th part
+module _ (part : Span → Span) (spans : List Span) (i : ℕ) where
+  pub part_within : i < length spans → i < length (map part spans)
+  part_within within = rw (length-map spans part) within
+
+  pub part_past : length spans ≤ i → length (map part spans) ≤ i
+  part_past past = rw (length-map spans part) past
+
+  pub part_is : (span : Span) → i < length spans → span ≡ get_or spans i span
+      → part span ≡ get_or (map part spans) i (part span)
+  part_is span within here = ap part here ∙ sym (get_or-map part spans i span (part span) within)
 
 -- what is found of the examined line, with its horizon, is the report
 report_of : (held : List Span) (base : ℕ) (horizon : Horizon) (found : List Breach) (debts : List Debt)

@@ -35,9 +35,9 @@ pub fn examine(alloc: Global, line: &Line, base: Minute) -> Result<Report, Alloc
     ensures { IfOk result (λ report. IsReport line.now base report.horizon report.breaches.items report.debts.items) }
 {
     let horizon = line.horizon(base);
-    let spans = line.slice(alloc, base, horizon.minute)?;
+    let spans = line.meeting(base, horizon.minute);
     let mut scan = Scan::new(base);
     let mut found = Found::empty(alloc);
-    scan.feed_all(&spans, &mut found)?;
+    scan.feed_within(spans, base, horizon.minute, &mut found)?;
     scan.finish(horizon, found)
 }

@@ -1,9 +1,10 @@
-ghost use Rattle.std.specs.Prelude.{◌≡◌, ◌⊎◌, ◌++◌, ◌∷◌, [], ◌<◌, ◌≤◌, ℕ, List, Contains, true, IsErr, IfOk, OnOk, OnErr};
+ghost use Rattle.std.specs.Prelude.{◌≡◌, ◌⊎◌, ◌++◌, ◌∷◌, [], ◌<◌, ◌≤◌, ℕ, List, Contains, map, true, IsErr, IfOk, OnOk, OnErr};
 ghost use Rattle.tacho_time.specs.declared.span.Span.{Span as SpanValue};
 ghost use Rattle.tacho_hours.specs.declared.breach.Breach.{Breach as BreachValue};
 ghost use Rattle.tacho_hours.specs.declared.debt.Debt.{Debt as DebtValue};
 ghost use Rattle.tacho_hours.specs.Line.{line_of, Joined, IsBase, IsExamined};
 ghost use Rattle.tacho_hours.specs.Limits.{latest};
+ghost use Rattle.tacho_line.specs.Walk.{cut_to};
 ghost use Rattle.tacho_pass.specs.declared.found.Found.{Found as FoundValue};
 ghost use Rattle.tacho_pass.specs.Found.{Appends};
 ghost use Rattle.tacho_pass.specs.Kinds.{is_any};
@@ -13,7 +14,7 @@ use crate::report::Report;
 use crate::rules::Rules;
 use std::alloc::AllocError;
 use tacho_hours::put_in_order;
-use tacho_line::Horizon;
+use tacho_line::{Horizon, cut};
 use tacho_pass::{Found, Hearing, Pass};
 use tacho_time::{Minute, Span};
 
@@ -54,19 +55,26 @@ impl Scan {
         self.hearing.feed(span, found)
     }
 
-    /// Takes spans in order, the first of which starts where the last one ended, as each next one does.
-    pub fn feed_all(&mut self, spans: &[Span], found: &mut Found) -> Result<(), AllocError>
-        requires { CanTake self.old spans.now }
-        ensures at { OnOk result ((place past : ℕ) → IsAt self.old place → Joined spans.now place past
-            → IsAt self.new past) }
+    /// Takes the parts of spans from a start to before a past, in order; the first part starts where the last span ended,
+    /// as each next one does.
+    pub fn feed_within(
+        &mut self,
+        spans: &[Span],
+        start: Minute,
+        past: Minute,
+        found: &mut Found,
+    ) -> Result<(), AllocError>
+        requires { CanTake self.old (map (cut_to start past) spans.now) }
+        ensures at { OnOk result ((place end : ℕ) → IsAt self.old place
+            → Joined (map (cut_to start past) spans.now) place end → IsAt self.new end) }
         ensures fed { OnOk result ((base : ℕ) (before : List SpanValue) → IsScanOf self.old found.old base before
-            → IsScanOf self.new found.new base (before ++ spans.now)) }
+            → IsScanOf self.new found.new base (before ++ map (cut_to start past) spans.now)) }
         ensures appends { Appends is_any true found.old found.new }
         ensures err { OnErr result (HasFailed self.new) }
         ensures stays { HasFailed self.old → (spans.now ≡ []) ⊎ IsErr result }
     {
         for span in spans {
-            self.feed(*span, found)?;
+            self.feed(cut(span, start, past), found)?;
         }
         Ok(())
     }
