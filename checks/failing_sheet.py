@@ -1,6 +1,6 @@
 #!/usr/bin/env python3
-"""Runs each test of the readers of CSV and of the texts with each of its allocations refused in turn, and looks for an answer
-in place of want of memory.
+"""Runs each test of the readers of CSV, of the texts and of the scan with each of its allocations refused in turn, and looks for
+an answer in place of want of memory. Of tests that ask for no memory it looks that they ask for none.
 
 The words are the program of the worked cases and the compiler of C. A test whose allocation is refused has to end by want of memory,
 which is `Memory` of a reader and `AllocError` of a text.
@@ -16,8 +16,9 @@ import failing_tables
 import programs
 
 FAULTS = ["error: Memory", "error: AllocError"]
-MODULES = ["sheets", "reports"]
+MODULES = ["sheets", "reports", "scans"]
 WITHOUT_MEMORY = [  # ask for none
+    "scans::a_year_of_office_hours_asks_for_no_memory",
     "sheets::numbers_are_read",
     "sheets::commands_that_were_done_have_lines",
     "sheets::faults_have_lines",
@@ -44,6 +45,7 @@ def run_without_two(program, test, number, compiler):
 def comparisons(program, compiler):
     for test in failing_tables.tests(program, MODULES):
         if test in WITHOUT_MEMORY:
+            yield f"memory that {test} asks for", programs.allocations(compiler, [program, test], b""), 0
             continue
         for number, run in programs.runs_without_memory(compiler, [program, test], b""):
             name, end = f"{test}, allocation {number} refused", end_of(run)

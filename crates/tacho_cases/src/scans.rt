@@ -1,5 +1,5 @@
 ghost use Rattle.std.specs.Prelude.{◌≡◌, ◌≤◌, ◌+◌, ◌*◌};
-ghost use Rattle.tacho_rules.specs.Scan.{IsAt};
+ghost use Rattle.tacho_hours.specs.Line.{IsBase};
 
 use crate::same::assert_same;
 use std::alloc::{AllocError, Global};
@@ -9,6 +9,18 @@ use tacho_time::{Activity, Mark, Minute, Span, Week};
 
 /// 2024-03-04 00:00, a Monday's first minute.
 const BASE: u32 = 28_491_840;
+
+/// 2024-01-01 00:00, a Monday's first minute.
+const YEAR: u32 = 28_401_120;
+
+/// What is done in the hours from a base on.
+#[derive(Clone, Copy)]
+enum Plan {
+    /// The work of the month.
+    Month,
+    /// An hour of work from six on, from Monday to Friday.
+    Office,
+}
 
 /// The hours of work of each day from then to 31 March: from one hour to before another.
 const MONTH: [(u32, u32); 28] = [
@@ -42,15 +54,16 @@ const MONTH: [(u32, u32); 28] = [
     (15, 17),
 ];
 
-/// What a driver who is alone does in an hour behind the base.
-fn hour(number: u32, activity: Activity) -> Span
-    requires { number ≤ 672 }
-    ensures start { result.start ≡ 28491840 + 60 * number }
-    ensures past { result.past ≡ 28491840 + 60 * number + 60 }
+/// What a driver who is alone does in an hour behind a base.
+fn hour(base: u32, number: u32, activity: Activity) -> Span
+    requires base { base ≤ 28491840 }
+    requires number { number ≤ 8736 }
+    ensures start { result.start ≡ base + 60 * number }
+    ensures past { result.past ≡ base + 60 * number + 60 }
 {
     Span {
-        start: Minute::new(BASE + 60 * number),
-        past: Minute::new(BASE + 60 * number + 60),
+        start: Minute::new(base + 60 * number),
+        past: Minute::new(base + 60 * number + 60),
         mark: Mark {
             activity,
             crew: false,
@@ -58,9 +71,13 @@ fn hour(number: u32, activity: Activity) -> Span
     }
 }
 
-/// What is done in an hour of the month.
-fn done_in(number: u32) -> Activity {
-    let (from, to) = MONTH[(number / 24 % 28) as usize];
+/// What is done in an hour behind the base.
+fn done_in(plan: Plan, number: u32) -> Activity {
+    let (from, to) = match plan {
+        Plan::Month => MONTH[(number / 24 % 28) as usize],
+        Plan::Office if number / 24 % 7 < 5 => (6, 7),
+        Plan::Office => (0, 0),
+    };
     if from <= number % 24 && number % 24 < to {
         Activity::Work
     } else {
@@ -68,25 +85,38 @@ fn done_in(number: u32) -> Activity {
     }
 }
 
-/// The report of the month, whose hours a copy of the scan takes one by one.
-fn report_of_month(alloc: Global) -> Result<Report, AllocError> {
-    let mut scan = Scan::new(Minute::new(BASE));
+/// The report of so many hours, which a copy of the scan takes one by one.
+fn report_of(alloc: Global, base: u32, hours: u32, plan: Plan) -> Result<Report, AllocError>
+    requires monday { IsBase base }
+    requires base { base ≤ 28491840 }
+    requires hours { hours ≤ 8736 }
+{
+    let mut scan = Scan::new(Minute::new(base));
     let mut found = Found::empty(alloc);
-    for number in 0..672 {
+    for number in 0..hours {
         let mut copy = scan;
-        copy.feed(hour(number, done_in(number)), &mut found)?;
+        copy.feed(hour(base, number, done_in(plan, number)), &mut found)?;
         scan = copy;
     }
     let horizon = Horizon {
-        minute: Minute::new(BASE + 40_320),
+        minute: Minute::new(base + 60 * hours),
         cause: Cause::Unknown,
     };
     scan.finish(horizon, found)
 }
 
+/// A scan asks for memory only to tell of a breach or a debt (`checks/failing_sheet.py` looks that it asks for none here).
+#[test]
+fn a_year_of_office_hours_asks_for_no_memory(rt: HostRuntime) -> Result<(), Fail> {
+    let report = report_of(rt.alloc(), YEAR, 8736, Plan::Office)?;
+    assert_same(&rt, report.breaches.len(), 0);
+    assert_same(&rt, report.debts.len(), 0);
+    Ok(())
+}
+
 #[test]
 fn a_month_hour_by_hour(rt: HostRuntime) -> Result<(), Fail> {
-    let report = report_of_month(rt.alloc())?;
+    let report = report_of(rt.alloc(), BASE, 672, Plan::Month)?;
     assert_same(&rt, report.breaches.len(), 0);
     // The first week's main rest is 15 hours short of 45. The rest from the 15th at 18:00 pays. The third week's is 19 hours
     // short, which the rest from the 26th at 12:00 pays.
