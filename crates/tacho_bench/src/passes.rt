@@ -7,7 +7,7 @@ ghost use Rattle.tacho_hours.specs.Limits.{latest};
 use std::alloc::{AllocError, Global};
 use tacho_hours::put_in_order;
 use tacho_line::Line;
-use tacho_rules::{Report, plain};
+use tacho_rules::Report;
 use tacho_time::Minute;
 
 /// The report of a line as `examine` gives it, by the plain passes: breaks, days, weeks and rests.
@@ -24,10 +24,10 @@ pub(crate) fn examine_plainly(
     let past = horizon.minute;
     let held = line.slice(alloc, base, past)?;
     let spans = held.as_slice();
-    let mut breaches = plain::breaks(alloc, spans, base, past)?;
-    let mut of_days = plain::days(alloc, spans, base, past)?;
-    let mut of_weeks = plain::weeks(alloc, spans, base, past)?;
-    let mut of_rests = plain::rests(alloc, spans, base, past)?;
+    let mut breaches = tacho_plain::breaks(alloc, spans, base, past)?;
+    let mut of_days = tacho_plain::days(alloc, spans, base, past)?;
+    let mut of_weeks = tacho_plain::weeks(alloc, spans, base, past)?;
+    let mut of_rests = tacho_plain::rests(alloc, spans, base, past)?;
     breaches.append(&mut of_days)?;
     breaches.append(&mut of_weeks)?;
     breaches.append(&mut of_rests.breaches)?;

@@ -4,7 +4,7 @@ ghost use Rattle.tacho_hours.specs.Line.{Joined};
 use crate::same::assert_same;
 use std::alloc::{AllocError, Global};
 use std::test::Fail;
-use tacho_rules::plain::{breaks, days, rests, weeks};
+use tacho_plain::{breaks, days, rests, weeks};
 use tacho_rules::{Breach, Debt, Found, Kind};
 use tacho_time::{Activity, Mark, Minute, Span, Week};
 

@@ -4,7 +4,6 @@ pub mod DrivingLemmas
 pub mod BreaksLemmas
 pub mod CoveringLemmas
 pub mod DaysLemmas
-pub mod TouchingLemmas
 pub mod MainRestLemmas
 pub mod OrderLemmas
 pub mod DebtsLemmas

@@ -1,5 +1,4 @@
--- A range has one breach of too much driving at the most, and has one where more is driven than
--- allowed (`plain::days`, `plain::weeks`).
+-- A range has one breach of too much driving at the most, and has one where more is driven than allowed.
 use Rattle.std.proofs.Common.{◌≡◌, ℕ, ◌+◌, ◌<◌, ◌≤◌, sym, ◌∙◌, arith}
 use Rattle.tacho_hours.specs.declared.breach.Breach.{Breach}
 use Rattle.tacho_hours.specs.declared.breach.Kind.{Kind}

@@ -1,4 +1,4 @@
--- The loop over debts finds those that are overdue (`plain::rests`).
+-- Debts one after the other, and the breaches of those that are overdue.
 use Rattle.std.proofs.Common.{◌≡◌, ℕ, ◌<◌, ◌≤◌, List, [], ◌∷◌, ◌++◌, None, sym, ◌∙◌, arith}
 use Rattle.std.specs.List.{Contains}
 use Rattle.tacho_hours.specs.declared.breach.Breach.{Breach}

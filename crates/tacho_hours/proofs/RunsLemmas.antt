@@ -1,12 +1,11 @@
--- The pass over spans finds the maximal runs of rest (`rest_runs`), and there is one list of them
+-- Spans one after the other give the maximal runs of rest, and there is one list of them
 -- (`laws::one_list_of_rest_runs`).
-use Rattle.std.proofs.Common.{◌≡◌, ◌≢◌, ℕ, ◌+◌, ◌-◌, ◌<◌, ◌≤◌, ◌⊎◌, inl, inr, List, [], ◌∷◌}
-use Rattle.std.proofs.Common.{◌++◌, length, get_or, drop, refl, sym, ap, subst, ◌∙◌, arith}
+use Rattle.std.proofs.Common.{◌≡◌, ◌≢◌, ℕ, ◌+◌, ◌-◌, ◌<◌, ◌≤◌, inl, inr, List, [], ◌∷◌}
+use Rattle.std.proofs.Common.{◌++◌, refl, sym, ap, subst, ◌∙◌, arith}
 use Rattle.std.specs.List.{All, AllPairs, Contains}
 use Rattle.std.proofs.lemmas.Bool.{cases_lt}
 use Rattle.std.proofs.lemmas.Bool.Decides.{nat_tests}
-use Rattle.std.proofs.lemmas.List.{drop_more, get_or_default}
-use Rattle.std.proofs.lemmas.List.Elements.{All-push, All-nil, All-contains, Contains-get_or}
+use Rattle.std.proofs.lemmas.List.Elements.{All-push, All-nil, All-contains}
 use Rattle.std.proofs.lemmas.List.Elements.{Contains-push, Contains-append_left, All-weaker}
 use Rattle.std.proofs.lemmas.List.Quantifiers.{all_pairs_push}
 use Rattle.tacho_time.specs.declared.span.Activity.{Activity}
@@ -15,7 +14,7 @@ use Rattle.tacho_time.specs.declared.span.Span.{Span}
 use Rattle.tacho_hours.specs.declared.run.Run.{Run}
 use Rattle.tacho_hours.specs.declared.run.TheConstants.{FAR}
 use Rattle.tacho_hours.specs.Line.{Line, line_of, Joined}
-use Rattle.tacho_hours.specs.Runs.{IsRestRun, IsRestOf, AreRestRuns, AreRestsOf, AreRuns, Before, Reached}
+use Rattle.tacho_hours.specs.Runs.{IsRestRun, AreRestRuns, AreRuns, Before, Reached}
 use Rattle.tacho_hours.proofs.ExactlyLemmas.{at_index, one_exactly}
 
 -- where the next span starts, or the line's end
@@ -274,15 +273,6 @@ pub running_end : (spans : List Span) (past : ℕ) (runs : List Run) (start : �
     → Running spans [] past runs start → past < FAR → AreRestRuns (line_of spans) (runs ++ run_of start FAR ∷ [])
 running_end spans past runs start r far = reached_end (line_of spans) runs start past r.reached far r.ahead
 
--- at the index i of a loop, where the item is s
-pub running_here : (spans : List Span) (i : ℕ) (s : Span) (past : ℕ) (runs : List Run) (start : ℕ)
-    → i < length spans → s ≡ get_or spans i s → Running spans (drop i spans) past runs start
-    → Running spans (s ∷ drop (i + 1) spans) past runs start
-running_here spans i s past runs start within is r =
-    let e : drop i spans ≡ s ∷ drop (i + 1) spans =
-    drop_more spans i s within ∙ ap (λ (x : Span). x ∷ drop (i + 1) spans) (sym is) in
-    subst (λ (left : List Span). Running spans left past runs start) e r
-
 -- runs of some minutes are in one order
 pub one_way : (a b : Run) → a.start < a.past → b.start < b.past → Before a b → Before b a → ⊥
 one_way a b some some' before after = omega arith
@@ -308,69 +298,3 @@ one_rest_runs line = one_exactly (IsRestRun line) Before (λ a b p q. one_way a 
 pub rest_runs_are : (line : Line) (runs : List Run) → AreRestRuns line runs → AreRuns runs
 rest_runs_are line runs are =
     record { some = λ k d within. (at_index (IsRestRun line) Before runs are k d within).some; in_order = are.in_order }
-
--- and so are those of so many minutes
-pub rests_are : (line : Line) (least : ℕ) (rests : List Run) → AreRestsOf line least rests → AreRuns rests
-rests_are line least rests are = record {
-  some = λ k d within. (at_index (IsRestOf line least) Before rests are k d within).rests.some;
-  in_order = are.in_order;
-}
-
--- what an index behind a list of runs gives
-abbrev pub no_run : Run
-no_run = record { start = 0; past = 0 }
-
--- places and neighbours, among runs in order
-module _ (runs : List Run) (are : AreRuns runs) where
-  -- the place of one of them
-  place_of_run : (run : Run) → Contains runs run → (i : ℕ) × (i < length runs) × (run ≡ get_or runs i no_run)
-  place_of_run run (i, within, e) = (i, within, sym e ∙ get_or_default runs i run no_run within)
-
-  -- one that starts after another is behind it
-  behind : (i k : ℕ) → i < length runs → k < length runs → Before (get_or runs i no_run) (get_or runs k no_run) → i < k
-  behind i k within within' before =
-      let one : (get_or runs i no_run).start < (get_or runs i no_run).past = are.some i no_run within in
-      let two : (get_or runs k no_run).start < (get_or runs k no_run).past = are.some k no_run within' in
-      elim (cases_lt i k) [
-        | inl lt ↦ lt
-        | inr ge ↦ absurd (elim (cases_lt k i) [
-          | inl lt ↦
-              let b : (get_or runs k no_run).past < (get_or runs i no_run).start = are.in_order k i no_run lt within in
-              omega arith
-          | inr le ↦
-              let e : k ≡ i = omega arith in
-              let f : (get_or runs k no_run).start ≡ (get_or runs i no_run).start =
-              ap (λ (x : ℕ). (get_or runs x no_run).start) e in
-              omega arith
-        ])
-      ]
-
-  -- between a place and the next there is none
-  pub none_at_between : (i : ℕ) → i + 1 < length runs → (c : Run) → Contains runs c
-      → Before (get_or runs i no_run) c → Before c (get_or runs (i + 1) no_run) → ⊥
-  none_at_between i within c in' after before =
-      let (k, below, e) = place_of_run c in' in
-      let low : i < k = behind i k (omega arith) below (subst (λ (x : Run). Before (get_or runs i no_run) x) e after) in
-      let high : k < i + 1 =
-      behind k (i + 1) below within (subst (λ (x : Run). Before x (get_or runs (i + 1) no_run)) e before) in
-      omega arith
-
-  -- two with none between are at a place and the next
-  pub neighbours_at : (a b : Run) → Contains runs a → Contains runs b
-      → Before a b → ((c : Run) → Contains runs c → Before a c → Before c b → ⊥)
-      → (i : ℕ) × (i + 1 < length runs) × (a ≡ get_or runs i no_run) × (b ≡ get_or runs (i + 1) no_run)
-  neighbours_at a b first second before between =
-      let (i, in', e) = place_of_run a first in
-      let (k, in'', f) = place_of_run b second in
-      let low : i < k =
-      behind i k in' in''
-      (subst (λ (x : Run). Before x (get_or runs k no_run)) e (subst (λ (x : Run). Before a x) f before)) in
-      let next : k ≡ i + 1 = elim (cases_lt (i + 1) k) [
-        | inl lt ↦ absurd (between (get_or runs (i + 1) no_run) (Contains-get_or runs (i + 1) no_run (omega arith))
-            (subst (λ (x : Run). Before x (get_or runs (i + 1) no_run)) (sym e)
-            (are.in_order i (i + 1) no_run (omega arith) (omega arith)))
-            (subst (λ (x : Run). Before (get_or runs (i + 1) no_run) x)
-            (sym f) (are.in_order (i + 1) k no_run lt in'')))
-        | inr ge ↦ omega arith
-      ] in
-      (i, omega arith, e, f ∙ ap (λ (x : ℕ). get_or runs x no_run) next)

@@ -2,7 +2,6 @@
 use Rattle.std.specs.Prelude.{◌≡◌, ℕ, ◌+◌, ◌<◌, ◌≤◌, ◌⊎◌, List, Contains, min}
 use Rattle.tacho_hours.specs.declared.run.Run.{Run}
 use Rattle.tacho_hours.specs.declared.days.DutyDay.{DutyDay}
-use Rattle.tacho_hours.specs.Exactly.{AreExactly}
 use Rattle.tacho_hours.specs.Line.{Line}
 use Rattle.tacho_hours.specs.Runs.{IsRestOf, AreNeighbours, minutes_of}
 use Rattle.tacho_hours.specs.Limits.{minutes_of_day, regular_daily_rest}
@@ -19,10 +18,6 @@ pub record IsDuty (line : Line) (day : DutyDay) : Type 0 where
 -- one day's rest ends by the start of the other
 abbrev pub EarlierDay : DutyDay → DutyDay → Type 0
 EarlierDay a b = a.rest.past ≤ b.start
-
--- the duty days of a line, in order of time
-abbrev pub AreDutyDays : Line → List DutyDay → Type 0
-AreDutyDays line days = AreExactly (IsDuty line) EarlierDay days
 
 -- Article 8(2): the daily rest has so many minutes within 24 hours of the day's
 -- start, which is the end of the rest before it

@@ -1,15 +1,10 @@
--- How a rest is known to be the main one of its week, and what it keeps then (Regulation (EC) 561/2006, Articles 4(h),
--- 8(6) and 8(7); 8(6) as amended by (EU) 2020/1054).
-use Rattle.std.specs.Prelude.{◌≡◌, ℕ, ◌<◌, ◌⊎◌}
+-- What a rest keeps of its minutes (Regulation (EC) 561/2006, Articles 4(h), 8(6) and 8(7); 8(6) as amended by (EU)
+-- 2020/1054).
+use Rattle.std.specs.Prelude.{◌≡◌, ℕ, ◌⊎◌}
 use Rattle.tacho_hours.specs.declared.run.Run.{Run}
 use Rattle.tacho_hours.specs.Line.{Line}
 use Rattle.tacho_hours.specs.Limits.{daily_rest, regular_weekly_rest}
-use Rattle.tacho_hours.specs.Debts.{minutes_before, IsMainRest}
-
--- more minutes before the horizon, or as many and an earlier start
-abbrev pub IsBetter : ℕ → Run → Run → Type 0
-IsBetter horizon rest other = (minutes_before horizon other < minutes_before horizon rest)
-    ⊎ ((minutes_before horizon other ≡ minutes_before horizon rest) × (rest.start < other.start))
+use Rattle.tacho_hours.specs.Debts.{IsMainRest}
 
 -- what a rest keeps: 45 hours as the main rest of a week (Article 8(6)), and else nine (Article 8(7))
 abbrev pub IsKept : Line → ℕ → Run → ℕ → Type 0

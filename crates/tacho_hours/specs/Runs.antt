@@ -5,7 +5,6 @@ use Rattle.tacho_hours.specs.declared.run.Run.{Run}
 use Rattle.tacho_hours.specs.declared.run.TheConstants.{FAR}
 use Rattle.tacho_hours.specs.Exactly.{AreExactly}
 use Rattle.tacho_hours.specs.Line.{Line}
-use Rattle.tacho_hours.specs.Limits.{latest}
 
 -- an uninterrupted break or rest (Articles 4(d) and 4(f)): a maximal run of minutes at rest; the first one has no
 -- start, which 0 stands for, and the last one no end, which FAR stands for
@@ -23,12 +22,6 @@ Before a b = a.past < b.start
 pub record AreRuns (runs : List Run) : Type 0 where
   pub some : All (λ run. run.start < run.past) runs
   pub in_order : AllPairs Before runs
-
--- rests in order of time, none empty, that start by 2100
-pub record AreInTime (rests : List Run) : Type 0 where
-  pub some : All (λ run. run.start < run.past) rests
-  pub in_order : AllPairs Before rests
-  pub early : All (λ run. run.start ≤ latest) rests
 
 -- how long a run is
 abbrev pub minutes_of : Run → ℕ

@@ -1,11 +1,4 @@
-ghost use Rattle.std.specs.Prelude.{◌<◌, All, AllPairs, IfOk};
-ghost use Rattle.tacho_hours.specs.Runs.{AreRuns, AreRestRuns, AreRestsOf};
-ghost use Rattle.tacho_hours.specs.Line.{Line};
-ghost use Rattle.tacho_hours.specs.Days.{AreDutyDays};
-
-use crate::limits::DAILY_REST;
 use crate::run::Run;
-use std::alloc::{AllocError, Global};
 
 /// A duty day: from the end of one rest of nine hours or more to the start of the next, which is its daily rest
 /// (Article 8 of Regulation (EC) 561/2006).
@@ -14,36 +7,4 @@ pub struct DutyDay {
     pub start: u32,
     pub past: u32,
     pub rest: Run,
-}
-
-/// The rest runs of so many minutes or more, in order of time (Article 4(g) and (h) of Regulation (EC) 561/2006).
-pub fn long_rests(alloc: Global, runs: &[Run], least: u32) -> Result<Vec<Run>, AllocError>
-    requires { AreRuns runs.now }
-    ensures { IfOk result (λ rests. (line : Line) → AreRestRuns line runs.now → AreRestsOf line least rests.items) }
-{
-    let mut rests = Vec::new(alloc);
-    for run in runs {
-        if run.past - run.start >= least {
-            rests.push(*run)?;
-        }
-    }
-    Ok(rests)
-}
-
-/// The duty days between rest runs, in order of time (Article 8 of Regulation (EC) 561/2006).
-pub fn duty_days(alloc: Global, runs: &[Run]) -> Result<Vec<DutyDay>, AllocError>
-    requires { AreRuns runs.now }
-    ensures { IfOk result (λ days. (line : Line) → AreRestRuns line runs.now → AreDutyDays line days.items) }
-{
-    let rests = long_rests(alloc, runs, DAILY_REST)?;
-    let mut days = Vec::new(alloc);
-    for i in 1..rests.len() {
-        let rest = rests[i];
-        days.push(DutyDay {
-            start: rests[i - 1].past,
-            past: rest.start,
-            rest,
-        })?;
-    }
-    Ok(days)
 }

@@ -1,12 +1,9 @@
-ghost use Rattle.std.specs.Prelude.{◌<◌, ◌≤◌, ◌↔◌, All, AllPairs, Contains, IsTrue};
-ghost use Rattle.tacho_hours.specs.declared.run.Run.{Run as RunValue};
-ghost use Rattle.tacho_hours.specs.Runs.{AreRuns};
-ghost use Rattle.tacho_hours.specs.Days.{HasPortion, HasRegularRest, HasReducedRest};
+ghost use Rattle.std.specs.Prelude.{◌≤◌, ◌↔◌, IsTrue};
+ghost use Rattle.tacho_hours.specs.Days.{HasPortion};
 ghost use Rattle.tacho_hours.specs.Limits.{minutes_of_day};
 
 use crate::days::DutyDay;
-use crate::limits::{DAILY_REST, MINUTES_OF_DAY, REGULAR_DAILY_REST, WEEKLY_REST};
-use crate::run::Run;
+use crate::limits::MINUTES_OF_DAY;
 
 /// Whether the daily rest has so many minutes within 24 hours of the day's start
 /// (Article 8(2) of Regulation (EC) 561/2006).
@@ -17,40 +14,4 @@ pub fn has_portion(day: DutyDay, minutes: u32) -> bool
     ensures { IsTrue result ↔ HasPortion day minutes }
 {
     day.past + minutes <= day.rest.past.min(day.start + MINUTES_OF_DAY)
-}
-
-/// Whether one of the runs lies between two minutes.
-fn has_run_between(runs: &[Run], from: u32, to: u32) -> bool
-    requires { AreRuns runs.now }
-    ensures { IsTrue result ↔ ((run : RunValue) × Contains runs.now run × (from ≤ run.start) × (run.past ≤ to)) }
-{
-    let first = runs.partition_point(|run| run.start < from);
-    first < runs.len() && runs[first].past <= to
-}
-
-/// Whether the daily rest is regular, where `parts` are the rests of three hours or more
-/// (Article 4(g) of Regulation (EC) 561/2006).
-pub fn is_regular(day: DutyDay, parts: &[Run]) -> bool
-    requires started { day.start ≤ 68428800 }
-    requires ended { day.past ≤ 68428800 }
-    requires parts { AreRuns parts.now }
-    ensures { IsTrue result ↔ HasRegularRest parts.now day }
-{
-    has_portion(day, REGULAR_DAILY_REST)
-        || (has_portion(day, DAILY_REST) && has_run_between(parts, day.start, day.past))
-}
-
-/// Whether the daily rest of a duty day is reduced, where `parts` are the rests of three hours or more
-/// (Article 4(g) and Article 8(4) of Regulation (EC) 561/2006).
-pub fn is_reduced(day: DutyDay, parts: &[Run]) -> bool
-    requires started { day.start ≤ 68428800 }
-    requires ended { day.past ≤ 68428800 }
-    requires rests { day.rest.start < day.rest.past }
-    requires parts { AreRuns parts.now }
-    ensures { IsTrue result ↔ HasReducedRest parts.now day }
-{
-    if is_regular(day, parts) {
-        return false;
-    }
-    has_portion(day, DAILY_REST) && day.rest.past - day.rest.start < WEEKLY_REST
 }

@@ -23,7 +23,7 @@ enum Question {
     Card(Part),
     /// The answers of a timeline to commands, a line each.
     Timeline,
-    /// The breaches in examined lines, a line of words each, by the passes of `plain`.
+    /// The breaches in examined lines, a line of words each, by the passes of `tacho_plain`.
     Rules,
     /// The same by a scan.
     Scan,

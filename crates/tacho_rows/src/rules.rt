@@ -5,7 +5,7 @@ use crate::timeline::{numbers_of, spans_of};
 use std::alloc::{AllocError, Global};
 use std::{io, str};
 use tacho_rules::limits::{FIRST_BASE, LATEST};
-use tacho_rules::{Breach, Cause, Debt, Found, Horizon, Report, Scan, plain};
+use tacho_rules::{Breach, Cause, Debt, Found, Horizon, Report, Scan};
 use tacho_time::{Minute, Span, first_minute, week_of};
 
 /// Whether none of the spans is as crew.
@@ -104,10 +104,10 @@ fn tell_breaches(
     if !are_examined(spans, base, past) {
         return println!(rt; "no examined line");
     }
-    print_pass(rt, "breaks", plain::breaks(alloc, spans, base, past))?;
-    print_pass(rt, "days", plain::days(alloc, spans, base, past))?;
-    print_pass(rt, "weeks", plain::weeks(alloc, spans, base, past))?;
-    print_rests(rt, plain::rests(alloc, spans, base, past))
+    print_pass(rt, "breaks", tacho_plain::breaks(alloc, spans, base, past))?;
+    print_pass(rt, "days", tacho_plain::days(alloc, spans, base, past))?;
+    print_pass(rt, "weeks", tacho_plain::weeks(alloc, spans, base, past))?;
+    print_rests(rt, tacho_plain::rests(alloc, spans, base, past))
 }
 
 /// What a scan finds in spans from a base to before a minute.

@@ -1,14 +1,3 @@
-pub mod BreakBreachesLemmas
-pub mod DayFoundLemmas
-pub mod TallyLemmas
-pub mod OrdinalLemmas
-pub mod DayBreachesLemmas
-pub mod WeekBreachesLemmas
-pub mod LastRunLemmas
-pub mod LateRestLemmas
-pub mod TwoRestsLemmas
-pub mod CompensationLemmas
-pub mod RestBreachesLemmas
 pub mod SliceLemmas
 pub mod ReportLemmas
 pub mod ScanLemmas

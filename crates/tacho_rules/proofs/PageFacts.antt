@@ -1,14 +1,12 @@
 -- What docs/RULES.md says of its examples, held against the definitions: with another value here this file is refused.
-use Rattle.std.proofs.Common.{◌≡◌, ◌-◌, ◌+◌, inl, inr, List, [], ◌∷◌, None, true, false, refl, ap, arith}
+use Rattle.std.proofs.Common.{◌≡◌, ◌-◌, ◌+◌, List, [], ◌∷◌, None, true, false, refl, ap, arith}
 use Rattle.tacho_time.specs.declared.span.Activity.TheVariants.{Rest, Work, Drive}
 use Rattle.tacho_time.specs.declared.span.Span.{Span}
 use Rattle.tacho_hours.specs.declared.breach.Breach.{Breach}
 use Rattle.tacho_hours.specs.declared.debt.Debt.{Debt}
-use Rattle.tacho_hours.specs.declared.breach.Kind.TheVariants.{B2, B10}
+use Rattle.tacho_hours.specs.declared.breach.Kind.TheVariants.{B10}
 use Rattle.tacho_hours.specs.Debts.{minutes_before}
-use Rattle.tacho_hours.proofs.PageFacts.{at, rest_between, one_member, day_to}
-use Rattle.tacho_rules.specs.DailyRests.{IsShortRest}
-use Rattle.tacho_hours.specs.MainRests.{IsBetter}
+use Rattle.tacho_hours.proofs.PageFacts.{at, rest_between, one_member}
 use Rattle.tacho_hours.specs.Breaches.{IsOverdue}
 use Rattle.tacho_rules.specs.Report.{examined}
 
@@ -41,25 +39,7 @@ rest_from_the_horizon = refl
 pub rest_where_nothing_is_held : examined held (at 4 0) (at 5 0) (at 4 720) ≡ Rest
 rest_where_nothing_is_held = refl
 
--- ---- days
-
--- B2: work from 06:00 to 21:01 and on from 06:01 is a breach at 21:00 since 06:00, of 1
-pub short_rest_from_21_01 : IsShortRest (day_to 1261 361)
-    (record { kind = B2; moment = at 4 1260; since = at 4 360; amount = 1 })
-short_rest_from_21_01 =
-    record { kind = refl; short = λ portion. omega arith; moment = refl; since = refl; amount = refl }
-
 -- ---- weekly rests
-
--- the month: the rest from 29 March 18:00 is longer than that from the 26th 12:00, and so the main one of its week
-pub longer_rest_is_better : IsBetter (at 32 0)
-    (rest_between (at 29 1080) (at 31 900)) (rest_between (at 26 720) (at 27 960))
-longer_rest_is_better = inl (omega arith)
-
--- of two with as many minutes the first is
-pub earlier_rest_is_better : IsBetter (at 32 0)
-    (rest_between (at 23 720) (at 24 720)) (rest_between (at 24 1080) (at 25 1080))
-earlier_rest_is_better = inr (refl, omega arith)
 
 -- the rest from the 26th keeps 540, and has room for the debt of 1,140 of the third week
 pub room_for_1140 : 540 + 1140 ≡ minutes_before (at 32 0) (rest_between (at 26 720) (at 27 960))

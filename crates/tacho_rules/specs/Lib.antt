@@ -1,8 +1,2 @@
-pub mod BreakBreaches
-pub mod DayBreaches
-pub mod DailyRests
-pub mod DailyDriving
-pub mod WeekBreaches
-pub mod RestBreaches
 pub mod Report
 pub mod Scan

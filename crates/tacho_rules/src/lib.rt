@@ -3,7 +3,6 @@
 
 mod examination;
 pub mod laws;
-pub mod plain;
 mod report;
 mod rules;
 mod scan;

@@ -1,0 +1,11 @@
+use Rattle.std.proofs.Common.{take}
+use Rattle.std.specs.List.{All}
+use Rattle.tacho_hours.specs.declared.run.Run.{Run}
+use Rattle.tacho_hours.specs.Line.{Line}
+use Rattle.tacho_hours.specs.Runs.{AreRestsOf}
+use Rattle.tacho_hours.specs.Debts.{HasRoom}
+use Rattle.tacho_plain.proofs.compensation.payer_of.Given as goal
+
+abbrev pub invariant-loop-rest : goal.invariant-loop-rest
+invariant-loop-rest l = (line : Line) → AreRestsOf line 540 l.daily → AreRestsOf line 1440 l.weekly
+    → All (λ (run : Run). HasRoom line l.horizon l.earlier l.debt run → ⊥) (take l.rest-index l.rest-items)

@@ -1,0 +1,13 @@
+use Rattle.std.proofs.Common.{take}
+use Rattle.tacho_hours.specs.declared.days.DutyDay.{DutyDay}
+use Rattle.tacho_hours.specs.Line.{Line}
+use Rattle.tacho_hours.specs.Days.{EarlierDay, IsReduced}
+use Rattle.tacho_plain.specs.DayBreaches.{AreDutyDays}
+use Rattle.tacho_hours.specs.Runs.{AreRestsOf}
+use Rattle.tacho_plain.proofs.KeptLemmas.{AreKept}
+use Rattle.tacho_plain.proofs.daily_rests.reduced_days.Given as goal
+
+abbrev pub invariant-loop-day : goal.invariant-loop-day
+invariant-loop-day l =
+    (line : Line) → AreDutyDays line l.days → AreRestsOf line 180 l.parts
+    → AreKept DutyDay EarlierDay (IsReduced line) (take l.day-index l.days) l.reduced.items

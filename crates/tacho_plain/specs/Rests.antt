@@ -1,0 +1,11 @@
+-- Words of the passes over rests in order of time.
+use Rattle.std.specs.Prelude.{◌<◌, ◌≤◌, List, All, AllPairs}
+use Rattle.tacho_hours.specs.declared.run.Run.{Run}
+use Rattle.tacho_hours.specs.Limits.{latest}
+use Rattle.tacho_hours.specs.Runs.{Before}
+
+-- rests in order of time, none empty, that start by 2100
+pub record AreInTime (rests : List Run) : Type 0 where
+  pub some : All (λ run. run.start < run.past) rests
+  pub in_order : AllPairs Before rests
+  pub early : All (λ run. run.start ≤ latest) rests

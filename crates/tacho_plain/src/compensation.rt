@@ -1,0 +1,169 @@
+ghost use Rattle.std.specs.Prelude.{◌≡◌, ◌-◌, ◌+◌, ◌<◌, ◌≤◌, ◌↔◌, ℕ, AllPairs, Contains, IfOk, IsTrue, MatchOption};
+ghost use Rattle.std.specs.Prelude.{None as NoPayer};
+ghost use Rattle.tacho_hours.specs.declared.run.Run.{Run as RunValue};
+ghost use Rattle.tacho_hours.specs.declared.debt.Debt.{Debt as DebtValue};
+ghost use Rattle.tacho_hours.specs.Runs.{IsRestRun, AreRestsOf};
+ghost use Rattle.tacho_plain.specs.Rests.{AreInTime};
+ghost use Rattle.tacho_hours.specs.Line.{Line};
+ghost use Rattle.tacho_hours.specs.Debts.{share, paid_from, CanPay, HasRoom, IsMainRest, Owes, Pays, AreDebts};
+ghost use Rattle.tacho_hours.specs.Weeks.{week_start};
+ghost use Rattle.tacho_hours.specs.Order.{AreCollected};
+ghost use Rattle.tacho_hours.specs.Limits.{daily_rest, weekly_rest, latest};
+ghost use Rattle.tacho_plain.specs.RestBreaches.{IsLastRun, IsDebtOf};
+ghost use Rattle.tacho_hours.specs.Breaches.{IsOverdue};
+
+use crate::main_rests::{is_main, kept_minutes, known_minutes, touching};
+use std::alloc::{AllocError, Global};
+use tacho_hours::limits::{REGULAR_WEEKLY_REST, WEEKS_TO_PAY};
+use tacho_hours::{Breach, Debt, Kind, Run};
+use tacho_time::{Minute, Week, first_minute, week_of};
+
+/// The debt of the week whose main rest a rest is, with no payer, where the rest is too short and the last run starts
+/// in a later week (Article 8(6b)). `weekly` are the weekly rests.
+fn debt_of(weekly: &[Run], horizon: u32, last: Run, rest: Run) -> Option<Debt>
+    requires in_time { AreInTime weekly.now }
+    requires early { rest.start ≤ latest }
+    requires some { rest.start < rest.past }
+    requires last { last.start ≤ latest }
+    ensures { (line : Line) → AreRestsOf line weekly_rest weekly.now → IsLastRun line last → IsRestRun line rest
+        → MatchOption result
+        ((w amount : ℕ) → IsMainRest line horizon w rest → Owes line horizon w amount → ⊥)
+        (λ debt. IsDebtOf line horizon rest debt) }
+{
+    let minutes = rest.past - rest.start;
+    if minutes >= REGULAR_WEEKLY_REST || !is_main(weekly, horizon, rest) {
+        return None;
+    }
+    let week = week_of(Minute::new(rest.start)).number();
+    if last.start < first_minute(Week::new(week + 1)).number() {
+        return None;
+    }
+    Some(Debt {
+        week: Week::new(week),
+        amount: REGULAR_WEEKLY_REST - minutes,
+        deadline: first_minute(Week::new(week + WEEKS_TO_PAY)),
+        paid_by: None,
+    })
+}
+
+/// What a rest pays of a debt.
+fn share_of(rest: Run, debt: &Debt) -> u32
+    ensures { result ≡ share rest debt.now }
+{
+    match debt.paid_by {
+        Some(start) if start.number() == rest.start => debt.amount,
+        _ => 0,
+    }
+}
+
+/// What is left of so many minutes of a rest beside the debts that it pays.
+fn left_of(minutes: u32, rest: Run, debts: &[Debt]) -> u32
+    ensures { result ≡ minutes - paid_from rest debts.now }
+{
+    let mut left = minutes;
+    for debt in debts {
+        left = left.saturating_sub(share_of(rest, debt));
+    }
+    left
+}
+
+/// Whether a rest has room for a debt, beside what it keeps and what it pays of earlier ones (Article 8(6b)).
+fn has_room(weekly: &[Run], horizon: u32, earlier: &[Debt], debt: &Debt, rest: Run) -> bool
+    requires in_time { AreInTime weekly.now }
+    requires early { rest.start ≤ latest }
+    requires some { 0 < debt.now.amount }
+    ensures { (line : Line) → AreRestsOf line weekly_rest weekly.now → IsRestRun line rest
+        → (IsTrue result ↔ HasRoom line horizon earlier.now debt.now rest) }
+{
+    let minutes = known_minutes(rest, horizon.min(debt.deadline.number()));
+    let room = minutes.saturating_sub(kept_minutes(weekly, horizon, rest));
+    if room < debt.amount {
+        return false;
+    }
+    debt.amount <= left_of(room, rest, earlier)
+}
+
+/// The first minute of the first rest after a debt's main rest that can pay it, where `daily` are the rests of nine
+/// hours or more, and `earlier` the debts of earlier weeks with their payers.
+fn payer_of(
+    daily: &[Run],
+    weekly: &[Run],
+    horizon: u32,
+    earlier: &[Debt],
+    debt: &Debt,
+    main: Run,
+) -> Option<Minute>
+    requires daily { AreInTime daily.now }
+    requires weekly { AreInTime weekly.now }
+    requires some { 0 < debt.now.amount }
+    requires range { main.past ≤ debt.now.deadline }
+    ensures { (line : Line) → AreRestsOf line daily_rest daily.now → AreRestsOf line weekly_rest weekly.now
+        → IsMainRest line horizon debt.now.week main
+        → MatchOption result
+        ((run : RunValue) → CanPay line horizon earlier.now debt.now run → ⊥)
+        (λ start. Pays line horizon earlier.now debt.now start) }
+{
+    for rest in touching(daily, main.past, debt.deadline.number()) {
+        if has_room(weekly, horizon, earlier, debt, *rest) {
+            return Some(Minute::new(rest.start));
+        }
+    }
+    None
+}
+
+/// The debts by week, each with its payer, where `daily` are the rests of nine hours or more, `weekly` those of 24, and
+/// `last` is the last of all (Article 8(6b)).
+pub(crate) fn debts_of(
+    alloc: Global,
+    daily: &[Run],
+    weekly: &[Run],
+    horizon: u32,
+    last: Run,
+) -> Result<Vec<Debt>, AllocError>
+    requires daily { AreInTime daily.now }
+    requires weekly { AreInTime weekly.now }
+    requires last { last.start ≤ latest }
+    requires line { (line : Line) × AreRestsOf line weekly_rest weekly.now × IsLastRun line last }
+    ensures { IfOk result (λ debts. (line : Line) → AreRestsOf line daily_rest daily.now
+        → AreRestsOf line weekly_rest weekly.now → IsLastRun line last
+        → AreDebts line horizon debts.items) }
+{
+    let mut debts = Vec::new(alloc);
+    for main in weekly {
+        if let Some(mut debt) = debt_of(weekly, horizon, last, *main) {
+            debt.paid_by = payer_of(daily, weekly, horizon, &debts, &debt, *main);
+            debts.push(debt)?;
+        }
+    }
+    Ok(debts)
+}
+
+/// Whether nothing pays a debt and its deadline has come.
+fn is_overdue(debt: &Debt, horizon: u32) -> bool
+    ensures { IsTrue result ↔ ((debt.now.paid_by ≡ NoPayer) × (debt.now.deadline ≤ horizon)) }
+{
+    debt.paid_by.is_none() && debt.deadline.number() <= horizon
+}
+
+/// The breaches of debts that nothing pays and whose deadline has come, by week (Article 8(6b)).
+pub(crate) fn overdue(
+    alloc: Global,
+    debts: &[Debt],
+    horizon: u32,
+) -> Result<Vec<Breach>, AllocError>
+    ensures { IfOk result (λ found. (line : Line) → AreDebts line horizon debts.now
+        → AreCollected (IsOverdue horizon debts.now) found.items) }
+{
+    let mut found = Vec::new(alloc);
+    for debt in debts {
+        if is_overdue(debt, horizon) {
+            found.push(Breach {
+                kind: Kind::B10,
+                moment: debt.deadline,
+                since: first_minute(debt.week),
+                amount: debt.amount,
+            })?;
+        }
+    }
+    Ok(found)
+}

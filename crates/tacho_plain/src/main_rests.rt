@@ -1,0 +1,89 @@
+ghost use Rattle.std.specs.Prelude.{◌≡◌, ◌≢◌, ◌<◌, ◌≤◌, ◌⊎◌, ◌↔◌, ℕ, AllPairs, Contains, IsTrue};
+ghost use Rattle.tacho_hours.specs.declared.run.Run.{Run as RunValue};
+ghost use Rattle.tacho_hours.specs.Runs.{IsRestRun, Before, AreRestsOf};
+ghost use Rattle.tacho_plain.specs.Rests.{AreInTime};
+ghost use Rattle.tacho_hours.specs.Line.{Line};
+ghost use Rattle.tacho_hours.specs.Weeks.{IsInWeek};
+ghost use Rattle.tacho_hours.specs.Debts.{minutes_before, IsMainRest};
+ghost use Rattle.tacho_hours.specs.Limits.{weekly_rest, first_week, latest};
+ghost use Rattle.tacho_plain.specs.MainRests.{IsBetter};
+ghost use Rattle.tacho_hours.specs.MainRests.{IsKept};
+
+use tacho_hours::Run;
+use tacho_hours::limits::{DAILY_REST, FIRST_WEEK, REGULAR_WEEKLY_REST, WEEKLY_REST};
+use tacho_time::{Minute, Week, first_minute, week_of};
+
+/// The rests that have a minute from `from` to before `to`.
+pub fn touching(rests: &[Run], from: u32, to: u32) -> &[Run]
+    requires in_time { AreInTime rests.now }
+    requires range { from ≤ to }
+    ensures each { (run : RunValue) → Contains result.now run
+        ↔ (Contains rests.now run × (run.start < to) × (from < run.past)) }
+    ensures in_order { AllPairs Before result.now }
+{
+    let first = rests.partition_point(|rest| rest.past <= from);
+    let past = rests.partition_point(|rest| rest.start < to);
+    &rests[first..past]
+}
+
+/// The minutes of a rest before a minute.
+pub fn known_minutes(rest: Run, end: u32) -> u32
+    ensures { result ≡ minutes_before end rest }
+{
+    rest.past.min(end).saturating_sub(rest.start)
+}
+
+/// Whether a rest has more minutes before the horizon than another one, or as many and starts earlier.
+fn is_better(rest: Run, other: Run, horizon: u32) -> bool
+    ensures { IsTrue result ↔ IsBetter horizon rest other }
+{
+    let minutes = known_minutes(rest, horizon);
+    let least = known_minutes(other, horizon);
+    least < minutes || (least == minutes && rest.start < other.start)
+}
+
+/// Whether one of the weekly rests that start in a week is better than a rest.
+fn is_outdone(weekly: &[Run], horizon: u32, week: Week, rest: Run) -> bool
+    requires in_time { AreInTime weekly.now }
+    requires early { week ≤ 6787 }
+    ensures { IsTrue result ↔ ((other : RunValue) × Contains weekly.now other × IsInWeek week other.start
+        × IsBetter horizon other rest) }
+{
+    let start = first_minute(week).number();
+    let end = first_minute(Week::new(week.number() + 1)).number();
+    for other in touching(weekly, start, end) {
+        if start <= other.start && is_better(*other, rest, horizon) {
+            return true;
+        }
+    }
+    false
+}
+
+/// Whether a rest is the main rest of the week in which it starts, where `weekly` are the weekly rests: of those with
+/// 24 hours before the horizon the one with the most minutes there, and of equals the earliest (Article 8(6)).
+pub fn is_main(weekly: &[Run], horizon: u32, rest: Run) -> bool
+    requires in_time { AreInTime weekly.now }
+    requires early { rest.start ≤ latest }
+    ensures week { IsTrue result → first_week ≤ rest.start }
+    ensures main { (line : Line) → AreRestsOf line weekly_rest weekly.now → IsRestRun line rest
+        → (IsTrue result ↔ ((w : ℕ) × IsMainRest line horizon w rest)) }
+{
+    if rest.start < FIRST_WEEK || known_minutes(rest, horizon) < WEEKLY_REST {
+        return false;
+    }
+    !is_outdone(weekly, horizon, week_of(Minute::new(rest.start)), rest)
+}
+
+/// What a rest keeps of its minutes: 45 hours as the main rest of its week, and else 9 hours (Article 8(7)).
+pub fn kept_minutes(weekly: &[Run], horizon: u32, rest: Run) -> u32
+    requires in_time { AreInTime weekly.now }
+    requires early { rest.start ≤ latest }
+    ensures { (line : Line) → AreRestsOf line weekly_rest weekly.now → IsRestRun line rest
+        → IsKept line horizon rest result }
+{
+    if is_main(weekly, horizon, rest) {
+        REGULAR_WEEKLY_REST
+    } else {
+        DAILY_REST
+    }
+}

@@ -1,0 +1,143 @@
+ghost use Rattle.std.specs.Prelude.{◌≡◌, ◌+◌, ◌<◌, ◌≤◌, ◌↔◌, ◌⊎◌, IfOk, IsTrue};
+ghost use Rattle.tacho_hours.specs.Line.{line_of, IsBase, IsExamined, Line};
+ghost use Rattle.tacho_hours.specs.Runs.{AreRestsOf};
+ghost use Rattle.tacho_plain.specs.Rests.{AreInTime};
+ghost use Rattle.tacho_hours.specs.Weeks.{IsWhollyAtRest, HasTwoRests, week_start, LacksRests};
+ghost use Rattle.tacho_hours.specs.Breaches.{AreRestBreaches, IsLate, IsLacking};
+ghost use Rattle.tacho_hours.specs.Order.{AreCollected};
+ghost use Rattle.tacho_hours.specs.Limits.{weekly_rest, latest};
+
+use crate::compensation::{debts_of, overdue};
+use crate::duty::long_rests;
+use crate::examined::Examined;
+use crate::main_rests::touching;
+use crate::runs::rest_runs;
+use std::alloc::{AllocError, Global};
+use tacho_hours::limits::{DAILY_REST, REGULAR_WEEKLY_REST, SIX_DAYS, WEEKLY_REST};
+use tacho_hours::{Breach, Kind, Run, put_in_order};
+use tacho_pass::Found;
+use tacho_time::{Minute, Span, Week, first_minute, week_of};
+
+/// The breaches of weekly rests that start too late (Article 8(6)), in order of time.
+fn late_rests(alloc: Global, weekly: &[Run]) -> Result<Vec<Breach>, AllocError>
+    requires { AreInTime weekly.now }
+    ensures { IfOk result (λ found. (line : Line) → AreRestsOf line weekly_rest weekly.now
+        → AreCollected (IsLate line) found.items) }
+{
+    let mut found = Vec::new(alloc);
+    for i in 1..weekly.len() {
+        let since = weekly[i - 1].past;
+        let latest = since + SIX_DAYS;
+        let start = weekly[i].start;
+        if latest < start {
+            found.push(Breach {
+                kind: Kind::B8,
+                moment: Minute::new(latest),
+                since: Minute::new(since),
+                amount: start - latest,
+            })?;
+        }
+    }
+    Ok(found)
+}
+
+/// Whether each minute of a week is at rest.
+fn is_wholly_at_rest(weekly: &[Run], week: Week) -> bool
+    requires in_time { AreInTime weekly.now }
+    requires early { week ≤ 6787 }
+    ensures { (line : Line) → AreRestsOf line weekly_rest weekly.now → (IsTrue result ↔ IsWhollyAtRest line week) }
+{
+    let start = first_minute(week).number();
+    let end = first_minute(Week::new(week.number() + 1)).number();
+    for rest in touching(weekly, start, end) {
+        if rest.start <= start && end <= rest.past {
+            return true;
+        }
+    }
+    false
+}
+
+/// Whether a week and the next have two weekly rests, one of them regular (Article 8(6)).
+fn has_two_rests(weekly: &[Run], week: Week) -> bool
+    requires in_time { AreInTime weekly.now }
+    requires early { week ≤ 6786 }
+    ensures { (line : Line) → AreRestsOf line weekly_rest weekly.now → (IsTrue result ↔ HasTwoRests line week) }
+{
+    let start = first_minute(week).number();
+    let end = first_minute(Week::new(week.number() + 2)).number();
+    let rests = touching(weekly, start, end);
+    if rests.len() < 2 {
+        return false;
+    }
+    for rest in rests {
+        if rest.past - rest.start >= REGULAR_WEEKLY_REST {
+            return true;
+        }
+    }
+    false
+}
+
+/// Whether a week and the next lack the weekly rests that they need (Article 8(6)).
+fn lacks_rests(weekly: &[Run], week: Week) -> bool
+    requires in_time { AreInTime weekly.now }
+    requires early { week ≤ 6786 }
+    ensures { (line : Line) → AreRestsOf line weekly_rest weekly.now → (IsTrue result ↔ LacksRests line week) }
+{
+    if is_wholly_at_rest(weekly, week) || is_wholly_at_rest(weekly, Week::new(week.number() + 1)) {
+        return false;
+    }
+    !has_two_rests(weekly, week)
+}
+
+/// The breaches of neighbouring weeks that lack weekly rests (Article 8(6)), week by week.
+fn lacking_weeks(
+    alloc: Global,
+    weekly: &[Run],
+    base: Minute,
+    horizon: Minute,
+) -> Result<Vec<Breach>, AllocError>
+    requires in_time { AreInTime weekly.now }
+    requires base { IsBase base }
+    requires range { base ≤ horizon }
+    requires early { horizon ≤ latest }
+    ensures { IfOk result (λ found. (line : Line) → AreRestsOf line weekly_rest weekly.now
+        → AreCollected (IsLacking line base horizon) found.items) }
+{
+    let first = week_of(base).number();
+    let past = week_of(horizon).number();
+    let mut found = Vec::new(alloc);
+    for number in first..past {
+        let end = first_minute(Week::new(number + 2));
+        if end <= horizon && lacks_rests(weekly, Week::new(number)) {
+            found.push(Breach {
+                kind: Kind::B9,
+                moment: end,
+                since: first_minute(Week::new(number)),
+                amount: 0,
+            })?;
+        }
+    }
+    Ok(found)
+}
+
+/// The breaches of the rules on weekly rests (Article 8(6) and (6b)) from `base` to before `past`, in order of time,
+/// and the debts by week, each with its payer.
+pub fn rests(alloc: Global, spans: &[Span], base: Minute, past: Minute) -> Result<Found, AllocError>
+    requires { IsExamined spans.now base past }
+    ensures { IfOk result (λ found. AreRestBreaches
+        (line_of spans.now) base past found.breaches.items found.debts.items) }
+{
+    let examined = &Examined { spans, base, past };
+    let runs = rest_runs(alloc, examined)?;
+    let daily = long_rests(alloc, &runs, DAILY_REST)?;
+    let weekly = long_rests(alloc, &runs, WEEKLY_REST)?;
+    let last = runs[runs.len() - 1];
+    let debts = debts_of(alloc, &daily, &weekly, past.number(), last)?;
+    let mut breaches = late_rests(alloc, &weekly)?;
+    let mut lacking = lacking_weeks(alloc, &weekly, base, past)?;
+    breaches.append(&mut lacking)?;
+    let mut unpaid = overdue(alloc, &debts, past.number())?;
+    breaches.append(&mut unpaid)?;
+    put_in_order(&mut breaches);
+    Ok(Found { breaches, debts })
+}

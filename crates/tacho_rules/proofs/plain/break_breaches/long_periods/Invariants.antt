@@ -1,6 +1,0 @@
-use Rattle.tacho_hours.specs.Line.{line_of}
-use Rattle.tacho_rules.proofs.BreakBreachesLemmas.{Found}
-use Rattle.tacho_rules.proofs.plain.break_breaches.long_periods.Given as goal
-
-abbrev pub invariant-loop-i : goal.invariant-loop-i
-invariant-loop-i l = Found (line_of l.examined.spans.now) l.breaks l.i l.found.items

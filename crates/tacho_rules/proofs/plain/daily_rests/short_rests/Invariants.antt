@@ -1,9 +1,0 @@
-use Rattle.std.proofs.Common.{take}
-use Rattle.tacho_hours.specs.Line.{Line}
-use Rattle.tacho_hours.specs.Days.{AreDutyDays}
-use Rattle.tacho_rules.proofs.DayFoundLemmas.{DayFound, ShortOf}
-use Rattle.tacho_rules.proofs.plain.daily_rests.short_rests.Given as goal
-
-abbrev pub invariant-loop-day : goal.invariant-loop-day
-invariant-loop-day l =
-    (line : Line) → AreDutyDays line l.days → DayFound (ShortOf line) (take l.day-index l.days) l.found.items
