@@ -6,10 +6,10 @@ ghost use Rattle.tacho_plain.specs.Rests.{AreInTime};
 use crate::same::assert_same;
 use std::alloc::{AllocError, Global};
 use std::test::Fail;
-use tacho_hours::{Breach, DutyDay, FAR, Kind, Run, has_portion, put_in_order};
+use tacho_hours::{Breach, DutyDay, FAR, Kind, Run, has_portion, known_minutes, put_in_order};
 use tacho_plain::{
     Examined, Excess, complete_breaks, driving_minute, driving_minutes, duty_days, excess_between,
-    is_main, is_reduced, is_regular, kept_minutes, known_minutes, long_rests, rest_runs, touching,
+    is_main, is_reduced, is_regular, kept_minutes, long_rests, rest_runs, touching,
 };
 use tacho_time::{Activity, Mark, Minute, Span};
 

@@ -34,7 +34,7 @@ use Rattle.tacho_days.specs.declared.duty_driving.DutyDriving.{DutyDriving}
 use Rattle.tacho_days.specs.DutyDays.{day_to, IsLastOf}
 use Rattle.tacho_days.specs.DailyDriving.{week_at, duty_none, duty_with, ordinal_of, often_of, found_of, next_day}
 use Rattle.tacho_days.specs.DailyDriving.{duty_after, duty_found, duty_any, found_any, IsTally}
-use Rattle.tacho_days.specs.DailyDriving.{IsDrivingSeen, IsDriven, DrivingStands, IsDailyDriving, DrivingDefined}
+use Rattle.tacho_days.specs.DailyDriving.{IsDrivingSeen, IsDriven, DailyDrivingStands, IsDailyDriving, DailyDrivingDefined}
 use Rattle.tacho_days.proofs.DutyDaysLemmas.{last_next, last_keep, duty_new, duty_only, none_short, none_first}
 use Rattle.tacho_days.proofs.DutyDaysLemmas.{first_on, first_long}
 use Rattle.tacho_days.proofs.DailyDrivingWeekLemmas.{week_in, tally_none, tally_keep, tally_next, so_many_upto}
@@ -309,7 +309,7 @@ module _ (line : Line) (start place q : ℕ) (d : DutyDriving) (own : List Breac
 
 -- a span more
 module _ (spans : List Span) (s : Span) (base start : ℕ) (d : DutyDriving) (own : List Breach) (owed : List Debt)
-    (r : DrivingStands start s.start d own owed base spans)
+    (r : DailyDrivingStands start s.start d own owed base spans)
     (some : s.start < s.past) (far : s.past < FAR) (late : 5760 ≤ d.from) where
   module _ (line : Line) (c : Continues line (spans ++ s ∷ []) s.past) where
     at : (m : ℕ) → s.start ≤ m → m < s.past → line m ≡ s.mark.activity
@@ -332,7 +332,7 @@ module _ (spans : List Span) (s : Span) (base start : ℕ) (d : DutyDriving) (ow
         rw (ap is_drive e, append-nil own) rest
 
   by : (b g : Bool) → is_rest s.mark.activity ≡ b → nat_lt start s.start ≡ g
-      → DrivingStands (if b then start else s.past) s.past
+      → DailyDrivingStands (if b then start else s.past) s.past
       (duty_with (is_drive s.mark.activity) s.start s.past
       (duty_any (if b then None else (if g then Some (run_of start s.start) else None)) d))
       (own ++ found_any (if b then None else (if g then Some (run_of start s.start) else None)) d) owed base
@@ -360,7 +360,7 @@ module _ (spans : List Span) (s : Span) (base start : ℕ) (d : DutyDriving) (ow
         (busy line c e) (let k : s.start ≤ start = grind (arith, nat_tests) in k));
   }
 
-  pub driven_fed : DrivingStands (start_after start s) s.past
+  pub driven_fed : DailyDrivingStands (start_after start s) s.past
       (duty_with (is_drive s.mark.activity) s.start s.past (duty_any (run_before start s) d))
       (own ++ found_any (run_before start s) d) owed base (spans ++ s ∷ [])
   driven_fed = by (is_rest s.mark.activity) (nat_lt start s.start) refl refl
@@ -373,7 +373,7 @@ counted_none line limit from = record {
 }
 
 -- before the first span
-pub driven_none : (base : ℕ) → 540 ≤ base → DrivingStands 0 base (duty_none base) [] [] base []
+pub driven_none : (base : ℕ) → 540 ≤ base → DailyDrivingStands 0 base (duty_none base) [] [] base []
 driven_none base late = record {
   none = refl;
   joined = refl;
@@ -409,8 +409,8 @@ all_driving line runs all b = (
 
 -- at the end
 pub driven_end : (spans : List Span) (base past start : ℕ) (d : DutyDriving) (own : List Breach) (owed : List Debt)
-    → DrivingStands start past d own owed base spans → IsExamined spans base past → 5760 ≤ d.from
-    → DrivingDefined (own ++ duty_found (run_of start FAR) d) owed base past spans
+    → DailyDrivingStands start past d own owed base spans → IsExamined spans base past → 5760 ≤ d.from
+    → DailyDrivingDefined (own ++ duty_found (run_of start FAR) d) owed base past spans
 driven_end spans base past start d own owed r x late =
     let line : Line = line_of spans in
     let h : IsDriven line start past d own = r.kept line (λ m below. refl) in

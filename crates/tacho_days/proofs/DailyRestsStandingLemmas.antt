@@ -33,7 +33,7 @@ use Rattle.tacho_days.specs.RestingDays.{resting_none, portion_of, regular_of, r
 use Rattle.tacho_days.specs.RestingDays.{short_breach, short_of, often_breach, often_of, rest_found}
 use Rattle.tacho_days.specs.RestingDays.{after_daily, after_weekly, after_part, after_rest, after_any, found_any}
 use Rattle.tacho_days.specs.DailyRests.{IsBehindRests, HasPart, IsReducedSince, IsB2Seen, IsB3Seen}
-use Rattle.tacho_days.specs.DailyRests.{IsRestSeen, IsResting, RestsStand, IsDailyRestBreach, RestsDefined}
+use Rattle.tacho_days.specs.DailyRests.{IsRestSeen, IsResting, DailyRestsStand, IsDailyRestBreach, DailyRestsDefined}
 use Rattle.tacho_days.proofs.DutyDaysLemmas.{last_next, last_keep, day_only, none_short, none_first}
 use Rattle.tacho_days.proofs.DutyDaysLemmas.{first_on, first_long}
 use Rattle.tacho_days.proofs.DailyRestsReducedLemmas.{part_none, part_more, reduced_none, reduced_behind}
@@ -430,7 +430,7 @@ module _ (line : Line) (start place q : ℕ) (d : RestingDay) (own : List Breach
 
 -- a span more
 module _ (spans : List Span) (s : Span) (base start : ℕ) (d : RestingDay) (own : List Breach) (owed : List Debt)
-    (r : RestsStand start s.start d own owed base spans) (some : s.start < s.past) (far : s.past < FAR) where
+    (r : DailyRestsStand start s.start d own owed base spans) (some : s.start < s.past) (far : s.past < FAR) where
   module _ (line : Line) (c : Continues line (spans ++ s ∷ []) s.past) where
     -- in the span the line has its activity
     at : (m : ℕ) → s.start ≤ m → m < s.past → line m ≡ s.mark.activity
@@ -453,7 +453,7 @@ module _ (spans : List Span) (s : Span) (base start : ℕ) (d : RestingDay) (own
 
   -- whether the span is rest, and whether a run ends before it
   by : (b g : Bool) → is_rest s.mark.activity ≡ b → nat_lt start s.start ≡ g
-      → RestsStand (if b then start else s.past) s.past
+      → DailyRestsStand (if b then start else s.past) s.past
       (after_any (if b then None else (if g then Some (run_of start s.start) else None)) d)
       (own ++ found_any (if b then None else (if g then Some (run_of start s.start) else None)) d)
       owed base (spans ++ s ∷ [])
@@ -479,12 +479,12 @@ module _ (spans : List Span) (s : Span) (base start : ℕ) (d : RestingDay) (own
   }
 
   -- and so as the code goes
-  pub rests_fed : RestsStand (start_after start s) s.past (after_any (run_before start s) d)
+  pub rests_fed : DailyRestsStand (start_after start s) s.past (after_any (run_before start s) d)
       (own ++ found_any (run_before start s) d) owed base (spans ++ s ∷ [])
   rests_fed = by (is_rest s.mark.activity) (nat_lt start s.start) refl refl
 
 -- before the first span
-pub rests_none : (base : ℕ) → 1440 ≤ base → RestsStand 0 base resting_none [] [] base []
+pub rests_none : (base : ℕ) → 1440 ≤ base → DailyRestsStand 0 base resting_none [] [] base []
 rests_none base late = record {
   none = refl;
   joined = refl;
@@ -504,8 +504,8 @@ rests_none base late = record {
 
 -- at the end
 pub rests_end : (spans : List Span) (base past start : ℕ) (d : RestingDay) (own : List Breach) (owed : List Debt)
-    → RestsStand start past d own owed base spans → IsExamined spans base past
-    → RestsDefined (own ++ rest_found (run_of start FAR) d) owed base past spans
+    → DailyRestsStand start past d own owed base spans → IsExamined spans base past
+    → DailyRestsDefined (own ++ rest_found (run_of start FAR) d) owed base past spans
 rests_end spans base past start d own owed r x =
     let line : Line = line_of spans in
     let h : IsResting line start past d own = r.kept line (λ m below. refl) in

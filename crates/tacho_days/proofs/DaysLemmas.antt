@@ -14,8 +14,8 @@ use Rattle.tacho_hours.proofs.ExactlyLemmas.{exactly_as}
 use Rattle.tacho_pass.specs.Found.{own_of}
 use Rattle.tacho_pass.specs.Kinds.{is_b2_or_b3, is_b4_or_b5, is_b2_to_b5}
 use Rattle.tacho_pass.proofs.JoiningLemmas.{IsPart, joined, own_kinds}
-use Rattle.tacho_days.specs.DailyRests.{IsDailyRestBreach, RestsDefined}
-use Rattle.tacho_days.specs.DailyDriving.{IsDailyDriving, DrivingDefined}
+use Rattle.tacho_days.specs.DailyRests.{IsDailyRestBreach, DailyRestsDefined}
+use Rattle.tacho_days.specs.DailyDriving.{IsDailyDriving, DailyDrivingDefined}
 use Rattle.tacho_days.specs.Days.{DaysDefined}
 
 -- the kinds of each pass
@@ -80,8 +80,8 @@ module _ (line : Line) where
 -- what both find, which is of no other kinds
 pub days_of_both : (own : List Breach) (owed debts : List Debt) (base horizon : ℕ) (spans : List Span)
     → All (λ (b : Breach). IsTrue (is_b2_to_b5 b.kind)) own
-    → RestsDefined (own_of is_b2_or_b3 own) owed base horizon spans
-    → DrivingDefined (own_of is_b4_or_b5 own) debts base horizon spans
+    → DailyRestsDefined (own_of is_b2_or_b3 own) owed base horizon spans
+    → DailyDrivingDefined (own_of is_b4_or_b5 own) debts base horizon spans
     → DaysDefined own debts base horizon spans
 days_of_both own owed debts base horizon spans kinds rests driving = record {
   none = driving.none;
@@ -90,8 +90,8 @@ days_of_both own owed debts base horizon spans kinds rests driving = record {
 
 -- and so those of their kinds among all that is found
 pub days_defined : (new : List Breach) (owed debts : List Debt) (base horizon : ℕ) (spans : List Span)
-    → RestsDefined (own_of is_b2_or_b3 (own_of is_b2_to_b5 new)) owed base horizon spans
-    → DrivingDefined (own_of is_b4_or_b5 (own_of is_b2_to_b5 new)) debts base horizon spans
+    → DailyRestsDefined (own_of is_b2_or_b3 (own_of is_b2_to_b5 new)) owed base horizon spans
+    → DailyDrivingDefined (own_of is_b4_or_b5 (own_of is_b2_to_b5 new)) debts base horizon spans
     → DaysDefined (own_of is_b2_to_b5 new) debts base horizon spans
 days_defined new owed debts base horizon spans rests driving =
     days_of_both (own_of is_b2_to_b5 new) owed debts base horizon spans (own_kinds is_b2_to_b5 new) rests driving

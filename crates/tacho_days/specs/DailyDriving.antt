@@ -120,7 +120,7 @@ pub record IsDriven (line : Line) (start place : ℕ) (d : DutyDriving) (own : L
   pub found : AreCollected (λ breach. IsDrivingSeen line runs breach) own
 
 -- what is kept stands for the spans: it is so of each line that goes on as they say
-pub record DrivingStands (start place : ℕ) (d : DutyDriving) (own : List Breach) (owed : List Debt) (base : ℕ)
+pub record DailyDrivingStands (start place : ℕ) (d : DutyDriving) (own : List Breach) (owed : List Debt) (base : ℕ)
     (spans : List Span) : Type 0 where
   pub none : owed ≡ []
   pub joined : Joined spans base place
@@ -131,6 +131,6 @@ abbrev pub IsDailyDriving : Line → Breach → Type 0
 IsDailyDriving line breach = ((breach.kind ≡ B4) × IsB4 line breach) ⊎ ((breach.kind ≡ B5) × IsB5 line breach)
 
 -- all such breaches are found, each once, and no debts
-pub record DrivingDefined (own : List Breach) (owed : List Debt) (base horizon : ℕ) (spans : List Span) : Type 0 where
+pub record DailyDrivingDefined (own : List Breach) (owed : List Debt) (base horizon : ℕ) (spans : List Span) : Type 0 where
   pub none : owed ≡ []
   pub breaches : AreCollected (λ breach. IsDailyDriving (line_of spans) breach) own

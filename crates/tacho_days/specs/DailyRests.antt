@@ -62,7 +62,7 @@ pub record IsResting (line : Line) (start place : ℕ) (d : RestingDay) (own : L
   pub found : AreCollected (IsRestSeen line runs) own
 
 -- and so for each line that does what the spans say
-pub record RestsStand (start place : ℕ) (d : RestingDay) (own : List Breach) (owed : List Debt) (base : ℕ)
+pub record DailyRestsStand (start place : ℕ) (d : RestingDay) (own : List Breach) (owed : List Debt) (base : ℕ)
     (spans : List Span) : Type 0 where
   pub none : owed ≡ []
   pub joined : Joined spans base place
@@ -73,6 +73,6 @@ abbrev pub IsDailyRestBreach : Line → Breach → Type 0
 IsDailyRestBreach line breach = ((breach.kind ≡ B2) × IsB2 line breach) ⊎ ((breach.kind ≡ B3) × IsB3 line breach)
 
 -- all of them, and no debts
-pub record RestsDefined (own : List Breach) (owed : List Debt) (base horizon : ℕ) (spans : List Span) : Type 0 where
+pub record DailyRestsDefined (own : List Breach) (owed : List Debt) (base horizon : ℕ) (spans : List Span) : Type 0 where
   pub none : owed ≡ []
   pub breaches : AreCollected (IsDailyRestBreach (line_of spans)) own

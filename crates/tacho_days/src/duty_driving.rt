@@ -3,7 +3,7 @@ ghost use Rattle.tacho_hours.specs.Limits.{first_week, latest};
 ghost use Rattle.tacho_pass.specs.Found.{Appends, listed};
 ghost use Rattle.tacho_pass.specs.Kinds.{is_b4_or_b5};
 ghost use Rattle.tacho_days.specs.DutyDays.{is_long};
-ghost use Rattle.tacho_days.specs.DailyDriving.{DrivingStands, DrivingDefined};
+ghost use Rattle.tacho_days.specs.DailyDriving.{DailyDrivingStands, DailyDrivingDefined};
 ghost use Rattle.tacho_days.specs.DailyDriving.{duty_none, duty_with, ordinal_of, often_of, next_day};
 ghost use Rattle.tacho_days.specs.DailyDriving.{duty_after, duty_found, duty_any, found_any};
 
@@ -187,9 +187,9 @@ impl Judge for DutyDriving {
     ghost fits = { λ d place. nat_le first_week d.from
         && (nat_le d.nine.minutes place && (nat_le d.ten.minutes place && nat_le d.extended place)) };
 
-    ghost stands = { λ d start place own owed base spans. DrivingStands start place d own owed base spans };
+    ghost stands = { λ d start place own owed base spans. DailyDrivingStands start place d own owed base spans };
 
-    ghost defined = { DrivingDefined };
+    ghost defined = { DailyDrivingDefined };
 
     fn new(base: Minute) -> Self {
         DutyDriving::none(base)

@@ -3,7 +3,7 @@ ghost use Rattle.tacho_hours.specs.Runs.{minutes_of};
 ghost use Rattle.tacho_hours.specs.Limits.{latest, daily_rest};
 ghost use Rattle.tacho_pass.specs.Found.{Appends};
 ghost use Rattle.tacho_pass.specs.Kinds.{is_b2_or_b3};
-ghost use Rattle.tacho_days.specs.DailyRests.{RestsStand, RestsDefined};
+ghost use Rattle.tacho_days.specs.DailyRests.{DailyRestsStand, DailyRestsDefined};
 ghost use Rattle.tacho_days.specs.DutyDays.{day_to};
 ghost use Rattle.tacho_days.specs.RestingDays.{resting_none, regular_of, reduced_of};
 ghost use Rattle.tacho_days.specs.RestingDays.{short_of, often_of, rest_found, after_rest, after_any, found_any};
@@ -190,9 +190,9 @@ impl Judge for RestingDay {
 
     ghost fits = { λ d place. nat_le d.number place };
 
-    ghost stands = { λ d start place own owed base spans. RestsStand start place d own owed base spans };
+    ghost stands = { λ d start place own owed base spans. DailyRestsStand start place d own owed base spans };
 
-    ghost defined = { RestsDefined };
+    ghost defined = { DailyRestsDefined };
 
     fn new(_base: Minute) -> Self {
         RestingDay::none()

@@ -16,4 +16,4 @@ pub use days::DutyDay;
 pub use debt::Debt;
 pub use order::put_in_order;
 pub use portions::has_portion;
-pub use run::{FAR, Run};
+pub use run::{FAR, Run, known_minutes};

@@ -7,7 +7,7 @@ ghost use Rattle.tacho_hours.specs.Breaches.{IsBreakBreach, AreBreakBreaches};
 ghost use Rattle.tacho_hours.specs.Limits.{driving_before_break};
 ghost use Rattle.tacho_plain.specs.BreakBreaches.{IsLongPeriod};
 
-use crate::completing::complete_breaks;
+use crate::break_runs::complete_breaks;
 use crate::driving::{Excess, driving_minute, excess_between};
 use crate::examined::Examined;
 use crate::runs::rest_runs;

@@ -12,10 +12,10 @@ ghost use Rattle.tacho_hours.specs.Limits.{daily_rest, weekly_rest, latest};
 ghost use Rattle.tacho_plain.specs.RestBreaches.{IsLastRun, IsDebtOf};
 ghost use Rattle.tacho_hours.specs.Breaches.{IsOverdue};
 
-use crate::main_rests::{is_main, kept_minutes, known_minutes, touching};
+use crate::main_rests::{is_main, kept_minutes, touching};
 use std::alloc::{AllocError, Global};
 use tacho_hours::limits::{REGULAR_WEEKLY_REST, WEEKS_TO_PAY};
-use tacho_hours::{Breach, Debt, Kind, Run};
+use tacho_hours::{Breach, Debt, Kind, Run, known_minutes};
 use tacho_time::{Minute, Week, first_minute, week_of};
 
 /// The debt of the week whose main rest a rest is, with no payer, where the rest is too short and the last run starts

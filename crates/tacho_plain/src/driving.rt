@@ -3,7 +3,7 @@ ghost use Rattle.tacho_hours.specs.Line.{line_of, IsExamined};
 ghost use Rattle.tacho_hours.specs.Driving.{driving, IsDrivingMinute, IsExcess};
 
 use crate::examined::Examined;
-use crate::line::is_drive;
+use tacho_pass::is_drive;
 use tacho_time::Minute;
 
 /// How many of the first spans have ended by a minute.

@@ -4,13 +4,13 @@ ghost use Rattle.tacho_hours.specs.Runs.{IsRestRun, Before, AreRestsOf};
 ghost use Rattle.tacho_plain.specs.Rests.{AreInTime};
 ghost use Rattle.tacho_hours.specs.Line.{Line};
 ghost use Rattle.tacho_hours.specs.Weeks.{IsInWeek};
-ghost use Rattle.tacho_hours.specs.Debts.{minutes_before, IsMainRest};
+ghost use Rattle.tacho_hours.specs.Debts.{IsMainRest};
 ghost use Rattle.tacho_hours.specs.Limits.{weekly_rest, first_week, latest};
 ghost use Rattle.tacho_plain.specs.MainRests.{IsBetter};
 ghost use Rattle.tacho_hours.specs.MainRests.{IsKept};
 
-use tacho_hours::Run;
 use tacho_hours::limits::{DAILY_REST, FIRST_WEEK, REGULAR_WEEKLY_REST, WEEKLY_REST};
+use tacho_hours::{Run, known_minutes};
 use tacho_time::{Minute, Week, first_minute, week_of};
 
 /// The rests that have a minute from `from` to before `to`.
@@ -24,13 +24,6 @@ pub fn touching(rests: &[Run], from: u32, to: u32) -> &[Run]
     let first = rests.partition_point(|rest| rest.past <= from);
     let past = rests.partition_point(|rest| rest.start < to);
     &rests[first..past]
-}
-
-/// The minutes of a rest before a minute.
-pub fn known_minutes(rest: Run, end: u32) -> u32
-    ensures { result ≡ minutes_before end rest }
-{
-    rest.past.min(end).saturating_sub(rest.start)
 }
 
 /// Whether a rest has more minutes before the horizon than another one, or as many and starts earlier.

@@ -3,9 +3,9 @@ ghost use Rattle.tacho_hours.specs.Line.{line_of, IsExamined};
 ghost use Rattle.tacho_hours.specs.Runs.{AreRestRuns};
 
 use crate::examined::Examined;
-use crate::line::is_rest;
 use std::alloc::{AllocError, Global};
 use tacho_hours::{FAR, Run};
+use tacho_pass::is_rest;
 
 /// The rest runs of the line of spans from `base` to `past`, in order of time.
 pub fn rest_runs(alloc: Global, examined: &Examined<'_>) -> Result<Vec<Run>, AllocError>

@@ -15,17 +15,9 @@ use Rattle.tacho_hours.specs.Order.{Apart, AreCollected}
 use Rattle.tacho_hours.proofs.DebtsLemmas.{separate}
 use Rattle.tacho_hours.proofs.ByRunsLemmas.{one_run}
 use Rattle.tacho_hours.proofs.OrderLemmas.{same_breach}
-use Rattle.tacho_hours.proofs.ExactlyLemmas.{exactly_none, exactly_as, exactly_skip, exactly_add}
+use Rattle.tacho_hours.proofs.ExactlyLemmas.{exactly_as, exactly_skip, exactly_add}
 use Rattle.tacho_pass.specs.Found.{listed}
 use Rattle.tacho_rests.specs.Lateness.{late_of, IsLateBefore, IsLastRest, IsLateSoFar}
-
--- before the first run
-pub late_none : (line : Line) → IsLateSoFar line 0 None []
-late_none line = record {
-  last = λ other is below. absurd (omega arith);
-  found = exactly_none (λ breach. IsLateBefore line 0 breach) Apart
-      (λ breach h. (let b : h.is.b.start < 0 = h.before in omega arith));
-}
 
 -- where no weekly rest starts, all stays
 pub late_keep : (line : Line) (start next : ℕ) (end : Option ℕ) (own : List Breach) → start ≤ next

@@ -1,4 +1,4 @@
--- The pass over late weekly rests stands for its spans, span by span (specs/Lateness).
+-- What is kept of late weekly rests stands for the spans, span by span (specs/Lateness).
 use Rattle.std.proofs.Common.{◌≡◌, ◌≢◌, ℕ, ◌+◌, ◌-◌, ◌<◌, ◌≤◌, ◌⊎◌, inl, inr, Bool, true, false, Option, None, Some}
 use Rattle.std.proofs.Common.{List, [], ◌∷◌, ◌++◌, refl, sym, ap, subst, ◌∙◌, arith, nat_le, nat_lt, if◌then◌else◌}
 use Rattle.std.specs.Prelude.{IsTrue}
@@ -23,6 +23,7 @@ use Rattle.tacho_pass.specs.Heard.{is_rest, start_after, run_before, Continues, 
 use Rattle.tacho_pass.specs.Found.{listed}
 use Rattle.tacho_pass.proofs.HearingLemmas.{line_append, line_at_end, joined_append, rests_yes, rests_no, heard_rest}
 use Rattle.tacho_pass.proofs.HearingLemmas.{heard_busy, heard_gap, by_span, line_to}
+use Rattle.tacho_rests.specs.declared.late.Late.{Late}
 use Rattle.tacho_rests.specs.Lateness.{late_of, late_run, end_after, IsLateSoFar, IsLateUpTo, LateStands, LateDefined}
 use Rattle.tacho_rests.proofs.LateRestLemmas.{late_keep, late_next, late_all}
 use Rattle.tacho_rests.proofs.HeardLemmas.{run_some, none_if}
@@ -58,8 +59,8 @@ module _ (line : Line) (runs : List Run) (are : AreRestRuns line runs) (start ne
   late_run_next end own s = run_if end own (nat_le 1440 (minutes_of run)) refl s
 
 -- a span more
-module _ (spans : List Span) (s : Span) (base start : ℕ) (end : Option ℕ) (own : List Breach) (owed : List Debt)
-    (r : LateStands start s.start end false own owed base spans) (some : s.start < s.past) where
+module _ (spans : List Span) (s : Span) (base start : ℕ) (late : Late) (own : List Breach) (owed : List Debt)
+    (r : LateStands late start s.start own owed base spans) (some : s.start < s.past) where
   joined : Joined (spans ++ s ∷ []) base s.past
   joined = joined_append spans s base r.joined some
 
@@ -68,13 +69,13 @@ module _ (spans : List Span) (s : Span) (base start : ℕ) (end : Option ℕ) (o
     at : (m : ℕ) → s.start ≤ m → m < s.past → line m ≡ s.mark.activity
     at m above below = c m below ∙ line_at_end spans s base m r.joined above below
 
-    before : IsLateUpTo line start s.start end own
+    before : IsLateUpTo line start s.start late.end own
     before = r.kept line runs are (λ m below. c m (omega arith) ∙ line_append spans s m below)
 
     busy : is_rest s.mark.activity ≡ false → (m : ℕ) → s.start ≤ m → m < s.past → line m ≢ Rest
     busy e m above below f = rests_no s.mark.activity e (sym (at m above below) ∙ f)
 
-    quiet : s.mark.activity ≡ Rest → IsLateUpTo line start s.past end own
+    quiet : s.mark.activity ≡ Rest → IsLateUpTo line start s.past late.end own
     quiet e = record {
       e = before.e;
       low = before.low;
@@ -82,12 +83,12 @@ module _ (spans : List Span) (s : Span) (base start : ℕ) (end : Option ℕ) (o
       so_far = before.so_far;
     }
 
-    none : is_rest s.mark.activity ≡ false → s.start ≤ start → IsLateUpTo line s.past s.past end own
+    none : is_rest s.mark.activity ≡ false → s.start ≤ start → IsLateUpTo line s.past s.past late.end own
     none e empty = record {
       e = before.e;
       low = before.low;
       heard = heard_busy line start before.e s before.heard some (busy e) (λ gap. absurd (omega arith));
-      so_far = late_keep line start s.past end own
+      so_far = late_keep line start s.past late.end own
           (let b : start ≤ s.start = before.heard.below in omega arith)
           (λ x is below. elim (by_span line start before.e s before.heard some (busy e) x is.rests below) [
             | inl old ↦ old
@@ -107,8 +108,8 @@ module _ (spans : List Span) (s : Span) (base start : ℕ) (end : Option ℕ) (o
     ]
 
     ends : is_rest s.mark.activity ≡ false → start < s.start
-        → IsLateUpTo line s.past s.past (end_after end (run_of start s.start))
-        (own ++ listed (late_run end (run_of start s.start)))
+        → IsLateUpTo line s.past s.past (end_after late.end (run_of start s.start))
+        (own ++ listed (late_run late.end (run_of start s.start)))
     ends e gap =
         let h : (e : ℕ) × (5760 ≤ e) × IsHeard line s.past s.past e = heard_on e gap in
         record {
@@ -123,26 +124,25 @@ module _ (spans : List Span) (s : Span) (base start : ℕ) (end : Option ℕ) (o
                 until = inr (busy e s.start (omega arith) some);
               }) refl (omega arith)
               (λ x is below. elim (by_span line start before.e s before.heard some (busy e) x is below)
-              [ inl old ↦ inl old | inr here ↦ inr here.0 ]) end own before.so_far;
+              [ inl old ↦ inl old | inr here ↦ inr here.0 ]) late.end own before.so_far;
         }
 
   none_by : (b : Bool) → is_rest s.mark.activity ≡ b
       → (if b then None else (if nat_lt start s.start then Some (run_of start s.start) else None)) ≡ None
-      → LateStands (if b then start else s.past) s.past end false own owed base (spans ++ s ∷ [])
+      → LateStands late (if b then start else s.past) s.past own owed base (spans ++ s ∷ [])
   none_by true e is =
       record {
-        alive = refl;
         none = r.none;
         joined = joined;
         kept = λ line runs are c. quiet line runs are c (rests_yes s.mark.activity e);
       }
   none_by false e is =
       let empty : s.start ≤ start = none_if start s (nat_lt start s.start) refl is in
-      record { alive = refl; none = r.none; joined = joined; kept = λ line runs are c. none line runs are c e empty }
+      record { none = r.none; joined = joined; kept = λ line runs are c. none line runs are c e empty }
 
   -- where no run ends
   pub late_fed_none : run_before start s ≡ None
-      → LateStands (start_after start s) s.past end false own owed base (spans ++ s ∷ [])
+      → LateStands late (start_after start s) s.past own owed base (spans ++ s ∷ [])
   late_fed_none is = none_by (is_rest s.mark.activity) refl is
 
   after_busy : is_rest s.mark.activity ≡ false → start_after start s ≡ s.past
@@ -150,39 +150,38 @@ module _ (spans : List Span) (s : Span) (base start : ℕ) (end : Option ℕ) (o
 
   -- where one ends
   pub late_fed : (run : Run) → run_before start s ≡ Some run
-      → LateStands (start_after start s) s.past (end_after end run) false (own ++ listed (late_run end run)) owed base
-      (spans ++ s ∷ [])
+      → LateStands (record { end = end_after late.end run }) (start_after start s) s.past
+      (own ++ listed (late_run late.end run)) owed base (spans ++ s ∷ [])
   late_fed run is =
       let of = run_some start s run is in
-      subst (λ (n : ℕ). LateStands n s.past (end_after end run) false (own ++ listed (late_run end run)) owed base
-      (spans ++ s ∷ [])) (sym (after_busy of.0))
-      (subst (λ (x : Run). LateStands s.past s.past (end_after end x) false (own ++ listed (late_run end x)) owed base
-      (spans ++ s ∷ [])) of.2
+      subst (λ (n : ℕ). LateStands (record { end = end_after late.end run }) n s.past
+      (own ++ listed (late_run late.end run)) owed base (spans ++ s ∷ [])) (sym (after_busy of.0))
+      (subst (λ (x : Run). LateStands (record { end = end_after late.end x }) s.past s.past
+      (own ++ listed (late_run late.end x)) owed base (spans ++ s ∷ [])) of.2
       (record {
-        alive = refl;
         none = r.none;
         joined = joined;
         kept = λ line runs are c. ends line runs are c of.0 of.1;
       }))
 
 -- at the end
-module _ (spans : List Span) (base past start : ℕ) (end : Option ℕ) (own : List Breach) (owed : List Debt)
-    (r : LateStands start past end false own owed base spans) (x : IsExamined spans base past)
+module _ (spans : List Span) (base past start : ℕ) (late : Late) (own : List Breach) (owed : List Debt)
+    (r : LateStands late start past own owed base spans) (x : IsExamined spans base past)
     (all : (rs : List Run) × AreRestRuns (line_of spans) rs) where
-  at_end : IsLateUpTo (line_of spans) start past end own
+  at_end : IsLateUpTo (line_of spans) start past late.end own
   at_end = r.kept (line_of spans) all.0 all.1 (λ m below. refl)
 
   line_is : IsLineTo (line_of spans) past (run_of start FAR)
   line_is = line_to spans base past x start at_end.e at_end.heard
 
-  pub late_ends : LateDefined (own ++ listed (late_run end (run_of start FAR))) owed base past spans
+  pub late_ends : LateDefined (own ++ listed (late_run late.end (run_of start FAR))) owed base past spans
   late_ends = record {
     none = r.none;
-    breaches = late_all (line_of spans) (start + 1) (end_after end (run_of start FAR))
-        (own ++ listed (late_run end (run_of start FAR)))
+    breaches = late_all (line_of spans) (start + 1) (end_after late.end (run_of start FAR))
+        (own ++ listed (late_run late.end (run_of start FAR)))
         (λ y is. (let most : y.start ≤ start = line_is.all y is in omega arith))
         (late_run_next (line_of spans) all.0 all.1 start (start + 1) (run_of start FAR) line_is.is refl (omega arith)
-        (λ y is below. elim (cases_lt y.start start) [ inl old ↦ inl old | inr here ↦ inr (omega arith) ]) end own
+        (λ y is below. elim (cases_lt y.start start) [ inl old ↦ inl old | inr here ↦ inr (omega arith) ]) late.end own
         at_end.so_far);
   }
 

@@ -1,4 +1,3 @@
-pub mod KindsLemmas
 pub mod HeardLemmas
 pub mod TurnsLemmas
 pub mod PayingLemmas

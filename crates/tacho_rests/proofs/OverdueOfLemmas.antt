@@ -1,4 +1,4 @@
--- The breaches of debts as the pass puts them to what is found (specs/Paying, overdue_of).
+-- The breaches of debts as they are put to what is found (specs/Paying, overdue_of).
 use Rattle.std.proofs.Common.{◌≡◌, ℕ, zero, suc, ◌<◌, ◌≤◌, Bool, true, false, Option, None, Some, List, [], ◌∷◌, ◌++◌}
 use Rattle.std.proofs.Common.{refl, sym, ap, ap₂, subst, ◌∙◌, arith, nat_le, if◌then◌else◌, ◌&&◌}
 use Rattle.std.specs.Prelude.{IsTrue}
@@ -15,7 +15,7 @@ use Rattle.tacho_hours.specs.Breaches.{IsOverdue}
 use Rattle.tacho_hours.proofs.ExactlyLemmas.{head_first, tail_order}
 use Rattle.tacho_hours.proofs.OverdueLemmas.{OverdueFound, overdue_none, overdue_skip, overdue_add, overdue_all}
 use Rattle.tacho_pass.specs.Kinds.{is_b10}
-use Rattle.tacho_rests.specs.Paying.{breach_of, is_overdue, overdue_of}
+use Rattle.tacho_rests.specs.Paying.{overdue_breach, is_overdue, overdue_of}
 
 -- all are of the kind
 kinds_if : (b : Bool) (x : Breach) (xs : List Breach) → is_b10 x.kind ≡ true
@@ -26,7 +26,7 @@ kinds_if false x xs e h = h
 
 pub overdue_kinds : (by : ℕ) (debts : List Debt) → All (λ (x : Breach). IsTrue (is_b10 x.kind)) (overdue_of by debts)
 overdue_kinds by [] = All-nil (λ (x : Breach). IsTrue (is_b10 x.kind))
-overdue_kinds by (x ∷ xs) = kinds_if (is_overdue by x) (breach_of x) (overdue_of by xs) refl (overdue_kinds by xs)
+overdue_kinds by (x ∷ xs) = kinds_if (is_overdue by x) (overdue_breach x) (overdue_of by xs) refl (overdue_kinds by xs)
 
 -- of debts and others
 more_if : (b : Bool) (x : Breach) (xs ys : List Breach)
@@ -38,8 +38,8 @@ pub overdue_append : (by : ℕ) (debts others : List Debt)
     → overdue_of by (debts ++ others) ≡ overdue_of by debts ++ overdue_of by others
 overdue_append by [] others = refl
 overdue_append by (x ∷ xs) others =
-    ap (λ (ys : List Breach). if is_overdue by x then breach_of x ∷ ys else ys) (overdue_append by xs others)
-    ∙ more_if (is_overdue by x) (breach_of x) (overdue_of by xs) (overdue_of by others)
+    ap (λ (ys : List Breach). if is_overdue by x then overdue_breach x ∷ ys else ys) (overdue_append by xs others)
+    ∙ more_if (is_overdue by x) (overdue_breach x) (overdue_of by xs) (overdue_of by others)
 
 -- where all deadlines have come, by a later minute too
 pub overdue_same : (by end : ℕ) (debts : List Debt) → by ≤ end
@@ -51,7 +51,7 @@ overdue_same by end (x ∷ xs) le due =
     let two : nat_le x.deadline end ≡ true = grind (arith, nat_tests) in
     let others : overdue_of by xs ≡ overdue_of end xs =
     overdue_same by end xs le (λ d in'. due d (suc in'.0, omega arith, in'.2)) in
-    ap₂ (λ (b : Bool) (ys : List Breach). if option_map_or (λ start. false) x.paid_by true && b then breach_of x ∷ ys
+    ap₂ (λ (b : Bool) (ys : List Breach). if option_map_or (λ start. false) x.paid_by true && b then overdue_breach x ∷ ys
     else ys) (one ∙ sym two) others
 
 -- debts as the code finds their breaches
@@ -80,10 +80,10 @@ not_due horizon (Some s) deadline e none le = absurd (let f : Some s ≡ None = 
 overdue_step : (horizon : ℕ) (seen : List Debt) (debt : Debt) (found : List Breach) (b : Bool)
     → is_overdue horizon debt ≡ b → OverdueFound horizon seen found
     → ((other : Debt) → Contains seen other → EarlierWeek other debt)
-    → OverdueFound horizon (seen ++ debt ∷ []) (found ++ (if b then breach_of debt ∷ [] else []))
+    → OverdueFound horizon (seen ++ debt ∷ []) (found ++ (if b then overdue_breach debt ∷ [] else []))
 overdue_step horizon seen debt found true e r earlier =
     let due : (debt.paid_by ≡ None) × (debt.deadline ≤ horizon) = is_due horizon debt.paid_by debt.deadline e in
-    overdue_add horizon seen debt found r earlier (breach_of debt)
+    overdue_add horizon seen debt found r earlier (overdue_breach debt)
     (record { kind = refl; unpaid = due.0; due = due.1; moment = refl; since = refl; amount = refl })
 overdue_step horizon seen debt found false e r earlier =
     subst (λ (xs : List Breach). OverdueFound horizon (seen ++ debt ∷ []) xs) (sym (append-nil found))
@@ -100,14 +100,14 @@ overdue_rest horizon seen [] found order r =
     subst (λ (ds : List Debt). OverdueFound horizon ds (found ++ [])) (sym (append-nil seen))
     (subst (λ (xs : List Breach). OverdueFound horizon seen xs) (sym (append-nil found)) r)
 overdue_rest horizon seen (debt ∷ debts) found order r =
-    let here : List Breach = if is_overdue horizon debt then breach_of debt ∷ [] else [] in
+    let here : List Breach = if is_overdue horizon debt then overdue_breach debt ∷ [] else [] in
     let step : OverdueFound horizon (seen ++ debt ∷ []) (found ++ here) =
     overdue_step horizon seen debt found (is_overdue horizon debt) refl r (order_to seen debt debts order) in
     let rest : OverdueFound horizon ((seen ++ debt ∷ []) ++ debts) ((found ++ here) ++ overdue_of horizon debts) =
     overdue_rest horizon (seen ++ debt ∷ []) debts (found ++ here)
     (subst (λ (ds : List Debt). AllPairs EarlierWeek ds) (sym (append_assoc seen (debt ∷ []) debts)) order) step in
     subst (λ (xs : List Breach). OverdueFound horizon (seen ++ debt ∷ debts) xs)
-    (cons_if (is_overdue horizon debt) (breach_of debt) found (overdue_of horizon debts))
+    (cons_if (is_overdue horizon debt) (overdue_breach debt) found (overdue_of horizon debts))
     (subst (λ (ds : List Debt). OverdueFound horizon ds ((found ++ here) ++ overdue_of horizon debts))
     (append_assoc seen (debt ∷ []) debts) rest)
 

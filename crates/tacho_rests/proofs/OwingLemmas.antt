@@ -1,4 +1,4 @@
--- The pass over debts stands for its spans, span by span (specs/Owing).
+-- A ledger of debts stands for the spans, span by span (specs/Owing).
 use Rattle.std.proofs.Common.{◌≡◌, ◌≢◌, ℕ, ◌+◌, ◌-◌, ◌<◌, ◌≤◌, inl, inr, Bool, true, false, None, Some, List, [], ◌∷◌}
 use Rattle.std.proofs.Common.{◌++◌, refl, sym, ap, subst, ◌∙◌, arith, nat_lt, if◌then◌else◌}
 use Rattle.std.specs.List.{Contains}
@@ -18,6 +18,8 @@ use Rattle.tacho_hours.proofs.RunsLemmas.{run_of}
 use Rattle.tacho_pass.specs.Heard.{is_rest, start_after, run_before, Continues, IsNext, IsLineTo}
 use Rattle.tacho_pass.proofs.HearingLemmas.{line_append, line_at_end, joined_append, rests_yes, rests_no, heard_rest}
 use Rattle.tacho_pass.proofs.HearingLemmas.{heard_busy, heard_next, heard_gap, line_to, last_next}
+use Rattle.tacho_rests.specs.declared.ledger.Ledger.{Ledger}
+use Rattle.tacho_rests.specs.Few.{debts_in, rests_in}
 use Rattle.tacho_rests.specs.Turns.{OwesBefore, AreDebtsBefore, IsLedger, IsOwed}
 use Rattle.tacho_rests.specs.Owing.{IsOwing, OwingStands, OwingDefined}
 use Rattle.tacho_rests.proofs.TurnsLemmas.{kept_all}
@@ -26,9 +28,8 @@ use Rattle.tacho_rests.proofs.OverdueOfLemmas.{overdue_are}
 use Rattle.tacho_rests.proofs.HeardLemmas.{run_some, none_if}
 
 -- a span more
-module _ (spans : List Span) (s : Span) (base start w : ℕ) (rs : List Run) (debts : List Debt) (own : List Breach)
-    (owed : List Debt) (r : OwingStands start s.start w rs debts false own owed base spans)
-    (some : s.start < s.past) where
+module _ (spans : List Span) (s : Span) (base start : ℕ) (books : Ledger) (own : List Breach) (owed : List Debt)
+    (r : OwingStands books start s.start own owed base spans) (some : s.start < s.past) where
   joined : Joined (spans ++ s ∷ []) base s.past
   joined = joined_append spans s base r.joined some
 
@@ -36,13 +37,13 @@ module _ (spans : List Span) (s : Span) (base start w : ℕ) (rs : List Run) (de
     at : (m : ℕ) → s.start ≤ m → m < s.past → line m ≡ s.mark.activity
     at m above below = c m below ∙ line_at_end spans s base m r.joined above below
 
-    before : IsOwing line start s.start w rs debts own owed
+    before : IsOwing line start s.start books own owed
     before = r.kept line (λ m below. c m (omega arith) ∙ line_append spans s m below)
 
     busy : is_rest s.mark.activity ≡ false → (m : ℕ) → s.start ≤ m → m < s.past → line m ≢ Rest
     busy e m above below f = rests_no s.mark.activity e (sym (at m above below) ∙ f)
 
-    quiet : s.mark.activity ≡ Rest → IsOwing line start s.past w rs debts own owed
+    quiet : s.mark.activity ≡ Rest → IsOwing line start s.past books own owed
     quiet e = record {
       e = before.e;
       low = before.low;
@@ -51,7 +52,7 @@ module _ (spans : List Span) (s : Span) (base start w : ℕ) (rs : List Run) (de
     }
 
     skip : is_rest s.mark.activity ≡ false → (start < s.start → start ≡ 0)
-        → IsOwing line s.past s.past w rs debts own owed
+        → IsOwing line s.past s.past books own owed
     skip e first =
         record {
           e = before.e;
@@ -75,16 +76,16 @@ module _ (spans : List Span) (s : Span) (base start w : ℕ) (rs : List Run) (de
 
   none_by : (b : Bool) → is_rest s.mark.activity ≡ b
       → (if b then None else (if nat_lt start s.start then Some (run_of start s.start) else None)) ≡ None
-      → OwingStands (if b then start else s.past) s.past w rs debts false own owed base (spans ++ s ∷ [])
+      → OwingStands books (if b then start else s.past) s.past own owed base (spans ++ s ∷ [])
   none_by true e is =
-      record { alive = refl; joined = joined; kept = λ line c. quiet line c (rests_yes s.mark.activity e) }
+      record { joined = joined; kept = λ line c. quiet line c (rests_yes s.mark.activity e) }
   none_by false e is =
       let none : s.start ≤ start = none_if start s (nat_lt start s.start) refl is in
-      record { alive = refl; joined = joined; kept = λ line c. skip line c e (λ gap. absurd (omega arith)) }
+      record { joined = joined; kept = λ line c. skip line c e (λ gap. absurd (omega arith)) }
 
   -- where no run ends
   pub fed_none : run_before start s ≡ None
-      → OwingStands (start_after start s) s.past w rs debts false own owed base (spans ++ s ∷ [])
+      → OwingStands books (start_after start s) s.past own owed base (spans ++ s ∷ [])
   fed_none is = none_by (is_rest s.mark.activity) refl is
 
   after_busy : is_rest s.mark.activity ≡ false → start_after start s ≡ s.past
@@ -92,34 +93,31 @@ module _ (spans : List Span) (s : Span) (base start w : ℕ) (rs : List Run) (de
 
   -- where the first run ends
   pub fed_first : (run : Run) → run_before start s ≡ Some run → run.start < 5760
-      → OwingStands (start_after start s) s.past w rs debts false own owed base (spans ++ s ∷ [])
+      → OwingStands books (start_after start s) s.past own owed base (spans ++ s ∷ [])
   fed_first run is early =
       let of = run_some start s run is in
       let same : start ≡ run.start = ap (λ (x : Run). x.start) of.2 in
-      subst (λ (n : ℕ). OwingStands n s.past w rs debts false own owed base (spans ++ s ∷ [])) (sym (after_busy of.0))
+      subst (λ (n : ℕ). OwingStands books n s.past own owed base (spans ++ s ∷ [])) (sym (after_busy of.0))
       (record {
-        alive = refl;
         joined = joined;
         kept = λ line c. skip line c of.0 (λ gap. first_run line c (omega arith));
       })
 
   -- where another ends
   pub fed_next : (run : Run) → run_before start s ≡ Some run → 5760 ≤ run.start
-      → (w' : ℕ) (rs' : List Run) (debts' : List Debt) (own' : List Breach) (owed' : List Debt)
+      → (after : Ledger) (own' : List Breach) (owed' : List Debt)
       → ((line : Line) (horizon : ℕ) (last : Run) (e : ℕ) → IsLineTo line horizon last → IsNext line e run
-      → IsLedger line horizon e w rs debts own owed
-      → IsLedger line horizon (run.start + 1) w' rs' debts' own' owed')
-      → OwingStands (start_after start s) s.past w' rs' debts' false own' owed' base (spans ++ s ∷ [])
-  fed_next run is late w' rs' debts' own' owed' law =
+      → IsLedger line horizon e books.week (rests_in books.rests) (debts_in books.debts) own owed
+      → IsLedger line horizon (run.start + 1) after.week (rests_in after.rests) (debts_in after.debts) own' owed')
+      → OwingStands after (start_after start s) s.past own' owed' base (spans ++ s ∷ [])
+  fed_next run is late after own' owed' law =
       let of = run_some start s run is in
       let same : start ≡ run.start = ap (λ (x : Run). x.start) of.2 in
-      subst (λ (n : ℕ). OwingStands n s.past w' rs' debts' false own' owed' base (spans ++ s ∷ []))
-      (sym (after_busy of.0))
+      subst (λ (n : ℕ). OwingStands after n s.past own' owed' base (spans ++ s ∷ [])) (sym (after_busy of.0))
       (record {
-        alive = refl;
         joined = joined;
         kept = λ line c.
-            (let b : IsOwing line start s.start w rs debts own owed = before line c in
+            (let b : IsOwing line start s.start books own owed = before line c in
             let from : b.e ≤ start = later line c (omega arith) in
             let n : IsNext line b.e run =
             subst (λ (x : Run). IsNext line b.e x) of.2
@@ -128,15 +126,16 @@ module _ (spans : List Span) (s : Span) (base start w : ℕ) (rs : List Run) (de
               e = start + 1;
               low = omega arith;
               heard = heard_gap line start b.e s b.heard some (busy line c of.0) of.1 from;
-              ledger = λ horizon last l. subst (λ (m : ℕ). IsLedger line horizon (m + 1) w' rs' debts' own' owed')
+              ledger = λ horizon last l. subst (λ (m : ℕ). IsLedger line horizon (m + 1) after.week
+                  (rests_in after.rests) (debts_in after.debts) own' owed')
                   (sym same) (law line horizon last b.e l n (b.ledger horizon last l));
             });
       })
 
 -- before the first span
-pub stands_none : (base w : ℕ) → IsBase base → base ≡ week_start w → OwingStands 0 base w [] [] false [] [] base []
-stands_none base w is week = record {
-  alive = refl;
+pub stands_none : (base : ℕ) (books : Ledger) → IsBase base → base ≡ week_start books.week
+    → rests_in books.rests ≡ [] → debts_in books.debts ≡ [] → OwingStands books 0 base [] [] base []
+stands_none base books is week rests debts = record {
   joined = refl;
   kept = λ line c.
       (let from : 15780960 ≤ base = is.from in
@@ -153,13 +152,14 @@ stands_none base w is week = record {
           some = omega arith;
         };
         ledger = λ horizon last l. record {
-          so_far = so_far_none line horizon last l base w week (λ run r below. elim (cases_lt 0 run.start) [
-            | inl late ↦ absurd (elim r.from [
-              | inl none ↦ omega arith
-              | inr stops ↦ stops (run.start - 1) (omega arith) (c (run.start - 1) (omega arith))
-            ])
-            | inr none ↦ omega arith
-          ]);
+          so_far = rw (rests, debts)
+              (so_far_none line horizon last l base books.week week (λ run r below. elim (cases_lt 0 run.start) [
+                | inl late ↦ absurd (elim r.from [
+                  | inl none ↦ omega arith
+                  | inr stops ↦ stops (run.start - 1) (omega arith) (c (run.start - 1) (omega arith))
+                ])
+                | inr none ↦ omega arith
+              ]));
           own_is = refl;
         };
       });
@@ -174,16 +174,15 @@ first_none [] ys e = refl
 first_none (x ∷ xs) ys e = absurd (let f : x ∷ (xs ++ ys) ≡ [] = e in cc)
 
 -- at the end
-module _ (spans : List Span) (base past start w : ℕ) (rs : List Run) (debts : List Debt) (own : List Breach)
-    (owed : List Debt) (r : OwingStands start past w rs debts false own owed base spans)
-    (x : IsExamined spans base past) where
-  at_end : IsOwing (line_of spans) start past w rs debts own owed
+module _ (spans : List Span) (base past start : ℕ) (books : Ledger) (own : List Breach) (owed : List Debt)
+    (r : OwingStands books start past own owed base spans) (x : IsExamined spans base past) where
+  at_end : IsOwing (line_of spans) start past books own owed
   at_end = r.kept (line_of spans) (λ m below. refl)
 
   line_is : IsLineTo (line_of spans) past (run_of start FAR)
   line_is = line_to spans base past x start at_end.e at_end.heard
 
-  last_ledger : IsLedger (line_of spans) past at_end.e w rs debts own owed
+  last_ledger : IsLedger (line_of spans) past at_end.e books.week (rests_in books.rests) (debts_in books.debts) own owed
   last_ledger = at_end.ledger past (run_of start FAR) line_is
 
   defined_by : (own' : List Breach) (owed' : List Debt) → IsOwed (line_of spans) past own' owed'
@@ -197,7 +196,8 @@ module _ (spans : List Span) (base past start w : ℕ) (rs : List Run) (debts : 
   -- behind the last run
   pub ends_at : (own' : List Breach) (owed' : List Debt) → 5760 ≤ start
       → ((line : Line) (last : Run) (e : ℕ) → IsLineTo line past last → last.start ≡ start → IsNext line e last
-      → IsLedger line past e w rs debts own owed → IsOwed line past own' owed')
+      → IsLedger line past e books.week (rests_in books.rests) (debts_in books.debts) own owed
+      → IsOwed line past own' owed')
       → OwingDefined own' owed' base past spans
   ends_at own' owed' late law =
       let from : at_end.e ≤ start = elim at_end.heard.since [
@@ -215,17 +215,18 @@ module _ (spans : List Span) (base past start w : ℕ) (rs : List Run) (debts : 
         | inl none ↦ none
         | inr since ↦ absurd (let low : 5760 ≤ at_end.e = at_end.low in omega arith)
       ] in
-      let k : AreDebtsBefore (line_of spans) past (week_start w) (owed ++ debts) = last_ledger.so_far.turns.kept in
-      let none : owed ++ debts ≡ [] = no_debts (owed ++ debts) (λ debt in'.
-      (let o : OwesBefore (line_of spans) past (week_start w) debt.week debt.amount =
+      let k : AreDebtsBefore (line_of spans) past (week_start books.week) (owed ++ debts_in books.debts) =
+      last_ledger.so_far.turns.kept in
+      let none : owed ++ debts_in books.debts ≡ [] = no_debts (owed ++ debts_in books.debts) (λ debt in'.
+      (let o : OwesBefore (line_of spans) past (week_start books.week) debt.week debt.amount =
       (k.owed debt.week debt.amount).1 (debt, in', refl, refl) in
       let most : o.main.start ≤ start = line_is.all o.main o.is.candidate.rests in
       let low : week_start debt.week ≤ o.main.start = o.is.candidate.week.0 in
       omega arith)) in
-      let empty : owed ≡ [] = first_none owed debts none in
+      let empty : owed ≡ [] = first_none owed (debts_in books.debts) none in
       defined_by own owed (record {
         are_debts = subst (λ (ds : List Debt). AreDebts (line_of spans) past ds) (none ∙ sym empty)
-            (kept_all (line_of spans) past (week_start w) (owed ++ debts)
+            (kept_all (line_of spans) past (week_start books.week) (owed ++ debts_in books.debts)
             (λ run is. (let most : run.start ≤ start = line_is.all run is in omega arith)) k);
         own_is = last_ledger.own_is;
       })

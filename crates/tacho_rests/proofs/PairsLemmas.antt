@@ -16,7 +16,7 @@ use Rattle.tacho_hours.specs.Order.{Apart, AreCollected}
 use Rattle.tacho_hours.specs.Breaches.{IsLacking}
 use Rattle.tacho_hours.proofs.DebtsLemmas.{separate}
 use Rattle.tacho_hours.proofs.ByRunsLemmas.{one_run}
-use Rattle.tacho_hours.proofs.LackingWeekLemmas.{LackingBelow, lacking_none, lacking_skip, lacking_add}
+use Rattle.tacho_hours.proofs.LackingWeekLemmas.{LackingBelow, lacking_skip, lacking_add}
 use Rattle.tacho_hours.proofs.ExactlyLemmas.{exactly_as}
 use Rattle.tacho_pass.specs.Kinds.{is_b9}
 use Rattle.tacho_pass.specs.Found.{listed}
@@ -76,19 +76,6 @@ from_before : (line : Line) (horizon first n : ℕ) (found : List Breach)
 from_before line horizon first n found r =
     exactly_as (IsLackingBefore line (week_start first) horizon n) (LackingBelow line horizon first n) Apart found
     (λ breach. ((before_is line horizon first n breach).1, (before_is line horizon first n breach).0)) r
-
--- before the first run
-pub pairs_none : (line : Line) (horizon w : ℕ)
-    → IsPairs line horizon w 0 w (tally_of_last w None) (tally_of_last (w + 1) None) None []
-pairs_none line horizon w = record {
-  from = omega arith;
-  now_is = tally_none (IsSeen line 0) w (λ x is in'. (let b : x.start < 0 = is.1 in omega arith))
-      (λ x is. is.0.rests.some);
-  next_is = tally_none (IsSeen line 0) (w + 1) (λ x is in'. (let b : x.start < 0 = is.1 in omega arith))
-      (λ x is. is.0.rests.some);
-  last_is = λ x is. (let b : x.start < 0 = is.1 in omega arith);
-  found = to_before line horizon w w [] (lacking_none line horizon w);
-}
 
 -- where no weekly rest starts, all stays
 last_keep : (line : Line) (start later w : ℕ) (last : Option Run) → start ≤ later

@@ -1,11 +1,11 @@
--- The three parts of the pass over weekly rests together: its debts, and the breaches of the rules on weekly rests
--- (specs/WeekRests).
-use Rattle.std.proofs.Common.{◌≡◌, ℕ, ◌↔◌, List, [], refl, sym, ◌∙◌, true, false, subst}
-use Rattle.std.specs.Prelude.{IsTrue}
+-- The three rules on weekly rests together: the debts, and the breaches of all three (specs/WeekRests).
+use Rattle.std.proofs.Common.{◌≡◌, ℕ, ◌↔◌, List, [], refl, sym, ◌∙◌, Bool, true, false, subst}
+use Rattle.std.specs.Prelude.{IsTrue, ◌||◌}
+use Rattle.std.specs.List.{All}
 use Rattle.tacho_time.specs.declared.span.Span.{Span}
 use Rattle.tacho_hours.specs.declared.breach.Breach.{Breach}
 use Rattle.tacho_hours.specs.declared.breach.Kind.{Kind}
-use Rattle.tacho_hours.specs.declared.breach.Kind.TheVariants.{B8, B9, B10}
+use Rattle.tacho_hours.specs.declared.breach.Kind.TheVariants.{B1, B2, B3, B4, B5, B6, B7, B8, B9, B10}
 use Rattle.tacho_hours.specs.declared.debt.Debt.{Debt}
 use Rattle.tacho_hours.specs.Line.{Line, line_of}
 use Rattle.tacho_hours.specs.Order.{Apart, AreCollected}
@@ -13,13 +13,12 @@ use Rattle.tacho_hours.specs.Breaches.{IsRestBreach, IsLate, IsLacking, IsOverdu
 use Rattle.tacho_hours.proofs.ExactlyLemmas.{exactly_as}
 use Rattle.tacho_pass.specs.Found.{own_of}
 use Rattle.tacho_pass.specs.Kinds.{is_b8, is_b9, is_b10, is_b8_or_b10, is_b8_to_b10}
-use Rattle.tacho_pass.proofs.SharingLemmas.{first_before, second_after}
+use Rattle.tacho_pass.proofs.AppendingLemmas.{own_sub}
 use Rattle.tacho_pass.proofs.JoiningLemmas.{IsPart, joined, own_kinds}
 use Rattle.tacho_rests.specs.Lateness.{LateDefined}
 use Rattle.tacho_rests.specs.Owing.{OwingDefined}
-use Rattle.tacho_rests.specs.Pairs.{PairsDefined}
+use Rattle.tacho_rests.specs.Lacking.{LackingDefined}
 use Rattle.tacho_rests.specs.WeekRests.{WeekRestsDefined}
-use Rattle.tacho_rests.proofs.KindsLemmas.{late_and_owing}
 
 module _ (line : Line) (base horizon : ℕ) (owed : List Debt) where
   -- a breach of a late weekly rest, by its kind
@@ -87,23 +86,32 @@ module _ (line : Line) (base horizon : ℕ) (owed : List Debt) where
     }
     part kind e = absurd (let f : false ≡ true = e in cc)
 
--- what the three find of what is examined
-pub week_rests_defined : (new : List Breach) (owed : List Debt) (base horizon : ℕ) (spans : List Span)
-    → PairsDefined (own_of is_b9 (own_of is_b8_to_b10 new)) [] base horizon spans
-    → LateDefined (own_of is_b8 (own_of is_b8_or_b10 (own_of is_b8_to_b10 new))) [] base horizon spans
-    × OwingDefined (own_of is_b10 (own_of is_b8_or_b10 (own_of is_b8_to_b10 new))) owed base horizon spans
-    → WeekRestsDefined (own_of is_b8_to_b10 new) owed base horizon spans
-week_rests_defined new owed base horizon spans lacking (late, owing) =
-    let own : List Breach = own_of is_b8_to_b10 new in
-    record {
-      are_debts = owing.are_debts;
-      breaches =
-          joined (λ k b. IsRestBreach (line_of spans) base horizon owed k b) is_b8_to_b10 own
-          (own_kinds is_b8_to_b10 new)
-          (λ b is. of_rests (line_of spans) base horizon owed b.kind b is)
-          (part (line_of spans) base horizon owed own lacking.breaches
-          (subst (λ (xs : List Breach). AreCollected (λ b. IsLate (line_of spans) b) xs)
-          (first_before late_and_owing own) late.breaches)
-          (subst (λ (xs : List Breach). AreCollected (IsOverdue horizon owed) xs)
-          (second_after late_and_owing own) owing.breaches));
-    }
+b8_in : (kind : Kind) → is_b8 kind ≡ true → is_b8_or_b10 kind ≡ true
+b8_in kind e = rw e refl
+
+b10_in : (kind : Kind) → is_b10 kind ≡ true → is_b8_or_b10 kind ≡ true
+b10_in B10 e = refl
+b10_in kind e = absurd (let f : false ≡ true = e in cc)
+
+-- what the three find of what is examined, each of its own kind
+abbrev pub AreThree : List Breach → List Debt → ℕ → ℕ → List Span → Type 0
+AreThree own owed base horizon spans =
+    LackingDefined (own_of is_b9 own) [] base horizon spans
+    × (LateDefined (own_of is_b8 (own_of is_b8_or_b10 own)) [] base horizon spans
+    × OwingDefined (own_of is_b10 (own_of is_b8_or_b10 own)) owed base horizon spans)
+
+-- is what is defined of all three
+pub week_rests_defined : (own : List Breach) (owed : List Debt) (base horizon : ℕ) (spans : List Span)
+    → All (λ breach. IsTrue (is_b8_to_b10 breach.kind)) own
+    → AreThree own owed base horizon spans → WeekRestsDefined own owed base horizon spans
+week_rests_defined own owed base horizon spans kinds (lacking, (late, owing)) = record {
+  are_debts = owing.are_debts;
+  breaches =
+      joined (λ k b. IsRestBreach (line_of spans) base horizon owed k b) is_b8_to_b10 own kinds
+      (λ b is. of_rests (line_of spans) base horizon owed b.kind b is)
+      (part (line_of spans) base horizon owed own lacking.breaches
+      (subst (λ (xs : List Breach). AreCollected (λ b. IsLate (line_of spans) b) xs)
+      (own_sub is_b8 is_b8_or_b10 own b8_in) late.breaches)
+      (subst (λ (xs : List Breach). AreCollected (IsOverdue horizon owed) xs)
+      (own_sub is_b10 is_b8_or_b10 own b10_in) owing.breaches));
+}

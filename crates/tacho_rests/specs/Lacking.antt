@@ -1,5 +1,5 @@
--- What is kept of neighbouring weeks and their weekly rests stands for (Regulation (EC) 561/2006, Article 8(6), first
--- subparagraph).
+-- Two neighbouring weeks and their weekly rests (Regulation (EC) 561/2006, Article 8(6), first subparagraph), span by
+-- span: what is kept of them, and what that stands for.
 use Rattle.std.specs.Prelude.{◌≡◌, ℕ, ◌≤◌, List, []}
 use Rattle.tacho_time.specs.declared.span.Span.{Span}
 use Rattle.tacho_hours.specs.declared.run.Run.{Run}
@@ -34,6 +34,6 @@ pub record LackingStands (p : Pairs) (start place : ℕ) (own : List Breach) (ow
       → AreRestRuns line runs → Continues line spans place → IsPairing line first start place p own
 
 -- the breaches of weeks that lack weekly rests
-pub record PairsDefined (own : List Breach) (owed : List Debt) (base horizon : ℕ) (spans : List Span) : Type 0 where
+pub record LackingDefined (own : List Breach) (owed : List Debt) (base horizon : ℕ) (spans : List Span) : Type 0 where
   pub none : owed ≡ []
   pub breaches : AreCollected (λ breach. IsLacking (line_of spans) base horizon breach) own

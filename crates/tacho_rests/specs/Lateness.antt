@@ -1,7 +1,7 @@
--- Weekly rests that start late, rest by rest, and what the pass over them stands for (Regulation (EC) 561/2006, Article
--- 8(6), second subparagraph).
+-- Weekly rests that start late (Regulation (EC) 561/2006, Article 8(6), second subparagraph), rest by rest: what is
+-- kept of them, and what that stands for.
 use Rattle.std.specs.Prelude.{◌≡◌, ℕ, ◌+◌, ◌-◌, ◌<◌, ◌≤◌, nat_lt, nat_le, List, [], Option, None, Some, MatchOption}
-use Rattle.std.specs.Prelude.{Bool, false, if◌then◌else◌}
+use Rattle.std.specs.Prelude.{if◌then◌else◌}
 use Rattle.tacho_time.specs.declared.span.Span.{Span}
 use Rattle.tacho_hours.specs.declared.run.Run.{Run}
 use Rattle.tacho_hours.specs.declared.breach.Breach.{Breach}
@@ -13,6 +13,7 @@ use Rattle.tacho_hours.specs.Runs.{AreRestRuns, IsRestOf, minutes_of}
 use Rattle.tacho_hours.specs.Order.{AreCollected}
 use Rattle.tacho_hours.specs.Breaches.{IsB8, IsLate}
 use Rattle.tacho_pass.specs.Heard.{Continues, IsHeard}
+use Rattle.tacho_rests.specs.declared.late.Late.{Late}
 
 -- Article 8(6): the breach of a weekly rest that starts later than six days after the end of the last one
 abbrev pub late_of : Option ℕ → Run → Option Breach
@@ -59,13 +60,12 @@ pub record IsLateUpTo (line : Line) (start place : ℕ) (end : Option ℕ) (own 
   pub so_far : IsLateSoFar line start end own
 
 -- that, however the line goes on
-pub record LateStands (start place : ℕ) (end : Option ℕ) (failed : Bool) (own : List Breach) (owed : List Debt)
-    (base : ℕ) (spans : List Span) : Type 0 where
-  pub alive : failed ≡ false
+pub record LateStands (late : Late) (start place : ℕ) (own : List Breach) (owed : List Debt) (base : ℕ)
+    (spans : List Span) : Type 0 where
   pub none : owed ≡ []
   pub joined : Joined spans base place
   pub kept : (line : Line) (runs : List Run)
-      → AreRestRuns line runs → Continues line spans place → IsLateUpTo line start place end own
+      → AreRestRuns line runs → Continues line spans place → IsLateUpTo line start place late.end own
 
 -- the breaches of late weekly rests
 pub record LateDefined (own : List Breach) (owed : List Debt) (base horizon : ℕ) (spans : List Span) : Type 0 where

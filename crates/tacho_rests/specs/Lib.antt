@@ -4,4 +4,5 @@ pub mod Turns
 pub mod Owing
 pub mod Lateness
 pub mod Pairs
+pub mod Lacking
 pub mod WeekRests

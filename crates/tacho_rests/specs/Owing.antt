@@ -1,5 +1,6 @@
--- What the pass over debts stands for (Regulation (EC) 561/2006, Article 8(6b), as amended by (EU) 2020/1054).
-use Rattle.std.specs.Prelude.{◌≡◌, ℕ, ◌≤◌, Bool, false, List}
+-- Debts (Regulation (EC) 561/2006, Article 8(6b), as amended by (EU) 2020/1054), span by span: what a ledger of them
+-- stands for.
+use Rattle.std.specs.Prelude.{ℕ, ◌≤◌, List}
 use Rattle.tacho_time.specs.declared.span.Span.{Span}
 use Rattle.tacho_hours.specs.declared.run.Run.{Run}
 use Rattle.tacho_hours.specs.declared.breach.Breach.{Breach}
@@ -10,23 +11,24 @@ use Rattle.tacho_hours.specs.Debts.{AreDebts}
 use Rattle.tacho_hours.specs.Order.{AreCollected}
 use Rattle.tacho_hours.specs.Breaches.{IsOverdue}
 use Rattle.tacho_pass.specs.Heard.{Continues, IsHeard, IsLineTo}
+use Rattle.tacho_rests.specs.declared.ledger.Ledger.{Ledger}
+use Rattle.tacho_rests.specs.Few.{debts_in, rests_in}
 use Rattle.tacho_rests.specs.Turns.{IsLedger}
 
 -- of a line that goes on: the rest run that is open, and the ledger of those that have ended, wherever the horizon is
-pub record IsOwing (line : Line) (start place w : ℕ) (rests : List Run) (debts : List Debt) (own : List Breach)
+pub record IsOwing (line : Line) (start place : ℕ) (books : Ledger) (own : List Breach)
     (owed : List Debt) : Type 0 where
   pub e : ℕ
   pub low : first_week ≤ e
   pub heard : IsHeard line start place e
-  pub ledger : (horizon : ℕ) (last : Run)
-      → IsLineTo line horizon last → IsLedger line horizon e w rests debts own owed
+  pub ledger : (horizon : ℕ) (last : Run) → IsLineTo line horizon last
+      → IsLedger line horizon e books.week (rests_in books.rests) (debts_in books.debts) own owed
 
 -- that, however the line goes on
-pub record OwingStands (start place w : ℕ) (rests : List Run) (debts : List Debt) (failed : Bool) (own : List Breach)
-    (owed : List Debt) (base : ℕ) (spans : List Span) : Type 0 where
-  pub alive : failed ≡ false
+pub record OwingStands (books : Ledger) (start place : ℕ) (own : List Breach) (owed : List Debt) (base : ℕ)
+    (spans : List Span) : Type 0 where
   pub joined : Joined spans base place
-  pub kept : (line : Line) → Continues line spans place → IsOwing line start place w rests debts own owed
+  pub kept : (line : Line) → Continues line spans place → IsOwing line start place books own owed
 
 -- the debts, and the breaches of those that nothing has paid in time
 pub record OwingDefined (own : List Breach) (owed : List Debt) (base horizon : ℕ) (spans : List Span) : Type 0 where

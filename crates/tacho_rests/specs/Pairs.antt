@@ -1,19 +1,16 @@
--- Two neighbouring weeks and their weekly rests, rest by rest, and what the pass over them stands for (Regulation (EC)
--- 561/2006, Article 8(6), first subparagraph).
+-- Two neighbouring weeks and their weekly rests, rest by rest (Regulation (EC) 561/2006, Article 8(6), first
+-- subparagraph).
 use Rattle.std.specs.Prelude.{◌≡◌, ℕ, ◌+◌, ◌<◌, ◌≤◌, ◌⊎◌, ◌&&◌, ◌||◌, not, Bool, true, false, nat_le, nat_lt}
-use Rattle.std.specs.Prelude.{if◌then◌else◌, List, [], Option, None, Some, MatchOption}
-use Rattle.tacho_time.specs.declared.span.Span.{Span}
+use Rattle.std.specs.Prelude.{if◌then◌else◌, List, Option, None, Some, MatchOption}
 use Rattle.tacho_hours.specs.declared.run.Run.{Run}
 use Rattle.tacho_hours.specs.declared.breach.Breach.{Breach}
 use Rattle.tacho_hours.specs.declared.breach.Kind.TheVariants.{B9}
-use Rattle.tacho_hours.specs.declared.debt.Debt.{Debt}
-use Rattle.tacho_hours.specs.Line.{line_of, Joined, Line}
-use Rattle.tacho_hours.specs.Limits.{first_week, weekly_rest, regular_weekly_rest}
-use Rattle.tacho_hours.specs.Runs.{AreRestRuns, IsRestOf, minutes_of}
+use Rattle.tacho_hours.specs.Line.{Line}
+use Rattle.tacho_hours.specs.Limits.{weekly_rest, regular_weekly_rest}
+use Rattle.tacho_hours.specs.Runs.{IsRestOf, minutes_of}
 use Rattle.tacho_hours.specs.Weeks.{week_start}
 use Rattle.tacho_hours.specs.Order.{AreCollected}
-use Rattle.tacho_hours.specs.Breaches.{IsB9, IsLacking}
-use Rattle.tacho_pass.specs.Heard.{Continues, IsHeard, IsLineTo}
+use Rattle.tacho_hours.specs.Breaches.{IsB9}
 use Rattle.tacho_rests.specs.declared.tally.Tally.{Tally}
 
 -- the rest has a minute in the week or the next
@@ -126,28 +123,3 @@ pub record IsPairs (line : Line) (horizon first start w : ℕ) (now next : Tally
   pub next_is : IsTally (IsSeen line start) (w + 1) next
   pub last_is : MatchOption last ((x : Run) → IsSeen line start x → ⊥) (λ rest. IsLastSeen line start w rest)
   pub found : AreCollected (IsLackingBefore line (week_start first) horizon w) own
-
--- of a line that goes on: the rest run that is open, and the weekly rests of those that have ended
-pub record IsPairing (line : Line) (first start place w : ℕ) (now next : Tally) (last : Option Run)
-    (own : List Breach) : Type 0 where
-  pub e : ℕ
-  pub low : first_week ≤ e
-  pub heard : IsHeard line start place e
-  pub pairs : (horizon : ℕ) (last_run : Run)
-      → IsLineTo line horizon last_run → IsPairs line horizon first start w now next last own
-
--- that, however the line goes on
-pub record PairsStand (start place w : ℕ) (now next : Tally) (last : Option Run) (failed : Bool) (own : List Breach)
-    (owed : List Debt) (base : ℕ) (spans : List Span) : Type 0 where
-  pub first : ℕ
-  pub monday : base ≡ week_start first
-  pub alive : failed ≡ false
-  pub none : owed ≡ []
-  pub joined : Joined spans base place
-  pub kept : (line : Line) (runs : List Run)
-      → AreRestRuns line runs → Continues line spans place → IsPairing line first start place w now next last own
-
--- the breaches of weeks that lack weekly rests
-pub record PairsDefined (own : List Breach) (owed : List Debt) (base horizon : ℕ) (spans : List Span) : Type 0 where
-  pub none : owed ≡ []
-  pub breaches : AreCollected (λ breach. IsLacking (line_of spans) base horizon breach) own

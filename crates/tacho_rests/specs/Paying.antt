@@ -90,8 +90,8 @@ closed end over w rests debts =
     (open_of (week_start w) debts)
 
 -- Article 8(6b): the breach of a debt that nothing has paid in time
-abbrev pub breach_of : Debt → Breach
-breach_of debt =
+abbrev pub overdue_breach : Debt → Breach
+overdue_breach debt =
     record { kind = B10; moment = debt.deadline; since = week_start debt.week; amount = debt.amount }
 
 -- nothing pays it, and its deadline has come
@@ -101,7 +101,7 @@ is_overdue by debt = option_map_or (λ start. false) debt.paid_by true && nat_le
 -- the breaches of the debts that nothing pays and whose deadline has come by a minute
 abbrev pub overdue_of : ℕ → List Debt → List Breach
 overdue_of by [] = []
-overdue_of by (debt ∷ debts) = if is_overdue by debt then breach_of debt ∷ overdue_of by debts else overdue_of by debts
+overdue_of by (debt ∷ debts) = if is_overdue by debt then overdue_breach debt ∷ overdue_of by debts else overdue_of by debts
 
 -- the rests of a week with one more run, if that has nine hours
 abbrev pub rests_with : List Run → Run → List Run

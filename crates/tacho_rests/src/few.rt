@@ -1,3 +1,6 @@
+//! A few debts and a few rests, each in an array beside its count. They aren't of the type `ArrayVec`, since a scan is
+//! `Copy`, and an `ArrayVec` is not.
+
 ghost use Rattle.std.specs.Prelude.{◌≡◌, ◌≤◌, [], All, length, take};
 ghost use Rattle.tacho_hours.specs.Limits.{latest};
 ghost use Rattle.tacho_rests.specs.Paying.{push_few};

@@ -6,15 +6,13 @@ ghost use Rattle.tacho_rests.specs.Lateness.{late_of, late_run, end_after as end
 use std::alloc::AllocError;
 use tacho_hours::limits::{SIX_DAYS, WEEKLY_REST};
 use tacho_hours::{Breach, FAR, Kind, Run};
-use tacho_pass::{Found, Pass, Runs, put};
+use tacho_pass::{Found, Judge, put};
 use tacho_time::{Minute, Span};
 
-/// The breaches of weekly rests that start too late (Article 8(6) of Regulation (EC) 561/2006).
+/// Where the last weekly rest ended: the next may start too late (Article 8(6) of Regulation (EC) 561/2006).
 #[derive(Clone, Copy)]
 pub struct Late {
-    runs: Runs,
     end: Option<Minute>,
-    failed: bool,
 }
 
 /// The breach of a weekly rest that starts too late behind the end of the last one (Article 8(6)).
@@ -61,61 +59,39 @@ fn breach_of(end: &Option<Minute>, run: Run) -> Option<Breach>
     }
 }
 
-impl Pass for Late {
+/// The breaches of weekly rests that start too late (Article 8(6) of Regulation (EC) 561/2006).
+impl Judge for Late {
     ghost own = { is_b8 };
 
     ghost owes = { false };
 
-    ghost place = { λ p. p.runs.place };
+    ghost fits = { λ p place. true };
 
-    ghost stands = { λ p own owed base spans. LateStands p.runs.start p.runs.place p.end p.failed own owed base spans };
-
-    ghost failed = { λ p. p.failed ≡ true };
+    ghost stands = { LateStands };
 
     ghost defined = { LateDefined };
 
-    fn new(base: Minute) -> Self {
-        Late {
-            runs: Runs::new(base),
-            end: None,
-            failed: false,
-        }
+    fn new(_base: Minute) -> Self {
+        Late { end: None }
     }
 
-    fn feed(&mut self, span: Span, found: &mut Found) -> Result<(), AllocError> {
-        let run = self.runs.feed(span);
-        if self.failed {
-            return Err(AllocError);
-        }
+    fn feed(
+        &mut self,
+        _start: u32,
+        run: Option<Run>,
+        _span: Span,
+        found: &mut Found,
+    ) -> Result<(), AllocError> {
         let Some(run) = run else {
             return Ok(());
         };
-        match put(breach_of(&self.end, run), found) {
-            Ok(()) => {
-                self.end = end_after(&self.end, run);
-                Ok(())
-            }
-            Err(_) => {
-                self.failed = true;
-                Err(AllocError)
-            }
-        }
+        put(breach_of(&self.end, run), found)?;
+        self.end = end_after(&self.end, run);
+        Ok(())
     }
 
-    fn finish(&mut self, horizon: Minute, found: &mut Found) -> Result<(), AllocError> {
-        if self.failed {
-            return Err(AllocError);
-        }
-        let last = Run {
-            start: self.runs.start(),
-            past: FAR,
-        };
-        match put(breach_of(&self.end, last), found) {
-            Ok(()) => Ok(()),
-            Err(_) => {
-                self.failed = true;
-                Err(AllocError)
-            }
-        }
+    fn finish(self, start: u32, _horizon: Minute, found: &mut Found) -> Result<(), AllocError> {
+        put(breach_of(&self.end, Run { start, past: FAR }), found)?;
+        Ok(())
     }
 }

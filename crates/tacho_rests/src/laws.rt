@@ -5,21 +5,17 @@ ghost use Rattle.std.specs.Prelude.{ℕ, List, All, IsTrue};
 ghost use Rattle.tacho_time.specs.declared.span.Span.{Span as Stretch};
 ghost use Rattle.tacho_hours.specs.declared.breach.Breach.{Breach as BreachValue};
 ghost use Rattle.tacho_hours.specs.declared.debt.Debt.{Debt as DebtValue};
-ghost use Rattle.tacho_pass.specs.Found.{own_of};
 ghost use Rattle.tacho_pass.specs.Kinds.{is_b8_to_b10};
 ghost use Rattle.tacho_rests.specs.WeekRests.{WeekRestsDefined};
 
 use crate::week_rests::WeekRests;
 use tacho_pass::Pass;
 
-/// What the pass over weekly rests finds, put in order, are the members B8 to B10 of the definition, and the debts: each
-/// of its three rules says what it finds of its own kind, and together that is what is defined.
+/// What the pass over weekly rests finds, put in order, are the members B8 to B10 of the definition, and the debts:
+/// each of its three rules says what it finds of its own kind, and together that is what is defined.
 pub fn week_rests_as_defined()
-    ensures together { (own : List BreachValue) (owed : List DebtValue) (base horizon : ℕ) (spans : List Stretch)
+    ensures { (own : List BreachValue) (owed : List DebtValue) (base horizon : ℕ) (spans : List Stretch)
         → All (λ breach. IsTrue (is_b8_to_b10 breach.kind)) own
         → ⟦<WeekRests as Pass>⟧.defined own owed base horizon spans
         → WeekRestsDefined own owed base horizon spans }
-    ensures found { (found : List BreachValue) (owed : List DebtValue) (base horizon : ℕ) (spans : List Stretch)
-        → ⟦<WeekRests as Pass>⟧.defined (own_of ⟦<WeekRests as Pass>⟧.own found) owed base horizon spans
-        → WeekRestsDefined (own_of is_b8_to_b10 found) owed base horizon spans }
 {}

@@ -10,9 +10,9 @@ ghost use Rattle.tacho_rests.specs.Few.{debts_in, rests_in};
 ghost use Rattle.tacho_rests.specs.Paying.{due_of, overdue_of, closed, rests_with};
 ghost use Rattle.tacho_rests.specs.Turns.{IsLedger, IsOpened, IsOwed};
 
-use crate::emitting::{due, emit, open};
+use crate::due_debts::{due, emit, open};
 use crate::few::{Debts, Rests};
-use crate::paying::{main_of, owed_for, turns};
+use crate::payment::{main_of, owed_for, turns};
 use std::alloc::AllocError;
 use tacho_hours::limits::DAILY_REST;
 use tacho_hours::{FAR, Run};
@@ -57,7 +57,7 @@ fn close(
 
 impl Ledger {
     /// Before the first rest that starts in a week.
-    pub fn new(week: Week) -> Ledger
+    pub fn none(week: Week) -> Ledger
         requires { week ≤ 6782 }
         ensures week { result.week ≡ week }
         ensures rests { rests_in result.rests ≡ [] }
@@ -120,7 +120,7 @@ impl Ledger {
     }
 
     /// Takes the next rest run of the line, from week 0 on.
-    pub fn feed(&mut self, run: Run, found: &mut Found) -> Result<(), AllocError>
+    pub fn hear(&mut self, run: Run, found: &mut Found) -> Result<(), AllocError>
         requires from { first_week ≤ run.start }
         requires early { run.start ≤ latest }
         requires some { run.start < run.past }
@@ -139,7 +139,7 @@ impl Ledger {
     }
 
     /// Puts all debts that are left to what is found, behind the last rest run, which starts at `start`.
-    pub fn finish(self, start: u32, horizon: Minute, found: &mut Found) -> Result<(), AllocError>
+    pub fn end(self, start: u32, horizon: Minute, found: &mut Found) -> Result<(), AllocError>
         requires from { first_week ≤ start }
         requires early { start ≤ latest }
         ensures debts { OnOk result ((line : Line) (last : RunValue) (e : ℕ)

@@ -3,16 +3,19 @@
 //! fixed size.
 #![tactic(auto)]
 
-mod emitting;
+mod due_debts;
 mod few;
 mod lacking;
 mod late;
-mod late_and_owing;
+pub mod laws;
 mod ledger;
 mod owing;
 mod pairs;
-mod paying;
+mod payment;
 mod tally;
 mod week_rests;
 
-pub use week_rests::WeekRests;
+pub use late::Late;
+pub use ledger::Ledger;
+pub use pairs::Pairs;
+pub use week_rests::{LackingFirst, LateFirst, RestRules, WeekRests};

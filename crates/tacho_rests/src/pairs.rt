@@ -57,7 +57,7 @@ fn tally_of_last(week: u32, last: &Option<Run>) -> Tally
 
 impl Pairs {
     /// Of no rests, from a week on.
-    pub fn new(week: Week) -> Pairs
+    pub fn none(week: Week) -> Pairs
         requires { week ≤ 6784 }
         ensures week { result.week ≡ week }
         ensures here { result.here ≡ tally_of_last_of week None }
@@ -127,7 +127,7 @@ impl Pairs {
     }
 
     /// Takes the next weekly rest: the weeks that have ended by its start, with the next, are judged.
-    pub fn feed(&mut self, rest: Run, found: &mut Found) -> Result<(), AllocError>
+    pub fn hear(&mut self, rest: Run, found: &mut Found) -> Result<(), AllocError>
         requires { rest.start ≤ latest }
         ensures kept { OnOk result ((line : Line) (runs : List RunValue) (horizon first later : ℕ)
             → AreRestRuns line runs → rest.start ≤ horizon → IsRestOf line weekly_rest rest → rest.start < later
@@ -148,7 +148,7 @@ impl Pairs {
     }
 
     /// Judges all weeks that have ended, with the next, by the horizon, where the last rest run is this.
-    pub fn finish(self, last: Run, horizon: Minute, found: &mut Found) -> Result<(), AllocError>
+    pub fn end(self, last: Run, horizon: Minute, found: &mut Found) -> Result<(), AllocError>
         requires start { last.start ≤ latest }
         requires from { first_week ≤ horizon }
         requires early { horizon ≤ latest }
@@ -162,7 +162,7 @@ impl Pairs {
         ensures appends { Appends is_b9 false found.old found.new }
     {
         let mut pairs = self;
-        pairs.feed(last, found)?;
+        pairs.hear(last, found)?;
         pairs.judge_by(horizon, found)?;
         Ok(())
     }

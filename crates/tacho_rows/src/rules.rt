@@ -160,7 +160,9 @@ pub(crate) fn answer(
             println!(rt; "not read")?;
             continue;
         };
-        let base = spans.first().map_or(Minute::new(FIRST_BASE), |span| span.start);
+        let base = spans
+            .first()
+            .map_or(Minute::new(FIRST_BASE), |span| span.start);
         let past = spans.last().map_or(base, |span| span.past);
         if by_scan {
             tell_scan(rt, alloc, &spans, base, past)?;

@@ -18,16 +18,16 @@ use Rattle.tacho_pass.specs.Found.{Appends, own_of}
 use Rattle.tacho_pass.specs.Kinds.{is_b1, is_b2_or_b3, is_b4_or_b5, is_b2_to_b5, is_b6_or_b7, is_b8, is_b9, is_b10}
 use Rattle.tacho_pass.specs.Kinds.{is_b8_or_b10, is_b8_to_b10, is_b6_to_b10, is_b2_to_b10, is_any}
 use Rattle.tacho_pass.proofs.AppendingLemmas.{own_sub}
-use Rattle.tacho_pass.proofs.JoiningLemmas.{IsPart, joined}
-use Rattle.tacho_driving.specs.Periods.{PeriodsDefined}
-use Rattle.tacho_driving.specs.Sums.{SumsDefined}
-use Rattle.tacho_days.specs.DailyRests.{RestsDefined}
-use Rattle.tacho_days.specs.DailyDriving.{DrivingDefined}
+use Rattle.tacho_pass.proofs.JoiningLemmas.{IsPart, joined, own_kinds}
+use Rattle.tacho_driving.specs.Periods.{BreaksDefined}
+use Rattle.tacho_driving.specs.Sums.{WeekSumsDefined}
+use Rattle.tacho_days.specs.DailyRests.{DailyRestsDefined}
+use Rattle.tacho_days.specs.DailyDriving.{DailyDrivingDefined}
 use Rattle.tacho_days.specs.Days.{DaysDefined}
 use Rattle.tacho_days.proofs.DaysLemmas.{days_defined}
 use Rattle.tacho_rests.specs.Lateness.{LateDefined}
 use Rattle.tacho_rests.specs.Owing.{OwingDefined}
-use Rattle.tacho_rests.specs.Pairs.{PairsDefined}
+use Rattle.tacho_rests.specs.Lacking.{LackingDefined}
 use Rattle.tacho_rests.specs.WeekRests.{WeekRestsDefined}
 use Rattle.tacho_rests.proofs.WeekRestsLemmas.{week_rests_defined}
 use Rattle.tacho_rules.specs.Scan.{AreGathered}
@@ -152,9 +152,9 @@ behind_days own within new =
 
 -- the rules on days in one
 of_two : (new : List Breach) (base horizon : ℕ) (spans : List Span)
-    → RestsDefined (own_of is_b2_or_b3 (own_of is_b2_to_b5 (own_of is_b2_to_b10 (own_of is_any new)))) []
+    → DailyRestsDefined (own_of is_b2_or_b3 (own_of is_b2_to_b5 (own_of is_b2_to_b10 (own_of is_any new)))) []
     base horizon spans
-    × DrivingDefined (own_of is_b4_or_b5 (own_of is_b2_to_b5 (own_of is_b2_to_b10 (own_of is_any new)))) []
+    × DailyDrivingDefined (own_of is_b4_or_b5 (own_of is_b2_to_b5 (own_of is_b2_to_b10 (own_of is_any new)))) []
     base horizon spans
     → DaysDefined (own_of is_b2_to_b5 new) [] base horizon spans
 of_two new base horizon spans (rests, driving) =
@@ -164,40 +164,41 @@ of_two new base horizon spans (rests, driving) =
 
 -- those on weekly rests in one
 of_three : (new : List Breach) (owed : List Debt) (base horizon : ℕ) (spans : List Span)
-    → PairsDefined (own_of is_b9 (own_of is_b8_to_b10 (own_of is_b6_to_b10 (own_of is_b2_to_b10 (own_of is_any new)))))
+    → LackingDefined (own_of is_b9 (own_of is_b8_to_b10 (own_of is_b6_to_b10 (own_of is_b2_to_b10 (own_of is_any new)))))
     [] base horizon spans
-    × LateDefined (own_of is_b8 (own_of is_b8_or_b10 (own_of is_b8_to_b10 (own_of is_b6_to_b10 (own_of is_b2_to_b10
+    × (LateDefined (own_of is_b8 (own_of is_b8_or_b10 (own_of is_b8_to_b10 (own_of is_b6_to_b10 (own_of is_b2_to_b10
     (own_of is_any new)))))) [] base horizon spans
     × OwingDefined (own_of is_b10 (own_of is_b8_or_b10 (own_of is_b8_to_b10 (own_of is_b6_to_b10 (own_of is_b2_to_b10
-    (own_of is_any new)))))) owed base horizon spans
+    (own_of is_any new)))))) owed base horizon spans)
     → WeekRestsDefined (own_of is_b8_to_b10 new) owed base horizon spans
-of_three new owed base horizon spans (pairs, late, owing) =
+of_three new owed base horizon spans (pairs, (late, owing)) =
     subst (λ (xs : List Breach). WeekRestsDefined xs owed base horizon spans)
     (behind_days is_b8_to_b10 (λ k e. either_right (is_b6_or_b7 k) (is_b8_to_b10 k) e) new)
-    (week_rests_defined (own_of is_b6_to_b10 (own_of is_b2_to_b10 (own_of is_any new))) owed base horizon spans
-    pairs (late, owing))
+    (week_rests_defined (own_of is_b8_to_b10 (own_of is_b6_to_b10 (own_of is_b2_to_b10 (own_of is_any new)))) owed base
+    horizon spans (own_kinds is_b8_to_b10 (own_of is_b6_to_b10 (own_of is_b2_to_b10 (own_of is_any new))))
+    (pairs, (late, owing)))
 
 -- what the rules of a scan find of what is examined
 pub rules_defined : (new : List Breach) (owed : List Debt) (base horizon : ℕ) (spans : List Span)
-    → PeriodsDefined (own_of is_b1 (own_of is_any new)) [] base horizon spans
-    × (RestsDefined (own_of is_b2_or_b3 (own_of is_b2_to_b5 (own_of is_b2_to_b10 (own_of is_any new)))) []
+    → BreaksDefined (own_of is_b1 (own_of is_any new)) [] base horizon spans
+    × ((DailyRestsDefined (own_of is_b2_or_b3 (own_of is_b2_to_b5 (own_of is_b2_to_b10 (own_of is_any new)))) []
     base horizon spans
-    × DrivingDefined (own_of is_b4_or_b5 (own_of is_b2_to_b5 (own_of is_b2_to_b10 (own_of is_any new)))) []
+    × DailyDrivingDefined (own_of is_b4_or_b5 (own_of is_b2_to_b5 (own_of is_b2_to_b10 (own_of is_any new)))) []
     base horizon spans)
-    × SumsDefined (own_of is_b6_or_b7 (own_of is_b6_to_b10 (own_of is_b2_to_b10 (own_of is_any new)))) []
+    × (WeekSumsDefined (own_of is_b6_or_b7 (own_of is_b6_to_b10 (own_of is_b2_to_b10 (own_of is_any new)))) []
     base horizon spans
-    × PairsDefined (own_of is_b9 (own_of is_b8_to_b10 (own_of is_b6_to_b10 (own_of is_b2_to_b10 (own_of is_any new)))))
+    × (LackingDefined (own_of is_b9 (own_of is_b8_to_b10 (own_of is_b6_to_b10 (own_of is_b2_to_b10 (own_of is_any new)))))
     [] base horizon spans
-    × LateDefined (own_of is_b8 (own_of is_b8_or_b10 (own_of is_b8_to_b10 (own_of is_b6_to_b10 (own_of is_b2_to_b10
+    × (LateDefined (own_of is_b8 (own_of is_b8_or_b10 (own_of is_b8_to_b10 (own_of is_b6_to_b10 (own_of is_b2_to_b10
     (own_of is_any new)))))) [] base horizon spans
     × OwingDefined (own_of is_b10 (own_of is_b8_or_b10 (own_of is_b8_to_b10 (own_of is_b6_to_b10 (own_of is_b2_to_b10
-    (own_of is_any new)))))) owed base horizon spans
+    (own_of is_any new)))))) owed base horizon spans))))
     → AreGathered (line_of spans) base horizon new owed
-rules_defined new owed base horizon spans (breaks, days, sums, pairs, late, owing) =
+rules_defined new owed base horizon spans (breaks, (days, (sums, rested))) =
     let line : Line = line_of spans in
     let all : DaysDefined (own_of is_b2_to_b5 new) [] base horizon spans = of_two new base horizon spans days in
     let rests : WeekRestsDefined (own_of is_b8_to_b10 new) owed base horizon spans =
-    of_three new owed base horizon spans (pairs, late, owing) in
+    of_three new owed base horizon spans rested in
     record {
       runs = breaks.runs;
       breaks = breaks.breaks;
