@@ -11,11 +11,12 @@ use Rattle.tacho_hours.specs.declared.breach.Breach.{Breach}
 use Rattle.tacho_hours.specs.declared.breach.Kind.TheVariants.{B4, B5}
 use Rattle.tacho_hours.specs.Line.{Line}
 use Rattle.tacho_hours.specs.Driving.{driving}
-use Rattle.tacho_hours.specs.Runs.{minutes_of, IsRestRun, Reached}
+use Rattle.tacho_hours.specs.Runs.{minutes_of, IsRestRun}
+use Rattle.tacho_hours.specs.SoFar.{Reached, AreCollected}
 use Rattle.tacho_hours.specs.Days.{IsDuty, EarlierDay}
 use Rattle.tacho_hours.specs.Exactly.{AreSoMany}
 use Rattle.tacho_hours.specs.Weeks.{IsInWeek}
-use Rattle.tacho_hours.specs.Order.{Apart, AreCollected}
+use Rattle.tacho_hours.specs.Order.{Apart}
 use Rattle.tacho_hours.specs.Breaches.{IsOver, IsTooMuch, IsExtended}
 use Rattle.tacho_hours.proofs.ExactlyLemmas.{exactly_as, exactly_skip, so_many_only}
 use Rattle.tacho_hours.proofs.LongDrivingLemmas.{too_much_reaches}

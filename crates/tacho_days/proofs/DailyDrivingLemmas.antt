@@ -14,11 +14,12 @@ use Rattle.tacho_hours.specs.declared.days.DutyDay.{DutyDay}
 use Rattle.tacho_hours.specs.declared.breach.Breach.{Breach}
 use Rattle.tacho_hours.specs.declared.debt.Debt.{Debt}
 use Rattle.tacho_hours.specs.declared.breach.Kind.TheVariants.{B4, B5}
-use Rattle.tacho_hours.specs.Runs.{minutes_of, IsRestRun, AreRestRuns, Reached}
+use Rattle.tacho_hours.specs.Runs.{minutes_of, IsRestRun, AreRestRuns}
+use Rattle.tacho_hours.specs.SoFar.{Reached, AreCollected}
 use Rattle.tacho_hours.specs.Days.{IsDuty}
 use Rattle.tacho_hours.specs.Line.{Line, line_of, IsExamined}
 use Rattle.tacho_hours.specs.Driving.{driving, is_drive}
-use Rattle.tacho_hours.specs.Order.{Apart, AreCollected}
+use Rattle.tacho_hours.specs.Order.{Apart}
 use Rattle.tacho_hours.specs.Breaches.{IsExtended}
 use Rattle.tacho_hours.proofs.ExactlyLemmas.{exactly_none, exactly_as}
 use Rattle.tacho_hours.proofs.DrivingLemmas.{driving_le, driving_before}

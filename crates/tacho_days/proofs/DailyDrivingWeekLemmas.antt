@@ -8,7 +8,8 @@ use Rattle.std.proofs.lemmas.List.Elements.{Contains-push, Contains-append_left,
 use Rattle.tacho_hours.specs.declared.run.Run.{Run}
 use Rattle.tacho_hours.specs.declared.days.DutyDay.{DutyDay}
 use Rattle.tacho_hours.specs.Line.{Line}
-use Rattle.tacho_hours.specs.Runs.{minutes_of, IsRestRun, Reached}
+use Rattle.tacho_hours.specs.Runs.{minutes_of, IsRestRun}
+use Rattle.tacho_hours.specs.SoFar.{Reached}
 use Rattle.tacho_hours.specs.Days.{IsDuty, EarlierDay}
 use Rattle.tacho_hours.specs.Exactly.{AreSoMany}
 use Rattle.tacho_hours.specs.Weeks.{IsInWeek}

@@ -12,10 +12,11 @@ use Rattle.tacho_hours.specs.declared.breach.Breach.{Breach}
 use Rattle.tacho_hours.specs.declared.breach.Kind.TheVariants.{B3}
 use Rattle.tacho_hours.specs.Exactly.{AreSoMany}
 use Rattle.tacho_hours.specs.Line.{Line}
-use Rattle.tacho_hours.specs.Runs.{IsRestRun, Before, Reached, minutes_of}
+use Rattle.tacho_hours.specs.Runs.{IsRestRun, Before, minutes_of}
+use Rattle.tacho_hours.specs.SoFar.{Reached, AreCollected}
 use Rattle.tacho_hours.specs.Days.{IsReduced, EarlierDay}
 use Rattle.tacho_hours.specs.Weeks.{IsWeeklyRest}
-use Rattle.tacho_hours.specs.Order.{Apart, AreCollected}
+use Rattle.tacho_hours.specs.Order.{Apart}
 use Rattle.tacho_hours.proofs.ExactlyLemmas.{exactly_skip, exactly_add, so_many_as, so_many_only}
 use Rattle.tacho_hours.proofs.OrderLemmas.{same_breach}
 use Rattle.tacho_pass.specs.Found.{listed}

@@ -8,7 +8,8 @@ use Rattle.tacho_hours.specs.declared.run.Run.{Run}
 use Rattle.tacho_hours.specs.declared.days.DutyDay.{DutyDay}
 use Rattle.tacho_hours.specs.Exactly.{AreSoMany}
 use Rattle.tacho_hours.specs.Line.{Line}
-use Rattle.tacho_hours.specs.Runs.{IsRestRun, Reached, minutes_of}
+use Rattle.tacho_hours.specs.Runs.{IsRestRun, minutes_of}
+use Rattle.tacho_hours.specs.SoFar.{Reached}
 use Rattle.tacho_hours.specs.Days.{IsRegular, IsReduced, HasPortion, EarlierDay}
 use Rattle.tacho_hours.proofs.ExactlyLemmas.{exactly_none, exactly_add, so_many_as}
 use Rattle.tacho_days.specs.DutyDays.{day_to, IsLastOf}

@@ -9,9 +9,10 @@ use Rattle.tacho_hours.specs.declared.run.Run.{Run}
 use Rattle.tacho_hours.specs.declared.breach.Breach.{Breach}
 use Rattle.tacho_hours.specs.declared.breach.Kind.TheVariants.{B2}
 use Rattle.tacho_hours.specs.Line.{Line}
-use Rattle.tacho_hours.specs.Runs.{IsRestRun, Reached, minutes_of}
+use Rattle.tacho_hours.specs.Runs.{IsRestRun, minutes_of}
+use Rattle.tacho_hours.specs.SoFar.{Reached, AreCollected}
 use Rattle.tacho_hours.specs.Days.{HasPortion}
-use Rattle.tacho_hours.specs.Order.{Apart, AreCollected}
+use Rattle.tacho_hours.specs.Order.{Apart}
 use Rattle.tacho_hours.proofs.ExactlyLemmas.{exactly_skip, exactly_add}
 use Rattle.tacho_hours.proofs.OrderLemmas.{same_breach}
 use Rattle.tacho_pass.specs.Found.{listed}

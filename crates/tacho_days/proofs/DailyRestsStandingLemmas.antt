@@ -18,9 +18,10 @@ use Rattle.tacho_hours.specs.declared.breach.Kind.TheVariants.{B2, B3}
 use Rattle.tacho_hours.specs.declared.debt.Debt.{Debt}
 use Rattle.tacho_hours.specs.Exactly.{AreSoMany}
 use Rattle.tacho_hours.specs.Line.{Line, line_of, IsExamined}
-use Rattle.tacho_hours.specs.Runs.{IsRestRun, AreRestRuns, Reached, minutes_of}
+use Rattle.tacho_hours.specs.Runs.{IsRestRun, AreRestRuns, minutes_of}
+use Rattle.tacho_hours.specs.SoFar.{Reached, AreCollected}
 use Rattle.tacho_hours.specs.Days.{IsDuty, IsReduced, EarlierDay}
-use Rattle.tacho_hours.specs.Order.{Apart, AreCollected}
+use Rattle.tacho_hours.specs.Order.{Apart}
 use Rattle.tacho_hours.proofs.ExactlyLemmas.{exactly_none, exactly_as}
 use Rattle.tacho_hours.proofs.RunsLemmas.{run_of, reached_none, reached_rest, reached_busy, reached_gap, reached_end}
 use Rattle.tacho_pass.specs.Found.{listed}

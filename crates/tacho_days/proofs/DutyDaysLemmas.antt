@@ -6,7 +6,8 @@ use Rattle.std.proofs.lemmas.List.Elements.{Contains-push, Contains-append_left,
 use Rattle.tacho_hours.specs.declared.run.Run.{Run}
 use Rattle.tacho_hours.specs.declared.days.DutyDay.{DutyDay}
 use Rattle.tacho_hours.specs.Line.{Line}
-use Rattle.tacho_hours.specs.Runs.{IsRestRun, IsRestOf, Before, Reached, minutes_of}
+use Rattle.tacho_hours.specs.Runs.{IsRestRun, IsRestOf, Before, minutes_of}
+use Rattle.tacho_hours.specs.SoFar.{Reached}
 use Rattle.tacho_hours.specs.Days.{IsDuty, EarlierDay}
 use Rattle.tacho_days.specs.DutyDays.{day_to, IsLastOf, IsBeforeFirst}
 

@@ -11,10 +11,9 @@ use Rattle.tacho_hours.specs.declared.days.DutyDay.{DutyDay}
 use Rattle.tacho_hours.specs.Limits.{first_week, minutes_of_week, daily_rest}
 use Rattle.tacho_hours.specs.Limits.{driving_in_day, driving_in_extended_day, extended_days}
 use Rattle.tacho_hours.specs.Line.{Line, line_of, Joined}
-use Rattle.tacho_hours.specs.Runs.{Reached}
+use Rattle.tacho_hours.specs.SoFar.{Reached, AreCollected}
 use Rattle.tacho_hours.specs.Days.{EarlierDay}
 use Rattle.tacho_hours.specs.Exactly.{AreSoMany}
-use Rattle.tacho_hours.specs.Order.{AreCollected}
 use Rattle.tacho_hours.specs.Breaches.{IsExtended, IsB4, IsB5}
 use Rattle.tacho_pass.specs.Heard.{Continues}
 use Rattle.tacho_pass.specs.Found.{listed}

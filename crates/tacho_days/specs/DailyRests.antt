@@ -7,10 +7,10 @@ use Rattle.tacho_hours.specs.declared.breach.Breach.{Breach}
 use Rattle.tacho_hours.specs.declared.breach.Kind.TheVariants.{B2, B3}
 use Rattle.tacho_hours.specs.declared.debt.Debt.{Debt}
 use Rattle.tacho_hours.specs.Line.{Line, line_of, Joined}
-use Rattle.tacho_hours.specs.Runs.{Reached, minutes_of}
+use Rattle.tacho_hours.specs.Runs.{minutes_of}
+use Rattle.tacho_hours.specs.SoFar.{Reached, AreCollected}
 use Rattle.tacho_hours.specs.Days.{IsReduced, EarlierDay}
 use Rattle.tacho_hours.specs.Exactly.{AreSoMany}
-use Rattle.tacho_hours.specs.Order.{AreCollected}
 use Rattle.tacho_hours.specs.Breaches.{IsB2, IsB3}
 use Rattle.tacho_hours.specs.Limits.{first_part_of_daily_rest, daily_rest, weekly_rest}
 use Rattle.tacho_pass.specs.Heard.{Continues}

@@ -9,7 +9,8 @@ use Rattle.std.proofs.lemmas.List.Elements.{Contains-get_or, All-contains}
 use Rattle.std.proofs.lemmas.List.Quantifiers.{all_pairs_push}
 use Rattle.tacho_hours.specs.declared.run.Run.{Run}
 use Rattle.tacho_hours.specs.Runs.{Before, minutes_of}
-use Rattle.tacho_hours.specs.Breaks.{Completes, AreCompleteBreaks, HasShort, Breaking}
+use Rattle.tacho_hours.specs.Breaks.{Completes, AreCompleteBreaks}
+use Rattle.tacho_hours.specs.SoFar.{HasShort, Breaking}
 use Rattle.tacho_hours.proofs.RunsLemmas.{same_runs}
 
 -- an empty list has no run

@@ -6,7 +6,8 @@ use Rattle.tacho_hours.specs.declared.debt.Debt.{Debt}
 use Rattle.tacho_hours.specs.declared.breach.Kind.TheVariants.{B10}
 use Rattle.tacho_hours.specs.Weeks.{week_start}
 use Rattle.tacho_hours.specs.Debts.{EarlierWeek}
-use Rattle.tacho_hours.specs.Order.{Apart, AreCollected}
+use Rattle.tacho_hours.specs.Order.{Apart}
+use Rattle.tacho_hours.specs.SoFar.{AreCollected}
 use Rattle.tacho_hours.specs.Breaches.{IsOverdue}
 use Rattle.tacho_hours.proofs.OrderLemmas.{same_breach}
 use Rattle.tacho_hours.proofs.ExactlyLemmas.{OfSeen, seen_none, seen_skip, seen_add, exactly_as}

@@ -14,7 +14,8 @@ use Rattle.tacho_time.specs.declared.span.Span.{Span}
 use Rattle.tacho_hours.specs.declared.run.Run.{Run}
 use Rattle.tacho_hours.specs.declared.run.TheConstants.{FAR}
 use Rattle.tacho_hours.specs.Line.{Line, line_of, Joined}
-use Rattle.tacho_hours.specs.Runs.{IsRestRun, AreRestRuns, AreRuns, Before, Reached}
+use Rattle.tacho_hours.specs.Runs.{IsRestRun, AreRestRuns, AreRuns, Before}
+use Rattle.tacho_hours.specs.SoFar.{Reached}
 use Rattle.tacho_hours.proofs.ExactlyLemmas.{at_index, one_exactly}
 
 -- where the next span starts, or the line's end

@@ -1,6 +1,6 @@
 -- Breaks (Regulation (EC) 561/2006, Articles 4(d) and 7): after a driving period of four and a half hours an
 -- uninterrupted break of 45 minutes, or one of 15 and then one of 30.
-use Rattle.std.specs.Prelude.{◌≤◌, ◌⊎◌, List, Contains, Bool, IsTrue}
+use Rattle.std.specs.Prelude.{◌≤◌, ◌⊎◌, List, Contains}
 use Rattle.tacho_hours.specs.declared.run.Run.{Run}
 use Rattle.tacho_hours.specs.Exactly.{AreExactly}
 use Rattle.tacho_hours.specs.Runs.{Before, minutes_of}
@@ -23,16 +23,3 @@ Completes runs breaks run =
 -- the complete breaks among the rest runs, in order: there is one such list
 abbrev pub AreCompleteBreaks : List Run → List Run → Type 0
 AreCompleteBreaks runs breaks = AreExactly (λ run. Contains runs run × Completes runs breaks run) Before breaks
-
--- a first part after each of the breaks so far
-pub record HasShort (seen breaks : List Run) : Type 0 where
-  pub part : Run
-  pub among : Contains seen part
-  pub enough : first_part_of_break ≤ minutes_of part
-  pub after : (b : Run) → Contains breaks b → Before b part
-
--- the complete breaks among the runs so far, and whether a first part is open
-pub record Breaking (seen breaks : List Run) (short : Bool) : Type 0 where
-  pub whole : AreCompleteBreaks seen breaks
-  pub set : IsTrue short → HasShort seen breaks
-  pub has : HasShort seen breaks → IsTrue short

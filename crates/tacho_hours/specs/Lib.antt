@@ -11,3 +11,4 @@ pub mod MainRests
 pub mod Order
 pub mod Breaches
 pub mod ByRuns
+pub mod SoFar

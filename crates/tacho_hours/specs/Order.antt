@@ -38,10 +38,6 @@ Apart a b = ¬ (Agree a b)
 abbrev pub AreApart : List Breach → Type 0
 AreApart found = AllPairs Apart found
 
--- these breaches and no others, and no two of them have one place: as they are found, before they are put in order
-abbrev pub AreCollected : (Breach → Type 0) → List Breach → Type 0
-AreCollected P found = AreExactly P Apart found
-
 -- these breaches and no others, each once, in order
 abbrev pub AreBreaches : (Breach → Type 0) → List Breach → Type 0
 AreBreaches P found = AreExactly P Earlier found

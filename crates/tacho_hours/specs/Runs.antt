@@ -46,13 +46,3 @@ pub record AreNeighbours (line : Line) (least : ℕ) (a b : Run) : Type 0 where
   pub second : IsRestOf line least b
   pub before : Before a b
   pub between : (c : Run) → IsRestOf line least c → Before a c → Before c b → ⊥
-
--- what is known of a line up to a minute p: the runs that end before start, and rest from start to p
-pub record Reached (line : Line) (runs : List Run) (start p : ℕ) : Type 0 where
-  pub each : All (λ run. IsRestRun line run) runs
-  pub all : (run : Run) → IsRestRun line run → run.start < start → Contains runs run
-  pub in_order : AllPairs Before runs
-  pub ended : All (λ run. run.past < start) runs
-  pub resting : (m : ℕ) → start ≤ m → m < p → line m ≡ Rest
-  pub from : (start ≡ 0) ⊎ ((m : ℕ) → m + 1 ≡ start → line m ≢ Rest)
-  pub below : start ≤ p

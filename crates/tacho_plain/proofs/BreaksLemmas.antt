@@ -7,7 +7,8 @@ use Rattle.std.proofs.lemmas.List.{take_more, length-take-le, get_or-take, get_o
 use Rattle.std.proofs.lemmas.List.Elements.{All-contains, All-take}
 use Rattle.tacho_hours.specs.declared.run.Run.{Run}
 use Rattle.tacho_hours.specs.Runs.{AreRuns, Before, minutes_of}
-use Rattle.tacho_hours.specs.Breaks.{AreCompleteBreaks, Breaking}
+use Rattle.tacho_hours.specs.Breaks.{AreCompleteBreaks}
+use Rattle.tacho_hours.specs.SoFar.{Breaking}
 use Rattle.tacho_hours.proofs.BreaksLemmas.{breaking_add, breaking_short, breaking_stay, breaks_last}
 
 -- at the index i of a loop: what was seen is before the run there

@@ -17,7 +17,8 @@ use Rattle.tacho_hours.specs.Line.{line_of, IsExamined, Line}
 use Rattle.tacho_hours.specs.Runs.{minutes_of}
 use Rattle.tacho_hours.specs.Days.{IsDuty}
 use Rattle.tacho_plain.specs.DayBreaches.{AreDutyDays}
-use Rattle.tacho_hours.specs.Order.{Agree, Earlier, AreBreaches, place_of_kind, AreCollected}
+use Rattle.tacho_hours.specs.Order.{Agree, Earlier, AreBreaches, place_of_kind}
+use Rattle.tacho_hours.specs.SoFar.{AreCollected}
 use Rattle.tacho_hours.specs.Breaches.{AreDayBreaches, IsDayBreach, IsB2, IsB3, IsB4, IsB5}
 use Rattle.tacho_hours.proofs.RunsLemmas.{line_before}
 use Rattle.tacho_plain.specs.DayBreaches.{IsInTime, AreTheDays, IsRestKind, IsDriveKind}

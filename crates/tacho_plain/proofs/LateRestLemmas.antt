@@ -9,7 +9,8 @@ use Rattle.tacho_hours.specs.Runs.{AreRestsOf}
 use Rattle.tacho_plain.specs.Rests.{AreInTime}
 use Rattle.tacho_plain.proofs.RunsLemmas.{no_run}
 use Rattle.tacho_plain.proofs.DaysLemmas.{next_are_neighbours, neighbours_are_next}
-use Rattle.tacho_hours.specs.Order.{Apart, AreCollected}
+use Rattle.tacho_hours.specs.Order.{Apart}
+use Rattle.tacho_hours.specs.SoFar.{AreCollected}
 use Rattle.tacho_hours.specs.Breaches.{IsLate}
 use Rattle.tacho_hours.proofs.OrderLemmas.{same_breach}
 use Rattle.tacho_hours.proofs.ExactlyLemmas.{OfBelow, below_none, below_skip, below_add, exactly_as}

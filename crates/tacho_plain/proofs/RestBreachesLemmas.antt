@@ -8,7 +8,8 @@ use Rattle.tacho_hours.specs.declared.breach.Kind.{Kind}
 use Rattle.tacho_hours.specs.declared.breach.Kind.TheVariants.{B1, B2, B3, B4, B5, B6, B7, B8, B9, B10}
 use Rattle.tacho_hours.specs.Line.{Line}
 use Rattle.tacho_hours.specs.Debts.{AreDebts}
-use Rattle.tacho_hours.specs.Order.{Agree, Earlier, AreBreaches, AreCollected}
+use Rattle.tacho_hours.specs.Order.{Agree, Earlier, AreBreaches}
+use Rattle.tacho_hours.specs.SoFar.{AreCollected}
 use Rattle.tacho_hours.specs.Breaches.{IsRestBreach, IsLate, IsLacking, IsOverdue}
 use Rattle.tacho_plain.proofs.DayBreachesLemmas.{all_join}
 

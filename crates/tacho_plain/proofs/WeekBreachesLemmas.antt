@@ -12,7 +12,8 @@ use Rattle.tacho_hours.specs.declared.breach.Kind.TheVariants.{B1, B2, B3, B4, B
 use Rattle.tacho_hours.specs.Line.{IsExamined, line_of}
 use Rattle.tacho_hours.specs.Driving.{driving, IsDrivingMinute}
 use Rattle.tacho_hours.specs.Weeks.{week_start}
-use Rattle.tacho_hours.specs.Order.{Apart, Earlier, AreCollected}
+use Rattle.tacho_hours.specs.Order.{Apart, Earlier}
+use Rattle.tacho_hours.specs.SoFar.{AreCollected}
 use Rattle.tacho_hours.proofs.ExactlyLemmas.{exactly_none, exactly_as, exactly_skip, exactly_add}
 use Rattle.tacho_hours.specs.Breaches.{IsB6, IsB7, IsWeekBreach, AreWeekBreaches}
 use Rattle.tacho_hours.proofs.DrivingLemmas.{line_behind}

@@ -5,7 +5,7 @@ use Rattle.tacho_hours.specs.declared.breach.Breach.{Breach}
 use Rattle.tacho_hours.specs.declared.breach.Kind.TheVariants.{B6, B7}
 use Rattle.tacho_hours.specs.Line.{Line}
 use Rattle.tacho_hours.specs.Weeks.{week_start}
-use Rattle.tacho_hours.specs.Order.{AreCollected}
+use Rattle.tacho_hours.specs.SoFar.{AreCollected}
 use Rattle.tacho_hours.specs.Limits.{driving_in_week, driving_in_two_weeks}
 use Rattle.tacho_hours.specs.Breaches.{IsTooMuch}
 

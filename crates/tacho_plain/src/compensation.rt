@@ -7,7 +7,7 @@ ghost use Rattle.tacho_plain.specs.Rests.{AreInTime};
 ghost use Rattle.tacho_hours.specs.Line.{Line};
 ghost use Rattle.tacho_hours.specs.Debts.{share, paid_from, CanPay, HasRoom, IsMainRest, Owes, Pays, AreDebts};
 ghost use Rattle.tacho_hours.specs.Weeks.{week_start};
-ghost use Rattle.tacho_hours.specs.Order.{AreCollected};
+ghost use Rattle.tacho_hours.specs.SoFar.{AreCollected};
 ghost use Rattle.tacho_hours.specs.Limits.{daily_rest, weekly_rest, latest};
 ghost use Rattle.tacho_plain.specs.RestBreaches.{IsLastRun, IsDebtOf};
 ghost use Rattle.tacho_hours.specs.Breaches.{IsOverdue};

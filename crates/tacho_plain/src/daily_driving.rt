@@ -2,7 +2,8 @@ ghost use Rattle.std.specs.Prelude.{◌≡◌, ◌<◌, ◌≤◌, All, IfOk, Ma
 ghost use Rattle.tacho_hours.specs.Line.{line_of, IsExamined};
 ghost use Rattle.tacho_hours.specs.Driving.{driving};
 ghost use Rattle.tacho_plain.specs.DayBreaches.{AreDutyDays};
-ghost use Rattle.tacho_hours.specs.Order.{AreBreaches, AreCollected};
+ghost use Rattle.tacho_hours.specs.Order.{AreBreaches};
+ghost use Rattle.tacho_hours.specs.SoFar.{AreCollected};
 ghost use Rattle.tacho_hours.specs.Breaches.{IsB4, IsB5};
 ghost use Rattle.tacho_plain.specs.DayBreaches.{IsInTime, AreTheDays, IsDriveKind};
 ghost use Rattle.tacho_plain.specs.DailyDriving.{IsLongDay, IsLongDuty};

@@ -4,7 +4,7 @@ ghost use Rattle.tacho_hours.specs.Runs.{AreRestsOf};
 ghost use Rattle.tacho_plain.specs.Rests.{AreInTime};
 ghost use Rattle.tacho_hours.specs.Weeks.{IsWhollyAtRest, HasTwoRests, week_start, LacksRests};
 ghost use Rattle.tacho_hours.specs.Breaches.{AreRestBreaches, IsLate, IsLacking};
-ghost use Rattle.tacho_hours.specs.Order.{AreCollected};
+ghost use Rattle.tacho_hours.specs.SoFar.{AreCollected};
 ghost use Rattle.tacho_hours.specs.Limits.{weekly_rest, latest};
 
 use crate::compensation::{debts_of, overdue};

@@ -11,7 +11,8 @@ use Rattle.tacho_hours.specs.declared.breach.Kind.TheVariants.{B8}
 use Rattle.tacho_hours.specs.Runs.{IsRestRun, AreRestRuns, Before, IsRestOf, AreNeighbours}
 use Rattle.tacho_hours.specs.Line.{Line}
 use Rattle.tacho_hours.specs.Breaches.{IsB8, IsLate}
-use Rattle.tacho_hours.specs.Order.{Apart, AreCollected}
+use Rattle.tacho_hours.specs.Order.{Apart}
+use Rattle.tacho_hours.specs.SoFar.{AreCollected}
 use Rattle.tacho_hours.proofs.DebtsLemmas.{separate}
 use Rattle.tacho_hours.proofs.ByRunsLemmas.{one_run}
 use Rattle.tacho_hours.proofs.OrderLemmas.{same_breach}

@@ -12,7 +12,7 @@ use Rattle.tacho_hours.specs.declared.debt.Debt.{Debt}
 use Rattle.tacho_hours.specs.Line.{line_of, Joined, IsExamined, IsBase, Line}
 use Rattle.tacho_hours.specs.Weeks.{week_start}
 use Rattle.tacho_hours.specs.Debts.{AreDebts}
-use Rattle.tacho_hours.specs.Order.{AreCollected}
+use Rattle.tacho_hours.specs.SoFar.{AreCollected}
 use Rattle.tacho_hours.specs.Breaches.{IsOverdue}
 use Rattle.tacho_hours.proofs.RunsLemmas.{run_of}
 use Rattle.tacho_pass.specs.Heard.{is_rest, start_after, run_before, Continues, IsNext, IsLineTo}

@@ -11,7 +11,7 @@ use Rattle.tacho_hours.specs.declared.debt.Debt.{Debt}
 use Rattle.tacho_hours.specs.Line.{line_of, Joined, IsExamined, Line}
 use Rattle.tacho_hours.specs.Runs.{IsRestRun, AreRestRuns, minutes_of, IsRestOf}
 use Rattle.tacho_hours.specs.Weeks.{week_start}
-use Rattle.tacho_hours.specs.Order.{AreCollected}
+use Rattle.tacho_hours.specs.SoFar.{AreCollected}
 use Rattle.tacho_hours.specs.Breaches.{IsLacking}
 use Rattle.tacho_hours.proofs.RunsLemmas.{run_of}
 use Rattle.tacho_hours.proofs.ByRunsLemmas.{one_run}

@@ -12,7 +12,8 @@ use Rattle.tacho_hours.specs.declared.breach.Kind.TheVariants.{B9}
 use Rattle.tacho_hours.specs.Runs.{AreRestRuns, IsRestOf}
 use Rattle.tacho_hours.specs.Line.{Line}
 use Rattle.tacho_hours.specs.Weeks.{week_start, LacksRests}
-use Rattle.tacho_hours.specs.Order.{Apart, AreCollected}
+use Rattle.tacho_hours.specs.Order.{Apart}
+use Rattle.tacho_hours.specs.SoFar.{AreCollected}
 use Rattle.tacho_hours.specs.Breaches.{IsLacking}
 use Rattle.tacho_hours.proofs.DebtsLemmas.{separate}
 use Rattle.tacho_hours.proofs.ByRunsLemmas.{one_run}

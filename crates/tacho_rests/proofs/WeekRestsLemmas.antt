@@ -8,7 +8,8 @@ use Rattle.tacho_hours.specs.declared.breach.Kind.{Kind}
 use Rattle.tacho_hours.specs.declared.breach.Kind.TheVariants.{B1, B2, B3, B4, B5, B6, B7, B8, B9, B10}
 use Rattle.tacho_hours.specs.declared.debt.Debt.{Debt}
 use Rattle.tacho_hours.specs.Line.{Line, line_of}
-use Rattle.tacho_hours.specs.Order.{Apart, AreCollected}
+use Rattle.tacho_hours.specs.Order.{Apart}
+use Rattle.tacho_hours.specs.SoFar.{AreCollected}
 use Rattle.tacho_hours.specs.Breaches.{IsRestBreach, IsLate, IsLacking, IsOverdue}
 use Rattle.tacho_hours.proofs.ExactlyLemmas.{exactly_as}
 use Rattle.tacho_pass.specs.Found.{own_of}

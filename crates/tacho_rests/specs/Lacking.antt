@@ -9,7 +9,7 @@ use Rattle.tacho_hours.specs.Line.{line_of, Joined, Line}
 use Rattle.tacho_hours.specs.Limits.{first_week}
 use Rattle.tacho_hours.specs.Runs.{AreRestRuns}
 use Rattle.tacho_hours.specs.Weeks.{week_start}
-use Rattle.tacho_hours.specs.Order.{AreCollected}
+use Rattle.tacho_hours.specs.SoFar.{AreCollected}
 use Rattle.tacho_hours.specs.Breaches.{IsLacking}
 use Rattle.tacho_pass.specs.Heard.{Continues, IsHeard, IsLineTo}
 use Rattle.tacho_rests.specs.declared.pairs.Pairs.{Pairs}

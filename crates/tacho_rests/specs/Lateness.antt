@@ -10,7 +10,7 @@ use Rattle.tacho_hours.specs.declared.breach.Kind.TheVariants.{B8}
 use Rattle.tacho_hours.specs.Line.{line_of, Joined, Line}
 use Rattle.tacho_hours.specs.Limits.{first_week, weekly_rest, six_days}
 use Rattle.tacho_hours.specs.Runs.{AreRestRuns, IsRestOf, minutes_of}
-use Rattle.tacho_hours.specs.Order.{AreCollected}
+use Rattle.tacho_hours.specs.SoFar.{AreCollected}
 use Rattle.tacho_hours.specs.Breaches.{IsB8, IsLate}
 use Rattle.tacho_pass.specs.Heard.{Continues, IsHeard}
 use Rattle.tacho_rests.specs.declared.late.Late.{Late}

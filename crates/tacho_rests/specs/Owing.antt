@@ -8,7 +8,7 @@ use Rattle.tacho_hours.specs.declared.debt.Debt.{Debt}
 use Rattle.tacho_hours.specs.Line.{line_of, Joined, Line}
 use Rattle.tacho_hours.specs.Limits.{first_week}
 use Rattle.tacho_hours.specs.Debts.{AreDebts}
-use Rattle.tacho_hours.specs.Order.{AreCollected}
+use Rattle.tacho_hours.specs.SoFar.{AreCollected}
 use Rattle.tacho_hours.specs.Breaches.{IsOverdue}
 use Rattle.tacho_pass.specs.Heard.{Continues, IsHeard, IsLineTo}
 use Rattle.tacho_rests.specs.declared.ledger.Ledger.{Ledger}

@@ -9,7 +9,7 @@ use Rattle.tacho_hours.specs.Line.{Line}
 use Rattle.tacho_hours.specs.Limits.{weekly_rest, regular_weekly_rest}
 use Rattle.tacho_hours.specs.Runs.{IsRestOf, minutes_of}
 use Rattle.tacho_hours.specs.Weeks.{week_start}
-use Rattle.tacho_hours.specs.Order.{AreCollected}
+use Rattle.tacho_hours.specs.SoFar.{AreCollected}
 use Rattle.tacho_hours.specs.Breaches.{IsB9}
 use Rattle.tacho_rests.specs.declared.tally.Tally.{Tally}
 

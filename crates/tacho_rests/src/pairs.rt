@@ -6,7 +6,7 @@ ghost use Rattle.tacho_hours.specs.Runs.{AreRestRuns, IsRestOf};
 ghost use Rattle.tacho_hours.specs.Weeks.{week_start};
 ghost use Rattle.tacho_pass.specs.Found.{Appends, listed, own_of};
 ghost use Rattle.tacho_pass.specs.Kinds.{is_b9};
-ghost use Rattle.tacho_hours.specs.Order.{AreCollected};
+ghost use Rattle.tacho_hours.specs.SoFar.{AreCollected};
 ghost use Rattle.tacho_hours.specs.Breaches.{IsLacking};
 ghost use Rattle.tacho_rests.specs.Pairs.{pair_breach as pair_breach_of, tally_of_last as tally_of_last_of};
 ghost use Rattle.tacho_rests.specs.Pairs.{tally_with, IsPairs};

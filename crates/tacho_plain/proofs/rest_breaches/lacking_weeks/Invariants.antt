@@ -1,6 +1,6 @@
 use Rattle.tacho_hours.specs.Line.{Line}
 use Rattle.tacho_hours.specs.Runs.{AreRestsOf}
-use Rattle.tacho_hours.specs.Order.{AreCollected}
+use Rattle.tacho_hours.specs.SoFar.{AreCollected}
 use Rattle.tacho_hours.proofs.LackingWeekLemmas.{LackingBelow}
 use Rattle.tacho_plain.proofs.rest_breaches.lacking_weeks.Given as goal
 

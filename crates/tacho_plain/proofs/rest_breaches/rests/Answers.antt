@@ -4,7 +4,7 @@ use Rattle.tacho_hours.specs.Line.{line_of, Line}
 use Rattle.tacho_hours.specs.Runs.{AreRestRuns, AreRestsOf}
 use Rattle.tacho_hours.specs.Debts.{AreDebts}
 use Rattle.tacho_hours.proofs.RunsLemmas.{joined_le, rest_runs_are}
-use Rattle.tacho_hours.specs.Order.{AreCollected}
+use Rattle.tacho_hours.specs.SoFar.{AreCollected}
 use Rattle.tacho_plain.specs.RestBreaches.{IsLastRun}
 use Rattle.tacho_hours.specs.Breaches.{IsLate, IsLacking, IsOverdue}
 use Rattle.tacho_plain.proofs.LastRunLemmas.{some_run, last_is_last, rests_in_time}
