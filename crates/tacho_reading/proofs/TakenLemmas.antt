@@ -1,11 +1,12 @@
 -- What a scan takes of rows that come one at a time.
-use Rattle.std.proofs.Common.{◌≡◌, ◌∙◌, ℕ, ◌≤◌, Bool, true, false, cond, List, [], ◌∷◌, ◌++◌, map, None, Some, pos, Result, Ok, Err, IfOk, OnOk, IsTrue, inl, inr, refl, sym, ap, subst, arith, append-nil, append_assoc}
-use Rattle.std.specs.Prelude.{nat_le}
+use Rattle.std.proofs.Common.{◌≡◌, ◌∙◌, ℕ, ◌<◌, ◌≤◌, Bool, true, false, cond, List, [], ◌∷◌, ◌++◌, map, None, Some, pos, Result, Ok, Err, IfOk, OnOk, IsTrue, inl, inr, refl, sym, ap, subst, arith, append-nil, append_assoc}
+use Rattle.std.specs.Prelude.{nat_le, nat_lt}
 use Rattle.std.specs.Borrow.{MutBor}
 use Rattle.std.specs.List.{All}
 use Rattle.std.proofs.lemmas.Bool.{le-leb}
+use Rattle.std.proofs.lemmas.Bool.Decides.{nat_tests}
 use Rattle.std.proofs.lemmas.List.{map-append}
-use Rattle.std.proofs.lemmas.List.Elements.{All-append, All-nil}
+use Rattle.std.proofs.lemmas.List.Elements.{All-append, All-cons, All-nil}
 use Rattle.sqlite.specs.Given.{HasGiven}
 use Rattle.sqlite.specs.Held.{Held, state}
 use Rattle.sqlite.specs.Order.{Row, column}
@@ -24,10 +25,12 @@ use Rattle.sqlite.specs.State.{State, HasCleanDisk, IsUnchanged, Survives}
 use Rattle.sqlite.proofs.StateLemmas.{survives_then}
 use Rattle.sqlite.specs.Store.{Ghosts}
 use Rattle.tacho_time.specs.declared.span.Span.{Span}
+use Rattle.tacho_line.specs.declared.horizon.Cause.{Cause}
 use Rattle.tacho_line.specs.declared.horizon.Cause.TheVariants.{Unknown}
 use Rattle.tacho_hours.specs.Line.{Joined}
 use Rattle.tacho_hours.proofs.RunsLemmas.{joined_le}
 use Rattle.tacho_pass.specs.declared.found.Found.{Found}
+use Rattle.tacho_pass.specs.Found.{Appends}
 use Rattle.tacho_pass.specs.Kinds.{is_any}
 use Rattle.tacho_pass.proofs.AppendingLemmas.{appends_none, appends_then}
 use Rattle.tacho_rules.specs.declared.scan.Scan.{Scan}
@@ -83,6 +86,36 @@ taken_behind base minute s scan found at early behind =
       at = at;
       grown = appends_none is_any true found;
       fed = λ before is. rw none (subst (IsScanOf scan found base) (sym (append-nil before)) is);
+    }
+
+-- what is left of a span that ends behind the base
+cuts_one : (base : ℕ) (s : Span) → base < s.past → cuts base (s ∷ []) ≡ cut base s ∷ []
+cuts_one base s behind =
+    let not : nat_le s.past base ≡ false = grind (arith, nat_tests) in
+    rw not refl
+
+-- one span that begins where the scan stands, and ends behind the base
+pub taken_one : (base minute : ℕ) (s part : Span) (old : Scan) (was : Found) (new : Scan) (found : Found)
+    → part ≡ cut base s → s.start < s.past → base < s.past → s.past ≤ 68374080 → part.start ≡ minute
+    → part.mark.crew ≡ false → IsAt new part.past → Appends is_any true was found
+    → ((b : ℕ) (before : List Span) → IsScanOf old was b before → IsScanOf new found b (before ++ part ∷ []))
+    → HasTaken base minute part.past (s ∷ []) old was new found
+taken_one base minute s part old was new found is some behind within from single at grown fed =
+    let left : cuts base (s ∷ []) ≡ part ∷ [] =
+    cuts_one base s behind ∙ ap (λ (x : Span). x ∷ []) (sym is) in
+    let past : part.past ≡ s.past = ap (λ (x : Span). x.past) is in
+    let start : part.start ≡ cond (nat_lt s.start base) base s.start = ap (λ (x : Span). x.start) is in
+    let later : minute < part.past = grind (arith, nat_tests) in
+    record {
+      whole = record {
+        joined = rw left (from, later, refl);
+        single = rw left (All-cons (λ (x : Span). x.mark.crew ≡ false) part []
+            single (All-nil (λ (x : Span). x.mark.crew ≡ false)));
+        within = omega arith;
+      };
+      at = at;
+      grown = grown;
+      fed = λ before r. rw left (fed base before r);
     }
 
 -- spans, and then others
@@ -280,6 +313,21 @@ module _ {S : Type 0} (g : Ghosts S) (old mid new : Held S) (base minute : ℕ) 
             moves sql params
                 (given ++ before.0) before.2,
           ),
+        );
+  }
+
+  -- a row that stops the scan
+  pub feeding_stopped : (row : StoredSpan) (cause : Cause) → GivesNext g mid new (Some row)
+      → StopsAt minute cause (stored_span row) → HasCleanDisk (state g new)
+      → HasFed g old new base scan was fed found (record { minute = minute; cause = cause })
+  feeding_stopped row cause (next, tells, moves) stops clean = record {
+    spans = h.spans;
+    taken = h.taken;
+    stopped = λ sql params given it.
+        let before = (h.given (early clean)).1 sql params given it in (
+          before.0,
+          before.1,
+          inr (next, row, tells, stops, moves sql params (given ++ before.0) before.2),
         );
   }
 

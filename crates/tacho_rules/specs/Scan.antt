@@ -36,8 +36,8 @@ abbrev pub AreFindings : Line → ℕ → ℕ → List Breach → List Debt → 
 AreFindings line base horizon found debts = AreFoundBy Earlier line base horizon found debts
 
 -- the minute up to which a scan was fed
-abbrev pub IsAt : Scan → ℕ → Type 0
-IsAt s place = IsHeardTo s.hearing place
+pub record IsAt (s : Scan) (place : ℕ) : Type 0 where
+  pub at : IsHeardTo s.hearing place
 
 -- spans that follow one another from there on, and none passes 2099
 pub record CanTake (s : Scan) (spans : List Span) : Type 0 where
@@ -52,5 +52,5 @@ abbrev pub HasFailed : Scan → Type 0
 HasFailed s = IsRefused s.hearing
 
 -- a scan, and what is found, stand for the spans from the base on
-abbrev pub IsScanOf : Scan → Found → ℕ → List Span → Type 0
-IsScanOf s found base spans = IsHearingOf s.hearing found base spans
+pub record IsScanOf (s : Scan) (found : Found) (base : ℕ) (spans : List Span) : Type 0 where
+  pub stands : IsHearingOf s.hearing found base spans
