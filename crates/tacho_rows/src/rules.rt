@@ -116,7 +116,7 @@ fn scanned(alloc: Global, spans: &[Span], base: Minute, past: Minute) -> Result<
 {
     let mut scan = Scan::new(base);
     let mut found = Found::empty(alloc);
-    scan.feed_all(spans, &mut found)?;
+    scan.feed_within(spans, base, past, &mut found)?;
     let horizon = Horizon {
         minute: past,
         cause: Cause::Unknown,
