@@ -78,6 +78,65 @@ fn archive_after(alloc: Global, count: usize) -> Result<Shelf, Fail> {
     Ok(shelf)
 }
 
+/// Jobs that have no input.
+static WITHOUT_INPUT: [Job<'static>; 9] = [
+    Job::Base {
+        archive: "a.db",
+        driver: "17",
+        date: "2024-03-04",
+    },
+    Job::Spans {
+        archive: "a.db",
+        driver: "17",
+        month: "2024-03",
+    },
+    Job::Gaps {
+        archive: "a.db",
+        driver: "17",
+        month: "2024-03",
+    },
+    Job::Sheet {
+        archive: "a.db",
+        driver: "17",
+        month: "2024-03",
+    },
+    Job::Breaches {
+        archive: "a.db",
+        driver: "17",
+    },
+    Job::Owed {
+        archive: "a.db",
+        driver: "17",
+    },
+    Job::Entries {
+        archive: "a.db",
+        driver: "17",
+    },
+    Job::File {
+        archive: "a.db",
+        driver: "17",
+        number: "1",
+    },
+    Job::Withdraw {
+        archive: "a.db",
+        driver: "17",
+        number: "1",
+    },
+];
+
+#[test]
+fn jobs_without_an_input_ask_no_reader(rt: HostRuntime) -> Result<(), Fail> {
+    let mut shelf = archive_after(rt.alloc(), CASES.len())?;
+    for job in &WITHOUT_INPUT {
+        let mut reader = Faulty::new(rt.alloc(), b"", 7, 0);
+        let mut writer = Device::new(Vec::new(rt.alloc()));
+        let status = performed(rt.alloc(), &mut shelf, *job, &mut reader, &mut writer)?;
+        assert!(rt; status == 0, "{status} of {job:?}");
+        assert!(rt; !reader.failed(), "{job:?}");
+    }
+    Ok(())
+}
+
 #[test]
 fn readers_fail_at_each_call(rt: HostRuntime) -> Result<(), Fail> {
     for (place, (job, input, text, _)) in CASES.iter().enumerate() {

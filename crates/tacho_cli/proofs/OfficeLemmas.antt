@@ -1,22 +1,32 @@
 -- What a job at an archive leaves, by what its parts did.
 use Rattle.std.proofs.Common.{◌≡◌, ℕ, ◌<◌, ◌≤◌, inl, inr, ◌↔◌, Bool, true, false, List, [], Option, Result, Ok, Err, length, refl, sym, ap, subst, arith}
+use Rattle.std.proofs.Common.{◌∙◌, None, Some}
 use Rattle.std.proofs.lemmas.List.{length-replicate}
 use Rattle.std.specs.Prelude.{IfSome, IsErrAnd, replicate}
+use Rattle.tacho_time.specs.Reading.{day_at, month_at}
+use Rattle.tacho_time.specs.declared.fault.TimeFault.{TimeFault}
 use Rattle.tacho_time.specs.declared.whole.ReadFault.{ReadFault}
 use Rattle.tacho_time.specs.declared.whole.ReadFault.TheVariants as read
+use Rattle.tacho_card.specs.declared.file.Part.{Part}
 use Rattle.tacho_state.specs.State.{State}
+use Rattle.tacho_state.specs.declared.caller.Caller.TheVariants as caller
 use Rattle.tacho_sheet.specs.declared.fault.Fault.TheVariants as told
 use Rattle.tacho_desk.specs.Doing.{Doing, Done, Stops}
 use Rattle.tacho_desk.specs.Fault.{read_fault}
 use Rattle.tacho_desk.specs.Tasks.{Does, takes_input}
 use Rattle.tacho_desk.specs.Told.{Answer, Told as Written, answer_of}
+use Rattle.tacho_desk.specs.Words.{Wanted, ByNumber, IsAbout, by_part, by_time, most_driver, most_number, part_of}
 use Rattle.tacho_desk.specs.declared.fault.Fault.{Fault}
 use Rattle.tacho_desk.specs.declared.fault.Fault.TheVariants as fault
+use Rattle.tacho_desk.specs.declared.matter.Matter.TheVariants as matter
 use Rattle.tacho_desk.specs.declared.task.Task.{Task}
+use Rattle.tacho_desk.specs.declared.task.Task.TheVariants as task
 use Rattle.tacho_desk.specs.declared.text.Text.{Text}
 use Rattle.tacho_cli.specs.Command.{IsWrittenOut, fault_reply}
 use Rattle.tacho_cli.specs.Office.{Answered, DoesOver, HasNotRead, HasRead, IsTaskOf, Performed, Performs, StopsOver, reply_to}
+use Rattle.tacho_cli.specs.Words.{has_input}
 use Rattle.tacho_cli.specs.declared.job.Job.{Job}
+use Rattle.tacho_cli.specs.declared.job.Job.TheVariants as job
 use Rattle.tacho_cli.proofs.CommandLemmas.{any_input, some_input}
 
 -- the answer of a result that is this fault
@@ -39,6 +49,63 @@ not_read unread failed read.Failed large is = is.0 refl
 not_read unread failed read.Memory large is = λ e. let no = is.1 e in cc
 
 -- ---- tasks
+
+-- a task that a word's number or time gives has an input or none, whatever the word
+by_number : (most : ℕ) (text : List ℕ) (Is : ℕ → Wanted → Type 0) (t : Task) (b : Bool)
+    → ((n : ℕ) → Is n (Ok t) → takes_input t ≡ b) → ByNumber most text Is (Ok t) → takes_input t ≡ b
+by_number most text Is t b each (inl (none, e)) = absurd (cc)
+by_number most text Is t b each (inr (n, is, h)) = each n h
+
+in_time : (r : Result ℕ TimeFault) (make : ℕ → Task) (t : Task) → ((n : ℕ) → takes_input (make n) ≡ false)
+    → Ok t ≡ by_time r (λ n. Ok (make n)) → takes_input t ≡ false
+in_time (Err f) make t none e = absurd (cc)
+in_time (Ok n) make t none e = let is : t ≡ make n = cc in ap takes_input is ∙ none n
+
+abbrev IsThis : Task → Wanted → Type 0
+IsThis u wanted = wanted ≡ Ok u
+
+as_it_is : (t u : Task) → IsThis u (Ok t) → takes_input t ≡ takes_input u
+as_it_is t u e = let is : t ≡ u = cc in ap takes_input is
+
+-- a job's task has an input where the job has one
+pub input_as_task : (j : Job) (t : Task) → IsTaskOf j (Ok t) → takes_input t ≡ has_input j
+input_as_task (job.Register archive) t is = as_it_is t task.Register is
+input_as_task (job.Import archive p) t is = of_part (part_of p.now) is where
+  of_part : (part : Option Part) → Ok t ≡ by_part part (λ p. task.Import caller.Office p) → takes_input t ≡ true
+  of_part None e = absurd (cc)
+  of_part (Some p) e = as_it_is t (task.Import caller.Office p) e
+input_as_task (job.Enter archive driver) t is = by_number most_driver driver.now
+    (λ n. IsAbout matter.Enter n []) t true (λ n e. as_it_is t (task.Enter n) e) is
+input_as_task (job.Withdraw archive driver number) t is = by_number most_driver driver.now
+    (λ n. IsAbout matter.Withdraw n number.now) t false
+    (λ n. by_number most_number number.now (λ k w. w ≡ Ok (task.Withdraw n k)) t false
+    (λ k e. as_it_is t (task.Withdraw n k) e)) is
+input_as_task (job.Base archive driver date) t is = by_number most_driver driver.now
+    (λ n. IsAbout matter.Base n date.now) t false
+    (λ n e. in_time (day_at date.now) (λ day. task.Base n day) t (λ day. refl) e) is
+input_as_task (job.Spans archive driver month) t is = by_number most_driver driver.now
+    (λ n. IsAbout matter.Spans n month.now) t false
+    (λ n e. in_time (month_at month.now) (λ m. task.Spans n m) t (λ m. refl) e) is
+input_as_task (job.Gaps archive driver month) t is = by_number most_driver driver.now
+    (λ n. IsAbout matter.Gaps n month.now) t false
+    (λ n e. in_time (month_at month.now) (λ m. task.Gaps n m) t (λ m. refl) e) is
+input_as_task (job.Sheet archive driver month) t is = by_number most_driver driver.now
+    (λ n. IsAbout matter.Sheet n month.now) t false
+    (λ n e. in_time (month_at month.now) (λ m. task.Sheet n m) t (λ m. refl) e) is
+input_as_task (job.Breaches archive driver) t is = by_number most_driver driver.now
+    (λ n. IsAbout matter.Breaches n []) t false (λ n e. as_it_is t (task.Breaches n) e) is
+input_as_task (job.Owed archive driver) t is = by_number most_driver driver.now
+    (λ n. IsAbout matter.Owed n []) t false (λ n e. as_it_is t (task.Owed n) e) is
+input_as_task (job.Entries archive driver) t is = by_number most_driver driver.now
+    (λ n. IsAbout matter.Entries n []) t false (λ n e. as_it_is t (task.Entries n) e) is
+input_as_task (job.File archive driver number) t is = by_number most_driver driver.now
+    (λ n. IsAbout matter.File n number.now) t false
+    (λ n. by_number most_number number.now (λ k w. w ≡ Ok (task.File n k)) t false
+    (λ k e. as_it_is t (task.File n k) e)) is
+input_as_task job.Dump t is = absurd is
+input_as_task job.Holder t is = absurd is
+input_as_task (job.Init archive) t is = absurd is
+input_as_task (job.Serve archive key port count) t is = absurd is
 
 -- a job whose words are wrong is refused
 pub refuses : (j : Job) (f : Fault) (input : List ℕ) (s : State) → IsTaskOf j (Err f) → Performs j input s (Err f) s

@@ -55,6 +55,15 @@ tacho_app = with_table (needs_subcommand (new_app (codes "tacho"))) the_table
 
 -- ---- the job
 
+-- whether it has an input, a text of CSV or a card file
+abbrev pub has_input : Job → Bool
+has_input job.Dump = true
+has_input job.Holder = true
+has_input (job.Register archive) = true
+has_input (job.Import archive part) = true
+has_input (job.Enter archive driver) = true
+has_input other = false
+
 -- the word with this name is this text
 abbrev pub IsWord : List Row → Text → Text → Type 0
 IsWord rows id text = first_of id rows ≡ Some text

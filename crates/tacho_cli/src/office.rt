@@ -2,7 +2,7 @@ ghost use Rattle.std.specs.Prelude.{◌≡◌, ◌<◌, Err, Ok, true, false, Li
 ghost use Rattle.tacho_state.specs.State.{State};
 ghost use Rattle.tacho_desk.specs.Told.{answer_of};
 ghost use Rattle.tacho_cli.specs.Office.{Answered, HasNotRead, HasRead, IsOfDriver, IsTaskOf, Performed, Performs, StopsOver};
-ghost use Rattle.tacho_cli.specs.Words.{at_desk};
+ghost use Rattle.tacho_cli.specs.Words.{at_desk, has_input};
 
 use crate::job::Job;
 use crate::reply::{tell, tell_fault};
@@ -17,7 +17,8 @@ const INPUT_LIMIT: usize = 262_144;
 /// Does a job at an archive, as the office: reads its words from left to right, then its input where it has one (of at most
 /// 262,144 bytes), acts, and writes its text or the line of its fault. Answers the program's status: 0 done, 1 refused, 3 where
 /// memory, the store or a device failed. After a refusal, or where the reader failed, the archive is as before; where the
-/// writer failed the job has acted, and a beginning of its text is written.
+/// writer failed the job has acted, and a beginning of its text is written. A job without an input leaves the reader as it
+/// was, and so waits for nobody.
 pub fn perform<K: Keeper, R: Source, W: Sink>(
     alloc: Global,
     job: Job<'_>,
@@ -34,6 +35,7 @@ pub fn perform<K: Keeper, R: Source, W: Sink>(
     ensures crash { K.is_clean keeper.new → (s : State) (past : List State) → K.stands keeper.old s
         → K.leaves keeper.old past
         → StopsOver (K.leaves keeper.new) past (λ input. Performs job.entry input s) (R.unread reader.old) }
+    ensures alone { has_input job.entry ≡ false → reader.new ≡ reader.old }
 {
     match answer(alloc, job, keeper, reader) {
         Ok(text) => tell(writer, text.bytes(), 0),
@@ -56,6 +58,7 @@ fn answer<K: Keeper, R: Source>(
     ensures crash { K.is_clean keeper.new → (s : State) (past : List State) → K.stands keeper.old s
         → K.leaves keeper.old past
         → StopsOver (K.leaves keeper.new) past (λ input. Performs job.entry input s) (R.unread reader.old) }
+    ensures alone { has_input job.entry ≡ false → reader.new ≡ reader.old }
 {
     let task = task_of(job)?;
     if !task.takes_input() {

@@ -1,7 +1,7 @@
 use Rattle.std.proofs.Common.{◌∙◌, Err, inl, sym, subst}
 use Rattle.tacho_desk.specs.Told.{Answer, answer_of}
 use Rattle.tacho_cli.specs.Office.{Answered, Performs}
-use Rattle.tacho_cli.proofs.OfficeLemmas.{asks_none, done_as, faulty, input_missed, refuses, stops_unasked, unasked}
+use Rattle.tacho_cli.proofs.OfficeLemmas.{asks_none, input_as_task, done_as, faulty, input_missed, refuses, stops_unasked, unasked}
 use Rattle.tacho_cli.proofs.office.answer.Goals as goal
 
 pub returns-in_err-task-clause-answered : goal.returns-in_err-task-clause-answered
@@ -38,3 +38,15 @@ returns-in_err-input-clause-answered g c clean s stands =
     subst (λ (answer : Answer). Answered now s (λ input. Performs c.args.job input s) unread failed answer)
     (sym (faulty c.from_residual-in_err-input.result f c.from_residual-in_err-input.ensures.1))
     (input_missed now s c.args.job c.in_ok-task.task unread failed f stands c.in_ok-task.ensures (sym c.takes_input.ensures ∙ c.if-not-takes_input.false) c.in_err-input.ensures)
+
+pub returns-in_err-input-clause-alone : goal.returns-in_err-input-clause-alone
+returns-in_err-input-clause-alone g c = λ none.
+    let is = input_as_task c.args.job c.in_ok-task.task c.in_ok-task.ensures in
+    let one = sym c.takes_input.ensures ∙ c.if-not-takes_input.false in
+    absurd (cc)
+
+pub returns-clause-alone : goal.returns-clause-alone
+returns-clause-alone g c = λ none.
+    let is = input_as_task c.args.job c.in_ok-task.task c.in_ok-task.ensures in
+    let one = sym c.takes_input.ensures ∙ c.if-not-takes_input.false in
+    absurd (cc)
