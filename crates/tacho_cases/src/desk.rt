@@ -132,7 +132,7 @@ fn jobs_without_an_input_ask_no_reader(rt: HostRuntime) -> Result<(), Fail> {
         let mut writer = Device::new(Vec::new(rt.alloc()));
         let status = performed(rt.alloc(), &mut shelf, *job, &mut reader, &mut writer)?;
         assert!(rt; status == 0, "{status} of {job:?}");
-        assert!(rt; !reader.failed(), "{job:?}");
+        assert!(rt; !Source::failed(&reader), "{job:?}");
     }
     Ok(())
 }
