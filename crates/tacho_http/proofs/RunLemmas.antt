@@ -53,8 +53,8 @@ went stands office None old new r w result s h e f a b c d = cc
 went stands office (Some input) old new r w (Ok served) s h e f a b c d =
     let x = a input refl in (x.after, x.now, inl (refl, not_true r (λ k. let no_fault = e.1 k in cc), not_true w (λ k. let no_fault = f.1 k in cc), (x.reply, x.reacts, x.wrote.1)))
 went stands office (Some input) old new r w (Err io.Write) s h e f a b c d =
-    let x = b input refl refl in (x.after, x.now, inr (inl (refl, f.0 refl, (x.reply, x.reacts, x.wrote))))
-went stands office (Some input) old new r w (Err io.Read) s h e f a b c d = (s, c refl, inr (inr (refl, e.0 refl, refl, d refl)))
+    let x = b input refl refl in (x.after, x.now, inr (inl (refl, not_true r (λ k. let no_fault = e.1 k in cc), f.0 refl, (x.reply, x.reacts, x.wrote))))
+went stands office (Some input) old new r w (Err io.Read) s h e f a b c d = (s, c refl, inr (inr (refl, e.0 refl, not_true w (λ k. let no_fault = f.1 k in cc), refl, d refl)))
 
 pub counts_one : (result : Result Served IoFault) → is_ok result ≡ true → counted result ≡ 1
 counts_one (Ok served) e = refl
