@@ -350,6 +350,43 @@ fn the_leftmost_bad_column_is_told(rt: HostRuntime) -> Result<(), Fail> {
 }
 
 #[test]
+fn of_two_bad_columns_the_left_one_is_told(rt: HostRuntime) -> Result<(), Fail> {
+    let alloc = rt.alloc();
+    let holder = "0d4431303030303030303037303031";
+    let capitals = "0D4431303030303030303037303031";
+    // Of fourteen bytes.
+    let short = "0d44313030303030303030373030";
+    let key = "anna-key-1";
+    let day = "2024-03-04";
+    let rows = [
+        ("017", "", key, day, "Anna", Column::Driver),
+        ("017", holder, "anna", day, "Anna", Column::Driver),
+        ("017", holder, key, "Monday", "Anna", Column::Driver),
+        ("017", holder, key, day, "", Column::Driver),
+        ("17", "", "anna", day, "Anna", Column::Holder),
+        ("17", "", key, "Monday", "Anna", Column::Holder),
+        ("17", "", key, day, "", Column::Holder),
+        ("17", holder, "anna", "Monday", "Anna", Column::Key),
+        ("17", holder, "anna", day, "", Column::Key),
+        ("17", holder, key, "Monday", "", Column::Base),
+        ("17", capitals, "anna", day, "Anna", Column::Holder),
+        ("17", capitals, key, "Monday", "Anna", Column::Holder),
+        ("17", capitals, key, day, "", Column::Holder),
+        ("17", short, "anna", day, "Anna", Column::Holder),
+        ("17", short, key, "Monday", "Anna", Column::Holder),
+        ("17", short, key, day, "", Column::Holder),
+    ];
+    for (number, holder, key, base, name, column) in rows {
+        let text = format!(in alloc;
+            "driver,holder,key,base,name\n{number},{holder},{key},{base},{name}\n"
+        )?;
+        let fault = SheetFault::Column(column);
+        assert_same(&rt, driver_fault_of(alloc, &text)?, Some(fault));
+    }
+    Ok(())
+}
+
+#[test]
 fn numbers_are_read(rt: HostRuntime) -> Result<(), Fail> {
     let rows = [
         ("1", Some(1)),

@@ -8,3 +8,4 @@ pub mod AmountLemmas
 pub mod SheetLemmas
 pub mod MarkLemmas
 pub mod OneLemmas
+mod PageFacts

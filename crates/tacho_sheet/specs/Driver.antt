@@ -35,16 +35,17 @@ pub record Five : Type 0 where
 -- the texts say this, each within its column's limits
 pub record IsDriverText (f : Five) (r : Registration) : Type 0 where
   pub driver : IsNumberText 999999 f.driver r.number
-  pub holder : f.holder ≡ encode_lower r.holder
-  pub key : (r.key ≡ f.key) × IsKey r.key
+  pub holder : (length r.holder ≡ 15) × IsBytes r.holder × (f.holder ≡ encode_lower r.holder)
+  pub key : (r.key ≡ f.key) × IsKeyText r.key
   pub base : day_at f.base ≡ Ok r.base
-  pub name : (r.name ≡ f.name) × IsName r.name
+  pub name : (r.name ≡ f.name) × IsNameText r.name
 
 abbrev pub HasNumber : List ℕ → Type 0
 HasNumber text = (n : ℕ) × IsNumberText 999999 text n
 
+-- fifteen bytes are written so
 abbrev pub HasHolder : List ℕ → Type 0
-HasHolder text = (holder : List ℕ) × (text ≡ encode_lower holder)
+HasHolder text = (holder : List ℕ) × (length holder ≡ 15) × IsBytes holder × (text ≡ encode_lower holder)
 
 abbrev pub HasDay : List ℕ → Type 0
 HasDay text = (day : ℕ) × (day_at text ≡ Ok day)

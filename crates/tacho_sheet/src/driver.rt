@@ -1,7 +1,7 @@
-ghost use Rattle.std.specs.Prelude.{◌≡◌, ◌⊎◌, None, Some, ◌&&◌, IsErrAnd, MatchOption, MatchResult, bytes_eq, codes, map};
+ghost use Rattle.std.specs.Prelude.{◌≡◌, ◌⊎◌, None, Some, ◌&&◌, IfSome, IsErrAnd, MatchOption, MatchResult, bytes_eq, codes, length, map};
 ghost use Rattle.tacho_time.specs.OrMemory.{OrMemory};
 ghost use Rattle.csv.specs.Records.{fields_of};
-ghost use Rattle.hex.specs.Hex.{encode_lower};
+ghost use Rattle.hex.specs.Hex.{IsBytes, encode_lower};
 ghost use Rattle.tacho_state.specs.Limits.{IsKey, IsName};
 ghost use Rattle.tacho_state.specs.Registration.{IsRegistration};
 ghost use Rattle.tacho_sheet.specs.Driver.{Five, HasNoHolder, IsColumnFault, IsDriverText, IsKeyText, IsNameText, IsRowAnswer, IsBodyAnswer, IsDriverRead, five_of, is_driver_head, is_driver_head_of};
@@ -17,7 +17,8 @@ use tacho_time::Day;
 
 /// The holder that thirty hexadecimal digits write, without capitals.
 pub fn read_holder(text: &[u8]) -> Option<[u8; 15]>
-    ensures { MatchOption result (HasNoHolder text.now) (λ holder. text.now ≡ encode_lower holder) }
+    ensures text { MatchOption result (HasNoHolder text.now) (λ holder. text.now ≡ encode_lower holder) }
+    ensures bytes { IfSome result (λ holder. (length holder ≡ 15) × IsBytes holder) }
 {
     let mut holder = [0; 15];
     let Ok(()) = hex::decode_to_slice(text, &mut holder) else {
