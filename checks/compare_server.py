@@ -763,15 +763,19 @@ WORDS = [
 
 
 def of_words(program):
-    """The comparisons of words with which no server begins: all but a text of usage stands on standard output."""
-    with tempfile.TemporaryDirectory() as folder, socket.create_server((HOST, 0)) as other:
+    """The comparisons of words with which no server begins: all but a text of usage stands on standard output, and where that is full,
+    the status is 3."""
+    with tempfile.TemporaryDirectory() as folder, socket.create_server((HOST, 0)) as other, open("/dev/full", "wb") as full:
         desk = compare_office.Desk(program, folder)
         desk.prepare(compare_office.WITH_ANNA)
         taken = str(other.getsockname()[1])
         for words, (text, status) in WORDS:
             named = {"PATH": desk.path, "NONE": f"{desk.path}.none", "PORT": str(free_port()), "TAKEN": taken}
-            told, code, errors = compare_office.told_by([program, "serve", *[named.get(word, word) for word in words]])
+            given = [program, "serve", *[named.get(word, word) for word in words]]
+            told, code, errors = compare_office.told_by(given)
             yield f"serve {words}", (told, code, bool(errors)), (text, status, status == 2)
+            code = subprocess.run(given, stdin=subprocess.DEVNULL, stdout=full, stderr=subprocess.DEVNULL).returncode
+            yield f"serve {words}, to a full device", code, 2 if status == 2 else 3
         yield desk.tables("after words with which no server begins")
 
 

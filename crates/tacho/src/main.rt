@@ -3,6 +3,7 @@
 
 mod archive;
 mod serve;
+mod timed;
 
 use std::env;
 use std::io::{self, ErrorKind};
