@@ -4,6 +4,7 @@ use std::alloc::{AllocError, Global};
 use std::process::Abort;
 use std::test::Fail;
 use tacho_cli::{Job, Usage, dump, holder, parse};
+use tacho_desk::{MonthReading, Reading, Want};
 use tacho_time::Device;
 
 /// Two days: rest, work and drive on 4 March 2024, and rest on the 5th, whose last word is still open.
@@ -287,89 +288,110 @@ static JOBS: [(&[&str], Job<'static>); 17] = [
     (&["tacho", "init", "a.db"], Job::Init { archive: "a.db" }),
     (
         &["tacho", "register", "a.db"],
-        Job::Register { archive: "a.db" },
+        Job::AtDesk {
+            archive: "a.db",
+            want: Want::Register,
+            driver: "",
+            word: "",
+        },
     ),
     (
         &["tacho", "import", "a.db", "second"],
-        Job::Import {
+        Job::AtDesk {
             archive: "a.db",
-            part: "second",
+            want: Want::Import,
+            driver: "",
+            word: "second",
         },
     ),
     (
         &["tacho", "enter", "a.db", "17"],
-        Job::Enter {
+        Job::AtDesk {
             archive: "a.db",
+            want: Want::Enter,
             driver: "17",
+            word: "",
         },
     ),
     (
         &["tacho", "withdraw", "a.db", "17", "3"],
-        Job::Withdraw {
+        Job::AtDesk {
             archive: "a.db",
+            want: Want::Withdraw,
             driver: "17",
-            number: "3",
+            word: "3",
         },
     ),
     (
         &["tacho", "base", "a.db", "17", "2024-03-11"],
-        Job::Base {
+        Job::AtDesk {
             archive: "a.db",
+            want: Want::Base,
             driver: "17",
-            date: "2024-03-11",
+            word: "2024-03-11",
         },
     ),
     (
         &["tacho", "spans", "a.db", "17", "2024-03"],
-        Job::Spans {
+        Job::AtDesk {
             archive: "a.db",
+            want: Want::MonthReading(MonthReading::Spans),
             driver: "17",
-            month: "2024-03",
+            word: "2024-03",
         },
     ),
     (
         &["tacho", "gaps", "a.db", "17", "2024-03"],
-        Job::Gaps {
+        Job::AtDesk {
             archive: "a.db",
+            want: Want::MonthReading(MonthReading::Gaps),
             driver: "17",
-            month: "2024-03",
+            word: "2024-03",
         },
     ),
     (
         &["tacho", "sheet", "a.db", "17", "2024-03"],
-        Job::Sheet {
+        Job::AtDesk {
             archive: "a.db",
+            want: Want::MonthReading(MonthReading::Sheet),
             driver: "17",
-            month: "2024-03",
+            word: "2024-03",
         },
     ),
     (
         &["tacho", "breaches", "a.db", "17"],
-        Job::Breaches {
+        Job::AtDesk {
             archive: "a.db",
+            want: Want::Reading(Reading::Breaches),
             driver: "17",
+            word: "",
         },
     ),
     (
         &["tacho", "owed", "a.db", "17"],
-        Job::Owed {
+        Job::AtDesk {
             archive: "a.db",
+            want: Want::Reading(Reading::Owed),
             driver: "17",
+            word: "",
         },
     ),
     (
         &["tacho", "entries", "a.db", "17"],
-        Job::Entries {
+        Job::AtDesk {
             archive: "a.db",
+            want: Want::Reading(Reading::Entries),
             driver: "17",
+            word: "",
         },
     ),
     (
         &["tacho", "file", "a.db", "17", "3"],
-        Job::File {
+        Job::AtDesk {
             archive: "a.db",
+            want: Want::File,
             driver: "17",
-            number: "3",
+            word: "3",
         },
     ),
     (

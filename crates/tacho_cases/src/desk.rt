@@ -6,6 +6,7 @@ use crate::faulty::Faulty;
 use std::alloc::Global;
 use std::test::Fail;
 use tacho_cli::{Job, perform};
+use tacho_desk::{MonthReading, Reading, Want};
 use tacho_shelf::Shelf;
 use tacho_time::{Device, Sink, Source};
 
@@ -15,24 +16,33 @@ type Case = (Job<'static>, &'static [u8], &'static str, &'static str);
 /// Jobs that read, one after the other.
 static CASES: [Case; 3] = [
     (
-        Job::Register { archive: "a.db" },
+        Job::AtDesk {
+            archive: "a.db",
+            want: Want::Register,
+            driver: "",
+            word: "",
+        },
         b"driver,holder,key,base,name\n17,0d4431323334353637383930313233,anna-key-1,2024-03-04,Anna Berg\n",
         "registered 17\n",
         "S1 driver taken\n",
     ),
     (
-        Job::Import {
+        Job::AtDesk {
             archive: "a.db",
-            part: "both",
+            want: Want::Import,
+            driver: "",
+            word: "both",
         },
         b"\x05\x20\x00\x00\x11\x0dD123456789012300\x05\x04\x00\x00\x28\x00\x00\x00\x14\x00\x00\x00\x14\x65\xe5\x0f\x00\x00\x01\x00\x64\x00\x00\x11\xe0\x19\xfe\x23\xfc\x00\x14\x00\x10\x65\xe6\x60\x80\x00\x02\x00\x00\x00\x00\x11\xe0",
         "added driver 17 number 1\n",
         "repeated driver 17\n",
     ),
     (
-        Job::Enter {
+        Job::AtDesk {
             archive: "a.db",
+            want: Want::Enter,
             driver: "17",
+            word: "",
         },
         b"start,past,activity\n2024-03-06 00:00,2024-03-06 08:00,rest\n",
         "entered 1 to 1\n",
@@ -80,47 +90,59 @@ fn archive_after(alloc: Global, count: usize) -> Result<Shelf, Fail> {
 
 /// Jobs that have no input.
 static WITHOUT_INPUT: [Job<'static>; 9] = [
-    Job::Base {
+    Job::AtDesk {
         archive: "a.db",
+        want: Want::Base,
         driver: "17",
-        date: "2024-03-04",
+        word: "2024-03-04",
     },
-    Job::Spans {
+    Job::AtDesk {
         archive: "a.db",
+        want: Want::MonthReading(MonthReading::Spans),
         driver: "17",
-        month: "2024-03",
+        word: "2024-03",
     },
-    Job::Gaps {
+    Job::AtDesk {
         archive: "a.db",
+        want: Want::MonthReading(MonthReading::Gaps),
         driver: "17",
-        month: "2024-03",
+        word: "2024-03",
     },
-    Job::Sheet {
+    Job::AtDesk {
         archive: "a.db",
+        want: Want::MonthReading(MonthReading::Sheet),
         driver: "17",
-        month: "2024-03",
+        word: "2024-03",
     },
-    Job::Breaches {
+    Job::AtDesk {
         archive: "a.db",
+        want: Want::Reading(Reading::Breaches),
         driver: "17",
+        word: "",
     },
-    Job::Owed {
+    Job::AtDesk {
         archive: "a.db",
+        want: Want::Reading(Reading::Owed),
         driver: "17",
+        word: "",
     },
-    Job::Entries {
+    Job::AtDesk {
         archive: "a.db",
+        want: Want::Reading(Reading::Entries),
         driver: "17",
+        word: "",
     },
-    Job::File {
+    Job::AtDesk {
         archive: "a.db",
+        want: Want::File,
         driver: "17",
-        number: "1",
+        word: "1",
     },
-    Job::Withdraw {
+    Job::AtDesk {
         archive: "a.db",
+        want: Want::Withdraw,
         driver: "17",
-        number: "1",
+        word: "1",
     },
 ];
 

@@ -2,3 +2,4 @@ mod CommandLemmas
 mod OfficeLemmas
 mod WordsLemmas
 mod TableLemmas
+mod PageFacts

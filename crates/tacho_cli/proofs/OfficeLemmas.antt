@@ -1,32 +1,26 @@
--- What a job at an archive leaves, by what its parts did.
-use Rattle.std.proofs.Common.{◌≡◌, ℕ, ◌<◌, ◌≤◌, inl, inr, ◌↔◌, Bool, true, false, List, [], Option, Result, Ok, Err, length, refl, sym, ap, subst, arith}
-use Rattle.std.proofs.Common.{◌∙◌, None, Some}
+-- What is wanted of the office's archive leaves, by what its parts did.
+use Rattle.std.proofs.Common.{◌≡◌, ℕ, ◌<◌, ◌≤◌, ◌⊎◌, inl, inr, ◌↔◌, Bool, true, false, List, [], length}
+use Rattle.std.proofs.Common.{Option, Result, Ok, Err, refl, sym, ap, subst, arith}
 use Rattle.std.proofs.lemmas.List.{length-replicate}
 use Rattle.std.specs.Prelude.{IfSome, IsErrAnd, replicate}
-use Rattle.tacho_time.specs.Reading.{day_at, month_at}
-use Rattle.tacho_time.specs.declared.fault.TimeFault.{TimeFault}
 use Rattle.tacho_time.specs.declared.whole.ReadFault.{ReadFault}
 use Rattle.tacho_time.specs.declared.whole.ReadFault.TheVariants as read
-use Rattle.tacho_card.specs.declared.file.Part.{Part}
 use Rattle.tacho_state.specs.State.{State}
 use Rattle.tacho_state.specs.declared.caller.Caller.TheVariants as caller
 use Rattle.tacho_sheet.specs.declared.fault.Fault.TheVariants as told
-use Rattle.tacho_desk.specs.Doing.{Doing, Done, Stops}
-use Rattle.tacho_desk.specs.Fault.{read_fault}
-use Rattle.tacho_desk.specs.Tasks.{Does, takes_input}
-use Rattle.tacho_desk.specs.Told.{Answer, Told as Written, answer_of}
-use Rattle.tacho_desk.specs.Words.{Wanted, ByNumber, IsAbout, by_part, by_time, most_driver, most_number, part_of}
+use Rattle.tacho_desk.specs.Doing.{AsksOnly, Doing, Done, IsKept, Serves, Stops}
+use Rattle.tacho_desk.specs.Fault.{IsGivenUp, read_fault}
+use Rattle.tacho_desk.specs.Tasks.{Does, IsFaulty, IsSound, want_of}
+use Rattle.tacho_desk.specs.Told.{Answer, answer_of}
+use Rattle.tacho_desk.specs.Wants.{is_command, takes_input}
+use Rattle.tacho_desk.specs.Words.{IsTask, Wanted}
 use Rattle.tacho_desk.specs.declared.fault.Fault.{Fault}
 use Rattle.tacho_desk.specs.declared.fault.Fault.TheVariants as fault
-use Rattle.tacho_desk.specs.declared.matter.Matter.TheVariants as matter
 use Rattle.tacho_desk.specs.declared.task.Task.{Task}
 use Rattle.tacho_desk.specs.declared.task.Task.TheVariants as task
 use Rattle.tacho_desk.specs.declared.text.Text.{Text}
-use Rattle.tacho_cli.specs.Command.{IsWrittenOut, fault_reply}
-use Rattle.tacho_cli.specs.Office.{Answered, DoesOver, HasNotRead, HasRead, IsTaskOf, Performed, Performs, StopsOver, reply_to}
-use Rattle.tacho_cli.specs.Words.{has_input}
-use Rattle.tacho_cli.specs.declared.job.Job.{Job}
-use Rattle.tacho_cli.specs.declared.job.Job.TheVariants as job
+use Rattle.tacho_desk.specs.declared.want.Want.{Want}
+use Rattle.tacho_cli.specs.Office.{AreFaulty, AreSound, DoesOver, HasNotRead, HasRead, IsFaultyOver, IsSoundOver, Performed, Performs}
 use Rattle.tacho_cli.proofs.CommandLemmas.{any_input, some_input}
 
 -- the answer of a result that is this fault
@@ -34,151 +28,206 @@ pub faulty : (result : Result Text Fault) (f : Fault) → IsErrAnd result (λ e.
 faulty (Err e) f h = ap Err h
 faulty (Ok text) f h = absurd h
 
--- one meaning for another
-pub done_as : (stands : State → Type 0) (s : State) (A B : Doing) (answer : Answer) → ((answer : Answer) (after : State) → A answer after → B answer after)
+-- why an input was not read
+pub not_read : (unread : Option (List ℕ)) (failed : Bool) (f : ReadFault) → (f ≡ read.TooLarge → IfSome unread (λ all. 262144 < length all))
+    → (f ≡ read.Failed) ↔ (failed ≡ true) → HasNotRead unread failed (read_fault f)
+not_read unread failed read.TooLarge large is = (large refl, λ e. let no = is.1 e in cc)
+not_read unread failed read.Failed large is = is.0 refl
+not_read unread failed read.Memory large is = λ e. let no = is.1 e in cc
+
+-- ---- one meaning for another
+
+-- of what was done
+done_as : (stands : State → Type 0) (s : State) (A B : Doing) (answer : Answer)
+    → ((answer : Answer) (after : State) → A answer after → B answer after)
     → Done stands s A answer → Done stands s B answer
 done_as stands s A B (Ok told) h d = (d.0, d.1, h (Ok told) d.0 d.2)
 done_as stands s A B (Err f) h (st, inl d) = (st, inl (h (Err f) s d))
 done_as stands s A B (Err f) h (st, inr g) = (st, inr g)
 
--- why an input was not read
-pub not_read : (unread : Option (List ℕ)) (failed : Bool) (f : ReadFault) → (f ≡ read.TooLarge → IfSome unread (λ all. 262144 < length all)) → (f ≡ read.Failed) ↔ (failed ≡ true)
-    → HasNotRead unread failed (read_fault f)
-not_read unread failed read.TooLarge large is = (large refl, λ e. let no = is.1 e in cc)
-not_read unread failed read.Failed large is = is.0 refl
-not_read unread failed read.Memory large is = λ e. let no = is.1 e in cc
+-- of what is kept
+kept_as : (stands : State → Type 0) (leaves : List State → Type 0) (A B : Doing) (answer : Answer)
+    → ((answer : Answer) (after : State) → A answer after → B answer after)
+    → IsKept stands leaves A answer → IsKept stands leaves B answer
+kept_as stands leaves A B (Ok told) h d = (d.0, d.1, h (Ok told) d.0 d.2, d.3)
+kept_as stands leaves A B (Err f) h d = tt
+
+-- of what a stop leaves
+stops_as : (leaves : List State → Type 0) (past : List State) (A B : Doing) (answer : Answer)
+    → ((answer : Answer) (after : State) → A answer after → B answer after)
+    → Stops leaves past A answer → Stops leaves past B answer
+stops_as leaves past A B (Ok told) h (inl l) = inl l
+stops_as leaves past A B (Ok told) h (inr a) = inr (a.0, h (Ok told) a.0 a.1, a.2)
+stops_as leaves past A B (Err f) h (inl l) = inl l
+stops_as leaves past A B (Err f) h (inr a) = inr (a.0, (a.1.0, a.1.1, h a.1.0 a.1.1 a.1.2, a.1.3))
 
 -- ---- tasks
 
--- a task that a word's number or time gives has an input or none, whatever the word
-by_number : (most : ℕ) (text : List ℕ) (Is : ℕ → Wanted → Type 0) (t : Task) (b : Bool)
-    → ((n : ℕ) → Is n (Ok t) → takes_input t ≡ b) → ByNumber most text Is (Ok t) → takes_input t ≡ b
-by_number most text Is t b each (inl (none, e)) = absurd (cc)
-by_number most text Is t b each (inr (n, is, h)) = each n h
+-- the task of words whose bytes are these
+pub of_bytes : (w : Want) (wanted : Wanted) (a b driver word : List ℕ) → a ≡ driver → b ≡ word → IsTask w caller.Office a b wanted
+    → IsTask w caller.Office driver word wanted
+of_bytes w wanted a b driver word same also is =
+    subst (λ (d : List ℕ). IsTask w caller.Office d word wanted) same (subst (λ (x : List ℕ). IsTask w caller.Office a x wanted) also is)
 
-in_time : (r : Result ℕ TimeFault) (make : ℕ → Task) (t : Task) → ((n : ℕ) → takes_input (make n) ≡ false)
-    → Ok t ≡ by_time r (λ n. Ok (make n)) → takes_input t ≡ false
-in_time (Err f) make t none e = absurd (cc)
-in_time (Ok n) make t none e = let is : t ≡ make n = cc in ap takes_input is ∙ none n
+-- a task that takes no input has none that could have a fault
+sound_without : (t : Task) (input : List ℕ) → takes_input (want_of t) ≡ false → IsSound t input
+sound_without task.Register input e = absurd (cc)
+sound_without (task.Import caller part) input e = absurd (cc)
+sound_without (task.Enter n) input e = absurd (cc)
+sound_without (task.Withdraw n number) input e = tt
+sound_without (task.Base n day) input e = tt
+sound_without (task.Reading n text) input e = tt
+sound_without (task.MonthReading n m text) input e = tt
+sound_without (task.File n number) input e = tt
 
-abbrev IsThis : Task → Wanted → Type 0
-IsThis u wanted = wanted ≡ Ok u
+-- what is wanted, by its words, and by whether the reader failed
+module _ (w : Want) (driver word : List ℕ) (unread : Option (List ℕ)) (failed : Bool) where
+  -- what the task does over no input is what is wanted
+  does_without : (t : Task) (input : List ℕ) (s : State) (answer : Answer) (after : State) → IsTask w caller.Office driver word (Ok t)
+      → takes_input w ≡ false → Does t [] s answer after → Performs w driver word input s answer after
+  does_without t input s answer after is none does =
+      (Ok t, is, subst (λ (b : Bool). DoesOver b t input s answer after) (sym none) does)
 
-as_it_is : (t u : Task) → IsThis u (Ok t) → takes_input t ≡ takes_input u
-as_it_is t u e = let is : t ≡ u = cc in ap takes_input is
+  -- and over an input that was read
+  does_over : (t : Task) (input : List ℕ) (s : State) (answer : Answer) (after : State) → IsTask w caller.Office driver word (Ok t)
+      → takes_input w ≡ true → length input ≤ 262144 → Does t input s answer after → Performs w driver word input s answer after
+  does_over t input s answer after is one within does =
+      (Ok t, is, subst (λ (b : Bool). DoesOver b t input s answer after) (sym one) (inr (within, does)))
 
--- a job's task has an input where the job has one
-pub input_as_task : (j : Job) (t : Task) → IsTaskOf j (Ok t) → takes_input t ≡ has_input j
-input_as_task (job.Register archive) t is = as_it_is t task.Register is
-input_as_task (job.Import archive p) t is = of_part (part_of p.now) is where
-  of_part : (part : Option Part) → Ok t ≡ by_part part (λ p. task.Import caller.Office p) → takes_input t ≡ true
-  of_part None e = absurd (cc)
-  of_part (Some p) e = as_it_is t (task.Import caller.Office p) e
-input_as_task (job.Enter archive driver) t is = by_number most_driver driver.now
-    (λ n. IsAbout matter.Enter n []) t true (λ n e. as_it_is t (task.Enter n) e) is
-input_as_task (job.Withdraw archive driver number) t is = by_number most_driver driver.now
-    (λ n. IsAbout matter.Withdraw n number.now) t false
-    (λ n. by_number most_number number.now (λ k w. w ≡ Ok (task.Withdraw n k)) t false
-    (λ k e. as_it_is t (task.Withdraw n k) e)) is
-input_as_task (job.Base archive driver date) t is = by_number most_driver driver.now
-    (λ n. IsAbout matter.Base n date.now) t false
-    (λ n e. in_time (day_at date.now) (λ day. task.Base n day) t (λ day. refl) e) is
-input_as_task (job.Spans archive driver month) t is = by_number most_driver driver.now
-    (λ n. IsAbout matter.Spans n month.now) t false
-    (λ n e. in_time (month_at month.now) (λ m. task.Spans n m) t (λ m. refl) e) is
-input_as_task (job.Gaps archive driver month) t is = by_number most_driver driver.now
-    (λ n. IsAbout matter.Gaps n month.now) t false
-    (λ n e. in_time (month_at month.now) (λ m. task.Gaps n m) t (λ m. refl) e) is
-input_as_task (job.Sheet archive driver month) t is = by_number most_driver driver.now
-    (λ n. IsAbout matter.Sheet n month.now) t false
-    (λ n e. in_time (month_at month.now) (λ m. task.Sheet n m) t (λ m. refl) e) is
-input_as_task (job.Breaches archive driver) t is = by_number most_driver driver.now
-    (λ n. IsAbout matter.Breaches n []) t false (λ n e. as_it_is t (task.Breaches n) e) is
-input_as_task (job.Owed archive driver) t is = by_number most_driver driver.now
-    (λ n. IsAbout matter.Owed n []) t false (λ n e. as_it_is t (task.Owed n) e) is
-input_as_task (job.Entries archive driver) t is = by_number most_driver driver.now
-    (λ n. IsAbout matter.Entries n []) t false (λ n e. as_it_is t (task.Entries n) e) is
-input_as_task (job.File archive driver number) t is = by_number most_driver driver.now
-    (λ n. IsAbout matter.File n number.now) t false
-    (λ n. by_number most_number number.now (λ k w. w ≡ Ok (task.File n k)) t false
-    (λ k e. as_it_is t (task.File n k) e)) is
-input_as_task job.Dump t is = absurd is
-input_as_task job.Holder t is = absurd is
-input_as_task (job.Init archive) t is = absurd is
-input_as_task (job.Serve archive key port count) t is = absurd is
+  -- X1
+  too_large : (t : Task) (input : List ℕ) (s : State) → IsTask w caller.Office driver word (Ok t) → takes_input w ≡ true
+      → 262144 < length input → Performs w driver word input s (Err (fault.Told told.TooLarge)) s
+  too_large t input s is one large =
+      (Ok t, is, subst (λ (b : Bool). DoesOver b t input s (Err (fault.Told told.TooLarge)) s) (sym one) (inl (large, refl, refl)))
 
--- a job whose words are wrong is refused
-pub refuses : (j : Job) (f : Fault) (input : List ℕ) (s : State) → IsTaskOf j (Err f) → Performs j input s (Err f) s
-refuses j f input s is = (Err f, is, (refl, refl))
+  large_is_faulty : (t : Task) (input : List ℕ) → IsTask w caller.Office driver word (Ok t) → takes_input w ≡ true → 262144 < length input
+      → AreFaulty w driver word input (fault.Told told.TooLarge)
+  large_is_faulty t input is one large =
+      (Ok t, is, subst (λ (b : Bool). IsFaultyOver b t input (fault.Told told.TooLarge)) (sym one) (inl (large, refl)))
 
--- what a task does over no input, and over one, its job does
-pub asks_none : (j : Job) (t : Task) (input : List ℕ) (s : State) (answer : Answer) (after : State) → IsTaskOf j (Ok t) → takes_input t ≡ false
-    → Does t [] s answer after → Performs j input s answer after
-asks_none j t input s answer after is none does = (Ok t, is, subst (λ (b : Bool). DoesOver b t input s answer after) (sym none) does)
+  -- the archive is asked about an input that is sound, or not at all
+  asks_over : {K : Type 0} (old new : K) (t : Task) (input : List ℕ) (answer : Answer) → IsTask w caller.Office driver word (Ok t)
+      → takes_input w ≡ true → length input ≤ 262144 → AsksOnly old new (IsSound t input) (IsFaulty t input) answer
+      → AsksOnly old new (AreSound w driver word input) (AreFaulty w driver word input) answer
+  asks_over old new t input answer is one within (inl sound) =
+      inl (t, is, subst (λ (b : Bool). IsSoundOver b t input) (sym one) (within, sound))
+  asks_over old new t input (Ok told) is one within (inr (same, h)) = absurd h
+  asks_over old new t input (Err f) is one within (inr (same, inr memory)) = inr (same, inr memory)
+  asks_over old new t input (Err f) is one within (inr (same, inl h)) =
+      inr (same, inl (Ok t, is, subst (λ (b : Bool). IsFaultyOver b t input f) (sym one) (inr (within, h))))
 
-pub asks_one : (j : Job) (t : Task) (input : List ℕ) (s : State) (answer : Answer) (after : State) → IsTaskOf j (Ok t) → takes_input t ≡ true → length input ≤ 262144
-    → Does t input s answer after → Performs j input s answer after
-asks_one j t input s answer after is one within does = (Ok t, is, subst (λ (b : Bool). DoesOver b t input s answer after) (sym one) (inr (within, does)))
+  -- at an archive
+  module _ {K : Type 0} (stands : K → State → Type 0) (is_clean is_live : K → Type 0) (leaves : K → List State → Type 0) where
+    -- what a call does
+    served_as : (old new : K) (command : Bool) (answer : Answer) (A B : State → Doing)
+        → ((s : State) (answer : Answer) (after : State) → A s answer after → B s answer after)
+        → Serves stands is_clean is_live leaves old new command answer A → Serves stands is_clean is_live leaves old new command answer B
+    served_as old new command answer A B h d = record {
+      clean = d.clean;
+      live = d.live;
+      done = λ clean s st. done_as (stands new) s (A s) (B s) answer (h s) (d.done clean s st);
+      kept = λ is clean s st. kept_as (stands new) (leaves new) (A s) (B s) answer (h s) (d.kept is clean s st);
+      crash = λ clean s past st l. stops_as (leaves new) past (A s) (B s) answer (h s) (d.crash clean s past st l);
+    }
 
-too_large : (j : Job) (t : Task) (input : List ℕ) (s : State) → IsTaskOf j (Ok t) → takes_input t ≡ true → 262144 < length input
-    → Performs j input s (Err (fault.Told told.TooLarge)) s
-too_large j t input s is one large =
-    (Ok t, is, subst (λ (b : Bool). DoesOver b t input s (Err (fault.Told told.TooLarge)) s) (sym one) (inl (large, refl, refl)))
+    -- nothing was done, since this fault is wanted, or memory failed
+    nothing : (keeper : K) (command : Bool) (f : Fault) (Does : State → Doing) → ((s : State) → Does s (Err f) s ⊎ IsGivenUp f)
+        → Serves stands is_clean is_live leaves keeper keeper command (Err f) Does
+    nothing keeper command f Does h = record {
+      clean = λ clean. clean;
+      live = λ clean. tt;
+      done = λ clean s st. (st, h s);
+      kept = λ is clean s st. tt;
+      crash = λ clean s past st l. inl l;
+    }
 
--- the job of an input that was not read
-pub not_answered : (stands : State → Type 0) (s : State) (Does : List ℕ → Doing) (unread : Option (List ℕ)) (failed : Bool) (f : Fault) → stands s
-    → ((input : List ℕ) → 262144 < length input → Does input (Err (fault.Told told.TooLarge)) s) → HasNotRead unread failed f
-    → Answered stands s Does unread failed (Err f)
-not_answered stands s Does unread failed (fault.Told told.TooLarge) st large h =
-    let i = some_input (λ input. 262144 < length input) unread (replicate 262145 0) h.0 (simp length-replicate (omega arith)) in
-    inr (h.1, record { input = i.input; read = i.told; done = (st, inl (large i.input i.holds)) })
-not_answered stands s Does unread failed fault.Device st large h = inl (h, refl, st)
-not_answered stands s Does unread failed fault.Memory st large h =
-    let i = any_input unread in inr (h, record { input = i.input; read = i.told; done = (st, inr tt) })
-not_answered stands s Does unread failed (fault.Told (told.Time f)) st large h = absurd h
-not_answered stands s Does unread failed (fault.Told (told.Card f)) st large h = absurd h
-not_answered stands s Does unread failed (fault.Told (told.Store f)) st large h = absurd h
-not_answered stands s Does unread failed (fault.Told (told.Sheet f)) st large h = absurd h
-not_answered stands s Does unread failed (fault.Told told.Number) st large h = absurd h
-not_answered stands s Does unread failed (fault.Told told.Part) st large h = absurd h
+    -- the words were refused
+    pub refused_words : (keeper : K) (f : Fault) → failed ≡ false → IsTask w caller.Office driver word (Err f)
+        → Performed stands is_clean is_live leaves keeper keeper w driver word unread failed (Err f)
+    refused_words keeper f sound is =
+        let i = any_input unread in
+        record {
+          input = i.input;
+          read = i.told;
+          device = λ e. absurd (cc);
+          serves = λ _. nothing keeper (is_command w) f (Performs w driver word i.input) (λ s. inl (Err f, is, (refl, refl)));
+          asks = λ _. inr (refl, inl (Err f, is, refl));
+        }
 
--- the job of an input that was read
-pub answered : (stands : State → Type 0) (s : State) (Does : List ℕ → Doing) (unread : Option (List ℕ)) (failed : Bool) (input : List ℕ) (answer : Answer)
-    → HasRead unread failed input → Done stands s (Does input) answer → Answered stands s Does unread failed answer
-answered stands s Does unread failed input answer h done = inr (h.sound, record { input = input; read = h.whole; done = done })
+    -- a task that takes no input
+    pub without_input : (old new : K) (answer : Answer) (t : Task) → failed ≡ false → IsTask w caller.Office driver word (Ok t)
+        → want_of t ≡ w → takes_input w ≡ false → Serves stands is_clean is_live leaves old new (is_command (want_of t)) answer (Does t [])
+        → Performed stands is_clean is_live leaves old new w driver word unread failed answer
+    without_input old new answer t sound is same none d =
+        let i = any_input unread in
+        record {
+          input = i.input;
+          read = i.told;
+          device = λ e. absurd (cc);
+          serves = λ _. subst
+              (λ (v : Want). Serves stands is_clean is_live leaves old new (is_command v) answer (Performs w driver word i.input))
+              same (served_as old new (is_command (want_of t)) answer (Does t []) (Performs w driver word i.input)
+              (λ s told after does. does_without t i.input s told after is none does) d);
+          asks = λ _. inl (
+            t,
+            is,
+            subst (λ (b : Bool). IsSoundOver b t i.input) (sym none)
+                (sound_without t [] (subst (λ (v : Want). takes_input v ≡ false) (sym same) none)),
+          );
+        }
 
--- a job that reads no input
-pub unasked : (stands : State → Type 0) (s : State) (Does : List ℕ → Doing) (unread : Option (List ℕ)) (failed : Bool) (answer : Answer)
-    → failed ≡ false → ((input : List ℕ) → Done stands s (Does input) answer) → Answered stands s Does unread failed answer
-unasked stands s Does unread failed answer sound done =
-    let i = any_input unread in inr ((λ e. cc), record { input = i.input; read = i.told; done = done i.input })
+    -- an input that was not read
+    pub unread_input : (keeper : K) (t : Task) (f : Fault) → IsTask w caller.Office driver word (Ok t) → takes_input w ≡ true
+        → HasNotRead unread failed f → Performed stands is_clean is_live leaves keeper keeper w driver word unread failed (Err f)
+    unread_input keeper t (fault.Told told.TooLarge) is one h =
+        let i = some_input (λ input. 262144 < length input) unread (replicate 262145 0) h.0 (simp length-replicate (omega arith)) in
+        record {
+          input = i.input;
+          read = i.told;
+          device = λ e. absurd (h.1 e);
+          serves = λ _. nothing keeper (is_command w) (fault.Told told.TooLarge) (Performs w driver word i.input)
+              (λ s. inl (too_large t i.input s is one i.holds));
+          asks = λ _. inr (refl, inl (large_is_faulty t i.input is one i.holds));
+        }
+    unread_input keeper t fault.Device is one h =
+        let i = any_input unread in
+        record {
+          input = i.input;
+          read = i.told;
+          device = λ _. (refl, refl);
+          serves = λ e. absurd (cc);
+          asks = λ e. absurd (cc);
+        }
+    unread_input keeper t fault.Memory is one h =
+        let i = any_input unread in
+        record {
+          input = i.input;
+          read = i.told;
+          device = λ e. absurd (h e);
+          serves = λ _. nothing keeper (is_command w) fault.Memory (Performs w driver word i.input) (λ s. inr tt);
+          asks = λ _. inr (refl, inr refl);
+        }
+    unread_input keeper t (fault.Told (told.Time f)) is one h = absurd h
+    unread_input keeper t (fault.Told (told.Card f)) is one h = absurd h
+    unread_input keeper t (fault.Told (told.Store f)) is one h = absurd h
+    unread_input keeper t (fault.Told (told.Sheet f)) is one h = absurd h
+    unread_input keeper t (fault.Told told.Number) is one h = absurd h
+    unread_input keeper t (fault.Told told.Part) is one h = absurd h
 
--- the job whose input was not read
-pub input_missed : (stands : State → Type 0) (s : State) (j : Job) (t : Task) (unread : Option (List ℕ)) (failed : Bool) (f : Fault) → stands s
-    → IsTaskOf j (Ok t) → takes_input t ≡ true → HasNotRead unread failed f → Answered stands s (λ input. Performs j input s) unread failed (Err f)
-input_missed stands s j t unread failed f st is one h =
-    not_answered stands s (λ input. Performs j input s) unread failed f st (λ input large. too_large j t input s is one large) h
-
--- what a stop leaves of a job
-pub stops : (leaves : List State → Type 0) (past : List State) (Does : Doing) (DoesJob : List ℕ → Doing) (unread : Option (List ℕ)) (input : List ℕ)
-    → IfSome unread (λ all. input ≡ all) → ((answer : Answer) (after : State) → Does answer after → DoesJob input answer after)
-    → Stops leaves past Does → StopsOver leaves past DoesJob unread
-stops leaves past Does DoesJob unread input read h (inl l) = inl l
-stops leaves past Does DoesJob unread input read h (inr a) = inr (input, read, a.0, a.1, h a.0 a.1 a.2, a.3)
-
--- of one that reads no input
-pub stops_unasked : (leaves : List State → Type 0) (past : List State) (Does : Doing) (DoesJob : List ℕ → Doing) (unread : Option (List ℕ))
-    → ((input : List ℕ) (answer : Answer) (after : State) → Does answer after → DoesJob input answer after)
-    → Stops leaves past Does → StopsOver leaves past DoesJob unread
-stops_unasked leaves past Does DoesJob unread h st =
-    let i = any_input unread in stops leaves past Does DoesJob unread i.input i.told (h i.input) st
-
--- the reply to a text
-pub told_text : (stands : State → Type 0) (s : State) (Does : List ℕ → Doing) (unread : Option (List ℕ)) (reader writer : Bool) (old new : Option (List ℕ)) (status : ℕ) (text : Written)
-    → Answered stands s Does unread reader (Ok text) → IsWrittenOut writer old new (reply_to (Ok text)) status → Performed stands s Does unread reader writer old new status
-told_text stands s Does unread reader writer old new status text answered tells = record { answer = Ok text; answered = answered; told = tells }
-
--- the reply to a fault
-pub told_fault : (stands : State → Type 0) (s : State) (Does : List ℕ → Doing) (unread : Option (List ℕ)) (reader writer : Bool) (old new : Option (List ℕ)) (status : ℕ) (f : Fault)
-    → Answered stands s Does unread reader (Err f) → IsWrittenOut writer old new (fault_reply f) status → Performed stands s Does unread reader writer old new status
-told_fault stands s Does unread reader writer old new status f answered tells = record { answer = Err f; answered = answered; told = tells }
+    -- an input that was read
+    pub over_input : (old new : K) (answer : Answer) (t : Task) (input : List ℕ) → IsTask w caller.Office driver word (Ok t) → want_of t ≡ w
+        → takes_input w ≡ true → HasRead unread failed input
+        → Serves stands is_clean is_live leaves old new (is_command (want_of t)) answer (Does t input)
+        → AsksOnly old new (IsSound t input) (IsFaulty t input) answer
+        → Performed stands is_clean is_live leaves old new w driver word unread failed answer
+    over_input old new answer t input is same one h d asks =
+        record {
+          input = input;
+          read = h.whole;
+          device = λ e. absurd (h.sound e);
+          serves = λ _. subst
+              (λ (v : Want). Serves stands is_clean is_live leaves old new (is_command v) answer (Performs w driver word input))
+              same (served_as old new (is_command (want_of t)) answer (Does t input) (Performs w driver word input)
+              (λ s told after does. does_over t input s told after is one h.within does) d);
+          asks = λ _. asks_over old new t input answer is one h.within asks;
+        }

@@ -1,46 +1,20 @@
 -- What a job at an archive does: its answer to an input, and the state of the archive after it.
-use Rattle.std.specs.Prelude.{◌≡◌, ℕ, ◌<◌, ◌≤◌, ◌⊎◌, ◌∷◌, Bool, true, false, List, [], Option, Ok, Err, IfSome, length}
+use Rattle.std.specs.Prelude.{◌≡◌, ℕ, ◌<◌, ◌≤◌, ◌⊎◌, Bool, true, false, List, [], Option, Ok, Err, IfSome, length}
 use Rattle.tacho_state.specs.State.{State}
 use Rattle.tacho_state.specs.declared.caller.Caller.TheVariants as caller
 use Rattle.tacho_sheet.specs.declared.fault.Fault.TheVariants as told
-use Rattle.tacho_desk.specs.Doing.{Doing, Done, Refuses}
-use Rattle.tacho_desk.specs.Tasks.{Does, takes_input}
+use Rattle.tacho_desk.specs.Doing.{AsksOnly, Doing, Refuses, Serves}
+use Rattle.tacho_desk.specs.Tasks.{Does, IsFaulty, IsSound}
 use Rattle.tacho_desk.specs.Told.{Answer, bytes_of}
-use Rattle.tacho_desk.specs.Words.{Wanted, ByNumber, IsAbout, by_part, most_driver, part_of}
+use Rattle.tacho_desk.specs.Wants.{is_command, takes_input}
+use Rattle.tacho_desk.specs.Words.{IsTask, Wanted}
 use Rattle.tacho_desk.specs.declared.fault.Fault.{Fault}
 use Rattle.tacho_desk.specs.declared.fault.Fault.TheVariants as fault
-use Rattle.tacho_desk.specs.declared.matter.Matter.{Matter}
-use Rattle.tacho_desk.specs.declared.matter.Matter.TheVariants as matter
 use Rattle.tacho_desk.specs.declared.task.Task.{Task}
-use Rattle.tacho_desk.specs.declared.task.Task.TheVariants as task
+use Rattle.tacho_desk.specs.declared.want.Want.{Want}
 use Rattle.tacho_cli.specs.Command.{Reply, fault_reply, IsWrittenOut}
 use Rattle.tacho_cli.specs.declared.job.Job.{Job}
 use Rattle.tacho_cli.specs.declared.job.Job.TheVariants as job
-
--- ---- words
-
--- the task about the driver whose number is a word, with its other word: N1, Z1 to Z3
-abbrev pub IsOfDriver : Matter → List ℕ → List ℕ → Wanted → Type 0
-IsOfDriver m driver word = ByNumber most_driver driver (λ n. IsAbout m n word)
-
--- the task that a job's words want of the office's archive, read from left to right, or the fault of the first that is wrong
-abbrev pub IsTaskOf : Job → Wanted → Type 0
-IsTaskOf (job.Register archive) wanted = wanted ≡ Ok task.Register
-IsTaskOf (job.Import archive part) wanted = wanted ≡ by_part (part_of part.now) (λ p. task.Import caller.Office p)
-IsTaskOf (job.Enter archive driver) wanted = IsOfDriver matter.Enter driver.now [] wanted
-IsTaskOf (job.Withdraw archive driver number) wanted = IsOfDriver matter.Withdraw driver.now number.now wanted
-IsTaskOf (job.Base archive driver date) wanted = IsOfDriver matter.Base driver.now date.now wanted
-IsTaskOf (job.Spans archive driver month) wanted = IsOfDriver matter.Spans driver.now month.now wanted
-IsTaskOf (job.Gaps archive driver month) wanted = IsOfDriver matter.Gaps driver.now month.now wanted
-IsTaskOf (job.Sheet archive driver month) wanted = IsOfDriver matter.Sheet driver.now month.now wanted
-IsTaskOf (job.Breaches archive driver) wanted = IsOfDriver matter.Breaches driver.now [] wanted
-IsTaskOf (job.Owed archive driver) wanted = IsOfDriver matter.Owed driver.now [] wanted
-IsTaskOf (job.Entries archive driver) wanted = IsOfDriver matter.Entries driver.now [] wanted
-IsTaskOf (job.File archive driver number) wanted = IsOfDriver matter.File driver.now number.now wanted
-IsTaskOf job.Dump wanted = ⊥
-IsTaskOf job.Holder wanted = ⊥
-IsTaskOf (job.Init archive) wanted = ⊥
-IsTaskOf (job.Serve archive key port count) wanted = ⊥
 
 -- ---- input
 
@@ -55,13 +29,39 @@ DoesOver true t input s = Sized input s (Does t input s)
 DoesOver false t input s = Does t [] s
 
 -- the task that is wanted, or the fault of the words
-abbrev pub DoesWanted : Wanted → List ℕ → State → Doing
-DoesWanted (Err f) input s = Refuses f s
-DoesWanted (Ok t) input s = DoesOver (takes_input t) t input s
+abbrev pub DoesWanted : Bool → Wanted → List ℕ → State → Doing
+DoesWanted takes (Err f) input s = Refuses f s
+DoesWanted takes (Ok t) input s = DoesOver takes t input s
 
--- the words are read, and then the input
-abbrev pub Performs : Job → List ℕ → State → Doing
-Performs j input s answer after = (wanted : Wanted) × IsTaskOf j wanted × DoesWanted wanted input s answer after
+-- what the office wants, by its words, which are read from left to right, and then its input
+abbrev pub Performs : Want → List ℕ → List ℕ → List ℕ → State → Doing
+Performs want driver word input s answer after =
+    (wanted : Wanted) × IsTask want caller.Office driver word wanted × DoesWanted (takes_input want) wanted input s answer after
+
+-- ---- what is asked of the archive
+
+-- words and input are sound
+abbrev pub IsSoundOver : Bool → Task → List ℕ → Type 0
+IsSoundOver true t input = (length input ≤ 262144) × IsSound t input
+IsSoundOver false t input = IsSound t []
+
+abbrev pub AreSound : Want → List ℕ → List ℕ → List ℕ → Type 0
+AreSound want driver word input = (t : Task) × IsTask want caller.Office driver word (Ok t) × IsSoundOver (takes_input want) t input
+
+-- or the words have a fault, or else the input
+abbrev pub IsFaultyOver : Bool → Task → List ℕ → Fault → Type 0
+IsFaultyOver true t input f = ((262144 < length input) × (f ≡ fault.Told told.TooLarge)) ⊎ ((length input ≤ 262144) × IsFaulty t input f)
+IsFaultyOver false t input f = ⊥
+
+abbrev pub IsFaultOf : Bool → Wanted → List ℕ → Fault → Type 0
+IsFaultOf takes (Err g) input f = f ≡ g
+IsFaultOf takes (Ok t) input f = IsFaultyOver takes t input f
+
+abbrev pub AreFaulty : Want → List ℕ → List ℕ → List ℕ → Fault → Type 0
+AreFaulty want driver word input f =
+    (wanted : Wanted) × IsTask want caller.Office driver word wanted × IsFaultOf (takes_input want) wanted input f
+
+-- ---- the reader
 
 -- all that the reader had was read, where it tells its bytes, and it has not failed
 pub record HasRead (unread : Option (List ℕ)) (failed : Bool) (input : List ℕ) : Type 0 where
@@ -78,29 +78,28 @@ HasNotRead unread failed f = ⊥
 
 -- ---- what is left
 
--- a job was done over all that the reader had, where it tells its bytes, and over some input where it doesn't
-pub record Over (stands : State → Type 0) (s : State) (Does : List ℕ → Doing) (unread : Option (List ℕ)) (answer : Answer) : Type 0 where
+-- What is wanted was done over all that the reader had, where it tells its bytes, and over some input where it doesn't; or the reader
+-- failed: X2, and the archive was asked nothing.
+pub record Performed {K : Type 0} (stands : K → State → Type 0) (is_clean is_live : K → Type 0) (leaves : K → List State → Type 0)
+    (old new : K) (want : Want) (driver word : List ℕ) (unread : Option (List ℕ)) (failed : Bool) (answer : Answer) : Type 0 where
   pub input : List ℕ
   pub read : IfSome unread (λ all. input ≡ all)
-  pub done : Done stands s (Does input) answer
-
--- the reader failed: X2, and nothing has changed; or it didn't, and the job was done
-abbrev pub Answered : (State → Type 0) → State → (List ℕ → Doing) → Option (List ℕ) → Bool → Answer → Type 0
-Answered stands s Does unread failed answer =
-    ((failed ≡ true) × (answer ≡ Err fault.Device) × stands s) ⊎ (¬ (failed ≡ true) × Over stands s Does unread answer)
-
--- a stop leaves what could be left before, or also the state after some answer to an input that the reader may have had
-abbrev pub StopsOver : (List State → Type 0) → List State → (List ℕ → Doing) → Option (List ℕ) → Type 0
-StopsOver leaves past Does unread =
-    leaves past ⊎ ((input : List ℕ) × IfSome unread (λ all. input ≡ all) × (answer : Answer) × (after : State) × Does input answer after × leaves (after ∷ past))
+  pub device : failed ≡ true → (answer ≡ Err fault.Device) × (new ≡ old)
+  pub serves : failed ≡ false → Serves stands is_clean is_live leaves old new (is_command want) answer (Performs want driver word input)
+  pub asks : failed ≡ false → AsksOnly old new (AreSound want driver word input) (AreFaulty want driver word input) answer
 
 -- the reply to an answer
 abbrev pub reply_to : Answer → Reply
 reply_to (Ok told) = record { text = bytes_of told; status = 0 }
 reply_to (Err f) = fault_reply f
 
--- What a job leaves: the reply to its answer is written whole, or a beginning of it where the writer failed.
-pub record Performed (stands : State → Type 0) (s : State) (Does : List ℕ → Doing) (unread : Option (List ℕ)) (reader_failed writer_failed : Bool) (old new : Option (List ℕ)) (status : ℕ) : Type 0 where
+-- The reply to the answer is written whole, or a beginning of it where the writer failed.
+pub record Replied (IsAnswer : Answer → Type 0) (failed : Bool) (old new : Option (List ℕ)) (status : ℕ) : Type 0 where
   pub answer : Answer
-  pub answered : Answered stands s Does unread reader_failed answer
-  pub told : IsWrittenOut writer_failed old new (reply_to answer) status
+  pub is : IsAnswer answer
+  pub told : IsWrittenOut failed old new (reply_to answer) status
+
+-- what is said of a job at an archive, by what is wanted and its words
+abbrev pub OfDesk : Job → (Want → List ℕ → List ℕ → Type 0) → Type 0
+OfDesk (job.AtDesk archive want driver word) Is = Is want driver.now word.now
+OfDesk j Is = Unit {0}

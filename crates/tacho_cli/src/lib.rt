@@ -1,6 +1,7 @@
 //! The commands of the program `tacho`.
 #![tactic(auto)]
 
+mod act;
 mod commands;
 mod job;
 mod office;

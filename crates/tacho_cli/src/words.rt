@@ -1,12 +1,15 @@
 ghost use Rattle.std.specs.Prelude.{◌≡◌, [], IfOk, IfErr, IfSome, codes, false, map, string_bytes};
 ghost use Rattle.clap.specs.Words.{app_of, fault_of, found_of, kind_of, new_app, rows_of, rule_of, subcommand_of, takes};
 ghost use Rattle.clap.specs.declared.builder.command.Command.TheViews.{out-Command as fields_of};
-ghost use Rattle.tacho_cli.specs.Words.{needs_subcommand, tacho_app, the_table, with_table, with_words, word_rule, IsJob, IsNamed, IsRefusal, IsServeUsage, IsUsage, IsWord};
+ghost use Rattle.tacho_cli.specs.Words.{act_named, needs_subcommand, tacho_app, the_table, with_table, with_words, word_id, word_rule};
+ghost use Rattle.tacho_cli.specs.Words.{IsActUsage, IsDriverText, IsJob, IsJobOf, IsRefusal, IsUsage, IsWord, IsWordText};
 
+use crate::act::{Act, names_driver, word_of};
 use crate::job::Job;
 use clap::error::ErrorKind;
 use clap::{Arg, ArgMatches, Command, Error};
 use std::alloc::{AllocError, Global};
+use tacho_desk::{MonthReading, Reading, Want};
 use tacho_sheet::read_number;
 
 /// Why a command line asks for nothing.
@@ -33,87 +36,106 @@ impl From<AllocError> for Usage {
     }
 }
 
-/// The subcommands: the name of each, what it does, and its words in order.
-static TABLE: [(&str, &str, &[&str]); 16] = [
+/// A subcommand: its name, what it does in words for its user, the names of its words in order, and what it does.
+type Row = (&'static str, &'static str, &'static [&'static str], Act);
+
+/// The subcommands.
+static TABLE: [Row; 16] = [
     (
         "dump",
         "Prints the spans of the value of an EF Driver_Activity_Data (0504), a line each: tacho dump < FILE",
         &[],
+        Act::Dump,
     ),
     (
         "holder",
         "Prints the holder of a whole card download file in hexadecimal digits: tacho holder < FILE",
         &[],
+        Act::Holder,
     ),
     (
         "init",
         "Makes an archive of no drivers in a file that isn't there",
         &["archive"],
+        Act::Init,
     ),
     (
         "register",
         "Adds a driver: tacho register ARCHIVE < CSV with the head driver,holder,key,base,name",
         &["archive"],
+        Act::AtDesk(Want::Register),
     ),
     (
         "import",
         "Keeps a card download file of a driver: tacho import ARCHIVE PART < FILE, of which PART is both, first or second",
         &["archive", "part"],
+        Act::AtDesk(Want::Import),
     ),
     (
         "enter",
         "Enters hours of a driver by hand: tacho enter ARCHIVE DRIVER < CSV with the head start,past,activity",
         &["archive", "driver"],
+        Act::AtDesk(Want::Enter),
     ),
     (
         "withdraw",
         "Withdraws an entry, which stays listed",
         &["archive", "driver", "number"],
+        Act::AtDesk(Want::Withdraw),
     ),
     (
         "base",
         "Sets the Monday from which a driver is examined: DATE is YYYY-MM-DD",
         &["archive", "driver", "date"],
+        Act::AtDesk(Want::Base),
     ),
     (
         "spans",
         "Prints what a driver holds in a month as CSV: MONTH is YYYY-MM",
         &["archive", "driver", "month"],
+        Act::AtDesk(Want::MonthReading(MonthReading::Spans)),
     ),
     (
         "gaps",
         "Prints the minutes of a month that a driver doesn't hold",
         &["archive", "driver", "month"],
+        Act::AtDesk(Want::MonthReading(MonthReading::Gaps)),
     ),
     (
         "sheet",
         "Prints the sheet of a driver's month",
         &["archive", "driver", "month"],
+        Act::AtDesk(Want::MonthReading(MonthReading::Sheet)),
     ),
     (
         "breaches",
         "Prints the breaches of the rules on driving and rest hours",
         &["archive", "driver"],
+        Act::AtDesk(Want::Reading(Reading::Breaches)),
     ),
     (
         "owed",
         "Prints the weekly rests that are owed",
         &["archive", "driver"],
+        Act::AtDesk(Want::Reading(Reading::Owed)),
     ),
     (
         "entries",
         "Prints the hours that were entered by hand",
         &["archive", "driver"],
+        Act::AtDesk(Want::Reading(Reading::Entries)),
     ),
     (
         "file",
         "Prints a card download file that was kept",
         &["archive", "driver", "number"],
+        Act::AtDesk(Want::File),
     ),
     (
         "serve",
         "Answers COUNT connections on PORT of 127.0.0.1, a request each: the office's by its KEY, drivers' by their own",
         &["archive", "key", "port", "count"],
+        Act::Serve,
     ),
 ];
 
@@ -148,16 +170,14 @@ fn leaf<'a>(
 }
 
 /// The command of a table.
-fn command_of<'a>(
-    alloc: Global,
-    table: &[(&'a str, &'a str, &'a [&'a str])],
-) -> Result<Command<'a>, AllocError>
-    ensures { IfOk result (λ c. app_of c ≡ with_table (needs_subcommand (new_app (codes "tacho"))) (map (λ row. (row.0.now, map (λ s. s.now) row.2.now)) table.now)) }
+fn command_of<'a>(alloc: Global, table: &[Row]) -> Result<Command<'a>, AllocError>
+    ensures { IfOk result (λ c. app_of c ≡ with_table (needs_subcommand (new_app (codes "tacho")))
+        (map (λ row. (row.0.now, map (λ s. s.now) row.2.now, row.3)) table.now)) }
 {
     let mut command = Command::new(alloc, "tacho")
         .about("Keeps the driving and rest times that driver cards tell")
         .subcommand_required(true);
-    for (name, about, ids) in table {
+    for (name, about, ids, _) in table {
         let leaf = leaf(alloc, *name, *about, *ids)?;
         command = command.subcommand(leaf)?;
     }
@@ -171,6 +191,25 @@ fn tacho<'a>(alloc: Global) -> Result<Command<'a>, AllocError>
     command_of(alloc, TABLE.as_slice())
 }
 
+/// What the subcommand of a name does, by a table.
+fn act_in(table: &[Row], name: &str) -> Option<Act>
+    ensures { result ≡ act_named name.now (map (λ row. (row.0.now, map (λ s. s.now) row.2.now, row.3)) table.now) }
+{
+    for (known, _, _, act) in table {
+        if *known == name {
+            return Some(*act);
+        }
+    }
+    None
+}
+
+/// What the subcommand of a name does.
+fn act_of(name: &str) -> Option<Act>
+    ensures { result ≡ act_named name.now the_table }
+{
+    act_in(TABLE.as_slice(), name)
+}
+
 /// The text of a word.
 fn text_of<'a>(matches: &ArgMatches<'a>, id: &str) -> Option<&'a str>
     ensures { IfSome result (λ text. IsWord (rows_of (found_of matches.now)) id.now text.now) }
@@ -179,121 +218,67 @@ fn text_of<'a>(matches: &ArgMatches<'a>, id: &str) -> Option<&'a str>
     Some(text)
 }
 
-/// The job of a subcommand's name and its words.
-fn job_of<'a>(name: &str, words: &ArgMatches<'a>) -> Option<Job<'a>>
-    ensures { IfSome result (IsNamed name.now (rows_of (found_of words.now))) }
+/// The driver's number as the words have it, where they name a driver, or an empty text.
+fn driver_text<'a>(want: Want, words: &ArgMatches<'a>) -> Option<&'a str>
+    ensures { IfSome result (λ text. IsDriverText want (rows_of (found_of words.now)) text.now) }
 {
-    if name == "dump" {
-        return Some(Job::Dump);
+    if names_driver(want) {
+        text_of(words, "driver")
+    } else {
+        Some("")
     }
-    if name == "holder" {
-        return Some(Job::Holder);
-    }
-    let archive = text_of(words, "archive")?;
-    if name == "init" {
-        return Some(Job::Init { archive });
-    }
-    if name == "register" {
-        return Some(Job::Register { archive });
-    }
-    if name == "import" {
-        let part = text_of(words, "part")?;
-        return Some(Job::Import { archive, part });
-    }
-    let driver = text_of(words, "driver")?;
-    job_of_driver(name, words, archive, driver)
 }
 
-/// The job of a subcommand of a driver.
-fn job_of_driver<'a>(
-    name: &str,
-    words: &ArgMatches<'a>,
-    archive: &'a str,
-    driver: &'a str,
-) -> Option<Job<'a>>
-    requires archive { IsWord (rows_of (found_of words.now)) (codes "archive") archive.now }
-    requires driver { IsWord (rows_of (found_of words.now)) (codes "driver") driver.now }
-    ensures { IfSome result (IsNamed name.now (rows_of (found_of words.now))) }
+/// The other word, where there is one, or an empty text.
+fn word_text<'a>(want: Want, words: &ArgMatches<'a>) -> Option<&'a str>
+    ensures { IfSome result (λ text. IsWordText (word_id want) (rows_of (found_of words.now)) text.now) }
 {
-    if name == "enter" {
-        return Some(Job::Enter { archive, driver });
+    match word_of(want) {
+        Some(id) => text_of(words, id),
+        None => Some(""),
     }
-    if name == "breaches" {
-        return Some(Job::Breaches { archive, driver });
-    }
-    if name == "owed" {
-        return Some(Job::Owed { archive, driver });
-    }
-    if name == "entries" {
-        return Some(Job::Entries { archive, driver });
-    }
-    if name == "base" {
-        let date = text_of(words, "date")?;
-        return Some(Job::Base {
-            archive,
-            driver,
-            date,
-        });
-    }
-    if name == "withdraw" {
-        let number = text_of(words, "number")?;
-        return Some(Job::Withdraw {
-            archive,
-            driver,
-            number,
-        });
-    }
-    if name == "file" {
-        let number = text_of(words, "number")?;
-        return Some(Job::File {
-            archive,
-            driver,
-            number,
-        });
-    }
-    job_of_month(name, words, archive, driver)
 }
 
-/// The job of a subcommand of a driver's month.
-fn job_of_month<'a>(
-    name: &str,
-    words: &ArgMatches<'a>,
-    archive: &'a str,
-    driver: &'a str,
-) -> Option<Job<'a>>
-    requires archive { IsWord (rows_of (found_of words.now)) (codes "archive") archive.now }
-    requires driver { IsWord (rows_of (found_of words.now)) (codes "driver") driver.now }
-    ensures { IfSome result (IsNamed name.now (rows_of (found_of words.now))) }
+/// The job of a subcommand by its words.
+fn job_of<'a>(act: Act, words: &ArgMatches<'a>) -> Result<Job<'a>, Usage>
+    ensures job { IfOk result (IsJobOf act (rows_of (found_of words.now))) }
+    ensures usage { IfErr result (IsActUsage act (rows_of (found_of words.now))) }
 {
-    let month = text_of(words, "month")?;
-    if name == "spans" {
-        return Some(Job::Spans {
-            archive,
-            driver,
-            month,
-        });
+    match act {
+        Act::Dump => Ok(Job::Dump),
+        Act::Holder => Ok(Job::Holder),
+        Act::Init => match text_of(words, "archive") {
+            Some(archive) => Ok(Job::Init { archive }),
+            None => Err(Usage::Parser),
+        },
+        Act::AtDesk(want) => desk_of(want, words),
+        Act::Serve => serve_of(words),
     }
-    if name == "gaps" {
-        return Some(Job::Gaps {
-            archive,
-            driver,
-            month,
-        });
-    }
-    if name == "sheet" {
-        return Some(Job::Sheet {
-            archive,
-            driver,
-            month,
-        });
-    }
-    None
+}
+
+/// The job at an archive by its words.
+fn desk_of<'a>(want: Want, words: &ArgMatches<'a>) -> Result<Job<'a>, Usage>
+    ensures job { IfOk result (IsJobOf (Act.AtDesk want) (rows_of (found_of words.now))) }
+    ensures usage { IfErr result (λ usage. usage ≡ Usage.Parser) }
+{
+    let Some(archive) = text_of(words, "archive") else {
+        return Err(Usage::Parser);
+    };
+    let (Some(driver), Some(word)) = (driver_text(want, words), word_text(want, words)) else {
+        return Err(Usage::Parser);
+    };
+    Ok(Job::AtDesk {
+        archive,
+        want,
+        driver,
+        word,
+    })
 }
 
 /// The words of `serve`. Of a port or a count that is none how they are used is told.
 fn serve_of<'a>(words: &ArgMatches<'a>) -> Result<Job<'a>, Usage>
-    ensures job { IfOk result (IsNamed (codes "serve") (rows_of (found_of words.now))) }
-    ensures usage { IfErr result (IsServeUsage (rows_of (found_of words.now))) }
+    ensures job { IfOk result (IsJobOf Act.Serve (rows_of (found_of words.now))) }
+    ensures usage { IfErr result (IsActUsage Act.Serve (rows_of (found_of words.now))) }
 {
     let (Some(archive), Some(key)) = (text_of(words, "archive"), text_of(words, "key")) else {
         return Err(Usage::Parser);
@@ -332,7 +317,8 @@ fn refusal(alloc: Global, error: &Error) -> Usage
 pub fn parse<'a>(alloc: Global, words: &'a [String]) -> Result<Job<'a>, Usage>
     ensures taken { IfOk result (λ _. fault_of tacho_app (map string_bytes words.entry.now) ≡ []) }
     ensures job { IfOk result (IsJob (subcommand_of tacho_app (map string_bytes words.entry.now))) }
-    ensures usage { IfErr result (IsUsage (takes tacho_app (map string_bytes words.entry.now)) (subcommand_of tacho_app (map string_bytes words.entry.now))) }
+    ensures usage { IfErr result (IsUsage (takes tacho_app (map string_bytes words.entry.now))
+        (subcommand_of tacho_app (map string_bytes words.entry.now))) }
 {
     let command = tacho(alloc)?;
     let matches = match command.try_get_matches_from(words) {
@@ -342,11 +328,8 @@ pub fn parse<'a>(alloc: Global, words: &'a [String]) -> Result<Job<'a>, Usage>
     let Some((name, inner)) = matches.subcommand() else {
         return Err(Usage::Parser);
     };
-    if name == "serve" {
-        return serve_of(inner);
-    }
-    match job_of(name, inner) {
-        Some(job) => Ok(job),
+    match act_of(name) {
+        Some(act) => job_of(act, inner),
         None => Err(Usage::Parser),
     }
 }

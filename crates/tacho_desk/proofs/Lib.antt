@@ -2,3 +2,4 @@ mod StepLemmas
 mod ServeLemmas
 mod ShownLemmas
 mod OwnLemmas
+mod PageFacts

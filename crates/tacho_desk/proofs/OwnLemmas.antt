@@ -22,30 +22,51 @@ use Rattle.tacho_sheet.specs.Reports.{IsGapText, IsMonthSheet, IsSpanCsv, breach
 use Rattle.tacho_sheet.specs.declared.fault.SheetFault.{SheetFault}
 use Rattle.tacho_desk.specs.Doing.{Doing, IsText, IsTextOf, Lists, Shows, Steps, in_words}
 use Rattle.tacho_desk.specs.Own.{OneAnswer, OthersStay, RefusalsStay, SameAnswers}
-use Rattle.tacho_desk.specs.Tasks.{EntersRead, Imports, OfReport, RegistersRead, ShowsBreaches, ShowsEntries, ShowsFile, ShowsGaps, ShowsOwed, ShowsSheet, ShowsSpans, entered_told, imported_told}
+use Rattle.tacho_desk.specs.Tasks.{EntersRead, Imports, OfReport, RegistersRead, ShowsFile, ShowsMonth, ShowsReading, entered_told, imported_told}
 use Rattle.tacho_desk.specs.Told.{Added, Answer, File, Line, Long, Told}
 use Rattle.tacho_desk.specs.declared.fault.Fault.{Fault}
 use Rattle.tacho_desk.specs.declared.task.Task.TheVariants as task
+use Rattle.tacho_desk.specs.declared.want.MonthReading.{MonthReading}
+use Rattle.tacho_desk.specs.declared.want.MonthReading.TheVariants as month
+use Rattle.tacho_desk.specs.declared.want.Reading.{Reading}
+use Rattle.tacho_desk.specs.declared.want.Reading.TheVariants as reading
 use Rattle.tacho_desk.proofs.StepLemmas.{Keeps, entered_keeps, imported_keeps, rebased_keeps, registered_keeps, withdrawn_keeps}
 
 -- ---- refusals
 
+-- an answer that is a fault was one of the archive
 err_words : {A : Type 0} (words : A → Told) (r : Result A StoreFault) (f : Fault) → Err f ≡ in_words words r → (g : StoreFault) × (r ≡ Err g)
 err_words words (Ok x) f e = cc
 err_words words (Err g) f e = (g, refl)
 
+-- a step that is refused leaves the state
 steps_stay : {A : Type 0} (words : A → Told) (s : State) (turn : Turn A) (f : Fault) (after : State) → Keeps s turn → Steps words turn (Err f) after → after ≡ s
 steps_stay words s turn f after keeps h = (let g = err_words words turn.answer f h.0 in h.1 ∙ keeps g.0 g.1)
 
+-- so does a registration
 registers_stay : (s : State) (read : Result Registration SheetFault) (f : Fault) (after : State) → RegistersRead s read (Err f) after → after ≡ s
 registers_stay s (Err g) f after h = h.1
 registers_stay s (Ok r) f after h = steps_stay _ s (registered r.number r.holder r.key r.base r.name s) f after (registered_keeps r.number r.holder r.key r.base r.name s) h
 
+-- and a batch of hours
 enters_stay : (n : ℕ) (s : State) (read : Lines) (f : Fault) (after : State) → EntersRead n s read (Err f) after → after ≡ s
 enters_stay n s (Err g) f after h = h.1
 enters_stay n s (Ok lines) f after h =
     steps_stay (λ first. entered_told first (length lines)) s (entered n (batch_of lines) s) f after (entered_keeps n (batch_of lines) s) h
 
+-- a reading changes nothing
+reading_stays : (text : Reading) (n : ℕ) (s : State) (answer : Answer) (after : State) → ShowsReading text n s answer after → after ≡ s
+reading_stays reading.Breaches n s answer after h = h.1
+reading_stays reading.Owed n s answer after h = h.1
+reading_stays reading.Entries n s answer after h = h.1
+
+-- nor does one of a month
+month_stays : (text : MonthReading) (month n : ℕ) (s : State) (answer : Answer) (after : State) → ShowsMonth text month n s answer after → after ≡ s
+month_stays month.Spans m n s answer after h = h.1
+month_stays month.Gaps m n s answer after h = h.1
+month_stays month.Sheet m n s answer after h = h.1
+
+-- no refusal changes anything
 pub refusals : RefusalsStay
 refusals task.Register input s f after h = registers_stay s h.0 f after h.2
 refusals (task.Import who p) input s f after h =
@@ -53,12 +74,8 @@ refusals (task.Import who p) input s f after h =
 refusals (task.Enter n) input s f after h = enters_stay n s h.0 f after h.2
 refusals (task.Withdraw n number) input s f after h = steps_stay _ s (withdrawn n number s) f after (withdrawn_keeps n number s) h
 refusals (task.Base n day) input s f after h = steps_stay _ s (rebased n day s) f after (rebased_keeps n day s) h
-refusals (task.Spans n month) input s f after h = h.1
-refusals (task.Gaps n month) input s f after h = h.1
-refusals (task.Sheet n month) input s f after h = h.1
-refusals (task.Breaches n) input s f after h = h.1
-refusals (task.Owed n) input s f after h = h.1
-refusals (task.Entries n) input s f after h = h.1
+refusals (task.Reading n text) input s f after h = reading_stays text n s (Err f) after h
+refusals (task.MonthReading n month text) input s f after h = month_stays text month n s (Err f) after h
 refusals (task.File n number) input s f after h = h.1
 
 -- ---- rows
@@ -100,14 +117,17 @@ abbrev NumberStays : {A : Type 0} → ℕ → Result (A × Driver) StoreFault �
 NumberStays n (Ok told) = told.1.number ≡ n
 NumberStays n (Err f) = Unit {0}
 
+-- a test between two answers
 either : {A : Type 0} (n : ℕ) (b : Bool) (x y : Result (A × Driver) StoreFault) → NumberStays n x → NumberStays n y → NumberStays n (if b then x else y)
 either n true x y h k = h
 either n false x y h k = k
 
+-- a file that is kept leaves its driver his number
 kept_number : (part : ℕ) (file : List ℕ) (spans : List Span) (d : Driver) (o : Option ℕ) → NumberStays d.number (kept_by part file spans d o)
 kept_number part file spans d (Some m) = tt
 kept_number part file spans d None = either d.number (nat_lt (length d.downloads) most) _ _ refl tt
 
+-- and so does his import
 import_number : (part : ℕ) (file : List ℕ) (content : Content) (d : Driver) → NumberStays d.number (import_his part file content d)
 import_number part file content d =
     either d.number (bytes_eq d.holder content.holder) _ _
@@ -123,16 +143,19 @@ settled_same n s other d (Ok told) a b stays =
     (refl, subst (λ (m : ℕ). driver_of m (put told.1 s) ≡ driver_of m (put told.1 other)) stays (put_own told.1 s d x ∙ sym (put_own told.1 other d y)))
 settled_same n s other d (Err f) a b stays = (refl, a ∙ sym b)
 
+-- the rows of others are as before
 settled_others : {A : Type 0} (n m : ℕ) (s : State) (r : Result (A × Driver) StoreFault) → NumberStays n r → m ≢ n → driver_of m (settled s r).after ≡ driver_of m s
 settled_others n m s (Ok told) stays h = put_others m told.1 s (λ e. h (e ∙ stays))
 settled_others n m s (Err f) stays h = refl
 
+-- one driver's command, whether or not there is such a driver
 own_same : {A : Type 0} (own : Own A) (n : ℕ) (s other : State) (o : Option Driver) → ((d : Driver) → NumberStays d.number (own d)) → driver_of n s ≡ o → driver_of n other ≡ o
     → ((own_turn own s o).answer ≡ (own_turn own other o).answer) × (driver_of n (own_turn own s o).after ≡ driver_of n (own_turn own other o).after)
 own_same own n s other None stays a b = (refl, a ∙ sym b)
 own_same own n s other (Some d) stays a b =
     settled_same n s other d (own d) a b (subst (λ (m : ℕ). NumberStays m (own d)) (his_number n s d a) (stays d))
 
+-- others are as before it
 own_others : {A : Type 0} (own : Own A) (n m : ℕ) (s : State) (o : Option Driver) → ((d : Driver) → NumberStays d.number (own d)) → driver_of n s ≡ o → m ≢ n
     → driver_of m (own_turn own s o).after ≡ driver_of m s
 own_others own n m s None stays a h = refl
@@ -148,20 +171,24 @@ import_same n part file (Ok content) s other e =
     × (driver_of n (own_turn (import_his part file content) s (driver_of n s)).after ≡ driver_of n (own_turn (import_his part file content) other o).after)) e
     (own_same (import_his part file content) n s other (driver_of n s) (import_number part file content) refl (sym e))
 
+-- nobody else's rows change by his import
 import_others : (n m part : ℕ) (file : List ℕ) (content : Result Content CardFault) (s : State) → m ≢ n → driver_of m (imported (Some n) part file content s).after ≡ driver_of m s
 import_others n m part file (Err f) s h = refl
 import_others n m part file (Ok content) s h = own_others (import_his part file content) n m s (driver_of n s) (import_number part file content) refl h
 
 -- ---- his tasks
 
+-- a text of his is the same where his rows are
 shows_same : (Is : Driver → List ℕ → Type 0) (n : ℕ) (s other : State) → driver_of n s ≡ driver_of n other → (answer : Answer) (after : State) → Shows Is n s answer after
     → (left : State) × Shows Is n other answer left × (driver_of n after ≡ driver_of n left)
 shows_same Is n s other e answer after h = (other, (subst (λ (o : Option Driver). IsTextOf Is o answer) e h.0, refl), ap (driver_of n) h.1 ∙ e)
 
+-- and so is a list of his
 lists_same : {A : Type 0} (words : A → Told) (f : Driver → Result A StoreFault) (n : ℕ) (s other : State) → driver_of n s ≡ driver_of n other → (answer : Answer) (after : State)
     → Lists words s (told_of f (driver_of n s)) answer after → (left : State) × Lists words other (told_of f (driver_of n other)) answer left × (driver_of n after ≡ driver_of n left)
 lists_same words f n s other e answer after h = (other, (h.0 ∙ ap (λ (o : Option Driver). in_words words (told_of f o)) e, refl), ap (driver_of n) h.1 ∙ e)
 
+-- and what his import tells
 imports_same : (n : ℕ) (p : Part) (input : List ℕ) (s other : State) → driver_of n s ≡ driver_of n other → (answer : Answer) (after : State) → Imports (caller.Driver n) p input s answer after
     → (left : State) × Imports (caller.Driver n) p input other answer left × (driver_of n after ≡ driver_of n left)
 imports_same n p input s other e answer after h =
@@ -177,22 +204,29 @@ at_number n m is s other Does answer after h e =
     let r = h (subst (λ (k : ℕ). driver_of k s ≡ driver_of k other) (sym is) e) in
     (r.0, r.1, subst (λ (k : ℕ). driver_of k after ≡ driver_of k r.0) is r.2)
 
+-- his texts are those of his rows
+reading_same : (text : Reading) (n : ℕ) (s other : State) → driver_of n s ≡ driver_of n other → (answer : Answer) (after : State)
+    → ShowsReading text n s answer after → (left : State) × ShowsReading text n other answer left × (driver_of n after ≡ driver_of n left)
+reading_same reading.Breaches n s other e answer after h = shows_same _ n s other e answer after h
+reading_same reading.Owed n s other e answer after h = shows_same _ n s other e answer after h
+reading_same reading.Entries n s other e answer after h = lists_same _ _ n s other e answer after h
+
+-- the same of his month
+month_same : (text : MonthReading) (month n : ℕ) (s other : State) → driver_of n s ≡ driver_of n other → (answer : Answer) (after : State)
+    → ShowsMonth text month n s answer after → (left : State) × ShowsMonth text month n other answer left × (driver_of n after ≡ driver_of n left)
+month_same month.Spans m n s other e answer after h = shows_same _ n s other e answer after h
+month_same month.Gaps m n s other e answer after h = shows_same _ n s other e answer after h
+month_same month.Sheet m n s other e answer after h = shows_same _ n s other e answer after h
+
+-- each task of his answers by his rows alone
 pub same_answers : SameAnswers
 same_answers n (task.Import (caller.Driver m) p) his input s other e answer after h =
     at_number n m his s other (Imports (caller.Driver m) p input) answer after (λ same. imports_same m p input s other same answer after h) e
 same_answers n (task.Import caller.Office p) his input s other e answer after h = absurd his
-same_answers n (task.Spans m month) his input s other e answer after h =
-    at_number n m his s other (ShowsSpans month m) answer after (λ same. shows_same _ m s other same answer after h) e
-same_answers n (task.Gaps m month) his input s other e answer after h =
-    at_number n m his s other (ShowsGaps month m) answer after (λ same. shows_same _ m s other same answer after h) e
-same_answers n (task.Sheet m month) his input s other e answer after h =
-    at_number n m his s other (ShowsSheet month m) answer after (λ same. shows_same _ m s other same answer after h) e
-same_answers n (task.Breaches m) his input s other e answer after h =
-    at_number n m his s other (ShowsBreaches m) answer after (λ same. shows_same _ m s other same answer after h) e
-same_answers n (task.Owed m) his input s other e answer after h =
-    at_number n m his s other (ShowsOwed m) answer after (λ same. shows_same _ m s other same answer after h) e
-same_answers n (task.Entries m) his input s other e answer after h =
-    at_number n m his s other (ShowsEntries m) answer after (λ same. lists_same _ _ m s other same answer after h) e
+same_answers n (task.Reading m text) his input s other e answer after h =
+    at_number n m his s other (ShowsReading text m) answer after (λ same. reading_same text m s other same answer after h) e
+same_answers n (task.MonthReading m month text) his input s other e answer after h =
+    at_number n m his s other (ShowsMonth text month m) answer after (λ same. month_same text month m s other same answer after h) e
 same_answers n (task.File m number) his input s other e answer after h =
     at_number n m his s other (ShowsFile m number) answer after (λ same. lists_same _ _ m s other same answer after h) e
 same_answers n task.Register his input s other e answer after h = absurd his
@@ -200,16 +234,14 @@ same_answers n (task.Enter m) his input s other e answer after h = absurd his
 same_answers n (task.Withdraw m number) his input s other e answer after h = absurd his
 same_answers n (task.Base m day) his input s other e answer after h = absurd his
 
+-- and changes nobody else's
 pub others_stay : OthersStay
 others_stay n (task.Import (caller.Driver k) p) his input s answer after h m other =
     ap (driver_of m) h.2.1 ∙ import_others k m (part_number p) input h.0 s (λ e. other (e ∙ his))
 others_stay n (task.Import caller.Office p) his input s answer after h m other = absurd his
-others_stay n (task.Spans k month) his input s answer after h m other = ap (driver_of m) h.1
-others_stay n (task.Gaps k month) his input s answer after h m other = ap (driver_of m) h.1
-others_stay n (task.Sheet k month) his input s answer after h m other = ap (driver_of m) h.1
-others_stay n (task.Breaches k) his input s answer after h m other = ap (driver_of m) h.1
-others_stay n (task.Owed k) his input s answer after h m other = ap (driver_of m) h.1
-others_stay n (task.Entries k) his input s answer after h m other = ap (driver_of m) h.1
+others_stay n (task.Reading k text) his input s answer after h m other = ap (driver_of m) (reading_stays text k s answer after h)
+others_stay n (task.MonthReading k month text) his input s answer after h m other =
+    ap (driver_of m) (month_stays text month k s answer after h)
 others_stay n (task.File k number) his input s answer after h m other = ap (driver_of m) h.1
 others_stay n task.Register his input s answer after h m other = absurd his
 others_stay n (task.Enter k) his input s answer after h m other = absurd his
@@ -222,6 +254,7 @@ others_stay n (task.Base k day) his input s answer after h m other = absurd his
 abbrev IsOne : (Driver → List ℕ → Type 0) → Type 0
 IsOne Is = (d : Driver) (a b : List ℕ) → Is d a → Is d b → a ≡ b
 
+-- what shows a text has one answer
 one_text : (Is : Driver → List ℕ → Type 0) → IsOne Is → (d : Driver) (a b : Answer) → IsText (Is d) a → IsText (Is d) b → a ≡ b
 one_text Is one d (Ok (Long x)) (Ok (Long y)) h k = ap (λ (text : List ℕ). Ok (Long text)) (one d x y h k)
 one_text Is one d (Ok (Long x)) (Ok (Added y)) h k = absurd k
@@ -233,13 +266,16 @@ one_text Is one d (Ok (Line x)) b h k = absurd h
 one_text Is one d (Ok (File x)) b h k = absurd h
 one_text Is one d (Err f) b h k = absurd h
 
+-- also where there may be no driver
 one_text_of : (Is : Driver → List ℕ → Type 0) → IsOne Is → (o : Option Driver) (a b : Answer) → IsTextOf Is o a → IsTextOf Is o b → a ≡ b
 one_text_of Is one None a b h k = h ∙ sym k
 one_text_of Is one (Some d) a b h k = one_text Is one d a b h k
 
+-- and one state behind it
 one_shown : (Is : Driver → List ℕ → Type 0) → IsOne Is → (n : ℕ) (s : State) (a b : Answer) (after left : State) → Shows Is n s a after → Shows Is n s b left → (a ≡ b) × (after ≡ left)
 one_shown Is one n s a b after left h k = (one_text_of Is one (driver_of n s) a b h.0 k.0, h.1 ∙ sym k.1)
 
+-- a list has one answer
 one_listed : {A : Type 0} (words : A → Told) (s : State) (r : Result A StoreFault) (a b : Answer) (after left : State) → Lists words s r a after → Lists words s r b left → (a ≡ b) × (after ≡ left)
 one_listed words s r a b after left h k = (h.0 ∙ sym k.0, h.1 ∙ sym k.1)
 
@@ -251,6 +287,7 @@ module _ (one_content : (p : Part) (bytes : List ℕ) (a b : Result Content Card
     (one_spans : (line : List Span) (month : ℕ) (a b : List ℕ) → IsSpanCsv line month a → IsSpanCsv line month b → a ≡ b)
     (one_sheet : (number : ℕ) (name : List ℕ) (line : List Span) (breaches : List Breach) (horizon : Horizon) (month : ℕ) (a b : List ℕ)
     → IsMonthSheet number name line breaches horizon month a → IsMonthSheet number name line breaches horizon month b → a ≡ b) where
+  -- a text of a report is one where the report is
   one_of_report : (Is : Driver → List Breach → List Debt → Horizon → List ℕ → Type 0)
       → ((d : Driver) (breaches : List Breach) (debts : List Debt) (horizon : Horizon) (a b : List ℕ) → Is d breaches debts horizon a → Is d breaches debts horizon b → a ≡ b)
       → IsOne (λ d. OfReport (Is d) d)
@@ -261,6 +298,25 @@ module _ (one_content : (p : Part) (bytes : List ℕ) (a b : Result Content Card
       (subst (λ (breaches : List Breach). Is d breaches k.2 h.0 b) (sym same.1)
       (subst (λ (horizon : Horizon). Is d k.1 k.2 horizon b) (sym same.0) k.4)))
 
+  -- his texts are one
+  one_reading : (text : Reading) (n : ℕ) (s : State) (a b : Answer) (after left : State)
+      → ShowsReading text n s a after → ShowsReading text n s b left → (a ≡ b) × (after ≡ left)
+  one_reading reading.Breaches n s a b after left h k =
+      one_shown _ (one_of_report (λ d breaches debts horizon text. text ≡ breach_text breaches horizon) (λ d breaches debts horizon x y i j. i ∙ sym j)) n s a b after left h k
+  one_reading reading.Owed n s a b after left h k =
+      one_shown _ (one_of_report (λ d breaches debts horizon text. text ≡ owed_text debts horizon) (λ d breaches debts horizon x y i j. i ∙ sym j)) n s a b after left h k
+  one_reading reading.Entries n s a b after left h k = one_listed _ s (listed n s) a b after left h k
+
+  -- the texts of his month are one
+  one_month : (text : MonthReading) (month n : ℕ) (s : State) (a b : Answer) (after left : State)
+      → ShowsMonth text month n s a after → ShowsMonth text month n s b left → (a ≡ b) × (after ≡ left)
+  one_month month.Spans m n s a b after left h k = one_shown _ (λ d x y. one_spans (held_spans d) m x y) n s a b after left h k
+  one_month month.Gaps m n s a b after left h k = one_shown _ (λ d x y. one_gaps (held_spans d) m x y) n s a b after left h k
+  one_month month.Sheet m n s a b after left h k =
+      one_shown _ (one_of_report (λ d breaches debts horizon. IsMonthSheet n d.name (held_spans d) breaches horizon m)
+      (λ d breaches debts horizon x y. one_sheet n d.name (held_spans d) breaches horizon m x y)) n s a b after left h k
+
+  -- each task of his has one answer
   pub one_answer : OneAnswer
   one_answer n (task.Import (caller.Driver m) p) his input s a b after left h k =
       let same = one_content p input h.0 k.0 h.1 k.1 in (
@@ -268,16 +324,8 @@ module _ (one_content : (p : Part) (bytes : List ℕ) (a b : Result Content Card
         h.2.1 ∙ (ap (λ (content : Result Content CardFault). (imported (Some m) (part_number p) input content s).after) same ∙ sym k.2.1),
       )
   one_answer n (task.Import caller.Office p) his input s a b after left h k = absurd his
-  one_answer n (task.Spans m month) his input s a b after left h k = one_shown _ (λ d x y. one_spans (held_spans d) month x y) m s a b after left h k
-  one_answer n (task.Gaps m month) his input s a b after left h k = one_shown _ (λ d x y. one_gaps (held_spans d) month x y) m s a b after left h k
-  one_answer n (task.Sheet m month) his input s a b after left h k =
-      one_shown _ (one_of_report (λ d breaches debts horizon. IsMonthSheet m d.name (held_spans d) breaches horizon month)
-      (λ d breaches debts horizon x y. one_sheet m d.name (held_spans d) breaches horizon month x y)) m s a b after left h k
-  one_answer n (task.Breaches m) his input s a b after left h k =
-      one_shown _ (one_of_report (λ d breaches debts horizon text. text ≡ breach_text breaches horizon) (λ d breaches debts horizon x y i j. i ∙ sym j)) m s a b after left h k
-  one_answer n (task.Owed m) his input s a b after left h k =
-      one_shown _ (one_of_report (λ d breaches debts horizon text. text ≡ owed_text debts horizon) (λ d breaches debts horizon x y i j. i ∙ sym j)) m s a b after left h k
-  one_answer n (task.Entries m) his input s a b after left h k = one_listed _ s (listed m s) a b after left h k
+  one_answer n (task.Reading m text) his input s a b after left h k = one_reading text m s a b after left h k
+  one_answer n (task.MonthReading m month text) his input s a b after left h k = one_month text month m s a b after left h k
   one_answer n (task.File m number) his input s a b after left h k = one_listed _ s (downloaded m number s) a b after left h k
   one_answer n task.Register his input s a b after left h k = absurd his
   one_answer n (task.Enter m) his input s a b after left h k = absurd his

@@ -1,9 +1,9 @@
 -- What functions of the tasks do, by what their parts did.
-use Rattle.std.proofs.Common.{◌≡◌, ◌⊎◌, inl, inr, ℕ, List, ◌∷◌, Result, Ok, Err, refl, sym, ap, subst}
+use Rattle.std.proofs.Common.{◌≡◌, ◌⊎◌, inl, inr, ℕ, Bool, true, List, [], ◌∷◌, Result, Ok, Err, refl, sym, ap, subst}
 use Rattle.std.specs.Prelude.{IsErrAnd}
 use Rattle.tacho_card.specs.declared.fault.CardFault.{CardFault}
 use Rattle.tacho_card.specs.declared.file.Part.{Part}
-use Rattle.tacho_state.specs.Acts.{Acts, Answers, caller_number}
+use Rattle.tacho_state.specs.Acts.{Acts, Answers, IsRefused, caller_number}
 use Rattle.tacho_state.specs.Content.{FileTells, part_number}
 use Rattle.tacho_state.specs.Registration.{Registration}
 use Rattle.tacho_state.specs.State.{State}
@@ -19,55 +19,98 @@ use Rattle.tacho_sheet.specs.Entries.{IsRead}
 use Rattle.tacho_sheet.specs.Rows.{IsReaderFault}
 use Rattle.tacho_sheet.specs.declared.fault.SheetFault.{SheetFault}
 use Rattle.tacho_sheet.specs.declared.fault.SheetFault.TheVariants as sheet
-use Rattle.tacho_desk.specs.Doing.{Doing, Done, Serves, Steps, Stops, in_words}
+use Rattle.tacho_desk.specs.Doing.{AsksOnly, Doing, Done, IsKept, IsUnread, Serves, Steps, Stops, in_words}
 use Rattle.tacho_desk.specs.Fault.{IsGivenUp, sheet_fault, store_fault}
-use Rattle.tacho_desk.specs.Tasks.{Enters, EntersRead, Imports, OrCsv, Registers, RegistersRead, imported_told}
+use Rattle.tacho_desk.specs.Tasks.{Enters, EntersRead, Imports, IsFaulty, IsSound, OrCsv, Registers, RegistersRead, imported_told}
 use Rattle.tacho_desk.specs.Told.{Answer, Told, answer_of}
 use Rattle.tacho_desk.specs.declared.fault.Fault.{Fault}
+use Rattle.tacho_desk.specs.declared.task.Task.TheVariants as task
 use Rattle.tacho_desk.specs.declared.text.Text.{Text}
-use Rattle.tacho_desk.proofs.StepLemmas.{Keeps, imported_keeps}
+use Rattle.tacho_desk.proofs.StepLemmas.{Keeps, TellsNoFile, imported_keeps}
 
 -- the answer of a result that is this fault
 pub faulty : (result : Result Text Fault) (f : Fault) → IsErrAnd result (λ e. e ≡ f) → answer_of result ≡ Err f
 faulty (Err e) f h = ap Err h
 faulty (Ok text) f h = absurd h
 
+-- what an import answered
+abbrev pub answered : StoreFault → Result Imported StoreFault
+answered f = Err f
+
+abbrev pub taken : Imported → Result Imported StoreFault
+taken x = Ok x
+
 -- ---- one meaning for another
 
+-- of the answer and the state
 done_as : (stands : State → Type 0) (s : State) (A B : Doing) (answer : Answer) → ((answer : Answer) (after : State) → A answer after → B answer after)
     → Done stands s A answer → Done stands s B answer
 done_as stands s A B (Ok told) h d = (d.0, d.1, h (Ok told) d.0 d.2)
 done_as stands s A B (Err f) h (st, inl d) = (st, inl (h (Err f) s d))
 done_as stands s A B (Err f) h (st, inr g) = (st, inr g)
 
-stops_as : (leaves : List State → Type 0) (past : List State) (A B : Doing) → ((answer : Answer) (after : State) → A answer after → B answer after)
-    → Stops leaves past A → Stops leaves past B
-stops_as leaves past A B h (inl l) = inl l
-stops_as leaves past A B h (inr a) = inr (a.0, a.1, h a.0 a.1 a.2, a.3)
+-- of what is kept
+kept_as : (stands : State → Type 0) (leaves : List State → Type 0) (A B : Doing) (answer : Answer)
+    → ((answer : Answer) (after : State) → A answer after → B answer after)
+    → IsKept stands leaves A answer → IsKept stands leaves B answer
+kept_as stands leaves A B (Ok told) h d = (d.0, d.1, h (Ok told) d.0 d.2, d.3)
+kept_as stands leaves A B (Err f) h d = tt
+
+-- of what a stop leaves
+stops_as : (leaves : List State → Type 0) (past : List State) (A B : Doing) (answer : Answer)
+    → ((answer : Answer) (after : State) → A answer after → B answer after)
+    → Stops leaves past A answer → Stops leaves past B answer
+stops_as leaves past A B (Ok told) h (inl l) = inl l
+stops_as leaves past A B (Ok told) h (inr a) = inr (a.0, h (Ok told) a.0 a.1, a.2)
+stops_as leaves past A B (Err f) h (inl l) = inl l
+stops_as leaves past A B (Err f) h (inr a) = inr (a.0, (a.1.0, a.1.1, h a.1.0 a.1.1 a.1.2, a.1.3))
+
+-- ---- what refused a task
+
+-- it was given up, or refused by the archive, or its file has a fault
+abbrev pub Refusal : StoreFault → Type 0
+Refusal f = IsGivenUp (store_fault f) ⊎ (IsRefused {A = Unit {0}} (Err f) ⊎ ((g : CardFault) × (f ≡ store.Card g)))
+
+-- each fault is one of the three
+refusal : (f : StoreFault) → Refusal f
+refusal store.Memory = inl tt
+refusal store.Store = inl tt
+refusal (store.Card g) = inr (inr (g, refl))
+refusal store.DriverTaken = inr (inl tt)
+refusal store.KeyTaken = inr (inl tt)
+refusal store.HolderTaken = inr (inl tt)
+refusal store.UnknownDriver = inr (inl tt)
+refusal store.NotYourCard = inr (inl tt)
+refusal (store.Contradiction m) = inr (inl tt)
+refusal store.UnknownEntry = inr (inl tt)
+refusal store.AlreadyWithdrawn = inr (inl tt)
+refusal store.NotMonday = inr (inl tt)
+refusal store.UnknownDownload = inr (inl tt)
+refusal store.Full = inr (inl tt)
 
 -- a refusal of the archive is the step's, or a giving up
-refusal_of : {A B : Type 0} (view : A → B) (words : B → Told) (f : StoreFault) (told : Result B StoreFault) → Answers view (Err f) told
+refusal_of : {A B : Type 0} (view : A → B) (f : StoreFault) (told : Result B StoreFault) → Answers view (Err f) told
     → (told ≡ Err f) ⊎ IsGivenUp (store_fault f)
-refusal_of view words store.Memory told h = inr tt
-refusal_of view words store.Store told h = inr tt
-refusal_of view words (store.Card f) told h = inl h
-refusal_of view words store.DriverTaken told h = inl h
-refusal_of view words store.KeyTaken told h = inl h
-refusal_of view words store.HolderTaken told h = inl h
-refusal_of view words store.UnknownDriver told h = inl h
-refusal_of view words store.NotYourCard told h = inl h
-refusal_of view words (store.Contradiction m) told h = inl h
-refusal_of view words store.UnknownEntry told h = inl h
-refusal_of view words store.AlreadyWithdrawn told h = inl h
-refusal_of view words store.NotMonday told h = inl h
-refusal_of view words store.UnknownDownload told h = inl h
-refusal_of view words store.Full told h = inl h
+refusal_of view store.Memory told h = inr tt
+refusal_of view store.Store told h = inr tt
+refusal_of view (store.Card f) told h = inl h
+refusal_of view store.DriverTaken told h = inl h
+refusal_of view store.KeyTaken told h = inl h
+refusal_of view store.HolderTaken told h = inl h
+refusal_of view store.UnknownDriver told h = inl h
+refusal_of view store.NotYourCard told h = inl h
+refusal_of view (store.Contradiction m) told h = inl h
+refusal_of view store.UnknownEntry told h = inl h
+refusal_of view store.AlreadyWithdrawn told h = inl h
+refusal_of view store.NotMonday told h = inl h
+refusal_of view store.UnknownDownload told h = inl h
+refusal_of view store.Full told h = inl h
 
 -- a text of CSV that could not be read: for want of memory, or by E8, or by its first fault
 read_fault : {A : Type 0} (Is : Result A SheetFault → Type 0) (f : SheetFault) → IsReaderFault f ⊎ Is (Err f)
-    → OrCsv Is (Err f) ⊎ IsGivenUp (sheet_fault f)
+    → OrCsv Is (Err f) ⊎ (f ≡ sheet.Memory)
 read_fault Is f (inr is) = inl (inl is)
-read_fault Is sheet.Memory (inl h) = inr tt
+read_fault Is sheet.Memory (inl h) = inr refl
 read_fault Is sheet.Csv (inl h) = inl (inr refl)
 read_fault Is sheet.Head (inl h) = absurd h
 read_fault Is (sheet.Fields row) (inl h) = absurd h
@@ -78,76 +121,106 @@ read_fault Is (sheet.Activity row) (inl h) = absurd h
 read_fault Is (sheet.TooLong row) (inl h) = absurd h
 read_fault Is (sheet.Column column) (inl h) = absurd h
 
-module _ {K : Type 0} (stands : K → State → Type 0) (is_clean : K → Type 0) (leaves : K → List State → Type 0) where
-  pub served_as : (old new : K) (answer : Answer) (A B : State → Doing) → ((s : State) (answer : Answer) (after : State) → A s answer after → B s answer after)
-      → Serves stands is_clean leaves old new answer A → Serves stands is_clean leaves old new answer B
-  served_as old new answer A B h d = record {
+-- it is the input's fault, or want of memory
+unread : {A : Type 0} (Is : Result A SheetFault → Type 0) (f : SheetFault) → OrCsv Is (Err f) ⊎ (f ≡ sheet.Memory)
+    → IsUnread (λ g. (e : SheetFault) × OrCsv Is (Err e) × (g ≡ sheet_fault e)) (Err (sheet_fault f))
+unread Is f (inl is) = inl (f, is, refl)
+unread Is f (inr e) = inr (ap sheet_fault e)
+
+module _ {K : Type 0} (stands : K → State → Type 0) (is_clean is_live : K → Type 0) (leaves : K → List State → Type 0) where
+  -- a call that does the one does the other
+  pub served_as : (old new : K) (command : Bool) (answer : Answer) (A B : State → Doing)
+      → ((s : State) (answer : Answer) (after : State) → A s answer after → B s answer after)
+      → Serves stands is_clean is_live leaves old new command answer A → Serves stands is_clean is_live leaves old new command answer B
+  served_as old new command answer A B h d = record {
     clean = d.clean;
+    live = d.live;
     done = λ clean s st. done_as (stands new) s (A s) (B s) answer (h s) (d.done clean s st);
-    crash = λ clean s past st l. stops_as (leaves new) past (A s) (B s) (h s) (d.crash clean s past st l);
+    kept = λ is clean s st. kept_as (stands new) (leaves new) (A s) (B s) answer (h s) (d.kept is clean s st);
+    crash = λ clean s past st l. stops_as (leaves new) past (A s) (B s) answer (h s) (d.crash clean s past st l);
   }
 
-  -- nothing was done, since this fault is wanted, or memory or the reader of CSV failed
-  pub nothing : (keeper : K) (f : Fault) (Does : State → Doing) → ((s : State) → Does s (Err f) s ⊎ IsGivenUp f)
-      → Serves stands is_clean leaves keeper keeper (Err f) Does
-  nothing keeper f Does h = record {
+  -- nothing was done, since this fault is wanted, or memory failed
+  pub nothing : (keeper : K) (command : Bool) (f : Fault) (Does : State → Doing) → ((s : State) → Does s (Err f) s ⊎ IsGivenUp f)
+      → Serves stands is_clean is_live leaves keeper keeper command (Err f) Does
+  nothing keeper command f Does h = record {
     clean = λ clean. clean;
+    live = λ clean. tt;
     done = λ clean s st. (st, h s);
+    kept = λ is clean s st. tt;
     crash = λ clean s past st l. inl l;
   }
 
-  -- ---- steps
-
-  stopped : {B : Type 0} (new : K) (words : B → Told) (turn : Turn B) (past : List State) → leaves new (turn.after ∷ past) → Stops (leaves new) past (Steps words turn)
-  stopped new words turn past l = inr (in_words words turn.answer, turn.after, (refl, refl), l)
-
   -- ---- CSV
 
+  -- where memory was wanting the text was given up
+  given_up : {A : Type 0} (Is : Result A SheetFault → Type 0) (f : SheetFault) → OrCsv Is (Err f) ⊎ (f ≡ sheet.Memory)
+      → OrCsv Is (Err f) ⊎ IsGivenUp (sheet_fault f)
+  given_up Is f (inl is) = inl is
+  given_up Is f (inr e) = inr (subst (λ (g : SheetFault). IsGivenUp (sheet_fault g)) (sym e) tt)
+
+  -- a text of hours that was not read
   pub unread_lines : (keeper : K) (n : ℕ) (input : List ℕ) (f : SheetFault) → IsReaderFault f ⊎ IsRead input (Err f)
-      → Serves stands is_clean leaves keeper keeper (Err (sheet_fault f)) (Enters n input)
+      → Serves stands is_clean is_live leaves keeper keeper true (Err (sheet_fault f)) (Enters n input)
   unread_lines keeper n input f h =
-      nothing keeper (sheet_fault f) (Enters n input) (λ s. said s (read_fault (IsRead input) f h))
+      nothing keeper true (sheet_fault f) (Enters n input) (λ s. said s (given_up (IsRead input) f (read_fault (IsRead input) f h)))
     where
       said : (s : State) → OrCsv (IsRead input) (Err f) ⊎ IsGivenUp (sheet_fault f)
           → Enters n input s (Err (sheet_fault f)) s ⊎ IsGivenUp (sheet_fault f)
       said s (inl is) = inl (Err f, is, (refl, refl))
       said s (inr g) = inr g
 
+  -- one that was read and entered
   pub read_lines : (old new : K) (answer : Answer) (n : ℕ) (input : List ℕ) (lines : List EntryLine)
-      → IsRead input (Ok lines) → Serves stands is_clean leaves old new answer (λ s. EntersRead n s (Ok lines))
-      → Serves stands is_clean leaves old new answer (Enters n input)
+      → IsRead input (Ok lines) → Serves stands is_clean is_live leaves old new true answer (λ s. EntersRead n s (Ok lines))
+      → Serves stands is_clean is_live leaves old new true answer (Enters n input)
   read_lines old new answer n input lines is d =
-      served_as old new answer (λ s. EntersRead n s (Ok lines)) (Enters n input)
+      served_as old new true answer (λ s. EntersRead n s (Ok lines)) (Enters n input)
       (λ s answer after does. (Ok lines, inl is, does)) d
 
+  -- a driver's text that was not read
   pub unread_driver : (keeper : K) (input : List ℕ) (f : SheetFault) → IsReaderFault f ⊎ IsDriverRead input (Err f)
-      → Serves stands is_clean leaves keeper keeper (Err (sheet_fault f)) (Registers input)
+      → Serves stands is_clean is_live leaves keeper keeper true (Err (sheet_fault f)) (Registers input)
   unread_driver keeper input f h =
-      nothing keeper (sheet_fault f) (Registers input) (λ s. said s (read_fault (IsDriverRead input) f h))
+      nothing keeper true (sheet_fault f) (Registers input) (λ s. said s (given_up (IsDriverRead input) f (read_fault (IsDriverRead input) f h)))
     where
       said : (s : State) → OrCsv (IsDriverRead input) (Err f) ⊎ IsGivenUp (sheet_fault f)
           → Registers input s (Err (sheet_fault f)) s ⊎ IsGivenUp (sheet_fault f)
       said s (inl is) = inl (Err f, is, (refl, refl))
       said s (inr g) = inr g
 
+  -- one that was read and registered
   pub read_driver : (old new : K) (answer : Answer) (input : List ℕ) (r : Registration)
-      → IsDriverRead input (Ok r) → Serves stands is_clean leaves old new answer (λ s. RegistersRead s (Ok r))
-      → Serves stands is_clean leaves old new answer (Registers input)
+      → IsDriverRead input (Ok r) → Serves stands is_clean is_live leaves old new true answer (λ s. RegistersRead s (Ok r))
+      → Serves stands is_clean is_live leaves old new true answer (Registers input)
   read_driver old new answer input r is d =
-      served_as old new answer (λ s. RegistersRead s (Ok r)) (Registers input)
+      served_as old new true answer (λ s. RegistersRead s (Ok r)) (Registers input)
       (λ s answer after does. (Ok r, inl is, does)) d
+
+-- the text of CSV was refused, and the archive was asked nothing
+pub unasked_lines : {K : Type 0} (keeper : K) (n : ℕ) (input : List ℕ) (f : SheetFault) → IsReaderFault f ⊎ IsRead input (Err f)
+    → AsksOnly keeper keeper (IsSound (task.Enter n) input) (IsFaulty (task.Enter n) input) (Err (sheet_fault f))
+unasked_lines keeper n input f h = inr (refl, unread (IsRead input) f (read_fault (IsRead input) f h))
+
+-- the same of a driver's text
+pub unasked_driver : {K : Type 0} (keeper : K) (input : List ℕ) (f : SheetFault) → IsReaderFault f ⊎ IsDriverRead input (Err f)
+    → AsksOnly keeper keeper (IsSound task.Register input) (IsFaulty task.Register input) (Err (sheet_fault f))
+unasked_driver keeper input f h = inr (refl, unread (IsDriverRead input) f (read_fault (IsDriverRead input) f h))
 
 -- a step of the archive
 module _ {K : Type 0} (stands : K → State → Type 0) (is_clean is_live : K → Type 0) (leaves : K → List State → Type 0)
     {is_same : K → K → Type 0} {is_same_of : ℕ → K → K → Type 0} where
   -- a step that was refused
   pub refused_by : {A B : Type 0} (view : A → B) (words : B → Told) (old new : K) (f : StoreFault) (step : State → Turn B) → ((s : State) → Keeps s (step s))
+      → ((g : CardFault) → f ≡ store.Card g → is_clean new → (s : State) (past : List State) → stands old s → leaves old past → leaves new past)
       → Acts stands is_clean is_live leaves is_same is_same_of view old new (Err f) step
-      → Serves stands is_clean leaves old new (Err (store_fault f)) (λ s. Steps words (step s))
-  refused_by view words old new f step keeps acts = record {
+      → Serves stands is_clean is_live leaves old new true (Err (store_fault f)) (λ s. Steps words (step s))
+  refused_by {A = A} {B = B} view words old new f step keeps of_file acts = record {
     clean = acts.clean;
-    done = λ clean s st. done_by s (acts.state clean s st) (refusal_of view words f (step s).answer (acts.answer clean s st));
-    crash = λ clean s past st l. stopped stands is_clean leaves new words (step s) past (acts.crash clean s past st l);
+    live = λ clean. tt;
+    done = λ clean s st. done_by s (acts.state clean s st) (refusal_of view f (step s).answer (acts.answer clean s st));
+    kept = λ is clean s st. tt;
+    crash = λ clean s past st l. stopped_by clean s past st l (refusal f);
   }
     where
       done_by : (s : State) → stands new s → ((step s).answer ≡ Err f) ⊎ IsGivenUp (store_fault f)
@@ -155,45 +228,108 @@ module _ {K : Type 0} (stands : K → State → Type 0) (is_clean is_live : K �
       done_by s st (inl e) = (st, inl (sym (ap (in_words words) e), sym (keeps s f e)))
       done_by s st (inr g) = (st, inr g)
 
+      refuses : (f : StoreFault) → IsRefused {A = Unit {0}} (Err f) → IsRefused {A = A} (Err f)
+      refuses f h = h
+
+      stopped_by : is_clean new → (s : State) (past : List State) → stands old s → leaves old past → Refusal f
+          → Stops (leaves new) past (Steps words (step s)) (Err (store_fault f))
+      stopped_by clean s past st l (inl g) = inr (g, (in_words words (step s).answer, (step s).after, (refl, refl), acts.crash clean s past st l))
+      stopped_by clean s past st l (inr (inl h)) = inl (acts.refused clean (refuses f h) past l)
+      stopped_by clean s past st l (inr (inr h)) = inl (of_file h.0 h.1 clean s past st l)
+
   -- a step that was taken
   pub taken_by : {A B : Type 0} (view : A → B) (words : B → Told) (old new : K) (x : A) (step : State → Turn B)
       → Acts stands is_clean is_live leaves is_same is_same_of view old new (Ok x) step
-      → Serves stands is_clean leaves old new (Ok (words (view x))) (λ s. Steps words (step s))
+      → Serves stands is_clean is_live leaves old new true (Ok (words (view x))) (λ s. Steps words (step s))
   taken_by view words old new x step acts = record {
     clean = acts.clean;
-    done = λ clean s st. ((step s).after, acts.state clean s st, (sym (ap (in_words words) (acts.answer clean s st)), refl));
-    crash = λ clean s past st l. stopped stands is_clean leaves new words (step s) past (acts.crash clean s past st l);
+    live = acts.live;
+    done = λ clean s st. ((step s).after, acts.state clean s st, told clean s st);
+    kept = λ is clean s st. ((step s).after, acts.state clean s st, told clean s st, acts.kept clean s st);
+    crash = λ clean s past st l. inr ((step s).after, told clean s st, acts.crash clean s past st l);
   }
+    where
+      told : is_clean new → (s : State) → stands old s → Steps words (step s) (Ok (words (view x))) (step s).after
+      told clean s st = (sym (ap (in_words words) (acts.answer clean s st)), refl)
+
+  -- a step that tells no file's fault
+  pub refused_without_file : {A B : Type 0} (view : A → B) (words : B → Told) (old new : K) (f : StoreFault) (step : State → Turn B) → ((s : State) → Keeps s (step s))
+      → ((s : State) → TellsNoFile (step s).answer)
+      → Acts stands is_clean is_live leaves is_same is_same_of view old new (Err f) step
+      → Serves stands is_clean is_live leaves old new true (Err (store_fault f)) (λ s. Steps words (step s))
+  refused_without_file {B = B} view words old new f step keeps none acts =
+      refused_by view words old new f step keeps (λ g e clean s past st l. absurd (none s g (said f g e (step s).answer (acts.answer clean s st)))) acts
+    where
+      said : (f : StoreFault) (g : CardFault) → f ≡ store.Card g → (answer : Result B StoreFault) → Answers view (Err f) answer → answer ≡ Err (store.Card g)
+      said f g e answer h = (subst (λ (f : StoreFault). Answers view (Err f) answer → answer ≡ Err (store.Card g)) (sym e) (λ h. h)) h
 
   -- ---- import
 
+  -- an import that was refused, by whatever its file tells
   pub import_refused : (old new : K) (caller : Caller) (p : Part) (input : List ℕ) (f : StoreFault)
+      → ((g : CardFault) → FileTells p input (Err g) → ((answered f ≡ Err store.Memory) ⊎ (answered f ≡ Err (store.Card g))) × (new ≡ old))
+      → ((g : CardFault) → answered f ≡ Err (store.Card g) → FileTells p input (Err g))
       → ((content : Result Content CardFault) → FileTells p input content
       → Acts stands is_clean is_live leaves is_same is_same_of (λ (done : Imported). done) old new (Err f)
       (imported (caller_number caller) (part_number p) input content))
-      → Serves stands is_clean leaves old new (Err (store_fault f)) (Imports caller p input)
-  import_refused old new caller p input f acts =
+      → Serves stands is_clean is_live leaves old new true (Err (store_fault f)) (Imports caller p input)
+  import_refused old new caller p input f unreadable readable acts =
       let c = some_content p input in
       let step = imported (caller_number caller) (part_number p) input c.0 in
-      served_as stands is_clean leaves old new (Err (store_fault f)) (λ s. Steps imported_told (step s))
+      served_as stands is_clean is_live leaves old new true (Err (store_fault f)) (λ s. Steps imported_told (step s))
       (Imports caller p input)
       (λ s answer after does. (c.0, c.1, does))
       (refused_by (λ (done : Imported). done) imported_told old new f step
-      (imported_keeps (caller_number caller) (part_number p) input c.0) (acts c.0 c.1))
+      (imported_keeps (caller_number caller) (part_number p) input c.0)
+      (λ g e clean s past st l. subst (λ (k : K). leaves k past) (sym (unreadable g (readable g (ap Err e))).1) l)
+      (acts c.0 c.1))
 
+  -- one that went in, or was there
   pub import_taken : (old new : K) (caller : Caller) (p : Part) (input : List ℕ) (x : Imported)
       → ((content : Result Content CardFault) → FileTells p input content
       → Acts stands is_clean is_live leaves is_same is_same_of (λ (done : Imported). done) old new (Ok x)
       (imported (caller_number caller) (part_number p) input content))
-      → Serves stands is_clean leaves old new (Ok (imported_told x)) (Imports caller p input)
+      → Serves stands is_clean is_live leaves old new true (Ok (imported_told x)) (Imports caller p input)
   import_taken old new caller p input x acts =
       let c = some_content p input in
       let step = imported (caller_number caller) (part_number p) input c.0 in
-      served_as stands is_clean leaves old new (Ok (imported_told x)) (λ s. Steps imported_told (step s))
+      served_as stands is_clean is_live leaves old new true (Ok (imported_told x)) (λ s. Steps imported_told (step s))
       (Imports caller p input)
       (λ s answer after does. (c.0, c.1, does))
       (taken_by (λ (done : Imported). done) imported_told old new x step (acts c.0 c.1))
 
+-- a card file with a fault asks the archive nothing
+pub import_asks : {K : Type 0} (old new : K) (caller : Caller) (p : Part) (input : List ℕ) (f : StoreFault)
+    → ((g : CardFault) → FileTells p input (Err g) → ((answered f ≡ Err store.Memory) ⊎ (answered f ≡ Err (store.Card g))) × (new ≡ old))
+    → AsksOnly old new (IsSound (task.Import caller p) input) (IsFaulty (task.Import caller p) input) (Err (store_fault f))
+import_asks old new caller p input f unreadable = by (some_content p input).0 (some_content p input).1
+  where
+    said : (g : CardFault) → FileTells p input (Err g) → (answered f ≡ Err store.Memory) ⊎ (answered f ≡ Err (store.Card g))
+        → IsUnread (IsFaulty (task.Import caller p) input) (Err (store_fault f))
+    said g is (inl e) = (let same : f ≡ store.Memory = cc in inr (ap store_fault same))
+    said g is (inr e) = (let same : f ≡ store.Card g = cc in inl (g, is, ap store_fault same))
+
+    by : (content : Result Content CardFault) → FileTells p input content
+        → AsksOnly old new (IsSound (task.Import caller p) input) (IsFaulty (task.Import caller p) input) (Err (store_fault f))
+    by (Ok content) is = inl (content, is)
+    by (Err g) is = (let un = unreadable g is in inr (un.1, said g is un.0))
+
+-- nor does one that went in, or was there, have a fault
+pub import_sound : {K : Type 0} (old new : K) (caller : Caller) (p : Part) (input : List ℕ) (x : Imported) (told : Told)
+    → ((g : CardFault) → FileTells p input (Err g) → ((taken x ≡ Err store.Memory) ⊎ (taken x ≡ Err (store.Card g))) × (new ≡ old))
+    → AsksOnly old new (IsSound (task.Import caller p) input) (IsFaulty (task.Import caller p) input) (Ok told)
+import_sound old new caller p input x told unreadable = by (some_content p input).0 (some_content p input).1
+  where
+    never : (g : CardFault) → (taken x ≡ Err store.Memory) ⊎ (taken x ≡ Err (store.Card g)) → ⊥
+    never g (inl e) = cc
+    never g (inr e) = cc
+
+    by : (content : Result Content CardFault) → FileTells p input content
+        → AsksOnly old new (IsSound (task.Import caller p) input) (IsFaulty (task.Import caller p) input) (Ok told)
+    by (Ok content) is = inl (content, is)
+    by (Err g) is = absurd (never g (unreadable g is).0)
+
+-- no reader failed where there are lines
 pub lines_of : (input : List ℕ) (lines : List EntryLine) → ⊥ ⊎ IsRead input (Ok lines) → IsRead input (Ok lines)
 lines_of input lines (inl h) = absurd h
 lines_of input lines (inr is) = is

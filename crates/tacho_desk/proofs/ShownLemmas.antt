@@ -20,6 +20,7 @@ use Rattle.tacho_desk.specs.Told.{Long}
 abbrev told_marks : (ℕ → Option Mark) → Result (ℕ → Option Mark) StoreFault
 told_marks marks = Ok marks
 
+-- his line has the marks that he holds
 same_marks : (d : Driver) (line : List Span) → told_marks (held_mark d) ≡ told_marks (mark_at line) → mark_at line ≡ mark_at (held_spans d)
 same_marks d line e = let same : mark_at (held_spans d) ≡ mark_at line = cc in sym same
 
@@ -32,6 +33,7 @@ agree_in month start past a b bounds e first end others =
 
 -- a text of a line with the marks of a month is one of what the driver holds
 module _ (month start past : ℕ) (bounds : AreBounds month start past) where
+  -- the text of a month
   month_shown : (Is : List Span → List ℕ → Type 0) → ((a b : List Span) (text : List ℕ) → AgreeIn month a b → Is a text → Is b text)
       → (o : Option Driver) (line : List Span) (text : List ℕ) → told_of {A = Unit {0}} (λ d. Ok tt) o ≡ Ok tt
       → IfSome o (λ d. AgreeWithin start past line (held_spans d)) → Is line text → IsTextOf (λ d. Is (held_spans d)) o (Ok (Long text))
@@ -39,10 +41,12 @@ module _ (month start past : ℕ) (bounds : AreBounds month start past) where
   month_shown Is same (Some d) line text e within is =
       same line (held_spans d) text (agree_in month start past line (held_spans d) bounds within) is
 
+  -- the CSV of what he holds
   pub spans_shown : (n : ℕ) (s : State) (line : List Span) (text : List ℕ) → reported n s ≡ Ok tt → IsHeldWithin n start past s line
       → IsSpanCsv line month text → IsTextOf (λ d. IsSpanCsv (held_spans d) month) (driver_of n s) (Ok (Long text))
   spans_shown n s line text = month_shown (λ line. IsSpanCsv line month) (λ a b. span_csv_same a b month) (driver_of n s) line text
 
+  -- the text of what he doesn't hold
   pub gaps_shown : (n : ℕ) (s : State) (line : List Span) (text : List ℕ) → reported n s ≡ Ok tt → IsHeldWithin n start past s line
       → IsGapText line month text → IsTextOf (λ d. IsGapText (held_spans d) month) (driver_of n s) (Ok (Long text))
   gaps_shown n s line text = month_shown (λ line. IsGapText line month) (λ a b. gap_text_same a b month) (driver_of n s) line text
@@ -64,6 +68,7 @@ sheet_of n month (Some d) name line report text named lined r is =
           (subst (λ (name : List ℕ). IsMonthSheet n name line report.breaches.items report.horizon month text) his is),
     )
 
+-- the sheet of the driver with a number
 pub sheet_shown : (n month : ℕ) (s : State) (name : List ℕ) (line : List Span) (report : Report) (text : List ℕ)
     → named n s ≡ Ok name → lined n s ≡ Ok (mark_at line) → IsReportOf n s report
     → IsMonthSheet n name line report.breaches.items report.horizon month text

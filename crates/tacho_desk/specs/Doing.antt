@@ -1,10 +1,11 @@
 -- What is wanted of a task: what it tells, or its fault, and the state of the archive after it.
-use Rattle.std.specs.Prelude.{◌≡◌, ◌⊎◌, ◌∷◌, List, Option, None, Some, Result, Ok, Err, ℕ}
+use Rattle.std.specs.Prelude.{◌≡◌, ◌⊎◌, ◌∷◌, [], Bool, true, List, Option, None, Some, Result, Ok, Err, OnOk, ℕ}
 use Rattle.tacho_state.specs.declared.fault.StoreFault.{StoreFault}
 use Rattle.tacho_state.specs.declared.fault.StoreFault.TheVariants as store
 use Rattle.tacho_state.specs.State.{Driver, State, driver_of}
 use Rattle.tacho_state.specs.Steps.{Turn}
 use Rattle.tacho_desk.specs.declared.fault.Fault.{Fault}
+use Rattle.tacho_desk.specs.declared.fault.Fault.TheVariants as fault
 use Rattle.tacho_desk.specs.Fault.{IsGivenUp, store_fault}
 use Rattle.tacho_desk.specs.Told.{Answer, Told, Long}
 
@@ -51,14 +52,36 @@ abbrev pub Done : (State → Type 0) → State → Doing → Answer → Type 0
 Done stands s Does (Ok told) = (after : State) × stands after × Does (Ok told) after
 Done stands s Does (Err f) = stands s × (Does (Err f) s ⊎ IsGivenUp f)
 
--- a stop leaves what could be left before, or also the state after some answer that is wanted
-abbrev pub Stops : (List State → Type 0) → List State → Doing → Type 0
-Stops leaves past Does = leaves past ⊎ ((answer : Answer) × (after : State) × Does answer after × leaves (after ∷ past))
+-- What was told is kept: a stop leaves the state after it and no other.
+abbrev pub IsKept : (State → Type 0) → (List State → Type 0) → Doing → Answer → Type 0
+IsKept stands leaves Does (Ok told) = (after : State) × stands after × Does (Ok told) after × leaves (after ∷ [])
+IsKept stands leaves Does (Err f) = Unit {0}
 
--- A call does what is wanted at the archive, which has not become clean by it.
-pub record Serves {K : Type 0} (stands : K → State → Type 0) (is_clean : K → Type 0) (leaves : K → List State → Type 0)
-    (old new : K) (answer : Answer) (Does : State → Doing) : Type 0 where
+-- A stop leaves what could be left before, or also the state after what was told; where the task was given up, the state after
+-- some answer that is wanted.
+abbrev pub Stops : (List State → Type 0) → List State → Doing → Answer → Type 0
+Stops leaves past Does (Ok told) = leaves past ⊎ ((after : State) × Does (Ok told) after × leaves (after ∷ past))
+Stops leaves past Does (Err f) =
+    leaves past ⊎ (IsGivenUp f × ((answer : Answer) × (after : State) × Does answer after × leaves (after ∷ past)))
+
+-- A call does what is wanted at the archive, which has not become clean by it, and is live where something was told; what a command
+-- told is kept.
+pub record Serves {K : Type 0} (stands : K → State → Type 0) (is_clean is_live : K → Type 0) (leaves : K → List State → Type 0)
+    (old new : K) (command : Bool) (answer : Answer) (Does : State → Doing) : Type 0 where
   pub clean : is_clean new → is_clean old
+  pub live : is_clean new → OnOk answer (is_live new)
   pub done : is_clean new → (s : State) → stands old s → Done (stands new) s (Does s) answer
+  pub kept : command ≡ true → is_clean new → (s : State) → stands old s → IsKept (stands new) (leaves new) (Does s) answer
   pub crash : is_clean new → (s : State) (past : List State) → stands old s → leaves old past
-      → Stops (leaves new) past (Does s)
+      → Stops (leaves new) past (Does s) answer
+
+-- ---- what is asked
+
+-- the answer is the input's fault, or want of memory
+abbrev pub IsUnread : (Fault → Type 0) → Answer → Type 0
+IsUnread IsFaulty (Ok told) = ⊥
+IsUnread IsFaulty (Err f) = IsFaulty f ⊎ (f ≡ fault.Memory)
+
+-- Either the input is sound; or the archive was asked nothing, and the answer has nothing to do with it.
+abbrev pub AsksOnly : {K : Type 0} → K → K → Type 0 → (Fault → Type 0) → Answer → Type 0
+AsksOnly old new IsSound IsFaulty answer = IsSound ⊎ ((new ≡ old) × IsUnread IsFaulty answer)

@@ -11,12 +11,8 @@ use Rattle.tacho_desk.specs.declared.task.Task.TheVariants as task
 -- a task of the driver himself: the import of his card, or a reading of what he has
 abbrev pub IsHis : ℕ → Task → Type 0
 IsHis n (task.Import (caller.Driver m) part) = m ≡ n
-IsHis n (task.Spans m month) = m ≡ n
-IsHis n (task.Gaps m month) = m ≡ n
-IsHis n (task.Sheet m month) = m ≡ n
-IsHis n (task.Breaches m) = m ≡ n
-IsHis n (task.Owed m) = m ≡ n
-IsHis n (task.Entries m) = m ≡ n
+IsHis n (task.Reading m text) = m ≡ n
+IsHis n (task.MonthReading m month text) = m ≡ n
 IsHis n (task.File m number) = m ≡ n
 IsHis n t = ⊥
 

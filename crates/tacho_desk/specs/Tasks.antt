@@ -1,5 +1,5 @@
 -- What each task tells of an archive, and the state after it.
-use Rattle.std.specs.Prelude.{◌≡◌, ◌⊎◌, ℕ, ◌*◌, ◌==◌, List, Result, Ok, Err, Bool, true, false, codes, flat_map, if◌then◌else◌, length}
+use Rattle.std.specs.Prelude.{◌≡◌, ◌⊎◌, ℕ, ◌*◌, ◌==◌, List, Result, Ok, Err, codes, flat_map, if◌then◌else◌, length}
 use Rattle.tacho_line.specs.declared.horizon.Horizon.{Horizon}
 use Rattle.tacho_card.specs.declared.fault.CardFault.{CardFault}
 use Rattle.tacho_card.specs.declared.file.Part.{Part}
@@ -13,6 +13,8 @@ use Rattle.tacho_state.specs.Registration.{Registration}
 use Rattle.tacho_state.specs.State.{Driver, State, held_spans}
 use Rattle.tacho_state.specs.Steps.{Content, registered, imported, entered, withdrawn, rebased, listed, downloaded}
 use Rattle.tacho_state.specs.declared.caller.Caller.{Caller}
+use Rattle.tacho_state.specs.declared.entry.EntryLine.{EntryLine}
+use Rattle.tacho_state.specs.declared.fault.StoreFault.TheVariants as store
 use Rattle.tacho_state.specs.declared.imported.Imported.{Imported}
 use Rattle.tacho_state.specs.declared.imported.Imported.TheVariants as imported
 use Rattle.tacho_sheet.specs.declared.fault.SheetFault.{SheetFault}
@@ -23,10 +25,17 @@ use Rattle.tacho_sheet.specs.Entries.{IsRead, Lines}
 use Rattle.tacho_sheet.specs.Reports.{breach_text, owed_text, IsGapText, IsMonthSheet, IsSpanCsv}
 use Rattle.tacho_sheet.specs.Text.{entry_line}
 use Rattle.tacho_desk.specs.Doing.{Doing, Lists, Refuses, Shows, Steps}
-use Rattle.tacho_desk.specs.Fault.{sheet_fault}
+use Rattle.tacho_desk.specs.Fault.{sheet_fault, store_fault}
 use Rattle.tacho_desk.specs.Told.{Told, Added, Line, Long, File}
+use Rattle.tacho_desk.specs.declared.fault.Fault.{Fault}
 use Rattle.tacho_desk.specs.declared.task.Task.{Task}
 use Rattle.tacho_desk.specs.declared.task.Task.TheVariants as task
+use Rattle.tacho_desk.specs.declared.want.MonthReading.{MonthReading}
+use Rattle.tacho_desk.specs.declared.want.MonthReading.TheVariants as month
+use Rattle.tacho_desk.specs.declared.want.Reading.{Reading}
+use Rattle.tacho_desk.specs.declared.want.Reading.TheVariants as reading
+use Rattle.tacho_desk.specs.declared.want.Want.{Want}
+use Rattle.tacho_desk.specs.declared.want.Want.TheVariants as want
 
 -- ---- commands
 
@@ -79,47 +88,57 @@ OfReport Is d text =
     (horizon : Horizon) × (breaches : List Breach) × (debts : List Debt) × IsReport (held_spans d) (1440 * d.base) horizon breaches debts
     × Is breaches debts horizon text
 
-abbrev pub ShowsSpans : ℕ → ℕ → State → Doing
-ShowsSpans month = Shows (λ d. IsSpanCsv (held_spans d) month)
+-- a text of a driver
+abbrev pub ShowsReading : Reading → ℕ → State → Doing
+ShowsReading reading.Breaches n s = Shows (OfReport (λ breaches debts horizon text. text ≡ breach_text breaches horizon)) n s
+ShowsReading reading.Owed n s = Shows (OfReport (λ breaches debts horizon text. text ≡ owed_text debts horizon)) n s
+ShowsReading reading.Entries n s = Lists (λ entries. Long (flat_map entry_line entries)) s (listed n s)
 
-abbrev pub ShowsGaps : ℕ → ℕ → State → Doing
-ShowsGaps month = Shows (λ d. IsGapText (held_spans d) month)
-
-abbrev pub ShowsSheet : ℕ → ℕ → State → Doing
-ShowsSheet month n = Shows (λ d. OfReport (λ breaches debts horizon. IsMonthSheet n d.name (held_spans d) breaches horizon month) d) n
-
-abbrev pub ShowsBreaches : ℕ → State → Doing
-ShowsBreaches = Shows (OfReport (λ breaches debts horizon text. text ≡ breach_text breaches horizon))
-
-abbrev pub ShowsOwed : ℕ → State → Doing
-ShowsOwed = Shows (OfReport (λ breaches debts horizon text. text ≡ owed_text debts horizon))
-
-abbrev pub ShowsEntries : ℕ → State → Doing
-ShowsEntries n s = Lists (λ entries. Long (flat_map entry_line entries)) s (listed n s)
+-- a text of his month
+abbrev pub ShowsMonth : MonthReading → ℕ → ℕ → State → Doing
+ShowsMonth month.Spans m n s = Shows (λ d. IsSpanCsv (held_spans d) m) n s
+ShowsMonth month.Gaps m n s = Shows (λ d. IsGapText (held_spans d) m) n s
+ShowsMonth month.Sheet m n s = Shows (λ d. OfReport (λ breaches debts horizon. IsMonthSheet n d.name (held_spans d) breaches horizon m) d) n s
 
 abbrev pub ShowsFile : ℕ → ℕ → State → Doing
 ShowsFile n number s = Lists (λ file. File file) s (downloaded n number s)
 
 -- ---- tasks
 
--- a task that has an input
-abbrev pub takes_input : Task → Bool
-takes_input task.Register = true
-takes_input (task.Import caller part) = true
-takes_input (task.Enter driver) = true
-takes_input other = false
+-- what is wanted by a task
+abbrev pub want_of : Task → Want
+want_of task.Register = want.Register
+want_of (task.Import caller part) = want.Import
+want_of (task.Enter n) = want.Enter
+want_of (task.Withdraw n number) = want.Withdraw
+want_of (task.Base n day) = want.Base
+want_of (task.Reading n text) = want.Reading text
+want_of (task.MonthReading n m text) = want.MonthReading text
+want_of (task.File n number) = want.File
 
--- what is wanted of a task, over its input
+-- what a task tells over its input, and the state after it
 abbrev pub Does : Task → List ℕ → State → Doing
 Does task.Register input s = Registers input s
 Does (task.Import caller part) input s = Imports caller part input s
 Does (task.Enter n) input s = Enters n input s
 Does (task.Withdraw n number) input s = Withdraws n number s
 Does (task.Base n day) input s = Rebases n day s
-Does (task.Spans n month) input s = ShowsSpans month n s
-Does (task.Gaps n month) input s = ShowsGaps month n s
-Does (task.Sheet n month) input s = ShowsSheet month n s
-Does (task.Breaches n) input s = ShowsBreaches n s
-Does (task.Owed n) input s = ShowsOwed n s
-Does (task.Entries n) input s = ShowsEntries n s
+Does (task.Reading n text) input s = ShowsReading text n s
+Does (task.MonthReading n m text) input s = ShowsMonth text m n s
 Does (task.File n number) input s = ShowsFile n number s
+
+-- ---- inputs
+
+-- its input is sound: a text of CSV that is read, a card file without a fault, or none that is looked at
+abbrev pub IsSound : Task → List ℕ → Type 0
+IsSound task.Register input = (r : Registration) × IsDriverRead input (Ok r)
+IsSound (task.Import caller part) input = (content : Content) × FileTells part input (Ok content)
+IsSound (task.Enter n) input = (lines : List EntryLine) × IsRead input (Ok lines)
+IsSound t input = Unit {0}
+
+-- its input has this fault
+abbrev pub IsFaulty : Task → List ℕ → Fault → Type 0
+IsFaulty task.Register input f = (e : SheetFault) × OrCsv (IsDriverRead input) (Err e) × (f ≡ sheet_fault e)
+IsFaulty (task.Import caller part) input f = (e : CardFault) × FileTells part input (Err e) × (f ≡ store_fault (store.Card e))
+IsFaulty (task.Enter n) input f = (e : SheetFault) × OrCsv (IsRead input) (Err e) × (f ≡ sheet_fault e)
+IsFaulty t input f = ⊥

@@ -4,15 +4,17 @@ use Rattle.tacho_time.specs.Reading.{day_at, month_at}
 use Rattle.tacho_time.specs.declared.fault.TimeFault.{TimeFault}
 use Rattle.tacho_card.specs.declared.file.Part.{Part}
 use Rattle.tacho_card.specs.declared.file.Part.TheVariants as part
+use Rattle.tacho_state.specs.declared.caller.Caller.{Caller}
+use Rattle.tacho_state.specs.declared.caller.Caller.TheVariants as caller
 use Rattle.tacho_sheet.specs.declared.fault.Fault.TheVariants as told
 use Rattle.tacho_sheet.specs.Number.{HasNoNumber, IsNumberText}
 use Rattle.tacho_desk.specs.Fault.{time_fault}
 use Rattle.tacho_desk.specs.declared.fault.Fault.{Fault}
 use Rattle.tacho_desk.specs.declared.fault.Fault.TheVariants as fault
-use Rattle.tacho_desk.specs.declared.matter.Matter.{Matter}
-use Rattle.tacho_desk.specs.declared.matter.Matter.TheVariants as matter
 use Rattle.tacho_desk.specs.declared.task.Task.{Task}
 use Rattle.tacho_desk.specs.declared.task.Task.TheVariants as task
+use Rattle.tacho_desk.specs.declared.want.Want.{Want}
+use Rattle.tacho_desk.specs.declared.want.Want.TheVariants as want
 
 -- the most that a driver's number may be, and that of an entry or a download
 abbrev pub most_driver : ℕ
@@ -47,15 +49,31 @@ abbrev pub by_part : Option Part → (Part → Task) → Wanted
 by_part None task = Err (fault.Told told.Part)
 by_part (Some p) task = Ok (task p)
 
--- what is wanted of a driver with the task's other word
-abbrev pub IsAbout : Matter → ℕ → List ℕ → Wanted → Type 0
-IsAbout matter.Enter n word wanted = wanted ≡ Ok (task.Enter n)
-IsAbout matter.Withdraw n word wanted = ByNumber most_number word (λ k w. w ≡ Ok (task.Withdraw n k)) wanted
-IsAbout matter.Base n word wanted = wanted ≡ by_time (day_at word) (λ day. Ok (task.Base n day))
-IsAbout matter.Spans n word wanted = wanted ≡ by_time (month_at word) (λ month. Ok (task.Spans n month))
-IsAbout matter.Gaps n word wanted = wanted ≡ by_time (month_at word) (λ month. Ok (task.Gaps n month))
-IsAbout matter.Sheet n word wanted = wanted ≡ by_time (month_at word) (λ month. Ok (task.Sheet n month))
-IsAbout matter.Breaches n word wanted = wanted ≡ Ok (task.Breaches n)
-IsAbout matter.Owed n word wanted = wanted ≡ Ok (task.Owed n)
-IsAbout matter.Entries n word wanted = wanted ≡ Ok (task.Entries n)
-IsAbout matter.File n word wanted = ByNumber most_number word (λ k w. w ≡ Ok (task.File n k)) wanted
+-- the driver whom a task is about: for the office the one whose number is the word, or the driver himself who asks
+abbrev pub IsDriver : Caller → List ℕ → ℕ → Type 0
+IsDriver caller.Office word n = IsNumberText most_driver word n
+IsDriver (caller.Driver m) word n = n ≡ m
+
+-- the office names none
+abbrev pub HasNoDriver : Caller → List ℕ → Type 0
+HasNoDriver caller.Office word = HasNoNumber most_driver word
+HasNoDriver (caller.Driver m) word = ⊥
+
+-- N1, or what is wanted with the driver
+abbrev pub ByDriver : Caller → List ℕ → (ℕ → Wanted → Type 0) → Wanted → Type 0
+ByDriver c word Is wanted =
+    (HasNoDriver c word × (wanted ≡ Err (fault.Told told.Number))) ⊎ ((n : ℕ) × IsDriver c word n × Is n wanted)
+
+-- the task of what a caller wants, its words read from left to right, or the fault of the first that is wrong
+abbrev pub IsTask : Want → Caller → List ℕ → List ℕ → Wanted → Type 0
+IsTask want.Register c driver word wanted = wanted ≡ Ok task.Register
+IsTask want.Import c driver word wanted = wanted ≡ by_part (part_of word) (λ p. task.Import c p)
+IsTask want.Enter c driver word wanted = ByDriver c driver (λ n w. w ≡ Ok (task.Enter n)) wanted
+IsTask want.Withdraw c driver word wanted =
+    ByDriver c driver (λ n. ByNumber most_number word (λ k w. w ≡ Ok (task.Withdraw n k))) wanted
+IsTask want.Base c driver word wanted = ByDriver c driver (λ n w. w ≡ by_time (day_at word) (λ day. Ok (task.Base n day))) wanted
+IsTask (want.Reading text) c driver word wanted = ByDriver c driver (λ n w. w ≡ Ok (task.Reading n text)) wanted
+IsTask (want.MonthReading text) c driver word wanted =
+    ByDriver c driver (λ n w. w ≡ by_time (month_at word) (λ month. Ok (task.MonthReading n month text))) wanted
+IsTask want.File c driver word wanted =
+    ByDriver c driver (λ n. ByNumber most_number word (λ k w. w ≡ Ok (task.File n k))) wanted

@@ -1,9 +1,10 @@
 //! The commands, over their numbers and their input.
 
-ghost use Rattle.std.specs.Prelude.{◌≡◌, Ok};
+ghost use Rattle.std.specs.Prelude.{◌≡◌, Ok, true};
 ghost use Rattle.tacho_state.specs.Batch.{IsBatch};
-ghost use Rattle.tacho_desk.specs.Doing.{Serves};
-ghost use Rattle.tacho_desk.specs.Tasks.{Enters, EntersRead, Imports, Rebases, Registers, RegistersRead, Withdraws, entered_told, imported_told};
+ghost use Rattle.tacho_desk.specs.Doing.{AsksOnly, Serves};
+ghost use Rattle.tacho_desk.specs.Tasks.{Enters, EntersRead, Imports, IsFaulty, IsSound, Rebases, Registers, RegistersRead, Withdraws, entered_told, imported_told};
+ghost use Rattle.tacho_desk.specs.declared.task.Task.TheVariants as task;
 ghost use Rattle.tacho_desk.specs.Told.{answer_of, told_of};
 
 use crate::base::BaseDay;
@@ -23,7 +24,8 @@ pub(crate) fn register<K: Keeper>(
     keeper: &mut K,
     input: &[u8],
 ) -> Result<Text, Fault>
-    ensures { Serves K.stands K.is_clean K.leaves keeper.old keeper.new (answer_of result) (Registers input.now) }
+    ensures serves { Serves K.stands K.is_clean K.is_live K.leaves keeper.old keeper.new true (answer_of result) (Registers input.now) }
+    ensures asks { AsksOnly keeper.old keeper.new (IsSound task.Register input.now) (IsFaulty task.Register input.now) (answer_of result) }
 {
     let driver = read_driver(alloc, input)?;
     register_driver(keeper, &driver)
@@ -31,7 +33,7 @@ pub(crate) fn register<K: Keeper>(
 
 /// Adds a driver.
 fn register_driver<K: Keeper>(keeper: &mut K, driver: &Driver) -> Result<Text, Fault>
-    ensures { Serves K.stands K.is_clean K.leaves keeper.old keeper.new (answer_of result)
+    ensures { Serves K.stands K.is_clean K.is_live K.leaves keeper.old keeper.new true (answer_of result)
         (λ s. RegistersRead s (Ok driver.now)) }
 {
     keeper.register(driver)?;
@@ -46,8 +48,10 @@ pub(crate) fn import<K: Keeper>(
     part: Part,
     input: &[u8],
 ) -> Result<Text, Fault>
-    ensures { Serves K.stands K.is_clean K.leaves keeper.old keeper.new (answer_of result)
+    ensures serves { Serves K.stands K.is_clean K.is_live K.leaves keeper.old keeper.new true (answer_of result)
         (Imports caller part input.now) }
+    ensures asks { AsksOnly keeper.old keeper.new (IsSound (task.Import caller part) input.now) (IsFaulty (task.Import caller part) input.now)
+        (answer_of result) }
 {
     let imported = keeper.import(alloc, caller, part, input)?;
     Ok(imported_text(imported))
@@ -71,7 +75,8 @@ pub(crate) fn enter<K: Keeper>(
     driver: u32,
     input: &[u8],
 ) -> Result<Text, Fault>
-    ensures { Serves K.stands K.is_clean K.leaves keeper.old keeper.new (answer_of result) (Enters driver input.now) }
+    ensures serves { Serves K.stands K.is_clean K.is_live K.leaves keeper.old keeper.new true (answer_of result) (Enters driver input.now) }
+    ensures asks { AsksOnly keeper.old keeper.new (IsSound (task.Enter driver) input.now) (IsFaulty (task.Enter driver) input.now) (answer_of result) }
 {
     let lines = read_entries(alloc, input)?;
     enter_lines(alloc, keeper, driver, &lines)
@@ -85,7 +90,7 @@ fn enter_lines<K: Keeper>(
     lines: &[EntryLine],
 ) -> Result<Text, Fault>
     requires { IsBatch lines.now }
-    ensures { Serves K.stands K.is_clean K.leaves keeper.old keeper.new (answer_of result)
+    ensures { Serves K.stands K.is_clean K.is_live K.leaves keeper.old keeper.new true (answer_of result)
         (λ s. EntersRead driver s (Ok lines.now)) }
 {
     let entered = keeper.enter(alloc, driver, lines)?;
@@ -111,7 +116,7 @@ pub(crate) fn withdraw<K: Keeper>(
     driver: u32,
     number: u32,
 ) -> Result<Text, Fault>
-    ensures { Serves K.stands K.is_clean K.leaves keeper.old keeper.new (answer_of result) (Withdraws driver number) }
+    ensures { Serves K.stands K.is_clean K.is_live K.leaves keeper.old keeper.new true (answer_of result) (Withdraws driver number) }
 {
     keeper.withdraw(alloc, driver, number)?;
     Ok(Text::Line(withdrawn_line(number)))
@@ -119,7 +124,7 @@ pub(crate) fn withdraw<K: Keeper>(
 
 /// Sets the day from which a driver is examined.
 pub(crate) fn rebase<K: Keeper>(keeper: &mut K, driver: u32, base: BaseDay) -> Result<Text, Fault>
-    ensures { Serves K.stands K.is_clean K.leaves keeper.old keeper.new (answer_of result) (Rebases driver base) }
+    ensures { Serves K.stands K.is_clean K.is_live K.leaves keeper.old keeper.new true (answer_of result) (Rebases driver base) }
 {
     let day = base.day();
     keeper.rebase(driver, day)?;

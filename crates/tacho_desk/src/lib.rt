@@ -1,20 +1,20 @@
-//! What is done at an archive: the tasks of a command line or of a request, over their numbers and their input; what each
-//! tells, or its fault.
+//! What is done at an archive: what a command line or a request can want, its words, the task that these make, and what it
+//! tells over its input, or its fault.
 #![tactic(auto)]
 
 mod base;
 mod commands;
 mod fault;
 pub mod laws;
-mod matter;
 mod readings;
 mod task;
 mod text;
+mod want;
 mod words;
 
 pub use base::BaseDay;
 pub use fault::Fault;
-pub use matter::Matter;
 pub use task::{Task, carry_out};
 pub use text::Text;
-pub use words::{import_of, task_about, task_of_driver};
+pub use want::{MonthReading, Reading, Want};
+pub use words::task_of;

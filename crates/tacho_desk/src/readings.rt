@@ -1,24 +1,56 @@
-//! The texts that the office reads of a driver.
+//! The texts that are read of a driver.
 
+ghost use Rattle.std.specs.Prelude.{false};
 ghost use Rattle.tacho_desk.specs.Doing.{Serves};
-ghost use Rattle.tacho_desk.specs.Tasks.{ShowsBreaches, ShowsEntries, ShowsFile, ShowsGaps, ShowsOwed, ShowsSheet, ShowsSpans};
+ghost use Rattle.tacho_desk.specs.Tasks.{ShowsFile, ShowsMonth, ShowsReading};
 ghost use Rattle.tacho_desk.specs.Told.{answer_of};
+ghost use Rattle.tacho_desk.specs.declared.want.MonthReading.TheVariants as of_month;
+ghost use Rattle.tacho_desk.specs.declared.want.Reading.TheVariants as reading;
 
 use crate::fault::Fault;
 use crate::text::Text;
+use crate::want::{MonthReading, Reading};
 use std::alloc::Global;
 use tacho_sheet::{breach_text, entry_text, gap_text, month_sheet, owed_text, span_csv};
 use tacho_state::Keeper;
 use tacho_time::{Month, month_range};
 
-/// What a driver holds in a month, as CSV.
-pub(crate) fn spans<K: Keeper>(
+/// A text of a driver.
+pub(crate) fn show<K: Keeper>(
+    alloc: Global,
+    keeper: &mut K,
+    driver: u32,
+    reading: Reading,
+) -> Result<Text, Fault>
+    ensures { Serves K.stands K.is_clean K.is_live K.leaves keeper.old keeper.new false (answer_of result) (ShowsReading reading driver) }
+{
+    match reading {
+        Reading::Breaches => breaches(alloc, keeper, driver),
+        Reading::Owed => owed(alloc, keeper, driver),
+        Reading::Entries => entries(alloc, keeper, driver),
+    }
+}
+
+/// A text of a driver's month.
+pub(crate) fn show_month<K: Keeper>(
     alloc: Global,
     keeper: &mut K,
     driver: u32,
     month: Month,
+    reading: MonthReading,
 ) -> Result<Text, Fault>
-    ensures { Serves K.stands K.is_clean K.leaves keeper.old keeper.new (answer_of result) (ShowsSpans month driver) }
+    ensures { Serves K.stands K.is_clean K.is_live K.leaves keeper.old keeper.new false (answer_of result) (ShowsMonth reading month driver) }
+{
+    match reading {
+        MonthReading::Spans => spans(alloc, keeper, driver, month),
+        MonthReading::Gaps => gaps(alloc, keeper, driver, month),
+        MonthReading::Sheet => sheet(alloc, keeper, driver, month),
+    }
+}
+
+/// What a driver holds in a month, as CSV.
+fn spans<K: Keeper>(alloc: Global, keeper: &mut K, driver: u32, month: Month) -> Result<Text, Fault>
+    ensures { Serves K.stands K.is_clean K.is_live K.leaves keeper.old keeper.new false (answer_of result) (ShowsMonth of_month.Spans month driver) }
 {
     let (start, past) = month_range(month);
     let line = keeper.line_within(alloc, driver, start, past)?;
@@ -26,13 +58,8 @@ pub(crate) fn spans<K: Keeper>(
 }
 
 /// The minutes of a month that a driver doesn't hold.
-pub(crate) fn gaps<K: Keeper>(
-    alloc: Global,
-    keeper: &mut K,
-    driver: u32,
-    month: Month,
-) -> Result<Text, Fault>
-    ensures { Serves K.stands K.is_clean K.leaves keeper.old keeper.new (answer_of result) (ShowsGaps month driver) }
+fn gaps<K: Keeper>(alloc: Global, keeper: &mut K, driver: u32, month: Month) -> Result<Text, Fault>
+    ensures { Serves K.stands K.is_clean K.is_live K.leaves keeper.old keeper.new false (answer_of result) (ShowsMonth of_month.Gaps month driver) }
 {
     let (start, past) = month_range(month);
     let line = keeper.line_within(alloc, driver, start, past)?;
@@ -40,13 +67,8 @@ pub(crate) fn gaps<K: Keeper>(
 }
 
 /// The sheet of a driver's month.
-pub(crate) fn sheet<K: Keeper>(
-    alloc: Global,
-    keeper: &mut K,
-    driver: u32,
-    month: Month,
-) -> Result<Text, Fault>
-    ensures { Serves K.stands K.is_clean K.leaves keeper.old keeper.new (answer_of result) (ShowsSheet month driver) }
+fn sheet<K: Keeper>(alloc: Global, keeper: &mut K, driver: u32, month: Month) -> Result<Text, Fault>
+    ensures { Serves K.stands K.is_clean K.is_live K.leaves keeper.old keeper.new false (answer_of result) (ShowsMonth of_month.Sheet month driver) }
 {
     let name = keeper.name(alloc, driver)?;
     let line = keeper.line(alloc, driver)?;
@@ -56,24 +78,24 @@ pub(crate) fn sheet<K: Keeper>(
 }
 
 /// The breaches of a driver.
-pub(crate) fn breaches<K: Keeper>(alloc: Global, keeper: &mut K, driver: u32) -> Result<Text, Fault>
-    ensures { Serves K.stands K.is_clean K.leaves keeper.old keeper.new (answer_of result) (ShowsBreaches driver) }
+fn breaches<K: Keeper>(alloc: Global, keeper: &mut K, driver: u32) -> Result<Text, Fault>
+    ensures { Serves K.stands K.is_clean K.is_live K.leaves keeper.old keeper.new false (answer_of result) (ShowsReading reading.Breaches driver) }
 {
     let report = keeper.report(alloc, driver)?;
     Ok(Text::Long(breach_text(alloc, &report)?))
 }
 
 /// The weekly rests that a driver is owed.
-pub(crate) fn owed<K: Keeper>(alloc: Global, keeper: &mut K, driver: u32) -> Result<Text, Fault>
-    ensures { Serves K.stands K.is_clean K.leaves keeper.old keeper.new (answer_of result) (ShowsOwed driver) }
+fn owed<K: Keeper>(alloc: Global, keeper: &mut K, driver: u32) -> Result<Text, Fault>
+    ensures { Serves K.stands K.is_clean K.is_live K.leaves keeper.old keeper.new false (answer_of result) (ShowsReading reading.Owed driver) }
 {
     let report = keeper.report(alloc, driver)?;
     Ok(Text::Long(owed_text(alloc, &report)?))
 }
 
 /// The entries of a driver.
-pub(crate) fn entries<K: Keeper>(alloc: Global, keeper: &mut K, driver: u32) -> Result<Text, Fault>
-    ensures { Serves K.stands K.is_clean K.leaves keeper.old keeper.new (answer_of result) (ShowsEntries driver) }
+fn entries<K: Keeper>(alloc: Global, keeper: &mut K, driver: u32) -> Result<Text, Fault>
+    ensures { Serves K.stands K.is_clean K.is_live K.leaves keeper.old keeper.new false (answer_of result) (ShowsReading reading.Entries driver) }
 {
     let entries = keeper.entries(alloc, driver)?;
     Ok(Text::Long(entry_text(alloc, &entries)?))
@@ -86,7 +108,7 @@ pub(crate) fn file<K: Keeper>(
     driver: u32,
     number: u32,
 ) -> Result<Text, Fault>
-    ensures { Serves K.stands K.is_clean K.leaves keeper.old keeper.new (answer_of result) (ShowsFile driver number) }
+    ensures { Serves K.stands K.is_clean K.is_live K.leaves keeper.old keeper.new false (answer_of result) (ShowsFile driver number) }
 {
     Ok(Text::File(keeper.download(alloc, driver, number)?))
 }

@@ -1,13 +1,14 @@
-ghost use Rattle.std.specs.Prelude.{◌≡◌, MatchResult};
+ghost use Rattle.std.specs.Prelude.{◌≡◌, IfOk, MatchResult};
+ghost use Rattle.tacho_desk.specs.Tasks.{want_of};
 ghost use Rattle.tacho_desk.specs.declared.task.Task.TheVariants as task;
 ghost use Rattle.tacho_sheet.specs.declared.fault.Fault.TheVariants as told;
 ghost use Rattle.tacho_sheet.specs.Number.{HasNoNumber, IsNumberText};
-ghost use Rattle.tacho_desk.specs.Words.{ByNumber, IsAbout, by_part, most_driver, most_number, part_of as part_named};
+ghost use Rattle.tacho_desk.specs.Words.{HasNoDriver, IsDriver, IsTask, by_part, most_number, part_of as part_named};
 
 use crate::base::BaseDay;
 use crate::fault::Fault;
-use crate::matter::Matter;
 use crate::task::Task;
+use crate::want::Want;
 use tacho_card::Part;
 use tacho_sheet::{Fault as ToldFault, read_number};
 use tacho_state::Caller;
@@ -19,13 +20,17 @@ const LAST_DRIVER: u32 = 999_999;
 /// The greatest number of an entry or a download.
 const LAST_NUMBER: u32 = 1_000_000;
 
-/// The number of a driver, 1 to 999,999 without leading zeros: N1.
-fn driver_of(text: &[u8]) -> Result<u32, Fault>
-    ensures { MatchResult result (IsNumberText most_driver text.now) (λ fault. HasNoNumber most_driver text.now × (fault ≡ Fault.Told told.Number)) }
+/// The driver whom a task is about: for the office the one whose number, 1 to 999,999 without leading zeros, is the word (N1), or
+/// the driver himself who asks.
+fn driver_of(caller: Caller, word: &[u8]) -> Result<u32, Fault>
+    ensures { MatchResult result (IsDriver caller word.now) (λ fault. HasNoDriver caller word.now × (fault ≡ Fault.Told told.Number)) }
 {
-    match read_number(text, LAST_DRIVER) {
-        Some(number) => Ok(number),
-        None => Err(Fault::Told(ToldFault::Number)),
+    match caller {
+        Caller::Office => match read_number(word, LAST_DRIVER) {
+            Some(number) => Ok(number),
+            None => Err(Fault::Told(ToldFault::Number)),
+        },
+        Caller::Driver(number) => Ok(number),
     }
 }
 
@@ -55,7 +60,7 @@ fn part_of(word: &[u8]) -> Option<Part>
 }
 
 /// The import by a caller of the part that a word names: `both`, `first` or `second`. Others name none: P1.
-pub fn import_of(caller: Caller, word: &[u8]) -> Result<Task, Fault>
+fn import_of(caller: Caller, word: &[u8]) -> Result<Task, Fault>
     ensures { result ≡ by_part (part_named word.now) (λ part. task.Import caller part) }
 {
     match part_of(word) {
@@ -64,49 +69,49 @@ pub fn import_of(caller: Caller, word: &[u8]) -> Result<Task, Fault>
     }
 }
 
-/// The task about a driver, with its other word: the number of an entry or a download (N1), a day or a month (Z1 to Z3), or none
+/// The task of what a caller wants, its words read from left to right: the number of the driver, which the office's has and a driver's
+/// own hasn't (N1), and its other word, a part (P1), the number of an entry or a download (N1), a day or a month (Z1 to Z3), or none
 /// that is looked at.
-pub fn task_about(matter: Matter, driver: u32, word: &[u8]) -> Result<Task, Fault>
-    ensures { IsAbout matter driver word.now result }
+pub fn task_of(want: Want, caller: Caller, driver: &[u8], word: &[u8]) -> Result<Task, Fault>
+    ensures task { IsTask want caller driver.now word.now result }
+    ensures want { IfOk result (λ task. want_of task ≡ want) }
 {
-    match matter {
-        Matter::Enter => Ok(Task::Enter { driver }),
-        Matter::Withdraw => match number_of(word) {
-            Ok(number) => Ok(Task::Withdraw { driver, number }),
+    match want {
+        Want::Register => Ok(Task::Register),
+        Want::Import => import_of(caller, word),
+        Want::Enter => match driver_of(caller, driver) {
+            Ok(driver) => Ok(Task::Enter { driver }),
             Err(fault) => Err(fault),
         },
-        Matter::Base => {
-            let day = BaseDay::read(word)?;
-            Ok(Task::Base { driver, day })
-        }
-        Matter::Spans => {
-            let month = Month::read(word)?;
-            Ok(Task::Spans { driver, month })
-        }
-        Matter::Gaps => {
-            let month = Month::read(word)?;
-            Ok(Task::Gaps { driver, month })
-        }
-        Matter::Sheet => {
-            let month = Month::read(word)?;
-            Ok(Task::Sheet { driver, month })
-        }
-        Matter::Breaches => Ok(Task::Breaches { driver }),
-        Matter::Owed => Ok(Task::Owed { driver }),
-        Matter::Entries => Ok(Task::Entries { driver }),
-        Matter::File => match number_of(word) {
-            Ok(number) => Ok(Task::File { driver, number }),
+        Want::Withdraw => match (driver_of(caller, driver), number_of(word)) {
+            (Ok(driver), Ok(number)) => Ok(Task::Withdraw { driver, number }),
+            (Err(fault), _) | (_, Err(fault)) => Err(fault),
+        },
+        Want::Base => match driver_of(caller, driver) {
+            Ok(driver) => {
+                let day = BaseDay::read(word)?;
+                Ok(Task::Base { driver, day })
+            }
             Err(fault) => Err(fault),
         },
-    }
-}
-
-/// The task about the driver whose number is a word (N1), with its other word.
-pub fn task_of_driver(matter: Matter, driver: &[u8], word: &[u8]) -> Result<Task, Fault>
-    ensures { ByNumber most_driver driver.now (λ n. IsAbout matter n word.now) result }
-{
-    match driver_of(driver) {
-        Ok(driver) => task_about(matter, driver, word),
-        Err(fault) => Err(fault),
+        Want::Reading(reading) => match driver_of(caller, driver) {
+            Ok(driver) => Ok(Task::Reading { driver, reading }),
+            Err(fault) => Err(fault),
+        },
+        Want::MonthReading(reading) => match driver_of(caller, driver) {
+            Ok(driver) => {
+                let month = Month::read(word)?;
+                Ok(Task::MonthReading {
+                    driver,
+                    month,
+                    reading,
+                })
+            }
+            Err(fault) => Err(fault),
+        },
+        Want::File => match (driver_of(caller, driver), number_of(word)) {
+            (Ok(driver), Ok(number)) => Ok(Task::File { driver, number }),
+            (Err(fault), _) | (_, Err(fault)) => Err(fault),
+        },
     }
 }

@@ -1,19 +1,19 @@
 -- The head of an input, and the replies that the input may get.
-use Rattle.std.proofs.Common.{◌≡◌, ◌≤◌, ◌++◌, ◌∙◌, ℕ, List, Option, Some, None, codes, length, map, take, drop, arith, refl, sym, ap, subst}
+use Rattle.std.proofs.Common.{◌≡◌, ◌<◌, ◌≤◌, ◌++◌, ◌∙◌, ℕ, List, Option, codes, length, map, take, drop, arith, inl, sym, ap, subst}
 use Rattle.std.proofs.lemmas.Grind.{common_steps}
 use Rattle.std.proofs.lemmas.List.{length-map}
-use Rattle.std.specs.Io.KnownBytes.{Consumes}
-use Rattle.std.specs.Prelude.{IfSome}
 use Rattle.httparse.specs.Grammar.{Field, RequestHead}
 use Rattle.httparse.specs.Spans.{IsRequestAt, IsRequestWithin, header_bytes, name_and_value}
 use Rattle.httparse.specs.declared.spans.HeaderSpan.{HeaderSpan}
 use Rattle.httparse.specs.declared.spans.RequestSpans.{RequestSpans}
 use Rattle.httparse.proofs.GrammarLemmas.{ReadsRequest-append}
 use Rattle.tacho_message.specs.Fields.{values_under}
-use Rattle.tacho_message.specs.Head.{BeginsWith, Refuses}
+use Rattle.tacho_message.specs.Head.{BeginsWith, IsUnfinished as HeadUnfinished, Refuses}
 use Rattle.tacho_message.specs.Request.{fields_of, key_of, only_of}
 use Rattle.tacho_message.specs.declared.head.HeadFault.{HeadFault}
+use Rattle.tacho_http.specs.Answer.{IsUnfinished}
 
+-- a head has no more fields than there are places for
 few_fields : (came : List ℕ) (headers : List HeaderSpan) (count : ℕ) (fields : List Field) → map (header_bytes came) (take count headers) ≡ map name_and_value fields
     → length headers ≤ 32 → length fields ≤ 32
 few_fields came headers count fields e le =
@@ -21,32 +21,32 @@ few_fields came headers count fields e le =
     let m : length (take count headers) ≤ length headers = grind (arith, common_steps) in
     omega arith
 
--- what is unread behind the head, and the head that the input begins with
-pub begins_with : (unread left : Option (List ℕ)) (input came : List ℕ) (headers : List HeaderSpan) (spans : RequestSpans) (h : RequestHead)
-    → length came ≤ 8192 → length headers ≡ 32 → Consumes unread left came → unread ≡ Some input → IsRequestWithin came headers spans → IsRequestAt came headers spans h
-    → (more : List ℕ) × (left ≡ Some more) × BeginsWith 8192 32 input h (drop spans.len came ++ more)
-begins_with None left input came headers spans h short few cut is within at = cc
-begins_with (Some x) None input came headers spans h short few cut is within at = absurd cut
-begins_with (Some x) (Some more) input came headers spans h short few cut is within at =
+-- the head that an input begins with, by what came of it
+pub begins_with : (input came more : List ℕ) (headers : List HeaderSpan) (spans : RequestSpans) (h : RequestHead)
+    → length came ≤ 8192 → length headers ≡ 32 → input ≡ came ++ more → IsRequestWithin came headers spans → IsRequestAt came headers spans h
+    → BeginsWith 8192 32 input h (drop spans.len came ++ more)
+begins_with input came more headers spans h short few same within at =
     let reads = ReadsRequest-append came h (drop spans.len came) more at.reads in
     let fits = within.section.len_fits in
     let len = at.len in
-    let same : input ≡ came ++ more = cc in (
-      more,
-      refl,
-      record {
-        reads = rw same reads;
-        size = omega arith;
-        fields = few_fields came headers spans.headers h.fields at.fields (omega arith);
-      },
-    )
+    record {
+      reads = rw same reads;
+      size = omega arith;
+      fields = few_fields came headers spans.headers h.fields at.fields (omega arith);
+    }
 
-pub refused : (unread : Option (List ℕ)) (limit room : ℕ) (input : List ℕ) (f : HeadFault) → IfSome unread (λ i. Refuses limit room i f) → limit ≡ 8192 → room ≡ 32 → unread ≡ Some input
-    → Refuses 8192 32 input f
-refused None limit room input f r l m e = cc
-refused (Some x) limit room input f r l m e =
-    let same : x ≡ input = cc in
-    subst (λ (n : ℕ). Refuses 8192 n input f) m (subst (λ (n : ℕ). Refuses n room input f) l (subst (λ (i : List ℕ). Refuses limit room i f) same r))
+-- what is refused is refused with these limits
+pub refused : (limit room : ℕ) (input : List ℕ) (f : HeadFault) → Refuses limit room input f → limit ≡ 8192 → room ≡ 32 → Refuses 8192 32 input f
+refused limit room input f r l m =
+    subst (λ (n : ℕ). Refuses 8192 n input f) m (subst (λ (n : ℕ). Refuses n room input f) l r)
+
+-- and what is unfinished is no whole request
+pub no_request : (limit : ℕ) (old new : Option (List ℕ)) → HeadUnfinished limit old new → limit ≡ 8192 → IsUnfinished old new
+no_request limit old new h l = record {
+  given = h.given;
+  came = h.came;
+  part = inl (subst (λ (n : ℕ). length h.given < n) l h.short, h.none, h.more);
+}
 
 -- what was read of a head is no longer than the buffer
 pub short_came : (buffer : List ℕ) (filled n : ℕ) → length buffer ≡ n → n ≡ 8192 → length (take filled buffer) ≤ 8192

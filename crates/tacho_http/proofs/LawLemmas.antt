@@ -14,23 +14,25 @@ use Rattle.tacho_state.specs.declared.fault.StoreFault.{StoreFault}
 use Rattle.tacho_desk.specs.Own.{IsHis, OneAnswer, OthersStay, RefusalsStay, SameAnswers}
 use Rattle.tacho_desk.specs.Tasks.{Does}
 use Rattle.tacho_desk.specs.Told.{Added, Answer, File, Line, Long, Told}
-use Rattle.tacho_desk.specs.Words.{ByNumber, Wanted, by_part, by_time, most_number, part_of}
+use Rattle.tacho_desk.specs.Words.{ByDriver, ByNumber, IsTask, Wanted, by_part, by_time, most_number, part_of}
 use Rattle.tacho_desk.specs.declared.task.Task.{Task}
 use Rattle.tacho_desk.specs.declared.task.Task.TheVariants as task
-use Rattle.tacho_message.specs.Access.{OwnWants, is_own}
-use Rattle.tacho_message.specs.Asked.{body_length, method_of, want_of}
-use Rattle.tacho_message.specs.Request.{fields_of, key_of}
-use Rattle.tacho_message.specs.declared.places.Asker.TheVariants as asker
-use Rattle.tacho_message.specs.declared.places.Want.{Want}
-use Rattle.tacho_message.specs.declared.places.Want.TheVariants as want
+use Rattle.tacho_message.specs.Request.{key_of}
+use Rattle.tacho_desk.specs.Wants.{is_own}
+use Rattle.tacho_desk.specs.declared.want.Want.{Want}
+use Rattle.tacho_desk.specs.declared.want.Want.TheVariants as want
+use Rattle.tacho_http.specs.Access.{OwnWants}
+use Rattle.tacho_http.specs.Asked.{Wish, asker_of, wish_of}
+use Rattle.tacho_http.specs.declared.places.Asker.TheVariants as asker
 use Rattle.tacho_message.specs.declared.reply.Status.{Status}
 use Rattle.tacho_message.specs.declared.reply.Status.TheVariants as status
 use Rattle.tacho_http.specs.Laws.{IsFrom, Keeps503, KeepsOthers, OneReply, SameReply}
 use Rattle.tacho_http.specs.Reply.{Reply, done_reply, fixed, reply_to}
-use Rattle.tacho_http.specs.Serve.{ByCaller, ByKeys, ByOwner, ByWhom, DoesWanted, IsTaskAt, Reacts, Runs, RepliesOnly, WithBody, WithWant, asker_of, bad, headed, large, unavailable, word_in}
+use Rattle.tacho_http.specs.Serve.{ByCaller, ByKeys, ByOwner, ByWhom, DoesWanted, Reacts, Runs, RepliesOnly, WithBody, WithWish, bad, body_of, headed, large, unavailable}
 
 -- ---- 503
 
+-- what was told of a task isn't 503
 done_is_available : (told : Told) → (done_reply told).status ≡ status.Unavailable → ⊥
 done_is_available (Added line) e = cc
 done_is_available (Line line) e = cc
@@ -38,62 +40,75 @@ done_is_available (Long text) e = cc
 done_is_available (File bytes) e = cc
 
 module _ (refusals : RefusalsStay) where
+  -- a task that is answered with 503 was refused
   answer_kept : (t : Task) (body : List ℕ) (s : State) (answer : Answer) (after : State) → Does t body s answer after → (reply_to answer).status ≡ status.Unavailable → after ≡ s
   answer_kept t body s (Ok told) after does e = absurd (done_is_available told e)
   answer_kept t body s (Err f) after does e = refusals t body s f after does
 
+  -- or its words were
   wanted_kept : (wanted : Wanted) (body : List ℕ) (s : State) (reply : Reply) (after : State) → DoesWanted wanted body s reply after → reply.status ≡ status.Unavailable → after ≡ s
   wanted_kept (Err f) body s reply after h e = h.1
   wanted_kept (Ok t) body s reply after h e = answer_kept t body s h.0 after h.1 (subst (λ (r : Reply). r.status ≡ status.Unavailable) h.2 e)
 
-  run_kept : (w : Want) (n : ℕ) (c : Caller) (path rest : List ℕ) (s : State) (reply : Reply) (after : State) → Runs w n c path rest s reply after → reply.status ≡ status.Unavailable → after ≡ s
-  run_kept w n c path rest s reply after (inl h) e = h.1.1
-  run_kept w n c path rest s reply after (inr h) e = wanted_kept h.1.0 (take n rest) s reply after h.1.2 e
+  -- or its body was cut
+  run_kept : (w : Wish) (n : ℕ) (c : Caller) (rest : List ℕ) (s : State) (reply : Reply) (after : State) → Runs w n c rest s reply after → reply.status ≡ status.Unavailable → after ≡ s
+  run_kept w n c rest s reply after (inl h) e = h.1.1
+  run_kept w n c rest s reply after (inr h) e = wanted_kept h.1.0 (take n rest) s reply after h.1.2 e
 
-  body_kept : (length : Result ℕ Status) (w : Want) (c : Caller) (path rest : List ℕ) (s : State) (reply : Reply) (after : State) → WithBody length w c path rest s reply after
+  -- or its length was refused
+  body_kept : (length : Result ℕ Status) (w : Wish) (c : Caller) (rest : List ℕ) (s : State) (reply : Reply) (after : State) → WithBody length w c rest s reply after
       → reply.status ≡ status.Unavailable → after ≡ s
-  body_kept (Err refusal) w c path rest s reply after h e = h.1
-  body_kept (Ok n) w c path rest s reply after h e = run_kept w n c path rest s reply after h e
+  body_kept (Err refusal) w c rest s reply after h e = h.1
+  body_kept (Ok n) w c rest s reply after h e = run_kept w n c rest s reply after h e
 
-  want_kept : (found : Result Want Status) (c : Caller) (h : RequestHead) (rest : List ℕ) (s : State) (reply : Reply) (after : State) → WithWant found c h rest s reply after
+  -- or its path or its method
+  want_kept : (found : Result Wish Status) (c : Caller) (h : RequestHead) (rest : List ℕ) (s : State) (reply : Reply) (after : State) → WithWish found c h rest s reply after
       → reply.status ≡ status.Unavailable → after ≡ s
   want_kept (Err refusal) c h rest s reply after does e = does.1
-  want_kept (Ok w) c h rest s reply after does e = body_kept (body_length (method_of h.method) w (fields_of h)) w c h.target rest s reply after does e
+  want_kept (Ok w) c h rest s reply after does e = body_kept (body_of h w.want) w c rest s reply after does e
 
+  -- whoever asks
   caller_kept : (c : Caller) (h : RequestHead) (rest : List ℕ) (s : State) (reply : Reply) (after : State) → ByCaller c h rest s reply after → reply.status ≡ status.Unavailable → after ≡ s
-  caller_kept c h rest s reply after does e = want_kept (want_of (asker_of c) h.method h.target) c h rest s reply after does e
+  caller_kept c h rest s reply after does e = want_kept (wish_of (asker_of c) h.method h.target) c h rest s reply after does e
 
+  -- whosever the key is
   owner_kept : (found : Result (Option ℕ) StoreFault) (h : RequestHead) (rest : List ℕ) (s : State) (reply : Reply) (after : State) → ByOwner found h rest s reply after
       → reply.status ≡ status.Unavailable → after ≡ s
   owner_kept (Ok (Some n)) h rest s reply after does e = caller_kept (caller.Driver n) h rest s reply after does e
   owner_kept (Ok None) h rest s reply after does e = does.1
   owner_kept (Err f) h rest s reply after does e = does.1
 
+  -- the office's or another
   whom_kept : (b : Bool) (key : List ℕ) (h : RequestHead) (rest : List ℕ) (s : State) (reply : Reply) (after : State) → ByWhom b key h rest s reply after
       → reply.status ≡ status.Unavailable → after ≡ s
   whom_kept true key h rest s reply after does e = caller_kept caller.Office h rest s reply after does e
   whom_kept false key h rest s reply after does e = owner_kept (owner key s) h rest s reply after does e
 
+  -- one key or none
   keys_kept : (office : List ℕ) (key : Option (List ℕ)) (h : RequestHead) (rest : List ℕ) (s : State) (reply : Reply) (after : State) → ByKeys office key h rest s reply after
       → reply.status ≡ status.Unavailable → after ≡ s
   keys_kept office None h rest s reply after does e = does.1
   keys_kept office (Some key) h rest s reply after does e = whom_kept (bytes_eq key office) key h rest s reply after does e
 
+  -- whatever the input
   kept : (office input : List ℕ) (s : State) (reply : Reply) (after : State) → Reacts office input s reply after → reply.status ≡ status.Unavailable → after ≡ s
   kept office input s _ _ (headed h rest reply after begins does) e = keys_kept office (key_of h) h rest s reply after does e
   kept office input s _ _ (bad r) e = refl
   kept office input s _ _ (large r) e = refl
   kept office input s _ _ (unavailable h rest key begins k) e = refl
 
+  -- so 503 leaves the state
   pub keeps_503 : Keeps503
   keeps_503 office input s reply after r e = kept office input s reply after r e
 
--- ---- what a driver's path asks for is his
+-- ---- what a driver asks for is his
 
+-- the import of his card
 part_is_his : (n : ℕ) (o : Option Part) (t : Task) → Ok t ≡ by_part o (λ p. task.Import (caller.Driver n) p) → IsHis n t
 part_is_his n None t e = cc
 part_is_his n (Some p) t e = (let same : t ≡ task.Import (caller.Driver n) p = cc in subst (IsHis n) (sym same) refl)
 
+-- a task by a day or a month
 time_is_his : (n : ℕ) (read : Result ℕ TimeFault) (make : ℕ → Task) (t : Task) → ((m : ℕ) → IsHis n (make m)) → Ok t ≡ by_time read (λ m. Ok (make m)) → IsHis n t
 time_is_his n (Err f) make t h e = cc
 time_is_his n (Ok m) make t h e = (let same : t ≡ make m = cc in subst (IsHis n) (sym same) (h m))
@@ -102,28 +117,37 @@ time_is_his n (Ok m) make t h e = (let same : t ≡ make m = cc in subst (IsHis 
 abbrev wants : Task → Wanted
 wants t = Ok t
 
+-- a task that is his
 plain_is_his : (n : ℕ) (t own : Task) → IsHis n own → wants t ≡ wants own → IsHis n t
 plain_is_his n t own h e = (let same : t ≡ own = cc in subst (IsHis n) (sym same) h)
 
-number_is_his : (n : ℕ) (text : List ℕ) (t : Task) → ByNumber most_number text (λ k w. w ≡ Ok (task.File n k)) (Ok t) → IsHis n t
-number_is_his n text t (inl h) = (let none = h.1 in cc)
-number_is_his n text t (inr h) = plain_is_his n t (task.File n h.0) refl h.2
+-- a file of his
+number_is_his : (n m : ℕ) (text : List ℕ) (t : Task) → m ≡ n → ByNumber most_number text (λ k w. w ≡ Ok (task.File m k)) (Ok t) → IsHis n t
+number_is_his n m text t same (inl h) = (let none = h.1 in cc)
+number_is_his n m text t same (inr h) = plain_is_his n t (task.File m h.0) same h.2
 
-task_is_his : (w : Want) (n : ℕ) (path : List ℕ) (t : Task) → is_own w ≡ true → IsTaskAt w (caller.Driver n) path (Ok t) → IsHis n t
-task_is_his want.Import n path t own is = part_is_his n (part_of (word_in (caller.Driver n) want.Import path)) t is
-task_is_his want.Spans n path t own is = time_is_his n (month_at (word_in (caller.Driver n) want.Spans path)) (λ m. task.Spans n m) t (λ m. refl) is
-task_is_his want.Gaps n path t own is = time_is_his n (month_at (word_in (caller.Driver n) want.Gaps path)) (λ m. task.Gaps n m) t (λ m. refl) is
-task_is_his want.Sheet n path t own is = time_is_his n (month_at (word_in (caller.Driver n) want.Sheet path)) (λ m. task.Sheet n m) t (λ m. refl) is
-task_is_his want.Breaches n path t own is = plain_is_his n t (task.Breaches n) refl is
-task_is_his want.Owed n path t own is = plain_is_his n t (task.Owed n) refl is
-task_is_his want.Entries n path t own is = plain_is_his n t (task.Entries n) refl is
-task_is_his want.File n path t own is = number_is_his n (word_in (caller.Driver n) want.File path) t is
-task_is_his want.Register n path t own is = cc
-task_is_his want.Enter n path t own is = cc
-task_is_his want.Withdraw n path t own is = cc
-task_is_his want.Base n path t own is = cc
+-- a task about the one who asks
+about_him : (n : ℕ) (driver : List ℕ) (Is : ℕ → Wanted → Type 0) (t : Task) → ((m : ℕ) → m ≡ n → Is m (Ok t) → IsHis n t)
+    → ByDriver (caller.Driver n) driver Is (Ok t) → IsHis n t
+about_him n driver Is t h (inl none) = absurd none.0
+about_him n driver Is t h (inr is) = h is.0 is.1 is.2
 
--- a path asks for one task
+-- what is his own to want makes a task of his
+task_is_his : (w : Want) (n : ℕ) (driver word : List ℕ) (t : Task) → is_own w ≡ true → IsTask w (caller.Driver n) driver word (Ok t) → IsHis n t
+task_is_his want.Import n driver word t own is = part_is_his n (part_of word) t is
+task_is_his (want.Reading text) n driver word t own is =
+    about_him n driver (λ m w. w ≡ Ok (task.Reading m text)) t (λ m same e. plain_is_his n t (task.Reading m text) same e) is
+task_is_his (want.MonthReading text) n driver word t own is =
+    about_him n driver (λ m w. w ≡ by_time (month_at word) (λ month. Ok (task.MonthReading m month text))) t
+    (λ m same e. time_is_his n (month_at word) (λ month. task.MonthReading m month text) t (λ month. same) e) is
+task_is_his want.File n driver word t own is =
+    about_him n driver (λ m. ByNumber most_number word (λ k w. w ≡ Ok (task.File m k))) t (λ m same e. number_is_his n m word t same e) is
+task_is_his want.Register n driver word t own is = cc
+task_is_his want.Enter n driver word t own is = cc
+task_is_his want.Withdraw n driver word t own is = cc
+task_is_his want.Base n driver word t own is = cc
+
+-- he asks for one task
 number_once : (text : List ℕ) (make : ℕ → Task) (a b : Wanted) → ByNumber most_number text (λ k w. w ≡ Ok (make k)) a → ByNumber most_number text (λ k w. w ≡ Ok (make k)) b → a ≡ b
 number_once text make a b (inl h) (inl k) = h.1 ∙ sym k.1
 number_once text make a b (inl h) (inr k) = absurd (h.0 k.0 k.1)
@@ -136,19 +160,26 @@ number_once text make a b (inr h) (inr k) =
     let same : h.0 ≡ k.0 = decimal_injective h.0 k.0 (omega arith) (omega arith) (sym x.written ∙ y.written) in
     h.2 ∙ (ap (λ (n : ℕ). Ok (make n)) same ∙ sym k.2)
 
-task_once : (w : Want) (n : ℕ) (path : List ℕ) (a b : Wanted) → is_own w ≡ true → IsTaskAt w (caller.Driver n) path a → IsTaskAt w (caller.Driver n) path b → a ≡ b
-task_once want.Import n path a b own x y = x ∙ sym y
-task_once want.Spans n path a b own x y = x ∙ sym y
-task_once want.Gaps n path a b own x y = x ∙ sym y
-task_once want.Sheet n path a b own x y = x ∙ sym y
-task_once want.Breaches n path a b own x y = x ∙ sym y
-task_once want.Owed n path a b own x y = x ∙ sym y
-task_once want.Entries n path a b own x y = x ∙ sym y
-task_once want.File n path a b own x y = number_once (word_in (caller.Driver n) want.File path) (λ k. task.File n k) a b x y
-task_once want.Register n path a b own x y = cc
-task_once want.Enter n path a b own x y = cc
-task_once want.Withdraw n path a b own x y = cc
-task_once want.Base n path a b own x y = cc
+-- about the one who asks there is one
+about_once : (n : ℕ) (driver : List ℕ) (Is : ℕ → Wanted → Type 0) (a b : Wanted) → ((a b : Wanted) → Is n a → Is n b → a ≡ b)
+    → ByDriver (caller.Driver n) driver Is a → ByDriver (caller.Driver n) driver Is b → a ≡ b
+about_once n driver Is a b h (inl x) y = absurd x.0
+about_once n driver Is a b h (inr x) (inl y) = absurd y.0
+about_once n driver Is a b h (inr x) (inr y) =
+    h a b (subst (λ (m : ℕ). Is m a) x.1 x.2) (subst (λ (m : ℕ). Is m b) y.1 y.2)
+
+-- one task by the same words
+task_once : (w : Want) (n : ℕ) (driver word : List ℕ) (a b : Wanted) → is_own w ≡ true → IsTask w (caller.Driver n) driver word a → IsTask w (caller.Driver n) driver word b → a ≡ b
+task_once want.Import n driver word a b own x y = x ∙ sym y
+task_once (want.Reading text) n driver word a b own x y = about_once n driver (λ m w. w ≡ Ok (task.Reading m text)) a b (λ a b i j. i ∙ sym j) x y
+task_once (want.MonthReading text) n driver word a b own x y =
+    about_once n driver (λ m w. w ≡ by_time (month_at word) (λ month. Ok (task.MonthReading m month text))) a b (λ a b i j. i ∙ sym j) x y
+task_once want.File n driver word a b own x y =
+    about_once n driver (λ m. ByNumber most_number word (λ k w. w ≡ Ok (task.File m k))) a b (number_once word (λ k. task.File n k)) x y
+task_once want.Register n driver word a b own x y = cc
+task_once want.Enter n driver word a b own x y = cc
+task_once want.Withdraw n driver word a b own x y = cc
+task_once want.Base n driver word a b own x y = cc
 
 -- a request with a driver's key is his
 own_request : (office key : List ℕ) (h : RequestHead) (rest : List ℕ) (n : ℕ) (s : State) (reply : Reply) (after : State) → key_of h ≡ Some key → bytes_eq key office ≡ false
@@ -158,6 +189,7 @@ own_request office key h rest n s reply after has other own does =
     let y = subst (λ (b : Bool). ByWhom b key h rest s reply after) other x in
     subst (λ (o : Result (Option ℕ) StoreFault). ByOwner o h rest s reply after) own y
 
+-- and back
 his_request : (office key : List ℕ) (h : RequestHead) (rest : List ℕ) (n : ℕ) (s : State) (reply : Reply) (after : State) → key_of h ≡ Some key → bytes_eq key office ≡ false
     → owner key s ≡ Ok (Some n) → ByCaller (caller.Driver n) h rest s reply after → ByKeys office (key_of h) h rest s reply after
 his_request office key h rest n s reply after has other own does =
@@ -168,43 +200,50 @@ his_request office key h rest n s reply after has other own does =
 -- ---- isolation
 
 module _ (own_wants : OwnWants) (same_answers : SameAnswers) (others_stay : OthersStay) (one_answer : OneAnswer) where
+  -- a fixed reply
   told_same : (n : ℕ) (s other : State) → driver_of n s ≡ driver_of n other → (r reply : Reply) (after : State) → RepliesOnly r s reply after
       → (left : State) × RepliesOnly r other reply left × (driver_of n after ≡ driver_of n left)
   told_same n s other e r reply after h = (other, (h.0, refl), ap (driver_of n) h.1 ∙ e)
 
+  -- the reply to a task of his
   wanted_same : (n : ℕ) (s other : State) → driver_of n s ≡ driver_of n other → (wanted : Wanted) → ((t : Task) → wanted ≡ Ok t → IsHis n t) → (body : List ℕ) (reply : Reply) (after : State)
       → DoesWanted wanted body s reply after → (left : State) × DoesWanted wanted body other reply left × (driver_of n after ≡ driver_of n left)
   wanted_same n s other e (Err f) his body reply after h = told_same n s other e (reply_to (Err f)) reply after h
   wanted_same n s other e (Ok t) his body reply after h =
       let x = same_answers n t (his t refl) body s other e h.0 after h.1 in (x.0, (h.0, x.1, h.2), x.2)
 
-  run_same : (n : ℕ) (s other : State) → driver_of n s ≡ driver_of n other → (w : Want) → is_own w ≡ true → (k : ℕ) (path rest : List ℕ) (reply : Reply) (after : State)
-      → Runs w k (caller.Driver n) path rest s reply after → (left : State) × Runs w k (caller.Driver n) path rest other reply left × (driver_of n after ≡ driver_of n left)
-  run_same n s other e w own k path rest reply after (inl h) =
+  -- over its body
+  run_same : (n : ℕ) (s other : State) → driver_of n s ≡ driver_of n other → (w : Wish) → is_own w.want ≡ true → (k : ℕ) (rest : List ℕ) (reply : Reply) (after : State)
+      → Runs w k (caller.Driver n) rest s reply after → (left : State) × Runs w k (caller.Driver n) rest other reply left × (driver_of n after ≡ driver_of n left)
+  run_same n s other e w own k rest reply after (inl h) =
       let x = told_same n s other e (fixed status.BadRequest) reply after h.1 in (x.0, inl (h.0, x.1), x.2)
-  run_same n s other e w own k path rest reply after (inr h) =
+  run_same n s other e w own k rest reply after (inr h) =
       let wanted = h.1.0 in
-      let x = wanted_same n s other e wanted (λ t is. task_is_his w n path t own (subst (IsTaskAt w (caller.Driver n) path) is h.1.1)) (take k rest) reply after h.1.2 in
+      let x = wanted_same n s other e wanted (λ t is. task_is_his w.want n w.driver w.word t own (subst (IsTask w.want (caller.Driver n) w.driver w.word) is h.1.1)) (take k rest) reply after h.1.2 in
       (x.0, inr (h.0, (wanted, h.1.1, x.1)), x.2)
 
-  body_same : (n : ℕ) (s other : State) → driver_of n s ≡ driver_of n other → (w : Want) → is_own w ≡ true → (length : Result ℕ Status) (path rest : List ℕ) (reply : Reply) (after : State)
-      → WithBody length w (caller.Driver n) path rest s reply after
-      → (left : State) × WithBody length w (caller.Driver n) path rest other reply left × (driver_of n after ≡ driver_of n left)
-  body_same n s other e w own (Err refusal) path rest reply after h = told_same n s other e (fixed refusal) reply after h
-  body_same n s other e w own (Ok k) path rest reply after h = run_same n s other e w own k path rest reply after h
+  -- by its length
+  body_same : (n : ℕ) (s other : State) → driver_of n s ≡ driver_of n other → (w : Wish) → is_own w.want ≡ true → (length : Result ℕ Status) (rest : List ℕ) (reply : Reply) (after : State)
+      → WithBody length w (caller.Driver n) rest s reply after
+      → (left : State) × WithBody length w (caller.Driver n) rest other reply left × (driver_of n after ≡ driver_of n left)
+  body_same n s other e w own (Err refusal) rest reply after h = told_same n s other e (fixed refusal) reply after h
+  body_same n s other e w own (Ok k) rest reply after h = run_same n s other e w own k rest reply after h
 
-  want_same : (n : ℕ) (s other : State) → driver_of n s ≡ driver_of n other → (found : Result Want Status) → ((w : Want) → found ≡ Ok w → is_own w ≡ true)
-      → (h : RequestHead) (rest : List ℕ) (reply : Reply) (after : State) → WithWant found (caller.Driver n) h rest s reply after
-      → (left : State) × WithWant found (caller.Driver n) h rest other reply left × (driver_of n after ≡ driver_of n left)
+  -- by what he asks for
+  want_same : (n : ℕ) (s other : State) → driver_of n s ≡ driver_of n other → (found : Result Wish Status) → ((w : Wish) → found ≡ Ok w → is_own w.want ≡ true)
+      → (h : RequestHead) (rest : List ℕ) (reply : Reply) (after : State) → WithWish found (caller.Driver n) h rest s reply after
+      → (left : State) × WithWish found (caller.Driver n) h rest other reply left × (driver_of n after ≡ driver_of n left)
   want_same n s other e (Err refusal) own h rest reply after does = told_same n s other e (fixed refusal) reply after does
   want_same n s other e (Ok w) own h rest reply after does =
-      body_same n s other e w (own w refl) (body_length (method_of h.method) w (fields_of h)) h.target rest reply after does
+      body_same n s other e w (own w refl) (body_of h w.want) rest reply after does
 
+  -- by his key
   caller_same : (n : ℕ) (s other : State) → driver_of n s ≡ driver_of n other → (h : RequestHead) (rest : List ℕ) (reply : Reply) (after : State)
       → ByCaller (caller.Driver n) h rest s reply after → (left : State) × ByCaller (caller.Driver n) h rest other reply left × (driver_of n after ≡ driver_of n left)
   caller_same n s other e h rest reply after does =
-      want_same n s other e (want_of asker.Driver h.method h.target) (λ w is. own_wants h.method h.target w is) h rest reply after does
+      want_same n s other e (wish_of asker.Driver h.method h.target) (λ w is. own_wants h.method h.target w is) h rest reply after does
 
+  -- by its head
   same_of : (office input : List ℕ) (n : ℕ) (s other : State) → IsFrom office input n s → IsFrom office input n other → driver_of n s ≡ driver_of n other
       → (reply : Reply) (after : State) → Reacts office input s reply after → (left : State) × Reacts office input other reply left × (driver_of n after ≡ driver_of n left)
   same_of office input n s other a b e _ _ (headed h rest reply after begins does) =
@@ -214,76 +253,88 @@ module _ (own_wants : OwnWants) (same_answers : SameAnswers) (others_stay : Othe
   same_of office input n s other a b e _ _ (large r) = (other, large r, e)
   same_of office input n s other a b e _ _ (unavailable h rest key begins k) = (other, unavailable h rest key begins k, e)
 
+  -- the same reply in both
   pub same_reply : SameReply
   same_reply office input n s other a b e reply after r = same_of office input n s other a b e reply after r
 
   -- no other rows
 
-  run_others : (n m : ℕ) → m ≢ n → (s : State) (w : Want) → is_own w ≡ true → (k : ℕ) (path rest : List ℕ) (reply : Reply) (after : State)
-      → Runs w k (caller.Driver n) path rest s reply after → driver_of m after ≡ driver_of m s
-  run_others n m differ s w own k path rest reply after (inl h) = ap (driver_of m) h.1.1
-  run_others n m differ s w own k path rest reply after (inr h) =
-      by_wanted h.1.0 (λ t is. task_is_his w n path t own (subst (IsTaskAt w (caller.Driver n) path) is h.1.1)) h.1.2
+  -- a task of his changes nobody else's rows
+  run_others : (n m : ℕ) → m ≢ n → (s : State) (w : Wish) → is_own w.want ≡ true → (k : ℕ) (rest : List ℕ) (reply : Reply) (after : State)
+      → Runs w k (caller.Driver n) rest s reply after → driver_of m after ≡ driver_of m s
+  run_others n m differ s w own k rest reply after (inl h) = ap (driver_of m) h.1.1
+  run_others n m differ s w own k rest reply after (inr h) =
+      by_wanted h.1.0 (λ t is. task_is_his w.want n w.driver w.word t own (subst (IsTask w.want (caller.Driver n) w.driver w.word) is h.1.1)) h.1.2
     where
       by_wanted : (wanted : Wanted) → ((t : Task) → wanted ≡ Ok t → IsHis n t) → DoesWanted wanted (take k rest) s reply after → driver_of m after ≡ driver_of m s
       by_wanted (Err f) his h = ap (driver_of m) h.1
       by_wanted (Ok t) his h = others_stay n t (his t refl) (take k rest) s h.0 after h.1 m differ
 
-  body_others : (n m : ℕ) → m ≢ n → (s : State) (w : Want) → is_own w ≡ true → (length : Result ℕ Status) (path rest : List ℕ) (reply : Reply) (after : State)
-      → WithBody length w (caller.Driver n) path rest s reply after → driver_of m after ≡ driver_of m s
-  body_others n m differ s w own (Err refusal) path rest reply after h = ap (driver_of m) h.1
-  body_others n m differ s w own (Ok k) path rest reply after h = run_others n m differ s w own k path rest reply after h
+  -- whatever its length
+  body_others : (n m : ℕ) → m ≢ n → (s : State) (w : Wish) → is_own w.want ≡ true → (length : Result ℕ Status) (rest : List ℕ) (reply : Reply) (after : State)
+      → WithBody length w (caller.Driver n) rest s reply after → driver_of m after ≡ driver_of m s
+  body_others n m differ s w own (Err refusal) rest reply after h = ap (driver_of m) h.1
+  body_others n m differ s w own (Ok k) rest reply after h = run_others n m differ s w own k rest reply after h
 
-  want_others : (n m : ℕ) → m ≢ n → (s : State) (found : Result Want Status) → ((w : Want) → found ≡ Ok w → is_own w ≡ true) → (h : RequestHead) (rest : List ℕ) (reply : Reply) (after : State)
-      → WithWant found (caller.Driver n) h rest s reply after → driver_of m after ≡ driver_of m s
+  -- whatever he asks for
+  want_others : (n m : ℕ) → m ≢ n → (s : State) (found : Result Wish Status) → ((w : Wish) → found ≡ Ok w → is_own w.want ≡ true) → (h : RequestHead) (rest : List ℕ) (reply : Reply) (after : State)
+      → WithWish found (caller.Driver n) h rest s reply after → driver_of m after ≡ driver_of m s
   want_others n m differ s (Err refusal) own h rest reply after does = ap (driver_of m) does.1
   want_others n m differ s (Ok w) own h rest reply after does =
-      body_others n m differ s w (own w refl) (body_length (method_of h.method) w (fields_of h)) h.target rest reply after does
+      body_others n m differ s w (own w refl) (body_of h w.want) rest reply after does
 
+  -- whatever its head
   others_of : (office input : List ℕ) (n : ℕ) (s : State) → IsFrom office input n s → (reply : Reply) (after : State) → Reacts office input s reply after
       → (m : ℕ) → m ≢ n → driver_of m after ≡ driver_of m s
   others_of office input n s a _ _ (headed h rest reply after begins does) m differ =
-      want_others n m differ s (want_of asker.Driver h.method h.target) (λ w is. own_wants h.method h.target w is) h rest reply after
+      want_others n m differ s (wish_of asker.Driver h.method h.target) (λ w is. own_wants h.method h.target w is) h rest reply after
       (own_request office a.key h rest n s reply after (a.has h rest begins) a.other a.own does)
   others_of office input n s a _ _ (bad r) m differ = refl
   others_of office input n s a _ _ (large r) m differ = refl
   others_of office input n s a _ _ (unavailable h rest key begins k) m differ = refl
 
+  -- so nobody else's rows change
   pub keeps_others : KeepsOthers
   keeps_others office input n s a reply after r m differ = others_of office input n s a reply after r m differ
 
   -- one reply
 
+  -- a fixed reply is one
   told_once : (s : State) (r : Reply) (p q : Reply) (after left : State) → RepliesOnly r s p after → RepliesOnly r s q left → (p ≡ q) × (after ≡ left)
   told_once s r p q after left h k = (h.0 ∙ sym k.0, h.1 ∙ sym k.1)
 
+  -- the reply to a task of his is one
   wanted_once : (n : ℕ) (s : State) (wanted : Wanted) → ((t : Task) → wanted ≡ Ok t → IsHis n t) → (body : List ℕ) (p q : Reply) (after left : State)
       → DoesWanted wanted body s p after → DoesWanted wanted body s q left → (p ≡ q) × (after ≡ left)
   wanted_once n s (Err f) his body p q after left h k = told_once s (reply_to (Err f)) p q after left h k
   wanted_once n s (Ok t) his body p q after left h k =
       let x = one_answer n t (his t refl) body s h.0 k.0 after left h.1 k.1 in (h.2 ∙ (ap reply_to x.0 ∙ sym k.2), x.1)
 
-  run_once : (n : ℕ) (s : State) (w : Want) → is_own w ≡ true → (k : ℕ) (path rest : List ℕ) (p q : Reply) (after left : State)
-      → Runs w k (caller.Driver n) path rest s p after → Runs w k (caller.Driver n) path rest s q left → (p ≡ q) × (after ≡ left)
-  run_once n s w own k path rest p q after left (inl h) (inl g) = told_once s (fixed status.BadRequest) p q after left h.1 g.1
-  run_once n s w own k path rest p q after left (inl h) (inr g) = (let x = h.0 in let y = g.0 in absurd (omega arith))
-  run_once n s w own k path rest p q after left (inr h) (inl g) = (let x = h.0 in let y = g.0 in absurd (omega arith))
-  run_once n s w own k path rest p q after left (inr h) (inr g) =
-      let same = task_once w n path h.1.0 g.1.0 own h.1.1 g.1.1 in
-      wanted_once n s h.1.0 (λ t is. task_is_his w n path t own (subst (IsTaskAt w (caller.Driver n) path) is h.1.1)) (take k rest) p q after left h.1.2
+  -- over its body
+  run_once : (n : ℕ) (s : State) (w : Wish) → is_own w.want ≡ true → (k : ℕ) (rest : List ℕ) (p q : Reply) (after left : State)
+      → Runs w k (caller.Driver n) rest s p after → Runs w k (caller.Driver n) rest s q left → (p ≡ q) × (after ≡ left)
+  run_once n s w own k rest p q after left (inl h) (inl g) = told_once s (fixed status.BadRequest) p q after left h.1 g.1
+  run_once n s w own k rest p q after left (inl h) (inr g) = (let x = h.0 in let y = g.0 in absurd (omega arith))
+  run_once n s w own k rest p q after left (inr h) (inl g) = (let x = h.0 in let y = g.0 in absurd (omega arith))
+  run_once n s w own k rest p q after left (inr h) (inr g) =
+      let same = task_once w.want n w.driver w.word h.1.0 g.1.0 own h.1.1 g.1.1 in
+      wanted_once n s h.1.0 (λ t is. task_is_his w.want n w.driver w.word t own (subst (IsTask w.want (caller.Driver n) w.driver w.word) is h.1.1)) (take k rest) p q after left h.1.2
       (subst (λ (wanted : Wanted). DoesWanted wanted (take k rest) s q left) (sym same) g.1.2)
 
-  body_once : (n : ℕ) (s : State) (w : Want) → is_own w ≡ true → (length : Result ℕ Status) (path rest : List ℕ) (p q : Reply) (after left : State)
-      → WithBody length w (caller.Driver n) path rest s p after → WithBody length w (caller.Driver n) path rest s q left → (p ≡ q) × (after ≡ left)
-  body_once n s w own (Err refusal) path rest p q after left h k = told_once s (fixed refusal) p q after left h k
-  body_once n s w own (Ok size) path rest p q after left h k = run_once n s w own size path rest p q after left h k
+  -- by its length
+  body_once : (n : ℕ) (s : State) (w : Wish) → is_own w.want ≡ true → (length : Result ℕ Status) (rest : List ℕ) (p q : Reply) (after left : State)
+      → WithBody length w (caller.Driver n) rest s p after → WithBody length w (caller.Driver n) rest s q left → (p ≡ q) × (after ≡ left)
+  body_once n s w own (Err refusal) rest p q after left h k = told_once s (fixed refusal) p q after left h k
+  body_once n s w own (Ok size) rest p q after left h k = run_once n s w own size rest p q after left h k
 
-  want_once : (n : ℕ) (s : State) (found : Result Want Status) → ((w : Want) → found ≡ Ok w → is_own w ≡ true) → (h : RequestHead) (rest : List ℕ) (p q : Reply) (after left : State)
-      → WithWant found (caller.Driver n) h rest s p after → WithWant found (caller.Driver n) h rest s q left → (p ≡ q) × (after ≡ left)
+  -- by what he asks for
+  want_once : (n : ℕ) (s : State) (found : Result Wish Status) → ((w : Wish) → found ≡ Ok w → is_own w.want ≡ true) → (h : RequestHead) (rest : List ℕ) (p q : Reply) (after left : State)
+      → WithWish found (caller.Driver n) h rest s p after → WithWish found (caller.Driver n) h rest s q left → (p ≡ q) × (after ≡ left)
   want_once n s (Err refusal) own h rest p q after left x y = told_once s (fixed refusal) p q after left x y
   want_once n s (Ok w) own h rest p q after left x y =
-      body_once n s w (own w refl) (body_length (method_of h.method) w (fields_of h)) h.target rest p q after left x y
+      body_once n s w (own w refl) (body_of h w.want) rest p q after left x y
 
+  -- by its head, which is one
   one_of : (office input : List ℕ) (n : ℕ) (s : State) → IsFrom office input n s → (p : Reply) (after : State) → Reacts office input s p after → (q : Reply) (left : State) → Reacts office input s q left
       → p.status ≢ status.Unavailable → q.status ≢ status.Unavailable → (p ≡ q) × (after ≡ left)
   one_of office input n s a _ _ (headed h rest p after begins x) _ _ (headed k more q left starts y) f g =
@@ -291,7 +342,7 @@ module _ (own_wants : OwnWants) (same_answers : SameAnswers) (others_stay : Othe
       let z = subst (λ (rest : List ℕ). ByCaller (caller.Driver n) h rest s q left) (sym same.1)
       (subst (λ (head : RequestHead). ByCaller (caller.Driver n) head more s q left) (sym same.0)
       (own_request office a.key k more n s q left (a.has k more starts) a.other a.own y)) in
-      want_once n s (want_of asker.Driver h.method h.target) (λ w is. own_wants h.method h.target w is) h rest p q after left
+      want_once n s (wish_of asker.Driver h.method h.target) (λ w is. own_wants h.method h.target w is) h rest p q after left
       (own_request office a.key h rest n s p after (a.has h rest begins) a.other a.own x) z
   one_of office input n s a _ _ (headed h rest p after begins x) _ _ (bad r) f g = absurd (r.0 h rest begins)
   one_of office input n s a _ _ (headed h rest p after begins x) _ _ (large r) f g = absurd (r.0 h rest begins)
@@ -300,6 +351,7 @@ module _ (own_wants : OwnWants) (same_answers : SameAnswers) (others_stay : Othe
   one_of office input n s a _ _ (large r) q left y f g = absurd (r.0 a.head a.rest a.begins)
   one_of office input n s a _ _ (unavailable k more key starts has) q left y f g = absurd (f refl)
 
+  -- 503 aside there is one reply
   pub one_reply : OneReply
   one_reply office input n s other a b e p after x q left y f g =
       let moved = same_of office input n s other a b e p after x in

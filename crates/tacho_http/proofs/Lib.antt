@@ -1,4 +1,9 @@
+mod RouteLemmas
+mod RouteVectors
+mod PartLemmas
+mod AccessLemmas
 mod RespondLemmas
 mod HeadLemmas
 mod RunLemmas
 mod LawLemmas
+mod PageFacts

@@ -1,7 +1,9 @@
 -- What the functions of a request come to, by what their parts did.
-use Rattle.std.proofs.Common.{◌≡◌, ◌++◌, ◌∙◌, ℕ, List, Bool, true, false, Option, Some, None, Result, Ok, Err, bytes_eq, refl, sym, ap, subst, inl, inr}
-use Rattle.std.specs.Prelude.{IfOk}
+use Rattle.std.proofs.Common.{◌≡◌, ◌==◌, ◌||◌, ◌++◌, ◌∙◌, ◌∷◌, if◌then◌else◌, codes, nat_lt, ℕ, List, [], Bool, true, false, Option, Some, None, Result, Ok, Err, bytes_eq, refl, sym, ap, subst, ◌⊎◌, inl, inr, append_assoc}
+use Rattle.std.specs.Io.KnownBytes.{Consumes}
+use Rattle.std.specs.Prelude.{IfOk, IfSome, IsErr, OnOk, MatchResult}
 use Rattle.httparse.specs.Grammar.{RequestHead}
+use Rattle.httparse.proofs.GrammarLemmas.{request_unique}
 use Rattle.tacho_time.specs.declared.device.Failed.{Failed}
 use Rattle.tacho_state.specs.Acts.{Reads}
 use Rattle.tacho_state.specs.State.{State}
@@ -10,59 +12,66 @@ use Rattle.tacho_state.specs.declared.caller.Caller.{Caller}
 use Rattle.tacho_state.specs.declared.caller.Caller.TheVariants as caller
 use Rattle.tacho_state.specs.declared.fault.StoreFault.{StoreFault}
 use Rattle.tacho_state.specs.declared.fault.StoreFault.TheVariants as store
+use Rattle.tacho_card.specs.declared.fault.CardFault.TheVariants as card
 use Rattle.tacho_sheet.specs.declared.fault.Fault.TheVariants as told
-use Rattle.tacho_desk.specs.Doing.{Done, Serves, Stops as TaskStops}
+use Rattle.tacho_sheet.specs.declared.fault.SheetFault.TheVariants as sheet
+use Rattle.tacho_desk.specs.Doing.{Done, IsKept, Serves, Stops as TaskStops}
 use Rattle.tacho_desk.specs.Fault.{IsGivenUp}
 use Rattle.tacho_desk.specs.Tasks.{Does}
 use Rattle.tacho_desk.specs.Told.{Answer}
+use Rattle.tacho_desk.specs.Words.{IsTask}
 use Rattle.tacho_desk.specs.declared.fault.Fault.{Fault}
 use Rattle.tacho_desk.specs.declared.fault.Fault.TheVariants as fault
 use Rattle.tacho_desk.specs.declared.task.Task.{Task}
-use Rattle.tacho_message.specs.Asked.{body_length, method_of, want_at, want_of}
 use Rattle.tacho_message.specs.Body.{IsBody, IsCutShort}
 use Rattle.tacho_message.specs.Head.{BeginsWith}
+use Rattle.tacho_message.specs.Fields.{length_told, values_under}
+use Rattle.tacho_message.specs.Length.{body_coded, body_length, body_told, body_within, method_of}
 use Rattle.tacho_message.specs.Request.{fields_of, key_of}
-use Rattle.tacho_message.specs.Routes.{route_of}
-use Rattle.tacho_message.specs.declared.asked.Method.{Method}
-use Rattle.tacho_message.specs.declared.places.Asker.{Asker}
-use Rattle.tacho_message.specs.declared.places.Place.{Place}
-use Rattle.tacho_message.specs.declared.places.Want.{Want}
+use Rattle.tacho_message.specs.declared.method.Method.{Method}
+use Rattle.tacho_message.specs.declared.method.Method.TheVariants as method
 use Rattle.tacho_message.specs.declared.reply.Status.{Status}
 use Rattle.tacho_message.specs.declared.reply.Status.TheVariants as status
-use Rattle.tacho_http.specs.Answer.{Given, Gives, Responds, Stops}
+use Rattle.tacho_http.specs.Answer.{Answered, Answers, Exchanged, Given, Gives, IsBegun, IsPosted, IsUnfinished, IsWritten, LacksMore, Responds, Stopped, Stops, is_done}
+use Rattle.tacho_http.specs.Asked.{Wish, asker_of, granted, is_post, offered, same_asker, wish_at, wish_of}
 use Rattle.tacho_http.specs.Reply.{Reply, fixed, reply_of, reply_to}
-use Rattle.tacho_http.specs.Serve.{ByCaller, ByKey, ByKeys, ByOwner, ByWhom, IsTaskAt, Reaction, Reacts, Runs, WithBody, WithWant, asker_of, headed, unavailable as unavailable_reply}
+use Rattle.tacho_http.specs.Routes.{Named, named_at}
+use Rattle.tacho_http.specs.declared.places.Asker.{Asker}
+use Rattle.tacho_desk.specs.Wants.{takes_input}
+use Rattle.tacho_desk.specs.declared.want.Want.{Want}
+use Rattle.tacho_http.specs.Serve.{ByCaller, ByKey, ByKeys, ByOwner, ByWhom, Reaction, Reacts, Runs, WithBody, WithWish, body_of, headed, unavailable as unavailable_reply}
+use Rattle.tacho_http.specs.declared.exchange.IoFault.TheVariants as io
 use Rattle.tacho_http.specs.declared.response.Response.{Response}
 
--- what a request asks for, by what its parts are
-pub want_found : (c : Caller) (h : RequestHead) (m : Option Method) (method path : List ℕ) (a : Asker) (place : Option Place) (w : Want)
-    → m ≡ method_of method → a ≡ asker_of c → place ≡ route_of path → method ≡ h.method → path ≡ h.target → Ok w ≡ want_at a m place
-    → want_of (asker_of c) h.method h.target ≡ Ok w
-want_found c h m method path a place w em ea ep eh et e =
-    sym (e ∙ (ap (λ (x : Asker). want_at x m place) ea
-    ∙ (ap (λ (x : Option Method). want_at (asker_of c) x place) (em ∙ ap method_of eh)
-    ∙ ap (λ (x : Option Place). want_at (asker_of c) (method_of h.method) x) (ep ∙ ap route_of et))))
+-- ---- one meaning for another
 
-pub length_found : (h : RequestHead) (m : Option Method) (method : List ℕ) (w : Want) (fields : List (List ℕ × List ℕ)) (n : ℕ)
-    → m ≡ method_of method → method ≡ h.method → fields ≡ fields_of h → Ok n ≡ body_length m w fields
-    → body_length (method_of h.method) w (fields_of h) ≡ Ok n
-length_found h m method w fields n em eh ef e =
-    sym (e ∙ (ap (λ (x : Option Method). body_length x w fields) (em ∙ ap method_of eh) ∙ ap (λ (x : List (List ℕ × List ℕ)). body_length (method_of h.method) w x) ef))
+-- of a reply
+gives_as : (stands : State → Type 0) (leaves : List State → Type 0) (command other : Bool) (s : State) (A B : Reaction) (reply : Reply)
+    → (other ≡ true → command ≡ true) → ((reply : Reply) (after : State) → A reply after → B reply after)
+    → Gives stands leaves command s A reply → Gives stands leaves other s B reply
+gives_as stands leaves command other s A B reply more h (inl g) = inl (g.0, g.1, h reply g.0 g.2, λ is done. g.3 (more is) done)
+gives_as stands leaves command other s A B reply more h (inr g) = inr g
 
-gives_as : (stands : State → Type 0) (s : State) (A B : Reaction) (reply : Reply) → ((reply : Reply) (after : State) → A reply after → B reply after)
-    → Gives stands s A reply → Gives stands s B reply
-gives_as stands s A B reply h (inl g) = inl (g.0, g.1, h reply g.0 g.2)
-gives_as stands s A B reply h (inr g) = inr g
+-- or where the reader failed
+given_as : (stands : State → Type 0) (leaves : List State → Type 0) (command other : Bool) (s : State) (A B : Reaction) (result : Result Response Failed)
+    → (other ≡ true → command ≡ true) → ((reply : Reply) (after : State) → A reply after → B reply after)
+    → Given stands leaves command s A result → Given stands leaves other s B result
+given_as stands leaves command other s A B (Ok response) more h g = gives_as stands leaves command other s A B (reply_of response) more h g
+given_as stands leaves command other s A B (Err failed) more h g = g
 
-given_as : (stands : State → Type 0) (s : State) (A B : Reaction) (result : Result Response Failed) → ((reply : Reply) (after : State) → A reply after → B reply after)
-    → Given stands s A result → Given stands s B result
-given_as stands s A B (Ok response) h g = gives_as stands s A B (reply_of response) h g
-given_as stands s A B (Err failed) h g = g
+-- of what a stop leaves
+stops_as : (leaves : List State → Type 0) (past : List State) (A B : Reaction) (reply : Reply)
+    → ((reply : Reply) (after : State) → A reply after → B reply after)
+    → Stops leaves past A reply → Stops leaves past B reply
+stops_as leaves past A B reply h (inl l) = inl l
+stops_as leaves past A B reply h (inr g) = inr (g.0, g.1, g.2, h g.0 g.1 g.3, g.4)
 
-stops_as : (leaves : List State → Type 0) (past : List State) (A B : Reaction) → ((reply : Reply) (after : State) → A reply after → B reply after)
-    → Stops leaves past A → Stops leaves past B
-stops_as leaves past A B h (inl l) = inl l
-stops_as leaves past A B h (inr g) = inr (g.0, g.1, h g.0 g.1 g.2, g.3)
+-- or where the reader failed
+stopped_as : (leaves : List State → Type 0) (past : List State) (A B : Reaction) (result : Result Response Failed)
+    → ((reply : Reply) (after : State) → A reply after → B reply after)
+    → Stopped leaves past A result → Stopped leaves past B result
+stopped_as leaves past A B (Ok response) h g = stops_as leaves past A B (reply_of response) h g
+stopped_as leaves past A B (Err failed) h g = g
 
 -- where a task gave up, the reply is 503
 gave_up : (f : Fault) → IsGivenUp f → reply_to (Err f) ≡ fixed status.Unavailable
@@ -89,118 +98,323 @@ gave_up (fault.Told told.Number) h = absurd h
 gave_up (fault.Told told.Part) h = absurd h
 gave_up (fault.Told told.TooLarge) h = absurd h
 
--- the reply to what a task answered
-replied : (stands : State → Type 0) (s : State) (t : Task) (body : List ℕ) (answer : Answer) (Wants : Reaction)
-    → ((answer : Answer) (after : State) → Does t body s answer after → Wants (reply_to answer) after)
-    → Done stands s (Does t body s) answer → Gives stands s Wants (reply_to answer)
-replied stands s t body (Ok text) Wants h d = inl (d.0, d.1, h (Ok text) d.0 d.2)
-replied stands s t body (Err f) Wants h (st, inl d) = inl (s, st, h (Err f) s d)
-replied stands s t body (Err f) Wants h (st, inr g) = inr (gave_up f g, st)
+-- ---- the reply to what a task answered
 
-module _ {K : Type 0} (stands : K → State → Type 0) (is_clean : K → Type 0) (leaves : K → List State → Type 0) where
-  pub responds_as : (old new : K) (unread : Option (List ℕ)) (result : Result Response Failed) (A B : List ℕ → State → Reaction)
+-- no refusal tells that something is done
+refused : (f : Fault) → is_done (reply_to (Err f)).status ≡ false
+refused fault.Device = refl
+refused fault.Memory = refl
+refused (fault.Told (told.Time a)) = refl
+refused (fault.Told told.Number) = refl
+refused (fault.Told told.Part) = refl
+refused (fault.Told told.TooLarge) = refl
+refused (fault.Told (told.Card (card.Truncated a))) = refl
+refused (fault.Told (told.Card (card.Twice a b))) = refl
+refused (fault.Told (told.Card card.NoIdentification)) = refl
+refused (fault.Told (told.Card card.ShortIdentification)) = refl
+refused (fault.Told (told.Card card.TwoCards)) = refl
+refused (fault.Told (told.Card card.NoActivity)) = refl
+refused (fault.Told (told.Card card.ShortActivity)) = refl
+refused (fault.Told (told.Card card.Pointer)) = refl
+refused (fault.Told (told.Card (card.RecordLength a))) = refl
+refused (fault.Told (told.Card (card.Chain a))) = refl
+refused (fault.Told (told.Card (card.DayRange a))) = refl
+refused (fault.Told (told.Card (card.WordMinute a))) = refl
+refused (fault.Told (told.Card (card.WordOrder a))) = refl
+refused (fault.Told (told.Card (card.SelfContradiction a))) = refl
+refused (fault.Told (told.Card card.Memory)) = refl
+refused (fault.Told (told.Store store.DriverTaken)) = refl
+refused (fault.Told (told.Store store.KeyTaken)) = refl
+refused (fault.Told (told.Store store.HolderTaken)) = refl
+refused (fault.Told (told.Store store.UnknownDriver)) = refl
+refused (fault.Told (told.Store store.NotYourCard)) = refl
+refused (fault.Told (told.Store (store.Contradiction a))) = refl
+refused (fault.Told (told.Store store.UnknownEntry)) = refl
+refused (fault.Told (told.Store store.AlreadyWithdrawn)) = refl
+refused (fault.Told (told.Store store.NotMonday)) = refl
+refused (fault.Told (told.Store store.UnknownDownload)) = refl
+refused (fault.Told (told.Store store.Store)) = refl
+refused (fault.Told (told.Store store.Full)) = refl
+refused (fault.Told (told.Store store.Memory)) = refl
+refused (fault.Told (told.Store (store.Card (card.Truncated a)))) = refl
+refused (fault.Told (told.Store (store.Card (card.Twice a b)))) = refl
+refused (fault.Told (told.Store (store.Card card.NoIdentification))) = refl
+refused (fault.Told (told.Store (store.Card card.ShortIdentification))) = refl
+refused (fault.Told (told.Store (store.Card card.TwoCards))) = refl
+refused (fault.Told (told.Store (store.Card card.NoActivity))) = refl
+refused (fault.Told (told.Store (store.Card card.ShortActivity))) = refl
+refused (fault.Told (told.Store (store.Card card.Pointer))) = refl
+refused (fault.Told (told.Store (store.Card (card.RecordLength a)))) = refl
+refused (fault.Told (told.Store (store.Card (card.Chain a)))) = refl
+refused (fault.Told (told.Store (store.Card (card.DayRange a)))) = refl
+refused (fault.Told (told.Store (store.Card (card.WordMinute a)))) = refl
+refused (fault.Told (told.Store (store.Card (card.WordOrder a)))) = refl
+refused (fault.Told (told.Store (store.Card (card.SelfContradiction a)))) = refl
+refused (fault.Told (told.Store (store.Card card.Memory))) = refl
+refused (fault.Told (told.Sheet sheet.Head)) = refl
+refused (fault.Told (told.Sheet (sheet.Fields a))) = refl
+refused (fault.Told (told.Sheet (sheet.Time a))) = refl
+refused (fault.Told (told.Sheet (sheet.Order a))) = refl
+refused (fault.Told (told.Sheet (sheet.LeftOut a b))) = refl
+refused (fault.Told (told.Sheet (sheet.Activity a))) = refl
+refused (fault.Told (told.Sheet (sheet.TooLong a))) = refl
+refused (fault.Told (told.Sheet sheet.Csv)) = refl
+refused (fault.Told (told.Sheet (sheet.Column a))) = refl
+refused (fault.Told (told.Sheet sheet.Memory)) = refl
+
+-- so that nothing follows of one that does
+never_done : {P : Type 0} (f : Fault) (status : Status) → status ≡ (reply_to (Err f)).status → is_done status ≡ true → P
+never_done f s same done = (let none = refused f in let said = ap is_done same in cc)
+
+-- 503 doesn't tell it either
+not_available : {P : Type 0} (reply : Reply) → reply ≡ fixed status.Unavailable → is_done reply.status ≡ true → P
+not_available reply is done = (let said = ap (λ (r : Reply). is_done r.status) is in cc)
+
+module _ (stands : State → Type 0) (leaves : List State → Type 0) (s : State) (t : Task) (body : List ℕ) (Wants : Reaction)
+    (h : (answer : Answer) (after : State) → Does t body s answer after → Wants (reply_to answer) after) where
+  -- of what a command told a stop leaves the state after it alone
+  replied : (command : Bool) (answer : Answer) → Done stands s (Does t body s) answer
+      → (command ≡ true → IsKept stands leaves (Does t body s) answer) → Gives stands leaves command s Wants (reply_to answer)
+  replied true (Ok text) d kept = (let k = kept refl in inl (k.0, k.1, h (Ok text) k.0 k.2, λ is done. k.3))
+  replied false (Ok text) d kept = inl (d.0, d.1, h (Ok text) d.0 d.2, λ is. cc)
+  replied command (Err f) (st, inl d) kept = inl (s, st, h (Err f) s d, λ is done. never_done f _ refl done)
+  replied command (Err f) (st, inr g) kept = inr (gave_up f g, st)
+
+  -- what a stop leaves of a task
+  stopped : (past : List State) (answer : Answer) → TaskStops leaves past (Does t body s) answer → Stops leaves past Wants (reply_to answer)
+  stopped past (Ok text) (inl l) = inl l
+  stopped past (Ok text) (inr a) = inr (reply_to (Ok text), a.0, inl refl, h (Ok text) a.0 a.1, a.2)
+  stopped past (Err f) (inl l) = inl l
+  stopped past (Err f) (inr a) = inr (reply_to a.1.0, a.1.1, inr (gave_up f a.0), h a.1.0 a.1.1 a.1.2, a.1.3)
+
+-- what was told, the archive is live behind
+is_live_behind : {P : Type 0} (answer : Answer) → OnOk answer P → is_done (reply_to answer).status ≡ true → P
+is_live_behind (Ok text) live done = live
+is_live_behind (Err f) live done = never_done f _ refl done
+
+-- ---- what is refused before anything is done
+
+-- a refusal that doesn't tell that something is done
+abbrev Refuses : {A : Type 0} → Result A Status → Type 0
+Refuses (Ok x) = Unit {0}
+Refuses (Err refusal) = is_done refusal ≡ false
+
+-- a test between two answers
+either : {A : Type 0} (b : Bool) (x y : Result A Status) → Refuses x → Refuses y → Refuses (if b then x else y)
+either true x y h k = h
+either false x y h k = k
+
+-- 405 and 403
+refuses_granted : (a : Asker) (named : Named) (offer : Option Want) → Refuses (granted a named offer)
+refuses_granted a named None = refl
+refuses_granted a named (Some want) = either (same_asker a named.place.asker) _ _ tt refl
+
+-- and 404
+refuses_wish : (a : Asker) (m : Option Method) (found : Option Named) → Refuses (wish_at a m found)
+refuses_wish a m None = refl
+refuses_wish a m (Some named) = refuses_granted a named (offered m named.place)
+
+-- a length that isn't told, or too large, or of nothing to come
+refuses_within : (takes : Bool) (told : Option ℕ) → Refuses (body_within takes told)
+refuses_within takes None = refl
+refuses_within takes (Some n) = either (nat_lt 262144 n) _ _ refl (either (takes || (n == 0)) _ _ tt refl)
+
+-- none, one or more of them
+refuses_told : (takes : Bool) (values : List (List ℕ)) → Refuses (body_told takes values)
+refuses_told takes [] = either takes _ _ refl tt
+refuses_told takes (value ∷ []) = refuses_within takes (length_told value)
+refuses_told takes (value ∷ other ∷ more) = refl
+
+-- or a coding
+refuses_coded : (takes : Bool) (codings lengths : List (List ℕ)) → Refuses (body_coded takes codings lengths)
+refuses_coded takes [] lengths = refuses_told takes lengths
+refuses_coded takes (coding ∷ more) lengths = refl
+
+-- what the length of a body is refused with
+refuses_length : (m : Option Method) (takes : Bool) (fields : List (List ℕ × List ℕ)) → Refuses (body_length m takes fields)
+refuses_length (Some method.Post) takes fields =
+    refuses_coded takes (values_under (codes "transfer-encoding") fields) (values_under (codes "content-length") fields)
+refuses_length (Some method.Get) takes fields = tt
+refuses_length None takes fields = tt
+
+-- what is asked for
+pub wish_refused : (a : Asker) (m : Option Method) (found : Option Named) (refusal : Status) → Err refusal ≡ wish_at a m found → is_done refusal ≡ false
+wish_refused a m found refusal e = subst (λ (r : Result Wish Status). Refuses r) (sym e) (refuses_wish a m found)
+
+-- and how long its body is
+pub length_refused : (m : Option Method) (takes : Bool) (fields : List (List ℕ × List ℕ)) (refusal : Status) → Err refusal ≡ body_length m takes fields → is_done refusal ≡ false
+length_refused m takes fields refusal e = subst (λ (r : Result ℕ Status). Refuses r) (sym e) (refuses_length m takes fields)
+
+-- ---- what a request asks for, by what its parts are
+
+-- by who asks, the method and the path
+pub wish_found_by : (c : Caller) (h : RequestHead) (m : Option Method) (text path : List ℕ) (a : Asker) (found : Option Named) (w : Result Wish Status)
+    → m ≡ method_of text → a ≡ asker_of c → found ≡ named_at path → text ≡ h.method → path ≡ h.target → w ≡ wish_at a m found
+    → wish_of (asker_of c) h.method h.target ≡ w
+wish_found_by c h m text path a found w em ea ef eh et e =
+    sym (e ∙ (ap (λ (x : Asker). wish_at x m found) ea
+    ∙ (ap (λ (x : Option Method). wish_at (asker_of c) x found) (em ∙ ap method_of eh)
+    ∙ ap (λ (x : Option Named). wish_at (asker_of c) (method_of h.method) x) (ef ∙ ap named_at et))))
+
+-- how long its body is
+pub length_found : (h : RequestHead) (m : Option Method) (text : List ℕ) (want : Want) (takes : Bool) (fields : List (List ℕ × List ℕ)) (r : Result ℕ Status)
+    → m ≡ method_of text → takes ≡ takes_input want → text ≡ h.method → fields ≡ fields_of h → r ≡ body_length m takes fields
+    → body_of h want ≡ r
+length_found h m text want takes fields r em et eh ef e =
+    sym (e ∙ (ap (λ (x : Option Method). body_length x takes fields) (em ∙ ap method_of eh)
+    ∙ (ap (λ (x : Bool). body_length (method_of h.method) x fields) et
+    ∙ ap (λ (x : List (List ℕ × List ℕ)). body_length (method_of h.method) (takes_input want) x) ef)))
+
+-- ---- one function and its parts
+
+-- there are bytes that are left
+some_left : (unread : Option (List ℕ)) → (left : List ℕ) × IfSome unread (λ all. left ≡ all)
+some_left None = ([], tt)
+some_left (Some all) = (all, refl)
+
+module _ {K : Type 0} (stands : K → State → Type 0) (is_clean is_live : K → Type 0) (leaves : K → List State → Type 0) where
+  -- one meaning for another
+  pub responds_as : (old new : K) (command other : Bool) (unread : Option (List ℕ)) (result : Result Response Failed) (A B : List ℕ → State → Reaction)
+      → (other ≡ true → command ≡ true)
       → ((left : List ℕ) (s : State) (reply : Reply) (after : State) → A left s reply after → B left s reply after)
-      → Responds stands is_clean leaves old new unread result A
-      → Responds stands is_clean leaves old new unread result B
-  responds_as old new unread result A B h r = record {
+      → Responds stands is_clean is_live leaves old new command unread result A
+      → Responds stands is_clean is_live leaves old new other unread result B
+  responds_as old new command other unread result A B more h r = record {
+    left = r.left;
+    told = r.told;
     clean = r.clean;
-    same = r.same;
-    given = λ c s st left e. given_as (stands new) s (A left s) (B left s) result (h left s) (r.given c s st left e);
-    crash = λ c s past st l left e. stops_as (leaves new) past (A left s) (B left s) (h left s)
-        (r.crash c s past st l left e);
+    live = r.live;
+    given = λ c s st. given_as (stands new) (leaves new) command other s (A r.left s) (B r.left s) result more (h r.left s) (r.given c s st);
+    crash = λ c s past st l. stopped_as (leaves new) past (A r.left s) (B r.left s) result (h r.left s) (r.crash c s past st l);
   }
 
-  -- nothing was done, and this reply is wanted
-  pub nothing : (keeper : K) (unread : Option (List ℕ)) (response : Response) (Wants : List ℕ → State → Reaction)
-      → ((left : List ℕ) (s : State) → unread ≡ Some left → Wants left s (reply_of response) s)
-      → Responds stands is_clean leaves keeper keeper unread (Ok response) Wants
-  nothing keeper unread response Wants h = record {
+  -- nothing was done, and this reply is wanted, which doesn't tell that anything is
+  nothing_of : (keeper : K) (command : Bool) (unread : Option (List ℕ)) (left : List ℕ) → IfSome unread (λ all. left ≡ all)
+      → (response : Response) (Wants : List ℕ → State → Reaction)
+      → is_done response.status ≡ false → ((s : State) → Wants left s (reply_of response) s)
+      → Responds stands is_clean is_live leaves keeper keeper command unread (Ok response) Wants
+  nothing_of keeper command unread left told response Wants none h = record {
+    left = left;
+    told = told;
     clean = λ c. c;
-    same = λ c s st failed e. st;
-    given = λ c s st left e. inl (s, st, h left s e);
-    crash = λ c s past st l left e. inl l;
+    live = λ c done. (let x = none in cc);
+    given = λ c s st. inl (s, st, h s, λ is done. (let x = none in cc));
+    crash = λ c s past st l. inl l;
   }
+
+  -- over whatever is left
+  pub nothing : (keeper : K) (command : Bool) (unread : Option (List ℕ)) (response : Response) (Wants : List ℕ → State → Reaction)
+      → is_done response.status ≡ false → ((left : List ℕ) (s : State) → Wants left s (reply_of response) s)
+      → Responds stands is_clean is_live leaves keeper keeper command unread (Ok response) Wants
+  nothing keeper command unread response Wants none h =
+      let i = some_left unread in nothing_of keeper command unread i.0 i.1 response Wants none (h i.0)
 
   -- memory was wanting
-  pub unavailable : (keeper : K) (unread : Option (List ℕ)) (response : Response) (Wants : List ℕ → State → Reaction) → reply_of response ≡ fixed status.Unavailable
-      → Responds stands is_clean leaves keeper keeper unread (Ok response) Wants
-  unavailable keeper unread response Wants is = record {
-    clean = λ c. c;
-    same = λ c s st failed e. st;
-    given = λ c s st left e. inr (is, st);
-    crash = λ c s past st l left e. inl l;
-  }
+  pub unavailable : (keeper : K) (command : Bool) (unread : Option (List ℕ)) (response : Response) (Wants : List ℕ → State → Reaction) → reply_of response ≡ fixed status.Unavailable
+      → Responds stands is_clean is_live leaves keeper keeper command unread (Ok response) Wants
+  unavailable keeper command unread response Wants is =
+      let i = some_left unread in record {
+        left = i.0;
+        told = i.1;
+        clean = λ c. c;
+        live = λ c done. not_available (reply_of response) is done;
+        given = λ c s st. inr (is, st);
+        crash = λ c s past st l. inl l;
+      }
 
   -- the reader failed
-  pub unread_body : (keeper : K) (unread : Option (List ℕ)) (failed : Failed) (Wants : List ℕ → State → Reaction)
-      → Responds stands is_clean leaves keeper keeper unread (Err failed) Wants
-  unread_body keeper unread failed Wants = record {
-    clean = λ c. c;
-    same = λ c s st failed e. st;
-    given = λ c s st left e. st;
-    crash = λ c s past st l left e. inl l;
-  }
+  pub unread_body : (keeper : K) (command : Bool) (unread : Option (List ℕ)) (failed : Failed) (Wants : List ℕ → State → Reaction)
+      → Responds stands is_clean is_live leaves keeper keeper command unread (Err failed) Wants
+  unread_body keeper command unread failed Wants =
+      let i = some_left unread in record {
+        left = i.0;
+        told = i.1;
+        clean = λ c. c;
+        live = λ c. tt;
+        given = λ c s st. st;
+        crash = λ c s past st l. l;
+      }
 
   -- ---- bodies
 
   -- the input ended before the body
-  pub cut_short : (keeper : K) (unread : Option (List ℕ)) (response : Response) (w : Want) (n : ℕ) (c : Caller) (path behind : List ℕ)
+  pub cut_short : (keeper : K) (command : Bool) (unread : Option (List ℕ)) (response : Response) (w : Wish) (n : ℕ) (c : Caller) (behind : List ℕ)
       → reply_of response ≡ fixed status.BadRequest → IsCutShort behind unread n
-      → Responds stands is_clean leaves keeper keeper unread (Ok response)
-      (λ left s. Runs w n c path (behind ++ left) s)
-  cut_short keeper unread response w n c path behind is cut =
-      nothing keeper unread response (λ left s. Runs w n c path (behind ++ left) s) (λ left s e. inl (cut left e, (is, refl)))
+      → Responds stands is_clean is_live leaves keeper keeper command unread (Ok response)
+      (λ left s. Runs w n c (behind ++ left) s)
+  cut_short keeper command unread response w n c behind is cut =
+      nothing_of keeper command unread cut.left cut.told response (λ left s. Runs w n c (behind ++ left) s)
+      (ap (λ (r : Reply). is_done r.status) is) (λ s. inl (cut.short, (is, refl)))
 
   -- a word of the path is wrong
-  pub wrong_word : (keeper : K) (unread : Option (List ℕ)) (response : Response) (w : Want) (n : ℕ) (c : Caller) (path behind body : List ℕ) (f : Fault)
-      → reply_of response ≡ reply_to (Err f) → IsBody behind unread n body → IsTaskAt w c path (Err f)
-      → Responds stands is_clean leaves keeper keeper unread (Ok response)
-      (λ left s. Runs w n c path (behind ++ left) s)
-  wrong_word keeper unread response w n c path behind body f is read wrong =
-      nothing keeper unread response (λ left s. Runs w n c path (behind ++ left) s) (λ left s e. inr ((read left e).0, (Err f, wrong, (is, refl))))
+  pub wrong_word : (keeper : K) (command : Bool) (unread : Option (List ℕ)) (response : Response) (w : Wish) (n : ℕ) (c : Caller) (behind body : List ℕ) (f : Fault)
+      → reply_of response ≡ reply_to (Err f) → IsBody behind unread n body → IsTask w.want c w.driver w.word (Err f)
+      → Responds stands is_clean is_live leaves keeper keeper command unread (Ok response)
+      (λ left s. Runs w n c (behind ++ left) s)
+  wrong_word keeper command unread response w n c behind body f is read wrong =
+      nothing_of keeper command unread read.left read.told response (λ left s. Runs w n c (behind ++ left) s)
+      (ap (λ (r : Reply). is_done r.status) is ∙ refused f) (λ s. inr (read.long, (Err f, wrong, (is, refl))))
 
   -- the task was carried out
-  pub carried_out : (old new : K) (unread : Option (List ℕ)) (response : Response) (answer : Answer) (w : Want) (n : ℕ) (c : Caller) (path behind body : List ℕ) (t : Task)
-      → reply_of response ≡ reply_to answer → IsBody behind unread n body → IsTaskAt w c path (Ok t)
-      → Serves stands is_clean leaves old new answer (Does t body)
-      → Responds stands is_clean leaves old new unread (Ok response) (λ left s. Runs w n c path (behind ++ left) s)
-  carried_out old new unread response answer w n c path behind body t is read task serves = record {
+  pub carried_out : (old new : K) (command : Bool) (unread : Option (List ℕ)) (response : Response) (answer : Answer) (w : Wish) (n : ℕ) (c : Caller) (behind body : List ℕ) (t : Task)
+      → reply_of response ≡ reply_to answer → IsBody behind unread n body → IsTask w.want c w.driver w.word (Ok t)
+      → Serves stands is_clean is_live leaves old new command answer (Does t body)
+      → Responds stands is_clean is_live leaves old new command unread (Ok response) (λ left s. Runs w n c (behind ++ left) s)
+  carried_out old new command unread response answer w n c behind body t is read task serves = record {
+    left = read.left;
+    told = read.told;
     clean = serves.clean;
-    same = λ clean s st failed e. cc;
-    given = λ clean s st left e.
-        subst (Gives (stands new) s (Runs w n c path (behind ++ left) s)) (sym is)
-        (replied (stands new) s t body answer (Runs w n c path (behind ++ left) s) (λ answer after does. done_for left s answer after e does) (serves.done clean s st));
-    crash = λ clean s past st l left e. stops_for left s past e (serves.crash clean s past st l);
+    live = λ clean done. is_live_behind answer (serves.live clean) (subst (λ (r : Reply). is_done r.status ≡ true) is done);
+    given = λ clean s st.
+        subst (Gives (stands new) (leaves new) command s (Runs w n c (behind ++ read.left) s)) (sym is)
+        (replied (stands new) (leaves new) s t body (Runs w n c (behind ++ read.left) s) (done_for s) command answer (serves.done clean s st)
+        (λ is. serves.kept is clean s st));
+    crash = λ clean s past st l.
+        subst (Stops (leaves new) past (Runs w n c (behind ++ read.left) s)) (sym is)
+        (stopped (stands new) (leaves new) s t body (Runs w n c (behind ++ read.left) s) (done_for s) past answer (serves.crash clean s past st l));
   }
     where
-      done_for : (left : List ℕ) (s : State) (answer : Answer) (after : State) → unread ≡ Some left → Does t body s answer after
-          → Runs w n c path (behind ++ left) s (reply_to answer) after
-      done_for left s answer after e does =
-          let read_of = read left e in
-          inr (read_of.0, (Ok t, task, (answer, subst (λ (bytes : List ℕ). Does t bytes s answer after) read_of.1 does, refl)))
-
-      stops_for : (left : List ℕ) (s : State) (past : List State) → unread ≡ Some left → TaskStops (leaves new) past (Does t body s)
-          → Stops (leaves new) past (Runs w n c path (behind ++ left) s)
-      stops_for left s past e (inl l) = inl l
-      stops_for left s past e (inr a) = inr (reply_to a.0, a.1, done_for left s a.0 a.1 e a.2, a.3)
+      done_for : (s : State) (answer : Answer) (after : State) → Does t body s answer after → Runs w n c (behind ++ read.left) s (reply_to answer) after
+      done_for s answer after does =
+          inr (read.long, (Ok t, task, (answer, subst (λ (bytes : List ℕ). Does t bytes s answer after) read.bytes does, refl)))
 
   -- ---- who asks, and for what
 
-  pub by_want : (old new : K) (unread : Option (List ℕ)) (result : Result Response Failed) (c : Caller) (h : RequestHead) (behind path : List ℕ) (w : Want) (n : ℕ)
-      → want_of (asker_of c) h.method h.target ≡ Ok w → body_length (method_of h.method) w (fields_of h) ≡ Ok n → path ≡ h.target
-      → Responds stands is_clean leaves old new unread result (λ left s. Runs w n c path (behind ++ left) s)
-      → Responds stands is_clean leaves old new unread result (λ left s. ByCaller c h (behind ++ left) s)
-  by_want old new unread result c h behind path w n wanted long at r =
-      responds_as old new unread result (λ left s. Runs w n c path (behind ++ left) s) (λ left s. ByCaller c h (behind ++ left) s) (λ left s reply after does.
-      subst (λ (x : Result Want Status). WithWant x c h (behind ++ left) s reply after) (sym wanted)
-      (subst (λ (x : Result ℕ Status). WithBody x w c h.target (behind ++ left) s reply after) (sym long)
-      (subst (λ (x : List ℕ). Runs w n c x (behind ++ left) s reply after) at does))) r
+  -- what is asked for is run
+  pub by_wish : (old new : K) (command : Bool) (unread : Option (List ℕ)) (result : Result Response Failed) (c : Caller) (h : RequestHead) (behind : List ℕ) (w : Wish) (n : ℕ)
+      → (is_post (method_of h.method) ≡ true → command ≡ true)
+      → wish_of (asker_of c) h.method h.target ≡ Ok w → body_of h w.want ≡ Ok n
+      → Responds stands is_clean is_live leaves old new command unread result (λ left s. Runs w n c (behind ++ left) s)
+      → Responds stands is_clean is_live leaves old new (is_post (method_of h.method)) unread result (λ left s. ByCaller c h (behind ++ left) s)
+  by_wish old new command unread result c h behind w n posted wanted long r =
+      responds_as old new command (is_post (method_of h.method)) unread result (λ left s. Runs w n c (behind ++ left) s) (λ left s. ByCaller c h (behind ++ left) s) posted
+      (λ left s reply after does.
+      subst (λ (x : Result Wish Status). WithWish x c h (behind ++ left) s reply after) (sym wanted)
+      (subst (λ (x : Result ℕ Status). WithBody x w c (behind ++ left) s reply after) (sym long) does)) r
 
-  pub by_office : (old new : K) (unread : Option (List ℕ)) (result : Result Response Failed) (office key : List ℕ) (h : RequestHead) (behind : List ℕ) → bytes_eq key office ≡ true
-      → Responds stands is_clean leaves old new unread result (λ left s. ByCaller caller.Office h (behind ++ left) s)
-      → Responds stands is_clean leaves old new unread result (λ left s. ByKey office key h (behind ++ left) s)
-  by_office old new unread result office key h behind e r =
-      responds_as old new unread result (λ left s. ByCaller caller.Office h (behind ++ left) s) (λ left s. ByKey office key h (behind ++ left) s)
+  -- there is no such place, or nothing at it by this method, or it is another's
+  pub no_wish : (keeper : K) (unread : Option (List ℕ)) (response : Response) (c : Caller) (h : RequestHead) (behind : List ℕ) (refusal : Status)
+      → reply_of response ≡ fixed refusal → is_done refusal ≡ false → wish_of (asker_of c) h.method h.target ≡ Err refusal
+      → Responds stands is_clean is_live leaves keeper keeper (is_post (method_of h.method)) unread (Ok response) (λ left s. ByCaller c h (behind ++ left) s)
+  no_wish keeper unread response c h behind refusal is none refused =
+      nothing keeper (is_post (method_of h.method)) unread response (λ left s. ByCaller c h (behind ++ left) s) (ap (λ (r : Reply). is_done r.status) is ∙ none)
+      (λ left s. subst (λ (x : Result Wish Status). WithWish x c h (behind ++ left) s (reply_of response) s) (sym refused) (is, refl))
+
+  -- the length of its body isn't told, or is too large
+  pub no_length : (keeper : K) (unread : Option (List ℕ)) (response : Response) (c : Caller) (h : RequestHead) (behind : List ℕ) (w : Wish) (refusal : Status)
+      → reply_of response ≡ fixed refusal → is_done refusal ≡ false → wish_of (asker_of c) h.method h.target ≡ Ok w → body_of h w.want ≡ Err refusal
+      → Responds stands is_clean is_live leaves keeper keeper (is_post (method_of h.method)) unread (Ok response) (λ left s. ByCaller c h (behind ++ left) s)
+  no_length keeper unread response c h behind w refusal is none wanted refused =
+      nothing keeper (is_post (method_of h.method)) unread response (λ left s. ByCaller c h (behind ++ left) s) (ap (λ (r : Reply). is_done r.status) is ∙ none)
+      (λ left s. subst (λ (x : Result Wish Status). WithWish x c h (behind ++ left) s (reply_of response) s) (sym wanted)
+      (subst (λ (x : Result ℕ Status). WithBody x w c (behind ++ left) s (reply_of response) s) (sym refused) (is, refl)))
+
+  -- the office asks
+  pub by_office : (old new : K) (command : Bool) (unread : Option (List ℕ)) (result : Result Response Failed) (office key : List ℕ) (h : RequestHead) (behind : List ℕ) → bytes_eq key office ≡ true
+      → Responds stands is_clean is_live leaves old new command unread result (λ left s. ByCaller caller.Office h (behind ++ left) s)
+      → Responds stands is_clean is_live leaves old new command unread result (λ left s. ByKey office key h (behind ++ left) s)
+  by_office old new command unread result office key h behind e r =
+      responds_as old new command command unread result (λ left s. ByCaller caller.Office h (behind ++ left) s) (λ left s. ByKey office key h (behind ++ left) s) (λ is. is)
       (λ left s reply after does. subst (λ (b : Bool). ByWhom b key h (behind ++ left) s reply after) (sym e) does) r
 
 -- ---- keys
@@ -208,68 +422,247 @@ module _ {K : Type 0} (stands : K → State → Type 0) (is_clean : K → Type 0
 module _ {K : Type 0} (stands : K → State → Type 0) (is_clean is_live : K → Type 0) (leaves : K → List State → Type 0)
     {is_same : K → K → Type 0} where
   -- the key is nobody's, or it could not be asked whose it is
-  pub asked_in_vain : (old new : K) (unread : Option (List ℕ)) (response : Response) (key : List ℕ)
+  pub asked_in_vain : (old new : K) (command : Bool) (unread : Option (List ℕ)) (response : Response) (key : List ℕ)
       (Wants : List ℕ → State → Reaction) (found : Result (Option ℕ) StoreFault)
+      → is_done response.status ≡ false
       → Reads stands is_clean is_live leaves is_same (λ (n : Option ℕ). n) old new found (owner key)
       → ((left : List ℕ) (s : State) → stands old s → is_clean new
-      → Gives (stands new) s (Wants left s) (reply_of response))
-      → Responds stands is_clean leaves old new unread (Ok response) Wants
-  asked_in_vain old new unread response key Wants found reads h = record {
-    clean = reads.clean;
-    same = λ c s st failed e. reads.state c s st;
-    given = λ c s st left e. h left s st c;
-    crash = λ c s past st l left e. inl (reads.crash c past l);
-  }
+      → Wants left s (reply_of response) s ⊎ (reply_of response ≡ fixed status.Unavailable))
+      → Responds stands is_clean is_live leaves old new command unread (Ok response) Wants
+  asked_in_vain old new command unread response key Wants found none reads h =
+      let i = some_left unread in record {
+        left = i.0;
+        told = i.1;
+        clean = reads.clean;
+        live = λ c done. (let x = none in cc);
+        given = λ c s st. gives s (reads.state c s st) (h i.0 s st c);
+        crash = λ c s past st l. inl (reads.crash c past l);
+      }
+    where
+      gives : (s : State) → stands new s → Wants (some_left unread).0 s (reply_of response) s ⊎ (reply_of response ≡ fixed status.Unavailable)
+          → Gives (stands new) (leaves new) command s (Wants (some_left unread).0 s) (reply_of response)
+      gives s st (inl wants) = inl (s, st, wants, λ is done. (let x = none in cc))
+      gives s st (inr is) = inr (is, st)
+
+  -- the key is nobody's
+  pub by_nobody : (old new : K) (command : Bool) (unread : Option (List ℕ)) (response : Response) (office key : List ℕ) (h : RequestHead) (behind : List ℕ)
+      → bytes_eq key office ≡ false → reply_of response ≡ fixed status.Forbidden
+      → Reads stands is_clean is_live leaves is_same (λ (n : Option ℕ). n) old new (Ok None) (owner key)
+      → Responds stands is_clean is_live leaves old new command unread (Ok response) (λ left s. ByKey office key h (behind ++ left) s)
+  by_nobody old new command unread response office key h behind e is reads =
+      asked_in_vain old new command unread response key (λ left s. ByKey office key h (behind ++ left) s) (Ok None) (ap (λ (r : Reply). is_done r.status) is) reads
+      (λ left s st clean. inl (subst (λ (b : Bool). ByWhom b key h (behind ++ left) s (reply_of response) s) (sym e)
+      (subst (λ (o : Result (Option ℕ) StoreFault). ByOwner o h (behind ++ left) s (reply_of response) s) (sym (reads.answer clean s st)) (is, refl))))
+
+  -- it could not be asked whose it is
+  pub by_none : (old new : K) (command : Bool) (unread : Option (List ℕ)) (response : Response) (office key : List ℕ) (h : RequestHead) (behind : List ℕ) (f : StoreFault)
+      → reply_of response ≡ fixed status.Unavailable
+      → Reads stands is_clean is_live leaves is_same (λ (n : Option ℕ). n) old new (Err f) (owner key)
+      → Responds stands is_clean is_live leaves old new command unread (Ok response) (λ left s. ByKey office key h (behind ++ left) s)
+  by_none old new command unread response office key h behind f is reads =
+      asked_in_vain old new command unread response key (λ left s. ByKey office key h (behind ++ left) s) (Err f) (ap (λ (r : Reply). is_done r.status) is) reads
+      (λ left s st clean. inr is)
 
   -- the key is a driver's, and his request was answered
-  pub asked_for : (old mid new : K) (unread : Option (List ℕ)) (result : Result Response Failed) (key : List ℕ) (n : ℕ)
+  pub asked_for : (old mid new : K) (command : Bool) (unread : Option (List ℕ)) (result : Result Response Failed) (key : List ℕ) (n : ℕ)
       (A B : List ℕ → State → Reaction)
       → Reads stands is_clean is_live leaves is_same (λ (n : Option ℕ). n) old mid (Ok (Some n)) (owner key)
       → ((left : List ℕ) (s : State) (reply : Reply) (after : State) → owner key s ≡ Ok (Some n)
       → A left s reply after → B left s reply after)
-      → Responds stands is_clean leaves mid new unread result A
-      → Responds stands is_clean leaves old new unread result B
-  asked_for old mid new unread result key n A B reads h r = record {
+      → Responds stands is_clean is_live leaves mid new command unread result A
+      → Responds stands is_clean is_live leaves old new command unread result B
+  asked_for old mid new command unread result key n A B reads h r = record {
+    left = r.left;
+    told = r.told;
     clean = λ c. reads.clean (r.clean c);
-    same = λ c s st failed e. r.same c s (reads.state (r.clean c) s st) failed e;
-    given = λ c s st left e.
+    live = r.live;
+    given = λ c s st.
         let whose = reads.answer (r.clean c) s st in
-        given_as (stands new) s (A left s) (B left s) result (λ reply after. h left s reply after whose)
-        (r.given c s (reads.state (r.clean c) s st) left e);
-    crash = λ c s past st l left e.
+        given_as (stands new) (leaves new) command command s (A r.left s) (B r.left s) result (λ is. is) (λ reply after. h r.left s reply after whose)
+        (r.given c s (reads.state (r.clean c) s st));
+    crash = λ c s past st l.
         let whose = reads.answer (r.clean c) s st in
-        stops_as (leaves new) past (A left s) (B left s) (λ reply after. h left s reply after whose)
-        (r.crash c s past (reads.state (r.clean c) s st) (reads.crash (r.clean c) past l) left e);
+        stopped_as (leaves new) past (A r.left s) (B r.left s) result (λ reply after. h r.left s reply after whose)
+        (r.crash c s past (reads.state (r.clean c) s st) (reads.crash (r.clean c) past l));
   }
 
-  pub by_driver : (old mid new : K) (unread : Option (List ℕ)) (result : Result Response Failed) (office key : List ℕ) (n : ℕ) (h : RequestHead) (behind : List ℕ) → bytes_eq key office ≡ false
+  -- a driver asks
+  pub by_driver : (old mid new : K) (command : Bool) (unread : Option (List ℕ)) (result : Result Response Failed) (office key : List ℕ) (n : ℕ) (h : RequestHead) (behind : List ℕ) → bytes_eq key office ≡ false
       → Reads stands is_clean is_live leaves is_same (λ (n : Option ℕ). n) old mid (Ok (Some n)) (owner key)
-      → Responds stands is_clean leaves mid new unread result
+      → Responds stands is_clean is_live leaves mid new command unread result
       (λ left s. ByCaller (caller.Driver n) h (behind ++ left) s)
-      → Responds stands is_clean leaves old new unread result (λ left s. ByKey office key h (behind ++ left) s)
-  by_driver old mid new unread result office key n h behind e reads r =
-      asked_for old mid new unread result key n (λ left s. ByCaller (caller.Driver n) h (behind ++ left) s) (λ left s. ByKey office key h (behind ++ left) s) reads
+      → Responds stands is_clean is_live leaves old new command unread result (λ left s. ByKey office key h (behind ++ left) s)
+  by_driver old mid new command unread result office key n h behind e reads r =
+      asked_for old mid new command unread result key n (λ left s. ByCaller (caller.Driver n) h (behind ++ left) s) (λ left s. ByKey office key h (behind ++ left) s) reads
       (λ left s reply after whose does.
       subst (λ (b : Bool). ByWhom b key h (behind ++ left) s reply after) (sym e)
       (subst (λ (o : Result (Option ℕ) StoreFault). ByOwner o h (behind ++ left) s reply after) (sym whose) does)) r
 
 -- ---- the input
 
--- what was given to a head with this key is what the input may get
-pub keyed : (stands : State → Type 0) (s : State) (office key input rest : List ℕ) (h : RequestHead) (result : Result Response Failed) → BeginsWith 8192 32 input h rest → key_of h ≡ Some key
-    → Given stands s (ByKey office key h rest s) result → IfOk result (λ response. (after : State) × stands after × Reacts office input s (reply_of response) after)
-keyed stands s office key input rest h (Ok response) begins has (inl g) =
-    (g.0, g.1, headed h rest (reply_of response) g.0 begins (subst (λ (k : Option (List ℕ)). ByKeys office k h rest s (reply_of response) g.0) (sym has) g.2))
-keyed stands s office key input rest h (Ok response) begins has (inr g) =
-    (s, g.1, subst (λ (reply : Reply). Reacts office input s reply s) (sym g.0) (unavailable_reply h rest key begins has))
-keyed stands s office key input rest h (Err failed) begins has g = tt
+-- what is left of an input, and what was given of it before
+consumed : (unread left : Option (List ℕ)) (came rest : List ℕ) → Consumes unread left came → IfSome left (λ all. rest ≡ all) → IfSome unread (λ all. came ++ rest ≡ all)
+consumed None left came rest cut told = tt
+consumed (Some x) None came rest cut told = absurd cut
+consumed (Some x) (Some y) came rest cut told = ap (λ (xs : List ℕ). came ++ xs) told ∙ sym cut
 
-pub keyed_stops : (leaves : List State → Type 0) (past : List State) (s : State) (office key input rest : List ℕ) (h : RequestHead) → BeginsWith 8192 32 input h rest → key_of h ≡ Some key
-    → Stops leaves past (ByKey office key h rest s) → Stops leaves past (Reacts office input s)
-keyed_stops leaves past s office key input rest h begins has =
-    stops_as leaves past (ByKey office key h rest s) (Reacts office input s)
-    (λ reply after wants. headed h rest reply after begins (subst (λ (k : Option (List ℕ)). ByKeys office k h rest s reply after) (sym has) wants))
+-- what two reads took
+consumed_more : (unread mid left : Option (List ℕ)) (came given : List ℕ) → Consumes unread mid came → Consumes mid left given → Consumes unread left (came ++ given)
+consumed_more None mid left came given cut more = tt
+consumed_more (Some x) None left came given cut more = absurd cut
+consumed_more (Some x) (Some y) None came given cut more = absurd more
+consumed_more (Some x) (Some y) (Some z) came given cut more =
+    cut ∙ (ap (λ (xs : List ℕ). came ++ xs) more ∙ sym (append_assoc came given z))
 
+module _ {K : Type 0} (stands : K → State → Type 0) (is_clean is_live : K → Type 0) (leaves : K → List State → Type 0) (office : List ℕ) where
+  -- nothing was done, and this reply is one that the input may get, which doesn't tell that anything is
+  pub nothing_answered : (keeper : K) (unread left : Option (List ℕ)) (response : Response) (input : List ℕ) → IfSome unread (λ all. input ≡ all)
+      → is_done response.status ≡ false → ((s : State) → Reacts office input s (reply_of response) s)
+      → Answered stands is_clean is_live leaves keeper keeper office unread left (Ok response)
+  nothing_answered keeper unread left response input told none h = record {
+    input = input;
+    told = told;
+    command = true;
+    posted = λ p. refl;
+    clean = λ c. c;
+    live = λ c done. (let x = none in cc);
+    answers = λ c s st. (s, st, h s, λ is done. (let x = none in cc));
+    crash = λ c s past st l. inl l;
+    unfinished = λ e. cc;
+  }
+
+  -- and that of a head, by what came of its input
+  pub head_answered : (keeper : K) (unread left : Option (List ℕ)) (response : Response) (came : List ℕ) → Consumes unread left came
+      → is_done response.status ≡ false → ((more : List ℕ) (s : State) → Reacts office (came ++ more) s (reply_of response) s)
+      → Answered stands is_clean is_live leaves keeper keeper office unread left (Ok response)
+  head_answered keeper unread left response came cut none h =
+      let i = some_left left in
+      nothing_answered keeper unread left response (came ++ i.0) (consumed unread left came i.0 cut i.1) none (h i.0)
+
+  -- the reader failed, and no whole request had come
+  pub unread_head : (keeper : K) (unread left : Option (List ℕ)) (failed : Failed) → IsUnfinished unread left
+      → Answered stands is_clean is_live leaves keeper keeper office unread left (Err failed)
+  unread_head keeper unread left failed part =
+      let i = some_left unread in record {
+        input = i.0;
+        told = i.1;
+        command = true;
+        posted = λ p. refl;
+        clean = λ c. c;
+        live = λ c. tt;
+        answers = λ c s st. st;
+        crash = λ c s past st l. l;
+        unfinished = λ e. part;
+      }
+
+  -- a request with a key was answered by it
+  pub keyed : (old new : K) (key came behind : List ℕ) (h : RequestHead) (unread mid left : Option (List ℕ)) (result : Result Response Failed)
+      → key_of h ≡ Some key → Consumes unread mid came → ((more : List ℕ) → BeginsWith 8192 32 (came ++ more) h (behind ++ more))
+      → Responds stands is_clean is_live leaves old new (is_post (method_of h.method)) mid result (λ left s. ByKey office key h (behind ++ left) s)
+      → (IsErr result → LacksMore h behind mid left)
+      → Answered stands is_clean is_live leaves old new office unread left result
+  keyed old new key came behind h unread mid left result has cut begins r lacks = record {
+    input = input;
+    told = consumed unread mid came r.left cut r.told;
+    command = is_post (method_of h.method);
+    posted = posted;
+    clean = r.clean;
+    live = r.live;
+    answers = λ c s st. answers s result (r.given c s st);
+    crash = λ c s past st l. stopped_as (leaves new) past (ByKey office key h (behind ++ r.left) s) (Reacts office input s) result (reacts s) (r.crash c s past st l);
+    unfinished = λ e. unfinished (lacks e);
+  }
+    where
+      input : List ℕ
+      input = came ++ r.left
+
+      reacts : (s : State) (reply : Reply) (after : State) → ByKey office key h (behind ++ r.left) s reply after → Reacts office input s reply after
+      reacts s reply after wants =
+          headed h (behind ++ r.left) reply after (begins r.left) (subst (λ (k : Option (List ℕ)). ByKeys office k h (behind ++ r.left) s reply after) (sym has) wants)
+
+      answers : (s : State) (result : Result Response Failed)
+          → Given (stands new) (leaves new) (is_post (method_of h.method)) s (ByKey office key h (behind ++ r.left) s) result
+          → MatchResult result (λ response. Answers (stands new) (leaves new) (is_post (method_of h.method)) office input s (reply_of response)) (λ failed. stands new s)
+      answers s (Ok response) (inl g) = (g.0, g.1, reacts s (reply_of response) g.0 g.2, g.3)
+      answers s (Ok response) (inr g) = (
+        s,
+        g.1,
+        subst (λ (reply : Reply). Reacts office input s reply s) (sym g.0) (unavailable_reply h (behind ++ r.left) key (begins r.left) has),
+        λ is done. not_available (reply_of response) g.0 done,
+      )
+      answers s (Err failed) g = g
+
+      posted : IsPosted input → is_post (method_of h.method) ≡ true
+      posted p =
+          let same = request_unique input h p.0 (behind ++ r.left) p.1 (begins r.left).reads p.2.reads in
+          subst (λ (head : RequestHead). is_post (method_of head.method) ≡ true) (sym same.0) p.3
+
+      unfinished : LacksMore h behind mid left → IsUnfinished unread left
+      unfinished l = record {
+        given = came ++ l.given;
+        came = consumed_more unread mid left came l.given cut l.came;
+        part = inr (h, behind ++ l.given, begins l.given, l.lacks);
+      }
+
+-- ---- one request, one reply
+
+module _ {K : Type 0} {stands : K → State → Type 0} {is_clean is_live : K → Type 0} {leaves : K → List State → Type 0} {old new : K} {office : List ℕ}
+    {unread left : Option (List ℕ)} (before after : Option (List ℕ)) where
+  -- the reply went out whole
+  pub exchanged_whole : (response : Response) → Answered stands is_clean is_live leaves old new office unread left (Ok response)
+      → IsWritten before after (reply_of response)
+      → Exchanged stands is_clean is_live leaves old new office unread before after (Ok (record { status = response.status }))
+  exchanged_whole response a wrote = record {
+    input = a.input;
+    told = a.told;
+    command = a.command;
+    posted = a.posted;
+    reply = reply_of response;
+    replied = (refl, wrote);
+    live = a.live;
+    settled = a.answers;
+    crash = a.crash;
+  }
+
+  -- or a beginning of it
+  pub exchanged_begun : (response : Response) → Answered stands is_clean is_live leaves old new office unread left (Ok response)
+      → IsBegun before after (reply_of response)
+      → Exchanged stands is_clean is_live leaves old new office unread before after (Err io.Write)
+  exchanged_begun response a wrote = record {
+    input = a.input;
+    told = a.told;
+    command = a.command;
+    posted = a.posted;
+    reply = reply_of response;
+    replied = wrote;
+    live = λ clean. tt;
+    settled = a.answers;
+    crash = a.crash;
+  }
+
+  -- or the reader failed, and nothing did
+  pub exchanged_unread : (result : Result Response Failed) → ((response : Response) → result ≡ Ok response → ⊥) → Answered stands is_clean is_live leaves old new office unread left result
+      → after ≡ before → Exchanged stands is_clean is_live leaves old new office unread before after (Err io.Read)
+  exchanged_unread (Ok response) none a same = absurd (none response refl)
+  exchanged_unread (Err failed) none a same = record {
+    input = a.input;
+    told = a.told;
+    command = a.command;
+    posted = a.posted;
+    reply = fixed status.Unavailable;
+    replied = same;
+    live = λ clean. tt;
+    settled = a.answers;
+    crash = a.crash;
+  }
+
+  -- what the reader had given then is no whole request
+  pub left_unfinished : (result : Result Response Failed) → ((response : Response) → result ≡ Ok response → ⊥) → Answered stands is_clean is_live leaves old new office unread left result
+      → IsUnfinished unread left
+  left_unfinished (Ok response) none a = absurd (none response refl)
+  left_unfinished (Err failed) none a = a.unfinished refl
+
+-- a request without a key, or with more than one
 pub unkeyed : (s : State) (office input rest : List ℕ) (h : RequestHead) (reply : Reply) → BeginsWith 8192 32 input h rest → key_of h ≡ None → reply ≡ fixed status.Forbidden
     → Reacts office input s reply s
 unkeyed s office input rest h reply begins has is =

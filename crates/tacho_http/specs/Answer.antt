@@ -1,43 +1,112 @@
 -- What is left of a request that was answered.
-use Rattle.std.specs.Prelude.{◌≡◌, ◌⊎◌, ◌∷◌, ◌≤◌, ℕ, List, Option, Some, Result, Ok, Err, length, take}
-use Rattle.std.specs.Io.KnownBytes.{Appends}
+use Rattle.std.specs.Prelude.{◌≡◌, ◌<◌, ◌≤◌, ◌⊎◌, ◌++◌, ◌∷◌, Bool, true, false, ℕ, List, [], Option, Result, Ok, Err, IfOk, IfSome, IsErr, MatchResult, length, take}
+use Rattle.std.specs.Io.KnownBytes.{Appends, Consumes}
+use Rattle.httparse.specs.Grammar.{HasNoRequest, MayBecomeRequest, RequestHead}
 use Rattle.tacho_time.specs.declared.device.Failed.{Failed}
+use Rattle.tacho_message.specs.Head.{BeginsWith}
+use Rattle.tacho_message.specs.Length.{method_of}
+use Rattle.tacho_message.specs.declared.reply.Status.{Status}
 use Rattle.tacho_message.specs.declared.reply.Status.TheVariants as status
 use Rattle.tacho_state.specs.State.{State}
+use Rattle.tacho_desk.specs.declared.want.Want.{Want}
+use Rattle.tacho_http.specs.Asked.{is_post}
 use Rattle.tacho_http.specs.Reply.{Reply, bytes_of_reply, fixed, reply_of}
-use Rattle.tacho_http.specs.Serve.{Reacts, Reaction}
+use Rattle.tacho_http.specs.Serve.{Reacts, Reaction, body_of}
+use Rattle.tacho_http.specs.declared.exchange.IoFault.{IoFault}
+use Rattle.tacho_http.specs.declared.exchange.IoFault.TheVariants as io
+use Rattle.tacho_http.specs.declared.exchange.Served.{Served}
 use Rattle.tacho_http.specs.declared.response.Response.{Response}
 
--- the reply is wanted, and the state after it stands; or it is 503, and the state before stands
-abbrev pub Gives : (State → Type 0) → State → Reaction → Reply → Type 0
-Gives stands s Wants reply = ((after : State) × stands after × Wants reply after) ⊎ ((reply ≡ fixed status.Unavailable) × stands s)
+-- it tells that what was asked for is done
+abbrev pub is_done : Status → Bool
+is_done status.Okay = true
+is_done status.Created = true
+is_done other = false
 
--- a stop leaves what could be left before, or also the state after some reply that is wanted
-abbrev pub Stops : (List State → Type 0) → List State → Reaction → Type 0
-Stops leaves past Wants = leaves past ⊎ ((reply : Reply) × (after : State) × Wants reply after × leaves (after ∷ past))
+-- The reply is wanted, and the state after it stands; of a command that is done a stop leaves that state and no other. Or the reply
+-- is 503, and the state before stands.
+abbrev pub Gives : (State → Type 0) → (List State → Type 0) → Bool → State → Reaction → Reply → Type 0
+Gives stands leaves command s Wants reply =
+    ((after : State) × stands after × Wants reply after × (command ≡ true → is_done reply.status ≡ true → leaves (after ∷ [])))
+    ⊎ ((reply ≡ fixed status.Unavailable) × stands s)
+
+-- a stop leaves what could be left before, or also the state after the reply that was given; where that is 503, after some that is wanted
+abbrev pub Stops : (List State → Type 0) → List State → Reaction → Reply → Type 0
+Stops leaves past Wants reply =
+    leaves past ⊎ ((other : Reply) × (after : State) × ((other ≡ reply) ⊎ (reply ≡ fixed status.Unavailable)) × Wants other after × leaves (after ∷ past))
 
 -- where the reader has failed, the state before stands
-abbrev pub Given : (State → Type 0) → State → Reaction → Result Response Failed → Type 0
-Given stands s Wants (Ok response) = Gives stands s Wants (reply_of response)
-Given stands s Wants (Err failed) = stands s
+abbrev pub Given : (State → Type 0) → (List State → Type 0) → Bool → State → Reaction → Result Response Failed → Type 0
+Given stands leaves command s Wants (Ok response) = Gives stands leaves command s Wants (reply_of response)
+Given stands leaves command s Wants (Err failed) = stands s
 
--- A call replies as is wanted of the bytes that are unread, at an archive that has not become clean by it.
-pub record Responds {K : Type 0} (stands : K → State → Type 0) (is_clean : K → Type 0)
-    (leaves : K → List State → Type 0) (old new : K) (unread : Option (List ℕ)) (result : Result Response Failed)
+-- and so do the states that a stop could leave
+abbrev pub Stopped : (List State → Type 0) → List State → Reaction → Result Response Failed → Type 0
+Stopped leaves past Wants (Ok response) = Stops leaves past Wants (reply_of response)
+Stopped leaves past Wants (Err failed) = leaves past
+
+-- A call replies as is wanted of bytes that are unread, the reader's, where it tells them, and some where it doesn't, at an archive
+-- that has not become clean by it, and is live where something is done.
+pub record Responds {K : Type 0} (stands : K → State → Type 0) (is_clean is_live : K → Type 0)
+    (leaves : K → List State → Type 0) (old new : K) (command : Bool) (unread : Option (List ℕ)) (result : Result Response Failed)
     (Wants : List ℕ → State → Reaction) : Type 0 where
+  pub left : List ℕ
+  pub told : IfSome unread (λ all. left ≡ all)
   pub clean : is_clean new → is_clean old
-  pub same : is_clean new → (s : State) → stands old s → (failed : Failed) → result ≡ Err failed → stands new s
-  pub given : is_clean new → (s : State) → stands old s → (left : List ℕ) → unread ≡ Some left → Given (stands new) s (Wants left s) result
-  pub crash : is_clean new → (s : State) (past : List State) → stands old s → leaves old past
-      → (left : List ℕ) → unread ≡ Some left → Stops (leaves new) past (Wants left s)
+  pub live : is_clean new → IfOk result (λ response. is_done response.status ≡ true → is_live new)
+  pub given : is_clean new → (s : State) → stands old s → Given (stands new) (leaves new) command s (Wants left s) result
+  pub crash : is_clean new → (s : State) (past : List State) → stands old s → leaves old past → Stopped (leaves new) past (Wants left s) result
 
--- a reply that the input may get, with a state that stands, and of its bytes what is said
-pub record Answered (stands : State → Type 0) (office input : List ℕ) (s : State) (Wrote : Reply → Type 0) : Type 0 where
-  pub reply : Reply
-  pub after : State
-  pub reacts : Reacts office input s reply after
-  pub now : stands after
-  pub wrote : Wrote reply
+-- ---- what the reader has given
+
+-- behind the head there is less than a body that is to be read
+abbrev pub LacksBody : RequestHead → List ℕ → Type 0
+LacksBody h rest = (want : Want) × (n : ℕ) × (body_of h want ≡ Ok n) × (length rest < n)
+
+-- it is no whole request: a head of at most 8,192 bytes that isn't whole, or one without all of its body
+abbrev pub IsPartOf : List ℕ → Type 0
+IsPartOf given =
+    ((length given < 8192) × HasNoRequest given × MayBecomeRequest given)
+    ⊎ ((h : RequestHead) × (rest : List ℕ) × BeginsWith 8192 32 given h rest × LacksBody h rest)
+
+-- what the reader has given since is no whole request
+pub record IsUnfinished (old new : Option (List ℕ)) : Type 0 where
+  pub given : List ℕ
+  pub came : Consumes old new given
+  pub part : IsPartOf given
+
+-- what it has given since isn't all of the body that a head behind which this came is to have
+pub record LacksMore (h : RequestHead) (behind : List ℕ) (old new : Option (List ℕ)) : Type 0 where
+  pub given : List ℕ
+  pub came : Consumes old new given
+  pub lacks : LacksBody h (behind ++ given)
+
+-- ---- one request, one reply
+
+-- a request that posts something: a command
+abbrev pub IsPosted : List ℕ → Type 0
+IsPosted input = (h : RequestHead) × (rest : List ℕ) × BeginsWith 8192 32 input h rest × (is_post (method_of h.method) ≡ true)
+
+-- The reply is one that the input may get, and the state after it stands; of a command that is done a stop leaves that state and no
+-- other.
+abbrev pub Answers : (State → Type 0) → (List State → Type 0) → Bool → List ℕ → List ℕ → State → Reply → Type 0
+Answers stands leaves command office input s reply =
+    (after : State) × stands after × Reacts office input s reply after × (command ≡ true → is_done reply.status ≡ true → leaves (after ∷ []))
+
+-- A request was read from a reader and answered, over an input that is the reader's, where it tells its bytes, and some input where it
+-- doesn't; or the reader failed, and the state before stands.
+pub record Answered {K : Type 0} (stands : K → State → Type 0) (is_clean is_live : K → Type 0)
+    (leaves : K → List State → Type 0) (old new : K) (office : List ℕ) (unread left : Option (List ℕ)) (result : Result Response Failed) : Type 0 where
+  pub input : List ℕ
+  pub told : IfSome unread (λ all. input ≡ all)
+  pub command : Bool
+  pub posted : IsPosted input → command ≡ true
+  pub clean : is_clean new → is_clean old
+  pub live : is_clean new → IfOk result (λ response. is_done response.status ≡ true → is_live new)
+  pub answers : is_clean new → (s : State) → stands old s
+      → MatchResult result (λ response. Answers (stands new) (leaves new) command office input s (reply_of response)) (λ failed. stands new s)
+  pub crash : is_clean new → (s : State) (past : List State) → stands old s → leaves old past → Stopped (leaves new) past (Reacts office input s) result
+  pub unfinished : IsErr result → IsUnfinished unread left
 
 -- all of a reply was written, or a beginning of it
 abbrev pub IsWritten : Option (List ℕ) → Option (List ℕ) → Reply → Type 0
@@ -45,3 +114,37 @@ IsWritten old new reply = Appends old new (bytes_of_reply reply)
 
 abbrev pub IsBegun : Option (List ℕ) → Option (List ℕ) → Reply → Type 0
 IsBegun old new reply = (n : ℕ) × (n ≤ length (bytes_of_reply reply)) × Appends old new (take n (bytes_of_reply reply))
+
+-- the reply went out whole, with its status told; or a beginning of it, where the writer failed; or the reader failed, and nothing was written
+abbrev pub IsReplied : Option (List ℕ) → Option (List ℕ) → Reply → Result Served IoFault → Type 0
+IsReplied old new reply (Ok served) = (reply.status ≡ served.status) × IsWritten old new reply
+IsReplied old new reply (Err io.Write) = IsBegun old new reply
+IsReplied old new reply (Err io.Read) = new ≡ old
+
+-- it was answered; or the reader failed, and the state before stands
+abbrev pub Settles : (State → Type 0) → (List State → Type 0) → Bool → List ℕ → List ℕ → State → Reply → Result Served IoFault → Type 0
+Settles stands leaves command office input s reply (Ok served) = Answers stands leaves command office input s reply
+Settles stands leaves command office input s reply (Err io.Write) = Answers stands leaves command office input s reply
+Settles stands leaves command office input s reply (Err io.Read) = stands s
+
+-- a stop leaves what could be left before, or also the state after the reply; where the reader failed, what could be left before
+abbrev pub StopsAt : (List State → Type 0) → List State → List ℕ → List ℕ → State → Reply → Result Served IoFault → Type 0
+StopsAt leaves past office input s reply (Ok served) = Stops leaves past (Reacts office input s) reply
+StopsAt leaves past office input s reply (Err io.Write) = Stops leaves past (Reacts office input s) reply
+StopsAt leaves past office input s reply (Err io.Read) = leaves past
+
+-- One request was read and one reply written, over an input that is the reader's, where it tells its bytes, and some input where it
+-- doesn't.
+pub record Exchanged {K : Type 0} (stands : K → State → Type 0) (is_clean is_live : K → Type 0)
+    (leaves : K → List State → Type 0) (old new : K) (office : List ℕ) (unread before after : Option (List ℕ))
+    (result : Result Served IoFault) : Type 0 where
+  pub input : List ℕ
+  pub told : IfSome unread (λ all. input ≡ all)
+  pub command : Bool
+  pub posted : IsPosted input → command ≡ true
+  pub reply : Reply
+  pub replied : IsReplied before after reply result
+  pub live : is_clean new → IfOk result (λ served. is_done served.status ≡ true → is_live new)
+  pub settled : is_clean new → (s : State) → stands old s → Settles (stands new) (leaves new) command office input s reply result
+  pub crash : is_clean new → (s : State) (past : List State) → stands old s → leaves old past
+      → StopsAt (leaves new) past office input s reply result

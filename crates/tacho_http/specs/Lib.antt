@@ -1,3 +1,6 @@
+pub mod Routes
+pub mod Asked
+pub mod Access
 pub mod Reply
 pub mod Serve
 pub mod Answer

@@ -3,18 +3,20 @@
 ghost use Rattle.std.specs.Prelude.{◌≡◌, ◌↔◌, ◌++◌, All, false, length, map, true, IsErr};
 ghost use Rattle.httparse.specs.Grammar.{RequestHead};
 ghost use Rattle.httparse.specs.Spans.{IsHeaderWithin, header_bytes};
+ghost use Rattle.tacho_message.specs.Body.{Lacks};
+ghost use Rattle.tacho_message.specs.Length.{method_of};
 ghost use Rattle.tacho_message.specs.Request.{IsRequest, fields_of};
-ghost use Rattle.tacho_http.specs.Answer.{Responds};
+ghost use Rattle.tacho_desk.specs.Wants.{is_command};
+ghost use Rattle.tacho_http.specs.Answer.{LacksMore, Responds};
+ghost use Rattle.tacho_http.specs.Asked.{is_post};
 ghost use Rattle.tacho_http.specs.Serve.{ByCaller, ByKey, Runs};
 
+use crate::asked::{Asked, asked_of, asker_of};
+use crate::places::{find, routes};
 use crate::response::{Response, fixed, refusal, reply};
-use crate::task::{asker_of, task_at};
 use std::alloc::Global;
-use tacho_desk::carry_out;
-use tacho_message::{
-    BodyFault, Request, Status, Want, body_length_of, method_of, place_of, read_body, routes,
-    want_of,
-};
+use tacho_desk::{carry_out, task_of};
+use tacho_message::{BodyFault, Method, Request, Status, body_length_of, read_body};
 use tacho_state::{Caller, Keeper};
 use tacho_time::{Failed, Source};
 
@@ -30,8 +32,10 @@ pub(crate) fn by_key<K: Keeper, R: Source>(
     requires reader { R.has_failed reader.old ≡ false }
     requires within { All (IsHeaderWithin (length request.now.buffer.now)) request.now.fields.now }
     ensures responds { (h : RequestHead) → IsRequest request.now h
-        → Responds K.stands K.is_clean K.leaves keeper.old keeper.new (R.unread reader.old) result
+        → Responds K.stands K.is_clean K.is_live K.leaves keeper.old keeper.new (is_post (method_of h.method)) (R.unread reader.old) result
         (λ left s. ByKey office_key.now key.now h (request.now.behind.now ++ left) s) }
+    ensures lacks { (h : RequestHead) → IsRequest request.now h → IsErr result
+        → LacksMore h request.now.behind.now (R.unread reader.old) (R.unread reader.new) }
     ensures failed { IsErr result ↔ (R.has_failed reader.new ≡ true) }
 {
     if key == office_key {
@@ -55,46 +59,56 @@ fn by_caller<K: Keeper, R: Source>(
     requires reader { R.has_failed reader.old ≡ false }
     requires within { All (IsHeaderWithin (length request.now.buffer.now)) request.now.fields.now }
     ensures responds { (h : RequestHead) → IsRequest request.now h
-        → Responds K.stands K.is_clean K.leaves keeper.old keeper.new (R.unread reader.old) result
+        → Responds K.stands K.is_clean K.is_live K.leaves keeper.old keeper.new (is_post (method_of h.method)) (R.unread reader.old) result
         (λ left s. ByCaller caller h (request.now.behind.now ++ left) s) }
+    ensures lacks { (h : RequestHead) → IsRequest request.now h → IsErr result
+        → LacksMore h request.now.behind.now (R.unread reader.old) (R.unread reader.new) }
     ensures failed { IsErr result ↔ (R.has_failed reader.new ≡ true) }
 {
     let Ok(routes) = routes(alloc) else {
         return Ok(fixed(Status::Unavailable));
     };
-    let method = method_of(request.method);
-    let want = match want_of(asker_of(caller), method, place_of(&routes, request.path)) {
-        Ok(want) => want,
+    let method = Method::read(request.method);
+    let asked = match asked_of(asker_of(caller), method, find(&routes, request.path)) {
+        Ok(asked) => asked,
         Err(status) => return Ok(fixed(status)),
     };
-    match body_length_of(method, want, request.buffer, request.fields) {
-        Ok(length) => run(alloc, keeper, caller, want, length, reader, request),
+    let takes = asked.want.takes_input();
+    match body_length_of(method, takes, request.buffer, request.fields) {
+        Ok(length) => run(alloc, keeper, caller, asked, length, reader, request.behind),
         Err(status) => Ok(fixed(status)),
     }
 }
 
-/// Answers what a caller asks for, over a body of so many bytes.
+/// Answers what a caller asks for, over a body of so many bytes, the first of which came behind the head.
 fn run<K: Keeper, R: Source>(
     alloc: Global,
     keeper: &mut K,
     caller: Caller,
-    want: Want,
-    length: u64,
+    asked: Asked<'_>,
+    count: u64,
     reader: &mut R,
-    request: &Request<'_>,
+    behind: &[u8],
 ) -> Result<Response, Failed>
     requires { R.has_failed reader.old ≡ false }
-    ensures responds { Responds K.stands K.is_clean K.leaves keeper.old keeper.new (R.unread reader.old) result
-        (λ left s. Runs want length caller request.now.path.now (request.now.behind.now ++ left) s) }
+    ensures responds { Responds K.stands K.is_clean K.is_live K.leaves keeper.old keeper.new (is_command asked.entry.want) (R.unread reader.old) result
+        (λ left s. Runs (record { want = asked.entry.want; driver = asked.entry.driver.now; word = asked.entry.word.now }) count caller (behind.now ++ left) s) }
+    ensures lacks { IsErr result → Lacks behind.now (R.unread reader.old) (R.unread reader.new) count }
     ensures failed { IsErr result ↔ (R.has_failed reader.new ≡ true) }
 {
-    let body = match read_body(alloc, reader, request.behind, length as usize) {
+    let body = match read_body(alloc, reader, behind, count as usize) {
         Ok(body) => body,
         Err(BodyFault::Ended) => return Ok(fixed(Status::BadRequest)),
         Err(BodyFault::Memory) => return Ok(fixed(Status::Unavailable)),
         Err(BodyFault::Read) => return Err(Failed),
     };
-    match task_at(want, caller, request.path) {
+    let task = task_of(
+        asked.want,
+        caller,
+        asked.driver.as_bytes(),
+        asked.word.as_bytes(),
+    );
+    match task {
         Ok(task) => Ok(reply(carry_out(alloc, keeper, task, &body))),
         Err(fault) => Ok(refusal(fault)),
     }

@@ -1,8 +1,8 @@
 //! Connections, one after the other.
 
-ghost use Rattle.std.specs.Prelude.{◌≡◌, List, false, All, IsSome};
+ghost use Rattle.std.specs.Prelude.{◌≡◌, false, All};
 ghost use Rattle.tacho_state.specs.State.{State};
-ghost use Rattle.tacho_http.specs.Run.{Run, Went};
+ghost use Rattle.tacho_http.specs.Run.{Kept, Run, Went, WentKept};
 
 use crate::exchange::answer;
 use std::alloc::Global;
@@ -18,9 +18,13 @@ pub fn answer_all<K: Keeper, R: Source, W: Sink>(
 ) -> usize
     requires { All (λ c. (R.has_failed c.0 ≡ false) × (W.has_failed c.1 ≡ false)) connections.old }
     ensures clean { K.is_clean keeper.new → K.is_clean keeper.old }
-    ensures run { K.is_clean keeper.new → (s : State) → K.stands keeper.old s → All (λ c. IsSome (R.unread c.0)) connections.old
-        → (t : State) × K.stands keeper.new t × Run
+    ensures run { K.is_clean keeper.new → (s : State) → K.stands keeper.old s → (t : State) × K.stands keeper.new t × Run
         (λ c d. Went office_key.now (R.unread c.0) (W.written c.1) (W.written d.1) (R.has_failed d.0) (W.has_failed d.1)) connections.old connections.new result s t }
+    // The same with what a stop may leave: behind each connection the states before and after it, and behind a command that is done the
+    // state after it alone.
+    ensures crash { K.is_clean keeper.new → (a : Kept) → K.stands keeper.old a.state → K.leaves keeper.old a.past
+        → (b : Kept) × K.stands keeper.new b.state × K.leaves keeper.new b.past × Run
+        (λ c d. WentKept office_key.now (R.unread c.0) (W.written c.1) (W.written d.1) (R.has_failed d.0) (W.has_failed d.1)) connections.old connections.new result a b }
 {
     let mut count = 0;
     for connection in connections.iter_mut() {

@@ -1,10 +1,7 @@
 //! One request, one reply.
 
-ghost use Rattle.std.specs.Prelude.{◌≡◌, ◌↔◌, ℕ, Err, List, Some, false, true, length, IfOk, IsErr, IsErrOf, OnErr};
-ghost use Rattle.tacho_state.specs.State.{State};
-ghost use Rattle.tacho_http.specs.Answer.{Answered, IsBegun, IsWritten, Stops};
-ghost use Rattle.tacho_http.specs.Reply.{reply_of};
-ghost use Rattle.tacho_http.specs.Serve.{Reacts};
+ghost use Rattle.std.specs.Prelude.{◌≡◌, ◌↔◌, Err, false, true, length, IsErr, IsErrOf};
+ghost use Rattle.tacho_http.specs.Answer.{Answered, Exchanged, IsUnfinished};
 
 use crate::checks::by_key;
 use crate::response::{Response, fixed};
@@ -46,13 +43,7 @@ fn respond_in<K: Keeper, R: Source>(
     requires reader { R.has_failed reader.old ≡ false }
     requires limit { length buffer.old ≡ 8192 }
     requires room { length fields.old ≡ 32 }
-    ensures clean { K.is_clean keeper.new → K.is_clean keeper.old }
-    ensures answer { K.is_clean keeper.new → (s : State) → K.stands keeper.old s → (input : List ℕ) → R.unread reader.old ≡ Some input
-        → IfOk result (λ response. (after : State) × K.stands keeper.new after × Reacts office_key.now input s (reply_of response) after) }
-    ensures same { K.is_clean keeper.new → (s : State) → K.stands keeper.old s → OnErr result (K.stands keeper.new s) }
-    ensures crash { K.is_clean keeper.new → (s : State) (past : List State) → K.stands keeper.old s
-        → K.leaves keeper.old past → (input : List ℕ) → R.unread reader.old ≡ Some input
-        → Stops (K.leaves keeper.new) past (Reacts office_key.now input s) }
+    ensures answered { Answered K.stands K.is_clean K.is_live K.leaves keeper.old keeper.new office_key.now (R.unread reader.old) (R.unread reader.new) result }
     ensures failed { IsErr result ↔ (R.has_failed reader.new ≡ true) }
 {
     let head = match read_head(reader, buffer, fields) {
@@ -76,13 +67,7 @@ fn respond<K: Keeper, R: Source>(
     reader: &mut R,
 ) -> Result<Response, Failed>
     requires { R.has_failed reader.old ≡ false }
-    ensures clean { K.is_clean keeper.new → K.is_clean keeper.old }
-    ensures answer { K.is_clean keeper.new → (s : State) → K.stands keeper.old s → (input : List ℕ) → R.unread reader.old ≡ Some input
-        → IfOk result (λ response. (after : State) × K.stands keeper.new after × Reacts office_key.now input s (reply_of response) after) }
-    ensures same { K.is_clean keeper.new → (s : State) → K.stands keeper.old s → OnErr result (K.stands keeper.new s) }
-    ensures crash { K.is_clean keeper.new → (s : State) (past : List State) → K.stands keeper.old s
-        → K.leaves keeper.old past → (input : List ℕ) → R.unread reader.old ≡ Some input
-        → Stops (K.leaves keeper.new) past (Reacts office_key.now input s) }
+    ensures answered { Answered K.stands K.is_clean K.is_live K.leaves keeper.old keeper.new office_key.now (R.unread reader.old) (R.unread reader.new) result }
     ensures failed { IsErr result ↔ (R.has_failed reader.new ≡ true) }
 {
     let mut buffer = [0u8; HEAD_LIMIT];
@@ -90,7 +75,8 @@ fn respond<K: Keeper, R: Source>(
     respond_in(alloc, keeper, office_key, reader, &mut buffer, &mut fields)
 }
 
-/// Answers one request at an archive: reads its head and its body and no more, acts, and writes one reply.
+/// Answers one request at an archive: reads its head and its body and no more, acts, and writes one reply. A command that is replied
+/// to with 200 or 201 is kept.
 pub fn answer<K: Keeper, R: Source, W: Sink>(
     alloc: Global,
     keeper: &mut K,
@@ -101,18 +87,11 @@ pub fn answer<K: Keeper, R: Source, W: Sink>(
     requires reader { R.has_failed reader.old ≡ false }
     requires writer { W.has_failed writer.old ≡ false }
     ensures clean { K.is_clean keeper.new → K.is_clean keeper.old }
-    // The reply is one that the input may get, whole.
-    ensures answer { K.is_clean keeper.new → (s : State) → K.stands keeper.old s → (input : List ℕ) → R.unread reader.old ≡ Some input
-        → IfOk result (λ served. Answered (K.stands keeper.new) office_key.now input s (λ reply. (reply.status ≡ served.status) × IsWritten (W.written writer.old) (W.written writer.new) reply)) }
-    // Where the writer failed, a beginning of it went out.
-    ensures beginning { K.is_clean keeper.new → (s : State) → K.stands keeper.old s → (input : List ℕ) → R.unread reader.old ≡ Some input
-        → result ≡ Err IoFault.Write → Answered (K.stands keeper.new) office_key.now input s (IsBegun (W.written writer.old) (W.written writer.new)) }
-    // Where the reader failed, nothing was written or changed.
-    ensures same { K.is_clean keeper.new → (s : State) → K.stands keeper.old s → result ≡ Err IoFault.Read → K.stands keeper.new s }
-    ensures untouched { result ≡ Err IoFault.Read → W.written writer.new ≡ W.written writer.old }
-    ensures crash { K.is_clean keeper.new → (s : State) (past : List State) → K.stands keeper.old s
-        → K.leaves keeper.old past → (input : List ℕ) → R.unread reader.old ≡ Some input
-        → Stops (K.leaves keeper.new) past (Reacts office_key.now input s) }
+    // The reply is one that the input may get, whole, or a beginning of it where the writer failed.
+    ensures exchanged { Exchanged K.stands K.is_clean K.is_live K.leaves keeper.old keeper.new office_key.now (R.unread reader.old)
+        (W.written writer.old) (W.written writer.new) result }
+    // Where the reader failed, it was asked for no more than the request lacked.
+    ensures unfinished { result ≡ Err IoFault.Read → IsUnfinished (R.unread reader.old) (R.unread reader.new) }
     ensures read { IsErrOf result IoFault.Read ↔ (R.has_failed reader.new ≡ true) }
     ensures write { IsErrOf result IoFault.Write ↔ (W.has_failed writer.new ≡ true) }
 {

@@ -1,10 +1,16 @@
 //! Laws of requests and replies. A law is a function that does nothing: what it ensures is proved, and holds for all that it names. Each
 //! calls the laws on which it stands.
 
+ghost use Rattle.tacho_http.specs.Access.{OwnWants, PostsAreCommands};
 ghost use Rattle.tacho_http.specs.Laws.{Keeps503, KeepsOthers, OneReply, SameReply};
 
 use tacho_desk::laws::{own_tasks_have_one_answer, own_tasks_stand_alone, refusals_change_nothing};
-use tacho_message::laws::drivers_ask_for_their_own;
+
+/// A driver's key is granted nothing but his own import and readings; and whatever is granted to a POST is a command.
+pub fn drivers_ask_for_their_own()
+    ensures own { OwnWants }
+    ensures posts { PostsAreCommands }
+{}
 
 /// A reply of 503 leaves the archive as it was: what was committed is never answered with it.
 pub fn unavailable_keeps_the_state()

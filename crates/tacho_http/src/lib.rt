@@ -1,12 +1,13 @@
 //! Requests to an archive over HTTP/1.1 and their replies: who may ask for what, and what is answered.
 #![tactic(auto)]
 
+mod asked;
 mod checks;
 mod connections;
 mod exchange;
 pub mod laws;
+mod places;
 mod response;
-mod task;
 
 pub use connections::answer_all;
 pub use exchange::{IoFault, Served, answer};

@@ -1,26 +1,32 @@
 -- What the parser says of the bytes that came, for the whole input.
-use Rattle.std.proofs.Common.{◌≡◌, ◌<◌, ◌≤◌, ◌-◌, ◌++◌, ◌∙◌, ℕ, List, [], Option, Some, None, IfSome, length, take, refl, inl, inr, arith, append_assoc, length-append}
+use Rattle.std.proofs.Common.{◌≡◌, ◌<◌, ◌≤◌, ◌-◌, ◌++◌, ◌∙◌, ℕ, List, [], Option, Some, None, Result, Ok, Err, IfSome, length, take, refl, sym, subst, inl, inr, arith, append_assoc, length-append}
 use Rattle.std.proofs.lemmas.List.{append-nil}
 use Rattle.std.proofs.lemmas.Grind.{common_steps}
-use Rattle.std.specs.Io.KnownBytes.{Consumes, IsAtEnd}
+use Rattle.std.specs.Io.KnownBytes.{Consumes, IsAtEnd, Keeps}
+use Rattle.std.specs.Prelude.{IfErr, IsErrAnd}
+use Rattle.tacho_message.specs.declared.head.Head.{Head}
+use Rattle.tacho_message.specs.declared.head.HeadFault.{HeadFault}
 use Rattle.httparse.specs.Grammar.{RequestHead, print_request, HasNoRequest, NeverHasRequest, MayBecomeRequest}
 use Rattle.httparse.specs.Spans.{RequestExceeds, RequestOverflows}
-use Rattle.tacho_message.specs.Head.{HasNoHead, Refuses}
-use Rattle.tacho_message.specs.declared.head.HeadFault.TheVariants.{Bad, TooLarge}
-use Rattle.tacho_message.proofs.ReadLemmas.{take-append-more}
+use Rattle.tacho_message.specs.Head.{HasNoHead, IsRefused, IsUnfinished, Refuses}
+use Rattle.tacho_message.specs.declared.head.HeadFault.TheVariants.{Bad, Read, TooLarge}
+use Rattle.tacho_message.proofs.ReadLemmas.{consumed_kept, ended_begins, some_begins, take-append-more}
 
 -- the first n bytes of a head and more, where the head has no more than those
 pub take-head : (n : ℕ) (h : RequestHead) (rest input : List ℕ) → input ≡ print_request h ++ rest → length (print_request h) ≤ n
     → take n input ≡ print_request h ++ take (n - length (print_request h)) rest
 take-head n h rest input e le = rw e (take-append-more n (n - length (print_request h)) (print_request h) rest (omega arith))
 
+-- there is no head where as many bytes as may be have none
 pub none_in_full : (limit room : ℕ) (input : List ℕ) → HasNoRequest (take limit input) → HasNoHead limit room input
 none_in_full limit room input none h rest b =
     none h (take (limit - length (print_request h)) rest) (b.reads.0, take-head limit h rest input b.reads.1 b.size)
 
+-- nor in an input that has none
 pub none_in_ended : (limit room : ℕ) (input : List ℕ) → HasNoRequest input → HasNoHead limit room input
 none_in_ended limit room input none h rest b = none h rest b.reads
 
+-- nor where any would have too many fields
 pub none_in_overflow : (limit room : ℕ) (came left input : List ℕ) → input ≡ came ++ left → RequestOverflows room came → HasNoHead limit room input
 none_in_overflow limit room came left input e over h rest b =
     let reads = rw e at b.reads in
@@ -28,61 +34,90 @@ none_in_overflow limit room came left input e over h rest b =
     let le : length h.fields ≤ room = b.fields in
     absurd (omega arith)
 
+-- what can never be a head can't with more behind it
 pub never-more : (came x : List ℕ) → NeverHasRequest came → NeverHasRequest (came ++ x)
 never-more came x never more = rw append_assoc (never (x ++ more))
 
+-- and what has too many fields has them with more behind it
 pub exceeds-more : (room : ℕ) (came x : List ℕ) → RequestExceeds room came → RequestExceeds room (came ++ x)
 exceeds-more room came x (front, rest, e, h, reads, lt) = (front, rest ++ x, rw (e, append_assoc) refl, h, reads, lt)
 
 -- ---- the refusals of a reader, over what is known of its input
 
+-- the front of an input is what came, and some more
 take_all_of : (limit : ℕ) (came left input : List ℕ) → input ≡ came ++ left → length came ≤ limit → take limit input ≡ came ++ take (limit - length came) left
 take_all_of limit came left input e le = rw e (take-append-more limit (limit - length came) came left (omega arith))
 
+-- too many fields
 pub refuse_many : (limit room : ℕ) (known left : Option (List ℕ)) (came : List ℕ)
     → length came ≤ limit → Consumes known left came
     → RequestOverflows room came → RequestExceeds room came
-    → IfSome known (λ input. Refuses limit room input TooLarge)
-refuse_many limit room None left came le cut over exceeds = tt
-refuse_many limit room (Some input) None came le cut over exceeds = absurd cut
-refuse_many limit room (Some input) (Some left) came le cut over exceeds = (
-  none_in_overflow limit room came left input cut over,
-  inr (rw (take_all_of limit came left input cut le) (exceeds-more room came (take (limit - length came) left) exceeds)),
-)
+    → IsRefused limit room known TooLarge
+refuse_many limit room known left came le cut over exceeds =
+    let b = some_begins came known left cut in
+    record {
+      input = b.input;
+      told = b.told;
+      refused = (
+        none_in_overflow limit room came b.rest b.input b.is over,
+        inr (rw (take_all_of limit came b.rest b.input b.is le) (exceeds-more room came (take (limit - length came) b.rest) exceeds)),
+      );
+    }
 
+-- no bytes that follow make a head of it
 pub refuse_never : (limit room : ℕ) (known left : Option (List ℕ)) (came : List ℕ)
     → length came ≤ limit → Consumes known left came
     → RequestOverflows room came → NeverHasRequest came
-    → IfSome known (λ input. Refuses limit room input Bad)
-refuse_never limit room None left came le cut over never = tt
-refuse_never limit room (Some input) None came le cut over never = absurd cut
-refuse_never limit room (Some input) (Some left) came le cut over never = (
-  none_in_overflow limit room came left input cut over,
-  inr (rw (take_all_of limit came left input cut le) (never-more came (take (limit - length came) left) never)),
-)
+    → IsRefused limit room known Bad
+refuse_never limit room known left came le cut over never =
+    let b = some_begins came known left cut in
+    record {
+      input = b.input;
+      told = b.told;
+      refused = (
+        none_in_overflow limit room came b.rest b.input b.is over,
+        inr (rw (take_all_of limit came b.rest b.input b.is le) (never-more came (take (limit - length came) b.rest) never)),
+      );
+    }
 
+-- as many bytes as may be, and more are wanted
 pub refuse_full : (limit room : ℕ) (known left : Option (List ℕ)) (came : List ℕ)
     → length came ≡ limit → Consumes known left came
     → HasNoRequest came → MayBecomeRequest came
-    → IfSome known (λ input. Refuses limit room input TooLarge)
-refuse_full limit room None left came le cut none more = tt
-refuse_full limit room (Some input) None came le cut none more = absurd cut
-refuse_full limit room (Some input) (Some left) came full cut none more =
-    let all : take limit input ≡ came = rw (cut, ← full) (take-append-length came left) in
-    let long : limit ≤ length input = rw (cut, length-append) (omega arith) in
-    (none_in_full limit room input (rw all none), inl (long, rw all none, rw all more))
+    → IsRefused limit room known TooLarge
+refuse_full limit room known left came full cut none more =
+    let b = some_begins came known left cut in
+    let all : take limit b.input ≡ came = rw (b.is, ← full) (take-append-length came b.rest) in
+    let long : limit ≤ length b.input = rw (b.is, length-append) (omega arith) in
+    record { input = b.input; told = b.told; refused = (none_in_full limit room b.input (rw all none), inl (long, rw all none, rw all more)) }
   where
     take-append-length : (a b : List ℕ) → take (length a) (a ++ b) ≡ a
     take-append-length a b = grind (arith, common_steps)
 
+-- the input ended
 pub refuse_ended : (limit room : ℕ) (known left after : Option (List ℕ)) (came : List ℕ)
     → length came < limit → Consumes known left came → Consumes left after [] → IsAtEnd after
     → HasNoRequest came → MayBecomeRequest came
-    → IfSome known (λ input. Refuses limit room input Bad)
-refuse_ended limit room None left after came lt cut none_read end none more = tt
-refuse_ended limit room (Some input) None after came lt cut none_read end none more = absurd cut
-refuse_ended limit room (Some input) (Some left) None came lt cut none_read end none more = absurd none_read
-refuse_ended limit room (Some input) (Some left) (Some after) came lt cut none_read end none more =
-    let empty : left ≡ [] = none_read ∙ end in
-    let all : input ≡ came = rw empty at cut ∙ append-nil came in
-    (rw all (none_in_ended limit room came none), rw all (inl (lt, none, more)))
+    → IsRefused limit room known Bad
+refuse_ended limit room known left after came lt cut none_read end none more = record {
+  input = came;
+  told = ended_begins came known left after cut none_read end;
+  refused = (none_in_ended limit room came none, inl (lt, none, more));
+}
+
+-- where the reader failed, any input is refused so, and what came is no head yet
+refuse_unread : (limit room : ℕ) (known : Option (List ℕ)) → IsRefused limit room known Read
+refuse_unread limit room None = record { input = []; told = tt; refused = tt }
+refuse_unread limit room (Some all) = record { input = all; told = refl; refused = tt }
+
+-- so what an answer of a reader that failed says holds
+pub refused_unread : (limit room : ℕ) (known : Option (List ℕ)) (result : Result Head HeadFault) → IsErrAnd result (λ f. f ≡ Read) → IfErr result (IsRefused limit room known)
+refused_unread limit room known (Ok head) h = tt
+refused_unread limit room known (Err f) h = subst (IsRefused limit room known) (sym h) (refuse_unread limit room known)
+
+-- a read that failed took nothing more
+pub unfinished : (limit : ℕ) (known left after : Option (List ℕ)) (came : List ℕ)
+    → length came < limit → Consumes known left came → Keeps left after
+    → HasNoRequest came → MayBecomeRequest came → IsUnfinished limit known after
+unfinished limit known left after came lt cut keeps none more =
+    record { given = came; came = consumed_kept known left after came cut keeps; short = lt; none = none; more = more }

@@ -1,11 +1,13 @@
 -- What two reads, one behind the other into one buffer, consume.
 use Rattle.std.proofs.Common.{◌≡◌, ◌<◌, ◌≤◌, ◌+◌, ◌-◌, ◌++◌, ◌∙◌, ℕ, List, [], Option, Some, None, IfSome, length, take, refl, sym, ap, arith, append_assoc, length-append}
 use Rattle.std.proofs.Math.Seq.{take-append-add}
-use Rattle.std.proofs.lemmas.List.{take-append-le}
+use Rattle.std.proofs.lemmas.List.{append-nil, take-append-le}
 use Rattle.std.proofs.lemmas.Grind.{common_steps}
-use Rattle.std.specs.Io.KnownBytes.{Consumes, IsAtEnd}
+use Rattle.std.specs.Io.KnownBytes.{Consumes, IsAtEnd, Keeps}
+use Rattle.tacho_message.specs.Body.{IsBody, IsCutShort, Lacks}
 use borrow.Rule.Slice.PartMut.{put_mid, post_of}
 
+-- the front of two lists that is longer than the first
 pub take-append-more : (n k : ℕ) (a b : List ℕ) → n ≡ length a + k → take n (a ++ b) ≡ a ++ take k b
 take-append-more n k a b h = rw h (take-append-add a b k)
 
@@ -17,6 +19,7 @@ put_front buf part at n h le =
     take-append-more (at + n) n (take at buf) (part ++ post_of at (length buf - at) buf) (omega arith)
     ∙ ap (λ t. take at buf ++ t) (take-append-le n part (post_of at (length buf - at) buf) le)
 
+-- what both consumed together
 pub two_reads : (known left after : Option (List ℕ)) (buf part : List ℕ) (at n : ℕ) → at ≤ length buf → n ≤ length part
     → Consumes known left (take at buf) → Consumes left after (take n part)
     → Consumes known after (take (at + n) (put_mid at (length buf - at) buf part))
@@ -26,19 +29,75 @@ two_reads (Some a) (Some b) None buf part at n h le x y = absurd y
 two_reads (Some a) (Some b) (Some c) buf part at n h le x y =
     rw (put_front buf part at n h le) (x ∙ (ap (λ t. take at buf ++ t) y ∙ sym (append_assoc (take at buf) (take n part) c)))
 
+-- what was read lies in the buffer
 pub put_fits : (buf part : List ℕ) (at n : ℕ) → at ≤ length buf → n ≤ length part
     → at + n ≤ length (put_mid at (length buf - at) buf part)
 put_fits buf part at n h le =
     let front : length (take at buf) ≡ at = grind (arith, common_steps) in
     simp (length-append, front) (omega arith)
 
+-- an input for what came of it: the reader's, where it tells its bytes, and else what came
+pub record Begins (came : List ℕ) (known left : Option (List ℕ)) : Type 0 where
+  pub input : List ℕ
+  pub rest : List ℕ
+  pub told : IfSome known (λ all. input ≡ all)
+  pub unread : IfSome known (λ all. left ≡ Some rest)
+  pub is : input ≡ came ++ rest
+
+-- there is one
+pub some_begins : (came : List ℕ) (known left : Option (List ℕ)) → Consumes known left came → Begins came known left
+some_begins came None left h = record { input = came; rest = []; told = tt; unread = tt; is = sym (append-nil came) }
+some_begins came (Some all) None h = absurd h
+some_begins came (Some all) (Some rest) h = record { input = all; rest = rest; told = refl; unread = refl; is = h }
+
+-- and where no more is left
+pub ended_begins : (came : List ℕ) (known left after : Option (List ℕ)) → Consumes known left came → Consumes left after [] → IsAtEnd after
+    → IfSome known (λ all. came ≡ all)
+ended_begins came None left after h none end = tt
+ended_begins came (Some all) None after h none end = absurd h
+ended_begins came (Some all) (Some rest) None h none end = absurd none
+ended_begins came (Some all) (Some rest) (Some more) h none end =
+    let empty : rest ≡ [] = none ∙ end in
+    sym (rw empty at h ∙ append-nil came)
+
+-- a read that failed took nothing
+pub consumed_kept : (known left after : Option (List ℕ)) (came : List ℕ) → Consumes known left came → Keeps left after → Consumes known after came
+consumed_kept None left after came h keeps = tt
+consumed_kept (Some all) None after came h keeps = absurd h
+consumed_kept (Some all) (Some rest) None came h keeps = absurd keeps
+consumed_kept (Some all) (Some rest) (Some same) came h keeps = h ∙ ap (λ (xs : List ℕ). came ++ xs) (sym keeps)
+
+-- ---- a buffer that was not filled
+
+-- the front of a buffer is shorter than it
+front_length : (buf : List ℕ) (at : ℕ) → at < length buf → length (take at buf) < length buf
+front_length buf at h = grind (arith, common_steps)
+
 -- where a read gives none, fewer bytes were there than the buffer has
 pub ended_short : (known left after : Option (List ℕ)) (buf : List ℕ) (at : ℕ) → at < length buf → Consumes known left (take at buf)
-    → Consumes left after [] → IsAtEnd after → IfSome known (λ all. length all < length buf)
-ended_short None left after buf at h x y e = tt
-ended_short (Some a) None after buf at h x y e = absurd x
-ended_short (Some a) (Some b) None buf at h x y e = absurd y
-ended_short (Some a) (Some b) (Some c) buf at h x y e =
-    let front : length (take at buf) ≡ at = grind (arith, common_steps) in
-    let all : a ≡ take at buf ++ [] = rw (x, y, e) refl in
-    rw (all, length-append, front) (omega arith)
+    → Consumes left after [] → IsAtEnd after → IsCutShort [] known (length buf)
+ended_short known left after buf at h x y e =
+    record { left = take at buf; told = ended_begins (take at buf) known left after x y e; short = front_length buf at h }
+
+-- where it failed, fewer had come
+pub failed_short : (known left after : Option (List ℕ)) (buf : List ℕ) (at : ℕ) → at < length buf → Consumes known left (take at buf)
+    → Keeps left after → Lacks [] known after (length buf)
+failed_short known left after buf at h x keeps =
+    record { given = take at buf; came = consumed_kept known left after (take at buf) x keeps; short = front_length buf at h }
+
+-- ---- a body
+
+-- of what came behind the head, and of what was read then
+pub body_of : (behind : List ℕ) (n : ℕ) (old new : Option (List ℕ)) (part items : List ℕ) → Consumes old new part
+    → length part ≡ n - length behind → items ≡ take n behind ++ part → IsBody behind old n items
+body_of behind n old new part items cut long is =
+    let b = some_begins part old new cut in
+    record {
+      left = b.input;
+      told = b.told;
+      long = rw b.is (simp (length-append, long) (omega arith));
+      bytes = is ∙ sym (rw b.is (take_body behind part b.rest n long));
+    }
+  where
+    take_body : (behind part rest : List ℕ) (n : ℕ) → length part ≡ n - length behind → take n (behind ++ (part ++ rest)) ≡ take n behind ++ part
+    take_body behind part rest n long = grind (arith, common_steps)

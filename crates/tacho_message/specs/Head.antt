@@ -1,5 +1,6 @@
 -- The head of a request (RFC 9112, in the grammar of httparse): which one an input begins with, and why it has none.
-use Rattle.std.specs.Prelude.{◌<◌, ◌≤◌, ◌⊎◌, ℕ, List, length, take, ⊤}
+use Rattle.std.specs.Prelude.{◌≡◌, ◌<◌, ◌≤◌, ◌⊎◌, ℕ, List, Option, IfSome, length, take, ⊤}
+use Rattle.std.specs.Io.KnownBytes.{Consumes}
 use Rattle.httparse.specs.Grammar.{RequestHead, print_request, ReadsRequest, HasNoRequest, NeverHasRequest, MayBecomeRequest}
 use Rattle.httparse.specs.Spans.{IsRequestAt, IsRequestWithin, RequestExceeds}
 use Rattle.httparse.specs.declared.spans.HeaderSpan.{HeaderSpan}
@@ -34,6 +35,20 @@ abbrev pub Refuses : ℕ → ℕ → List ℕ → HeadFault → Type 0
 Refuses limit room input Bad = HasNoHead limit room input × IsBad limit room input
 Refuses limit room input TooLarge = HasNoHead limit room input × IsTooLarge limit room input
 Refuses limit room input Read = ⊤
+
+-- an input that is refused: the reader's, where it tells its bytes, and some input where it doesn't
+pub record IsRefused (limit room : ℕ) (unread : Option (List ℕ)) (fault : HeadFault) : Type 0 where
+  pub input : List ℕ
+  pub told : IfSome unread (λ all. input ≡ all)
+  pub refused : Refuses limit room input fault
+
+-- what the reader has given is no head yet, and there is room for more of one
+pub record IsUnfinished (limit : ℕ) (old new : Option (List ℕ)) : Type 0 where
+  pub given : List ℕ
+  pub came : Consumes old new given
+  pub short : length given < limit
+  pub none : HasNoRequest given
+  pub more : MayBecomeRequest given
 
 -- the spans lie in the bytes, and are those of a head
 abbrev pub IsHeadAt : List ℕ → ℕ → List HeaderSpan → RequestSpans → Type 0

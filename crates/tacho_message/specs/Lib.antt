@@ -2,8 +2,6 @@ pub mod Head
 pub mod Look
 pub mod Fields
 pub mod Reply
-pub mod Routes
-pub mod Asked
+pub mod Length
 pub mod Request
 pub mod Body
-pub mod Access

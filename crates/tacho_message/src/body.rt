@@ -1,6 +1,6 @@
-ghost use Rattle.std.specs.Prelude.{◌≡◌, ◌≤◌, ◌<◌, ◌↔◌, ◌++◌, Err, List, Some, true, false, length, take, IfOk, IfSome, OnOk, IsErrOf};
+ghost use Rattle.std.specs.Prelude.{◌≡◌, ◌↔◌, [], Err, true, false, drop, length, IfOk, OnOk, IsErrOf};
 ghost use Rattle.std.specs.Io.KnownBytes.{Consumes};
-ghost use Rattle.tacho_message.specs.Body.{IsBody, IsCutShort};
+ghost use Rattle.tacho_message.specs.Body.{IsBody, IsCutShort, Lacks};
 
 use std::alloc::{AllocError, Global};
 use tacho_time::{Failed, Source};
@@ -41,17 +41,21 @@ pub fn read_body<R: Source>(
     alloc: Global,
     reader: &mut R,
     behind: &[u8],
-    length: usize,
+    count: usize,
 ) -> Result<Vec<u8>, BodyFault>
     requires { R.has_failed reader.old ≡ false }
-    ensures body { IfOk result (λ body. IsBody behind.now (R.unread reader.old) length body.items) }
-    ensures ended { result ≡ Err BodyFault.Ended → IsCutShort behind.now (R.unread reader.old) length }
+    ensures body { IfOk result (λ body. IsBody behind.now (R.unread reader.old) count body.items) }
+    // No more than the body was taken.
+    ensures taken { IfOk result (λ body. Consumes (R.unread reader.old) (R.unread reader.new) (drop (length behind.now) body.items)) }
+    ensures ended { result ≡ Err BodyFault.Ended → IsCutShort behind.now (R.unread reader.old) count }
+    // Where the reader failed, it was asked for no more than the body lacked.
+    ensures lacks { result ≡ Err BodyFault.Read → Lacks behind.now (R.unread reader.old) (R.unread reader.new) count }
     ensures failed { IsErrOf result BodyFault.Read ↔ (R.has_failed reader.new ≡ true) }
 {
-    let known = behind.len().min(length);
+    let known = behind.len().min(count);
     let mut body = Vec::new(alloc);
     body.extend_from_slice(&behind[..known])?;
-    body.resize(length, 0)?;
+    body.resize(count, 0)?;
     fill(reader, &mut body[known..])?;
     Ok(body)
 }
@@ -60,7 +64,8 @@ pub fn read_body<R: Source>(
 fn fill<R: Source>(reader: &mut R, buffer: &mut [u8]) -> Result<(), BodyFault>
     requires { R.has_failed reader.old ≡ false }
     ensures read { OnOk result (Consumes (R.unread reader.old) (R.unread reader.new) buffer.new) }
-    ensures ended { result ≡ Err BodyFault.Ended → IfSome (R.unread reader.old) (λ left. length left < length buffer.old) }
+    ensures ended { result ≡ Err BodyFault.Ended → IsCutShort [] (R.unread reader.old) (length buffer.old) }
+    ensures lacks { result ≡ Err BodyFault.Read → Lacks [] (R.unread reader.old) (R.unread reader.new) (length buffer.old) }
     ensures failed { IsErrOf result BodyFault.Read ↔ (R.has_failed reader.new ≡ true) }
 {
     let mut filled = 0;

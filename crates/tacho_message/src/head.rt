@@ -1,6 +1,6 @@
-ghost use Rattle.std.specs.Prelude.{◌≡◌, ◌≤◌, ◌↔◌, ℕ, true, false, length, take, IfOk, IfErr, IfSome, IsErrOf};
+ghost use Rattle.std.specs.Prelude.{◌≡◌, ◌≤◌, ◌↔◌, ℕ, Err, true, false, length, take, IfOk, IfErr, IsErrOf};
 ghost use Rattle.std.specs.Io.KnownBytes.{Consumes};
-ghost use Rattle.tacho_message.specs.Head.{IsHeadAt, Refuses};
+ghost use Rattle.tacho_message.specs.Head.{IsHeadAt, IsRefused, IsUnfinished};
 ghost use Rattle.tacho_message.specs.Look.{IsLook};
 
 use httparse::Status;
@@ -73,7 +73,9 @@ pub fn read_head<R: Source>(
     ensures filled { IfOk result (λ head. head.filled ≤ length buffer.new) }
     ensures head { IfOk result (λ head. IsHeadAt (take head.filled buffer.new) (length fields.old) fields.new head.spans) }
     ensures read { IfOk result (λ head. Consumes (R.unread reader.old) (R.unread reader.new) (take head.filled buffer.new)) }
-    ensures refused { IfErr result (λ fault. IfSome (R.unread reader.old) (λ input. Refuses (length buffer.old) (length fields.old) input fault)) }
+    ensures refused { IfErr result (IsRefused (length buffer.old) (length fields.old) (R.unread reader.old)) }
+    // Where the reader failed, it was asked for no more than a head lacked.
+    ensures unfinished { result ≡ Err HeadFault.Read → IsUnfinished (length buffer.old) (R.unread reader.old) (R.unread reader.new) }
     ensures failed { IsErrOf result HeadFault.Read ↔ (R.has_failed reader.new ≡ true) }
 {
     let mut filled = 0;

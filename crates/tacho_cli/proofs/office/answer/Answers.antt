@@ -1,52 +1,72 @@
-use Rattle.std.proofs.Common.{◌∙◌, Err, inl, sym, subst}
+use Rattle.std.proofs.Common.{◌∙◌, List, ℕ, Ok, Err, sym, subst}
+use Rattle.tacho_desk.specs.Doing.{AsksOnly, Serves}
+use Rattle.tacho_desk.specs.Tasks.{Does, IsFaulty, IsSound, want_of}
 use Rattle.tacho_desk.specs.Told.{Answer, answer_of}
-use Rattle.tacho_cli.specs.Office.{Answered, Performs}
-use Rattle.tacho_cli.proofs.OfficeLemmas.{asks_none, input_as_task, done_as, faulty, input_missed, refuses, stops_unasked, unasked}
+use Rattle.tacho_desk.specs.Wants.{is_command}
+use Rattle.tacho_cli.specs.Office.{Performed}
+use Rattle.tacho_cli.proofs.OfficeLemmas.{faulty, of_bytes, over_input, refused_words, unread_input, without_input}
 use Rattle.tacho_cli.proofs.office.answer.Goals as goal
 
-pub returns-in_err-task-clause-answered : goal.returns-in_err-task-clause-answered
-returns-in_err-task-clause-answered g c clean s stands =
+pub returns-in_err-task-clause-performed : goal.returns-in_err-task-clause-performed
+returns-in_err-task-clause-performed g c =
+    let k = g.K.Keeper in
+    let keeper = c.args.keeper.now in
     let unread = g.R.Source.unread c.args.reader.now in
     let failed = g.R.Source.has_failed c.args.reader.now in
     let f = c.in_err-task.field-0.0 in
-    let now = g.K.Keeper.stands c.args.keeper.now in
-    subst (λ (answer : Answer). Answered now s (λ input. Performs c.args.job input s) unread failed answer)
+    let driver = c.args.driver.now in
+    let word = c.args.word.now in
+    let is = of_bytes c.args.want (Err f) c.as_bytes.result.now c.as_bytes-2.result.now driver word
+    c.as_bytes.ensures.value c.as_bytes-2.ensures.value c.in_err-task.ensures.task in
+    subst (λ (answer : Answer). Performed k.stands k.is_clean k.is_live k.leaves keeper keeper c.args.want driver word unread failed answer)
     (sym (faulty c.from_residual.result f c.from_residual.ensures.1))
-    (unasked now s (λ input. Performs c.args.job input s) unread failed (Err f) c.requires.reader
-    (λ input. (stands, inl (refuses c.args.job f input s c.in_err-task.ensures))))
+    (refused_words c.args.want driver word unread failed k.stands k.is_clean k.is_live k.leaves keeper f c.requires.reader is)
 
-pub returns-then-not-takes_input-clause-answered : goal.returns-then-not-takes_input-clause-answered
-returns-then-not-takes_input-clause-answered g c clean s stands =
-    let now = g.K.Keeper.stands c.carry_out.new.keeper in
-    let answer = answer_of c.carry_out.result in
-    unasked now s (λ input. Performs c.args.job input s) (g.R.Source.unread c.args.reader.now) (g.R.Source.has_failed c.args.reader.now) answer c.requires.reader
-    (λ input. done_as now s _ (Performs c.args.job input s) answer
-    (λ told after. asks_none c.args.job c.in_ok-task.task input s told after c.in_ok-task.ensures cc) (c.carry_out.ensures.done clean s stands))
+pub returns-then-not-takes_input-clause-performed : goal.returns-then-not-takes_input-clause-performed
+returns-then-not-takes_input-clause-performed g c =
+    let k = g.K.Keeper in
+    let t = c.in_ok-task.task in
+    let driver = c.args.driver.now in
+    let word = c.args.word.now in
+    let is = of_bytes c.args.want (Ok t) c.as_bytes.result.now c.as_bytes-2.result.now driver word
+    c.as_bytes.ensures.value c.as_bytes-2.ensures.value c.in_ok-task.ensures.task in
+    without_input c.args.want driver word (g.R.Source.unread c.args.reader.now) (g.R.Source.has_failed c.args.reader.now)
+    k.stands k.is_clean k.is_live k.leaves c.args.keeper.now c.carry_out.new.keeper (answer_of c.carry_out.result) t c.requires.reader is
+    c.in_ok-task.ensures.want (sym c.takes_input.ensures ∙ c.if-not-takes_input.true) c.carry_out.ensures.serves
 
-pub returns-then-not-takes_input-clause-crash : goal.returns-then-not-takes_input-clause-crash
-returns-then-not-takes_input-clause-crash g c clean s past stands left =
-    stops_unasked (g.K.Keeper.leaves c.carry_out.new.keeper) past _ (λ input. Performs c.args.job input s) (g.R.Source.unread c.args.reader.now)
-    (λ input told after. asks_none c.args.job c.in_ok-task.task input s told after c.in_ok-task.ensures cc)
-    (c.carry_out.ensures.crash clean s past stands left)
-
-pub returns-in_err-input-clause-answered : goal.returns-in_err-input-clause-answered
-returns-in_err-input-clause-answered g c clean s stands =
+pub returns-in_err-input-clause-performed : goal.returns-in_err-input-clause-performed
+returns-in_err-input-clause-performed g c =
+    let k = g.K.Keeper in
+    let keeper = c.args.keeper.now in
     let unread = g.R.Source.unread c.args.reader.now in
     let failed = g.R.Source.has_failed c.input_of.new.reader in
     let f = c.in_err-input.field-0.0 in
-    let now = g.K.Keeper.stands c.args.keeper.now in
-    subst (λ (answer : Answer). Answered now s (λ input. Performs c.args.job input s) unread failed answer)
+    let t = c.in_ok-task.task in
+    let driver = c.args.driver.now in
+    let word = c.args.word.now in
+    let is = of_bytes c.args.want (Ok t) c.as_bytes.result.now c.as_bytes-2.result.now driver word
+    c.as_bytes.ensures.value c.as_bytes-2.ensures.value c.in_ok-task.ensures.task in
+    subst (λ (answer : Answer). Performed k.stands k.is_clean k.is_live k.leaves keeper keeper c.args.want driver word unread failed answer)
     (sym (faulty c.from_residual-in_err-input.result f c.from_residual-in_err-input.ensures.1))
-    (input_missed now s c.args.job c.in_ok-task.task unread failed f stands c.in_ok-task.ensures (sym c.takes_input.ensures ∙ c.if-not-takes_input.false) c.in_err-input.ensures)
+    (unread_input c.args.want driver word unread failed k.stands k.is_clean k.is_live k.leaves keeper t f is
+    (sym c.takes_input.ensures ∙ c.if-not-takes_input.false) c.in_err-input.ensures)
 
-pub returns-in_err-input-clause-alone : goal.returns-in_err-input-clause-alone
-returns-in_err-input-clause-alone g c = λ none.
-    let is = input_as_task c.args.job c.in_ok-task.task c.in_ok-task.ensures in
-    let one = sym c.takes_input.ensures ∙ c.if-not-takes_input.false in
-    absurd (cc)
-
-pub returns-clause-alone : goal.returns-clause-alone
-returns-clause-alone g c = λ none.
-    let is = input_as_task c.args.job c.in_ok-task.task c.in_ok-task.ensures in
-    let one = sym c.takes_input.ensures ∙ c.if-not-takes_input.false in
-    absurd (cc)
+pub returns-clause-performed : goal.returns-clause-performed
+returns-clause-performed g c =
+    let k = g.K.Keeper in
+    let keeper = c.args.keeper.now in
+    let new = c.carry_out-2.new.keeper in
+    let answer = answer_of c.carry_out-2.result in
+    let input = c.in_ok-input.input.items in
+    let t = c.in_ok-task.task in
+    let driver = c.args.driver.now in
+    let word = c.args.word.now in
+    let is = of_bytes c.args.want (Ok t) c.as_bytes.result.now c.as_bytes-2.result.now driver word
+    c.as_bytes.ensures.value c.as_bytes-2.ensures.value c.in_ok-task.ensures.task in
+    over_input c.args.want driver word (g.R.Source.unread c.args.reader.now) (g.R.Source.has_failed c.input_of.new.reader)
+    k.stands k.is_clean k.is_live k.leaves keeper new answer t input is c.in_ok-task.ensures.want
+    (sym c.takes_input.ensures ∙ c.if-not-takes_input.false) c.in_ok-input.ensures
+    (subst (λ (bytes : List ℕ). Serves k.stands k.is_clean k.is_live k.leaves keeper new (is_command (want_of t)) answer (Does t bytes))
+    c.deref.ensures.value c.carry_out-2.ensures.serves)
+    (subst (λ (bytes : List ℕ). AsksOnly keeper new (IsSound t bytes) (IsFaulty t bytes) answer)
+    c.deref.ensures.value c.carry_out-2.ensures.asks)

@@ -6,6 +6,8 @@ use Rattle.tacho_desk.proofs.readings.sheet.Goals as goal
 pub returns : goal.returns
 returns g c = record {
   clean = λ clean. c.name.ensures.clean (c.line.ensures.clean (c.report.ensures.reads.clean clean));
+  live = λ clean. c.in_ok-report.ensures.reads.live clean;
+  kept = λ is. cc;
   done = λ clean s stands.
       let clean_line = c.report.ensures.reads.clean clean in
       let clean_name = c.line.ensures.clean clean_line in

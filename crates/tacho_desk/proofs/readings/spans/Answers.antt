@@ -8,6 +8,8 @@ returns g c =
     let bounds : AreBounds c.args.month c.month_range-start.result.0 c.month_range-start.result.1 = record { first = c.month_range-start.ensures.start; end = c.month_range-start.ensures.past } in
     record {
       clean = c.line_within.ensures.reads.clean;
+      live = λ clean. c.in_ok-line.ensures.reads.live clean;
+      kept = λ is. cc;
       done = λ clean s stands. (
         s,
         c.line_within.ensures.reads.state clean s stands,

@@ -1,19 +1,49 @@
-use Rattle.std.proofs.Common.{List, ℕ, subst}
+use Rattle.std.proofs.Common.{◌++◌, Err, List, Ok, subst, ℕ}
+use Rattle.tacho_state.specs.State.{State}
 use Rattle.tacho_desk.specs.Doing.{Serves}
-use Rattle.tacho_desk.specs.Tasks.{Does}
+use Rattle.tacho_desk.specs.Tasks.{Does, want_of}
 use Rattle.tacho_desk.specs.Told.{answer_of}
-use Rattle.tacho_http.proofs.RespondLemmas.{carried_out}
+use Rattle.tacho_desk.specs.Wants.{is_command}
+use Rattle.tacho_desk.specs.Words.{IsTask}
+use Rattle.tacho_desk.specs.declared.want.Want.{Want}
+use Rattle.tacho_http.specs.Asked.{Wish}
+use Rattle.tacho_http.specs.Serve.{Runs}
+use Rattle.tacho_http.proofs.RespondLemmas.{carried_out, unavailable, unread_body, wrong_word}
 use Rattle.tacho_http.proofs.checks.run.Goals as goal
 
-pub returns-in-Ok-task_at-clause-responds : goal.returns-in-Ok-task_at-clause-responds
-returns-in-Ok-task_at-clause-responds g c =
+pub returns-in-Err-Memory-clause-responds : goal.returns-in-Err-Memory-clause-responds
+returns-in-Err-Memory-clause-responds g c =
+    let k = g.K.Keeper in
+    let w : Wish = record { want = c.args.asked.want; driver = c.args.asked.driver.now; word = c.args.asked.word.now } in
+    unavailable k.stands k.is_clean k.is_live k.leaves c.args.keeper.now (is_command w.want) (g.R.Source.unread c.args.reader.now) c.fixed-in-Err-Memory.result
+    (λ left s. Runs w c.args.count c.args.caller (c.args.behind.now ++ left) s) c.fixed-in-Err-Memory.ensures
+
+pub returns-in-Err-Read-clause-responds : goal.returns-in-Err-Read-clause-responds
+returns-in-Err-Read-clause-responds g c =
+    let k = g.K.Keeper in
+    let w : Wish = record { want = c.args.asked.want; driver = c.args.asked.driver.now; word = c.args.asked.word.now } in
+    unread_body k.stands k.is_clean k.is_live k.leaves c.args.keeper.now (is_command w.want) (g.R.Source.unread c.args.reader.now) _
+    (λ left s. Runs w c.args.count c.args.caller (c.args.behind.now ++ left) s)
+
+pub returns-in-Ok-task-clause-responds : goal.returns-in-Ok-task-clause-responds
+returns-in-Ok-task-clause-responds g c =
     let k = g.K.Keeper in
     let answer = answer_of c.carry_out.result in
-    let t = c.in-Ok-task_at.task in
+    let t = c.in-Ok-task.task in
     let keeper = c.args.keeper.now in
     let new = c.carry_out.new.keeper in
-    carried_out k.stands k.is_clean k.leaves keeper new (g.R.Source.unread c.args.reader.now) c.reply.result answer
-    c.args.want c.args.length c.args.caller c.args.request.now.path.now c.args.request.now.behind.now
-    c.in-Ok.body.items t c.reply.ensures c.in-Ok.ensures.body c.in-Ok-task_at.ensures
-    (subst (λ (body : List ℕ). Serves k.stands k.is_clean k.leaves keeper new answer (Does t body))
-    c.deref.ensures.value c.carry_out.ensures)
+    let w : Wish = record { want = c.args.asked.want; driver = c.args.asked.driver.now; word = c.args.asked.word.now } in
+    let task : IsTask w.want c.args.caller w.driver w.word (Ok t) = rw c.as_bytes.ensures.value at (rw c.as_bytes-2.ensures.value at c.in-Ok-task.ensures.task) in
+    carried_out k.stands k.is_clean k.is_live k.leaves keeper new (is_command w.want) (g.R.Source.unread c.args.reader.now) c.reply.result answer
+    w c.args.count c.args.caller c.args.behind.now c.in-Ok.body.items t c.reply.ensures c.in-Ok.ensures.body task
+    (subst (λ (want : Want). Serves k.stands k.is_clean k.is_live k.leaves keeper new (is_command want) answer (Does t c.in-Ok.body.items)) c.in-Ok-task.ensures.want
+    (subst (λ (body : List ℕ). Serves k.stands k.is_clean k.is_live k.leaves keeper new (is_command (want_of t)) answer (Does t body)) c.deref.ensures.value c.carry_out.ensures.serves))
+
+pub returns-clause-responds : goal.returns-clause-responds
+returns-clause-responds g c =
+    let k = g.K.Keeper in
+    let f = c.in-Err.fault in
+    let w : Wish = record { want = c.args.asked.want; driver = c.args.asked.driver.now; word = c.args.asked.word.now } in
+    let wrong : IsTask w.want c.args.caller w.driver w.word (Err f) = rw c.as_bytes.ensures.value at (rw c.as_bytes-2.ensures.value at c.in-Err.ensures.task) in
+    wrong_word k.stands k.is_clean k.is_live k.leaves c.args.keeper.now (is_command w.want) (g.R.Source.unread c.args.reader.now) c.refusal.result
+    w c.args.count c.args.caller c.args.behind.now c.in-Ok.body.items f c.refusal.ensures c.in-Ok.ensures.body wrong

@@ -1,6 +1,5 @@
 use Rattle.std.proofs.Common.{◌≡◌, ◌∙◌, ◌<◌, ◌+◌, sym, length, arith, get_or}
-use Rattle.std.specs.Prelude.{IsSome}
-use Rattle.tacho_http.proofs.RunLemmas.{counted, counts_none, counts_one, rest_next, run_next, same_item, went}
+use Rattle.tacho_http.proofs.RunLemmas.{counted, counts_none, counts_one, rest_next, run_next, same_item, went, went_kept}
 use Rattle.tacho_http.proofs.connections.answer_all.Goals.{then-is_ok, else-is_ok}
 use Rattle.tacho_http.proofs.connections.answer_all.Goals as goal
 
@@ -39,12 +38,18 @@ loop-connection-preserved g c =
       bound = elim c.if-is_ok.branch [ then-is_ok w ↦ omega arith | else-is_ok w ↦ omega arith ];
       rest = rest_next old now i (c.answer.new.reader, c.answer.new.writer) inv.rest;
       clean = λ x. inv.clean (c.answer.ensures.clean x);
-      run = λ clean s st all.
-          let r = inv.run (c.answer.ensures.clean clean) s st all in
+      run = λ clean s st.
+          let r = inv.run (c.answer.ensures.clean clean) s st in
           let e = get_or now i c.connection-item.result in
-          let known : IsSome (g.R.Source.unread e.0) = rw (same_item now old i c.connection-item.result k h inv.rest) (all i c.connection-item.result h) in
-          let w = went (g.K.Keeper.stands c.answer.new.keeper) c.args.office_key.now (g.R.Source.unread e.0) (g.W.Sink.written e.1) (g.W.Sink.written c.answer.new.writer)
-          (g.R.Source.has_failed c.answer.new.reader) (g.W.Sink.has_failed c.answer.new.writer) c.answer.result r.0 known c.answer.ensures.read c.answer.ensures.write
-          (c.answer.ensures.answer clean r.0 r.1) (c.answer.ensures.beginning clean r.0 r.1) (c.answer.ensures.same clean r.0 r.1) c.answer.ensures.untouched in
+          let w = went c.args.office_key.now (g.R.Source.unread e.0) (g.W.Sink.written e.1) (g.W.Sink.written c.answer.new.writer)
+          (g.R.Source.has_failed c.answer.new.reader) (g.W.Sink.has_failed c.answer.new.writer) c.answer.result c.answer.ensures.exchanged c.answer.ensures.read c.answer.ensures.write
+          clean r.0 r.1 in
           (w.0, w.1, rw count (run_next _ old now i c.connection-item.result (c.answer.new.reader, c.answer.new.writer) c.loop-connection.count (counted c.answer.result) s r.0 w.0 h k inv.rest r.2 w.2));
+      crash = λ clean a st l.
+          let r = inv.crash (c.answer.ensures.clean clean) a st l in
+          let e = get_or now i c.connection-item.result in
+          let w = went_kept c.args.office_key.now (g.R.Source.unread e.0) (g.W.Sink.written e.1) (g.W.Sink.written c.answer.new.writer)
+          (g.R.Source.has_failed c.answer.new.reader) (g.W.Sink.has_failed c.answer.new.writer) c.answer.result c.answer.ensures.exchanged c.answer.ensures.read c.answer.ensures.write
+          clean r.0 r.1 r.2 in
+          (w.0, w.1, w.2, rw count (run_next _ old now i c.connection-item.result (c.answer.new.reader, c.answer.new.writer) c.loop-connection.count (counted c.answer.result) a r.0 w.0 h k inv.rest r.3 w.3));
     }

@@ -1,7 +1,6 @@
 use Rattle.std.proofs.Common.{◌≡◌, ◌≤◌, take, drop}
-use Rattle.std.specs.Prelude.{All, IsSome}
 use Rattle.tacho_state.specs.State.{State}
-use Rattle.tacho_http.specs.Run.{Run, Went}
+use Rattle.tacho_http.specs.Run.{Kept, Run, Went, WentKept}
 use Rattle.tacho_http.proofs.connections.answer_all.Given as goal
 
 -- the run over the connections so far, and the others are as they came
@@ -10,7 +9,11 @@ invariant-loop-connection g l = record {
   bound : l.count ≤ l.connection-index;
   rest : drop l.connection-index l.connections ≡ drop l.connection-index l.fn.connections;
   clean : g.K.Keeper.is_clean l.keeper → g.K.Keeper.is_clean l.fn.keeper;
-  run : g.K.Keeper.is_clean l.keeper → (s : State) → g.K.Keeper.stands l.fn.keeper s → All (λ c. IsSome (g.R.Source.unread c.0)) l.fn.connections
+  run : g.K.Keeper.is_clean l.keeper → (s : State) → g.K.Keeper.stands l.fn.keeper s
       → (t : State) × g.K.Keeper.stands l.keeper t × Run (λ c d. Went l.office_key (g.R.Source.unread c.0) (g.W.Sink.written c.1) (g.W.Sink.written d.1) (g.R.Source.has_failed d.0) (g.W.Sink.has_failed d.1))
       (take l.connection-index l.fn.connections) (take l.connection-index l.connections) l.count s t;
+  crash : g.K.Keeper.is_clean l.keeper → (a : Kept) → g.K.Keeper.stands l.fn.keeper a.state → g.K.Keeper.leaves l.fn.keeper a.past
+      → (b : Kept) × g.K.Keeper.stands l.keeper b.state × g.K.Keeper.leaves l.keeper b.past
+      × Run (λ c d. WentKept l.office_key (g.R.Source.unread c.0) (g.W.Sink.written c.1) (g.W.Sink.written d.1) (g.R.Source.has_failed d.0) (g.W.Sink.has_failed d.1))
+      (take l.connection-index l.fn.connections) (take l.connection-index l.connections) l.count a b;
 }

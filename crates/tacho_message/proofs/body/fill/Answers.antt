@@ -1,5 +1,7 @@
-use Rattle.std.proofs.Common.{◌≤◌, length, arith}
-use Rattle.tacho_message.proofs.ReadLemmas.{two_reads, put_fits}
+use Rattle.std.proofs.Common.{rules, ◌≡◌, ◌<◌, ◌≤◌, [], length, take, arith}
+use Rattle.std.specs.Io.KnownBytes.{Consumes, IsAtEnd}
+use Rattle.tacho_message.specs.Body.{IsCutShort}
+use Rattle.tacho_message.proofs.ReadLemmas.{ended_short, two_reads, put_fits}
 use Rattle.tacho_message.proofs.body.fill.Goals as goal
 
 pub loop-filled-preserved : goal.loop-filled-preserved
@@ -12,3 +14,15 @@ loop-filled-preserved g c =
       read = two_reads (g.R.Source.unread c.args.reader.now) (g.R.Source.unread c.loop-filled.reader) (g.R.Source.unread c.take.new.self) c.loop-filled.buffer
           c.take.new.buffer c.loop-filled.filled c.in_ok-count.count inv.within within inv.read c.in_ok-count.ensures.bytes.0;
     }
+
+pub returns-then-count-eq0-clause-ended : goal.returns-then-count-eq0-clause-ended
+returns-then-count-eq0-clause-ended g c = λ e.
+    let inv = c.loop-filled.invariant in
+    let source = g.R.Source in
+    let room : c.loop-filled.filled < length c.loop-filled.buffer = omega arith in
+    let none : Consumes (source.unread c.loop-filled.reader) (source.unread c.take.new.self) [] = search rules in
+    let end : IsAtEnd (source.unread c.take.new.self) = search rules in
+    let same : length c.loop-filled.buffer ≡ length c.args.buffer.now = search rules in
+    let short = ended_short (source.unread c.args.reader.now) (source.unread c.loop-filled.reader) (source.unread c.take.new.self) c.loop-filled.buffer
+    c.loop-filled.filled room inv.read none end in
+    rw (← same) short

@@ -1,6 +1,7 @@
-use Rattle.std.proofs.Common.{rules, ◌≡◌, ◌≤◌, ◌-◌, length, take, arith}
+use Rattle.std.proofs.Common.{rules, ◌≡◌, ◌<◌, ◌≤◌, ◌-◌, [], length, take, arith}
+use Rattle.std.specs.Io.KnownBytes.{Consumes, IsAtEnd}
 use Rattle.std.proofs.lemmas.Grind.{common_steps}
-use Rattle.tacho_message.proofs.HeadLemmas.{refuse_many, refuse_never, refuse_full}
+use Rattle.tacho_message.proofs.HeadLemmas.{refuse_ended, refuse_many, refuse_never, refuse_full, refused_unread}
 use Rattle.tacho_message.proofs.ReadLemmas.{two_reads, put_fits}
 use Rattle.tacho_message.proofs.head.read_head.Goals as goal
 
@@ -37,3 +38,17 @@ loop-spans-preserved g c =
       read = two_reads (g.R.Source.unread c.args.reader.now) (g.R.Source.unread c.loop-spans.reader) (g.R.Source.unread c.take.new.self) c.loop-spans.buffer
           c.take.new.buffer c.loop-spans.filled c.in_ok-count.count inv.within within inv.read c.in_ok-count.ensures.bytes.0;
     }
+
+pub returns-in_err-count-clause-refused : goal.returns-in_err-count-clause-refused
+returns-in_err-count-clause-refused g c =
+    refused_unread (length c.args.buffer.now) (length c.args.fields.now) (g.R.Source.unread c.args.reader.now) c.from_residual.result c.from_residual.ensures.1
+
+pub returns-then-count-eq0-clause-refused : goal.returns-then-count-eq0-clause-refused
+returns-then-count-eq0-clause-refused g c =
+    let inv = c.loop-spans.invariant in
+    let source = g.R.Source in
+    let short : length (take c.loop-spans.filled c.loop-spans.buffer) < length c.args.buffer.now = grind (arith, common_steps) in
+    let none : Consumes (source.unread c.loop-spans.reader) (source.unread c.take.new.self) [] = search rules in
+    let end : IsAtEnd (source.unread c.take.new.self) = search rules in
+    refuse_ended (length c.args.buffer.now) (length c.args.fields.now) (source.unread c.args.reader.now) (source.unread c.loop-spans.reader)
+    (source.unread c.take.new.self) (take c.loop-spans.filled c.loop-spans.buffer) short inv.read none end c.in-More.ensures.0 c.in-More.ensures.1

@@ -1,0 +1,168 @@
+-- Values that the documents print, by computation: the subcommands with their words, and what follows a fault.
+use Rattle.std.proofs.Common.{◌≡◌, ◌∷◌, ◌++◌, List, [], Option, Some, None, codes, map, refl}
+use Rattle.std.specs.Prelude.{flat_map, replicate}
+use Rattle.clap.specs.Words.{Text}
+use Rattle.tacho_time.specs.declared.fault.TimeFault.TheVariants as time
+use Rattle.tacho_card.specs.declared.fault.CardFault.{CardFault}
+use Rattle.tacho_card.specs.declared.fault.CardFault.TheVariants as card
+use Rattle.tacho_state.specs.declared.driver.Column.TheVariants as column
+use Rattle.tacho_state.specs.declared.fault.StoreFault.TheVariants as store
+use Rattle.tacho_sheet.specs.declared.fault.Fault.TheVariants as told
+use Rattle.tacho_sheet.specs.declared.fault.LeftOut.TheVariants as left_out
+use Rattle.tacho_sheet.specs.declared.fault.SheetFault.TheVariants as sheet
+use Rattle.tacho_desk.specs.declared.fault.Fault.TheVariants as fault
+use Rattle.tacho_desk.specs.declared.want.MonthReading.TheVariants as month
+use Rattle.tacho_desk.specs.declared.want.Reading.TheVariants as reading
+use Rattle.tacho_desk.specs.declared.want.Want.TheVariants as want
+use Rattle.tacho_cli.specs.Fault.{fault_line, fault_status}
+use Rattle.tacho_cli.specs.Words.{Subcommand, act_named, driver_id, has_driver, the_table, word_id}
+use Rattle.tacho_cli.specs.declared.act.Act.{Act}
+use Rattle.tacho_cli.specs.declared.act.Act.TheVariants as act
+
+-- ---- subcommands
+
+-- what each does
+dump : act_named (codes "dump") the_table ≡ Some act.Dump
+dump = refl
+
+holder : act_named (codes "holder") the_table ≡ Some act.Holder
+holder = refl
+
+init : act_named (codes "init") the_table ≡ Some act.Init
+init = refl
+
+register : act_named (codes "register") the_table ≡ Some (act.AtDesk want.Register)
+register = refl
+
+import : act_named (codes "import") the_table ≡ Some (act.AtDesk want.Import)
+import = refl
+
+enter : act_named (codes "enter") the_table ≡ Some (act.AtDesk want.Enter)
+enter = refl
+
+withdraw : act_named (codes "withdraw") the_table ≡ Some (act.AtDesk want.Withdraw)
+withdraw = refl
+
+base : act_named (codes "base") the_table ≡ Some (act.AtDesk want.Base)
+base = refl
+
+spans : act_named (codes "spans") the_table ≡ Some (act.AtDesk (want.MonthReading month.Spans))
+spans = refl
+
+gaps : act_named (codes "gaps") the_table ≡ Some (act.AtDesk (want.MonthReading month.Gaps))
+gaps = refl
+
+month_sheet : act_named (codes "sheet") the_table ≡ Some (act.AtDesk (want.MonthReading month.Sheet))
+month_sheet = refl
+
+breaches : act_named (codes "breaches") the_table ≡ Some (act.AtDesk (want.Reading reading.Breaches))
+breaches = refl
+
+owed : act_named (codes "owed") the_table ≡ Some (act.AtDesk (want.Reading reading.Owed))
+owed = refl
+
+entries : act_named (codes "entries") the_table ≡ Some (act.AtDesk (want.Reading reading.Entries))
+entries = refl
+
+file : act_named (codes "file") the_table ≡ Some (act.AtDesk want.File)
+file = refl
+
+serve : act_named (codes "serve") the_table ≡ Some act.Serve
+serve = refl
+
+-- another name names none
+other_name : act_named (codes "files") the_table ≡ None
+other_name = refl
+
+-- a subcommand and its words, as they are given
+abbrev given : Subcommand → Text
+given row = row.0 ++ flat_map (λ word. codes " " ++ word) row.1
+
+all_given : map given the_table
+    ≡ codes "dump" ∷ codes "holder" ∷ codes "init archive" ∷ codes "register archive" ∷ codes "import archive part"
+    ∷ codes "enter archive driver" ∷ codes "withdraw archive driver number" ∷ codes "base archive driver date"
+    ∷ codes "spans archive driver month" ∷ codes "gaps archive driver month" ∷ codes "sheet archive driver month"
+    ∷ codes "breaches archive driver" ∷ codes "owed archive driver" ∷ codes "entries archive driver"
+    ∷ codes "file archive driver number" ∷ codes "serve archive key port count" ∷ []
+all_given = refl
+
+-- a word that may be there
+abbrev one : Option Text → List Text
+one (Some id) = id ∷ []
+one None = []
+
+-- the words of what is wanted at an archive are the archive, the driver where he is named, and the other word
+abbrev read_words : Act → List Text → List Text
+read_words (act.AtDesk w) words = codes "archive" ∷ (one (driver_id (has_driver w)) ++ one (word_id w))
+read_words a words = words
+
+words_are_read : map (λ row. read_words row.2 row.1) the_table ≡ map (λ row. row.1) the_table
+words_are_read = refl
+
+-- ---- faults
+
+-- status 1 after a refusal: of a date, of an input, of a number, of a part
+bad_shape : fault_status (fault.Told (told.Time time.Shape)) ≡ 1
+bad_shape = refl
+
+no_such_date : fault_status (fault.Told (told.Time time.NoSuchDate)) ≡ 1
+no_such_date = refl
+
+out_of_range : fault_status (fault.Told (told.Time time.OutOfRange)) ≡ 1
+out_of_range = refl
+
+too_large : fault_status (fault.Told told.TooLarge) ≡ 1
+too_large = refl
+
+bad_number : fault_status (fault.Told told.Number) ≡ 1
+bad_number = refl
+
+bad_part : fault_status (fault.Told told.Part) ≡ 1
+bad_part = refl
+
+-- of a card or a card file
+abbrev card_faults : List CardFault
+card_faults =
+    card.Truncated 40 ∷ card.Twice 1284 0 ∷ card.NoIdentification ∷ card.ShortIdentification ∷ card.TwoCards ∷ card.NoActivity
+    ∷ card.ShortActivity ∷ card.Pointer ∷ card.RecordLength 12 ∷ card.Chain 12 ∷ card.DayRange 12 ∷ card.WordMinute 24 ∷ card.WordOrder 26
+    ∷ card.SelfContradiction 28491840 ∷ []
+
+bad_cards : map (λ f. fault_status (fault.Told (told.Card f))) card_faults ≡ replicate 14 1
+bad_cards = refl
+
+bad_files : map (λ f. fault_status (fault.Told (told.Store (store.Card f)))) card_faults ≡ replicate 14 1
+bad_files = refl
+
+-- of the archive
+refused_by_archive : map (λ f. fault_status (fault.Told (told.Store f)))
+    (store.DriverTaken ∷ store.KeyTaken ∷ store.HolderTaken ∷ store.UnknownDriver ∷ store.NotYourCard ∷ store.Contradiction 28491840
+    ∷ store.UnknownEntry ∷ store.AlreadyWithdrawn ∷ store.NotMonday ∷ store.UnknownDownload ∷ store.Full ∷ [])
+    ≡ replicate 11 1
+refused_by_archive = refl
+
+-- of a text of CSV
+bad_texts : map (λ f. fault_status (fault.Told (told.Sheet f)))
+    (sheet.Head ∷ sheet.Fields 2 ∷ sheet.Time 2 ∷ sheet.Order 2 ∷ sheet.LeftOut 2 left_out.Ferry ∷ sheet.Activity 2 ∷ sheet.TooLong 2
+    ∷ sheet.Csv ∷ sheet.Column column.Key ∷ [])
+    ≡ replicate 9 1
+bad_texts = refl
+
+-- status 3 where memory, the store or a device failed
+no_memory : fault_status fault.Memory ≡ 3
+no_memory = refl
+
+store_failed : fault_status (fault.Told (told.Store store.Store)) ≡ 3
+store_failed = refl
+
+device_failed : fault_status fault.Device ≡ 3
+device_failed = refl
+
+-- their lines
+no_memory_line : fault_line fault.Memory ≡ codes "M1 no memory\n"
+no_memory_line = refl
+
+store_failed_line : fault_line (fault.Told (told.Store store.Store)) ≡ codes "S12 store failed\n"
+store_failed_line = refl
+
+device_failed_line : fault_line fault.Device ≡ codes "X2 device failed\n"
+device_failed_line = refl

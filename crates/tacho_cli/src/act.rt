@@ -1,0 +1,39 @@
+ghost use Rattle.std.specs.Prelude.{◌≡◌, option_map};
+ghost use Rattle.tacho_cli.specs.Words.{has_driver, word_id};
+
+use tacho_desk::Want;
+
+/// What a subcommand does.
+#[derive(Clone, Copy, Debug, PartialEq, Eq)]
+pub(crate) enum Act {
+    /// It prints the spans of a value of EF Driver_Activity_Data.
+    Dump,
+    /// It prints the holder of a card file.
+    Holder,
+    /// It makes an archive.
+    Init,
+    /// What is wanted is done at an archive.
+    AtDesk(Want),
+    /// It answers requests.
+    Serve,
+}
+
+/// Whether the command line names the driver.
+pub(crate) fn names_driver(want: Want) -> bool
+    ensures { result ≡ has_driver want }
+{
+    !matches!(want, Want::Register | Want::Import)
+}
+
+/// The name of the other word, if there is one.
+pub(crate) fn word_of(want: Want) -> Option<&'static str>
+    ensures { option_map (λ id. id.now) result ≡ word_id want }
+{
+    match want {
+        Want::Import => Some("part"),
+        Want::Withdraw | Want::File => Some("number"),
+        Want::Base => Some("date"),
+        Want::MonthReading(_) => Some("month"),
+        Want::Register | Want::Enter | Want::Reading(_) => None,
+    }
+}

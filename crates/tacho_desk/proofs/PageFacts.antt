@@ -1,0 +1,55 @@
+-- What docs/FORMATS.md says of what can be wanted, held against the definitions: with another value here this file is refused.
+use Rattle.std.proofs.Common.{◌≡◌, List, [], ◌∷◌, Ok, Err, Some, None, Bool, codes, map, true, false, refl}
+use Rattle.tacho_card.specs.declared.file.Part.TheVariants as part
+use Rattle.tacho_state.specs.declared.caller.Caller.TheVariants as caller
+use Rattle.tacho_state.specs.declared.fault.StoreFault.TheVariants as store
+use Rattle.tacho_sheet.specs.declared.fault.Fault.TheVariants as told
+use Rattle.tacho_desk.specs.Fault.{store_fault}
+use Rattle.tacho_desk.specs.Wants.{is_command, is_own, takes_input}
+use Rattle.tacho_desk.specs.Words.{by_part, part_of}
+use Rattle.tacho_desk.specs.declared.fault.Fault.TheVariants as fault
+use Rattle.tacho_desk.specs.declared.task.Task.TheVariants as task
+use Rattle.tacho_desk.specs.declared.want.MonthReading.TheVariants as month
+use Rattle.tacho_desk.specs.declared.want.Reading.TheVariants as reading
+use Rattle.tacho_desk.specs.declared.want.Want.{Want}
+use Rattle.tacho_desk.specs.declared.want.Want.TheVariants.{Base, Enter, File, Import, MonthReading, Reading, Register, Withdraw}
+
+-- ---- all that can be wanted
+
+abbrev all_wants : List Want
+all_wants = Register ∷ Import ∷ Enter ∷ Withdraw ∷ Base ∷ (Reading reading.Breaches) ∷ (Reading reading.Owed) ∷ (Reading reading.Entries)
+    ∷ (MonthReading month.Spans) ∷ (MonthReading month.Gaps) ∷ (MonthReading month.Sheet) ∷ File ∷ []
+
+-- which of it has an input
+pub inputs : map takes_input all_wants ≡ true ∷ true ∷ true ∷ false ∷ false ∷ false ∷ false ∷ false ∷ false ∷ false ∷ false ∷ false ∷ []
+inputs = refl
+
+-- changes the archive
+pub commands : map is_command all_wants ≡ true ∷ true ∷ true ∷ true ∷ true ∷ false ∷ false ∷ false ∷ false ∷ false ∷ false ∷ false ∷ []
+commands = refl
+
+-- and is a driver's own
+pub own : map is_own all_wants ≡ false ∷ true ∷ false ∷ false ∷ false ∷ true ∷ true ∷ true ∷ true ∷ true ∷ true ∷ true ∷ []
+own = refl
+
+-- ---- words
+
+pub both : by_part (part_of (codes "both")) (λ p. task.Import caller.Office p) ≡ Ok (task.Import caller.Office part.Both)
+both = refl
+
+pub first : part_of (codes "first") ≡ Some part.First
+first = refl
+
+pub second : part_of (codes "second") ≡ Some part.Second
+second = refl
+
+pub capital : by_part (part_of (codes "Both")) (λ p. task.Import (caller.Driver 17) p) ≡ Err (fault.Told told.Part)
+capital = refl
+
+-- ---- faults
+
+pub memory : store_fault store.Memory ≡ fault.Memory
+memory = refl
+
+pub store_failed : store_fault store.Store ≡ fault.Told (told.Store store.Store)
+store_failed = refl

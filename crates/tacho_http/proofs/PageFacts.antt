@@ -1,0 +1,130 @@
+-- What docs/FORMATS.md says of replies, held against the definitions: with another value here this file is refused. What each of the paths
+-- there names stands in RouteVectors.
+use Rattle.std.proofs.Common.{◌≡◌, List, [], ◌∷◌, ◌++◌, Ok, Err, codes, map, true, false, refl}
+use Rattle.std.specs.Fmt.{digits}
+use Rattle.tacho_card.specs.declared.fault.CardFault.TheVariants as card
+use Rattle.tacho_state.specs.declared.driver.Column.TheVariants as column
+use Rattle.tacho_state.specs.declared.fault.StoreFault.TheVariants as store
+use Rattle.tacho_time.specs.declared.fault.TimeFault.TheVariants as time
+use Rattle.tacho_sheet.specs.declared.fault.Fault.TheVariants as told
+use Rattle.tacho_sheet.specs.declared.fault.LeftOut.TheVariants as left_out
+use Rattle.tacho_sheet.specs.declared.fault.SheetFault.TheVariants as sheet
+use Rattle.tacho_desk.specs.Told.{Added, File, Line, Long}
+use Rattle.tacho_desk.specs.declared.fault.Fault.TheVariants as fault
+use Rattle.tacho_message.specs.Reply.{head_bytes}
+use Rattle.tacho_message.specs.declared.reply.MediaType.TheVariants as media
+use Rattle.tacho_message.specs.declared.reply.Status.TheVariants as status
+use Rattle.tacho_http.specs.Answer.{is_done}
+use Rattle.tacho_http.specs.Reply.{bytes_of_reply, fault_status, fixed, fixed_text, reply_to, store_status}
+
+-- ---- the statuses of refusals
+
+-- of the archive, S1 to S14
+pub archive_refuses : map store_status (store.DriverTaken ∷
+    store.KeyTaken ∷
+    store.HolderTaken ∷
+    store.UnknownDriver ∷
+    store.NotYourCard ∷
+    (store.Contradiction 0) ∷
+    store.UnknownEntry ∷
+    store.AlreadyWithdrawn ∷
+    store.NotMonday ∷
+    store.UnknownDownload ∷
+    (store.Card card.NoActivity) ∷
+    (store.Card card.Memory) ∷
+    store.Store ∷
+    store.Full ∷
+    store.Memory ∷ [])
+    ≡ status.Conflict
+    ∷ status.Conflict
+    ∷ status.Conflict
+    ∷ status.NotFound
+    ∷ status.Forbidden
+    ∷ status.Conflict
+    ∷ status.NotFound
+    ∷ status.Conflict
+    ∷ status.UnprocessableEntity
+    ∷ status.NotFound
+    ∷ status.UnprocessableEntity
+    ∷ status.Unavailable
+    ∷ status.Unavailable
+    ∷ status.Conflict
+    ∷ status.Unavailable ∷ []
+archive_refuses = refl
+
+-- of the words of a path
+pub words_are_wrong : map fault_status (told.Number ∷ told.Part ∷ told.Time time.Shape ∷ told.Time time.NoSuchDate ∷ told.Time time.OutOfRange ∷ [])
+    ≡ status.BadRequest ∷ status.BadRequest ∷ status.BadRequest ∷ status.BadRequest ∷ status.BadRequest ∷ []
+words_are_wrong = refl
+
+-- of the rows of a body
+pub rows_are_wrong : map (λ f. fault_status (told.Sheet f)) (sheet.Head ∷ (sheet.Fields 2) ∷ (sheet.Time 2) ∷ (sheet.Order 2)
+    ∷ (sheet.LeftOut 2 left_out.Crew) ∷ (sheet.Activity 2) ∷ (sheet.TooLong 2) ∷ sheet.Csv ∷ (sheet.Column column.Holder) ∷ [])
+    ≡ status.UnprocessableEntity ∷ status.UnprocessableEntity ∷ status.UnprocessableEntity ∷ status.UnprocessableEntity
+    ∷ status.UnprocessableEntity ∷ status.UnprocessableEntity ∷ status.UnprocessableEntity ∷ status.UnprocessableEntity ∷ status.UnprocessableEntity ∷ []
+rows_are_wrong = refl
+
+-- ---- fixed bodies
+
+pub bad_request : fixed_text status.BadRequest ≡ codes "bad request\n"
+bad_request = refl
+
+pub forbidden : fixed_text status.Forbidden ≡ codes "forbidden\n"
+forbidden = refl
+
+pub not_found : fixed_text status.NotFound ≡ codes "not found\n"
+not_found = refl
+
+pub method_not_allowed : fixed_text status.MethodNotAllowed ≡ codes "method not allowed\n"
+method_not_allowed = refl
+
+pub length_required : fixed_text status.LengthRequired ≡ codes "length required\n"
+length_required = refl
+
+pub payload_too_large : fixed_text status.PayloadTooLarge ≡ codes "too large\n"
+payload_too_large = refl
+
+pub fields_too_large : fixed_text status.FieldsTooLarge ≡ codes "head too large\n"
+fields_too_large = refl
+
+pub unavailable : fixed_text status.Unavailable ≡ codes "unavailable\n"
+unavailable = refl
+
+-- want of memory and a store that failed tell no more
+pub no_memory : reply_to (Err fault.Memory) ≡ fixed status.Unavailable
+no_memory = refl
+
+pub store_failed : reply_to (Err (fault.Told (told.Store store.Store))) ≡ fixed status.Unavailable
+store_failed = refl
+
+-- ---- whole replies
+
+pub another_is_forbidden : bytes_of_reply (fixed status.Forbidden)
+    ≡ codes "HTTP/1.1 403 Forbidden\r\ncontent-type: text/plain; charset=utf-8\r\ncontent-length: 10\r\nconnection: close\r\n\r\nforbidden\n"
+unfolding head_bytes digits
+another_is_forbidden = refl
+
+-- the text of `GET /me/breaches`
+pub breaches_of_his : bytes_of_reply (reply_to (Ok (Long (
+    codes "B1 Art 7 at 2024-03-04 13:00 since 2024-03-04 08:30 amount 240\n" ++ codes "EXAMINED TO 2024-03-04 17:00 unknown\n"))))
+    ≡ codes "HTTP/1.1 200 OK\r\ncontent-type: text/plain; charset=utf-8\r\ncontent-length: 100\r\nconnection: close\r\n\r\n"
+    ++ codes "B1 Art 7 at 2024-03-04 13:00 since 2024-03-04 08:30 amount 240\nEXAMINED TO 2024-03-04 17:00 unknown\n"
+unfolding head_bytes digits
+breaches_of_his = refl
+
+pub file_is_repeated : bytes_of_reply (reply_to (Ok (Line (codes "repeated driver 17\n"))))
+    ≡ codes "HTTP/1.1 200 OK\r\ncontent-type: text/plain; charset=utf-8\r\ncontent-length: 19\r\nconnection: close\r\n\r\nrepeated driver 17\n"
+unfolding head_bytes digits
+file_is_repeated = refl
+
+pub file_was_added : (reply_to (Ok (Added (codes "added driver 17 number 1\n")))).status ≡ status.Created
+file_was_added = refl
+
+pub file_of_his : reply_to (Ok (File (1 ∷ 2 ∷ []))) ≡ record { status = status.Okay; media = media.Octets; body = 1 ∷ 2 ∷ [] }
+file_of_his = refl
+
+-- ---- replies that tell that something is done
+
+pub done_is_told : map is_done (status.Okay ∷ status.Created ∷ status.BadRequest ∷ status.Forbidden ∷ status.NotFound ∷ status.Conflict ∷ status.Unavailable ∷ [])
+    ≡ true ∷ true ∷ false ∷ false ∷ false ∷ false ∷ false ∷ []
+done_is_told = refl

@@ -1,0 +1,150 @@
+ghost use Rattle.std.specs.Prelude.{◌≡◌, [], IfOk, OnOk, map, option_map};
+ghost use Rattle.tacho_http.specs.Routes.{with_route, the_table, rows_of_table, named_at, or_empty, table_row};
+ghost use Rattle.matchit.specs.Params.{AllText, named, walk};
+
+use self::Asker::{Driver, Office};
+use matchit::{InsertError, Params, Router};
+use std::alloc::Global;
+use tacho_desk::MonthReading::{Gaps, Sheet, Spans};
+use tacho_desk::Reading::{Breaches, Entries, Owed};
+use tacho_desk::Want::{
+    self, Base, Enter, File, Import, MonthReading, Reading, Register, Withdraw,
+};
+
+/// Who asks.
+#[derive(Clone, Copy, Debug, PartialEq, Eq)]
+pub(crate) enum Asker {
+    /// The office, for all drivers.
+    Office,
+    /// A driver, for himself.
+    Driver,
+}
+
+/// What stands at a path: who may ask there, and for what by GET and by POST.
+#[derive(Clone, Copy, Debug, PartialEq, Eq)]
+pub(crate) struct Place {
+    pub asker: Asker,
+    pub get: Option<Want>,
+    pub post: Option<Want>,
+}
+
+/// A path, who may ask there, and for what by GET and by POST.
+type Row = (&'static str, Asker, Option<Want>, Option<Want>);
+
+/// The paths. A part in braces stands for one part of a path that isn't empty: the number of a driver, or the other word, a part of a
+/// card file, a number, a day or a month.
+static TABLE: [Row; 19] = [
+    ("/drivers", Office, None, Some(Register)),
+    ("/cards/{word}", Office, None, Some(Import)),
+    (
+        "/drivers/{driver}/entries",
+        Office,
+        Some(Reading(Entries)),
+        Some(Enter),
+    ),
+    (
+        "/drivers/{driver}/withdraw/{word}",
+        Office,
+        None,
+        Some(Withdraw),
+    ),
+    ("/drivers/{driver}/base/{word}", Office, None, Some(Base)),
+    (
+        "/drivers/{driver}/spans/{word}",
+        Office,
+        Some(MonthReading(Spans)),
+        None,
+    ),
+    (
+        "/drivers/{driver}/gaps/{word}",
+        Office,
+        Some(MonthReading(Gaps)),
+        None,
+    ),
+    (
+        "/drivers/{driver}/sheet/{word}",
+        Office,
+        Some(MonthReading(Sheet)),
+        None,
+    ),
+    (
+        "/drivers/{driver}/breaches",
+        Office,
+        Some(Reading(Breaches)),
+        None,
+    ),
+    ("/drivers/{driver}/owed", Office, Some(Reading(Owed)), None),
+    ("/drivers/{driver}/files/{word}", Office, Some(File), None),
+    ("/me/cards/{word}", Driver, None, Some(Import)),
+    ("/me/entries", Driver, Some(Reading(Entries)), None),
+    ("/me/spans/{word}", Driver, Some(MonthReading(Spans)), None),
+    ("/me/gaps/{word}", Driver, Some(MonthReading(Gaps)), None),
+    ("/me/sheet/{word}", Driver, Some(MonthReading(Sheet)), None),
+    ("/me/breaches", Driver, Some(Reading(Breaches)), None),
+    ("/me/owed", Driver, Some(Reading(Owed)), None),
+    ("/me/files/{word}", Driver, Some(File), None),
+];
+
+/// Adds a path.
+fn add(router: &mut Router<Place>, text: &str, place: Place) -> Result<(), InsertError>
+    ensures { OnOk result (router.new ≡ with_route router.old (text.now, place)) }
+{
+    router.insert(text, place)
+}
+
+/// The paths of a table.
+fn routes_of(alloc: Global, table: &[Row]) -> Result<Router<Place>, InsertError>
+    ensures { IfOk result (λ r. r ≡ rows_of_table [] (map (λ row. table_row row.0.now row.1 row.2 row.3) table.now)) }
+{
+    let mut router = Router::new(alloc);
+    for (text, asker, get, post) in table {
+        let place = Place {
+            asker: *asker,
+            get: *get,
+            post: *post,
+        };
+        add(&mut router, text, place)?;
+    }
+    Ok(router)
+}
+
+/// The paths, ready to be asked for.
+pub(crate) fn routes(alloc: Global) -> Result<Router<Place>, InsertError>
+    ensures { IfOk result (λ r. r ≡ rows_of_table [] the_table) }
+{
+    routes_of(alloc, TABLE.as_slice())
+}
+
+/// What a path names: its place, the number of a driver, and the other word, each empty where its route has none.
+#[derive(Clone, Copy, Debug)]
+pub(crate) struct Found<'p> {
+    pub place: Place,
+    pub driver: &'p str,
+    pub word: &'p str,
+}
+
+/// What the part in braces with this name took of a path, or an empty text.
+fn part_of<'p>(params: &Params<'_, 'p>, name: &str) -> &'p str
+    requires { AllText (walk params.now.pattern.now params.now.text.now params.now.path.now params.now.names.now 0 0) }
+    ensures { result.now ≡ or_empty (named name.now (walk params.now.pattern.now params.now.text.now params.now.path.now params.now.names.now 0 0)) }
+{
+    match params.get(name) {
+        Some(text) => text,
+        None => "",
+    }
+}
+
+/// What a path names.
+pub(crate) fn find<'p>(router: &Router<Place>, path: &'p str) -> Option<Found<'p>>
+    requires { router.now ≡ rows_of_table [] the_table }
+    ensures { option_map (λ f. record { place = f.place; driver = f.driver.now; word = f.word.now }) result ≡ named_at path.now }
+{
+    match router.at(path) {
+        Ok(found) => Some(Found {
+            place: *found.value,
+            driver: part_of(&found.params, "driver"),
+            word: part_of(&found.params, "word"),
+        }),
+        Err(_) => None,
+    }
+}

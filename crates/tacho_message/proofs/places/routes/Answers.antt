@@ -1,8 +1,0 @@
-use Rattle.std.proofs.Common.{rules, ◌≡◌, map}
-use Rattle.tacho_message.specs.Routes.{the_table, table_row}
-use Rattle.tacho_message.proofs.places.routes.Goals as goal
-
-pub returns : goal.returns
-returns c =
-    let table : map (λ row. table_row row.0.now row.1 row.2 row.3) c.as_slice.result.now ≡ the_table = search rules in
-    rw table at c.routes_of.ensures
