@@ -34,15 +34,21 @@ fn open(rt: &HostRuntime, path: &str) -> Result<FileConnection, StoreFault> {
     }
 }
 
+/// Closes a connection that becomes no archive, and tells why. That it is closed on each path spares proofs that it is dropped.
+fn given_up(conn: FileConnection, fault: StoreFault) -> StoreFault {
+    let _ = conn.close();
+    fault
+}
+
 /// Makes an archive of no drivers in a file.
 fn create(rt: &HostRuntime, path: &str) -> Result<FileArchive, StoreFault> {
     let conn = open(rt, path)?;
     if !conn.is_autocommit() {
-        return Err(StoreFault::Store);
+        return Err(given_up(conn, StoreFault::Store));
     }
     match Archive::create(conn) {
         Ok(archive) => Ok(archive),
-        Err(refused) => Err(refused.0),
+        Err(refused) => Err(given_up(refused.1, refused.0)),
     }
 }
 
@@ -53,11 +59,11 @@ pub fn adopt(rt: &HostRuntime, path: &str) -> Result<FileArchive, StoreFault> {
     };
     let conn = open(rt, path)?;
     if !conn.is_autocommit() {
-        return Err(StoreFault::Store);
+        return Err(given_up(conn, StoreFault::Store));
     }
     match Archive::adopt(conn) {
         Ok(archive) => Ok(archive),
-        Err(refused) => Err(refused.0),
+        Err(refused) => Err(given_up(refused.1, refused.0)),
     }
 }
 

@@ -49,10 +49,10 @@ fn run(rt: &HostRuntime, job: Job<'_>) -> u8 {
     }
     let mut reader = Device::new(rt.stdin());
     let mut writer = Device::new(rt.stdout());
-    if matches!(job, Job::Holder) {
-        tacho_cli::holder(alloc, &mut reader, &mut writer)
-    } else {
-        tacho_cli::dump(alloc, &mut reader, &mut writer)
+    match job {
+        Job::Holder => tacho_cli::holder(alloc, &mut reader, &mut writer),
+        Job::Card { part } => tacho_cli::card(alloc, part, &mut reader, &mut writer),
+        _ => tacho_cli::dump(alloc, &mut reader, &mut writer),
     }
 }
 
