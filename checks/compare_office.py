@@ -6,6 +6,7 @@ Standard error has to be empty but where words name no command. The word is the 
 import contextlib
 import multiprocessing
 import os
+import random
 import shutil
 import sqlite3
 import subprocess
@@ -16,8 +17,11 @@ import compare_archive
 import counting
 import office_lines
 import office_rows
+import random_cards
 import rule_examples
+import slow_archive
 import slow_office
+import slow_reader
 from random_commands import hours_csv
 
 SEEDS = 80
@@ -36,6 +40,7 @@ READINGS = [
     "owed 17",
     "entries 17",
     "file 17 1",
+    "drivers",
 ]
 COMMANDS = ["register", "import both", "enter 17", "withdraw 17 1", "base 17 2024-03-11", *READINGS]
 
@@ -76,6 +81,10 @@ NO_COMMANDS = [
     ["entries", "PATH", "17", "1"],
     ["file", "PATH", "17"],
     ["file", "PATH", "17", "1", "1"],
+    ["drivers"],
+    ["drivers", "PATH", "17"],
+    ["card"],
+    ["card", "both", "17"],
     ["breaches", "PATH", "--all", "17"],
     ["breaches", "PATH", b"\xff"],
 ]
@@ -350,6 +359,47 @@ def of_inputs(program):
         yield desk.tables("a folder as input")
 
 
+# Cards
+
+CARDS = 300
+
+
+def of_cards(program):
+    """The comparisons of card files without an archive: a file of each seed by a part, and words and files that are refused."""
+    for seed in range(CARDS):
+        chance = random.Random(seed)
+        part = chance.choice(slow_archive.PARTS)
+        file = random_cards.Card(chance, random_cards.HOLDERS[0]).file()
+        text, status = slow_reader.card(file, part)
+        yield f"card of seed {seed} by {part}", told_by([program, "card", part], file), (text.encode(), status, b"")
+    for part, file, wanted in office_rows.CARDS:
+        yield f"card {part} of {len(file)} bytes", told_by([program, "card", part], file), (*wanted, b"")
+    for name, run, wanted in [("a full device", to_full, (3, b"")), ("a closed pipe", to_nobody, (3, b""))]:
+        yield f"card to {name}", run(Words(program), ["card", "both"], office_rows.DAY), wanted
+    yield "card of a bad part waits for nobody", unasked([program, "card", "whole"]), (b"P1 bad part\n", 1)
+
+
+class Words:
+    """A program without an archive, in the place of a desk."""
+
+    def __init__(self, program):
+        self.program = program
+
+    def words(self, words):
+        return [self.program, *words]
+
+
+def unasked(words):
+    """What a program prints while its input is open and nobody writes it, and its status."""
+    source, target = os.pipe()
+    try:
+        made = subprocess.run(words, stdin=source, stdout=subprocess.PIPE, timeout=20)
+        return made.stdout, made.returncode
+    finally:
+        os.close(source)
+        os.close(target)
+
+
 # Bits
 
 
@@ -416,7 +466,7 @@ def of_question(question):
 def comparisons(program):
     program = os.path.abspath(program)
     questions = [(of_rows, program, name) for name in office_rows.ROWS]
-    questions += [(part, program) for part in [of_examples, of_words, of_files, of_rights, of_outputs, of_inputs, of_bits]]
+    questions += [(part, program) for part in [of_examples, of_words, of_files, of_rights, of_outputs, of_inputs, of_cards, of_bits]]
     questions += [(of_seed, program, seed) for seed in range(SEEDS)]
     with multiprocessing.Pool(PROCESSES) as pool:
         for found in pool.imap(of_question, questions):

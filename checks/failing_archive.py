@@ -28,6 +28,7 @@ ENDED = [(b"", 1)]
 NOT_OPENED = [[(b"", 3), (b"", 0)], ENDED]
 
 REGISTER = (["register"], ANNA)
+OTHER = (["register"], ANNA.replace(b"\n17,", b"\n9,").replace(b"anna-key-1", b"carl-key-1").replace(b"3233,", b"3239,"))
 ENTER = (["enter", "17"], hours("2024-03-04 07:00,2024-03-04 08:00,rest", "2024-03-04 16:30,2024-03-04 18:00,drive"))
 CONTRADICT = (["enter", "17"], hours("2024-03-04 17:00,2024-03-04 17:40,drive", "2024-03-04 17:40,2024-03-04 19:20,work"))
 WITH_DAY = [REGISTER, (["import", "both"], DAY)]
@@ -51,6 +52,7 @@ CASES = {
     "a sheet": (WITH_DAY, (["sheet", "17", "2024-03"], b"")),
     "entries": (WITH_HOURS, (["entries", "17"], b"")),
     "a file": (WITH_DAY, (["file", "17", "1"], b"")),
+    "drivers": ([*WITH_HOURS, OTHER], (["drivers"], b"")),
 }
 
 

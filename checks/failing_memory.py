@@ -9,6 +9,7 @@ import sys
 import compare_dump
 import counting
 import programs
+from office_rows import BOTH, DAY
 
 NO_MEMORY = ("M1 no memory\n", 3)
 NO_JOB = ("", 2)
@@ -16,6 +17,10 @@ RUNS = [
     (["dump"], compare_dump.VALUE),
     (["dump"], b"\0\0\0\2" + compare_dump.VALUE[4:]),
     (["dump"], b""),
+    (["holder"], DAY),
+    (["card", "both"], DAY),
+    (["card", "both"], BOTH),
+    (["card", "whole"], DAY),
     ([], b""),
     (["help"], b""),
 ]

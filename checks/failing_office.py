@@ -22,6 +22,7 @@ GIVEN_UP = [("M1 no memory\n", 3), ("S12 store failed\n", 3), ("", 2)]
 
 ANNA = (["register"], f"driver,holder,key,base,name\n17,{HOLDER},anna-key-1,2024-03-04,Anna Berg\n".encode())
 BERT = (["register"], f"driver,holder,key,base,name\n18,{HOLDER},bert-key-1,2024-03-04,Bert Holm\n".encode())
+OTHER = (["register"], f"driver,holder,key,base,name\n9,{HOLDER[:-1]}9,carl-key-1,2024-03-04,Carl Ek\n".encode())
 ENTER = (["enter", "17"], b"start,past,activity\n2024-03-04 07:00,2024-03-04 08:00,rest\n2024-03-04 16:30,2024-03-04 18:00,drive\n")
 CONTRADICT = (["enter", "17"], b"start,past,activity\n2024-03-04 17:00,2024-03-04 18:00,rest\n2024-03-04 16:00,2024-03-04 17:30,work\n")
 WITH_DAY = [ANNA, (["import", "both"], DAY)]
@@ -45,6 +46,7 @@ CASES = {
     "what is owed": (WITH_HOURS, (["owed", "17"], b"")),
     "entries": (WITH_HOURS, (["entries", "17"], b"")),
     "a file": (WITH_HOURS, (["file", "17", "1"], b"")),
+    "drivers": ([*WITH_HOURS, OTHER], (["drivers"], b"")),
     "a bad month": (WITH_HOURS, (["sheet", "17", "2024-13"], b"")),
 }
 

@@ -8,7 +8,7 @@ from random_commands import date_text, hours_csv
 
 LINES = 30
 FIRST_DAY = 10_957  # 2000-01-01, the first day of a month that is read
-READINGS = ["spans", "gaps", "sheet", "sheet", "breaches", "breaches", "owed", "owed", "entries", "file"]
+READINGS = ["spans", "gaps", "sheet", "sheet", "breaches", "breaches", "owed", "owed", "entries", "file", "drivers"]
 BAD_DRIVERS = ["017", "0", "1000000", "", "+17", "1e3", "\u0661\u0667"]
 BAD_NUMBERS = ["0", "01", "1000001", "x", "99999999999999999999"]
 BAD_MONTHS = ["2024-13", "2024-00", "2024-3", "1999-12", "2100-01", "0000-01", "2024-03-04", "2024/03"]
@@ -25,6 +25,7 @@ BAD = {
     "gaps": [BAD_DRIVERS, BAD_MONTHS],
     "sheet": [BAD_DRIVERS, BAD_MONTHS],
     "file": [BAD_DRIVERS, BAD_NUMBERS],
+    "drivers": [],
 }
 
 
@@ -80,6 +81,8 @@ class Lines(random_commands.Commands):
         """A reading of a driver."""
         word, number = self.chance.choice(READINGS), self.number()
         driver = self.drivers.get(number)
+        if word == "drivers":
+            return [word], b""
         if word in ("spans", "gaps", "sheet"):
             return [word, str(number), self.month(driver)], b""
         if word == "file":

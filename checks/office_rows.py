@@ -238,3 +238,21 @@ ROWS = {
         done("sheet 17 2024-04", APRIL),
     ],
 }
+
+# What `card` prints of a part and a file, and its status.
+OF_DAY = "".join(f"{line}\n" for line in SPANS.replace(",", " ").splitlines()[1:])
+OF_DAY = OF_DAY.encode()
+CARDS = [
+    ("both", DAY, (OF_DAY, 0)),
+    ("first", DAY, (OF_DAY, 0)),
+    ("second", DAY, (b"C6 no activity data\n", 1)),
+    ("first", BOTH, (OF_DAY, 0)),
+    ("both", BOTH, (b"C14 file contradicts itself at 2024-03-04 08:00\n", 1)),
+    ("both", NOTHING, (b"", 0)),
+    ("both", b"", (b"C3 no identification\n", 1)),
+    ("both", LARGEST_DAY, (OF_DAY, 0)),
+    ("both", TOO_LARGE, (b"X1 too large\n", 1)),
+    ("whole", TOO_LARGE, (b"P1 bad part\n", 1)),
+    ("Both", DAY, (b"P1 bad part\n", 1)),
+    ("", DAY, (b"P1 bad part\n", 1)),
+]

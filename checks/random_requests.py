@@ -127,6 +127,11 @@ class Requests(office_lines.Lines):
         """The import of a new file by the office or by a driver."""
         return random_commands.Commands.import_new(self)
 
+    def reading(self):
+        """A reading that has a path: that of all drivers is the command line's alone."""
+        words, given = super().reading()
+        return (words, given) if words[0] in PATHS else self.reading()
+
     def spoiled(self, words, given):
         """The same with another word, or with another input."""
         if words[0] == "own":

@@ -251,6 +251,7 @@ class Office:
             "owed": lambda: self.owed(*others),
             "entries": lambda: self.entries(*others),
             "file": lambda: self.file(*others),
+            "drivers": self.drivers,
         }
         try:
             told = commands[command]()
@@ -343,3 +344,12 @@ class Office:
         """A card file of a driver: N1, S4, S10."""
         number, download = number_of(number, LAST_DRIVER), number_of(download, LAST_NUMBER)
         return self.archive.download(number, download)
+
+    def drivers(self):
+        """A line for each driver."""
+        lines = [
+            f"{driver.number} {driver.holder.hex()} {slow_reader.minute_text(1440 * driver.base)[:10]} {len(driver.downloads)} "
+            f"{len(driver.entries)} {driver.name.decode()}\n"
+            for _, driver in sorted(self.archive.drivers.items())
+        ]
+        return "".join(lines)

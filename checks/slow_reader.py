@@ -185,6 +185,11 @@ def holder(file):
     return answer(lambda: card_file(within(file, 262_144))[1].hex() + "\n")
 
 
+def card(file, part):
+    """What `tacho card` prints of a part that is one, and its status."""
+    return answer(lambda: lines_of_pairs(pairs_of_file(within(file, 262_144), part)))
+
+
 def spans(file, part):
     """What a part of a card file gives, or the line of its first fault."""
     return answer(lambda: lines_of_pairs(pairs_of_file(file, part)))[0]

@@ -3,9 +3,9 @@ use crate::same::assert_same;
 use std::alloc::{AllocError, Global};
 use std::process::Abort;
 use std::test::Fail;
-use tacho_cli::{Job, Usage, dump, holder, parse};
+use tacho_cli::{Job, Usage, card, dump, holder, parse};
 use tacho_desk::{MonthReading, Reading, Want};
-use tacho_time::Device;
+use tacho_time::{Device, Source};
 
 /// Two days: rest, work and drive on 4 March 2024, and rest on the 5th, whose last word is still open.
 const TWO_DAYS: &str =
@@ -152,7 +152,17 @@ fn inputs_have_a_limit(rt: HostRuntime) -> Result<(), Fail> {
         b"C1 truncated block at 262142\n".as_slice(),
     );
     assert_same(&rt, status, 1);
+    let (text, status) = listed(rt.alloc(), "both", &file);
+    assert_same(
+        &rt,
+        text.as_slice(),
+        b"C1 truncated block at 262142\n".as_slice(),
+    );
+    assert_same(&rt, status, 1);
     file.push(0)?;
+    let (text, status) = listed(rt.alloc(), "both", &file);
+    assert_same(&rt, text.as_slice(), b"X1 too large\n".as_slice());
+    assert_same(&rt, status, 1);
     let (text, status) = held(rt.alloc(), &file);
     assert_same(&rt, text.as_slice(), b"X1 too large\n".as_slice());
     assert_same(&rt, status, 1);
@@ -223,6 +233,82 @@ fn holders_are_told(rt: HostRuntime) -> Result<(), Fail> {
     Ok(())
 }
 
+/// What `card` writes of an input over memory, read by the part of this name, and its status.
+fn listed(alloc: Global, part: &str, input: &[u8]) -> (Vec<u8>, u8) {
+    let mut reader = Device::new(input);
+    let mut writer = Device::new(Vec::new(alloc));
+    let status = card(alloc, part, &mut reader, &mut writer);
+    (writer.into_inner(), status)
+}
+
+/// Two days in the block of the first generation; and 4 March there, and the 5th in that of the second.
+const TWO_DAYS_IN_ONE: &str =
+    "0504000028 00000014 0000001465e50f0000010064000011e019fe23fc 0014001065e6608000020000000011e0";
+
+const A_DAY_IN_EACH: &str = "0504000018 00000000 0000001465e50f0000010064000011e019fe23fc \
+    0504020014 00000000 0000001065e6608000020000000011e0";
+
+const FIRST_DAY_LINES: &str = "\
+2024-03-04 00:00 2024-03-04 08:00 rest single
+2024-03-04 08:00 2024-03-04 08:30 work single
+2024-03-04 08:30 2024-03-04 17:00 drive single
+";
+
+const SECOND_DAY_LINE: &str = "2024-03-05 00:00 2024-03-05 08:00 rest single\n";
+
+/// Parts, what stands in a file behind the identification, and the text and the status of `card`.
+static FILES: [(&str, &str, &str, u8); 12] = [
+    ("both", TWO_DAYS_IN_ONE, TWO_DAYS_LINES, 0),
+    ("first", TWO_DAYS_IN_ONE, TWO_DAYS_LINES, 0),
+    ("second", TWO_DAYS_IN_ONE, "C6 no activity data\n", 1),
+    ("both", A_DAY_IN_EACH, TWO_DAYS_LINES, 0),
+    ("first", A_DAY_IN_EACH, FIRST_DAY_LINES, 0),
+    ("second", A_DAY_IN_EACH, SECOND_DAY_LINE, 0),
+    // The two generations give one minute two marks.
+    (
+        "both",
+        "0504000014 00000000 0000001065e50f0000010000000011e0 0504020014 00000000 0000001065e50f0000010000180011e0",
+        "C14 file contradicts itself at 2024-03-04 00:00\n",
+        1,
+    ),
+    // A file with a fault, one without activity data, and data that are too short.
+    ("both", "05040100", "C1 truncated block at 22\n", 1),
+    ("first", "", "C6 no activity data\n", 1),
+    (
+        "both",
+        "0504000004 00000000",
+        "C7 activity data too short\n",
+        1,
+    ),
+    // No part has these names.
+    ("Both", TWO_DAYS_IN_ONE, "P1 bad part\n", 1),
+    ("", "05040100", "P1 bad part\n", 1),
+];
+
+#[test]
+fn cards_are_listed(rt: HostRuntime) -> Result<(), Fail> {
+    for (part, digits, lines, status) in FILES {
+        let mut input = bytes_of(&rt, rt.alloc(), IDENTIFICATION);
+        input.extend_from_slice(&bytes_of(&rt, rt.alloc(), digits))?;
+        let (text, answered) = listed(rt.alloc(), part, &input);
+        assert!(rt; text.as_slice() == lines.as_bytes(), "{part} of {digits}");
+        assert!(rt; answered == status, "{part} of {digits}");
+    }
+    Ok(())
+}
+
+#[test]
+fn a_bad_part_is_refused_before_the_input(rt: HostRuntime) -> Result<(), Fail> {
+    let mut reader = Faulty::new(rt.alloc(), b"", 7, 0);
+    let mut writer = Device::new(Vec::new(rt.alloc()));
+    let status = card(rt.alloc(), "third", &mut reader, &mut writer);
+    let text = writer.into_inner();
+    assert_same(&rt, text.as_slice(), b"P1 bad part\n".as_slice());
+    assert_same(&rt, status, 1);
+    assert!(rt; !Source::failed(&reader));
+    Ok(())
+}
+
 #[test]
 fn readers_fail_at_each_call(rt: HostRuntime) -> Result<(), Fail> {
     let input = bytes_of(&rt, rt.alloc(), TWO_DAYS);
@@ -282,9 +368,10 @@ fn writers_fail_at_each_call(rt: HostRuntime) -> Result<(), Fail> {
 }
 
 /// Words, and the job that they name.
-static JOBS: [(&[&str], Job<'static>); 17] = [
+static JOBS: [(&[&str], Job<'static>); 19] = [
     (&["tacho", "dump"], Job::Dump),
     (&["tacho", "holder"], Job::Holder),
+    (&["tacho", "card", "first"], Job::Card { part: "first" }),
     (&["tacho", "init", "a.db"], Job::Init { archive: "a.db" }),
     (
         &["tacho", "register", "a.db"],
@@ -395,6 +482,15 @@ static JOBS: [(&[&str], Job<'static>); 17] = [
         },
     ),
     (
+        &["tacho", "drivers", "a.db"],
+        Job::AtDesk {
+            archive: "a.db",
+            want: Want::Drivers,
+            driver: "",
+            word: "",
+        },
+    ),
+    (
         &["tacho", "serve", "a.db", "office-key-1", "1", "1000000"],
         Job::Serve {
             archive: "a.db",
@@ -444,7 +540,7 @@ fn words_name_jobs(rt: HostRuntime) -> Result<(), Fail> {
         let given = strings(alloc, words)?;
         let named = parse(alloc, &given).map_err(|_| "words that name a job")?;
         assert_same(&rt, named, job);
-        let has_archive = !matches!(job, Job::Dump | Job::Holder);
+        let has_archive = !matches!(job, Job::Dump | Job::Holder | Job::Card { .. });
         assert_same(&rt, named.archive(), has_archive.then_some("a.db"));
         assert_same(
             &rt,
@@ -475,6 +571,7 @@ Usage: tacho <COMMAND>
 Commands:
   dump      Prints the spans of the value of an EF Driver_Activity_Data (0504), a line each: tacho dump < FILE
   holder    Prints the holder of a whole card download file in hexadecimal digits: tacho holder < FILE
+  card      Prints the spans of a whole card download file, a line each: tacho card PART < FILE, of which PART is both, first or second
   init      Makes an archive of no drivers in a file that isn't there
   register  Adds a driver: tacho register ARCHIVE < CSV with the head driver,holder,key,base,name
   import    Keeps a card download file of a driver: tacho import ARCHIVE PART < FILE, of which PART is both, first or second
@@ -488,6 +585,7 @@ Commands:
   owed      Prints the weekly rests that are owed
   entries   Prints the hours that were entered by hand
   file      Prints a card download file that was kept
+  drivers   Prints the drivers, a line each: number, holder, base, how many card files and entries, and name
   serve     Answers COUNT connections on PORT of 127.0.0.1, a request each: the office's by its KEY, drivers' by their own
   help      Print this message or the help of the given subcommand(s)
 
@@ -513,9 +611,23 @@ Options:
   -h, --help  Print help
 ";
 
+const HELP_OF_BASE: &str = "\
+Sets the Monday from which a driver is examined: DATE is YYYY-MM-DD
+
+Usage: tacho base <archive> <driver> <date>
+
+Arguments:
+  <archive>  The path of the archive's file
+  <driver>   The driver's number, 1 to 999999
+  <date>     A Monday, as 2024-03-04
+
+Options:
+  -h, --help  Print help
+";
+
 const NO_COMMAND: &str = "\
 error: 'tacho' requires a subcommand but one was not provided
-  [subcommands: dump, holder, init, register, import, enter, withdraw, base, spans, gaps, sheet, breaches, owed, entries, file, serve, help]
+  [subcommands: dump, holder, card, init, register, import, enter, withdraw, base, spans, gaps, sheet, breaches, owed, entries, file, drivers, serve, help]
 
 Usage: tacho <COMMAND>
 
@@ -558,6 +670,8 @@ fn other_words_tell_how_they_are_used(rt: HostRuntime) -> Result<(), Fail> {
     assert_same(&rt, help_of_dump.as_str(), HELP_OF_DUMP);
     let help_of_holder = told(&rt, alloc, &["tacho", "help", "holder"])?;
     assert_same(&rt, help_of_holder.as_str(), HELP_OF_HOLDER);
+    let help_of_base = told(&rt, alloc, &["tacho", "help", "base"])?;
+    assert_same(&rt, help_of_base.as_str(), HELP_OF_BASE);
     let no_command = told(&rt, alloc, &["tacho"])?;
     assert_same(&rt, no_command.as_str(), NO_COMMAND);
     let other_command = told(&rt, alloc, &["tacho", "weigh"])?;

@@ -89,7 +89,7 @@ fn archive_after(alloc: Global, count: usize) -> Result<Shelf, Fail> {
 }
 
 /// Jobs that have no input.
-static WITHOUT_INPUT: [Job<'static>; 9] = [
+static WITHOUT_INPUT: [Job<'static>; 10] = [
     Job::AtDesk {
         archive: "a.db",
         want: Want::Base,
@@ -143,6 +143,12 @@ static WITHOUT_INPUT: [Job<'static>; 9] = [
         want: Want::Withdraw,
         driver: "17",
         word: "1",
+    },
+    Job::AtDesk {
+        archive: "a.db",
+        want: Want::Drivers,
+        driver: "",
+        word: "",
     },
 ];
 
@@ -223,5 +229,82 @@ fn writers_fail_at_each_call(rt: HostRuntime) -> Result<(), Fail> {
             );
         }
     }
+    Ok(())
+}
+
+/// What is done at an archive before its drivers are listed: the wants, drivers and words, and their inputs.
+static BEFORE_THE_LIST: [(Want, &str, &str, &[u8]); 7] = [
+    (
+        Want::Register,
+        "",
+        "",
+        b"driver,holder,key,base,name\n17,0d4431323334353637383930313233,anna-key-1,2024-03-04,Anna Berg\n",
+    ),
+    (
+        Want::Register,
+        "",
+        "",
+        b"driver,holder,key,base,name\n5,0d4431323334353637383930313234,ben-key-12,2024-03-11,Ben Olsen\n",
+    ),
+    (
+        Want::Register,
+        "",
+        "",
+        b"driver,holder,key,base,name\n100,1144ff00a0b0c0d0e0f00102030405,cara-key-1,2024-01-01,Cara\n",
+    ),
+    (
+        Want::Import,
+        "",
+        "both",
+        b"\x05\x20\x00\x00\x11\x0dD123456789012300\x05\x04\x00\x00\x28\x00\x00\x00\x14\x00\x00\x00\x14\x65\xe5\x0f\x00\x00\x01\x00\x64\x00\x00\x11\xe0\x19\xfe\x23\xfc\x00\x14\x00\x10\x65\xe6\x60\x80\x00\x02\x00\x00\x00\x00\x11\xe0",
+    ),
+    (
+        Want::Enter,
+        "17",
+        "",
+        b"start,past,activity\n2024-03-06 00:00,2024-03-06 08:00,rest\n2024-03-06 08:00,2024-03-06 09:00,work\n",
+    ),
+    (Want::Withdraw, "17", "1", b""),
+    // An entry of another driver.
+    (
+        Want::Enter,
+        "5",
+        "",
+        b"start,past,activity\n2024-03-06 00:00,2024-03-06 08:00,rest\n",
+    ),
+];
+
+const DRIVERS: &str = "\
+5 0d4431323334353637383930313234 2024-03-11 0 1 Ben Olsen
+17 0d4431323334353637383930313233 2024-03-04 1 2 Anna Berg
+100 1144ff00a0b0c0d0e0f00102030405 2024-01-01 0 0 Cara
+";
+
+/// The list of all drivers.
+const LIST: Job<'static> = Job::AtDesk {
+    archive: "a.db",
+    want: Want::Drivers,
+    driver: "",
+    word: "",
+};
+
+#[test]
+fn drivers_are_listed_by_their_numbers(rt: HostRuntime) -> Result<(), Fail> {
+    let mut shelf = Shelf::new(rt.alloc());
+    let (written, status) = answer(rt.alloc(), &mut shelf, LIST, b"")?;
+    assert!(rt; written.is_empty() && status == 0, "of no drivers");
+    for (want, driver, word, input) in BEFORE_THE_LIST {
+        let job = Job::AtDesk {
+            archive: "a.db",
+            want,
+            driver,
+            word,
+        };
+        let (_, status) = answer(rt.alloc(), &mut shelf, job, input)?;
+        assert!(rt; status == 0, "{want:?}");
+    }
+    let (written, status) = answer(rt.alloc(), &mut shelf, LIST, b"")?;
+    assert!(rt; written.as_slice() == DRIVERS.as_bytes());
+    assert!(rt; status == 0);
     Ok(())
 }

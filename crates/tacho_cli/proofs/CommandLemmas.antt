@@ -1,7 +1,7 @@
--- What `dump` leaves, by what its parts answered.
-use Rattle.std.proofs.Common.{◌≡◌, ℕ, ◌+◌, ◌<◌, ◌≤◌, ◌⊎◌, inl, inr, ◌↔◌, Bool, true, false, List, [], Option, Some, None, Ok, Err, length, refl, sym, ap, subst, arith}
+-- What the commands on a card leave, by what their parts answered.
+use Rattle.std.proofs.Common.{◌≡◌, ℕ, ◌+◌, ◌<◌, ◌≤◌, ◌⊎◌, inl, inr, ◌↔◌, ◌∙◌, Bool, true, false, List, [], Option, Some, None, Result, Ok, Err, length, refl, sym, ap, subst, arith}
 use Rattle.std.proofs.lemmas.List.{length-replicate}
-use Rattle.std.specs.Prelude.{IfSome, replicate}
+use Rattle.std.specs.Prelude.{IfSome, flat_map, replicate}
 use Rattle.tacho_time.specs.declared.whole.ReadFault.{ReadFault}
 use Rattle.tacho_time.specs.declared.whole.ReadFault.TheVariants as read
 use Rattle.tacho_card.specs.declared.fault.CardFault.{CardFault}
@@ -9,6 +9,15 @@ use Rattle.tacho_card.specs.declared.fault.CardFault.TheVariants as card
 use Rattle.tacho_sheet.specs.declared.fault.Fault.TheVariants as told
 use Rattle.tacho_desk.specs.declared.fault.Fault.TheVariants as fault
 use Rattle.tacho_desk.specs.Fault.{read_fault}
+use Rattle.tacho_card.specs.declared.file.Part.{Part}
+use Rattle.tacho_card.specs.CardFile.{FileBlock, ReadsFile, card_file}
+use Rattle.tacho_card.proofs.FileReadingLaw.{one_reading}
+use Rattle.tacho_state.specs.Content.{FileTells, ReadTells}
+use Rattle.tacho_state.specs.Steps.{Content}
+use Rattle.tacho_state.proofs.ContentLemmas.{some_content}
+use Rattle.tacho_time.specs.Text.{span_line}
+use Rattle.tacho_time.specs.declared.span.Span.{Span}
+use Rattle.tacho_cli.specs.Card.{IsCardBy, IsListed}
 use Rattle.tacho_cli.specs.Dump.{IsDump, IsDumped, ReadsValue}
 use Rattle.tacho_cli.specs.Holder.{IsHolder, card_holder, holder_reply}
 use Rattle.tacho_cli.specs.Command.{Reply, fault_reply, card_reply, IsReplied, IsWrittenOut, Finishes}
@@ -78,3 +87,39 @@ not_dumped input f within (inr e) = inr e
 pub not_held : (input : List ℕ) (f : CardFault) → length input ≤ 262144 → (card_holder input ≡ Err f) ⊎ (f ≡ card.Memory) → IsHolder input (card_reply f) ⊎ (f ≡ card.Memory)
 not_held input f within (inl reads) = inl (inr (within, ap holder_reply (sym reads)))
 not_held input f within (inr e) = inr e
+
+-- what a command leaves where a word of its own was refused, and nothing was read
+pub unasked : (Wanted : List ℕ → Reply → Type 0) (unread : Option (List ℕ)) (reader writer : Bool) (old new : Option (List ℕ))
+    (status : ℕ) (reply : Reply)
+    → reader ≡ false → ((input : List ℕ) → Wanted input reply) → IsWrittenOut writer old new reply status
+    → Finishes Wanted unread reader writer old new status
+unasked Wanted unread reader writer old new status reply sound wanted tells =
+    let i = any_input unread in
+    replied Wanted unread reader writer old new status i.input reply (λ e. cc) i.told (inl (wanted i.input)) tells
+
+-- the reply to what a file tells, read by a part
+pub card_listed : (part : Part) (input text : List ℕ) → length input ≤ 262144 → IsListed part input text
+    → IsCardBy (Some part) input (record { text = text; status = 0 })
+card_listed part input text within is = inr (within, (Ok is.0, is.1, ap (λ (t : List ℕ). record { text = t; status = 0 }) is.2))
+
+-- the reply to a fault of a file
+pub not_listed : (part : Part) (input : List ℕ) (f : CardFault) → length input ≤ 262144 → FileTells part input (Err f) ⊎ (f ≡ card.Memory)
+    → IsCardBy (Some part) input (card_reply f) ⊎ (f ≡ card.Memory)
+not_listed part input f within (inl tells) = inl (inr (within, (Err f, tells, refl)))
+not_listed part input f within (inr e) = inr e
+
+-- the lines of what a file's blocks give
+pub lines_listed : (part : Part) (bytes : List ℕ) (blocks : List FileBlock) (spans : List Span) (text : List ℕ)
+    → card_file bytes ≡ Ok blocks
+    → ReadsFile part blocks (Ok spans) → text ≡ flat_map span_line spans → IsListed part bytes text
+lines_listed part bytes blocks spans text read reads lines = by (some_content part bytes).0 (some_content part bytes).1
+  where
+    by : (content : Result Content CardFault) → FileTells part bytes content → IsListed part bytes text
+    by (Ok content) tells =
+        let told = subst (λ (r : Result (List FileBlock) CardFault). ReadTells part r (Ok content)) read tells in
+        let same = one_reading part blocks (Ok spans) (Ok content.spans) reads told.1 in
+        let one : spans ≡ content.spans = cc in
+        (content, tells, lines ∙ ap (flat_map span_line) one)
+    by (Err f) tells =
+        let told = subst (λ (r : Result (List FileBlock) CardFault). ReadTells part r (Err f)) read tells in
+        let no = one_reading part blocks (Ok spans) (Err f) reads told in cc

@@ -1,32 +1,27 @@
 -- What is wanted of the office's archive leaves, by what its parts did.
 use Rattle.std.proofs.Common.{◌≡◌, ℕ, ◌<◌, ◌≤◌, ◌⊎◌, inl, inr, ◌↔◌, Bool, true, false, List, [], length}
-use Rattle.std.proofs.Common.{Option, Result, Ok, Err, refl, sym, ap, subst, arith}
+use Rattle.std.proofs.Common.{Option, Ok, Err, refl, sym, subst, arith}
 use Rattle.std.proofs.lemmas.List.{length-replicate}
-use Rattle.std.specs.Prelude.{IfSome, IsErrAnd, replicate}
+use Rattle.std.specs.Prelude.{IfSome, replicate}
 use Rattle.tacho_time.specs.declared.whole.ReadFault.{ReadFault}
 use Rattle.tacho_time.specs.declared.whole.ReadFault.TheVariants as read
 use Rattle.tacho_state.specs.State.{State}
 use Rattle.tacho_state.specs.declared.caller.Caller.TheVariants as caller
 use Rattle.tacho_sheet.specs.declared.fault.Fault.TheVariants as told
-use Rattle.tacho_desk.specs.Doing.{AsksOnly, Doing, Done, IsKept, Serves, Stops}
-use Rattle.tacho_desk.specs.Fault.{IsGivenUp, read_fault}
+use Rattle.tacho_desk.specs.Doing.{AsksOnly, Serves}
+use Rattle.tacho_desk.specs.Fault.{read_fault}
 use Rattle.tacho_desk.specs.Tasks.{Does, IsFaulty, IsSound, want_of}
-use Rattle.tacho_desk.specs.Told.{Answer, answer_of}
+use Rattle.tacho_desk.specs.Told.{Answer}
 use Rattle.tacho_desk.specs.Wants.{is_command, takes_input}
 use Rattle.tacho_desk.specs.Words.{IsTask, Wanted}
 use Rattle.tacho_desk.specs.declared.fault.Fault.{Fault}
 use Rattle.tacho_desk.specs.declared.fault.Fault.TheVariants as fault
 use Rattle.tacho_desk.specs.declared.task.Task.{Task}
 use Rattle.tacho_desk.specs.declared.task.Task.TheVariants as task
-use Rattle.tacho_desk.specs.declared.text.Text.{Text}
 use Rattle.tacho_desk.specs.declared.want.Want.{Want}
+use Rattle.tacho_desk.proofs.MeantLemmas.{nothing, served_as}
 use Rattle.tacho_cli.specs.Office.{AreFaulty, AreSound, DoesOver, HasNotRead, HasRead, IsFaultyOver, IsSoundOver, Performed, Performs}
 use Rattle.tacho_cli.proofs.CommandLemmas.{any_input, some_input}
-
--- the answer of a result that is this fault
-pub faulty : (result : Result Text Fault) (f : Fault) → IsErrAnd result (λ e. e ≡ f) → answer_of result ≡ Err f
-faulty (Err e) f h = ap Err h
-faulty (Ok text) f h = absurd h
 
 -- why an input was not read
 pub not_read : (unread : Option (List ℕ)) (failed : Bool) (f : ReadFault) → (f ≡ read.TooLarge → IfSome unread (λ all. 262144 < length all))
@@ -34,32 +29,6 @@ pub not_read : (unread : Option (List ℕ)) (failed : Bool) (f : ReadFault) → 
 not_read unread failed read.TooLarge large is = (large refl, λ e. let no = is.1 e in cc)
 not_read unread failed read.Failed large is = is.0 refl
 not_read unread failed read.Memory large is = λ e. let no = is.1 e in cc
-
--- ---- one meaning for another
-
--- of what was done
-done_as : (stands : State → Type 0) (s : State) (A B : Doing) (answer : Answer)
-    → ((answer : Answer) (after : State) → A answer after → B answer after)
-    → Done stands s A answer → Done stands s B answer
-done_as stands s A B (Ok told) h d = (d.0, d.1, h (Ok told) d.0 d.2)
-done_as stands s A B (Err f) h (st, inl d) = (st, inl (h (Err f) s d))
-done_as stands s A B (Err f) h (st, inr g) = (st, inr g)
-
--- of what is kept
-kept_as : (stands : State → Type 0) (leaves : List State → Type 0) (A B : Doing) (answer : Answer)
-    → ((answer : Answer) (after : State) → A answer after → B answer after)
-    → IsKept stands leaves A answer → IsKept stands leaves B answer
-kept_as stands leaves A B (Ok told) h d = (d.0, d.1, h (Ok told) d.0 d.2, d.3)
-kept_as stands leaves A B (Err f) h d = tt
-
--- of what a stop leaves
-stops_as : (leaves : List State → Type 0) (past : List State) (A B : Doing) (answer : Answer)
-    → ((answer : Answer) (after : State) → A answer after → B answer after)
-    → Stops leaves past A answer → Stops leaves past B answer
-stops_as leaves past A B (Ok told) h (inl l) = inl l
-stops_as leaves past A B (Ok told) h (inr a) = inr (a.0, h (Ok told) a.0 a.1, a.2)
-stops_as leaves past A B (Err f) h (inl l) = inl l
-stops_as leaves past A B (Err f) h (inr a) = inr (a.0, (a.1.0, a.1.1, h a.1.0 a.1.1 a.1.2, a.1.3))
 
 -- ---- tasks
 
@@ -79,6 +48,7 @@ sound_without (task.Base n day) input e = tt
 sound_without (task.Reading n text) input e = tt
 sound_without (task.MonthReading n m text) input e = tt
 sound_without (task.File n number) input e = tt
+sound_without task.Drivers input e = tt
 
 -- what is wanted, by its words, and by whether the reader failed
 module _ (w : Want) (driver word : List ℕ) (unread : Option (List ℕ)) (failed : Bool) where
@@ -118,29 +88,6 @@ module _ (w : Want) (driver word : List ℕ) (unread : Option (List ℕ)) (faile
 
   -- at an archive
   module _ {K : Type 0} (stands : K → State → Type 0) (is_clean is_live : K → Type 0) (leaves : K → List State → Type 0) where
-    -- what a call does
-    served_as : (old new : K) (command : Bool) (answer : Answer) (A B : State → Doing)
-        → ((s : State) (answer : Answer) (after : State) → A s answer after → B s answer after)
-        → Serves stands is_clean is_live leaves old new command answer A → Serves stands is_clean is_live leaves old new command answer B
-    served_as old new command answer A B h d = record {
-      clean = d.clean;
-      live = d.live;
-      done = λ clean s st. done_as (stands new) s (A s) (B s) answer (h s) (d.done clean s st);
-      kept = λ is clean s st. kept_as (stands new) (leaves new) (A s) (B s) answer (h s) (d.kept is clean s st);
-      crash = λ clean s past st l. stops_as (leaves new) past (A s) (B s) answer (h s) (d.crash clean s past st l);
-    }
-
-    -- nothing was done, since this fault is wanted, or memory failed
-    nothing : (keeper : K) (command : Bool) (f : Fault) (Does : State → Doing) → ((s : State) → Does s (Err f) s ⊎ IsGivenUp f)
-        → Serves stands is_clean is_live leaves keeper keeper command (Err f) Does
-    nothing keeper command f Does h = record {
-      clean = λ clean. clean;
-      live = λ clean. tt;
-      done = λ clean s st. (st, h s);
-      kept = λ is clean s st. tt;
-      crash = λ clean s past st l. inl l;
-    }
-
     -- the words were refused
     pub refused_words : (keeper : K) (f : Fault) → failed ≡ false → IsTask w caller.Office driver word (Err f)
         → Performed stands is_clean is_live leaves keeper keeper w driver word unread failed (Err f)
@@ -150,7 +97,7 @@ module _ (w : Want) (driver word : List ℕ) (unread : Option (List ℕ)) (faile
           input = i.input;
           read = i.told;
           device = λ e. absurd (cc);
-          serves = λ _. nothing keeper (is_command w) f (Performs w driver word i.input) (λ s. inl (Err f, is, (refl, refl)));
+          serves = λ _. nothing stands is_clean is_live leaves keeper (is_command w) f (Performs w driver word i.input) (λ s. inl (Err f, is, (refl, refl)));
           asks = λ _. inr (refl, inl (Err f, is, refl));
         }
 
@@ -166,7 +113,7 @@ module _ (w : Want) (driver word : List ℕ) (unread : Option (List ℕ)) (faile
           device = λ e. absurd (cc);
           serves = λ _. subst
               (λ (v : Want). Serves stands is_clean is_live leaves old new (is_command v) answer (Performs w driver word i.input))
-              same (served_as old new (is_command (want_of t)) answer (Does t []) (Performs w driver word i.input)
+              same (served_as stands is_clean is_live leaves old new (is_command (want_of t)) answer (Does t []) (Performs w driver word i.input)
               (λ s told after does. does_without t i.input s told after is none does) d);
           asks = λ _. inl (
             t,
@@ -185,7 +132,7 @@ module _ (w : Want) (driver word : List ℕ) (unread : Option (List ℕ)) (faile
           input = i.input;
           read = i.told;
           device = λ e. absurd (h.1 e);
-          serves = λ _. nothing keeper (is_command w) (fault.Told told.TooLarge) (Performs w driver word i.input)
+          serves = λ _. nothing stands is_clean is_live leaves keeper (is_command w) (fault.Told told.TooLarge) (Performs w driver word i.input)
               (λ s. inl (too_large t i.input s is one i.holds));
           asks = λ _. inr (refl, inl (large_is_faulty t i.input is one i.holds));
         }
@@ -204,7 +151,7 @@ module _ (w : Want) (driver word : List ℕ) (unread : Option (List ℕ)) (faile
           input = i.input;
           read = i.told;
           device = λ e. absurd (h e);
-          serves = λ _. nothing keeper (is_command w) fault.Memory (Performs w driver word i.input) (λ s. inr tt);
+          serves = λ _. nothing stands is_clean is_live leaves keeper (is_command w) fault.Memory (Performs w driver word i.input) (λ s. inr tt);
           asks = λ _. inr (refl, inr refl);
         }
     unread_input keeper t (fault.Told (told.Time f)) is one h = absurd h
@@ -227,7 +174,7 @@ module _ (w : Want) (driver word : List ℕ) (unread : Option (List ℕ)) (faile
           device = λ e. absurd (h.sound e);
           serves = λ _. subst
               (λ (v : Want). Serves stands is_clean is_live leaves old new (is_command v) answer (Performs w driver word input))
-              same (served_as old new (is_command (want_of t)) answer (Does t input) (Performs w driver word input)
+              same (served_as stands is_clean is_live leaves old new (is_command (want_of t)) answer (Does t input) (Performs w driver word input)
               (λ s told after does. does_over t input s told after is one h.within does) d);
           asks = λ _. asks_over old new t input answer is one h.within asks;
         }

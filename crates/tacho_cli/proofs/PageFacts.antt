@@ -28,6 +28,9 @@ dump = refl
 holder : act_named (codes "holder") the_table ≡ Some act.Holder
 holder = refl
 
+whole_card : act_named (codes "card") the_table ≡ Some act.Card
+whole_card = refl
+
 init : act_named (codes "init") the_table ≡ Some act.Init
 init = refl
 
@@ -67,6 +70,9 @@ entries = refl
 file : act_named (codes "file") the_table ≡ Some (act.AtDesk want.File)
 file = refl
 
+drivers : act_named (codes "drivers") the_table ≡ Some (act.AtDesk want.Drivers)
+drivers = refl
+
 serve : act_named (codes "serve") the_table ≡ Some act.Serve
 serve = refl
 
@@ -79,11 +85,11 @@ abbrev given : Subcommand → Text
 given row = row.0 ++ flat_map (λ word. codes " " ++ word) row.1
 
 all_given : map given the_table
-    ≡ codes "dump" ∷ codes "holder" ∷ codes "init archive" ∷ codes "register archive" ∷ codes "import archive part"
+    ≡ codes "dump" ∷ codes "holder" ∷ codes "card part" ∷ codes "init archive" ∷ codes "register archive" ∷ codes "import archive part"
     ∷ codes "enter archive driver" ∷ codes "withdraw archive driver number" ∷ codes "base archive driver date"
     ∷ codes "spans archive driver month" ∷ codes "gaps archive driver month" ∷ codes "sheet archive driver month"
     ∷ codes "breaches archive driver" ∷ codes "owed archive driver" ∷ codes "entries archive driver"
-    ∷ codes "file archive driver number" ∷ codes "serve archive key port count" ∷ []
+    ∷ codes "file archive driver number" ∷ codes "drivers archive" ∷ codes "serve archive key port count" ∷ []
 all_given = refl
 
 -- a word that may be there

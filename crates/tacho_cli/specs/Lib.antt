@@ -2,5 +2,6 @@ pub mod Fault
 pub mod Command
 pub mod Dump
 pub mod Holder
+pub mod Card
 pub mod Words
 pub mod Office

@@ -1,4 +1,4 @@
--- The command line, and the job that its words name.
+-- Trusted in part: The command line, and the job that its words name.
 use Rattle.std.specs.Prelude.{◌≡◌, ◌≢◌, ◌⊎◌, ℕ, Bool, true, false, List, [], ◌∷◌, Option, None, Some, bytes_eq, codes, if◌then◌else◌}
 use Rattle.tacho_sheet.specs.Number.{HasNoNumber, IsNumberText}
 use Rattle.clap.specs.Words.{App, Row, Rule, Text, first_of, new_app, new_rule, with_rule, with_subcommand}
@@ -44,6 +44,7 @@ abbrev pub the_table : List Subcommand
 the_table =
     (codes "dump", [], act.Dump)
     ∷ (codes "holder", [], act.Holder)
+    ∷ (codes "card", codes "part" ∷ [], act.Card)
     ∷ (codes "init", codes "archive" ∷ [], act.Init)
     ∷ (codes "register", codes "archive" ∷ [], act.AtDesk want.Register)
     ∷ (codes "import", codes "archive" ∷ codes "part" ∷ [], act.AtDesk want.Import)
@@ -57,6 +58,7 @@ the_table =
     ∷ (codes "owed", codes "archive" ∷ codes "driver" ∷ [], act.AtDesk (want.Reading reading.Owed))
     ∷ (codes "entries", codes "archive" ∷ codes "driver" ∷ [], act.AtDesk (want.Reading reading.Entries))
     ∷ (codes "file", codes "archive" ∷ codes "driver" ∷ codes "number" ∷ [], act.AtDesk want.File)
+    ∷ (codes "drivers", codes "archive" ∷ [], act.AtDesk want.Drivers)
     ∷ (codes "serve", codes "archive" ∷ codes "key" ∷ codes "port" ∷ codes "count" ∷ [], act.Serve)
     ∷ []
 
@@ -75,6 +77,7 @@ act_named name (row ∷ table) = if bytes_eq row.0 name then Some row.2 else act
 abbrev pub has_input : Job → Bool
 has_input job.Dump = true
 has_input job.Holder = true
+has_input (job.Card part) = true
 has_input (job.AtDesk archive want driver word) = takes_input want
 has_input other = false
 
@@ -90,6 +93,7 @@ IsNumbered rows id most n = (text : Text) × IsWord rows id text × IsNumberText
 abbrev pub has_driver : Want → Bool
 has_driver want.Register = false
 has_driver want.Import = false
+has_driver want.Drivers = false
 has_driver other = true
 
 -- the name of the other word
@@ -117,6 +121,7 @@ IsDriverText w = IsWordText (driver_id (has_driver w))
 abbrev pub IsJobOf : Act → List Row → Job → Type 0
 IsJobOf act.Dump rows j = j ≡ job.Dump
 IsJobOf act.Holder rows j = j ≡ job.Holder
+IsJobOf act.Card rows (job.Card part) = IsWord rows (codes "part") part.now
 IsJobOf act.Init rows (job.Init archive) = IsWord rows (codes "archive") archive.now
 IsJobOf (act.AtDesk w) rows (job.AtDesk archive want driver word) =
     (want ≡ w) × IsWord rows (codes "archive") archive.now × IsDriverText w rows driver.now × IsWordText (word_id w) rows word.now
@@ -139,6 +144,7 @@ at_desk j = false
 abbrev pub archive_of : Job → Option Text
 archive_of job.Dump = None
 archive_of job.Holder = None
+archive_of (job.Card part) = None
 archive_of (job.Init archive) = Some archive.now
 archive_of (job.AtDesk archive want driver word) = Some archive.now
 archive_of (job.Serve archive key port count) = Some archive.now

@@ -10,6 +10,8 @@ pub(crate) enum Act {
     Dump,
     /// It prints the holder of a card file.
     Holder,
+    /// It prints the spans of a card file.
+    Card,
     /// It makes an archive.
     Init,
     /// What is wanted is done at an archive.
@@ -22,7 +24,7 @@ pub(crate) enum Act {
 pub(crate) fn names_driver(want: Want) -> bool
     ensures { result ≡ has_driver want }
 {
-    !matches!(want, Want::Register | Want::Import)
+    !matches!(want, Want::Register | Want::Import | Want::Drivers)
 }
 
 /// The name of the other word, if there is one.
@@ -34,6 +36,6 @@ pub(crate) fn word_of(want: Want) -> Option<&'static str>
         Want::Withdraw | Want::File => Some("number"),
         Want::Base => Some("date"),
         Want::MonthReading(_) => Some("month"),
-        Want::Register | Want::Enter | Want::Reading(_) => None,
+        Want::Register | Want::Enter | Want::Reading(_) | Want::Drivers => None,
     }
 }

@@ -1,15 +1,18 @@
-ghost use Rattle.std.specs.Prelude.{◌≡◌, ◌≤◌, ◌⊎◌, Err, length, false, flat_map, IfOk, MatchResult, string_bytes};
+ghost use Rattle.std.specs.Prelude.{◌≡◌, ◌≤◌, ◌⊎◌, Err, None, Some, length, false, flat_map, IfOk, MatchResult, string_bytes};
 ghost use Rattle.tacho_time.specs.Text.{span_line};
 ghost use Rattle.tacho_card.specs.declared.fault.CardFault.TheVariants.{Memory};
-ghost use Rattle.tacho_cli.specs.Command.{Finishes};
+ghost use Rattle.tacho_state.specs.Content.{FileTells};
+ghost use Rattle.tacho_desk.specs.Words.{part_of as part_named};
+ghost use Rattle.tacho_cli.specs.Card.{IsCard, IsCardBy, IsListed, no_part_reply};
+ghost use Rattle.tacho_cli.specs.Command.{Finishes, IsWrittenOut};
 ghost use Rattle.tacho_cli.specs.Dump.{IsDump, IsDumped, ReadsValue};
 ghost use Rattle.tacho_cli.specs.Holder.{IsHolder, IsHeld, card_holder, holder_line};
 
 use crate::reply::{tell, tell_fault};
 use std::alloc::{AllocError, Global};
-use tacho_card::{CardFault, CardFile, Cyclic, spans_of};
-use tacho_desk::Fault;
-use tacho_sheet::push_byte;
+use tacho_card::{CardFault, CardFile, Cyclic, Part, spans, spans_of};
+use tacho_desk::{Fault, part_of};
+use tacho_sheet::{Fault as ToldFault, push_bytes};
 use tacho_time::{Sink, Source, Span, read_all, write_span};
 
 /// How many bytes an EF Driver_Activity_Data has at the most.
@@ -75,6 +78,49 @@ pub fn holder<R: Source, W: Sink>(alloc: Global, reader: &mut R, writer: &mut W)
     }
 }
 
+/// `tacho card PART`: reads one card download file, of at most 262,144 bytes, by a part of it (`both`, `first` or `second`; another
+/// word is P1, and then nothing is read), and writes the spans that it gives, a line each, or the line of the first of C1 to C14.
+/// Answers the program's status: 0 done, 1 refused, 3 where memory or a device failed.
+pub fn card<R: Source, W: Sink>(alloc: Global, part: &str, reader: &mut R, writer: &mut W) -> u8
+    requires reader { R.has_failed reader.old ≡ false }
+    requires writer { W.has_failed writer.old ≡ false }
+    ensures told { Finishes (IsCard part.now) (R.unread reader.old) (R.has_failed reader.new) (W.has_failed writer.new) (W.written writer.old) (W.written writer.new) result }
+    ensures alone { part_named part.now ≡ None → (reader.new ≡ reader.old)
+        × IsWrittenOut (W.has_failed writer.new) (W.written writer.old) (W.written writer.new) no_part_reply result }
+{
+    let Some(part) = part_of(part.as_bytes()) else {
+        return tell_fault(writer, Fault::Told(ToldFault::Part));
+    };
+    card_by(alloc, part, reader, writer)
+}
+
+/// The spans of a card file, read by a part.
+fn card_by<R: Source, W: Sink>(alloc: Global, part: Part, reader: &mut R, writer: &mut W) -> u8
+    requires reader { R.has_failed reader.old ≡ false }
+    requires writer { W.has_failed writer.old ≡ false }
+    ensures { Finishes (IsCardBy (Some part)) (R.unread reader.old) (R.has_failed reader.new)
+        (W.has_failed writer.new) (W.written writer.old) (W.written writer.new) result }
+{
+    let file = match read_all(alloc, reader, FILE_LIMIT) {
+        Ok(file) => file,
+        Err(fault) => return tell_fault(writer, Fault::from(fault)),
+    };
+    match card_text(alloc, part, &file) {
+        Ok(text) => tell(writer, text.as_bytes(), 0),
+        Err(fault) => tell_fault(writer, Fault::from(fault)),
+    }
+}
+
+/// The lines of what a card file gives, read by a part.
+fn card_text(alloc: Global, part: Part, bytes: &[u8]) -> Result<String, CardFault>
+    ensures { MatchResult result (λ text. IsListed part bytes.now (string_bytes text))
+        (λ fault. FileTells part bytes.now (Err fault) ⊎ (fault ≡ Memory)) }
+{
+    let file = CardFile::read(bytes)?;
+    let spans = spans(alloc, &file, part)?;
+    Ok(span_lines(alloc, &spans)?)
+}
+
 /// The line of a card file's holder.
 fn holder_text(alloc: Global, bytes: &[u8]) -> Result<String, CardFault>
     ensures { MatchResult result (λ text. IsHeld bytes.now (string_bytes text)) (λ fault. (card_holder bytes.now ≡ Err fault) ⊎ (fault ≡ Memory)) }
@@ -88,9 +134,7 @@ fn line_of_holder(alloc: Global, holder: &[u8]) -> Result<String, AllocError>
     ensures { IfOk result (λ text. string_bytes text ≡ holder_line holder.now) }
 {
     let mut line = String::new(alloc);
-    for byte in holder {
-        push_byte(&mut line, *byte)?;
-    }
+    push_bytes(&mut line, holder)?;
     line.push_str("\n")?;
     Ok(line)
 }

@@ -7,6 +7,10 @@ pub enum Job<'a> {
     Dump,
     /// The holder of a card file.
     Holder,
+    /// The spans of a card file, read by the part that the text names.
+    Card {
+        part: &'a str,
+    },
     /// An archive of no drivers, in a file that is made.
     Init {
         archive: &'a str,
@@ -43,7 +47,7 @@ impl<'a> Job<'a> {
         ensures { option_map (λ path. path.now) result ≡ archive_of self.entry }
     {
         match self {
-            Job::Dump | Job::Holder => None,
+            Job::Dump | Job::Holder | Job::Card { .. } => None,
             Job::Init { archive } | Job::AtDesk { archive, .. } | Job::Serve { archive, .. } =>
                 Some(archive),
         }

@@ -8,7 +8,7 @@ mod office;
 mod reply;
 mod words;
 
-pub use commands::{dump, holder};
+pub use commands::{card, dump, holder};
 pub use job::Job;
 pub use office::perform;
 pub use words::{Usage, parse};

@@ -40,7 +40,7 @@ impl From<AllocError> for Usage {
 type Row = (&'static str, &'static str, &'static [&'static str], Act);
 
 /// The subcommands.
-static TABLE: [Row; 16] = [
+static TABLE: [Row; 18] = [
     (
         "dump",
         "Prints the spans of the value of an EF Driver_Activity_Data (0504), a line each: tacho dump < FILE",
@@ -52,6 +52,12 @@ static TABLE: [Row; 16] = [
         "Prints the holder of a whole card download file in hexadecimal digits: tacho holder < FILE",
         &[],
         Act::Holder,
+    ),
+    (
+        "card",
+        "Prints the spans of a whole card download file, a line each: tacho card PART < FILE, of which PART is both, first or second",
+        &["part"],
+        Act::Card,
     ),
     (
         "init",
@@ -132,6 +138,12 @@ static TABLE: [Row; 16] = [
         Act::AtDesk(Want::File),
     ),
     (
+        "drivers",
+        "Prints the drivers, a line each: number, holder, base, how many card files and entries, and name",
+        &["archive"],
+        Act::AtDesk(Want::Drivers),
+    ),
+    (
         "serve",
         "Answers COUNT connections on PORT of 127.0.0.1, a request each: the office's by its KEY, drivers' by their own",
         &["archive", "key", "port", "count"],
@@ -144,12 +156,35 @@ const LAST_PORT: u32 = 65_535;
 
 const LAST_COUNT: u32 = 1_000_000;
 
+/// What a word stands for, in words for its user.
+fn meaning_of(id: &str) -> &'static str {
+    if id == "archive" {
+        "The path of the archive's file"
+    } else if id == "driver" {
+        "The driver's number, 1 to 999999"
+    } else if id == "part" {
+        "Which of the file's blocks are read: first (of the first generation), second (of the second), or both"
+    } else if id == "number" {
+        "The number of the entry or the card file, as it was told when it came"
+    } else if id == "date" {
+        "A Monday, as 2024-03-04"
+    } else if id == "month" {
+        "A month, as 2024-03"
+    } else if id == "key" {
+        "The office's key: 8 to 64 letters, digits and hyphens"
+    } else if id == "port" {
+        "The port on 127.0.0.1, 1 to 65535"
+    } else {
+        "How many connections are answered, 1 to 1000000"
+    }
+}
+
 /// A word that has to be there.
 fn word<'a>(alloc: Global, id: &'a str) -> Arg<'a>
     ensures rule { rule_of result ≡ word_rule id.entry.now }
     ensures global { result.global ≡ false }
 {
-    Arg::new(alloc, id).required(true)
+    Arg::new(alloc, id).required(true).help(meaning_of(id))
 }
 
 /// A command with its words.
@@ -247,6 +282,10 @@ fn job_of<'a>(act: Act, words: &ArgMatches<'a>) -> Result<Job<'a>, Usage>
     match act {
         Act::Dump => Ok(Job::Dump),
         Act::Holder => Ok(Job::Holder),
+        Act::Card => match text_of(words, "part") {
+            Some(part) => Ok(Job::Card { part }),
+            None => Err(Usage::Parser),
+        },
         Act::Init => match text_of(words, "archive") {
             Some(archive) => Ok(Job::Init { archive }),
             None => Err(Usage::Parser),

@@ -1,4 +1,5 @@
 mod StepLemmas
+pub mod MeantLemmas
 mod ServeLemmas
 mod ShownLemmas
 mod OwnLemmas

@@ -77,6 +77,7 @@ refusals (task.Base n day) input s f after h = steps_stay _ s (rebased n day s) 
 refusals (task.Reading n text) input s f after h = reading_stays text n s (Err f) after h
 refusals (task.MonthReading n month text) input s f after h = month_stays text month n s (Err f) after h
 refusals (task.File n number) input s f after h = h.1
+refusals task.Drivers input s f after h = h.1
 
 -- ---- rows
 
@@ -233,6 +234,7 @@ same_answers n task.Register his input s other e answer after h = absurd his
 same_answers n (task.Enter m) his input s other e answer after h = absurd his
 same_answers n (task.Withdraw m number) his input s other e answer after h = absurd his
 same_answers n (task.Base m day) his input s other e answer after h = absurd his
+same_answers n task.Drivers his input s other e answer after h = absurd his
 
 -- and changes nobody else's
 pub others_stay : OthersStay
@@ -247,6 +249,7 @@ others_stay n task.Register his input s answer after h m other = absurd his
 others_stay n (task.Enter k) his input s answer after h m other = absurd his
 others_stay n (task.Withdraw k number) his input s answer after h m other = absurd his
 others_stay n (task.Base k day) his input s answer after h m other = absurd his
+others_stay n task.Drivers his input s answer after h m other = absurd his
 
 -- ---- one answer
 
@@ -331,3 +334,4 @@ module _ (one_content : (p : Part) (bytes : List ℕ) (a b : Result Content Card
   one_answer n (task.Enter m) his input s a b after left h k = absurd his
   one_answer n (task.Withdraw m number) his input s a b after left h k = absurd his
   one_answer n (task.Base m day) his input s a b after left h k = absurd his
+  one_answer n task.Drivers his input s a b after left h k = absurd his

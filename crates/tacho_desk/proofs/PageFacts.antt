@@ -1,5 +1,5 @@
 -- What docs/FORMATS.md says of what can be wanted, held against the definitions: with another value here this file is refused.
-use Rattle.std.proofs.Common.{◌≡◌, List, [], ◌∷◌, Ok, Err, Some, None, Bool, codes, map, true, false, refl}
+use Rattle.std.proofs.Common.{◌≡◌, List, [], ◌∷◌, Ok, Err, Some, codes, map, true, false, refl}
 use Rattle.tacho_card.specs.declared.file.Part.TheVariants as part
 use Rattle.tacho_state.specs.declared.caller.Caller.TheVariants as caller
 use Rattle.tacho_state.specs.declared.fault.StoreFault.TheVariants as store
@@ -12,24 +12,26 @@ use Rattle.tacho_desk.specs.declared.task.Task.TheVariants as task
 use Rattle.tacho_desk.specs.declared.want.MonthReading.TheVariants as month
 use Rattle.tacho_desk.specs.declared.want.Reading.TheVariants as reading
 use Rattle.tacho_desk.specs.declared.want.Want.{Want}
-use Rattle.tacho_desk.specs.declared.want.Want.TheVariants.{Base, Enter, File, Import, MonthReading, Reading, Register, Withdraw}
+use Rattle.tacho_desk.specs.declared.want.Want.TheVariants.{Base, Drivers, Enter, File, Import, MonthReading, Reading, Register, Withdraw}
 
 -- ---- all that can be wanted
 
 abbrev all_wants : List Want
 all_wants = Register ∷ Import ∷ Enter ∷ Withdraw ∷ Base ∷ (Reading reading.Breaches) ∷ (Reading reading.Owed) ∷ (Reading reading.Entries)
-    ∷ (MonthReading month.Spans) ∷ (MonthReading month.Gaps) ∷ (MonthReading month.Sheet) ∷ File ∷ []
+    ∷ (MonthReading month.Spans) ∷ (MonthReading month.Gaps) ∷ (MonthReading month.Sheet) ∷ File ∷ Drivers ∷ []
 
 -- which of it has an input
-pub inputs : map takes_input all_wants ≡ true ∷ true ∷ true ∷ false ∷ false ∷ false ∷ false ∷ false ∷ false ∷ false ∷ false ∷ false ∷ []
+pub inputs : map takes_input all_wants
+    ≡ true ∷ true ∷ true ∷ false ∷ false ∷ false ∷ false ∷ false ∷ false ∷ false ∷ false ∷ false ∷ false ∷ []
 inputs = refl
 
 -- changes the archive
-pub commands : map is_command all_wants ≡ true ∷ true ∷ true ∷ true ∷ true ∷ false ∷ false ∷ false ∷ false ∷ false ∷ false ∷ false ∷ []
+pub commands : map is_command all_wants
+    ≡ true ∷ true ∷ true ∷ true ∷ true ∷ false ∷ false ∷ false ∷ false ∷ false ∷ false ∷ false ∷ false ∷ []
 commands = refl
 
 -- and is a driver's own
-pub own : map is_own all_wants ≡ false ∷ true ∷ false ∷ false ∷ false ∷ true ∷ true ∷ true ∷ true ∷ true ∷ true ∷ true ∷ []
+pub own : map is_own all_wants ≡ false ∷ true ∷ false ∷ false ∷ false ∷ true ∷ true ∷ true ∷ true ∷ true ∷ true ∷ true ∷ false ∷ []
 own = refl
 
 -- ---- words

@@ -1,6 +1,5 @@
 -- What functions of the tasks do, by what their parts did.
-use Rattle.std.proofs.Common.{◌≡◌, ◌⊎◌, inl, inr, ℕ, Bool, true, List, [], ◌∷◌, Result, Ok, Err, refl, sym, ap, subst}
-use Rattle.std.specs.Prelude.{IsErrAnd}
+use Rattle.std.proofs.Common.{◌≡◌, ◌⊎◌, inl, inr, ℕ, true, List, Result, Ok, Err, refl, sym, ap, subst}
 use Rattle.tacho_card.specs.declared.fault.CardFault.{CardFault}
 use Rattle.tacho_card.specs.declared.file.Part.{Part}
 use Rattle.tacho_state.specs.Acts.{Acts, Answers, IsRefused, caller_number}
@@ -19,19 +18,13 @@ use Rattle.tacho_sheet.specs.Entries.{IsRead}
 use Rattle.tacho_sheet.specs.Rows.{IsReaderFault}
 use Rattle.tacho_sheet.specs.declared.fault.SheetFault.{SheetFault}
 use Rattle.tacho_sheet.specs.declared.fault.SheetFault.TheVariants as sheet
-use Rattle.tacho_desk.specs.Doing.{AsksOnly, Doing, Done, IsKept, IsUnread, Serves, Steps, Stops, in_words}
+use Rattle.tacho_desk.specs.Doing.{AsksOnly, Done, IsUnread, Serves, Steps, Stops, in_words}
 use Rattle.tacho_desk.specs.Fault.{IsGivenUp, sheet_fault, store_fault}
 use Rattle.tacho_desk.specs.Tasks.{Enters, EntersRead, Imports, IsFaulty, IsSound, OrCsv, Registers, RegistersRead, imported_told}
-use Rattle.tacho_desk.specs.Told.{Answer, Told, answer_of}
-use Rattle.tacho_desk.specs.declared.fault.Fault.{Fault}
+use Rattle.tacho_desk.specs.Told.{Answer, Told}
 use Rattle.tacho_desk.specs.declared.task.Task.TheVariants as task
-use Rattle.tacho_desk.specs.declared.text.Text.{Text}
+use Rattle.tacho_desk.proofs.MeantLemmas.{nothing, served_as}
 use Rattle.tacho_desk.proofs.StepLemmas.{Keeps, TellsNoFile, imported_keeps}
-
--- the answer of a result that is this fault
-pub faulty : (result : Result Text Fault) (f : Fault) → IsErrAnd result (λ e. e ≡ f) → answer_of result ≡ Err f
-faulty (Err e) f h = ap Err h
-faulty (Ok text) f h = absurd h
 
 -- what an import answered
 abbrev pub answered : StoreFault → Result Imported StoreFault
@@ -39,31 +32,6 @@ answered f = Err f
 
 abbrev pub taken : Imported → Result Imported StoreFault
 taken x = Ok x
-
--- ---- one meaning for another
-
--- of the answer and the state
-done_as : (stands : State → Type 0) (s : State) (A B : Doing) (answer : Answer) → ((answer : Answer) (after : State) → A answer after → B answer after)
-    → Done stands s A answer → Done stands s B answer
-done_as stands s A B (Ok told) h d = (d.0, d.1, h (Ok told) d.0 d.2)
-done_as stands s A B (Err f) h (st, inl d) = (st, inl (h (Err f) s d))
-done_as stands s A B (Err f) h (st, inr g) = (st, inr g)
-
--- of what is kept
-kept_as : (stands : State → Type 0) (leaves : List State → Type 0) (A B : Doing) (answer : Answer)
-    → ((answer : Answer) (after : State) → A answer after → B answer after)
-    → IsKept stands leaves A answer → IsKept stands leaves B answer
-kept_as stands leaves A B (Ok told) h d = (d.0, d.1, h (Ok told) d.0 d.2, d.3)
-kept_as stands leaves A B (Err f) h d = tt
-
--- of what a stop leaves
-stops_as : (leaves : List State → Type 0) (past : List State) (A B : Doing) (answer : Answer)
-    → ((answer : Answer) (after : State) → A answer after → B answer after)
-    → Stops leaves past A answer → Stops leaves past B answer
-stops_as leaves past A B (Ok told) h (inl l) = inl l
-stops_as leaves past A B (Ok told) h (inr a) = inr (a.0, h (Ok told) a.0 a.1, a.2)
-stops_as leaves past A B (Err f) h (inl l) = inl l
-stops_as leaves past A B (Err f) h (inr a) = inr (a.0, (a.1.0, a.1.1, h a.1.0 a.1.1 a.1.2, a.1.3))
 
 -- ---- what refused a task
 
@@ -128,29 +96,6 @@ unread Is f (inl is) = inl (f, is, refl)
 unread Is f (inr e) = inr (ap sheet_fault e)
 
 module _ {K : Type 0} (stands : K → State → Type 0) (is_clean is_live : K → Type 0) (leaves : K → List State → Type 0) where
-  -- a call that does the one does the other
-  pub served_as : (old new : K) (command : Bool) (answer : Answer) (A B : State → Doing)
-      → ((s : State) (answer : Answer) (after : State) → A s answer after → B s answer after)
-      → Serves stands is_clean is_live leaves old new command answer A → Serves stands is_clean is_live leaves old new command answer B
-  served_as old new command answer A B h d = record {
-    clean = d.clean;
-    live = d.live;
-    done = λ clean s st. done_as (stands new) s (A s) (B s) answer (h s) (d.done clean s st);
-    kept = λ is clean s st. kept_as (stands new) (leaves new) (A s) (B s) answer (h s) (d.kept is clean s st);
-    crash = λ clean s past st l. stops_as (leaves new) past (A s) (B s) answer (h s) (d.crash clean s past st l);
-  }
-
-  -- nothing was done, since this fault is wanted, or memory failed
-  pub nothing : (keeper : K) (command : Bool) (f : Fault) (Does : State → Doing) → ((s : State) → Does s (Err f) s ⊎ IsGivenUp f)
-      → Serves stands is_clean is_live leaves keeper keeper command (Err f) Does
-  nothing keeper command f Does h = record {
-    clean = λ clean. clean;
-    live = λ clean. tt;
-    done = λ clean s st. (st, h s);
-    kept = λ is clean s st. tt;
-    crash = λ clean s past st l. inl l;
-  }
-
   -- ---- CSV
 
   -- where memory was wanting the text was given up
@@ -163,7 +108,7 @@ module _ {K : Type 0} (stands : K → State → Type 0) (is_clean is_live : K �
   pub unread_lines : (keeper : K) (n : ℕ) (input : List ℕ) (f : SheetFault) → IsReaderFault f ⊎ IsRead input (Err f)
       → Serves stands is_clean is_live leaves keeper keeper true (Err (sheet_fault f)) (Enters n input)
   unread_lines keeper n input f h =
-      nothing keeper true (sheet_fault f) (Enters n input) (λ s. said s (given_up (IsRead input) f (read_fault (IsRead input) f h)))
+      nothing stands is_clean is_live leaves keeper true (sheet_fault f) (Enters n input) (λ s. said s (given_up (IsRead input) f (read_fault (IsRead input) f h)))
     where
       said : (s : State) → OrCsv (IsRead input) (Err f) ⊎ IsGivenUp (sheet_fault f)
           → Enters n input s (Err (sheet_fault f)) s ⊎ IsGivenUp (sheet_fault f)
@@ -175,14 +120,14 @@ module _ {K : Type 0} (stands : K → State → Type 0) (is_clean is_live : K �
       → IsRead input (Ok lines) → Serves stands is_clean is_live leaves old new true answer (λ s. EntersRead n s (Ok lines))
       → Serves stands is_clean is_live leaves old new true answer (Enters n input)
   read_lines old new answer n input lines is d =
-      served_as old new true answer (λ s. EntersRead n s (Ok lines)) (Enters n input)
+      served_as stands is_clean is_live leaves old new true answer (λ s. EntersRead n s (Ok lines)) (Enters n input)
       (λ s answer after does. (Ok lines, inl is, does)) d
 
   -- a driver's text that was not read
   pub unread_driver : (keeper : K) (input : List ℕ) (f : SheetFault) → IsReaderFault f ⊎ IsDriverRead input (Err f)
       → Serves stands is_clean is_live leaves keeper keeper true (Err (sheet_fault f)) (Registers input)
   unread_driver keeper input f h =
-      nothing keeper true (sheet_fault f) (Registers input) (λ s. said s (given_up (IsDriverRead input) f (read_fault (IsDriverRead input) f h)))
+      nothing stands is_clean is_live leaves keeper true (sheet_fault f) (Registers input) (λ s. said s (given_up (IsDriverRead input) f (read_fault (IsDriverRead input) f h)))
     where
       said : (s : State) → OrCsv (IsDriverRead input) (Err f) ⊎ IsGivenUp (sheet_fault f)
           → Registers input s (Err (sheet_fault f)) s ⊎ IsGivenUp (sheet_fault f)
@@ -194,7 +139,7 @@ module _ {K : Type 0} (stands : K → State → Type 0) (is_clean is_live : K �
       → IsDriverRead input (Ok r) → Serves stands is_clean is_live leaves old new true answer (λ s. RegistersRead s (Ok r))
       → Serves stands is_clean is_live leaves old new true answer (Registers input)
   read_driver old new answer input r is d =
-      served_as old new true answer (λ s. RegistersRead s (Ok r)) (Registers input)
+      served_as stands is_clean is_live leaves old new true answer (λ s. RegistersRead s (Ok r)) (Registers input)
       (λ s answer after does. (Ok r, inl is, does)) d
 
 -- the text of CSV was refused, and the archive was asked nothing

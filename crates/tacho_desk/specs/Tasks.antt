@@ -1,4 +1,4 @@
--- What each task tells of an archive, and the state after it.
+-- Trusted: What each task tells of an archive, and the state after it.
 use Rattle.std.specs.Prelude.{◌≡◌, ◌⊎◌, ℕ, ◌*◌, ◌==◌, List, Result, Ok, Err, codes, flat_map, if◌then◌else◌, length}
 use Rattle.tacho_line.specs.declared.horizon.Horizon.{Horizon}
 use Rattle.tacho_card.specs.declared.fault.CardFault.{CardFault}
@@ -12,6 +12,7 @@ use Rattle.tacho_state.specs.Content.{FileTells, part_number}
 use Rattle.tacho_state.specs.Registration.{Registration}
 use Rattle.tacho_state.specs.State.{Driver, State, held_spans}
 use Rattle.tacho_state.specs.Steps.{Content, registered, imported, entered, withdrawn, rebased, listed, downloaded}
+use Rattle.tacho_state.specs.Summaries.{AreSummaries, Summary}
 use Rattle.tacho_state.specs.declared.caller.Caller.{Caller}
 use Rattle.tacho_state.specs.declared.entry.EntryLine.{EntryLine}
 use Rattle.tacho_state.specs.declared.fault.StoreFault.TheVariants as store
@@ -23,8 +24,8 @@ use Rattle.tacho_sheet.specs.Done.{base_line, entered_text, imported_text, numbe
 use Rattle.tacho_sheet.specs.Driver.{IsDriverRead}
 use Rattle.tacho_sheet.specs.Entries.{IsRead, Lines}
 use Rattle.tacho_sheet.specs.Reports.{breach_text, owed_text, IsGapText, IsMonthSheet, IsSpanCsv}
-use Rattle.tacho_sheet.specs.Text.{entry_line}
-use Rattle.tacho_desk.specs.Doing.{Doing, Lists, Refuses, Shows, Steps}
+use Rattle.tacho_sheet.specs.Text.{entry_line, summary_line}
+use Rattle.tacho_desk.specs.Doing.{Doing, IsText, Lists, Refuses, Shows, Steps}
 use Rattle.tacho_desk.specs.Fault.{sheet_fault, store_fault}
 use Rattle.tacho_desk.specs.Told.{Told, Added, Line, Long, File}
 use Rattle.tacho_desk.specs.declared.fault.Fault.{Fault}
@@ -103,6 +104,11 @@ ShowsMonth month.Sheet m n s = Shows (λ d. OfReport (λ breaches debts horizon.
 abbrev pub ShowsFile : ℕ → ℕ → State → Doing
 ShowsFile n number s = Lists (λ file. File file) s (downloaded n number s)
 
+-- the list of all drivers: a line for each, the lower number first
+abbrev pub ShowsDrivers : State → Doing
+ShowsDrivers s answer after =
+    IsText (λ text. (summaries : List Summary) × AreSummaries s summaries × (text ≡ flat_map summary_line summaries)) answer × (after ≡ s)
+
 -- ---- tasks
 
 -- what is wanted by a task
@@ -115,6 +121,7 @@ want_of (task.Base n day) = want.Base
 want_of (task.Reading n text) = want.Reading text
 want_of (task.MonthReading n m text) = want.MonthReading text
 want_of (task.File n number) = want.File
+want_of task.Drivers = want.Drivers
 
 -- what a task tells over its input, and the state after it
 abbrev pub Does : Task → List ℕ → State → Doing
@@ -126,6 +133,7 @@ Does (task.Base n day) input s = Rebases n day s
 Does (task.Reading n text) input s = ShowsReading text n s
 Does (task.MonthReading n m text) input s = ShowsMonth text m n s
 Does (task.File n number) input s = ShowsFile n number s
+Does task.Drivers input s = ShowsDrivers s
 
 -- ---- inputs
 

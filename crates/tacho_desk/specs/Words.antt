@@ -1,4 +1,4 @@
--- The words of a task: numbers, dates, months and parts, as they stand on a command line or in a path.
+-- Trusted: The words of a task: numbers, dates, months and parts, as they stand on a command line or in a path.
 use Rattle.std.specs.Prelude.{◌≡◌, ◌⊎◌, ℕ, List, Option, Some, None, Result, Ok, Err, bytes_eq, codes, if◌then◌else◌}
 use Rattle.tacho_time.specs.Reading.{day_at, month_at}
 use Rattle.tacho_time.specs.declared.fault.TimeFault.{TimeFault}
@@ -77,3 +77,4 @@ IsTask (want.MonthReading text) c driver word wanted =
     ByDriver c driver (λ n w. w ≡ by_time (month_at word) (λ month. Ok (task.MonthReading n month text))) wanted
 IsTask want.File c driver word wanted =
     ByDriver c driver (λ n. ByNumber most_number word (λ k w. w ≡ Ok (task.File n k))) wanted
+IsTask want.Drivers c driver word wanted = wanted ≡ Ok task.Drivers

@@ -17,4 +17,4 @@ pub use fault::Fault;
 pub use task::{Task, carry_out};
 pub use text::Text;
 pub use want::{MonthReading, Reading, Want};
-pub use words::task_of;
+pub use words::{part_of, task_of};

@@ -2,7 +2,7 @@
 
 ghost use Rattle.std.specs.Prelude.{false};
 ghost use Rattle.tacho_desk.specs.Doing.{Serves};
-ghost use Rattle.tacho_desk.specs.Tasks.{ShowsFile, ShowsMonth, ShowsReading};
+ghost use Rattle.tacho_desk.specs.Tasks.{ShowsDrivers, ShowsFile, ShowsMonth, ShowsReading};
 ghost use Rattle.tacho_desk.specs.Told.{answer_of};
 ghost use Rattle.tacho_desk.specs.declared.want.MonthReading.TheVariants as of_month;
 ghost use Rattle.tacho_desk.specs.declared.want.Reading.TheVariants as reading;
@@ -11,7 +11,9 @@ use crate::fault::Fault;
 use crate::text::Text;
 use crate::want::{MonthReading, Reading};
 use std::alloc::Global;
-use tacho_sheet::{breach_text, entry_text, gap_text, month_sheet, owed_text, span_csv};
+use tacho_sheet::{
+    breach_text, driver_text, entry_text, gap_text, month_sheet, owed_text, span_csv,
+};
 use tacho_state::Keeper;
 use tacho_time::{Month, month_range};
 
@@ -111,4 +113,12 @@ pub(crate) fn file<K: Keeper>(
     ensures { Serves K.stands K.is_clean K.is_live K.leaves keeper.old keeper.new false (answer_of result) (ShowsFile driver number) }
 {
     Ok(Text::File(keeper.download(alloc, driver, number)?))
+}
+
+/// The list of all drivers.
+pub(crate) fn drivers<K: Keeper>(alloc: Global, keeper: &mut K) -> Result<Text, Fault>
+    ensures { Serves K.stands K.is_clean K.is_live K.leaves keeper.old keeper.new false (answer_of result) ShowsDrivers }
+{
+    let drivers = keeper.drivers(alloc)?;
+    Ok(Text::Long(driver_text(alloc, &drivers)?))
 }

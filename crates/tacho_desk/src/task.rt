@@ -53,6 +53,8 @@ pub enum Task {
         driver: u32,
         number: u32,
     },
+    /// The list of all drivers.
+    Drivers,
 }
 
 /// Does a task at an archive, over its input. A refusal changes nothing; nor does want of memory or a failure of the store. What
@@ -80,5 +82,6 @@ pub fn carry_out<K: Keeper>(
             reading,
         } => readings::show_month(alloc, keeper, driver, month, reading),
         Task::File { driver, number } => readings::file(alloc, keeper, driver, number),
+        Task::Drivers => readings::drivers(alloc, keeper),
     }
 }

@@ -17,6 +17,8 @@ pub enum Want {
     MonthReading(MonthReading),
     /// A card file that was kept.
     File,
+    /// The list of all drivers.
+    Drivers,
 }
 
 /// A text that is read of a driver.

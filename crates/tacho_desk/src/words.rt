@@ -45,7 +45,7 @@ fn number_of(text: &[u8]) -> Result<u32, Fault>
 }
 
 /// The part of a card file that a word names: `both`, `first` or `second`.
-fn part_of(word: &[u8]) -> Option<Part>
+pub fn part_of(word: &[u8]) -> Option<Part>
     ensures { result ≡ part_named word.now }
 {
     if word == b"both".as_slice() {
@@ -113,5 +113,6 @@ pub fn task_of(want: Want, caller: Caller, driver: &[u8], word: &[u8]) -> Result
             (Ok(driver), Ok(number)) => Ok(Task::File { driver, number }),
             (Err(fault), _) | (_, Err(fault)) => Err(fault),
         },
+        Want::Drivers => Ok(Task::Drivers),
     }
 }

@@ -1,6 +1,6 @@
 -- What docs/FORMATS.md says of replies, held against the definitions: with another value here this file is refused. What each of the paths
 -- there names stands in RouteVectors.
-use Rattle.std.proofs.Common.{◌≡◌, List, [], ◌∷◌, ◌++◌, Ok, Err, codes, map, true, false, refl}
+use Rattle.std.proofs.Common.{◌≡◌, [], ◌∷◌, ◌++◌, Ok, Err, codes, map, true, false, refl}
 use Rattle.std.specs.Fmt.{digits}
 use Rattle.tacho_card.specs.declared.fault.CardFault.TheVariants as card
 use Rattle.tacho_state.specs.declared.driver.Column.TheVariants as column

@@ -1,7 +1,7 @@
 -- What the functions of a request come to, by what their parts did.
 use Rattle.std.proofs.Common.{◌≡◌, ◌==◌, ◌||◌, ◌++◌, ◌∙◌, ◌∷◌, if◌then◌else◌, codes, nat_lt, ℕ, List, [], Bool, true, false, Option, Some, None, Result, Ok, Err, bytes_eq, refl, sym, ap, subst, ◌⊎◌, inl, inr, append_assoc}
 use Rattle.std.specs.Io.KnownBytes.{Consumes}
-use Rattle.std.specs.Prelude.{IfOk, IfSome, IsErr, OnOk, MatchResult}
+use Rattle.std.specs.Prelude.{IfSome, IsErr, OnOk, MatchResult}
 use Rattle.httparse.specs.Grammar.{RequestHead}
 use Rattle.httparse.proofs.GrammarLemmas.{request_unique}
 use Rattle.tacho_time.specs.declared.device.Failed.{Failed}

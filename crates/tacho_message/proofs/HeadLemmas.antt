@@ -1,6 +1,5 @@
 -- What the parser says of the bytes that came, for the whole input.
-use Rattle.std.proofs.Common.{◌≡◌, ◌<◌, ◌≤◌, ◌-◌, ◌++◌, ◌∙◌, ℕ, List, [], Option, Some, None, Result, Ok, Err, IfSome, length, take, refl, sym, subst, inl, inr, arith, append_assoc, length-append}
-use Rattle.std.proofs.lemmas.List.{append-nil}
+use Rattle.std.proofs.Common.{◌≡◌, ◌<◌, ◌≤◌, ◌-◌, ◌++◌, ℕ, List, [], Option, Some, None, Result, Ok, Err, length, take, refl, sym, subst, inl, inr, arith, append_assoc, length-append}
 use Rattle.std.proofs.lemmas.Grind.{common_steps}
 use Rattle.std.specs.Io.KnownBytes.{Consumes, IsAtEnd, Keeps}
 use Rattle.std.specs.Prelude.{IfErr, IsErrAnd}
@@ -8,7 +7,7 @@ use Rattle.tacho_message.specs.declared.head.Head.{Head}
 use Rattle.tacho_message.specs.declared.head.HeadFault.{HeadFault}
 use Rattle.httparse.specs.Grammar.{RequestHead, print_request, HasNoRequest, NeverHasRequest, MayBecomeRequest}
 use Rattle.httparse.specs.Spans.{RequestExceeds, RequestOverflows}
-use Rattle.tacho_message.specs.Head.{HasNoHead, IsRefused, IsUnfinished, Refuses}
+use Rattle.tacho_message.specs.Head.{HasNoHead, IsRefused, IsUnfinished}
 use Rattle.tacho_message.specs.declared.head.HeadFault.TheVariants.{Bad, Read, TooLarge}
 use Rattle.tacho_message.proofs.ReadLemmas.{consumed_kept, ended_begins, some_begins, take-append-more}
 

@@ -53,7 +53,7 @@ fn is_outdone(weekly: &[Run], horizon: u32, week: Week, rest: Run) -> bool
 }
 
 /// Whether a rest is the main rest of the week in which it starts, where `weekly` are the weekly rests: of those with
-/// 24 hours before the horizon the one with the most minutes there, and of equals the earliest (Article 8(6)).
+/// 24 hours before the horizon the one with the most minutes there, and of equals the earliest (Article 8(6b)).
 pub fn is_main(weekly: &[Run], horizon: u32, rest: Run) -> bool
     requires in_time { AreInTime weekly.now }
     requires early { rest.start ≤ latest }

@@ -1,6 +1,6 @@
 -- What look-ups find, by the state that the tables stand for.
 use Rattle.std.proofs.Common.{◌≡◌, ◌∙◌, ℕ, List, [], filter, false, Option, Some, None, Result, Ok, Err, sym, ap, subst}
-use Rattle.std.specs.Prelude.{Contains, MatchOption, is_some, ok_or, IsErr, IsErrAnd, string_bytes}
+use Rattle.std.specs.Prelude.{Contains, MatchOption, is_some, ok_or, IsErr, IsErrAnd}
 use Rattle.sqlite.specs.Tree.{Trees}
 use Rattle.tacho_state.specs.declared.fault.StoreFault.{StoreFault}
 use Rattle.tacho_state.specs.declared.fault.StoreFault.TheVariants.{Memory, Store, UnknownDriver}
@@ -8,8 +8,8 @@ use Rattle.tacho_state.specs.Acts.{Answers}
 use Rattle.tacho_state.specs.State.{Driver, State, driver_of, keyed, holding}
 use Rattle.tacho_tables.specs.declared.rows.StoredDriver.{StoredDriver}
 use Rattle.tacho_tables.specs.Rows.{DriverRow}
-use Rattle.tacho_tables.specs.Tables.{Tables, HasTables, has_number, has_secret, has_holder}
-use Rattle.tacho_reading.specs.Standing.{StandsFor}
+use Rattle.tacho_tables.specs.Tables.{ListedDriver, Tables, HasTables, has_number, has_secret, has_holder, listed_driver, told_driver}
+use Rattle.tacho_reading.specs.Standing.{StandsFor, driver_columns}
 use Rattle.tacho_reading.specs.Finding.{Refuses, IsStored, IsDriver}
 use Rattle.tacho_reading.proofs.DriverRowLemmas.{number_none, number_some, key_none, key_some, holder_none, holder_some}
 
@@ -21,23 +21,23 @@ pub record IsNumberOf (s : State) (n : ℕ) (d : Driver) : Type 0 where
 -- a look-up by number finds the driver
 pub number_found : (db : Trees) (s : State) (n : ℕ) (found : Option StoredDriver) → StandsFor db s
     → ((a : Tables) → HasTables db a → MatchOption found (filter (has_number n) a.drivers ≡ [])
-    (λ it. (r : DriverRow) × Contains (filter (has_number n) a.drivers) r × (it.holder.items ≡ r.holder) × (it.base ≡ r.base)
-    × (string_bytes it.name ≡ r.name) × (it.downloads ≡ r.downloads) × (it.entries ≡ r.entries)))
+    (λ it. (r : DriverRow) × Contains (filter (has_number n) a.drivers) r × (told_driver it ≡ listed_driver r)))
     → MatchOption found (driver_of n s ≡ None) (λ it. (d : Driver) × (driver_of n s ≡ Some d) × IsStored it d)
 unfolding StandsFor
 number_found db s n None (t, stand, is) h = (number_none t s n is).0 (h t stand)
 number_found db s n (Some it) (t, stand, is) h =
     let found = h t stand in
-    let d = number_some t s n found.0 is found.1 in (
+    let d = number_some t s n found.0 is found.1 in
+    let same : told_driver it ≡ listed_driver (driver_columns d.0) = found.2 ∙ ap listed_driver d.2 in (
       d.0,
       d.1,
       record {
-        holder = found.2 ∙ ap (λ (r : DriverRow). r.holder) d.2;
-        base = found.3 ∙ ap (λ (r : DriverRow). r.base) d.2;
-        name = found.4 ∙ ap (λ (r : DriverRow). r.name) d.2;
-        downloads = found.5
-            ∙ ap (λ (r : DriverRow). r.downloads) d.2;
-        entries = found.6 ∙ ap (λ (r : DriverRow). r.entries) d.2;
+        number = ap (λ (x : ListedDriver). x.driver) same;
+        holder = ap (λ (x : ListedDriver). x.holder) same;
+        base = ap (λ (x : ListedDriver). x.base) same;
+        name = ap (λ (x : ListedDriver). x.name) same;
+        downloads = ap (λ (x : ListedDriver). x.downloads) same;
+        entries = ap (λ (x : ListedDriver). x.entries) same;
       },
     )
 

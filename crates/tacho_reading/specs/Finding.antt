@@ -1,4 +1,4 @@
--- What look-ups find, in terms of the state: a driver by his number, or that a call gave up.
+-- Private to tacho_reading: What look-ups find, in terms of the state: a driver by his number, or that a call gave up.
 use Rattle.std.specs.Prelude.{◌≡◌, ℕ, length, Some, None, Result, Ok, Err, string_bytes}
 use Rattle.tacho_state.specs.declared.fault.StoreFault.{StoreFault}
 use Rattle.tacho_state.specs.declared.fault.StoreFault.TheVariants.{Memory, Store, UnknownDriver}
@@ -13,6 +13,7 @@ Refuses fault told = told ≡ Err fault
 
 -- what is stored of the driver
 pub record IsStored (it : StoredDriver) (d : Driver) : Type 0 where
+  pub number : it.number ≡ d.number
   pub holder : it.holder.items ≡ d.holder
   pub base : it.base ≡ d.base
   pub name : string_bytes it.name ≡ d.name

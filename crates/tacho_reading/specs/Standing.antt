@@ -1,4 +1,4 @@
--- What the archive's tables stand for: rows by driver, and the state of all drivers.
+-- Trusted in part: What the archive's tables stand for: rows by driver, and the state of all drivers.
 use Rattle.std.specs.Prelude.{◌≡◌, ◌≢◌, ℕ, ◌+◌, ◌==◌, ◌<◌, ◌≤◌, ◌⊎◌, nat_lt, All, true, false, List, [], ◌∷◌, length, map, filter, not, IsPermutation, Ok, if◌then◌else◌}
 use Rattle.sqlite.specs.Tree.{Trees}
 use Rattle.tacho_time.specs.declared.span.Span.{Span}
@@ -11,10 +11,11 @@ use Rattle.tacho_state.specs.declared.entry.Entry.{Entry as Listed}
 use Rattle.tacho_state.specs.State.{Download, Entry, Driver, State, Given, Held, AreFull, driver_of}
 use Rattle.tacho_state.specs.Disjoint.{Keeps}
 use Rattle.tacho_state.specs.Content.{FileTells, part_number}
+use Rattle.tacho_state.specs.Summaries.{Summary}
 use Rattle.tacho_tables.specs.Rows.{SpanRow, DownloadRow, EntryRow, DriverRow}
 use Rattle.tacho_tables.specs.declared.rows.StoredSpan.{StoredSpan}
 use Rattle.tacho_tables.specs.declared.rows.StoredEntry.{StoredEntry}
-use Rattle.tacho_tables.specs.Tables.{Tables, HasTables, has_number, is_of, is_near, is_kept_near, span_of, entry_span_of}
+use Rattle.tacho_tables.specs.Tables.{ListedDriver, Tables, HasTables, has_number, is_of, is_near, is_kept_near, span_of, entry_span_of}
 
 -- ---- marks as numbers: 0 rest, 1 available, 2 work, 3 drive, and 4 more for crew
 
@@ -199,3 +200,11 @@ IsKeptNear rows n start past found = IsPermutation (map entry_span_of (filter (i
 abbrev pub listed_as : StoredEntry → Listed
 listed_as it =
     record { number = it.number; line = record { start = it.start; past = it.past; activity = numbered_activity it.mark }; withdrawn = not (it.withdrawn == 0) }
+
+-- a driver as he is listed
+abbrev pub summarized : ListedDriver → Summary
+summarized d = record { number = d.driver; holder = d.holder; base = d.base; downloads = d.downloads; entries = d.entries; name = d.name }
+
+-- his base is the number of a day: 47520 is the last
+abbrev pub HasDay : ListedDriver → Type 0
+HasDay d = d.base ≤ 47520

@@ -1,4 +1,4 @@
-ghost use Rattle.std.specs.Prelude.{◌≡◌, ◌≤◌, false, IfOk, string_bytes};
+ghost use Rattle.std.specs.Prelude.{◌≡◌, ◌≤◌, false, IfOk, Ok, map, string_bytes};
 ghost use Rattle.sqlite.specs.State.{HasCleanDisk};
 ghost use Rattle.sqlite.specs.Held.{state};
 ghost use Rattle.tacho_line.specs.Line.{mark_at};
@@ -7,6 +7,7 @@ ghost use Rattle.tacho_hours.specs.Line.{IsBase};
 ghost use Rattle.tacho_state.specs.State.{State};
 ghost use Rattle.tacho_state.specs.Steps.{owner, named, lined, listed, downloaded, reported};
 ghost use Rattle.tacho_state.specs.Reported.{IsHeldWithin, IsReportOf};
+ghost use Rattle.tacho_state.specs.Summaries.{AreSummaries, told_summary};
 ghost use Rattle.tacho_state.specs.Acts.{Answers};
 ghost use Rattle.tacho_reading.specs.Calls.{Tells};
 ghost use Rattle.tacho_reading.specs.Kept.{SeesWhileOpen, ReadsOn};
@@ -16,13 +17,13 @@ use crate::fault::store_fault;
 use crate::feeding::feed_held;
 use crate::finding::driver_with;
 use crate::near::{first_start, rows_near};
-use crate::spans::{line_of_stored, listed_entries};
+use crate::spans::{line_of_stored, listed_entries, summaries_of};
 use sqlite::{Alter, Connection, Transaction};
 use std::alloc::Global;
 use tacho_line::Line;
 use tacho_pass::Found;
 use tacho_rules::{Report, Scan};
-use tacho_state::{Entry, StoreFault, base_of};
+use tacho_state::{DriverSummary, Entry, StoreFault, base_of};
 use tacho_tables::{SpanTable, downloads, drivers, entries, held, opening, spans};
 use tacho_time::Minute;
 
@@ -43,6 +44,37 @@ pub fn who<S: Alter>(conn: &mut Connection<S>, key: &[u8]) -> Result<Option<u32>
     let _settled = conn.is_autocommit();
     let mut tx = conn.transaction();
     let found = who_in(&mut tx, key)?;
+    tx.rollback();
+    opening::ask(conn).map_err(store_fault)?;
+    Ok(found)
+}
+
+/// All drivers, within a transaction.
+fn drivers_in<S: Alter>(
+    alloc: Global,
+    tx: &mut Transaction<'_, S>,
+) -> Result<Vec<DriverSummary>, StoreFault>
+    ensures { Tells S.Store tx.old.conn tx.new.conn result
+        (λ _ s. Answers {B = Unit {0}} (λ _. tt) result (Ok tt) × IfOk result (λ found. AreSummaries s (map told_summary found.items))) }
+{
+    let rows = drivers::all(alloc, tx).map_err(store_fault)?;
+    summaries_of(alloc, rows)
+}
+
+/// All drivers, the lower number first.
+pub fn drivers<S: Alter>(
+    alloc: Global,
+    conn: &mut Connection<S>,
+) -> Result<Vec<DriverSummary>, StoreFault>
+    requires { conn.old.in_transaction ≡ false }
+    ensures autocommit { conn.new.in_transaction ≡ false }
+    ensures reads { ReadsOn S.Store {B = Unit {0}} (λ _. tt) conn.old conn.new result (λ _. Ok tt) }
+    ensures drivers { HasCleanDisk (state S.Store conn.new) → (s : State) → SeesWhileOpen (state S.Store conn.old) s
+        → IfOk result (λ found. AreSummaries s (map told_summary found.items)) }
+{
+    let _settled = conn.is_autocommit();
+    let mut tx = conn.transaction();
+    let found = drivers_in(alloc, &mut tx)?;
     tx.rollback();
     opening::ask(conn).map_err(store_fault)?;
     Ok(found)

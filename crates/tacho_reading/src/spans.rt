@@ -2,17 +2,21 @@ ghost use Rattle.std.specs.Prelude.{◌≡◌, ◌↔◌, ◌<◌, ◌≤◌, �
 ghost use Rattle.tacho_time.specs.OrMemory.{OrMemory};
 ghost use Rattle.tacho_time.specs.Spans.{Gives, IsCanonical, IsCanonicalOf};
 ghost use Rattle.tacho_state.specs.Disjoint.{AreInRange};
-ghost use Rattle.tacho_tables.specs.Tables.{row_of};
-ghost use Rattle.tacho_reading.specs.Standing.{activity_number, mark_number, numbered_activity, numbered_mark, stored_span, span_row, listed_as, IsFit, IsListed, AreFaulty};
+ghost use Rattle.tacho_state.specs.Summaries.{told_summary};
+ghost use Rattle.tacho_tables.specs.Tables.{row_of, told_driver};
+ghost use Rattle.tacho_reading.specs.Standing.{activity_number, mark_number, numbered_activity, numbered_mark, stored_span, span_row, listed_as, summarized, HasDay, IsFit, IsListed, AreFaulty};
 
 use std::alloc::{AllocError, Global};
 use tacho_line::Line;
-use tacho_state::{Entry, EntryLine, StoreFault, line_of};
-use tacho_tables::{StoredEntry, StoredSpan};
-use tacho_time::{Activity, Mark, Minute, Span, SpanFault};
+use tacho_state::{DriverSummary, Entry, EntryLine, StoreFault, line_of};
+use tacho_tables::{StoredDriver, StoredEntry, StoredSpan};
+use tacho_time::{Activity, Day, Mark, Minute, Span, SpanFault};
 
 /// The last number of a minute.
 const LAST: u32 = 68_428_800;
+
+/// The last number of a day.
+const LAST_DAY: u32 = 47_520;
 
 /// The number of what a driver does: 0 rest, 1 available, 2 work, 3 drive.
 fn number_of_activity(activity: Activity) -> u32
@@ -154,6 +158,51 @@ pub fn listed_entries(alloc: Global, rows: &[StoredEntry]) -> Result<Vec<Entry>,
         entries.push(entry)?;
     }
     Ok(entries)
+}
+
+/// The day with this number, if there is one.
+fn day_of(number: u32) -> Option<Day>
+    ensures some { IfSome result (λ day. day ≡ number) }
+    ensures none { IsNone result ↔ (LAST_DAY < number) }
+{
+    if number > LAST_DAY {
+        return None;
+    }
+    Some(Day::new(number))
+}
+
+/// What is listed of a stored driver, where an archive writes such a row.
+fn summary_of(row: StoredDriver) -> Option<DriverSummary>
+    ensures some { IfSome result (λ summary. told_summary summary ≡ summarized (told_driver row)) }
+    ensures none { IsNone result ↔ (¬ HasDay (told_driver row)) }
+{
+    Some(DriverSummary {
+        number: row.number,
+        holder: row.holder,
+        base: day_of(row.base)?,
+        downloads: row.downloads,
+        entries: row.entries,
+        name: row.name,
+    })
+}
+
+/// What is listed of stored drivers; a row that no archive writes is a fault of the store.
+pub fn summaries_of(
+    alloc: Global,
+    rows: Vec<StoredDriver>,
+) -> Result<Vec<DriverSummary>, StoreFault>
+    ensures drivers { IfOk result (λ drivers. map told_summary drivers.items ≡ map summarized (map told_driver rows.items)) }
+    ensures fault { IfErr result (λ fault. OrMemory StoreFault.Memory fault (fault ≡ StoreFault.Store)) }
+    ensures cause { result ≡ Err StoreFault.Store → ¬ All HasDay (map told_driver rows.items) }
+{
+    let mut drivers = Vec::new(alloc);
+    for row in rows {
+        let Some(summary) = summary_of(row) else {
+            return Err(StoreFault::Store);
+        };
+        drivers.push(summary)?;
+    }
+    Ok(drivers)
 }
 
 /// A span as it is stored.

@@ -1,6 +1,6 @@
 use std::alloc::{AllocError, Global};
 use std::io;
-use tacho_sheet::{Fault, SheetFault, fault_line, push_byte, read_driver, read_entries};
+use tacho_sheet::{Fault, SheetFault, fault_line, push_bytes, read_driver, read_entries};
 use tacho_state::{Driver, EntryLine};
 
 /// Prints the line of a fault.
@@ -28,9 +28,7 @@ pub(crate) fn tell_entries(rt: &impl Print, alloc: Global, bytes: &[u8]) -> io::
 /// Bytes in hexadecimal digits.
 fn digits_of(alloc: Global, bytes: &[u8]) -> Result<String, AllocError> {
     let mut digits = String::new(alloc);
-    for byte in bytes {
-        push_byte(&mut digits, *byte)?;
-    }
+    push_bytes(&mut digits, bytes)?;
     Ok(digits)
 }
 

@@ -16,6 +16,7 @@ use Rattle.tacho_state.specs.declared.driver.Column.TheVariants as column
 use Rattle.tacho_state.specs.declared.entry.Entry.{Entry}
 use Rattle.tacho_state.specs.declared.fault.StoreFault.TheVariants as store
 use Rattle.tacho_state.specs.declared.imported.Imported.TheVariants.{Added, Repeated}
+use Rattle.tacho_state.specs.Summaries.{Summary}
 use Rattle.tacho_sheet.specs.declared.fault.LeftOut.TheVariants as left_out
 use Rattle.tacho_sheet.specs.declared.fault.SheetFault.TheVariants as sheet
 use Rattle.tacho_sheet.specs.declared.fault.Fault.TheVariants as fault
@@ -23,7 +24,7 @@ use Rattle.tacho_sheet.specs.Done.{number_line, imported_text, entered_text, bas
 use Rattle.tacho_sheet.specs.Lines.{fault_line, no_memory_line}
 use Rattle.tacho_sheet.specs.Reports.{kind_name, breach_line, horizon_line, debt_line, gap_line, csv_text}
 use Rattle.tacho_sheet.specs.Reports.{weekday_name, day_line, day_lines, sheet_text}
-use Rattle.tacho_sheet.specs.Text.{entry_line}
+use Rattle.tacho_sheet.specs.Text.{entry_line, summary_line}
 
 -- ---- faults of times
 
@@ -256,6 +257,21 @@ entry = refl
 kept_entry : entry_line worked ≡ codes "2 2024-03-04 08:00 2024-03-04 10:00 work kept\n"
 unfolding civil year_after month_after digits
 kept_entry = refl
+
+-- a driver in the list of all of them
+abbrev listed : Summary
+listed = record {
+  number = 17;
+  holder = 17 ∷ 1 ∷ 102 ∷ 5 ∷ 0 ∷ 1 ∷ 2 ∷ 3 ∷ 4 ∷ 5 ∷ 6 ∷ 7 ∷ 8 ∷ 9 ∷ 255 ∷ [];
+  base = 19783;
+  downloads = 3;
+  entries = 2;
+  name = codes "Anna Berg";
+}
+
+driver : summary_line listed ≡ codes "17 1101660500010203040506070809ff 2024-03-01 3 2 Anna Berg\n"
+unfolding civil year_after month_after digits
+driver = refl
 
 -- ---- reports
 

@@ -1,7 +1,9 @@
--- The texts of an archive.
-use Rattle.std.specs.Prelude.{ℕ, Bool, List, ◌++◌, codes, decimal, if◌then◌else◌}
-use Rattle.tacho_time.specs.Text.{activity_name, minute_text}
+-- Trusted: The texts of an archive.
+use Rattle.std.specs.Prelude.{ℕ, Bool, List, ◌++◌, codes, decimal, flat_map, if◌then◌else◌}
+use Rattle.tacho_time.specs.Text.{activity_name, day_text, minute_text}
 use Rattle.tacho_state.specs.declared.entry.Entry.{Entry}
+use Rattle.tacho_state.specs.Summaries.{Summary}
+use Rattle.tacho_sheet.specs.Lines.{byte_digits}
 
 abbrev pub kept_word : Bool → List ℕ
 kept_word withdrawn = if withdrawn then codes "withdrawn" else codes "kept"
@@ -11,3 +13,9 @@ abbrev pub entry_line : Entry → List ℕ
 entry_line e =
     decimal e.number ++ (codes " " ++ (minute_text e.line.start ++ (codes " " ++ (minute_text e.line.past
     ++ (codes " " ++ (activity_name e.line.activity ++ (codes " " ++ (kept_word e.withdrawn ++ codes "\n"))))))))
+
+-- number, holder in hexadecimal digits, base, how many downloads and entries, and name, with blanks between, and a line feed
+abbrev pub summary_line : Summary → List ℕ
+summary_line d =
+    decimal d.number ++ (codes " " ++ (flat_map byte_digits d.holder ++ (codes " " ++ (day_text d.base ++ (codes " "
+    ++ (decimal d.downloads ++ (codes " " ++ (decimal d.entries ++ (codes " " ++ (d.name ++ codes "\n"))))))))))

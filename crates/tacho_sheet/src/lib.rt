@@ -19,8 +19,8 @@ pub use done::{DoneLine, base_line, entered_line, imported_line, registered_line
 pub use driver::{read_driver, read_holder};
 pub use entries::read_entries;
 pub use fault::{Fault, LeftOut, SheetFault};
-pub use lines::{FaultLine, fault_line, push_byte};
+pub use lines::{FaultLine, fault_line, push_bytes};
 pub use number::read_number;
 pub use reports::{breach_text, gap_text, owed_text, span_csv};
 pub use sheet::month_sheet;
-pub use text::entry_text;
+pub use text::{driver_text, entry_text};

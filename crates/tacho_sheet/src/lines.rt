@@ -1,4 +1,4 @@
-ghost use Rattle.std.specs.Prelude.{◌≡◌, ◌<◌, ◌≤◌, ◌+◌, ◌++◌, OnOk, length, string_bytes};
+ghost use Rattle.std.specs.Prelude.{◌≡◌, ◌<◌, ◌≤◌, ◌+◌, ◌++◌, OnOk, flat_map, length, string_bytes};
 ghost use Rattle.arrayvec.specs.ArrayString.{array_string_len};
 ghost use Rattle.tacho_sheet.specs.Lines.{byte_digits, hexadecimal_digit, card_line, column_name, fault_line as line_of_fault, left_out_word, line_at as line_with_number, line_at_minute as line_with_minute, sheet_line, store_line, time_line};
 
@@ -123,10 +123,20 @@ fn digits_of(byte: u8) -> ArrayString<2>
 }
 
 /// Appends a byte in two hexadecimal digits.
-pub fn push_byte(text: &mut String, byte: u8) -> Result<(), AllocError>
+fn push_byte(text: &mut String, byte: u8) -> Result<(), AllocError>
     ensures { OnOk result (string_bytes text.new ≡ string_bytes text.old ++ byte_digits byte) }
 {
     text.push_str(digits_of(byte).as_str())
+}
+
+/// Appends the hexadecimal digits of bytes, two of each.
+pub fn push_bytes(text: &mut String, bytes: &[u8]) -> Result<(), AllocError>
+    ensures { OnOk result (string_bytes text.new ≡ string_bytes text.old ++ flat_map byte_digits bytes.now) }
+{
+    for byte in bytes {
+        push_byte(text, *byte)?;
+    }
+    Ok(())
 }
 
 /// A number below sixteen as a hexadecimal digit.

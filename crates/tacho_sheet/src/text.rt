@@ -1,8 +1,11 @@
-ghost use Rattle.std.specs.Prelude.{◌≡◌, ◌++◌, flat_map, IfOk, OnOk, string_bytes};
-ghost use Rattle.tacho_sheet.specs.Text.{entry_line, kept_word};
+ghost use Rattle.std.specs.Prelude.{◌≡◌, ◌++◌, flat_map, map, IfOk, OnOk, string_bytes};
+ghost use Rattle.tacho_state.specs.Summaries.{told_summary};
+ghost use Rattle.tacho_sheet.specs.Text.{entry_line, kept_word, summary_line};
 
+use crate::lines::push_bytes;
 use std::alloc::{AllocError, Global};
-use tacho_state::Entry;
+use tacho_state::{DriverSummary, Entry};
+use tacho_time::write_day;
 
 /// The text of a driver's entries: for each its number, start, past, activity, and `kept` or `withdrawn`, with blanks between, and
 /// a line feed.
@@ -33,4 +36,32 @@ fn word_of(withdrawn: bool) -> &'static str
     ensures { result.now ≡ kept_word withdrawn }
 {
     if withdrawn { "withdrawn" } else { "kept" }
+}
+
+/// The text of the list of drivers: for each his number, the holder of his card in 30 hexadecimal digits, the day from which he is
+/// examined, how many card files of his were accepted, how many hours were entered for him (withdrawn ones among them), and his name,
+/// with blanks between, and a line feed.
+pub fn driver_text(alloc: Global, drivers: &[DriverSummary]) -> Result<String, AllocError>
+    ensures { IfOk result (λ text. string_bytes text ≡ flat_map summary_line (map told_summary drivers.now)) }
+{
+    let mut text = String::new(alloc);
+    for driver in drivers {
+        push_driver(&mut text, driver)?;
+    }
+    Ok(text)
+}
+
+/// Appends the line of a driver.
+fn push_driver(text: &mut String, driver: &DriverSummary) -> Result<(), AllocError>
+    ensures { OnOk result (string_bytes text.new ≡ string_bytes text.old ++ summary_line (told_summary driver.now)) }
+{
+    let number = driver.number;
+    let downloads = driver.downloads;
+    let entries = driver.entries;
+    let name = driver.name.as_str();
+    write!(text, "{number} ")?;
+    push_bytes(text, &driver.holder)?;
+    text.push_str(" ")?;
+    write_day(text, driver.base)?;
+    writeln!(text, " {downloads} {entries} {name}")
 }

@@ -96,15 +96,16 @@ module _ (batch : List Entry) (d : Driver) where
     go false t f = cc
 
   -- and if they contradict nothing, he has what he may
-  pub kept_batch : (first : ℕ) → next_number (length d.entries) (length batch) ≡ Some first
+  pub kept_batch : (first : ℕ) → AreKept d.downloads d.entries → next_number (length d.entries) (length batch) ≡ Some first
       → ((m : ℕ) → ¬ (Conflicts (Gives (held_spans d ++ entered_spans batch)) m)) → AreKept d.downloads (d.entries ++ batch)
-  kept_batch first e h =
+  kept_batch first kept e h =
       let all : held_spans d ++ entered_spans batch ≡ given_spans d.downloads ++ entered_spans (d.entries ++ batch) =
       append_assoc (given_spans d.downloads) (entered_spans d.entries) (entered_spans batch)
       ∙ ap (λ (xs : List Span). given_spans d.downloads ++ xs) (sym (entered_append d.entries batch))
       in
       record {
         agreed = subst (λ (xs : List Span). (m : ℕ) → ¬ (Conflicts (Gives xs) m)) all h;
+        few_downloads = kept.few_downloads;
         few = few_more first e;
       }
 
@@ -208,6 +209,7 @@ pub kept_left : (downloads : List Download) (es : List Entry) (i : ℕ) (x : Ent
 kept_left downloads es i x kept =
     record {
       agreed = (λ m c. kept.agreed m (c.0, c.1, back m c.0 c.2, back m c.1 c.3, c.4));
+      few_downloads = kept.few_downloads;
       few = (let n = as_many i es (record x { withdrawn = true }) in let f = kept.few in omega (arith, n, f));
     } where
       back : (m : ℕ) (k : Mark) → Gives (given_spans downloads ++ entered_spans (slice_set es i (record x { withdrawn = true }))) m k

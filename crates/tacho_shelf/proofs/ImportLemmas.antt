@@ -1,6 +1,7 @@
 -- What an import is answered, by whether downloads give its spans and by the least minute that they contradict.
-use Rattle.std.proofs.Common.{◌≡◌, ℕ, ◌+◌, ◌⊎◌, inl, inr, nat_le, nat_lt, Bool, true, false, cond, List, [], ◌∷◌, ◌++◌, length, Option, Some, None, Ok, Err, refl, sym, ap, ◌∙◌, arith}
+use Rattle.std.proofs.Common.{◌≡◌, ℕ, ◌+◌, ◌<◌, ◌⊎◌, inl, inr, nat_le, nat_lt, Bool, true, false, cond, List, [], ◌∷◌, ◌++◌, length, Option, Some, None, Ok, Err, refl, sym, ap, ◌∙◌, arith}
 use Rattle.std.proofs.lemmas.Bool.Decides.{nat_tests}
+use Rattle.std.proofs.lemmas.List.{length-append}
 use Rattle.tacho_time.specs.declared.span.Span.{Span}
 use Rattle.tacho_time.specs.declared.span.Mark.{Mark}
 use Rattle.tacho_time.specs.Spans.{Gives, Conflicts}
@@ -11,7 +12,7 @@ use Rattle.tacho_state.specs.declared.imported.Imported.TheVariants.{Added, Repe
 use Rattle.tacho_state.specs.Limits.{next_number}
 use Rattle.tacho_state.specs.Least.{least_conflict, is_within}
 use Rattle.tacho_state.specs.State.{Driver, given_spans, entered_spans, held_spans, with_download}
-use Rattle.tacho_state.specs.Steps.{kept_by, import_own}
+use Rattle.tacho_state.specs.Steps.{kept_by, import_own, most}
 use Rattle.tacho_state.proofs.GainLemmas.{download_held}
 use Rattle.tacho_shelf.specs.Shelf.{AreKept, IsFaultOf, IsLeast}
 
@@ -62,13 +63,22 @@ module _ (part : ℕ) (file : List ℕ) (spans : List Span) (d : Driver) where
         let full : nat_lt (length d.downloads) 1000000 ≡ false = grind (arith, nat_tests) in
         ap (λ b. cond b (Ok (Added d.number (1 + length d.downloads), with_download part file spans d)) (Err Full)) full
 
--- a download whose spans contradict nothing that is held
+-- where there is a number for one more, there is room
+pub room_for : (given number : ℕ) → next_number given 1 ≡ Some number → given < most
+room_for given number e = go (nat_le (given + 1) 1000000) refl e where
+  go : (b : Bool) → nat_le (given + 1) 1000000 ≡ b → cond b (Some (given + 1)) None ≡ Some number → given < most
+  go true t f = grind (arith, nat_tests)
+  go false t f = cc
+
+-- a download whose spans contradict nothing that is held, where there is room
 pub kept_download : (d : Driver) (part : ℕ) (file : List ℕ) (spans : List Span) → AreKept d.downloads d.entries
-    → ((m : ℕ) → ¬ (Conflicts (Gives (held_spans d ++ spans)) m))
+    → length d.downloads < most → ((m : ℕ) → ¬ (Conflicts (Gives (held_spans d ++ spans)) m))
     → AreKept (d.downloads ++ record { part = part; file = file; spans = spans } ∷ []) d.entries
-kept_download d part file spans kept h =
+kept_download d part file spans kept room h =
     record {
       agreed = (λ m c. h m (c.0, c.1, back m c.0 c.2, back m c.1 c.3, c.4));
+      few_downloads = (let more = length-append d.downloads (record { part = part; file = file; spans = spans } ∷ []) in
+          omega (arith, more, room));
       few = kept.few;
     } where
       back : (m : ℕ) (k : Mark)

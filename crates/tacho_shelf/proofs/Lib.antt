@@ -5,3 +5,4 @@ pub mod ImportLemmas
 pub mod EntryLemmas
 pub mod ShelfLemmas
 pub mod TurnLemmas
+pub mod SummaryLemmas

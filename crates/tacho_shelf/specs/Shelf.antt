@@ -1,4 +1,4 @@
--- What the functions of a shelf do to the drivers that it holds.
+-- Private to tacho_shelf: What the functions of a shelf do to the drivers that it holds.
 use Rattle.std.specs.Prelude.{◌≡◌, ℕ, ◌+◌, ◌<◌, ◌≤◌, false, List, [], ◌∷◌, ◌++◌, length, Option, None, Some, Result, Ok, Err, bytes_eq, slice_get, if◌then◌else◌}
 use Rattle.tacho_time.specs.OrMemory.{OrMemory}
 use Rattle.tacho_time.specs.declared.span.Span.{Span}
@@ -20,9 +20,10 @@ abbrev pub AreNumbered : State → Type 0
 AreNumbered [] = Unit {0}
 AreNumbered (d ∷ s) = (driver_of d.number s ≡ None) × AreNumbered s
 
--- what a driver has: it gives no minute two marks, and he has no more entries than he may
+-- what a driver has: it gives no minute two marks, and he has no more downloads and entries than he may
 pub record AreKept (downloads : List Download) (entries : List Entry) : Type 0 where
   pub agreed : (m : ℕ) → ¬ (Conflicts (Gives (given_spans downloads ++ entered_spans entries)) m)
+  pub few_downloads : length downloads ≤ most
   pub few : length entries ≤ most
 
 -- the place of a driver who was looked for, or no place where there is none

@@ -13,7 +13,8 @@ use tacho_card::Part;
 use tacho_line::{Line, LineFault};
 use tacho_rules::Report;
 use tacho_state::{
-    Driver, Entered, Entry, EntryLine, Imported, StoreFault, first_number, line_of, report_of,
+    Driver, DriverSummary, Entered, Entry, EntryLine, Imported, StoreFault, first_number, line_of,
+    report_of,
 };
 use tacho_time::{Day, Span, SpanFault};
 
@@ -46,7 +47,7 @@ impl Download {
 }
 
 /// A driver, with his downloads and entries in the order of their numbers. What they give
-/// contradicts nowhere, and he has no more entries than there are numbers.
+/// contradicts nowhere, and he has no more of either than there are numbers.
 #[derive(Drop)]
 pub(crate) struct Row {
     number: u32,
@@ -71,7 +72,7 @@ impl Model for Row {
 }
 
 impl Row {
-    ghost use Rattle.std.specs.Prelude.{◌≡◌, ◌⊎◌, ◌*◌, ℕ, List, ◌++◌, length, All, None, Ok, Err, bytes_eq, string_bytes, IfOk, IfErr, OnOk, OnSome, OnErr, MatchResult};
+    ghost use Rattle.std.specs.Prelude.{◌≡◌, ◌⊎◌, ◌*◌, ◌<◌, ℕ, List, ◌++◌, length, All, None, Ok, Err, bytes_eq, string_bytes, IfOk, IfErr, OnOk, OnSome, OnErr, MatchResult};
     ghost use Rattle.std.specs.Option.{option_copied};
     ghost use Rattle.tacho_time.specs.Spans.{Gives, IsCanonical, IsCanonicalOf, Conflicts};
     ghost use Rattle.tacho_line.specs.Line.{first_empty};
@@ -79,9 +80,10 @@ impl Row {
     ghost use Rattle.tacho_state.specs.Batch.{IsEntryLine, batch_of};
     ghost use Rattle.tacho_state.specs.Least.{least_conflict, is_within};
     ghost use Rattle.tacho_state.specs.State.{Given, Held, AreFull, given_spans, held_spans, download_from, with_batch};
-    ghost use Rattle.tacho_state.specs.Steps.{import_own, enter_own, withdraw_own, numbered_from};
+    ghost use Rattle.tacho_state.specs.Steps.{import_own, enter_own, withdraw_own, most, numbered_from};
     ghost use Rattle.tacho_state.specs.Limits.{next_number};
     ghost use Rattle.tacho_state.specs.Content.{part_number};
+    ghost use Rattle.tacho_state.specs.Summaries.{summary_of, told_summary};
     ghost use Rattle.tacho_shelf.specs.Shelf.{IsFaultOf, IsLeast, IsEnteredAt, AreKept, new_driver, numbered};
 
     /// A driver who is registered now.
@@ -161,6 +163,20 @@ impl Row {
         String::from_str(alloc, &self.name)
     }
 
+    /// What is listed of him.
+    pub(crate) fn summary(&self, alloc: Global) -> Result<DriverSummary, AllocError>
+        ensures { IfOk result (λ summary. told_summary summary ≡ summary_of self.now) }
+    {
+        Ok(DriverSummary {
+            number: self.number,
+            holder: Vec::from_slice(alloc, &self.holder)?,
+            base: self.base,
+            downloads: self.downloads.len() as u32,
+            entries: self.entries.len() as u32,
+            name: self.copy_of_name(alloc)?,
+        })
+    }
+
     /// His number.
     pub(crate) fn number(&self) -> u32
         ensures { result ≡ self.now.number }
@@ -209,6 +225,7 @@ impl Row {
         requires { first_empty spans.now ≡ None }
         ensures told { (part : ℕ) (file : List ℕ) → MatchResult result (λ number. import_own part file spans.now self.now ≡ Ok (numbered part file spans.now self.now number)) (IsFaultOf (import_own part file spans.now self.now)) }
         ensures agreed { IfOk result (λ number. OnSome number ((m : ℕ) → ¬ (Conflicts (Gives (held_spans self.now ++ spans.now)) m))) }
+        ensures few { IfOk result (λ number. OnSome number (length self.now.downloads < most)) }
     {
         let Ok(repeated) = self.has_given(alloc, spans) else {
             return Err(StoreFault::Memory);

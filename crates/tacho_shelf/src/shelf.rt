@@ -1,4 +1,4 @@
-ghost use Rattle.std.specs.Prelude.{◌≡◌, ◌⊎◌, ℕ, ◌++◌, [], ◌∷◌, Result, Ok, Err, None, MatchOption, MatchResult, IfNone, IfOk, OnOk, OnErr, length, string_bytes};
+ghost use Rattle.std.specs.Prelude.{◌≡◌, ◌⊎◌, ℕ, ◌++◌, [], ◌∷◌, Result, Ok, Err, None, MatchOption, MatchResult, IfNone, IfOk, OnOk, OnErr, length, map, string_bytes};
 ghost use Rattle.tacho_card.specs.declared.fault.CardFault.{CardFault};
 ghost use Rattle.tacho_state.specs.declared.imported.Imported.TheVariants.{Repeated};
 ghost use Rattle.tacho_line.specs.Line.{mark_at};
@@ -7,6 +7,7 @@ ghost use Rattle.tacho_state.specs.Content.{FileTells, part_number};
 ghost use Rattle.tacho_state.specs.Batch.{IsBatch, batch_of};
 ghost use Rattle.tacho_state.specs.Steps.{Content, registered, imported, entered, withdrawn, rebased, refused, owner, named, lined, listed, downloaded, reported};
 ghost use Rattle.tacho_state.specs.Reported.{IsHeldWithin, IsReportOf};
+ghost use Rattle.tacho_state.specs.Summaries.{AreSummaries, told_summary};
 ghost use Rattle.tacho_state.specs.Acts.{Answers, caller_number};
 ghost use Rattle.tacho_shelf.specs.Shelf.{Turns, IsOwnerAt, known, known_by, owner_of, new_driver};
 
@@ -17,7 +18,9 @@ use std::marker::Model;
 use tacho_card::Part;
 use tacho_line::Line;
 use tacho_rules::Report;
-use tacho_state::{Caller, Driver, Entered, Entry, EntryLine, Imported, Keeper, StoreFault};
+use tacho_state::{
+    Caller, Driver, DriverSummary, Entered, Entry, EntryLine, Imported, Keeper, StoreFault,
+};
 use tacho_time::{Day, Minute};
 
 /// An archive in memory. No two of its drivers have one number.
@@ -148,6 +151,19 @@ impl Shelf {
     {
         let place = place_of_key(&self.drivers, key)?;
         Some(self.drivers[place].number())
+    }
+
+    /// All drivers, the lower number first.
+    fn summaries(&self, alloc: Global) -> Result<Vec<DriverSummary>, StoreFault>
+        ensures answer { Answers {B = Unit {0}} (λ _. tt) result (Ok tt) }
+        ensures drivers { IfOk result (λ found. AreSummaries self.now (map told_summary found.items)) }
+    {
+        let mut found = Vec::new(alloc);
+        for row in &self.drivers {
+            found.push(row.summary(alloc)?)?;
+        }
+        found.sort_unstable_by_key(|summary| summary.number);
+        Ok(found)
     }
 
     /// The name of a driver: S4.
@@ -342,6 +358,10 @@ impl Keeper for Shelf {
 
     fn who(&mut self, key: &[u8]) -> Result<Option<u32>, StoreFault> {
         Ok(self.number_with_key(key))
+    }
+
+    fn drivers(&mut self, alloc: Global) -> Result<Vec<DriverSummary>, StoreFault> {
+        self.summaries(alloc)
     }
 
     fn name(&mut self, alloc: Global, driver: u32) -> Result<String, StoreFault> {

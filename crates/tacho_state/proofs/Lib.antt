@@ -9,3 +9,4 @@ pub mod MapLemmas
 mod PartLemmas
 pub mod ContentLemmas
 pub mod RunLemmas
+pub mod SummaryLemmas

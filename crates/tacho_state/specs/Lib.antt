@@ -9,3 +9,4 @@ pub mod Content
 pub mod Reported
 pub mod Acts
 pub mod Runs
+pub mod Summaries

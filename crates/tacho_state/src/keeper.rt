@@ -1,4 +1,4 @@
-ghost use Rattle.std.specs.Prelude.{◌≡◌, ◌⊎◌, ◌∷◌, ◌≤◌, ℕ, List, Result, Ok, Err, IfOk, length, string_bytes};
+ghost use Rattle.std.specs.Prelude.{◌≡◌, ◌⊎◌, ◌∷◌, ◌≤◌, ℕ, List, Result, Ok, Err, IfOk, length, map, string_bytes};
 ghost use Rattle.tacho_line.specs.Line.{mark_at};
 ghost use Rattle.tacho_card.specs.declared.fault.CardFault.{CardFault};
 ghost use Rattle.tacho_state.specs.State.{State};
@@ -7,6 +7,7 @@ ghost use Rattle.tacho_state.specs.Reported.{IsHeldWithin, IsReportOf};
 ghost use Rattle.tacho_state.specs.Batch.{IsBatch, batch_of};
 ghost use Rattle.tacho_state.specs.Registration.{IsReadDay};
 ghost use Rattle.tacho_state.specs.Content.{FileTells, part_number};
+ghost use Rattle.tacho_state.specs.Summaries.{AreSummaries, told_summary};
 ghost use Rattle.tacho_state.specs.Acts.{Acts, Reads, caller_number};
 ghost use Rattle.tacho_state.specs.declared.imported.Imported.TheVariants.{Repeated};
 ghost use Rattle.tacho_state.specs.declared.fault.StoreFault.TheVariants.{Memory, Card};
@@ -16,6 +17,7 @@ use crate::driver::Driver;
 use crate::entry::{Entered, Entry, EntryLine};
 use crate::fault::StoreFault;
 use crate::imported::Imported;
+use crate::summary::DriverSummary;
 use std::alloc::Global;
 use tacho_card::Part;
 use tacho_line::Line;
@@ -95,6 +97,12 @@ pub trait Keeper {
     /// The driver whose key this is, if there is one.
     fn who(&mut self, key: &[u8]) -> Result<Option<u32>, StoreFault>
         ensures { Reads stands is_clean is_live leaves is_same (λ found. found) self.old self.new result (owner key.now) };
+
+    /// All drivers, the lower number first.
+    fn drivers(&mut self, alloc: Global) -> Result<Vec<DriverSummary>, StoreFault>
+        ensures reads { Reads {B = Unit {0}} stands is_clean is_live leaves is_same (λ _. tt) self.old self.new result (λ _. Ok tt) }
+        ensures drivers { is_clean self.new → (s : State) → stands self.old s
+            → IfOk result (λ drivers. AreSummaries s (map told_summary drivers.items)) };
 
     /// The name of a driver: S4.
     fn name(&mut self, alloc: Global, driver: u32) -> Result<String, StoreFault>

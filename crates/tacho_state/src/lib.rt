@@ -11,6 +11,7 @@ pub mod laws;
 mod limits;
 mod parts;
 mod reports;
+mod summary;
 
 pub use caller::Caller;
 pub use driver::{Column, Driver};
@@ -21,3 +22,4 @@ pub use keeper::Keeper;
 pub use limits::{first_number, is_key, is_name};
 pub use parts::{inside_of, line_of, outside_of};
 pub use reports::{base_of, report_of};
+pub use summary::DriverSummary;

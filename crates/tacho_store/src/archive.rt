@@ -16,9 +16,11 @@ use std::alloc::Global;
 use tacho_card::Part;
 use tacho_line::Line;
 use tacho_reading::fault::store_fault;
-use tacho_reading::reading::{download, entries, line, line_within, name, report, who};
+use tacho_reading::reading::{download, drivers, entries, line, line_within, name, report, who};
 use tacho_rules::Report;
-use tacho_state::{Caller, Driver, Entered, Entry, EntryLine, Imported, Keeper, StoreFault};
+use tacho_state::{
+    Caller, Driver, DriverSummary, Entered, Entry, EntryLine, Imported, Keeper, StoreFault,
+};
 use tacho_tables::{making, opening};
 use tacho_time::{Day, Minute};
 
@@ -201,6 +203,10 @@ impl<S: Alter> Keeper for Archive<S> {
 
     fn who(&mut self, key: &[u8]) -> Result<Option<u32>, StoreFault> {
         who(&mut self.conn, key)
+    }
+
+    fn drivers(&mut self, alloc: Global) -> Result<Vec<DriverSummary>, StoreFault> {
+        drivers(alloc, &mut self.conn)
     }
 
     fn name(&mut self, alloc: Global, driver: u32) -> Result<String, StoreFault> {

@@ -91,8 +91,8 @@ numbered_filter p t deaf rows all s = record {
 }
 
 -- what a query shows of the rows that pass
-pub numbered_shown : (p : Row → Bool) (t : DriverRow → Bool) (deaf : (x : DriverRow) → p (driver_row x) ≡ t x) (f : Row → Row)
-    (show : DriverRow → Row) → ((x : DriverRow) → f (driver_row x) ≡ show x)
+pub numbered_shown : {Y : Type 0} (p : Row → Bool) (t : DriverRow → Bool) (deaf : (x : DriverRow) → p (driver_row x) ≡ t x) (f : Row → Y)
+    (show : DriverRow → Y) → ((x : DriverRow) → f (driver_row x) ≡ show x)
     → (rows : List Row) (all : List DriverRow) → AreNumberedRowsOf rows all → IsPermutation (map show (filter t all)) (map f (filter p rows))
 numbered_shown p t deaf f show same rows all s =
     let k = numbered_filter p t deaf rows all s in

@@ -1,5 +1,5 @@
 -- What rows of spans are read as.
-use Rattle.std.proofs.Common.{◌≡◌, ◌∙◌, List, [], ◌∷◌, map, refl, sym, ap, subst, Option, Some, None, Result, Ok, Err, IfOk, arith}
+use Rattle.std.proofs.Common.{◌≡◌, ◌∙◌, ℕ, ◌≤◌, List, [], ◌∷◌, ◌++◌, append-nil, drop, drop_of_length-le, length, map, refl, sym, ap, subst, Option, Some, None, Result, Ok, Err, IfOk, arith}
 use Rattle.std.specs.Prelude.{Contains, IfSome, IsNone, MatchOption, ◌↔◌}
 use Rattle.std.specs.List.Sorted.{IsPermutation}
 use Rattle.std.proofs.lemmas.List.Sorted.{IsPermutation-sym, IsPermutation-map, Contains-permutation, length_permutation}
@@ -22,6 +22,13 @@ pub reads_first_of : {X A : Type 0} (show : X → Row) (is : X → A) (rest : Li
     → (later : List X) × (more ≡ map show later) × (map is rest ≡ a ∷ map is later)
 reads_first_of show is [] row more a shown reads = absurd (let e = shown in cc)
 reads_first_of show is (x ∷ later) row more a shown reads = (later, tail_is shown, ap (λ z. z ∷ map is later) (sym (reads x (head_is shown))))
+
+-- where no row is left, what was read is all
+pub none_left : {X A : Type 0} (show : X → Row) (is : X → A) (rest : List X) (rows : List Row) (n : ℕ)
+    → length rows ≤ n → drop n rows ≡ map show rest
+    → (done all : List A) → done ++ map is rest ≡ all → done ≡ all
+none_left show is [] rows n past cut done all whole = sym (append-nil done) ∙ whole
+none_left show is (x ∷ rest) rows n past cut done all whole = absurd (let e = sym (drop_of_length-le rows past) ∙ cut in cc)
 
 -- only the empty list is a permutation of the empty list
 pub none_of_none : {X : Type 0} (xs : List X) → IsPermutation xs [] → xs ≡ []

@@ -33,18 +33,20 @@ asked = simple 8 own five_shown by_number
 abbrev shown_as : EntryRow → Output
 shown_as x = (Int (pos x.number) ∷ [], entry_shown x)
 
+-- what is sorted by one number alone is so as the numbers are
+pub by_one_number : (a b : ℕ) → is_lt (ordering_then (value_cmp (Int (pos a)) (Int (pos b))) Equal) ≡ is_lt (nat_cmp a b)
+by_one_number a b = ap is_lt (then_equal (value_cmp (Int (pos a)) (Int (pos b))) ∙ value_cmp-Int (pos a) (pos b)) ∙ same a b where
+  then_equal : (o : Ordering) → ordering_then o Equal ≡ o
+  then_equal Less = refl
+  then_equal Equal = refl
+  then_equal Greater = refl
+
+  same : (a b : ℕ) → is_lt (int_cmp (pos a) (pos b)) ≡ is_lt (nat_cmp a b)
+  same a b = grind (arith, ints)
+
 -- entries are sorted by their numbers
 by_numbers : (x y : EntryRow) → is_lt (output_cmp asked (shown_as x) (shown_as y)) ≡ is_lt (nat_cmp x.number y.number)
-by_numbers x y =
-    ap is_lt (then_equal (value_cmp (Int (pos x.number)) (Int (pos y.number))) ∙ value_cmp-Int (pos x.number) (pos y.number))
-    ∙ same x.number y.number where
-      then_equal : (o : Ordering) → ordering_then o Equal ≡ o
-      then_equal Less = refl
-      then_equal Equal = refl
-      then_equal Greater = refl
-
-      same : (a b : ℕ) → is_lt (int_cmp (pos a) (pos b)) ≡ is_lt (nat_cmp a b)
-      same a b = grind (arith, ints)
+by_numbers x y = by_one_number x.number y.number
 
 -- what is sorted is so by what it was made of
 pub sorted_before : {X Y : Type 0} (f : X → Y) (less : Y → Y → Bool) (lt : X → X → Bool) (xs : List X) → ((x y : X) → less (f x) (f y) ≡ lt x y)
@@ -57,7 +59,8 @@ sorted_before f less lt xs same h k d low high =
     ∙ h k (f d) low high_2
 
 -- and so is what it becomes
-sorted_after : {X Y : Type 0} (f : X → Y) (less : Y → Y → Bool) (lt : X → X → Bool) (xs : List X) → X → ((x y : X) → less (f x) (f y) ≡ lt x y)
+pub sorted_after : {X Y : Type 0} (f : X → Y) (less : Y → Y → Bool) (lt : X → X → Bool) (xs : List X) → X
+    → ((x y : X) → less (f x) (f y) ≡ lt x y)
     → IsSortedBy lt xs → IsSortedBy less (map f xs)
 sorted_after f less lt xs none same h k d low high =
     let high_2 : k + 1 < length xs = (let as_many = length-map xs f in omega (arith, high, as_many)) in

@@ -167,7 +167,11 @@ driver_insert_text = codes "INSERT INTO drivers (driver, holder, secret, base, n
 
 -- the text that reads a driver by number
 abbrev pub by_number_text : List ℕ
-by_number_text = codes "SELECT holder, base, name, downloads, entries FROM drivers WHERE driver = ?1"
+by_number_text = codes "SELECT driver, holder, base, name, downloads, entries FROM drivers WHERE driver = ?1"
+
+-- all of them
+abbrev pub drivers_text : List ℕ
+drivers_text = codes "SELECT driver, holder, base, name, downloads, entries FROM drivers ORDER BY driver"
 
 -- by key
 abbrev pub by_secret_text : List ℕ
@@ -206,11 +210,27 @@ pub driver_insert_is : IsStatement driver_insert_text (Insert 1 (Values driver_v
 unfolding understood everything
 driver_insert_is = record { meant = refl; plain = (refl, refl) }
 
+-- driver, holder, base, name, downloads and entries
+abbrev pub six_shown : List Term
+six_shown = col 1 0 ∷ col 1 2 ∷ col 1 4 ∷ col 1 5 ∷ col 1 6 ∷ col 1 7 ∷ []
+
+-- their names
+abbrev pub driver_names : List (List ℕ)
+driver_names = codes "driver" ∷ codes "holder" ∷ codes "base" ∷ codes "name" ∷ codes "downloads" ∷ codes "entries" ∷ []
+
+-- the lower driver first
+abbrev pub by_driver : List (Term × Key)
+by_driver = (col 1 0, record { collation = Binary; descending = false }) ∷ []
+
 -- a reading by number
-pub by_number_is : IsReading by_number_text 1 (column_is 0) (col 1 2 ∷ col 1 4 ∷ col 1 5 ∷ col 1 6 ∷ col 1 7 ∷ []) []
-    (codes "holder" ∷ codes "base" ∷ codes "name" ∷ codes "downloads" ∷ codes "entries" ∷ [])
+pub by_number_is : IsReading by_number_text 1 (column_is 0) six_shown [] driver_names
 unfolding understood everything
 by_number_is = record { meant = refl; unlisted = refl; plain = (refl, refl) }
+
+-- a reading of all
+pub drivers_is : IsReading drivers_text 1 [] six_shown by_driver driver_names
+unfolding understood everything
+drivers_is = record { meant = refl; unlisted = refl; plain = (refl, refl) }
 
 -- a reading by key
 pub by_secret_is : IsReading by_secret_text 1 (column_is 3) (col 1 0 ∷ []) [] (codes "driver" ∷ [])

@@ -1,11 +1,13 @@
--- The six tables as lists of typed rows, and what a call within a transaction makes of them.
-use Rattle.std.specs.Prelude.{◌≡◌, ℕ, ◌+◌, ◌≤◌, pos, Bool, ◌&&◌, ◌==◌, nat_lt, nat_le, Contains, All, if◌then◌else◌, List, [], ◌∷◌, bytes_eq}
+-- Trusted in part: The six tables as lists of typed rows, and what a call within a transaction makes of them.
+use Rattle.std.specs.Prelude.{◌≡◌, ℕ, ◌+◌, ◌≤◌, pos, Bool, ◌&&◌, ◌==◌, nat_lt, nat_le, Contains, All, if◌then◌else◌, List, [], ◌∷◌, bytes_eq, map, IsPermutation, IsSorted, string_bytes}
+use Rattle.std.specs.Ordering.{nat_cmp}
 use Rattle.sqlite.specs.declared.types.Value.TheVariants.{Null, Int, Text, Blob}
 use Rattle.sqlite.specs.Order.{Row}
 use Rattle.sqlite.specs.Tree.{Trees}
 use Rattle.sqlite.specs.State.{State}
 use Rattle.sqlite_catalog.specs.Listing.{IsSound}
 use Rattle.tacho_tables.specs.declared.rows.StoredSpan.{StoredSpan}
+use Rattle.tacho_tables.specs.declared.rows.StoredDriver.{StoredDriver}
 use Rattle.tacho_tables.specs.declared.rows.StoredEntry.{StoredEntry}
 use Rattle.tacho_tables.specs.Schema.{archive_schema}
 use Rattle.tacho_tables.specs.Schema as tree
@@ -76,7 +78,7 @@ abbrev pub number_shown : DriverRow → Row
 number_shown r = Int (pos r.driver) ∷ []
 
 abbrev pub driver_shown : DriverRow → Row
-driver_shown r = Blob r.holder ∷ Int (pos r.base) ∷ Text r.name ∷ Int (pos r.downloads) ∷ Int (pos r.entries) ∷ []
+driver_shown r = Int (pos r.driver) ∷ Blob r.holder ∷ Int (pos r.base) ∷ Text r.name ∷ Int (pos r.downloads) ∷ Int (pos r.entries) ∷ []
 
 abbrev pub entry_shown : EntryRow → Row
 entry_shown r = Int (pos r.number) ∷ Int (pos r.start) ∷ Int (pos r.past) ∷ Int (pos r.mark) ∷ Int (pos r.withdrawn) ∷ []
@@ -137,6 +139,34 @@ with_entries driver count r = if has_number driver r then record r { entries = c
 -- the entry of the driver with this number, withdrawn
 abbrev pub with_withdrawn : ℕ → ℕ → EntryRow → EntryRow
 with_withdrawn driver number r = if is_entry driver number r then record r { withdrawn = 1 } else r
+
+-- a driver as he is read: all of his row but the key
+pub record ListedDriver : Type 0 where
+  pub driver : ℕ
+  pub holder : List ℕ
+  pub base : ℕ
+  pub name : List ℕ
+  pub downloads : ℕ
+  pub entries : ℕ
+
+abbrev pub listed_driver : DriverRow → ListedDriver
+listed_driver r =
+    record { driver = r.driver; holder = r.holder; base = r.base; name = r.name; downloads = r.downloads; entries = r.entries }
+
+abbrev pub told_driver : StoredDriver → ListedDriver
+told_driver d = record {
+  driver = d.number;
+  holder = d.holder.items;
+  base = d.base;
+  name = string_bytes d.name;
+  downloads = d.downloads;
+  entries = d.entries;
+}
+
+-- all drivers of some rows, the lower number first
+pub record AreListed (rows : List DriverRow) (found : List ListedDriver) : Type 0 where
+  pub all : IsPermutation (map listed_driver rows) found
+  pub sorted : IsSorted (λ (x y : ListedDriver). nat_cmp x.driver y.driver) found
 
 -- an archive of no drivers
 abbrev pub no_rows : Tables

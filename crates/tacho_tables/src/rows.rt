@@ -4,7 +4,7 @@ ghost use Rattle.sqlite.specs.State.{HasCleanDisk, IsUnchanged, Survives};
 ghost use Rattle.sqlite.specs.declared.types.Value.TheVariants.{Int};
 ghost use Rattle.sqlite.specs.Order.{Row as Values};
 ghost use Rattle.tacho_tables.specs.Rows.{SpanRow, DownloadRow, EntryRow, DriverRow};
-ghost use Rattle.tacho_tables.specs.Tables.{span_of, span_shown, entry_of, entry_shown, file_shown, driver_shown};
+ghost use Rattle.tacho_tables.specs.Tables.{span_of, span_shown, entry_of, entry_shown, file_shown, driver_shown, listed_driver, told_driver};
 ghost use Rattle.tacho_tables.specs.Next.{Tells, GivesNext, IsAsked};
 
 use crate::fault::TableFault;
@@ -33,6 +33,7 @@ pub struct StoredEntry {
 /// What is stored of a driver, but for his key.
 #[derive(Debug, Drop)]
 pub struct StoredDriver {
+    pub number: u32,
     /// The first 15 bytes of his card's identification.
     pub holder: Vec<u8>,
     /// The number of the day from which he is examined.
@@ -126,24 +127,42 @@ pub(crate) fn first_number(rows: &[Row]) -> Result<Option<u32>, TableFault>
     }
 }
 
+/// The driver that a row of driver, holder, base, name, downloads and entries shows.
+fn stored_driver(row: &Row) -> Result<StoredDriver, TableFault>
+    ensures { IfOk result (λ d. (r : DriverRow) → row.now ≡ driver_shown r → told_driver d ≡ listed_driver r) }
+{
+    Ok(StoredDriver {
+        number: row.get(0)?,
+        holder: row.get(1)?,
+        base: row.get(2)?,
+        name: row.get(3)?,
+        downloads: row.get(4)?,
+        entries: row.get(5)?,
+    })
+}
+
 /// The driver that the first of such rows shows, if there is one.
 pub(crate) fn first_driver(rows: &[Row]) -> Result<Option<StoredDriver>, TableFault>
     ensures none { IfOk result (λ found. IsNone found ↔ (rows.now ≡ [])) }
     ensures some { IfOk result (λ found. IfSome found (λ d. (r : DriverRow) (more : List Values)
-        → rows.now ≡ driver_shown r ∷ more
-        → (d.holder.items ≡ r.holder) × (d.base ≡ r.base) × (string_bytes d.name ≡ r.name)
-        × (d.downloads ≡ r.downloads) × (d.entries ≡ r.entries))) }
+        → rows.now ≡ driver_shown r ∷ more → told_driver d ≡ listed_driver r)) }
 {
     match rows.first() {
         None => Ok(None),
-        Some(row) => Ok(Some(StoredDriver {
-            holder: row.get(0)?,
-            base: row.get(1)?,
-            name: row.get(2)?,
-            downloads: row.get(3)?,
-            entries: row.get(4)?,
-        })),
+        Some(row) => Ok(Some(stored_driver(row)?)),
     }
+}
+
+/// The drivers that such rows show.
+pub(crate) fn stored_drivers(alloc: Global, rows: &[Row]) -> Result<Vec<StoredDriver>, TableFault>
+    ensures { IfOk result (λ drivers. (shown : List DriverRow) → rows.now ≡ map driver_shown shown
+        → map told_driver drivers.items ≡ map listed_driver shown) }
+{
+    let mut drivers = Vec::new(alloc);
+    for row in rows {
+        drivers.push(stored_driver(row)?)?;
+    }
+    Ok(drivers)
 }
 
 /// The entry that a row of number, start, past, mark and withdrawn shows.

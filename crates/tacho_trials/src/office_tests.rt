@@ -124,6 +124,12 @@ static ROWS: [(&str, &[Command]); 8] = [
             ("sheet 17 2024-03", "", SHEET, 0),
             ("owed 17", "", "EXAMINED TO 2024-03-04 17:00 unknown\n", 0),
             ("entries 17", "", "", 0),
+            (
+                "drivers",
+                "",
+                "17 0d4431323334353637383930313233 2024-03-04 1 0 Anna Berg\n",
+                0,
+            ),
             ("import both", A_DAY, "repeated driver 17\n", 0),
             ("file 17 1", "", A_DAY, 0),
         ],

@@ -4,7 +4,8 @@ use Rattle.tacho_desk.specs.Tasks.{Does, IsFaulty, IsSound, want_of}
 use Rattle.tacho_desk.specs.Told.{Answer, answer_of}
 use Rattle.tacho_desk.specs.Wants.{is_command}
 use Rattle.tacho_cli.specs.Office.{Performed}
-use Rattle.tacho_cli.proofs.OfficeLemmas.{faulty, of_bytes, over_input, refused_words, unread_input, without_input}
+use Rattle.tacho_desk.proofs.MeantLemmas.{faulty}
+use Rattle.tacho_cli.proofs.OfficeLemmas.{of_bytes, over_input, refused_words, unread_input, without_input}
 use Rattle.tacho_cli.proofs.office.answer.Goals as goal
 
 pub returns-in_err-task-clause-performed : goal.returns-in_err-task-clause-performed

@@ -5,7 +5,8 @@ use Rattle.tacho_desk.specs.Fault.{sheet_fault}
 use Rattle.tacho_desk.specs.Tasks.{Enters, EntersRead, IsFaulty, IsSound}
 use Rattle.tacho_desk.specs.Told.{Answer, answer_of}
 use Rattle.tacho_desk.specs.declared.task.Task.TheVariants as task
-use Rattle.tacho_desk.proofs.ServeLemmas.{faulty, lines_of, read_lines, unasked_lines, unread_lines}
+use Rattle.tacho_desk.proofs.MeantLemmas.{faulty}
+use Rattle.tacho_desk.proofs.ServeLemmas.{lines_of, read_lines, unasked_lines, unread_lines}
 use Rattle.tacho_desk.proofs.commands.enter.Goals as goal
 
 pub returns-in_err-lines-clause-serves : goal.returns-in_err-lines-clause-serves

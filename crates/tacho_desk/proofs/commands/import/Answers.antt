@@ -4,7 +4,8 @@ use Rattle.tacho_desk.specs.Fault.{store_fault}
 use Rattle.tacho_desk.specs.Tasks.{Imports, IsFaulty, IsSound}
 use Rattle.tacho_desk.specs.Told.{Answer, Told, told_of}
 use Rattle.tacho_desk.specs.declared.task.Task.TheVariants as task
-use Rattle.tacho_desk.proofs.ServeLemmas.{faulty, import_asks, import_refused, import_sound, import_taken}
+use Rattle.tacho_desk.proofs.MeantLemmas.{faulty}
+use Rattle.tacho_desk.proofs.ServeLemmas.{import_asks, import_refused, import_sound, import_taken}
 use Rattle.tacho_desk.proofs.commands.import.Goals as goal
 
 pub returns-in_err-imported-clause-serves : goal.returns-in_err-imported-clause-serves

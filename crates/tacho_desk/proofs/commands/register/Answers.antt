@@ -4,7 +4,8 @@ use Rattle.tacho_desk.specs.Fault.{sheet_fault}
 use Rattle.tacho_desk.specs.Tasks.{IsFaulty, IsSound}
 use Rattle.tacho_desk.specs.Told.{Answer}
 use Rattle.tacho_desk.specs.declared.task.Task.TheVariants as task
-use Rattle.tacho_desk.proofs.ServeLemmas.{faulty, unasked_driver}
+use Rattle.tacho_desk.proofs.MeantLemmas.{faulty}
+use Rattle.tacho_desk.proofs.ServeLemmas.{unasked_driver}
 use Rattle.tacho_desk.proofs.commands.register.Goals as goal
 
 pub returns-in_err-driver-clause-asks : goal.returns-in_err-driver-clause-asks

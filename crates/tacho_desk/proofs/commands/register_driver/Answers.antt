@@ -1,11 +1,12 @@
-use Rattle.std.proofs.Common.{sym, subst, true, Err}
+use Rattle.std.proofs.Common.{sym, subst, true}
 use Rattle.tacho_desk.specs.Doing.{Serves, Steps}
 use Rattle.tacho_desk.specs.Fault.{store_fault}
 use Rattle.tacho_desk.specs.Told.{Answer, Added}
 use Rattle.tacho_sheet.specs.Done.{number_line}
 use Rattle.std.specs.Prelude.{codes}
 use Rattle.tacho_state.specs.Steps.{registered}
-use Rattle.tacho_desk.proofs.ServeLemmas.{faulty, refused_without_file}
+use Rattle.tacho_desk.proofs.MeantLemmas.{faulty}
+use Rattle.tacho_desk.proofs.ServeLemmas.{refused_without_file}
 use Rattle.tacho_desk.proofs.StepLemmas.{registered_keeps, registered_tells_no_file}
 use Rattle.tacho_desk.proofs.commands.register_driver.Goals as goal
 

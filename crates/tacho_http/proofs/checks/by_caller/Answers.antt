@@ -1,11 +1,9 @@
-use Rattle.std.proofs.Common.{◌++◌, ◌≡◌, ◌∙◌, Err, Ok, Option, List, map, ℕ}
+use Rattle.std.proofs.Common.{◌++◌, Err, Ok, map}
 use Rattle.httparse.specs.Spans.{header_bytes}
-use Rattle.tacho_desk.specs.Wants.{is_command, takes_input}
+use Rattle.tacho_desk.specs.Wants.{is_command}
 use Rattle.tacho_message.specs.Length.{method_of}
-use Rattle.tacho_message.specs.Request.{fields_of}
-use Rattle.tacho_http.specs.Asked.{Wish, asker_of, is_post, wish_of}
-use Rattle.tacho_http.specs.Routes.{Named, named_at}
-use Rattle.tacho_http.specs.Serve.{ByCaller, body_of}
+use Rattle.tacho_http.specs.Asked.{Wish, asker_of, is_post}
+use Rattle.tacho_http.specs.Serve.{ByCaller}
 use Rattle.tacho_http.proofs.AccessLemmas.{posts_are_commands}
 use Rattle.tacho_http.proofs.RespondLemmas.{by_wish, length_found, length_refused, no_length, no_wish, unavailable, wish_found_by, wish_refused}
 use Rattle.tacho_http.proofs.checks.by_caller.Goals as goal

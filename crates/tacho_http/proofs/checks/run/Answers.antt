@@ -1,5 +1,4 @@
 use Rattle.std.proofs.Common.{◌++◌, Err, List, Ok, subst, ℕ}
-use Rattle.tacho_state.specs.State.{State}
 use Rattle.tacho_desk.specs.Doing.{Serves}
 use Rattle.tacho_desk.specs.Tasks.{Does, want_of}
 use Rattle.tacho_desk.specs.Told.{answer_of}

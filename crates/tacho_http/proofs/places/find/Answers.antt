@@ -1,8 +1,7 @@
-use Rattle.std.proofs.Common.{◌≡◌, ◌∙◌, [], List, Option, Some, ℕ, ap, codes, option_map, sym}
-use Rattle.matchit.specs.Params.{AllText, named, walk}
+use Rattle.std.proofs.Common.{◌≡◌, ◌∙◌, [], Some, ap, sym}
 use Rattle.matchit.specs.Router.{RouteOf}
 use Rattle.matchit.specs.Seek.{first}
-use Rattle.tacho_http.specs.Routes.{Named, Rows, named_at, named_by, or_empty, parts_of, rows_of_table, the_table}
+use Rattle.tacho_http.specs.Routes.{Rows, rows_of_table, the_table}
 use Rattle.tacho_http.specs.declared.places.Place.{Place}
 use Rattle.tacho_http.proofs.PartLemmas.{parts_are_text}
 use Rattle.tacho_http.proofs.RouteLemmas.{names_found}

@@ -1,6 +1,5 @@
-use Rattle.std.proofs.Common.{rules, ◌≡◌, ◌<◌, ◌≤◌, [], length, take, arith}
+use Rattle.std.proofs.Common.{rules, ◌≡◌, ◌<◌, ◌≤◌, [], length, arith}
 use Rattle.std.specs.Io.KnownBytes.{Consumes, IsAtEnd}
-use Rattle.tacho_message.specs.Body.{IsCutShort}
 use Rattle.tacho_message.proofs.ReadLemmas.{ended_short, two_reads, put_fits}
 use Rattle.tacho_message.proofs.body.fill.Goals as goal
 

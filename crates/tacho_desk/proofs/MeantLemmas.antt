@@ -1,0 +1,65 @@
+-- A call that does one thing does another that it means, or nothing; and what a fault answers.
+use Rattle.std.proofs.Common.{◌≡◌, ◌⊎◌, inl, inr, Bool, List, Result, Ok, Err, ap}
+use Rattle.std.specs.Prelude.{IsErrAnd}
+use Rattle.tacho_state.specs.State.{State}
+use Rattle.tacho_desk.specs.Doing.{Doing, Done, IsKept, Serves, Stops}
+use Rattle.tacho_desk.specs.Fault.{IsGivenUp}
+use Rattle.tacho_desk.specs.Told.{Answer, answer_of}
+use Rattle.tacho_desk.specs.declared.fault.Fault.{Fault}
+use Rattle.tacho_desk.specs.declared.text.Text.{Text}
+
+-- the answer of a result that is this fault
+pub faulty : (result : Result Text Fault) (f : Fault) → IsErrAnd result (λ e. e ≡ f) → answer_of result ≡ Err f
+faulty (Err e) f h = ap Err h
+faulty (Ok text) f h = absurd h
+
+-- ---- one meaning for another
+
+-- of the answer and the state
+done_as : (stands : State → Type 0) (s : State) (A B : Doing) (answer : Answer) → ((answer : Answer) (after : State) → A answer after → B answer after)
+    → Done stands s A answer → Done stands s B answer
+done_as stands s A B (Ok told) h d = (d.0, d.1, h (Ok told) d.0 d.2)
+done_as stands s A B (Err f) h (st, inl d) = (st, inl (h (Err f) s d))
+done_as stands s A B (Err f) h (st, inr g) = (st, inr g)
+
+-- of what is kept
+kept_as : (stands : State → Type 0) (leaves : List State → Type 0) (A B : Doing) (answer : Answer)
+    → ((answer : Answer) (after : State) → A answer after → B answer after)
+    → IsKept stands leaves A answer → IsKept stands leaves B answer
+kept_as stands leaves A B (Ok told) h d = (d.0, d.1, h (Ok told) d.0 d.2, d.3)
+kept_as stands leaves A B (Err f) h d = tt
+
+-- of what a stop leaves
+stops_as : (leaves : List State → Type 0) (past : List State) (A B : Doing) (answer : Answer)
+    → ((answer : Answer) (after : State) → A answer after → B answer after)
+    → Stops leaves past A answer → Stops leaves past B answer
+stops_as leaves past A B (Ok told) h (inl l) = inl l
+stops_as leaves past A B (Ok told) h (inr a) = inr (a.0, h (Ok told) a.0 a.1, a.2)
+stops_as leaves past A B (Err f) h (inl l) = inl l
+stops_as leaves past A B (Err f) h (inr a) = inr (a.0, (a.1.0, a.1.1, h a.1.0 a.1.1 a.1.2, a.1.3))
+
+-- ---- at an archive
+
+module _ {K : Type 0} (stands : K → State → Type 0) (is_clean is_live : K → Type 0) (leaves : K → List State → Type 0) where
+  -- a call that does the one does the other
+  pub served_as : (old new : K) (command : Bool) (answer : Answer) (A B : State → Doing)
+      → ((s : State) (answer : Answer) (after : State) → A s answer after → B s answer after)
+      → Serves stands is_clean is_live leaves old new command answer A → Serves stands is_clean is_live leaves old new command answer B
+  served_as old new command answer A B h d = record {
+    clean = d.clean;
+    live = d.live;
+    done = λ clean s st. done_as (stands new) s (A s) (B s) answer (h s) (d.done clean s st);
+    kept = λ is clean s st. kept_as (stands new) (leaves new) (A s) (B s) answer (h s) (d.kept is clean s st);
+    crash = λ clean s past st l. stops_as (leaves new) past (A s) (B s) answer (h s) (d.crash clean s past st l);
+  }
+
+  -- nothing was done, since this fault is wanted, or memory failed
+  pub nothing : (keeper : K) (command : Bool) (f : Fault) (Does : State → Doing) → ((s : State) → Does s (Err f) s ⊎ IsGivenUp f)
+      → Serves stands is_clean is_live leaves keeper keeper command (Err f) Does
+  nothing keeper command f Does h = record {
+    clean = λ clean. clean;
+    live = λ clean. tt;
+    done = λ clean s st. (st, h s);
+    kept = λ is clean s st. tt;
+    crash = λ clean s past st l. inl l;
+  }

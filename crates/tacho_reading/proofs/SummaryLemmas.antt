@@ -1,0 +1,79 @@
+-- All drivers are listed by their numbers.
+use Rattle.std.proofs.Common.{◌≡◌, ◌∙◌, ◌⊎◌, List, [], ◌∷◌, ◌++◌, append_assoc, map, Result, Ok, Err, IfOk, IfErr, refl, sym, ap, subst}
+use Rattle.std.specs.List.{All}
+use Rattle.std.specs.List.Sorted.{IsPermutation}
+use Rattle.std.specs.Ordering.{is_lt, nat_cmp}
+use Rattle.std.proofs.lemmas.List.{map-append}
+use Rattle.std.proofs.lemmas.List.Elements.{All-head, All-tail}
+use Rattle.std.proofs.lemmas.List.Sorted.{IsPermutation-map}
+use Rattle.sqlite.specs.Tree.{Trees}
+use Rattle.tacho_state.specs.declared.fault.StoreFault.{StoreFault}
+use Rattle.tacho_state.specs.declared.fault.StoreFault.TheVariants.{Memory, Store}
+use Rattle.tacho_state.specs.declared.summary.DriverSummary.{DriverSummary}
+use Rattle.tacho_state.specs.Acts.{Answers}
+use Rattle.tacho_state.specs.State.{State}
+use Rattle.tacho_state.specs.Summaries.{AreSummaries, Summary, summary_of, told_summary}
+use Rattle.tacho_state.proofs.SummaryLemmas.{sorted_map}
+use Rattle.tacho_tables.specs.declared.rows.StoredDriver.{StoredDriver}
+use Rattle.tacho_tables.specs.Rows.{DriverRow}
+use Rattle.tacho_tables.specs.Tables.{AreListed, HasTables, ListedDriver, Tables, listed_driver, told_driver}
+use Rattle.tacho_reading.specs.Standing.{HasDay, StandsFor, driver_columns, summarized}
+use Rattle.tacho_reading.proofs.TimelineLemmas.{gave_up}
+
+-- ---- rows that are read
+
+-- one summary more, and one row less
+pub one_more : (done more : List DriverSummary) (it : DriverSummary) (row : StoredDriver) (left rest : List StoredDriver)
+    (all : List Summary) → more ≡ done ++ it ∷ [] → left ≡ row ∷ rest → told_summary it ≡ summarized (told_driver row)
+    → map told_summary done ++ map summarized (map told_driver left) ≡ all
+    → map told_summary more ++ map summarized (map told_driver rest) ≡ all
+one_more done more it row left rest all pushed taken is whole =
+    let front = map told_summary done in
+    let back = map summarized (map told_driver rest) in
+    ap (λ (xs : List DriverSummary). map told_summary xs ++ back) pushed
+    ∙ ap (λ (xs : List Summary). xs ++ back) (map-append told_summary done (it ∷ []))
+    ∙ append_assoc front (told_summary it ∷ []) back
+    ∙ ap (λ (x : Summary). front ++ (x ∷ back)) is
+    ∙ ap (λ (xs : List StoredDriver). front ++ map summarized (map told_driver xs)) (sym taken)
+    ∙ whole
+
+-- where all rows that are left have days, the first has one, and so have the others
+pub days_left : (row : StoredDriver) (left rest : List StoredDriver) → left ≡ row ∷ rest → All HasDay (map told_driver left)
+    → HasDay (told_driver row) × All HasDay (map told_driver rest)
+days_left row left rest taken all =
+    let both = subst (λ (xs : List StoredDriver). All HasDay (map told_driver xs)) taken all in
+    (All-head HasDay (told_driver row) (map told_driver rest) both, All-tail HasDay (told_driver row) (map told_driver rest) both)
+
+-- ---- what is read
+
+-- the rows of drivers are listed as the drivers
+all_summarized : (s : State) → map summarized (map listed_driver (map driver_columns s)) ≡ map summary_of s
+all_summarized [] = refl
+all_summarized (d ∷ s) = ap (λ (xs : List Summary). summary_of d ∷ xs) (all_summarized s)
+
+-- the drivers of the tables are those of the state
+are_summaries : (t : Tables) (s : State) (found : List ListedDriver) → t.drivers ≡ map driver_columns s → AreListed t.drivers found
+    → AreSummaries s (map summarized found)
+are_summaries t s found is l = record {
+  all = subst (λ (xs : List Summary). IsPermutation xs (map summarized found))
+      (ap (λ (rows : List DriverRow). map summarized (map listed_driver rows)) is ∙ all_summarized s)
+      (IsPermutation-map summarized (map listed_driver t.drivers) found l.all);
+  sorted = sorted_map summarized (λ (x y : Summary). is_lt (nat_cmp x.number y.number))
+      (λ (x y : ListedDriver). is_lt (nat_cmp x.driver y.driver)) found (λ x y. refl) l.sorted;
+}
+
+-- all drivers are listed, or the call gave up
+pub drivers_told : {V : Type 0} (items : V → List DriverSummary) (db : Trees) (s : State) (rows : List StoredDriver)
+    (r : Result V StoreFault) → StandsFor db s → ((a : Tables) → HasTables db a → AreListed a.drivers (map told_driver rows))
+    → IfOk r (λ v. map told_summary (items v) ≡ map summarized (map told_driver rows))
+    → IfOk r (λ v. AreSummaries s (map told_summary (items v)))
+unfolding StandsFor
+drivers_told items db s rows (Ok v) (t, stand, of) read is =
+    subst (AreSummaries s) (sym is) (are_summaries t s (map told_driver rows) of.drivers (read t stand))
+drivers_told items db s rows (Err f) (t, stand, of) read is = tt
+
+-- the call answers, or it gave up
+pub drivers_answer : {V : Type 0} (r : Result V StoreFault) → IfErr r (λ f. (f ≡ Memory) ⊎ (f ≡ Store))
+    → Answers {B = Unit {0}} (λ _. tt) r (Ok tt)
+drivers_answer {V = V} (Ok v) up = refl
+drivers_answer {V = V} (Err f) up = gave_up {A = V} (λ _. tt) f (Ok tt) up

@@ -1,0 +1,15 @@
+use Rattle.std.proofs.Common.{◌≡◌, ◌++◌, map}
+use Rattle.std.specs.List.{All}
+use Rattle.std.specs.Vec.Iter.{into_iter_items}
+use Rattle.tacho_state.specs.Summaries.{told_summary}
+use Rattle.tacho_tables.specs.Tables.{told_driver}
+use Rattle.tacho_reading.specs.Standing.{summarized, HasDay}
+use Rattle.tacho_reading.proofs.spans.summaries_of.Given as goal
+
+-- the drivers so far, before those of the rows that are left, which fit where all do
+abbrev pub invariant-loop-row : goal.invariant-loop-row
+invariant-loop-row l = record {
+  listed : map told_summary l.drivers.items ++ map summarized (map told_driver (into_iter_items l.row-iterator))
+      ≡ map summarized (map told_driver l.fn.rows.items);
+  fit : All HasDay (map told_driver l.fn.rows.items) → All HasDay (map told_driver (into_iter_items l.row-iterator));
+}

@@ -1,0 +1,41 @@
+-- Trusted: The drivers of an archive, as they are listed.
+use Rattle.std.specs.Prelude.{ℕ, List, IsPermutation, IsSorted, length, map, string_bytes}
+use Rattle.std.specs.Ordering.{nat_cmp}
+use Rattle.tacho_state.specs.State.{Driver, State}
+use Rattle.tacho_state.specs.declared.summary.DriverSummary.{DriverSummary}
+
+-- what is listed of a driver: his number, the holder of his card, the day from which he is examined, how many downloads and how
+-- many entries he has (withdrawn ones among them), and his name; neither his key nor what he holds
+pub record Summary : Type 0 where
+  pub number : ℕ
+  pub holder : List ℕ
+  pub base : ℕ
+  pub downloads : ℕ
+  pub entries : ℕ
+  pub name : List ℕ
+
+abbrev pub summary_of : Driver → Summary
+summary_of d = record {
+  number = d.number;
+  holder = d.holder;
+  base = d.base;
+  downloads = length d.downloads;
+  entries = length d.entries;
+  name = d.name;
+}
+
+-- a summary in memory tells this one
+abbrev pub told_summary : DriverSummary → Summary
+told_summary d = record {
+  number = d.number;
+  holder = d.holder.items;
+  base = d.base;
+  downloads = d.downloads;
+  entries = d.entries;
+  name = string_bytes d.name;
+}
+
+-- each driver of the state once, the lower number first
+pub record AreSummaries (s : State) (summaries : List Summary) : Type 0 where
+  pub all : IsPermutation (map summary_of s) summaries
+  pub sorted : IsSorted (λ (x y : Summary). nat_cmp x.number y.number) summaries
