@@ -1,4 +1,4 @@
--- ActivityChangeInfo (Annex IC, Appendix 1): the sixteen bits `scpaattttttttttt` of a word.
+-- Trusted: ActivityChangeInfo (Annex IC, Appendix 1): the sixteen bits `scpaattttttttttt` of a word.
 use Rattle.std.specs.Prelude.{ℕ, ◌/◌, ◌%◌, ◌==◌, Bool, true, false, Option, Some, None, if◌then◌else◌}
 use Rattle.tacho_time.specs.declared.span.Activity.{Activity}
 use Rattle.tacho_time.specs.declared.span.Activity.TheVariants.{Rest, Available, Work, Drive}

@@ -1,4 +1,4 @@
--- The card download file (Annex IC, Appendix 7): blocks laid end to end.
+-- Trusted: The card download file (Annex IC, Appendix 7): blocks laid end to end.
 use Rattle.std.specs.Prelude.{◌≡◌, ◌≢◌, ℕ, zero, suc, ◌+◌, ◌*◌, ◌/◌, ◌%◌, ◌<◌, ◌&&◌, ◌||◌, ◌==◌, nat_lt, Bool, true, false, List, [], ◌∷◌, ◌++◌, length, take, drop, Option, None, Some, Result, Ok, Err, flat_map, slice_index, bytes_eq, if◌then◌else◌}
 use Rattle.std.specs.List.{AllByRecursion}
 use Rattle.tacho_time.specs.declared.span.Span.{Span}

@@ -1,4 +1,4 @@
--- The chain of the records of a cyclic buffer, from the oldest to the newest.
+-- Trusted: The chain of the records of a cyclic buffer, from the oldest to the newest.
 use Rattle.std.specs.Prelude.{◌≡◌, ◌≢◌, ℕ, zero, suc, ◌+◌, ◌-◌, ◌&&◌, ◌==◌, ◌⊎◌, Bool, List, [], ◌∷◌, ◌++◌, length, Option, None, Some, Result, Ok, Err, IsOk, IsErr, IsTrue, if◌then◌else◌}
 use Rattle.tacho_card.specs.declared.fault.CardFault.{CardFault}
 use Rattle.tacho_card.specs.DriverActivity.{DriverActivity, wrapped}

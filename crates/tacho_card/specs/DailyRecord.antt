@@ -1,4 +1,4 @@
--- CardActivityDailyRecord (Annex IC, Appendix 1): twelve bytes, and then the words of a day.
+-- Trusted: CardActivityDailyRecord (Annex IC, Appendix 1): twelve bytes, and then the words of a day.
 use Rattle.std.specs.Prelude.{ℕ, zero, suc, ◌+◌, ◌-◌, ◌*◌, ◌/◌, ◌%◌, ◌&&◌, ◌==◌, nat_lt, nat_le, not, Bool, List, length, Option, None, Some, Result, Ok, Err, if◌then◌else◌}
 use Rattle.tacho_card.specs.declared.fault.CardFault.{CardFault}
 use Rattle.tacho_card.specs.declared.fault.CardFault.TheVariants.{RecordLength, Chain, DayRange, WordMinute, WordOrder}

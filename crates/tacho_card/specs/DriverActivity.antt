@@ -1,4 +1,4 @@
--- CardDriverActivity (Annex IC, Appendix 1): two pointers and a cyclic buffer of N bytes.
+-- Trusted: CardDriverActivity (Annex IC, Appendix 1): two pointers and a cyclic buffer of N bytes.
 use Rattle.std.specs.Prelude.{ℕ, ◌+◌, ◌-◌, ◌*◌, ◌%◌, ◌||◌, nat_lt, nat_le, List, drop, length, Result, Ok, Err, if◌then◌else◌, slice_index}
 use Rattle.tacho_card.specs.declared.fault.CardFault.{CardFault}
 use Rattle.tacho_card.specs.declared.fault.CardFault.TheVariants.{ShortActivity, Pointer}

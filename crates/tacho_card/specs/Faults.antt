@@ -1,4 +1,4 @@
--- The faults of a card file and of its records (Annex IC, Appendices 1 and 7), by blocks, places and words, and not by
+-- Trusted: The faults of a card file and of its records (Annex IC, Appendices 1 and 7), by blocks, places and words, and not by
 -- the order in which a program goes over them. C1 is IsTruncatedAt of CardFile, and C14 stands in Reading.
 use Rattle.std.specs.Prelude.{◌≡◌, ◌≢◌, ℕ, ◌+◌, ◌*◌, ◌<◌, ◌≤◌, ◌⊎◌, List, length, Contains, slice_get, Some, Result, Ok, Err}
 use Rattle.tacho_card.specs.declared.fault.CardFault.{CardFault}

@@ -1,4 +1,4 @@
--- The four blocks that a card file may have once, by number.
+-- Private to tacho_card: The four blocks that a card file may have once, by number.
 use Rattle.std.specs.Prelude.{ℕ, Option, None, Some, if◌then◌else◌}
 use Rattle.tacho_card.specs.CardFile.{FileBlock, activity_data, identification, is_block}
 

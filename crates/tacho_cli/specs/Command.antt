@@ -1,4 +1,4 @@
--- What a command that reads an input and writes a reply leaves.
+-- Trusted: What a command that reads an input and writes a reply leaves.
 use Rattle.std.specs.Prelude.{◌≡◌, ℕ, ◌⊎◌, List, Option, Bool, true, false, take, IfSome}
 use Rattle.std.specs.Io.KnownBytes.{Appends}
 use Rattle.tacho_card.specs.declared.fault.CardFault.{CardFault}

@@ -1,4 +1,4 @@
--- What `dump` replies to an input.
+-- Trusted in part: What `dump` replies to an input.
 use Rattle.std.specs.Prelude.{◌≡◌, ℕ, ◌<◌, ◌≤◌, ◌⊎◌, List, [], ◌∷◌, Result, Ok, Err, length, flat_map}
 use Rattle.tacho_time.specs.declared.span.Span.{Span}
 use Rattle.tacho_time.specs.Text.{span_line}

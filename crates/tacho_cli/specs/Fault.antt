@@ -1,4 +1,4 @@
--- The lines of a command's faults, and the program's status after a fault.
+-- Trusted: The lines of a command's faults, and the program's status after a fault.
 use Rattle.std.specs.Prelude.{ℕ, List, codes}
 use Rattle.tacho_card.specs.declared.fault.CardFault.TheVariants as card
 use Rattle.tacho_state.specs.declared.fault.StoreFault.TheVariants as store

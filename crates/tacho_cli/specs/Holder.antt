@@ -1,4 +1,4 @@
--- What `holder` replies to an input.
+-- Trusted in part: What `holder` replies to an input.
 use Rattle.std.specs.Prelude.{◌≡◌, ℕ, ◌<◌, ◌≤◌, ◌⊎◌, List, ◌++◌, Result, Ok, Err, length, codes, flat_map}
 use Rattle.tacho_card.specs.declared.fault.CardFault.{CardFault}
 use Rattle.tacho_card.specs.CardFile.{FileBlock, card_file, file_holder}

@@ -1,4 +1,4 @@
--- What is wanted of a task: what it tells, or its fault, and the state of the archive after it.
+-- Trusted: What is wanted of a task: what it tells, or its fault, and the state of the archive after it.
 use Rattle.std.specs.Prelude.{◌≡◌, ◌⊎◌, ◌∷◌, [], Bool, true, List, Option, None, Some, Result, Ok, Err, OnOk, ℕ}
 use Rattle.tacho_state.specs.declared.fault.StoreFault.{StoreFault}
 use Rattle.tacho_state.specs.declared.fault.StoreFault.TheVariants as store

@@ -1,4 +1,4 @@
--- The fault of a task, by what refused it.
+-- Trusted: The fault of a task, by what refused it.
 use Rattle.tacho_card.specs.declared.fault.CardFault.{CardFault}
 use Rattle.tacho_card.specs.declared.fault.CardFault.TheVariants as card
 use Rattle.tacho_time.specs.declared.fault.TimeFault.{TimeFault}

@@ -1,4 +1,4 @@
--- A driver's own tasks: they look at his rows alone, and change nobody else's.
+-- Trusted: A driver's own tasks: they look at his rows alone, and change nobody else's.
 use Rattle.std.specs.Prelude.{◌≡◌, ◌≢◌, ℕ, List, Err}
 use Rattle.tacho_state.specs.State.{State, driver_of}
 use Rattle.tacho_state.specs.declared.caller.Caller.TheVariants as caller

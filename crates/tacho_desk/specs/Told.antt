@@ -1,4 +1,4 @@
--- What is told of a task that was done.
+-- Trusted: What is told of a task that was done.
 use Rattle.std.specs.Prelude.{ℕ, List, Result, Ok, Err, string_bytes}
 use Rattle.tacho_desk.specs.declared.fault.Fault.{Fault}
 use Rattle.tacho_desk.specs.declared.text.Text.{Text}

@@ -1,4 +1,4 @@
--- What can be wanted at an archive: which of it has an input, changes the archive, and is asked for by a driver himself.
+-- Trusted: What can be wanted at an archive: which of it has an input, changes the archive, and is asked for by a driver himself.
 use Rattle.std.specs.Prelude.{Bool, true, false}
 use Rattle.tacho_desk.specs.declared.want.Want.{Want}
 use Rattle.tacho_desk.specs.declared.want.Want.TheVariants.{Base, Enter, File, Import, MonthReading, Reading, Register, Withdraw}

@@ -1,4 +1,4 @@
--- Breaks (Regulation (EC) 561/2006, Articles 4(d) and 7): after a driving period of four and a half hours an
+-- Trusted: Breaks (Regulation (EC) 561/2006, Articles 4(d) and 7): after a driving period of four and a half hours an
 -- uninterrupted break of 45 minutes, or one of 15 and then one of 30.
 use Rattle.std.specs.Prelude.{◌≤◌, ◌⊎◌, List, Contains}
 use Rattle.tacho_hours.specs.declared.run.Run.{Run}

@@ -1,5 +1,5 @@
--- Compensation taken run by run, in order of time (Regulation (EC) 561/2006, Article 8(6b) and 8(7), as amended by (EU)
--- 2020/1054): another way to the payers of the definition in Debts.
+-- Private to tacho_hours: Compensation taken run by run, in order of time (Regulation (EC) 561/2006, Article 8(6b) and 8(7), as
+-- amended by (EU) 2020/1054): another way to the payers of the definition in Debts.
 use Rattle.std.specs.Prelude.{◌≡◌, ℕ, ◌<◌, ◌⊎◌, List, [], ◌∷◌, ◌++◌, All, Option, None, Some}
 use Rattle.tacho_hours.specs.declared.run.Run.{Run}
 use Rattle.tacho_hours.specs.declared.debt.Debt.{Debt}

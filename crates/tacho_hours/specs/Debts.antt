@@ -1,4 +1,4 @@
--- Reduced weekly rests and their compensation (Regulation (EC) 561/2006, Articles 4(h), 8(6), 8(6b) and 8(7); 8(6)
+-- Trusted: Reduced weekly rests and their compensation (Regulation (EC) 561/2006, Articles 4(h), 8(6), 8(6b) and 8(7); 8(6)
 -- and 8(6b) as amended by (EU) 2020/1054).
 use Rattle.std.specs.Prelude.{◌≡◌, ℕ, ◌+◌, ◌-◌, ◌<◌, ◌≤◌, ◌↔◌, List, Contains, AllPairs, min}
 use Rattle.std.specs.Prelude.{sum_by, take, Some, slice_get, MatchOption, if◌then◌else◌, nat_eq}
@@ -42,7 +42,7 @@ pub record Owes (line : Line) (horizon w amount : ℕ) : Type 0 where
   pub no_end : last.past ≡ FAR
   pub ended : week_start (w + 1) ≤ last.start
 
--- what a run keeps for itself: 45 hours (2700 minutes) as the main rest of a week (Article 8(6)), and else the nine
+-- what a run keeps for itself: 45 hours (2700 minutes) as the main rest of a week (Article 8(6b)), and else the nine
 -- hours (540) to which a compensation is attached (Article 8(7))
 pub record Keeps (line : Line) (horizon : ℕ) (run : Run) (kept : ℕ) : Type 0 where
   pub main : (w : ℕ) → IsMainRest line horizon w run → kept ≡ regular_weekly_rest

@@ -1,4 +1,4 @@
--- Lists that have what holds and nothing else, in an order. No Article rules it.
+-- Trusted: Lists that have what holds and nothing else, in an order. No Article rules it.
 use Rattle.std.specs.Prelude.{◌≡◌, ℕ, ◌↔◌, List, Contains, AllPairs, length}
 
 -- these and no others, each before those that come after it

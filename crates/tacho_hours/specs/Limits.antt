@@ -1,4 +1,4 @@
--- The numbers of Regulation (EC) 561/2006 (8(6) and 8(6b) as amended by (EU) 2020/1054), in minutes where
+-- Trusted: The numbers of Regulation (EC) 561/2006 (8(6) and 8(6b) as amended by (EU) 2020/1054), in minutes where
 -- nothing else is said, each with its Article.
 use Rattle.std.specs.Prelude.{ℕ}
 

@@ -1,12 +1,12 @@
--- What a rest keeps of its minutes (Regulation (EC) 561/2006, Articles 4(h), 8(6) and 8(7); 8(6) as amended by (EU)
--- 2020/1054).
+-- Private to tacho_hours: What a rest keeps of its minutes (Regulation (EC) 561/2006, Articles 4(h), 8(6b) and 8(7); 8(6b) as amended by
+-- (EU) 2020/1054).
 use Rattle.std.specs.Prelude.{◌≡◌, ℕ, ◌⊎◌}
 use Rattle.tacho_hours.specs.declared.run.Run.{Run}
 use Rattle.tacho_hours.specs.Line.{Line}
 use Rattle.tacho_hours.specs.Limits.{daily_rest, regular_weekly_rest}
 use Rattle.tacho_hours.specs.Debts.{IsMainRest}
 
--- what a rest keeps: 45 hours as the main rest of a week (Article 8(6)), and else nine (Article 8(7))
+-- what a rest keeps: 45 hours as the main rest of a week (Article 8(6b)), and else nine (Article 8(7))
 abbrev pub IsKept : Line → ℕ → Run → ℕ → Type 0
 IsKept line horizon rest kept = ((kept ≡ regular_weekly_rest) × ((w : ℕ) × IsMainRest line horizon w rest))
     ⊎ ((kept ≡ daily_rest) × ((w : ℕ) → IsMainRest line horizon w rest → ⊥))

@@ -1,4 +1,4 @@
--- The order in which a report has its breaches. No Article rules it.
+-- Trusted in part: The order in which a report has its breaches. No Article rules it.
 use Rattle.std.specs.Prelude.{◌≡◌, ℕ, ◌<◌, ◌⊎◌, List, AllPairs}
 use Rattle.tacho_hours.specs.declared.breach.Breach.{Breach}
 use Rattle.tacho_hours.specs.declared.breach.Kind.{Kind}

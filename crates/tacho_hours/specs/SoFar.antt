@@ -1,5 +1,5 @@
--- What is known of a line's rest runs, breaks and breaches so far, as a pass goes over it: words of passes, and no part of
--- the rules.
+-- Private to tacho_hours: What is known of a line's rest runs, breaks and breaches so far, as a pass goes over it: words of
+-- passes, and no part of the rules.
 use Rattle.std.specs.Prelude.{◌≡◌, ◌≢◌, ℕ, ◌+◌, ◌<◌, ◌≤◌, ◌⊎◌, List, All, AllPairs, Contains, Bool, IsTrue}
 use Rattle.tacho_time.specs.declared.span.Activity.TheVariants.{Rest}
 use Rattle.tacho_hours.specs.declared.run.Run.{Run}

@@ -1,4 +1,4 @@
--- Weeks and their weekly rests (Regulation (EC) 561/2006, Articles 4(h), 4(i) and 8(6),
+-- Trusted in part: Weeks and their weekly rests (Regulation (EC) 561/2006, Articles 4(h), 4(i) and 8(6),
 -- 8(6) as amended by (EU) 2020/1054).
 use Rattle.std.specs.Prelude.{◌≡◌, ◌≢◌, ℕ, ◌+◌, ◌*◌, ◌<◌, ◌≤◌, ◌⊎◌}
 use Rattle.tacho_time.specs.declared.span.Activity.TheVariants.{Rest}

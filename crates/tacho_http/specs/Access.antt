@@ -1,4 +1,4 @@
--- What is a driver's own to ask for, and what posts.
+-- Trusted: What is a driver's own to ask for, and what posts.
 use Rattle.std.specs.Prelude.{◌≡◌, ℕ, List, Ok, true}
 use Rattle.tacho_desk.specs.Wants.{is_command, is_own}
 use Rattle.tacho_message.specs.Length.{method_of}

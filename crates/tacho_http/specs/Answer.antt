@@ -1,4 +1,4 @@
--- What is left of a request that was answered.
+-- Trusted in part: What is left of a request that was answered.
 use Rattle.std.specs.Prelude.{◌≡◌, ◌<◌, ◌≤◌, ◌⊎◌, ◌++◌, ◌∷◌, Bool, true, false, ℕ, List, [], Option, Result, Ok, Err, IfOk, IfSome, IsErr, MatchResult, length, take}
 use Rattle.std.specs.Io.KnownBytes.{Appends, Consumes}
 use Rattle.httparse.specs.Grammar.{HasNoRequest, MayBecomeRequest, RequestHead}

@@ -1,4 +1,4 @@
--- What a request asks for, by who asks, its method and its path.
+-- Trusted in part: What a request asks for, by who asks, its method and its path.
 use Rattle.std.specs.Prelude.{Bool, true, false, List, ℕ, Option, Some, None, Result, Ok, Err, if◌then◌else◌}
 use Rattle.tacho_state.specs.declared.caller.Caller.{Caller}
 use Rattle.tacho_state.specs.declared.caller.Caller.TheVariants as caller

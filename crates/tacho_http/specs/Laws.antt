@@ -1,4 +1,4 @@
--- What requests look at, and what they change.
+-- Trusted: What requests look at, and what they change.
 use Rattle.std.specs.Prelude.{◌≡◌, ◌≢◌, ℕ, List, Some, Ok, false, bytes_eq}
 use Rattle.httparse.specs.Grammar.{RequestHead}
 use Rattle.tacho_message.specs.Head.{BeginsWith}

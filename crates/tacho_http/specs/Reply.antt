@@ -1,4 +1,4 @@
--- The replies: what is told of a request, with the status and the kind of body.
+-- Trusted in part: The replies: what is told of a request, with the status and the kind of body.
 use Rattle.std.specs.Prelude.{ℕ, List, [], Ok, Err, codes}
 use Rattle.tacho_card.specs.declared.fault.CardFault.TheVariants as card
 use Rattle.tacho_state.specs.declared.fault.StoreFault.{StoreFault}

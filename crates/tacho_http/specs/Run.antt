@@ -1,4 +1,4 @@
--- Connections that are answered one after the other.
+-- Trusted: Connections that are answered one after the other.
 use Rattle.std.specs.Prelude.{◌≡◌, ◌⊎◌, ◌+◌, ℕ, List, [], ◌∷◌, Bool, Option, IfSome, false, true}
 use Rattle.tacho_message.specs.declared.reply.Status.TheVariants as status
 use Rattle.tacho_state.specs.State.{State}

@@ -1,4 +1,4 @@
--- What a request is answered, and the state of the archive after it.
+-- Trusted: What a request is answered, and the state of the archive after it.
 use Rattle.std.specs.Prelude.{◌≡◌, ◌<◌, ◌≤◌, ◌⊎◌, ℕ, Bool, true, false, List, Option, Some, None, Result, Ok, Err, bytes_eq, length, take}
 use Rattle.httparse.specs.Grammar.{RequestHead}
 use Rattle.tacho_state.specs.State.{State}

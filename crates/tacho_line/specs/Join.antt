@@ -1,4 +1,4 @@
--- Two lists of spans made into one.
+-- Trusted in part: Two lists of spans made into one.
 use Rattle.std.specs.Prelude.{ℕ, ◌&&◌, ◌==◌, ◌<◌, ◌≤◌, ◌⊎◌, nat_lt, nat_le, Bool, List, [], ◌∷◌, ◌++◌, if◌then◌else◌}
 use Rattle.tacho_time.specs.declared.span.Span.{Span}
 use Rattle.tacho_time.specs.declared.span.Mark.{Mark}

@@ -1,4 +1,4 @@
--- A timeline: a finite map from minutes to marks, seen as its canonical list of spans.
+-- Trusted: A timeline: a finite map from minutes to marks, seen as its canonical list of spans.
 use Rattle.std.specs.Prelude.{◌≡◌, ℕ, ◌+◌, ◌<◌, ◌≤◌, ◌&&◌, ◌⊎◌, ◌↔◌, nat_lt, nat_le, Bool, true, false, List, [], ◌∷◌, Option, None, Some, if◌then◌else◌}
 use Rattle.tacho_time.specs.declared.span.Span.{Span}
 use Rattle.tacho_time.specs.declared.span.Mark.{Mark}

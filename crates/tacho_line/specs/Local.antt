@@ -1,4 +1,4 @@
--- What is said of a line near some minutes alone.
+-- Trusted: What is said of a line near some minutes alone.
 use Rattle.std.specs.Prelude.{ℕ, ◌≤◌, List, All}
 use Rattle.tacho_time.specs.declared.span.Span.{Span}
 

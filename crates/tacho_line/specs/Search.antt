@@ -1,4 +1,4 @@
--- The spans that some minutes meet, of a list in order.
+-- Private to tacho_line: The spans that some minutes meet, of a list in order.
 use Rattle.std.specs.Prelude.{ℕ, nat_lt, nat_le, Bool, List, [], ◌∷◌, if◌then◌else◌}
 use Rattle.tacho_time.specs.declared.span.Span.{Span}
 

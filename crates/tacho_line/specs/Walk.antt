@@ -1,4 +1,4 @@
--- What one pass over spans in order makes of them.
+-- Trusted in part: What one pass over spans in order makes of them.
 use Rattle.std.specs.Prelude.{ℕ, nat_lt, List, [], ◌∷◌, ◌++◌, if◌then◌else◌}
 use Rattle.tacho_time.specs.declared.span.Span.{Span}
 use Rattle.tacho_line.specs.declared.gap.Gap.{Gap}

@@ -1,4 +1,4 @@
--- The body of a request: so many bytes behind its head.
+-- Trusted: The body of a request: so many bytes behind its head.
 use Rattle.std.specs.Prelude.{◌≡◌, ◌<◌, ◌≤◌, ◌++◌, ℕ, List, Option, IfSome, length, take}
 use Rattle.std.specs.Io.KnownBytes.{Consumes}
 

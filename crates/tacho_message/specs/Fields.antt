@@ -1,4 +1,4 @@
--- The fields of a head by name, and the length of a body.
+-- Trusted in part: The fields of a head by name, and the length of a body.
 use Rattle.std.specs.Prelude.{◌≡◌, ◌<◌, ◌&&◌, ◌++◌, if◌then◌else◌, ℕ, Bool, List, [], ◌∷◌, Option, Some, None, length, map, nat_lt, nat_le, bytes_eq}
 use Rattle.std.specs.Char.{to_ascii_lowercase}
 use Rattle.std.specs.Str.{all_ascii_digits}

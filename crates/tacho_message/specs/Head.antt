@@ -1,4 +1,4 @@
--- The head of a request (RFC 9112, in the grammar of httparse): which one an input begins with, and why it has none.
+-- Trusted: The head of a request (RFC 9112, in the grammar of httparse): which one an input begins with, and why it has none.
 use Rattle.std.specs.Prelude.{◌≡◌, ◌<◌, ◌≤◌, ◌⊎◌, ℕ, List, Option, IfSome, length, take, ⊤}
 use Rattle.std.specs.Io.KnownBytes.{Consumes}
 use Rattle.httparse.specs.Grammar.{RequestHead, print_request, ReadsRequest, HasNoRequest, NeverHasRequest, MayBecomeRequest}

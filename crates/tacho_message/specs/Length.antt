@@ -1,4 +1,4 @@
--- The method of a request, and how many bytes of a body it has.
+-- Trusted: The method of a request, and how many bytes of a body it has.
 use Rattle.std.specs.Prelude.{◌==◌, ◌||◌, ℕ, Bool, List, [], ◌∷◌, Option, Some, None, Result, Ok, Err, bytes_eq, codes, nat_lt, if◌then◌else◌}
 use Rattle.tacho_message.specs.Fields.{length_told, values_under}
 use Rattle.tacho_message.specs.declared.method.Method.{Method}

@@ -1,4 +1,4 @@
--- The bytes of a reply.
+-- Trusted: The bytes of a reply.
 use Rattle.std.specs.Prelude.{◌++◌, ℕ, List, length, codes, decimal}
 use Rattle.tacho_message.specs.declared.reply.Status.{Status}
 use Rattle.tacho_message.specs.declared.reply.Status.TheVariants as status

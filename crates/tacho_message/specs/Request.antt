@@ -1,4 +1,4 @@
--- A request as it is handed on: the parts of its head, and what came behind it.
+-- Trusted: A request as it is handed on: the parts of its head, and what came behind it.
 use Rattle.std.specs.Prelude.{◌≡◌, All, List, [], ◌∷◌, Option, Some, None, codes, length, map, ℕ}
 use Rattle.httparse.specs.Grammar.{RequestHead}
 use Rattle.httparse.specs.Spans.{IsHeaderWithin, header_bytes, name_and_value}

@@ -1,4 +1,4 @@
--- Words of the pass over duty days: breaches of daily rests (Regulation (EC) 561/2006, Articles 8(2) and
+-- Private to tacho_plain: Words of the pass over duty days: breaches of daily rests (Regulation (EC) 561/2006, Articles 8(2) and
 -- 8(4)) and of a day's driving (Article 6(1)).
 use Rattle.std.specs.Prelude.{◌≡◌, ◌+◌, ◌<◌, ◌≤◌, ◌⊎◌, List}
 use Rattle.tacho_hours.specs.declared.days.DutyDay.{DutyDay}

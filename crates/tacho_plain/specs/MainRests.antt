@@ -1,5 +1,5 @@
--- How a rest is known to be the main one of its week (Regulation (EC) 561/2006, Articles 4(h) and 8(6), as amended by
--- (EU) 2020/1054).
+-- Private to tacho_plain: How a rest is known to be the main one of its week (Regulation (EC) 561/2006, Articles 4(h) and 8(6b),
+-- as amended by (EU) 2020/1054).
 use Rattle.std.specs.Prelude.{◌≡◌, ℕ, ◌<◌, ◌⊎◌}
 use Rattle.tacho_hours.specs.declared.run.Run.{Run}
 use Rattle.tacho_hours.specs.Debts.{minutes_before}

@@ -1,4 +1,4 @@
--- Words of the pass over weekly rests (Regulation (EC) 561/2006, Articles 8(6b) and 8(7); 8(6b) as amended by (EU)
+-- Private to tacho_plain: Words of the pass over weekly rests (Regulation (EC) 561/2006, Articles 8(6b) and 8(7); 8(6b) as amended by (EU)
 -- 2020/1054).
 use Rattle.std.specs.Prelude.{◌≡◌, ℕ, ◌+◌, ◌≤◌}
 use Rattle.tacho_hours.specs.declared.run.Run.{Run}

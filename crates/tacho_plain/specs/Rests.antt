@@ -1,4 +1,4 @@
--- Words of the passes over rests in order of time.
+-- Private to tacho_plain: Words of the passes over rests in order of time.
 use Rattle.std.specs.Prelude.{◌<◌, ◌≤◌, List, All, AllPairs}
 use Rattle.tacho_hours.specs.declared.run.Run.{Run}
 use Rattle.tacho_hours.specs.Limits.{latest}

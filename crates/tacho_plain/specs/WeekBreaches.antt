@@ -1,4 +1,4 @@
--- Words of the pass over weeks: driving in a week and in two neighbouring weeks
+-- Private to tacho_plain: Words of the pass over weeks: driving in a week and in two neighbouring weeks
 -- (Regulation (EC) 561/2006, Articles 6(2) and 6(3)).
 use Rattle.std.specs.Prelude.{ℕ, ◌+◌, ◌<◌, ◌≤◌, ◌⊎◌, List}
 use Rattle.tacho_hours.specs.declared.breach.Breach.{Breach}

@@ -1,4 +1,4 @@
--- A driver's rows of spans, and where those begin that have a minute in a range.
+-- Private to tacho_reading: A driver's rows of spans, and where those begin that have a minute in a range.
 use Rattle.std.specs.Prelude.{ℕ, ◌<◌, ◌≤◌, ◌⊎◌, ◌&&◌, nat_lt, List, [], ◌∷◌, filter, Option, Some, None, if◌then◌else◌}
 use Rattle.std.specs.List.{AllByRecursion}
 use Rattle.tacho_tables.specs.declared.rows.StoredSpan.{StoredSpan}

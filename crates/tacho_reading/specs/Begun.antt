@@ -1,4 +1,4 @@
--- Where a reading of a driver's rows begins for his report.
+-- Private to tacho_reading: Where a reading of a driver's rows begins for his report.
 use Rattle.std.specs.Prelude.{◌≡◌, ℕ, ◌*◌, ◌==◌, ◌&&◌, nat_lt, Bool, filter, Some}
 use Rattle.sqlite.specs.Tree.{Trees}
 use Rattle.tacho_state.specs.State.{Driver, State, driver_of}

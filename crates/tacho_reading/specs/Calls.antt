@@ -1,4 +1,4 @@
--- What a call of an archive does within a transaction, in terms of the state that the tables stand for.
+-- Private to tacho_reading: What a call of an archive does within a transaction, in terms of the state that the tables stand for.
 use Rattle.std.specs.Prelude.{◌≡◌, ℕ, Result, OnOk, IsTrue}
 use Rattle.std.specs.Borrow.{MutBor}
 use Rattle.sqlite.specs.State.{HasCleanDisk, IsUnchanged, KeepsCommit}

@@ -1,4 +1,4 @@
--- Faults of the tables, as the archive names them.
+-- Private to tacho_reading: Faults of the tables, as the archive names them.
 use Rattle.tacho_state.specs.declared.fault.StoreFault.{StoreFault}
 use Rattle.tacho_state.specs.declared.fault.StoreFault.TheVariants as store
 use Rattle.tacho_tables.specs.declared.fault.TableFault.{TableFault}

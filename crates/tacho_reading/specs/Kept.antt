@@ -1,4 +1,4 @@
--- What a connection holds of an archive.
+-- Trusted in part: What a connection holds of an archive.
 use Rattle.std.specs.Prelude.{◌≡◌, ◌⊎◌, ℕ, List, [], ◌∷◌, Result, IsTrue}
 use Rattle.sqlite.specs.Tree.{Trees}
 use Rattle.sqlite.specs.State.{State as Sqlite, HasCleanDisk}

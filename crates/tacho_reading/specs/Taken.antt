@@ -1,4 +1,4 @@
--- What a scan takes of a driver's rows that come one at a time: their spans, cut at a base, up to the horizon.
+-- Private to tacho_reading: What a scan takes of a driver's rows that come one at a time: their spans, cut at a base, up to the horizon.
 use Rattle.std.specs.Prelude.{◌≡◌, ℕ, ◌<◌, ◌≤◌, ◌⊎◌, nat_lt, nat_le, false, true, All, List, [], ◌∷◌, ◌++◌, map}
 use Rattle.std.specs.Prelude.{if◌then◌else◌, Result, IfOk, IfErr, OnOk, IsTrue}
 use Rattle.std.specs.Borrow.{MutBor}

@@ -1,5 +1,5 @@
--- Two neighbouring weeks and their weekly rests (Regulation (EC) 561/2006, Article 8(6), first subparagraph), span by
--- span: what is kept of them, and what that stands for.
+-- Private to tacho_rests: Two neighbouring weeks and their weekly rests (Regulation (EC) 561/2006, Article 8(6), first
+-- subparagraph), span by span: what is kept of them, and what that stands for.
 use Rattle.std.specs.Prelude.{◌≡◌, ℕ, ◌≤◌, List, []}
 use Rattle.tacho_time.specs.declared.span.Span.{Span}
 use Rattle.tacho_hours.specs.declared.run.Run.{Run}

@@ -1,4 +1,4 @@
--- Weekly rests that start late (Regulation (EC) 561/2006, Article 8(6), second subparagraph), rest by rest: what is
+-- Private to tacho_rests: Weekly rests that start late (Regulation (EC) 561/2006, Article 8(6), second subparagraph), rest by rest: what is
 -- kept of them, and what that stands for.
 use Rattle.std.specs.Prelude.{◌≡◌, ℕ, ◌+◌, ◌-◌, ◌<◌, ◌≤◌, nat_lt, nat_le, List, [], Option, None, Some, MatchOption}
 use Rattle.std.specs.Prelude.{if◌then◌else◌}

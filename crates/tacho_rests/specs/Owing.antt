@@ -1,5 +1,5 @@
--- Debts (Regulation (EC) 561/2006, Article 8(6b), as amended by (EU) 2020/1054), span by span: what a ledger of them
--- stands for.
+-- Private to tacho_rests: Debts (Regulation (EC) 561/2006, Article 8(6b), as amended by (EU) 2020/1054), span by span: what a
+-- ledger of them stands for.
 use Rattle.std.specs.Prelude.{ℕ, ◌≤◌, List}
 use Rattle.tacho_time.specs.declared.span.Span.{Span}
 use Rattle.tacho_hours.specs.declared.run.Run.{Run}

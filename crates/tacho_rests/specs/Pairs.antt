@@ -1,4 +1,4 @@
--- Two neighbouring weeks and their weekly rests, rest by rest (Regulation (EC) 561/2006, Article 8(6), first
+-- Private to tacho_rests: Two neighbouring weeks and their weekly rests, rest by rest (Regulation (EC) 561/2006, Article 8(6), first
 -- subparagraph).
 use Rattle.std.specs.Prelude.{◌≡◌, ℕ, ◌+◌, ◌<◌, ◌≤◌, ◌⊎◌, ◌&&◌, ◌||◌, not, Bool, true, false, nat_le, nat_lt}
 use Rattle.std.specs.Prelude.{if◌then◌else◌, List, Option, None, Some, MatchOption}

@@ -1,5 +1,5 @@
--- Debts as the rests of a line come one by one (Regulation (EC) 561/2006, Articles 4(h) and 8(6b); 8(6b) as amended by
--- (EU) 2020/1054).
+-- Private to tacho_rests: Debts as the rests of a line come one by one (Regulation (EC) 561/2006, Articles 4(h) and 8(6b); 8(6b)
+-- as amended by (EU) 2020/1054).
 use Rattle.std.specs.Prelude.{◌≡◌, ℕ, ◌+◌, ◌<◌, ◌≤◌, ◌↔◌, List, [], ◌++◌, Contains, AllPairs, Option, None, MatchOption}
 use Rattle.tacho_hours.specs.declared.run.Run.{Run}
 use Rattle.tacho_hours.specs.declared.debt.Debt.{Debt}

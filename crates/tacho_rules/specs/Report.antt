@@ -1,4 +1,4 @@
--- The report of what is held, from a base on: what Regulation (EC) 561/2006 says of it in Articles 6,
+-- Trusted: The report of what is held, from a base on: what Regulation (EC) 561/2006 says of it in Articles 6,
 -- 7 and 8, and where the examination ends.
 use Rattle.std.specs.Prelude.{ℕ, ◌&&◌, nat_le, nat_lt, if◌then◌else◌, List}
 use Rattle.std.specs.Option.{option_map_or}

@@ -1,5 +1,5 @@
--- One pass over the spans of an examined line: what a scan and what it has found stand for, and what it finds in the
--- end (Regulation (EC) 561/2006, Articles 6, 7 and 8).
+-- Private to tacho_rules: One pass over the spans of an examined line: what a scan and what it has found stand for, and what it
+-- finds in the end (Regulation (EC) 561/2006, Articles 6, 7 and 8).
 use Rattle.std.specs.Prelude.{ℕ, ◌≤◌, List}
 use Rattle.tacho_time.specs.declared.span.Span.{Span}
 use Rattle.tacho_hours.specs.declared.run.Run.{Run}

@@ -1,4 +1,4 @@
--- The six amounts of some minutes, as they are counted and as they are written.
+-- Private to tacho_sheet: The six amounts of some minutes, as they are counted and as they are written.
 use Rattle.std.specs.Prelude.{◌≡◌, ℕ, ◌+◌, ◌<◌, ◌≤◌, Bool, true, false, List, [], ◌∷◌, ◌++◌, ◌%◌, codes, decimal}
 use Rattle.tacho_time.specs.declared.span.Activity.TheVariants.{Rest, Available, Work, Drive}
 use Rattle.tacho_time.specs.declared.span.Span.{Span}

@@ -1,4 +1,4 @@
--- The lines of commands that were done.
+-- Trusted: The lines of commands that were done.
 use Rattle.std.specs.Prelude.{ℕ, ◌+◌, ◌-◌, ◌==◌, List, ◌++◌, codes, decimal, if◌then◌else◌}
 use Rattle.tacho_time.specs.Text.{day_text}
 use Rattle.tacho_state.specs.declared.imported.Imported.{Imported}

@@ -1,4 +1,4 @@
--- The driver that a text of CSV registers, or the first fault: the columns from left to right.
+-- Trusted: The driver that a text of CSV registers, or the first fault: the columns from left to right.
 use Rattle.std.specs.Prelude.{◌≡◌, ◌⊎◌, ◌&&◌, ℕ, Bool, true, false, List, [], ◌∷◌, length, Option, Some, None, Result, Ok, Err, bytes_eq, codes}
 use Rattle.std.specs.Str.{IsUtf8}
 use Rattle.hex.specs.Hex.{encode_lower, IsBytes}

@@ -1,4 +1,4 @@
--- The hours that the rows of a text enter, or the first fault: row by row, and within a row by E2 to E7.
+-- Trusted: The hours that the rows of a text enter, or the first fault: row by row, and within a row by E2 to E7.
 use Rattle.std.specs.Prelude.{◌≡◌, ◌+◌, ◌-◌, ◌||◌, ◌&&◌, ◌++◌, if◌then◌else◌, ℕ, Bool, false, List, [], ◌∷◌, Option, Some, None, Result, Ok, Err, nat_lt, nat_le, bytes_eq, codes, Vec}
 use Rattle.std.specs.declared.alloc.Global.{Global}
 use Rattle.tacho_time.specs.Reading.{minute_at}

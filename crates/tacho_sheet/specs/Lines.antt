@@ -1,4 +1,4 @@
--- The lines of faults.
+-- Trusted: The lines of faults.
 use Rattle.std.specs.Prelude.{ℕ, ◌+◌, ◌/◌, ◌%◌, nat_lt, List, [], ◌∷◌, ◌++◌, codes, decimal, if◌then◌else◌}
 use Rattle.tacho_time.specs.Text.{minute_text}
 use Rattle.tacho_time.specs.declared.fault.TimeFault.{TimeFault}

@@ -1,4 +1,4 @@
--- Numbers as they are written: in decimal, without leading zeros.
+-- Trusted: Numbers as they are written: in decimal, without leading zeros.
 use Rattle.std.specs.Prelude.{◌≡◌, ℕ, ◌≤◌, List, decimal}
 
 -- the text is that of the number, which is 1 at the least

@@ -1,4 +1,4 @@
--- The texts of what a driver holds and of what the rules say of it.
+-- Trusted: The texts of what a driver holds and of what the rules say of it.
 use Rattle.std.specs.Prelude.{◌≡◌, ℕ, zero, suc, ◌+◌, ◌-◌, ◌*◌, ◌/◌, ◌%◌, ◌&&◌, ◌==◌, pos, nat_lt, nat_le, not, Bool, true, false, List, [], ◌∷◌, ◌++◌, Option, Some, None, codes, decimal, flat_map, filter, length, replicate, if◌then◌else◌}
 use Rattle.std.proofs.Math.IntN.{◌*ℤ◌}
 use Rattle.tacho_time.specs.declared.span.Activity.{Activity}

@@ -1,5 +1,5 @@
--- The rows of a text of CSV: the records that csv reads with its usual settings, of any number of fields, the head among them,
--- once one byte order mark is taken off.
+-- Trusted in part: The rows of a text of CSV: the records that csv reads with its usual settings, of any number of fields, the
+-- head among them, once one byte order mark is taken off.
 use Rattle.std.specs.Prelude.{◌≡◌, ℕ, false, true, List, [], ◌∷◌, Option, Some, None}
 use Rattle.std.specs.Borrow.{Bor}
 use Rattle.csv.specs.Machine.{ends_at_end}

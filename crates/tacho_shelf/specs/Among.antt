@@ -1,4 +1,4 @@
--- States of which one is meant.
+-- Private to tacho_shelf: States of which one is meant.
 use Rattle.std.specs.Prelude.{◌≡◌, ◌⊎◌, List, [], ◌∷◌}
 use Rattle.tacho_state.specs.State.{State}
 

@@ -1,4 +1,4 @@
--- A batch of hours as they are entered.
+-- Trusted: A batch of hours as they are entered.
 use Rattle.std.specs.Prelude.{◌+◌, ◌≤◌, ◌<◌, false, List, [], ◌∷◌, map, All}
 use Rattle.tacho_state.specs.declared.entry.EntryLine.{EntryLine}
 use Rattle.tacho_state.specs.State.{Entry}

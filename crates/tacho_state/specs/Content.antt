@@ -1,4 +1,4 @@
--- What a card file tells, read by a part: a relation with one solution.
+-- Trusted: What a card file tells, read by a part: a relation with one solution.
 use Rattle.std.specs.Prelude.{◌≡◌, ℕ, List, Result, Ok, Err}
 use Rattle.tacho_card.specs.declared.fault.CardFault.{CardFault}
 use Rattle.tacho_card.specs.declared.fault.CardFault.TheVariants as card

@@ -1,4 +1,4 @@
--- Stored spans that keep a set of pairs, in any order, and what is done to them by range.
+-- Trusted in part: Stored spans that keep a set of pairs, in any order, and what is done to them by range.
 use Rattle.std.specs.Prelude.{ℕ, ◌<◌, ◌≤◌, ◌⊎◌, ◌&&◌, nat_lt, not, Bool, List, [], ◌∷◌, ◌++◌, filter}
 use Rattle.tacho_time.specs.declared.span.Span.{Span}
 use Rattle.tacho_time.specs.declared.span.Mark.{Mark}

@@ -1,4 +1,4 @@
--- The least minute with two marks, and whether all pairs of spans are given by others, as functions. They search minute by minute,
+-- Trusted: The least minute with two marks, and whether all pairs of spans are given by others, as functions. They search minute by minute,
 -- and are never run: laws tie them to the relations.
 use Rattle.std.specs.Prelude.{ℕ, zero, suc, ◌+◌, ◌&&◌, ◌||◌, not, Bool, false, List, [], ◌∷◌, Option, Some, None, is_some, if◌then◌else◌}
 use Rattle.tacho_time.specs.declared.span.Span.{Span}

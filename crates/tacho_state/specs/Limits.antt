@@ -1,4 +1,4 @@
--- What a driver's number, key and name may be, and how many numbers are given out.
+-- Trusted: What a driver's number, key and name may be, and how many numbers are given out.
 use Rattle.std.specs.Prelude.{◌≡◌, ◌≢◌, ℕ, ◌+◌, ◌≤◌, ◌⊎◌, List, length, All, Option, Some, None, if◌then◌else◌, nat_le, IsTrue}
 use Rattle.std.specs.Char.{is_ascii_alphanumeric}
 

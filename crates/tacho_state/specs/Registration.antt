@@ -1,4 +1,4 @@
--- A driver as he is registered, and the first column that is out of its limits.
+-- Trusted: A driver as he is registered, and the first column that is out of its limits.
 use Rattle.std.specs.Prelude.{ℕ, ◌≤◌, List}
 use Rattle.tacho_state.specs.declared.driver.Column.{Column}
 use Rattle.tacho_state.specs.declared.driver.Column.TheVariants as column

@@ -1,4 +1,4 @@
--- What is told of a driver by a part of what he holds, and what the rules say of it.
+-- Trusted: What is told of a driver by a part of what he holds, and what the rules say of it.
 use Rattle.std.specs.Prelude.{◌≡◌, ◌⊎◌, ℕ, ◌*◌, ◌<◌, ◌≤◌, false, All, List, IfSome}
 use Rattle.tacho_time.specs.declared.span.Span.{Span}
 use Rattle.tacho_line.specs.Line.{AgreeWithin}

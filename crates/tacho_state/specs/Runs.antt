@@ -1,4 +1,4 @@
--- Calls of whatever keeps a state, one after the other, and what a stop behind them leaves.
+-- Trusted in part: Calls of whatever keeps a state, one after the other, and what a stop behind them leaves.
 use Rattle.std.specs.Prelude.{◌≡◌, List, [], ◌∷◌, Result, Ok, Err, OnOk}
 use Rattle.tacho_state.specs.declared.fault.StoreFault.{StoreFault}
 use Rattle.tacho_state.specs.State.{State}

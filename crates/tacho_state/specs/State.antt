@@ -1,4 +1,4 @@
--- The archive's state: its drivers, the card files that were accepted of each, and the hours that were entered for him.
+-- Trusted: The archive's state: its drivers, the card files that were accepted of each, and the hours that were entered for him.
 use Rattle.std.specs.Prelude.{ℕ, ◌+◌, ◌<◌, ◌==◌, Bool, true, false, List, [], ◌∷◌, ◌++◌, Option, Some, None, bytes_eq, if◌then◌else◌}
 use Rattle.tacho_time.specs.declared.span.Span.{Span}
 use Rattle.tacho_time.specs.declared.span.Mark.{Mark}

@@ -1,4 +1,4 @@
--- What each command and each reading answers, and the state after it. A refusal leaves the state as it was; where several
+-- Trusted: What each command and each reading answers, and the state after it. A refusal leaves the state as it was; where several
 -- stand, the first in the order of S1 to S14 is answered, but a file's own fault (S11) before all others.
 use Rattle.std.specs.Prelude.{ℕ, ◌+◌, ◌%◌, ◌==◌, nat_lt, Bool, List, [], ◌∷◌, ◌++◌, length, Option, Some, None, is_some, option_map, Result, Ok, Err, bytes_eq, if◌then◌else◌}
 use Rattle.tacho_time.specs.declared.span.Span.{Span}

@@ -1,4 +1,4 @@
--- What entering a batch is made of: what it adds to what the driver holds, and its rows.
+-- Private to tacho_store: What entering a batch is made of: what it adds to what the driver holds, and its rows.
 use Rattle.std.specs.Prelude.{◌≡◌, ℕ, ◌+◌, ◌<◌, ◌≤◌, ◌++◌, List, map, length, Ok, Err}
 use Rattle.sqlite.specs.Tree.{Trees}
 use Rattle.tacho_time.specs.declared.span.Span.{Span}

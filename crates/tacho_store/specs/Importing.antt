@@ -1,4 +1,4 @@
--- What an import is made of: the driver whom it is for, and what of a file's spans is new.
+-- Private to tacho_store: What an import is made of: the driver whom it is for, and what of a file's spans is new.
 use Rattle.std.specs.Prelude.{◌≡◌, ℕ, ◌+◌, ◌<◌, ◌≤◌, List, map, ◌∷◌, ◌++◌, length, Option, Some, None, Result, Ok, Err, bytes_eq, if◌then◌else◌}
 use Rattle.sqlite.specs.Tree.{Trees}
 use Rattle.tacho_time.specs.declared.span.Span.{Span}

@@ -1,4 +1,4 @@
--- What a file's spans add, and why they add nothing.
+-- Private to tacho_store: What a file's spans add, and why they add nothing.
 use Rattle.std.specs.Prelude.{◌≡◌, ℕ, ◌⊎◌, List, ◌∷◌}
 use Rattle.tacho_time.specs.OrMemory.{OrMemory}
 use Rattle.tacho_time.specs.declared.span.Span.{Span}

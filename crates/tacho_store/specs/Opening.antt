@@ -1,4 +1,4 @@
--- How an archive comes into a store, and how it is found there again.
+-- Trusted in part: How an archive comes into a store, and how it is found there again.
 use Rattle.std.specs.Prelude.{◌≡◌, ◌≢◌, ◌⊎◌, ℕ, List, [], ◌∷◌, Option, Result, OnOk, OnErr, IfOk, IsErr, IsTrue}
 use Rattle.std.specs.Borrow.{MutBor}
 use Rattle.sqlite.specs.State.{State as Sqlite, HasCleanDisk, KeepsCommit, Survives}

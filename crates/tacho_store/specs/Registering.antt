@@ -1,4 +1,4 @@
--- What a registration is made of: nobody has the new driver's number, key or holder.
+-- Private to tacho_store: What a registration is made of: nobody has the new driver's number, key or holder.
 use Rattle.std.specs.Prelude.{◌≡◌, ℕ, List, None, Result, Ok, Err}
 use Rattle.tacho_state.specs.declared.fault.StoreFault.{StoreFault}
 use Rattle.tacho_state.specs.State.{State, driver_of, keyed, holding}

@@ -1,4 +1,4 @@
--- What a withdrawal is made of: the entry, and the rows that come where it was.
+-- Private to tacho_store: What a withdrawal is made of: the entry, and the rows that come where it was.
 use Rattle.std.specs.Prelude.{◌≡◌, ◌⊎◌, ℕ, ◌++◌, All, List, map, false, Some, Result, Ok, Err}
 use Rattle.tacho_time.specs.declared.span.Span.{Span}
 use Rattle.tacho_time.specs.Spans.{Gives, IsCanonicalOf}

@@ -1,4 +1,4 @@
--- How a table is made.
+-- Private to tacho_tables: How a table is made.
 use Rattle.std.specs.Prelude.{◌≡◌, ℕ, List, [], Option, Some, None, false, Ok, IsTrue}
 use Rattle.std.specs.List.{AllByRecursion}
 use Rattle.sqlite.specs.Schema.{Schema}

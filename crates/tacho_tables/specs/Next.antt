@@ -1,4 +1,4 @@
--- Spans that are read one at a time, of the rows of a query.
+-- Private to tacho_tables: Spans that are read one at a time, of the rows of a query.
 use Rattle.std.specs.Prelude.{◌≡◌, ℕ, pos, nat_lt, false, List, [], ◌∷◌, codes, filter, Option, None, Some}
 use Rattle.std.specs.Prelude.{IsTrue, IsPermutation}
 use Rattle.std.specs.List.Sorted.{IsSortedBy}

@@ -1,4 +1,4 @@
--- The rows of the archive's tables as values of types, and when stored rows stand for a list of them.
+-- Trusted: The rows of the archive's tables as values of types, and when stored rows stand for a list of them.
 use Rattle.std.specs.Prelude.{◌≡◌, ℕ, ℤ, pos, List, [], ◌∷◌, map, drop, IsPermutation}
 use Rattle.sqlite.specs.declared.types.Value.TheVariants.{Null, Int, Text, Blob}
 use Rattle.sqlite.specs.Order.{Row}

@@ -1,4 +1,4 @@
--- Schema 1 of the archive: six tables, in the order in which they are made, and the texts that make them.
+-- Trusted in part: Schema 1 of the archive: six tables, in the order in which they are made, and the texts that make them.
 use Rattle.std.specs.Prelude.{true, false, [], ◌∷◌, Some, None, codes, List, ℕ, pos}
 use Rattle.sqlite.specs.Collation.TheVariants.{Binary}
 use Rattle.sqlite.specs.declared.types.Value.TheVariants.{Null, Int}

@@ -1,4 +1,4 @@
--- The two tables of spans: which list each of them is, and the texts over it.
+-- Private to tacho_tables: The two tables of spans: which list each of them is, and the texts over it.
 use Rattle.std.specs.Prelude.{ℕ, codes, List}
 use Rattle.tacho_tables.specs.declared.spans.SpanTable.{SpanTable}
 use Rattle.tacho_tables.specs.declared.spans.SpanTable.TheVariants.{CardSpans, Held}

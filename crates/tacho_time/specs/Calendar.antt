@@ -1,4 +1,4 @@
--- The date of a day number, by years and months of the Gregorian calendar.
+-- Trusted: The date of a day number, by years and months of the Gregorian calendar.
 use Rattle.std.specs.Prelude.{◌≡◌, ℕ, zero, suc, ◌+◌, ◌-◌, nat_lt, pos, if◌then◌else◌}
 use Rattle.jiff_core.specs.Calendar.{days_in_year, days_in_month, days_from_civil, IsCivilDate}
 

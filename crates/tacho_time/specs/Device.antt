@@ -1,4 +1,4 @@
--- What contracts see of a device: the reader or writer in it, and whether a call of it has failed.
+-- Trusted: What contracts see of a device: the reader or writer in it, and whether a call of it has failed.
 use Rattle.std.specs.Prelude.{Bool}
 use Rattle.tacho_time.specs.declared.device.Device.{Device}
 

@@ -1,4 +1,4 @@
--- Spans in order of their starts, made into runs.
+-- Trusted in part: Spans in order of their starts, made into runs.
 use Rattle.std.specs.Prelude.{◌≡◌, ℕ, ◌&&◌, ◌||◌, ◌==◌, nat_lt, not, Bool, true, false, List, [], ◌∷◌, ◌++◌, Result, Ok, Err, if◌then◌else◌}
 use Rattle.tacho_time.specs.Spans.{Gives, IsCanonical, GiveSame, IsFirstConflict}
 use Rattle.tacho_time.specs.declared.span.Span.{Span}

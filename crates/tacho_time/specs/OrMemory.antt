@@ -1,4 +1,4 @@
--- Want of memory, which may come in place of any other answer.
+-- Trusted: Want of memory, which may come in place of any other answer.
 use Rattle.std.specs.Prelude.{◌≡◌, ◌⊎◌}
 
 -- the fault is want of memory, or it is as wanted

@@ -1,4 +1,4 @@
--- What texts of days, minutes and months are read as: the value of a written form in range, or the first fault.
+-- Trusted in part: What texts of days, minutes and months are read as: the value of a written form in range, or the first fault.
 use Rattle.std.specs.Prelude.{ℕ, ◌+◌, ◌-◌, ◌*◌, ◌/◌, ◌%◌, ◌&&◌, ◌==◌, ◌<◌, nat_lt, nat_le, Bool, List, [], ◌∷◌, length, take, drop, Option, None, Some, Result, Ok, Err, ℤ, pos, negsuc, if◌then◌else◌, slice_index}
 use Rattle.std.specs.Char.{is_ascii_digit}
 use Rattle.jiff_core.specs.Calendar.{days_from_civil, days_in_month}

@@ -1,4 +1,4 @@
--- What spans give to minutes: sets of pairs of a minute and a mark.
+-- Trusted in part: What spans give to minutes: sets of pairs of a minute and a mark.
 use Rattle.std.specs.Prelude.{◌≡◌, ◌≢◌, ℕ, ◌<◌, ◌≤◌, ◌⊎◌, ◌↔◌, List, [], ◌∷◌}
 use Rattle.tacho_time.specs.declared.span.Span.{Span}
 use Rattle.tacho_time.specs.declared.span.Mark.{Mark}

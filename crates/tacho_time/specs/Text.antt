@@ -1,4 +1,4 @@
--- The texts of days, minutes, months and spans, as bytes.
+-- Trusted: The texts of days, minutes, months and spans, as bytes.
 use Rattle.std.specs.Prelude.{ℕ, ◌+◌, ◌/◌, ◌%◌, Bool, true, false, List, [], ◌∷◌, ◌++◌, codes}
 use Rattle.tacho_time.specs.declared.span.Activity.{Activity}
 use Rattle.tacho_time.specs.declared.span.Activity.TheVariants.{Rest, Available, Work, Drive}
