@@ -54,6 +54,7 @@ refusal store.UnknownEntry = inr (inl tt)
 refusal store.AlreadyWithdrawn = inr (inl tt)
 refusal store.NotMonday = inr (inl tt)
 refusal store.UnknownDownload = inr (inl tt)
+refusal store.OldSchema = inr (inl tt)
 refusal store.Full = inr (inl tt)
 
 -- a refusal of the archive is the step's, or a giving up
@@ -72,6 +73,7 @@ refusal_of view store.UnknownEntry told h = inl h
 refusal_of view store.AlreadyWithdrawn told h = inl h
 refusal_of view store.NotMonday told h = inl h
 refusal_of view store.UnknownDownload told h = inl h
+refusal_of view store.OldSchema told h = inl h
 refusal_of view store.Full told h = inl h
 
 -- a text of CSV that could not be read: for want of memory, or by E8, or by its first fault
@@ -88,6 +90,7 @@ read_fault Is (sheet.LeftOut row word) (inl h) = absurd h
 read_fault Is (sheet.Activity row) (inl h) = absurd h
 read_fault Is (sheet.TooLong row) (inl h) = absurd h
 read_fault Is (sheet.Column column) (inl h) = absurd h
+read_fault Is (sheet.Text row column) (inl h) = absurd h
 
 -- it is the input's fault, or want of memory
 unread : {A : Type 0} (Is : Result A SheetFault → Type 0) (f : SheetFault) → OrCsv Is (Err f) ⊎ (f ≡ sheet.Memory)

@@ -67,7 +67,7 @@ Imports caller p input s answer after =
 abbrev pub entered_told : ℕ → ℕ → Told
 entered_told first count = if count == 0 then Line (entered_text first count) else Added (entered_text first count)
 
--- one of E1 to E8, or the step of the batch
+-- one of E1 to E8 or E10, or the step of the batch
 abbrev pub EntersRead : ℕ → State → Lines → Doing
 EntersRead n s (Err f) = Refuses (sheet_fault f) s
 EntersRead n s (Ok lines) = Steps (λ first. entered_told first (length lines)) (entered n (batch_of lines) s)

@@ -33,6 +33,7 @@ pub archive_refuses : map store_status (store.DriverTaken ∷
     (store.Card card.NoActivity) ∷
     (store.Card card.Memory) ∷
     store.Store ∷
+    store.OldSchema ∷
     store.Full ∷
     store.Memory ∷ [])
     ≡ status.Conflict
@@ -48,6 +49,7 @@ pub archive_refuses : map store_status (store.DriverTaken ∷
     ∷ status.UnprocessableEntity
     ∷ status.Unavailable
     ∷ status.Unavailable
+    ∷ status.Unavailable
     ∷ status.Conflict
     ∷ status.Unavailable ∷ []
 archive_refuses = refl
@@ -59,9 +61,11 @@ words_are_wrong = refl
 
 -- of the rows of a body
 pub rows_are_wrong : map (λ f. fault_status (told.Sheet f)) (sheet.Head ∷ (sheet.Fields 2) ∷ (sheet.Time 2) ∷ (sheet.Order 2)
-    ∷ (sheet.LeftOut 2 left_out.Crew) ∷ (sheet.Activity 2) ∷ (sheet.TooLong 2) ∷ sheet.Csv ∷ (sheet.Column column.Holder) ∷ [])
+    ∷ (sheet.LeftOut 2 left_out.Crew) ∷ (sheet.Activity 2) ∷ (sheet.TooLong 2) ∷ sheet.Csv ∷ (sheet.Column column.Holder)
+    ∷ (sheet.Text 2 column.Author) ∷ (sheet.Text 2 column.Note) ∷ [])
     ≡ status.UnprocessableEntity ∷ status.UnprocessableEntity ∷ status.UnprocessableEntity ∷ status.UnprocessableEntity
-    ∷ status.UnprocessableEntity ∷ status.UnprocessableEntity ∷ status.UnprocessableEntity ∷ status.UnprocessableEntity ∷ status.UnprocessableEntity ∷ []
+    ∷ status.UnprocessableEntity ∷ status.UnprocessableEntity ∷ status.UnprocessableEntity ∷ status.UnprocessableEntity
+    ∷ status.UnprocessableEntity ∷ status.UnprocessableEntity ∷ status.UnprocessableEntity ∷ []
 rows_are_wrong = refl
 
 -- ---- fixed bodies

@@ -89,6 +89,7 @@ gave_up (fault.Told (told.Store store.AlreadyWithdrawn)) h = absurd h
 gave_up (fault.Told (told.Store store.NotMonday)) h = absurd h
 gave_up (fault.Told (told.Store store.UnknownDownload)) h = absurd h
 gave_up (fault.Told (told.Store (store.Card f))) h = absurd h
+gave_up (fault.Told (told.Store store.OldSchema)) h = absurd h
 gave_up (fault.Told (told.Store store.Full)) h = absurd h
 gave_up (fault.Told (told.Store store.Memory)) h = absurd h
 gave_up (fault.Told (told.Time f)) h = absurd h
@@ -134,6 +135,7 @@ refused (fault.Told (told.Store store.AlreadyWithdrawn)) = refl
 refused (fault.Told (told.Store store.NotMonday)) = refl
 refused (fault.Told (told.Store store.UnknownDownload)) = refl
 refused (fault.Told (told.Store store.Store)) = refl
+refused (fault.Told (told.Store store.OldSchema)) = refl
 refused (fault.Told (told.Store store.Full)) = refl
 refused (fault.Told (told.Store store.Memory)) = refl
 refused (fault.Told (told.Store (store.Card (card.Truncated a)))) = refl
@@ -160,6 +162,7 @@ refused (fault.Told (told.Sheet (sheet.Activity a))) = refl
 refused (fault.Told (told.Sheet (sheet.TooLong a))) = refl
 refused (fault.Told (told.Sheet sheet.Csv)) = refl
 refused (fault.Told (told.Sheet (sheet.Column a))) = refl
+refused (fault.Told (told.Sheet (sheet.Text a b))) = refl
 refused (fault.Told (told.Sheet sheet.Memory)) = refl
 
 -- so that nothing follows of one that does

@@ -64,6 +64,7 @@ store_status store.UnknownDownload = status.NotFound
 store_status (store.Card card.Memory) = status.Unavailable
 store_status (store.Card f) = status.UnprocessableEntity
 store_status store.Store = status.Unavailable
+store_status store.OldSchema = status.Unavailable
 store_status store.Full = status.Conflict
 store_status store.Memory = status.Unavailable
 

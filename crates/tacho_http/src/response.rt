@@ -83,9 +83,10 @@ fn status_of_store(fault: &StoreFault) -> Status
             Status::NotFound
         }
         StoreFault::NotYourCard => Status::Forbidden,
-        StoreFault::Card(CardFault::Memory) | StoreFault::Store | StoreFault::Memory => {
-            Status::Unavailable
-        }
+        StoreFault::Card(CardFault::Memory)
+        | StoreFault::Store
+        | StoreFault::OldSchema
+        | StoreFault::Memory => Status::Unavailable,
         StoreFault::NotMonday | StoreFault::Card(_) => Status::UnprocessableEntity,
     }
 }

@@ -1,17 +1,22 @@
--- Three fields of a record, and the lines of one more row.
-use Rattle.std.proofs.Common.{◌≡◌, ◌≢◌, ◌<◌, ◌+◌, ◌++◌, ◌∷◌, ℕ, true, false, List, [], Some, None, Result, Ok, Err, Vec, IsErrAnd, length, refl, sym, ap, arith, suc, zero, append_assoc}
+-- Three and five fields of a record, and the lines of one more row.
+use Rattle.std.proofs.Common.{◌≡◌, ◌<◌, ◌+◌, ◌++◌, ◌∷◌, ℕ, List, [], Some, None, Result, Ok, Err, Vec, IsErrAnd, length, refl, sym, ap, arith, suc, zero, append_assoc, codes, ◌∙◌, ◌⊎◌, inl, inr}
 use Rattle.std.specs.declared.alloc.Global.{Global}
 use Rattle.std.proofs.lemmas.List.{append-nil}
+use Rattle.std.specs.Option.{option_map}
 use Rattle.csv.specs.Records.{field_at}
-use Rattle.tacho_sheet.specs.Rows.{Row, three_of}
+use Rattle.tacho_sheet.specs.Rows.{IsReaderFault, Row, three_of}
 use Rattle.tacho_sheet.specs.Driver.{five_of}
-use Rattle.tacho_sheet.specs.Entries.{Lines, entries_of, is_head, line_of, lines_from, lines_told, put_first}
+use Rattle.tacho_sheet.specs.Entries.{Answer, Lines, entries_of, head_of, line_of, lines_from, lines_told, put_first, texts_of}
+use Rattle.tacho_sheet.specs.declared.entries.Head.{Head}
+use Rattle.tacho_sheet.specs.declared.entries.Head.TheVariants as head
 use Rattle.tacho_sheet.specs.declared.fault.SheetFault.{SheetFault}
 use Rattle.tacho_sheet.specs.declared.fault.SheetFault.TheVariants as fault
+use Rattle.tacho_state.specs.Batch.{Hours}
 use Rattle.tacho_state.specs.declared.entry.EntryLine.{EntryLine}
 
-pub three_at : (fields : List (List ℕ)) (a b c : List ℕ) → length fields ≡ 3 → Some a ≡ field_at fields 0 → Some b ≡ field_at fields 1 → Some c ≡ field_at fields 2
-    → three_of fields ≡ Some (a, b, c)
+-- three fields, by their places
+pub three_at : (fields : List (List ℕ)) (a b c : List ℕ) → length fields ≡ 3 → Some a ≡ field_at fields 0 → Some b ≡ field_at fields 1
+    → Some c ≡ field_at fields 2 → three_of fields ≡ Some (a, b, c)
 unfolding field_at
 three_at [] a b c n x y z = absurd (omega arith)
 three_at (p ∷ []) a b c n x y z = absurd (omega arith)
@@ -19,58 +24,71 @@ three_at (p ∷ q ∷ []) a b c n x y z = absurd (omega arith)
 three_at (p ∷ q ∷ r ∷ []) a b c n x y z = let e : a ≡ p = cc in let f : b ≡ q = cc in let g : c ≡ r = cc in rw (e, f, g)
 three_at (p ∷ q ∷ r ∷ s ∷ more) a b c n x y z = absurd (omega arith)
 
-pub three_none : (fields : List (List ℕ)) → length fields ≢ 3 → three_of fields ≡ None
-three_none [] n = refl
-three_none (p ∷ []) n = refl
-three_none (p ∷ q ∷ []) n = refl
-three_none (p ∷ q ∷ r ∷ []) n = absurd (n refl)
-three_none (p ∷ q ∷ r ∷ s ∷ more) n = refl
-
+-- there is a field at each place
 pub field_there : (fields : List (List ℕ)) (i : ℕ) → i < length fields → None ≡ field_at fields i → ⊥
 unfolding field_at
 field_there [] i h e = omega arith
 field_there (p ∷ rest) zero h e = cc e
 field_there (p ∷ rest) (suc i) h e = field_there rest i (omega arith) e
 
-pub put_first-append : (front : List EntryLine) (line : EntryLine) (r : Lines) → put_first front (put_first (line ∷ []) r) ≡ put_first (front ++ line ∷ []) r
+-- lines before a line and others
+pub put_first-append : (front : List Hours) (line : Hours) (r : Lines)
+    → put_first front (put_first (line ∷ []) r) ≡ put_first (front ++ line ∷ []) r
 put_first-append front line (Ok rest) = ap Ok (sym (append_assoc front (line ∷ []) rest))
 put_first-append front line (Err e) = refl
 
 -- one more row that has a line
-pub lines_more : (front : List EntryLine) (row before : ℕ) (fields : Row) (rows : List Row) (line : EntryLine) → line_of row before fields ≡ Ok line
-    → put_first front (lines_from row before (fields ∷ rows)) ≡ put_first (front ++ line ∷ []) (lines_from (row + 1) line.past rows)
+pub lines_more : (head : Head) (front : List Hours) (row before : ℕ) (fields : Row) (rows : List Row) (line : Hours)
+    → line_of head row before fields ≡ Ok line → put_first front (lines_from head row before (fields ∷ rows))
+    ≡ put_first (front ++ line ∷ []) (lines_from head (row + 1) line.past rows)
 unfolding lines_from
-lines_more front row before fields rows line e = rw e (put_first-append front line (lines_from (row + 1) line.past rows))
+lines_more head front row before fields rows line e = rw e (put_first-append front line (lines_from head (row + 1) line.past rows))
 
 -- a row that has a fault
-pub lines_stop : (front : List EntryLine) (row before : ℕ) (fields : Row) (rows : List Row) (found : SheetFault) → line_of row before fields ≡ Err found
-    → put_first front (lines_from row before (fields ∷ rows)) ≡ Err found
+pub lines_stop : (head : Head) (front : List Hours) (row before : ℕ) (fields : Row) (rows : List Row) (found : SheetFault)
+    → line_of head row before fields ≡ Err found → put_first front (lines_from head row before (fields ∷ rows)) ≡ Err found
 unfolding lines_from
-lines_stop front row before fields rows found e = rw e refl
+lines_stop head front row before fields rows found e = rw e refl
 
--- rows of which the first isn't the head
-pub head_wrong : (head : Row) (rows : List Row) → is_head head ≡ false → Err fault.Head ≡ entries_of (head ∷ rows)
-head_wrong head rows h = rw h refl
+-- rows of which the first is no head
+pub head_wrong : (first : Row) (rows : List Row) → head_of first ≡ None → Err fault.Head ≡ entries_of (first ∷ rows)
+head_wrong first rows h = rw h refl
 
--- rows of which the first is the head
-pub head_right : (head : Row) (rows : List Row) (told : Lines) → is_head head ≡ true → told ≡ lines_from 2 0 rows → told ≡ entries_of (head ∷ rows)
-head_right head rows told h e = rw h e
+-- rows of which the first is a head
+pub head_right : (head : Head) (first : Row) (rows : List Row) (told : Lines) → head_of first ≡ Some head → told ≡ lines_from head 2 0 rows
+    → told ≡ entries_of (first ∷ rows)
+head_right head first rows told h e = rw h e
 
 -- an answer that is a fault
-pub told_fault : (answer : Result (Vec EntryLine Global) SheetFault) (found : SheetFault) → IsErrAnd answer (λ e. e ≡ found) → lines_told answer ≡ Err found
+pub told_fault : (answer : Result (Vec EntryLine Global) SheetFault) (found : SheetFault) → IsErrAnd answer (λ e. e ≡ found)
+    → lines_told answer ≡ Err found
 told_fault (Ok lines) found h = absurd h
 told_fault (Err e) found h = ap Err h
 
+-- an answer that is want of memory
+pub told_memory : (answer : Result (Vec EntryLine Global) SheetFault) (line : Answer) (found : SheetFault)
+    → IsErrAnd answer (λ e. e ≡ found) → line ≡ Err found → IsErrAnd line (λ e. e ≡ fault.Memory) → IsErrAnd answer IsReaderFault
+told_memory (Ok lines) line found h is memory = absurd h
+told_memory (Err e) line found h is memory = let same : e ≡ fault.Memory = h ∙ (rw is at memory) in rw same tt
+
+-- an answer that is a line
+pub told_line : (P : SheetFault → Type 0) (answer told : Answer) (line : Hours) → IsErrAnd answer P ⊎ (answer ≡ told) → answer ≡ Ok line
+    → told ≡ Ok line
+told_line P (Ok x) told line (inl h) is = absurd h
+told_line P (Err e) told line (inl h) is = absurd (cc is)
+told_line P answer told line (inr h) is = sym h ∙ is
+
 -- no row is left
-pub lines_end : (front : List EntryLine) (row before : ℕ) → put_first front (lines_from row before []) ≡ Ok front
+pub lines_end : (head : Head) (front : List Hours) (row before : ℕ) → put_first front (lines_from head row before []) ≡ Ok front
 unfolding lines_from
-lines_end front row before = ap Ok (append-nil front)
+lines_end head front row before = ap Ok (append-nil front)
 
 -- no line yet
 pub put_none : (told : Lines) → told ≡ put_first [] told
 put_none (Ok lines) = refl
 put_none (Err e) = refl
 
+-- five fields, by their places
 pub five_at : (fields : List (List ℕ)) (a b c d e : List ℕ) → length fields ≡ 5 → Some a ≡ field_at fields 0 → Some b ≡ field_at fields 1
     → Some c ≡ field_at fields 2 → Some d ≡ field_at fields 3 → Some e ≡ field_at fields 4
     → five_of fields ≡ Some (record { driver = a; holder = b; key = c; base = d; name = e })
@@ -85,11 +103,22 @@ five_at (p ∷ q ∷ r ∷ s ∷ t ∷ []) a b c d e n va vb vc vd ve =
     rw (ea, eb, ec, ed, ee)
 five_at (p ∷ q ∷ r ∷ s ∷ t ∷ u ∷ more) a b c d e n va vb vc vd ve = absurd (omega arith)
 
-pub five_none : (fields : List (List ℕ)) → length fields ≢ 5 → five_of fields ≡ None
-five_none [] n = refl
-five_none (p ∷ []) n = refl
-five_none (p ∷ q ∷ []) n = refl
-five_none (p ∷ q ∷ r ∷ []) n = refl
-five_none (p ∷ q ∷ r ∷ s ∷ []) n = refl
-five_none (p ∷ q ∷ r ∷ s ∷ t ∷ []) n = absurd (n refl)
-five_none (p ∷ q ∷ r ∷ s ∷ t ∷ u ∷ more) n = refl
+-- the texts of a row of three columns, by its fields
+pub three_texts : (row : Row) → texts_of head.Three row
+    ≡ option_map (λ t. record { start = t.0; past = t.1; activity = t.2; author = codes "office"; note = [] }) (three_of row)
+three_texts [] = refl
+three_texts (a ∷ []) = refl
+three_texts (a ∷ b ∷ []) = refl
+three_texts (a ∷ b ∷ c ∷ []) = refl
+three_texts (a ∷ b ∷ c ∷ d ∷ more) = refl
+
+-- those of a row of five
+pub five_texts : (row : Row) → texts_of head.Five row
+    ≡ option_map (λ f. record { start = f.driver; past = f.holder; activity = f.key; author = f.base; note = f.name }) (five_of row)
+five_texts [] = refl
+five_texts (a ∷ []) = refl
+five_texts (a ∷ b ∷ []) = refl
+five_texts (a ∷ b ∷ c ∷ []) = refl
+five_texts (a ∷ b ∷ c ∷ d ∷ []) = refl
+five_texts (a ∷ b ∷ c ∷ d ∷ e ∷ []) = refl
+five_texts (a ∷ b ∷ c ∷ d ∷ e ∷ f ∷ more) = refl

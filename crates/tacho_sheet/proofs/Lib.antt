@@ -1,4 +1,5 @@
 pub mod EntryLemmas
+pub mod SignedLemmas
 pub mod BatchLemmas
 pub mod TextLemmas
 pub mod NumberLemmas

@@ -128,6 +128,9 @@ of_a_card = refl
 s12 : fault_line (fault.Store store.Store) ≡ codes "S12 store failed\n"
 s12 = refl
 
+s13 : fault_line (fault.Store store.OldSchema) ≡ codes "S13 old archive\n"
+s13 = refl
+
 s14 : fault_line (fault.Store store.Full) ≡ codes "S14 full\n"
 s14 = refl
 
@@ -190,6 +193,14 @@ e9_base = refl
 e9_name : fault_line (fault.Sheet (sheet.Column column.Name)) ≡ codes "E9 bad value for name\n"
 e9_name = refl
 
+e10_author : fault_line (fault.Sheet (sheet.Text 2 column.Author)) ≡ codes "E10 bad author in row 2\n"
+unfolding digits
+e10_author = refl
+
+e10_note : fault_line (fault.Sheet (sheet.Text 2 column.Note)) ≡ codes "E10 bad note in row 2\n"
+unfolding digits
+e10_note = refl
+
 -- ---- words, input and memory
 
 n1 : fault_line fault.Number ≡ codes "N1 bad number\n"
@@ -243,18 +254,26 @@ base : base_line 19786 ≡ codes "base 2024-03-04\n"
 unfolding civil year_after month_after
 base = refl
 
--- an entry that was withdrawn, and one that wasn't
+-- an entry of the office that was withdrawn, and one of an author that wasn't
 abbrev rested : Entry
-rested = record { number = 1; line = record { start = 28491840; past = 28492560; activity = Rest }; withdrawn = true }
+rested = record {
+  number = 1;
+  line = record { start = 28499040; past = 28501920; activity = Rest; author = codes "office"; note = [] };
+  withdrawn = true;
+}
 
-abbrev worked : Entry
-worked = record { number = 2; line = record { start = 28492320; past = 28492440; activity = Work }; withdrawn = false }
+abbrev day_off : Entry
+day_off = record {
+  number = 2;
+  line = record { start = 28501920; past = 28503360; activity = Rest; author = codes "Eva Lund"; note = codes "day off" };
+  withdrawn = false;
+}
 
-entry : entry_line rested ≡ codes "1 2024-03-04 00:00 2024-03-04 12:00 rest withdrawn\n"
+entry : entry_line rested ≡ codes "1 2024-03-09 00:00 2024-03-11 00:00 rest withdrawn \"office\" \"\"\n"
 unfolding civil year_after month_after digits
 entry = refl
 
-kept_entry : entry_line worked ≡ codes "2 2024-03-04 08:00 2024-03-04 10:00 work kept\n"
+kept_entry : entry_line day_off ≡ codes "2 2024-03-11 00:00 2024-03-12 00:00 rest kept \"Eva Lund\" \"day off\"\n"
 unfolding civil year_after month_after digits
 kept_entry = refl
 

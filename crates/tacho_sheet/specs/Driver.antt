@@ -57,6 +57,8 @@ IsFirstBadText f column.Holder = HasNumber f.driver × HasNoHolder f.holder
 IsFirstBadText f column.Key = HasNumber f.driver × HasHolder f.holder × ¬ (IsKeyText f.key)
 IsFirstBadText f column.Base = HasNumber f.driver × HasHolder f.holder × IsKeyText f.key × ¬ (HasDay f.base)
 IsFirstBadText f column.Name = HasNumber f.driver × HasHolder f.holder × IsKeyText f.key × HasDay f.base × ¬ (IsNameText f.name)
+IsFirstBadText f column.Author = ⊥
+IsFirstBadText f column.Note = ⊥
 
 abbrev pub IsColumnFault : Five → SheetFault → Type 0
 IsColumnFault f (fault.Column c) = IsFirstBadText f c

@@ -1,77 +1,139 @@
--- Trusted: The hours that the rows of a text enter, or the first fault: row by row, and within a row by E2 to E7.
-use Rattle.std.specs.Prelude.{◌≡◌, ◌+◌, ◌-◌, ◌||◌, ◌&&◌, ◌++◌, if◌then◌else◌, ℕ, Bool, false, List, [], ◌∷◌, Option, Some, None, Result, Ok, Err, nat_lt, nat_le, bytes_eq, codes, Vec}
+-- Trusted: The hours that the rows of a text enter, or the first fault: row by row, and within a row by E2 to E7, and then E10.
+use Rattle.std.specs.Prelude.{◌≡◌, ◌+◌, ◌-◌, ◌||◌, ◌&&◌, ◌++◌, if◌then◌else◌, ℕ, Bool, false, List, [], ◌∷◌, length, Option, Some, None, Result, Ok, Err, nat_lt, nat_le, nat_eq, not, bytes_eq, codes, Vec}
+use Rattle.std.specs.List.{list_all}
+use Rattle.std.specs.Str.{is_utf8}
 use Rattle.std.specs.declared.alloc.Global.{Global}
 use Rattle.tacho_time.specs.Reading.{minute_at}
 use Rattle.tacho_time.specs.declared.span.Activity.{Activity}
 use Rattle.tacho_time.specs.declared.fault.TimeFault.{TimeFault}
+use Rattle.tacho_state.specs.Batch.{Hours}
+use Rattle.tacho_state.specs.declared.driver.Column.TheVariants as column
 use Rattle.tacho_state.specs.declared.entry.EntryLine.{EntryLine}
 use Rattle.tacho_sheet.specs.Words.{activity_of, left_out_of}
-use Rattle.tacho_sheet.specs.Rows.{Row, AreRows, Three, three_of}
+use Rattle.tacho_sheet.specs.Rows.{Row, AreRows}
+use Rattle.tacho_sheet.specs.declared.entries.Head.{Head}
+use Rattle.tacho_sheet.specs.declared.entries.Head.TheVariants.{Three, Five}
 use Rattle.tacho_sheet.specs.declared.fault.LeftOut.{LeftOut}
 use Rattle.tacho_sheet.specs.declared.fault.SheetFault.{SheetFault}
 use Rattle.tacho_sheet.specs.declared.fault.SheetFault.TheVariants as fault
 
-abbrev pub Answer : Type 0
-Answer = Result EntryLine SheetFault
+-- ---- a row
+
+-- the texts of a row
+pub record Texts : Type 0 where
+  pub start : List ℕ
+  pub past : List ℕ
+  pub activity : List ℕ
+  pub author : List ℕ
+  pub note : List ℕ
+
+-- those of a row of three columns, which the office enters and says nothing of, and of a row of five
+abbrev pub texts_of : Head → Row → Option Texts
+texts_of Three (a ∷ b ∷ c ∷ []) = Some (record { start = a; past = b; activity = c; author = codes "office"; note = [] })
+texts_of Five (a ∷ b ∷ c ∷ d ∷ e ∷ []) = Some (record { start = a; past = b; activity = c; author = d; note = e })
+texts_of _ _ = None
+
+-- what a row says before its author and its note: start, past and activity
+abbrev pub Worked : Type 0
+Worked = Result (ℕ × ℕ × Activity) SheetFault
 
 -- E7
-abbrev pub sized : ℕ → ℕ → ℕ → Activity → Answer
-sized row start past activity =
-    if nat_lt 527040 (past - start) then Err (fault.TooLong row)
-    else Ok (record { start = start; past = past; activity = activity })
+abbrev pub sized : ℕ → ℕ → ℕ → Activity → Worked
+sized row start past activity = if nat_lt 527040 (past - start) then Err (fault.TooLong row) else Ok (start, past, activity)
 
 -- E5, E6
-abbrev pub active : ℕ → ℕ → ℕ → Option LeftOut → Option Activity → Answer
+abbrev pub active : ℕ → ℕ → ℕ → Option LeftOut → Option Activity → Worked
 active row start past (Some left_out) activity = Err (fault.LeftOut row left_out)
 active row start past None None = Err (fault.Activity row)
 active row start past None (Some activity) = sized row start past activity
 
 -- E3, and E4 by where the row before has ended
-abbrev pub timed : ℕ → ℕ → List ℕ → Result ℕ TimeFault → Result ℕ TimeFault → Answer
+abbrev pub timed : ℕ → ℕ → List ℕ → Result ℕ TimeFault → Result ℕ TimeFault → Worked
 timed row before word (Err e) past = Err (fault.Time row)
 timed row before word (Ok start) (Err e) = Err (fault.Time row)
 timed row before word (Ok start) (Ok past) =
     if nat_le past start || nat_lt start before then Err (fault.Order row)
     else active row start past (left_out_of word) (activity_of word)
 
+-- a byte of a name: no control, no comma and no double quote
+abbrev pub is_name_byte : ℕ → Bool
+is_name_byte c = nat_le 32 c && (not (nat_eq c 127) && (not (nat_eq c 44) && not (nat_eq c 34)))
+
+-- the text is UTF-8 of such bytes
+abbrev pub is_plain_text : List ℕ → Bool
+is_plain_text text = is_utf8 text && list_all is_name_byte text
+
+-- an author has 1 to 64 of them, and a note 200 at the most
+abbrev pub is_author : List ℕ → Bool
+is_author text = is_plain_text text && (nat_le 1 (length text) && nat_le (length text) 64)
+
+abbrev pub is_note : List ℕ → Bool
+is_note text = is_plain_text text && nat_le (length text) 200
+
+abbrev pub Answer : Type 0
+Answer = Result Hours SheetFault
+
+-- E10
+abbrev pub signed : ℕ → List ℕ → List ℕ → Worked → Answer
+signed row author note (Err e) = Err e
+signed row author note (Ok worked) =
+    if not (is_author author) then Err (fault.Text row column.Author)
+    else (if not (is_note note) then Err (fault.Text row column.Note)
+    else Ok (record { start = worked.0; past = worked.1; activity = worked.2; author = author; note = note }))
+
 -- E2
-abbrev pub line_of_three : ℕ → ℕ → Option Three → Answer
-line_of_three row before (Some three) = timed row before three.2 (minute_at three.0) (minute_at three.1)
-line_of_three row before None = Err (fault.Fields row)
+abbrev pub line_of_texts : ℕ → ℕ → Option Texts → Answer
+line_of_texts row before (Some t) = signed row t.author t.note (timed row before t.activity (minute_at t.start) (minute_at t.past))
+line_of_texts row before None = Err (fault.Fields row)
 
 -- the line of a row, after a row that ends at `before`, or the row's first fault
-abbrev pub line_of : ℕ → ℕ → Row → Answer
-line_of row before fields = line_of_three row before (three_of fields)
+abbrev pub line_of : Head → ℕ → ℕ → Row → Answer
+line_of head row before fields = line_of_texts row before (texts_of head fields)
+
+-- ---- rows
 
 abbrev pub Lines : Type 0
-Lines = Result (List EntryLine) SheetFault
+Lines = Result (List Hours) SheetFault
 
-abbrev pub with_line : Answer → (EntryLine → Lines) → Lines
+abbrev pub with_line : Answer → (Hours → Lines) → Lines
 with_line (Err e) more = Err e
 with_line (Ok line) more = more line
 
-abbrev pub put_first : List EntryLine → Lines → Lines
+abbrev pub put_first : List Hours → Lines → Lines
 put_first front (Ok rest) = Ok (front ++ rest)
 put_first front (Err e) = Err e
 
 -- the lines of the rows from a number on, or the first fault
-unfoldable pub lines_from : ℕ → ℕ → List Row → Lines
-lines_from row before [] = Ok []
-lines_from row before (fields ∷ rest) =
-    with_line (line_of row before fields) (λ line. put_first (line ∷ []) (lines_from (row + 1) line.past rest))
+unfoldable pub lines_from : Head → ℕ → ℕ → List Row → Lines
+lines_from head row before [] = Ok []
+lines_from head row before (fields ∷ rest) =
+    with_line (line_of head row before fields) (λ line. put_first (line ∷ []) (lines_from head (row + 1) line.past rest))
 
--- `start,past,activity`
-abbrev pub is_head_of : Option Three → Bool
-is_head_of (Some h) = bytes_eq h.0 (codes "start") && (bytes_eq h.1 (codes "past") && bytes_eq h.2 (codes "activity"))
-is_head_of None = false
+-- ---- the head
 
-abbrev pub is_head : Row → Bool
-is_head fields = is_head_of (three_of fields)
+-- the texts are the names of the columns: `start,past,activity`, and `author,note` behind them
+abbrev pub are_three_names : Option Texts → Bool
+are_three_names (Some h) = bytes_eq h.start (codes "start") && (bytes_eq h.past (codes "past") && bytes_eq h.activity (codes "activity"))
+are_three_names None = false
+
+abbrev pub are_five_names : Option Texts → Bool
+are_five_names (Some h) = are_three_names (Some h) && (bytes_eq h.author (codes "author") && bytes_eq h.note (codes "note"))
+are_five_names None = false
+
+-- which head a row is
+abbrev pub head_of : Row → Option Head
+head_of fields =
+    if are_three_names (texts_of Three fields) then Some Three
+    else (if are_five_names (texts_of Five fields) then Some Five else None)
 
 -- E1; the head is row 1
+abbrev pub lines_under : Option Head → List Row → Lines
+lines_under None rows = Err fault.Head
+lines_under (Some head) rows = lines_from head 2 0 rows
+
 abbrev pub entries_of : List Row → Lines
 entries_of [] = Err fault.Head
-entries_of (head ∷ rows) = if is_head head then lines_from 2 0 rows else Err fault.Head
+entries_of (head ∷ rows) = lines_under (head_of head) rows
 
 -- an answer, by its list
 abbrev pub lines_told : Result (Vec EntryLine Global) SheetFault → Lines

@@ -73,6 +73,7 @@ store_line store.NotMonday = codes "S9 not a Monday\n"
 store_line store.UnknownDownload = codes "S10 unknown download\n"
 store_line (store.Card f) = card_line f
 store_line store.Store = codes "S12 store failed\n"
+store_line store.OldSchema = codes "S13 old archive\n"
 store_line store.Full = codes "S14 full\n"
 store_line store.Memory = no_memory_line
 
@@ -88,6 +89,8 @@ column_name column.Holder = codes "holder"
 column_name column.Key = codes "key"
 column_name column.Base = codes "base"
 column_name column.Name = codes "name"
+column_name column.Author = codes "author"
+column_name column.Note = codes "note"
 
 abbrev pub sheet_line : SheetFault → List ℕ
 sheet_line sheet.Head = codes "E1 wrong head\n"
@@ -99,6 +102,7 @@ sheet_line (sheet.Activity row) = line_at (codes "E6 no such activity in row ") 
 sheet_line (sheet.TooLong row) = line_at (codes "E7 too long in row ") row
 sheet_line sheet.Csv = codes "E8 csv refused\n"
 sheet_line (sheet.Column c) = codes "E9 bad value for " ++ (column_name c ++ codes "\n")
+sheet_line (sheet.Text row c) = codes "E10 bad " ++ (column_name c ++ (codes " in row " ++ (decimal row ++ codes "\n")))
 sheet_line sheet.Memory = no_memory_line
 
 abbrev pub fault_line : Fault → List ℕ

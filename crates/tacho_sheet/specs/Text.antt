@@ -8,11 +8,13 @@ use Rattle.tacho_sheet.specs.Lines.{byte_digits}
 abbrev pub kept_word : Bool → List ℕ
 kept_word withdrawn = if withdrawn then codes "withdrawn" else codes "kept"
 
--- number, start, past, activity, and whether it was withdrawn, with blanks between, and a line feed
+-- number, start, past, activity, whether it was withdrawn, author and note (these two in double quotes), with blanks between, and a
+-- line feed
 abbrev pub entry_line : Entry → List ℕ
 entry_line e =
     decimal e.number ++ (codes " " ++ (minute_text e.line.start ++ (codes " " ++ (minute_text e.line.past
-    ++ (codes " " ++ (activity_name e.line.activity ++ (codes " " ++ (kept_word e.withdrawn ++ codes "\n"))))))))
+    ++ (codes " " ++ (activity_name e.line.activity ++ (codes " " ++ (kept_word e.withdrawn
+    ++ (codes " \"" ++ (e.line.author ++ (codes "\" \"" ++ (e.line.note ++ codes "\"\n"))))))))))))
 
 -- number, holder in hexadecimal digits, base, how many downloads and entries, and name, with blanks between, and a line feed
 abbrev pub summary_line : Summary → List ℕ

@@ -1,4 +1,4 @@
-ghost use Rattle.std.specs.Prelude.{◌≡◌, ◌⊎◌, None, Some, ◌&&◌, IfSome, IsErrAnd, MatchOption, MatchResult, bytes_eq, codes, length, map};
+ghost use Rattle.std.specs.Prelude.{◌≡◌, ◌⊎◌, ◌&&◌, IfSome, IsErrAnd, MatchOption, MatchResult, bytes_eq, codes, length, map};
 ghost use Rattle.tacho_time.specs.OrMemory.{OrMemory};
 ghost use Rattle.csv.specs.Records.{fields_of};
 ghost use Rattle.hex.specs.Hex.{IsBytes, encode_lower};
@@ -9,7 +9,7 @@ ghost use Rattle.tacho_sheet.specs.Rows.{IsReaderFault};
 
 use crate::fault::SheetFault;
 use crate::number::read_number;
-use crate::rows::read_rows;
+use crate::rows::{five_fields, read_rows};
 use csv::ByteRecord;
 use std::alloc::Global;
 use tacho_state::{Column, Driver, is_key, is_name};
@@ -106,22 +106,6 @@ fn registered(
         Ok(driver) => Ok(driver),
         Err(_) => Err(SheetFault::Memory),
     }
-}
-
-/// The fields of a record, where it has five.
-fn five_fields(fields: &ByteRecord) -> Option<(&[u8], &[u8], &[u8], &[u8], &[u8])>
-    ensures { MatchOption result (five_of (fields_of fields.now) ≡ None)
-        (λ f. five_of (fields_of fields.now) ≡ Some (record { driver = f.0.now; holder = f.1.now; key = f.2.now; base = f.3.now; name = f.4.now })) }
-{
-    if fields.len() != 5 {
-        return None;
-    }
-    let driver = fields.get(0)?;
-    let holder = fields.get(1)?;
-    let key = fields.get(2)?;
-    let base = fields.get(3)?;
-    let name = fields.get(4)?;
-    Some((driver, holder, key, base, name))
 }
 
 /// The record is the head.

@@ -1,29 +1,43 @@
-ghost use Rattle.std.specs.Prelude.{◌≡◌, ◌⊎◌, ◌<◌, ◌^◌, ℕ, List, IfOk, IsErrAnd, MatchOption, Some, None, length};
+ghost use Rattle.std.specs.Prelude.{◌≡◌, ◌⊎◌, ◌<◌, ◌^◌, ◌&&◌, ℕ, List, IfOk, IsErrAnd, MatchOption, MatchResult, bytes_eq, codes, length, false, true};
 ghost use Rattle.csv.specs.Records.{fields_of};
+ghost use Rattle.tacho_time.specs.Reading.{minute_at};
 ghost use Rattle.tacho_state.specs.Batch.{IsBatch};
-ghost use Rattle.tacho_sheet.specs.Rows.{AreLeft, HasLeft, Row, Three, three_of, IsReaderFault};
-ghost use Rattle.tacho_sheet.specs.Entries.{line_of, line_of_three, is_head, is_head_of, lines_from, lines_told, IsRead};
+ghost use Rattle.tacho_state.specs.Limits.{IsName, IsNote};
+ghost use Rattle.tacho_sheet.specs.Rows.{AreLeft, HasLeft, Row, IsReaderFault};
+ghost use Rattle.tacho_sheet.specs.Entries.{timed, signed, is_author, is_note as is_note_text, line_of, head_of, lines_from, lines_told, IsRead};
 
 use crate::fault::SheetFault;
-use crate::rows::row_reader;
+use crate::rows::{five_fields, row_reader, three_fields};
 use crate::words::{read_activity, read_left_out};
 use csv::{ByteRecord, Reader};
 use std::alloc::Global;
-use tacho_state::EntryLine;
-use tacho_time::Minute;
+use tacho_state::{Column, EntryLine, is_name, is_note};
+use tacho_time::{Activity, Minute};
+
+/// The columns that a text of hours has.
+#[derive(Clone, Copy)]
+pub(crate) enum Head {
+    /// `start,past,activity`: the office enters the hours, and says nothing of them.
+    Three,
+    /// `start,past,activity,author,note`.
+    Five,
+}
 
 /// How many minutes a line has at the most: 366 days.
 const LONGEST: u32 = 527_040;
 
-/// The line of a row's three fields, after a row that ends at `before`, or the row's first fault.
-fn line_of_words(
+/// The author of hours that have none in their row.
+const OFFICE: &[u8] = b"office";
+
+/// The minutes and the activity of a row, after a row that ends at `before`, or its first fault of E3 to E7.
+fn worked_of_words(
     row: u64,
     before: Minute,
     start: &[u8],
     past: &[u8],
     word: &[u8],
-) -> Result<EntryLine, SheetFault>
-    ensures { result ≡ line_of_three row before (Some (start.now, past.now, word.now)) }
+) -> Result<(Minute, Minute, Activity), SheetFault>
+    ensures { result ≡ timed row before word.now (minute_at start.now) (minute_at past.now) }
 {
     let (Ok(start), Ok(past)) = (Minute::read(start), Minute::read(past)) else {
         return Err(SheetFault::Time(row));
@@ -40,68 +54,155 @@ fn line_of_words(
     if past.number() - start.number() > LONGEST {
         return Err(SheetFault::TooLong(row));
     }
-    Ok(EntryLine {
-        start,
-        past,
-        activity,
-    })
+    Ok((start, past, activity))
 }
 
-/// The fields of a record, where it has three.
-fn three_fields(fields: &ByteRecord) -> Option<(&[u8], &[u8], &[u8])>
-    ensures { MatchOption result (three_of (fields_of fields.now) ≡ None) (λ t. three_of (fields_of fields.now) ≡ Some (t.0.now, t.1.now, t.2.now)) }
+/// The author that a text is.
+fn read_author(text: &[u8]) -> Option<&str>
+    ensures { MatchOption result (is_author text.now ≡ false)
+        (λ author. (author.now ≡ text.now) × (is_author text.now ≡ true) × IsName author.now) }
 {
-    if fields.len() != 3 {
+    let Ok(author) = str::from_utf8(text) else {
         return None;
-    }
-    let start = fields.get(0)?;
-    let past = fields.get(1)?;
-    let word = fields.get(2)?;
-    Some((start, past, word))
+    };
+    if is_name(author) { Some(author) } else { None }
 }
 
-/// The line of a row, after a row that ends at `before`, or the row's first fault.
-fn line_of_row(row: u64, before: Minute, fields: &ByteRecord) -> Result<EntryLine, SheetFault>
-    ensures { result ≡ line_of row before (fields_of fields.now) }
+/// The note that a text is.
+fn read_note(text: &[u8]) -> Option<&str>
+    ensures { MatchOption result (is_note_text text.now ≡ false)
+        (λ note. (note.now ≡ text.now) × (is_note_text text.now ≡ true) × IsNote note.now) }
 {
-    match three_fields(fields) {
-        Some((start, past, word)) => line_of_words(row, before, start, past, word),
-        None => Err(SheetFault::Fields(row)),
-    }
+    let Ok(note) = str::from_utf8(text) else {
+        return None;
+    };
+    if is_note(note) { Some(note) } else { None }
 }
 
-/// The record is the head.
-fn is_head_row(fields: &ByteRecord) -> bool
-    ensures { result ≡ is_head (fields_of fields.now) }
+/// Hours by an author and with a note that are within their limits.
+fn signed_line(
+    alloc: Global,
+    start: Minute,
+    past: Minute,
+    activity: Activity,
+    author: &str,
+    note: &str,
+) -> Result<EntryLine, SheetFault>
+    requires { IsName author.now × IsNote note.now }
+    ensures { MatchResult result
+        (λ line. line ≡ record { start = start; past = past; activity = activity; author = author.now; note = note.now })
+        (λ fault. fault ≡ SheetFault.Memory) }
 {
-    match three_fields(fields) {
-        Some((start, past, word)) => is_head_words(start, past, word),
-        None => false,
+    let Ok(author) = String::from_str(alloc, author) else {
+        return Err(SheetFault::Memory);
+    };
+    let Ok(note) = String::from_str(alloc, note) else {
+        return Err(SheetFault::Memory);
+    };
+    match EntryLine::new(start, past, activity, author, note) {
+        Ok(line) => Ok(line),
+        Err(_) => unreachable!(),
     }
 }
 
-/// The words are those of the head.
-fn is_head_words(start: &[u8], past: &[u8], word: &[u8]) -> bool
-    ensures { result ≡ is_head_of (Some (start.now, past.now, word.now)) }
+/// The line of a row's texts, after a row that ends at `before`, or its first fault of E3 to E7, and then E10.
+fn line_of_words(
+    alloc: Global,
+    row: u64,
+    before: Minute,
+    start: &[u8],
+    past: &[u8],
+    word: &[u8],
+    author: &[u8],
+    note: &[u8],
+) -> Result<EntryLine, SheetFault>
+    ensures { IsErrAnd result (λ fault. fault ≡ SheetFault.Memory)
+        ⊎ (result ≡ signed row author.now note.now (timed row before word.now (minute_at start.now) (minute_at past.now))) }
+{
+    let (start, past, activity) = worked_of_words(row, before, start, past, word)?;
+    let Some(author) = read_author(author) else {
+        return Err(SheetFault::Text(row, Column::Author));
+    };
+    let Some(note) = read_note(note) else {
+        return Err(SheetFault::Text(row, Column::Note));
+    };
+    signed_line(alloc, start, past, activity, author, note)
+}
+
+/// The line of a row under a head, after a row that ends at `before`, or the row's first fault.
+fn line_of_row(
+    alloc: Global,
+    head: Head,
+    row: u64,
+    before: Minute,
+    fields: &ByteRecord,
+) -> Result<EntryLine, SheetFault>
+    ensures { IsErrAnd result (λ fault. fault ≡ SheetFault.Memory) ⊎ (result ≡ line_of head row before (fields_of fields.now)) }
+{
+    match head {
+        Head::Three => {
+            let Some((start, past, word)) = three_fields(fields) else {
+                return Err(SheetFault::Fields(row));
+            };
+            line_of_words(alloc, row, before, start, past, word, OFFICE, b"")
+        }
+        Head::Five => {
+            let Some((start, past, word, author, note)) = five_fields(fields) else {
+                return Err(SheetFault::Fields(row));
+            };
+            line_of_words(alloc, row, before, start, past, word, author, note)
+        }
+    }
+}
+
+/// Which head the record is.
+fn head_row(fields: &ByteRecord) -> Option<Head>
+    ensures { result ≡ head_of (fields_of fields.now) }
+{
+    if let Some((start, past, word)) = three_fields(fields) {
+        if are_three_names(start, past, word) {
+            return Some(Head::Three);
+        }
+    }
+    if let Some((start, past, word, author, note)) = five_fields(fields) {
+        if are_three_names(start, past, word) && are_two_names(author, note) {
+            return Some(Head::Five);
+        }
+    }
+    None
+}
+
+/// The words are the names of the first three columns.
+fn are_three_names(start: &[u8], past: &[u8], word: &[u8]) -> bool
+    ensures { result ≡ (bytes_eq start.now (codes "start") && (bytes_eq past.now (codes "past") && bytes_eq word.now (codes "activity"))) }
 {
     start == b"start".as_slice() && past == b"past".as_slice() && word == b"activity".as_slice()
 }
 
-/// The lines of the rows after the head, or their first fault. Each row is read into `fields`.
+/// The words are the names of the last two columns.
+fn are_two_names(author: &[u8], note: &[u8]) -> bool
+    ensures { result ≡ (bytes_eq author.now (codes "author") && bytes_eq note.now (codes "note")) }
+{
+    author == b"author".as_slice() && note == b"note".as_slice()
+}
+
+/// The lines of the rows after a head, or their first fault. Each row is read into `fields`.
 fn lines_of_rows(
     alloc: Global,
     reader: &mut Reader<&[u8]>,
     fields: &mut ByteRecord,
+    head: Head,
 ) -> Result<Vec<EntryLine>, SheetFault>
     requires { (text : List ℕ) × HasLeft reader.old text × (length text < 2 ^ 63) }
-    ensures { IsErrAnd result IsReaderFault ⊎ ((rows : List Row) × AreLeft reader.old rows × (lines_told result ≡ lines_from 2 0 rows)) }
+    ensures { IsErrAnd result IsReaderFault
+        ⊎ ((rows : List Row) × AreLeft reader.old rows × (lines_told result ≡ lines_from head 2 0 rows)) }
 {
     let mut lines = Vec::new(alloc);
     let mut before = Minute::new(0);
     let mut row = 2;
     while reader.read_byte_record(fields)? {
-        let line = line_of_row(row, before, fields)?;
-        before = line.past;
+        let line = line_of_row(alloc, head, row, before, fields)?;
+        before = line.past();
         if lines.push(line).is_err() {
             return Err(SheetFault::Memory);
         }
@@ -110,16 +211,19 @@ fn lines_of_rows(
     Ok(lines)
 }
 
-/// The hours that a text of CSV enters, of the head `start,past,activity` and a row for each line, or its first fault: E1
-/// to E7. E8 where the reader of CSV refuses.
+/// The hours that a text of CSV enters, of the head `start,past,activity` or `start,past,activity,author,note` and a row for each
+/// line, or its first fault: E1 to E7, E10. E8 where the reader of CSV refuses.
 pub fn read_entries(alloc: Global, text: &[u8]) -> Result<Vec<EntryLine>, SheetFault>
     ensures read { IsErrAnd result IsReaderFault ⊎ IsRead text.now (lines_told result) }
     ensures batch { IfOk result (λ lines. IsBatch lines.items) }
 {
     let mut reader = row_reader(alloc, text);
     let mut fields = ByteRecord::new(alloc);
-    if !reader.read_byte_record(&mut fields)? || !is_head_row(&fields) {
+    if !reader.read_byte_record(&mut fields)? {
         return Err(SheetFault::Head);
     }
-    lines_of_rows(alloc, &mut reader, &mut fields)
+    let Some(head) = head_row(&fields) else {
+        return Err(SheetFault::Head);
+    };
+    lines_of_rows(alloc, &mut reader, &mut fields, head)
 }

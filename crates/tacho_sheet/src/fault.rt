@@ -46,6 +46,9 @@ pub enum SheetFault {
     /// E9: a driver's value is out of its limits, and those before it aren't.
     #[error("bad value for a driver's column")]
     Column(Column),
+    /// E10: the author or the note of the row is out of its limits.
+    #[error("bad text in row {0}")]
+    Text(u64, Column),
     /// There was no memory.
     #[error("no memory")]
     Memory,

@@ -169,6 +169,7 @@ fn line_of_store(fault: StoreFault) -> FaultLine
         StoreFault::UnknownDownload => line_of("S10 unknown download\n"),
         StoreFault::Card(fault) => line_of_card(fault),
         StoreFault::Store => line_of("S12 store failed\n"),
+        StoreFault::OldSchema => line_of("S13 old archive\n"),
         StoreFault::Full => line_of("S14 full\n"),
         StoreFault::Memory => line_of("M1 no memory\n"),
     }
@@ -188,6 +189,7 @@ fn line_of_sheet(fault: SheetFault) -> FaultLine
         SheetFault::TooLong(row) => line_at("E7 too long in row ", row),
         SheetFault::Csv => line_of("E8 csv refused\n"),
         SheetFault::Column(column) => column_line(column),
+        SheetFault::Text(row, column) => text_line(row, column),
         SheetFault::Memory => line_of("M1 no memory\n"),
     }
 }
@@ -215,6 +217,19 @@ fn column_line(column: Column) -> FaultLine
     line
 }
 
+/// The line of E10.
+fn text_line(row: u64, column: Column) -> FaultLine
+    ensures { result.bytes ≡ sheet_line (SheetFault.Text row column) }
+{
+    let mut digits = Buffer::new();
+    let mut line = line_of("E10 bad ");
+    line.push_str(name_of(column));
+    line.push_str(" in row ");
+    line.push_str(digits.format(row));
+    line.push_str("\n");
+    line
+}
+
 /// The word of an activity that is left out.
 fn word_of(left_out: LeftOut) -> &'static str
     ensures text { result.now ≡ left_out_word left_out }
@@ -228,7 +243,7 @@ fn word_of(left_out: LeftOut) -> &'static str
     }
 }
 
-/// The name of a driver's column.
+/// The name of a column.
 fn name_of(column: Column) -> &'static str
     ensures text { result.now ≡ column_name column }
     ensures short { length result.now ≤ 6 }
@@ -239,5 +254,7 @@ fn name_of(column: Column) -> &'static str
         Column::Key => "key",
         Column::Base => "base",
         Column::Name => "name",
+        Column::Author => "author",
+        Column::Note => "note",
     }
 }

@@ -1,5 +1,6 @@
-ghost use Rattle.std.specs.Prelude.{◌≡◌, IfOk, IfErr, map};
-ghost use Rattle.tacho_sheet.specs.Rows.{HasLeft, IsReaderFault};
+ghost use Rattle.std.specs.Prelude.{◌≡◌, None, Some, IfOk, IfErr, MatchOption, map};
+ghost use Rattle.tacho_sheet.specs.Driver.{five_of};
+ghost use Rattle.tacho_sheet.specs.Rows.{HasLeft, IsReaderFault, three_of};
 ghost use Rattle.csv.specs.Reading.{AreRecords, default_config, reader_state, strip_bom};
 ghost use Rattle.csv.specs.Records.{fields_of};
 ghost use Rattle.csv.specs.declared.parser.State.TheVariants as st;
@@ -46,4 +47,35 @@ pub(crate) fn read_rows(alloc: Global, text: &[u8]) -> Result<Vec<ByteRecord>, S
         }
     }
     Ok(rows)
+}
+
+/// The fields of a record, where it has three.
+pub(crate) fn three_fields(fields: &ByteRecord) -> Option<(&[u8], &[u8], &[u8])>
+    ensures { MatchOption result (three_of (fields_of fields.now) ≡ None)
+        (λ t. three_of (fields_of fields.now) ≡ Some (t.0.now, t.1.now, t.2.now)) }
+{
+    if fields.len() != 3 {
+        return None;
+    }
+    let first = fields.get(0)?;
+    let second = fields.get(1)?;
+    let third = fields.get(2)?;
+    Some((first, second, third))
+}
+
+/// The fields of a record, where it has five.
+pub(crate) fn five_fields(fields: &ByteRecord) -> Option<(&[u8], &[u8], &[u8], &[u8], &[u8])>
+    ensures { MatchOption result (five_of (fields_of fields.now) ≡ None)
+        (λ f. five_of (fields_of fields.now)
+        ≡ Some (record { driver = f.0.now; holder = f.1.now; key = f.2.now; base = f.3.now; name = f.4.now })) }
+{
+    if fields.len() != 5 {
+        return None;
+    }
+    let first = fields.get(0)?;
+    let second = fields.get(1)?;
+    let third = fields.get(2)?;
+    let fourth = fields.get(3)?;
+    let fifth = fields.get(4)?;
+    Some((first, second, third, fourth, fifth))
 }

@@ -7,8 +7,8 @@ use std::alloc::{AllocError, Global};
 use tacho_state::{DriverSummary, Entry};
 use tacho_time::write_day;
 
-/// The text of a driver's entries: for each its number, start, past, activity, and `kept` or `withdrawn`, with blanks between, and
-/// a line feed.
+/// The text of a driver's entries: for each its number, start, past, activity, `kept` or `withdrawn`, and author and note in
+/// double quotes, with blanks between, and a line feed.
 pub fn entry_text(alloc: Global, entries: &[Entry]) -> Result<String, AllocError>
     ensures { IfOk result (λ text. string_bytes text ≡ flat_map entry_line entries.now) }
 {
@@ -24,11 +24,16 @@ fn push_entry(text: &mut String, entry: &Entry) -> Result<(), AllocError>
     ensures { OnOk result (string_bytes text.new ≡ string_bytes text.old ++ entry_line entry.now) }
 {
     let number = entry.number;
-    let start = entry.line.start;
-    let past = entry.line.past;
-    let activity = entry.line.activity.name();
+    let start = entry.line.start();
+    let past = entry.line.past();
+    let activity = entry.line.activity().name();
     let kept = word_of(entry.withdrawn);
-    writeln!(text, "{number} {start} {past} {activity} {kept}")
+    let author = entry.line.author();
+    let note = entry.line.note();
+    writeln!(
+        text,
+        "{number} {start} {past} {activity} {kept} \"{author}\" \"{note}\""
+    )
 }
 
 /// `withdrawn` or `kept`.

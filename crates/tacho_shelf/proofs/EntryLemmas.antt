@@ -11,10 +11,9 @@ use Rattle.tacho_time.specs.declared.span.Mark.{Mark}
 use Rattle.tacho_time.specs.Spans.{Gives, Conflicts}
 use Rattle.tacho_line.specs.Line.{empty_from, first_empty}
 use Rattle.tacho_line.proofs.MergeLemmas.{append_gives, front_gives, back_gives}
-use Rattle.tacho_state.specs.declared.entry.EntryLine.{EntryLine}
 use Rattle.tacho_state.specs.declared.fault.StoreFault.{StoreFault}
 use Rattle.tacho_state.specs.declared.fault.StoreFault.TheVariants.{UnknownEntry, AlreadyWithdrawn, Full}
-use Rattle.tacho_state.specs.Batch.{IsEntryLine, batch_of}
+use Rattle.tacho_state.specs.Batch.{Hours, IsEntryLine, batch_of}
 use Rattle.tacho_state.specs.Limits.{next_number}
 use Rattle.tacho_state.specs.Least.{least_conflict}
 use Rattle.tacho_state.specs.State.{Download, Entry, Driver, given_spans, entry_span, entered_spans, held_spans, entry_from, marked_from, with_batch, with_marked, AreFull}
@@ -26,7 +25,7 @@ use Rattle.tacho_shelf.proofs.RowLemmas.{looked_up}
 -- ---- a batch
 
 -- the entries of lines that aren't empty
-pub full_batch : (lines : List EntryLine) → All IsEntryLine lines → AreFull (batch_of lines)
+pub full_batch : (lines : List Hours) → All IsEntryLine lines → AreFull (batch_of lines)
 full_batch [] h = tt
 full_batch (l ∷ lines) h = ((All-head IsEntryLine l lines h).full, full_batch lines (All-tail IsEntryLine l lines h))
 

@@ -5,14 +5,12 @@ ghost use Rattle.tacho_state.specs.State.{entered_spans};
 use std::alloc::{AllocError, Global};
 use std::marker::Model;
 use tacho_state::EntryLine;
-use tacho_time::{Activity, Mark, Minute, Span};
+use tacho_time::{Mark, Span};
 
 /// Hours that were entered. Withdrawn ones stay listed, and give nothing.
-#[derive(Clone, Copy)]
+#[derive(Drop)]
 pub(crate) struct Hours {
-    start: Minute,
-    past: Minute,
-    activity: Activity,
+    line: EntryLine,
     withdrawn: bool,
 }
 
@@ -21,9 +19,7 @@ impl Model for Hours {
 
     ghost Value = { Entry };
 
-    ghost view = { λ h. record { start = h.start; past = h.past; activity = h.activity; withdrawn = h.withdrawn } };
-
-    ghost inverse = { λ e. record { start = e.start; past = e.past; activity = e.activity; withdrawn = e.withdrawn } };
+    ghost view = { λ h. record { start = h.line.start; past = h.line.past; activity = h.line.activity; author = h.line.author; note = h.line.note; withdrawn = h.withdrawn } };
 }
 
 impl Hours {
@@ -36,9 +32,7 @@ impl Hours {
         ensures { result ≡ entry_of line }
     {
         Hours {
-            start: line.start,
-            past: line.past,
-            activity: line.activity,
+            line,
             withdrawn: false,
         }
     }
@@ -48,24 +42,20 @@ impl Hours {
         ensures { result ≡ entry_span self.now }
     {
         Span {
-            start: self.start,
-            past: self.past,
+            start: self.line.start(),
+            past: self.line.past(),
             mark: Mark {
-                activity: self.activity,
+                activity: self.line.activity(),
                 crew: false,
             },
         }
     }
 
     /// The line that was entered.
-    pub(crate) fn line(&self) -> EntryLine
-        ensures { result ≡ record { start = self.now.start; past = self.now.past; activity = self.now.activity } }
+    pub(crate) fn line(&self) -> &EntryLine
+        ensures { result.now ≡ record { start = self.now.start; past = self.now.past; activity = self.now.activity; author = self.now.author; note = self.now.note } }
     {
-        EntryLine {
-            start: self.start,
-            past: self.past,
-            activity: self.activity,
-        }
+        &self.line
     }
 
     /// Whether they are withdrawn.
@@ -89,7 +79,7 @@ pub(crate) fn hours_of(alloc: Global, lines: &[EntryLine]) -> Result<Vec<Hours>,
 {
     let mut all = Vec::new(alloc);
     for line in lines {
-        all.push(Hours::new(*line))?;
+        all.push(Hours::new(line.copy(alloc)?))?;
     }
     Ok(all)
 }

@@ -304,11 +304,11 @@ impl Row {
         ensures number { self.new.number ≡ self.old.number }
         ensures err { OnErr result (self.new ≡ self.old) }
     {
-        let Ok(batch) = hours_of(alloc, lines) else {
+        let Ok(mut batch) = hours_of(alloc, lines) else {
             return Err(StoreFault::Memory);
         };
         let entered = self.numbers_for(alloc, &batch)?;
-        let Ok(()) = self.entries.extend_from_slice(&batch) else {
+        let Ok(()) = self.entries.append(&mut batch) else {
             return Err(StoreFault::Memory);
         };
         Ok(entered)
@@ -353,7 +353,7 @@ impl Row {
         for hours in &self.entries {
             entries.push(Entry {
                 number,
-                line: hours.line(),
+                line: hours.line().copy(alloc)?,
                 withdrawn: hours.is_withdrawn(),
             })?;
             number += 1;

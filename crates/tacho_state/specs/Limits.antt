@@ -1,4 +1,4 @@
--- Trusted: What a driver's number, key and name may be, and how many numbers are given out.
+-- Trusted: What a key, a name and a note may be, and how many numbers are given out.
 use Rattle.std.specs.Prelude.{◌≡◌, ◌≢◌, ℕ, ◌+◌, ◌≤◌, ◌⊎◌, List, length, All, Option, Some, None, if◌then◌else◌, nat_le, IsTrue}
 use Rattle.std.specs.Char.{is_ascii_alphanumeric}
 
@@ -23,6 +23,11 @@ pub record IsNameByte (c : ℕ) : Type 0 where
 pub record IsName (text : List ℕ) : Type 0 where
   pub least : 1 ≤ length text
   pub most : length text ≤ 64
+  pub bytes : All IsNameByte text
+
+-- a note: at most 200 of these
+pub record IsNote (text : List ℕ) : Type 0 where
+  pub most : length text ≤ 200
   pub bytes : All IsNameByte text
 
 -- the first of so many numbers more, where so many were given out: there are 1,000,000

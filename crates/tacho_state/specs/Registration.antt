@@ -33,3 +33,5 @@ IsFirstBad r column.Holder = ⊥
 IsFirstBad r column.Key = IsNumber r.number × ¬ (IsKey r.key)
 IsFirstBad r column.Base = IsNumber r.number × IsKey r.key × ¬ (IsReadDay r.base)
 IsFirstBad r column.Name = IsNumber r.number × IsKey r.key × IsReadDay r.base × ¬ (IsName r.name)
+IsFirstBad r column.Author = ⊥
+IsFirstBad r column.Note = ⊥

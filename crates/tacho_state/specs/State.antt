@@ -12,11 +12,13 @@ pub record Download : Type 0 where
   pub file : List ℕ
   pub spans : List Span
 
--- hours that were entered: minutes from start to before past; a withdrawn entry stays listed and gives nothing
+-- hours that were entered: minutes from start to before past, who said so, and why; a withdrawn entry stays listed and gives nothing
 pub record Entry : Type 0 where
   pub start : ℕ
   pub past : ℕ
   pub activity : Activity
+  pub author : List ℕ
+  pub note : List ℕ
   pub withdrawn : Bool
 
 -- a driver: the holder of his card, his key, the day from which he is examined, his name, and his downloads and entries in the

@@ -139,7 +139,11 @@ lined n s = told_of (λ d. Ok (held_mark d)) (driver_of n s)
 abbrev pub numbered_from : ℕ → List Entry → List Listed
 numbered_from i [] = []
 numbered_from i (e ∷ es) =
-    record { number = i; line = record { start = e.start; past = e.past; activity = e.activity }; withdrawn = e.withdrawn } ∷ numbered_from (i + 1) es
+    record {
+      number = i;
+      line = record { start = e.start; past = e.past; activity = e.activity; author = e.author; note = e.note };
+      withdrawn = e.withdrawn;
+    } ∷ numbered_from (i + 1) es
 
 -- his entries, withdrawn ones among them, in the order of their numbers
 abbrev pub listed : ℕ → State → Result (List Listed) StoreFault

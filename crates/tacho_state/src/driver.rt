@@ -5,7 +5,7 @@ use crate::limits::{is_key, is_name};
 use std::marker::Model;
 use tacho_time::Day;
 
-/// A column of a driver.
+/// A column of a driver, or of hours that are entered.
 #[derive(Clone, Copy, Debug, PartialEq, Eq)]
 pub enum Column {
     /// His number: 1 to 999,999.
@@ -18,6 +18,10 @@ pub enum Column {
     Base,
     /// His name: 1 to 64 bytes, without controls, commas and double quotes.
     Name,
+    /// Who entered hours: 1 to 64 bytes, as a name.
+    Author,
+    /// Why they were entered: at most 200 bytes, as a name.
+    Note,
 }
 
 /// A driver as he is registered: each column is within its limits.

@@ -42,6 +42,9 @@ pub enum StoreFault {
     /// S12: the store's call failed, or gave a row that no archive writes.
     #[error("the store failed")]
     Store,
+    /// S13: the archive's tables are of schema 1, which `migrate` carries over.
+    #[error("an old archive")]
+    OldSchema,
     /// S14: no further number is given out.
     #[error("no further number")]
     Full,

@@ -1,5 +1,5 @@
-ghost use Rattle.std.specs.Prelude.{◌≡◌, ◌↔◌, IsTrue};
-ghost use Rattle.tacho_state.specs.Limits.{IsKey, IsName, next_number};
+ghost use Rattle.std.specs.Prelude.{◌≡◌, ◌↔◌, All, IsTrue};
+ghost use Rattle.tacho_state.specs.Limits.{IsKey, IsName, IsNameByte, IsNote, next_number};
 
 /// How many numbers a driver's downloads, and his entries, are given at the most.
 const MOST: u32 = 1_000_000;
@@ -16,14 +16,27 @@ pub fn is_key(text: &str) -> bool
             .all(|&byte| byte.is_ascii_alphanumeric() || byte == b'-')
 }
 
-/// Whether a text may be a driver's name: 1 to 64 bytes, without controls, commas and double quotes. It takes no memory.
+/// Whether a text may be a name: 1 to 64 bytes, without controls, commas and double quotes. It takes no memory.
 pub fn is_name(text: &str) -> bool
     ensures { IsTrue result ↔ IsName text.now }
 {
     let bytes = text.as_bytes();
-    bytes.len() >= 1
-        && bytes.len() <= 64
-        && bytes.iter().all(|&byte| byte >= 0x20 && byte != 0x7f && byte != b',' && byte != b'"')
+    bytes.len() >= 1 && bytes.len() <= 64 && are_name_bytes(bytes)
+}
+
+/// Whether a text may be a note: at most 200 bytes, without controls, commas and double quotes. It takes no memory.
+pub fn is_note(text: &str) -> bool
+    ensures { IsTrue result ↔ IsNote text.now }
+{
+    let bytes = text.as_bytes();
+    bytes.len() <= 200 && are_name_bytes(bytes)
+}
+
+/// Whether none of the bytes is a control, a comma or a double quote.
+fn are_name_bytes(bytes: &[u8]) -> bool
+    ensures { IsTrue result ↔ All IsNameByte bytes.now }
+{
+    bytes.iter().all(|&byte| byte >= 0x20 && byte != 0x7f && byte != b',' && byte != b'"')
 }
 
 /// The first of `count` numbers that are given out where `given` are, or none where there aren't as many. It takes no memory.

@@ -8,7 +8,9 @@ use Rattle.tacho_sheet.proofs.entries.lines_of_rows.Given as goal
 abbrev pub invariant-loop-lines : goal.invariant-loop-lines
 invariant-loop-lines l =
     (text : List ℕ) × HasLeft l.reader text × (l.row + length text < 2 ^ 63 + 2)
-    × ((rows : List Row) → AreLeft l.reader rows → (all : List Row) × AreLeft l.fn.reader all × (lines_from 2 0 all ≡ put_first l.lines.items (lines_from l.row l.before rows)))
+    × ((rows : List Row) → AreLeft l.reader rows
+    → (all : List Row) × AreLeft l.fn.reader all
+    × (lines_from l.head 2 0 all ≡ put_first l.lines.items (lines_from l.head l.row l.before rows)))
 
 -- the bytes that the reader has left
 abbrev pub decreases-loop-lines : goal.decreases-loop-lines
