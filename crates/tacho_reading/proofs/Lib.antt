@@ -14,6 +14,7 @@ mod ExtentLemmas
 mod TimelineLemmas
 pub mod ApartLemmas
 mod ListedLemmas
+mod TakingLemmas
 mod SummaryLemmas
 mod ReportLemmas
 pub mod LineWithinLemmas

@@ -17,9 +17,8 @@ use Rattle.tacho_state.specs.declared.fault.StoreFault.TheVariants.{Memory, Stor
 use Rattle.tacho_state.specs.Acts.{Answers}
 use Rattle.tacho_state.specs.State.{Driver, Entry, State, driver_of}
 use Rattle.tacho_state.specs.Steps.{numbered_from, listed}
-use Rattle.tacho_tables.specs.declared.rows.StoredEntry.{StoredEntry}
 use Rattle.tacho_tables.specs.Rows.{EntryRow}
-use Rattle.tacho_tables.specs.Tables.{Tables, HasTables, is_entry_of, entry_of}
+use Rattle.tacho_tables.specs.Tables.{Tables, HasTables, ListedEntry, is_entry_of, listed_entry}
 use Rattle.tacho_reading.specs.Standing.{StandsFor, activity_number, numbered_activity, entry_row, entry_rows, listed_as}
 use Rattle.tacho_reading.proofs.EntryLemmas.{entry_all}
 use Rattle.tacho_reading.proofs.TimelineLemmas.{gave_up}
@@ -27,7 +26,7 @@ use Rattle.tacho_reading.proofs.TimelineLemmas.{gave_up}
 -- ---- order
 
 -- stored entries are ordered by their numbers
-abbrev by_number : StoredEntry → StoredEntry → Ordering
+abbrev by_number : ListedEntry → ListedEntry → Ordering
 by_number x y = nat_cmp x.number y.number
 
 total : IsTotalOrder by_number
@@ -42,11 +41,12 @@ less_is : (i j : ℕ) → i < j → nat_cmp i j ≡ Less
 less_is i j h = grind (arith, nat_tests)
 
 -- the numbers of a driver's rows rise
-rows_above : (n i j : ℕ) (es : List Entry) → i < j → AllByRecursion (λ (x : StoredEntry). nat_cmp i x.number ≡ Less) (map entry_of (entry_rows n j es))
+rows_above : (n i j : ℕ) (es : List Entry) → i < j
+    → AllByRecursion (λ (x : ListedEntry). nat_cmp i x.number ≡ Less) (map listed_entry (entry_rows n j es))
 rows_above n i j [] h = tt
 rows_above n i j (e ∷ es) h = (less_is i j h, rows_above n i (j + 1) es (omega (arith, h)))
 
-rows_rise : (n i : ℕ) (es : List Entry) → IsAscending (λ x y. by_number x y ≡ Less) (map entry_of (entry_rows n i es))
+rows_rise : (n i : ℕ) (es : List Entry) → IsAscending (λ x y. by_number x y ≡ Less) (map listed_entry (entry_rows n i es))
 rows_rise n i [] = tt
 rows_rise n i (e ∷ es) = (rows_above n i (i + 1) es (omega arith), rows_rise n (i + 1) es)
 
@@ -64,31 +64,38 @@ flag_is : (b : Bool) → not (cond b 1 0 == 0) ≡ b
 flag_is true = refl
 flag_is false = refl
 
--- a row is listed as its entry
-row_listed : (n i : ℕ) (e : Entry)
-    → listed_as (entry_of (entry_row n i e)) ≡ record { number = i; line = record { start = e.start; past = e.past; activity = e.activity }; withdrawn = e.withdrawn }
-row_listed n i e =
-    ap (λ (a : Activity). record { number = i; line = record { start = e.start; past = e.past; activity = a }; withdrawn = not (cond e.withdrawn 1 0 == 0) })
-    (activity_is e.activity)
-    ∙ ap (λ (w : Bool). record { number = i; line = record { start = e.start; past = e.past; activity = e.activity }; withdrawn = w }) (flag_is e.withdrawn)
+-- an entry by a number, of these hours and withdrawn or not
+listed_with : ℕ → Entry → Activity → Bool → Listed
+listed_with i e a w = record {
+  number = i;
+  line = record { start = e.start; past = e.past; activity = a; author = e.author; note = e.note };
+  withdrawn = w;
+}
 
-rows_listed : (n i : ℕ) (es : List Entry) → map listed_as (map entry_of (entry_rows n i es)) ≡ numbered_from i es
+-- a row is listed as its entry
+row_listed : (n i : ℕ) (e : Entry) → listed_as (listed_entry (entry_row n i e)) ≡ listed_with i e e.activity e.withdrawn
+unfolding listed_with
+row_listed n i e =
+    ap (λ (a : Activity). listed_with i e a (not (cond e.withdrawn 1 0 == 0))) (activity_is e.activity)
+    ∙ ap (listed_with i e e.activity) (flag_is e.withdrawn)
+
+rows_listed : (n i : ℕ) (es : List Entry) → map listed_as (map listed_entry (entry_rows n i es)) ≡ numbered_from i es
+unfolding listed_with
 rows_listed n i [] = refl
 rows_listed n i (e ∷ es) =
-    ap (λ (x : Listed). x ∷ map listed_as (map entry_of (entry_rows n (i + 1) es))) (row_listed n i e)
-    ∙ ap (λ (x : List Listed). record { number = i; line = record { start = e.start; past = e.past; activity = e.activity }; withdrawn = e.withdrawn } ∷ x)
-    (rows_listed n (i + 1) es)
+    ap (λ (x : Listed). x ∷ map listed_as (map listed_entry (entry_rows n (i + 1) es))) (row_listed n i e)
+    ∙ ap (λ (x : List Listed). listed_with i e e.activity e.withdrawn ∷ x) (rows_listed n (i + 1) es)
 
 -- ---- what is read
 
 -- a driver's rows, by their numbers, are listed as his entries
-pub entries_told : (db : Trees) (n : ℕ) (s : State) (d : Driver) (found : List StoredEntry) → StandsFor db s → driver_of n s ≡ Some d
-    → ((a : Tables) → HasTables db a → IsPermutation (map entry_of (filter (is_entry_of n) a.entries)) found)
+pub entries_told : (db : Trees) (n : ℕ) (s : State) (d : Driver) (found : List ListedEntry) → StandsFor db s → driver_of n s ≡ Some d
+    → ((a : Tables) → HasTables db a → IsPermutation (map listed_entry (filter (is_entry_of n) a.entries)) found)
     → ((a : Tables) → HasTables db a → IsSorted by_number found) → map listed_as found ≡ numbered_from 1 d.entries
 unfolding StandsFor
 entries_told db n s d found (t, stand, of) is same sorted =
-    let rows : IsPermutation (map entry_of (entry_rows n 1 d.entries)) found =
-    subst (λ (x : List EntryRow). IsPermutation (map entry_of x) found) (entry_all t s n d of is) (same t stand) in
+    let rows : IsPermutation (map listed_entry (entry_rows n 1 d.entries)) found =
+    subst (λ (x : List EntryRow). IsPermutation (map listed_entry x) found) (entry_all t s n d of is) (same t stand) in
     ap (map listed_as) (sorted_unique by_number total _ found (rows_rise n 1 d.entries) rows (sorted t stand)) ∙ rows_listed n 1 d.entries
 
 -- they are answered, or the call gave up

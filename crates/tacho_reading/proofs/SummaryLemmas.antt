@@ -1,10 +1,7 @@
 -- All drivers are listed by their numbers.
-use Rattle.std.proofs.Common.{◌≡◌, ◌∙◌, ◌⊎◌, List, [], ◌∷◌, ◌++◌, append_assoc, map, Result, Ok, Err, IfOk, IfErr, refl, sym, ap, subst}
-use Rattle.std.specs.List.{All}
+use Rattle.std.proofs.Common.{◌≡◌, ◌∙◌, ◌⊎◌, List, [], ◌∷◌, map, Result, Ok, Err, IfOk, IfErr, refl, sym, ap, subst}
 use Rattle.std.specs.List.Sorted.{IsPermutation}
 use Rattle.std.specs.Ordering.{is_lt, nat_cmp}
-use Rattle.std.proofs.lemmas.List.{map-append}
-use Rattle.std.proofs.lemmas.List.Elements.{All-head, All-tail}
 use Rattle.std.proofs.lemmas.List.Sorted.{IsPermutation-map}
 use Rattle.sqlite.specs.Tree.{Trees}
 use Rattle.tacho_state.specs.declared.fault.StoreFault.{StoreFault}
@@ -17,32 +14,8 @@ use Rattle.tacho_state.proofs.SummaryLemmas.{sorted_map}
 use Rattle.tacho_tables.specs.declared.rows.StoredDriver.{StoredDriver}
 use Rattle.tacho_tables.specs.Rows.{DriverRow}
 use Rattle.tacho_tables.specs.Tables.{AreListed, HasTables, ListedDriver, Tables, listed_driver, told_driver}
-use Rattle.tacho_reading.specs.Standing.{HasDay, StandsFor, driver_columns, summarized}
+use Rattle.tacho_reading.specs.Standing.{StandsFor, driver_columns, summarized}
 use Rattle.tacho_reading.proofs.TimelineLemmas.{gave_up}
-
--- ---- rows that are read
-
--- one summary more, and one row less
-pub one_more : (done more : List DriverSummary) (it : DriverSummary) (row : StoredDriver) (left rest : List StoredDriver)
-    (all : List Summary) → more ≡ done ++ it ∷ [] → left ≡ row ∷ rest → told_summary it ≡ summarized (told_driver row)
-    → map told_summary done ++ map summarized (map told_driver left) ≡ all
-    → map told_summary more ++ map summarized (map told_driver rest) ≡ all
-one_more done more it row left rest all pushed taken is whole =
-    let front = map told_summary done in
-    let back = map summarized (map told_driver rest) in
-    ap (λ (xs : List DriverSummary). map told_summary xs ++ back) pushed
-    ∙ ap (λ (xs : List Summary). xs ++ back) (map-append told_summary done (it ∷ []))
-    ∙ append_assoc front (told_summary it ∷ []) back
-    ∙ ap (λ (x : Summary). front ++ (x ∷ back)) is
-    ∙ ap (λ (xs : List StoredDriver). front ++ map summarized (map told_driver xs)) (sym taken)
-    ∙ whole
-
--- where all rows that are left have days, the first has one, and so have the others
-pub days_left : (row : StoredDriver) (left rest : List StoredDriver) → left ≡ row ∷ rest → All HasDay (map told_driver left)
-    → HasDay (told_driver row) × All HasDay (map told_driver rest)
-days_left row left rest taken all =
-    let both = subst (λ (xs : List StoredDriver). All HasDay (map told_driver xs)) taken all in
-    (All-head HasDay (told_driver row) (map told_driver rest) both, All-tail HasDay (told_driver row) (map told_driver rest) both)
 
 -- ---- what is read
 

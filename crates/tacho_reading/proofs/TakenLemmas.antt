@@ -18,8 +18,7 @@ use Rattle.tacho_state.specs.declared.fault.StoreFault.{StoreFault}
 use Rattle.tacho_state.specs.declared.fault.StoreFault.TheVariants.{Memory, Store}
 use Rattle.tacho_line.specs.declared.horizon.Horizon.{Horizon}
 use Rattle.tacho_tables.specs.Rows.{AreRowsOf, SpanRow, span_columns}
-use Rattle.tacho_tables.specs.Schema.{archive_schema}
-use Rattle.tacho_tables.specs.Tables.{span_of, span_shown}
+use Rattle.tacho_tables.specs.Tables.{IsArchive, span_of, span_shown}
 use Rattle.tacho_tables.proofs.NextLemmas.{shown_onward, given_onward}
 use Rattle.sqlite.specs.State.{State, HasCleanDisk, IsUnchanged, Survives}
 use Rattle.sqlite.proofs.StateLemmas.{survives_then}
@@ -390,7 +389,7 @@ told_split (r ∷ rows) tail (s ∷ spans) (x ∷ shown) t e =
 
 module _ {S : Type 0} (g : Ghosts S) (driver start base : ℕ) (all : List SpanRow) (old new : Held S) (scan : Scan)
     (was : Found) (fed : Scan) (found : Found)
-    (schema : old.schema ≡ archive_schema) (same : IsTrue (state g new).is_open
+    (archive : IsArchive (state g old).now) (same : IsTrue (state g new).is_open
     → (state g new).now ≡ (state g old).now) (stands : AreRowsOf span_columns ((state g old).now.trees 10) all)
     (given : HasGiven g onward_text (Int (pos driver) ∷ Int (pos start) ∷ []) old []) where
   -- by what the rows show
@@ -432,12 +431,12 @@ module _ {S : Type 0} (g : Ghosts S) (driver start base : ℕ) (all : List SpanR
       elim it.2 [
         | inl ended ↦
             let whole = shown_onward driver start all (state g ended.1) (state g new) it.0
-            (ap (λ (d : Database). d.schema) ended.2 ∙ schema) ended.3
+            (subst IsArchive (sym ended.2) archive) ended.3
             (subst (λ (d : Database). AreRowsOf span_columns (d.trees 10) all) (sym ended.2) stands) in
             fed_of h f it.0 [] whole.0 it.1 (append-nil it.0 ∙ whole.1) whole.2 (ends_all h ended.0)
         | inr more ↦
             let some = given_onward driver start all g new (it.0 ++ more.0 ∷ [])
-            (ap (λ (d : Database). d.schema) (same live) ∙ schema) live more.4
+            (subst IsArchive (sym (same live)) archive) live more.4
             (subst (λ (d : Database). AreRowsOf span_columns (d.trees 10) all) (sym (same live)) stands) in
             fed_of h f it.0 (more.0 ∷ some.0) some.1 it.1 (sym (append_assoc it.0 (more.0 ∷ []) some.0) ∙ some.2) some.3
             (stops_there h more.0 some.0 more.1 more.2 more.3)

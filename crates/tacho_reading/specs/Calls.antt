@@ -9,8 +9,7 @@ use Rattle.tacho_state.specs.declared.fault.StoreFault.{StoreFault}
 use Rattle.tacho_state.specs.State.{State, driver_of}
 use Rattle.tacho_state.specs.Steps.{Turn}
 use Rattle.tacho_state.specs.Acts.{Answers, IsAnswered, IsOfNoFile}
-use Rattle.tacho_tables.specs.Schema.{archive_schema}
-use Rattle.tacho_tables.specs.Tables.{Tables, HasTables}
+use Rattle.tacho_tables.specs.Tables.{Tables, HasTables, IsArchive}
 use Rattle.tacho_tables.specs.Calls.{Stays}
 use Rattle.tacho_reading.specs.Standing.{StandsFor, KeepsRowsOf}
 
@@ -19,28 +18,28 @@ module _ {S : Type 0} (g : Ghosts S) (old new : MutBor (Held S)) where
     -- Whatever it does: nothing is committed, only an open store answers, and no file is refused.
     pub record Goes : Type 0 where
       pub stays : Stays g old new
-      pub keeps : HasCleanDisk (state g new.now) → (state g old.now).now.schema ≡ archive_schema → KeepsCommit (state g old.now) (state g new.now)
+      pub keeps : HasCleanDisk (state g new.now) → IsArchive (state g old.now).now → KeepsCommit (state g old.now) (state g new.now)
       pub live : HasCleanDisk (state g new.now) → IsAnswered result → IsTrue (state g old.now).is_open
       pub of_no_file : IsOfNoFile result
 
     -- A reading whose answer is a fact of the tables and of the state.
     pub record Tells (fact : Trees → State → Type 0) : Type 0 where
       pub goes : Goes
-      pub same : HasCleanDisk (state g new.now) → (state g old.now).now.schema ≡ archive_schema
+      pub same : HasCleanDisk (state g new.now) → IsArchive (state g old.now).now
           → OnOk result (IsUnchanged (state g old.now) (state g new.now))
-      pub told : HasCleanDisk (state g new.now) → (state g old.now).now.schema ≡ archive_schema
+      pub told : HasCleanDisk (state g new.now) → IsArchive (state g old.now).now
           → (s : State) → StandsFor (state g old.now).now.trees s → fact (state g old.now).now.trees s
 
     -- It answers as a step does, and where it answers Ok the tables stand for the state after that, and have the same rows of each
     -- driver of whom the step says nothing new.
     pub record Steps {B : Type 0} (view : A → B) (step : State → Turn B) : Type 0 where
       pub goes : Goes
-      pub answer : HasCleanDisk (state g new.now) → (state g old.now).now.schema ≡ archive_schema
+      pub answer : HasCleanDisk (state g new.now) → IsArchive (state g old.now).now
           → (s : State) → StandsFor (state g old.now).now.trees s → Answers view result (step s).answer
-      pub made : HasCleanDisk (state g new.now) → (state g old.now).now.schema ≡ archive_schema
+      pub made : HasCleanDisk (state g new.now) → IsArchive (state g old.now).now
           → (s : State) → StandsFor (state g old.now).now.trees s
-          → OnOk result (((state g new.now).now.schema ≡ archive_schema) × StandsFor (state g new.now).now.trees (step s).after)
-      pub others : HasCleanDisk (state g new.now) → (state g old.now).now.schema ≡ archive_schema
+          → OnOk result (IsArchive (state g new.now).now × StandsFor (state g new.now).now.trees (step s).after)
+      pub others : HasCleanDisk (state g new.now) → IsArchive (state g old.now).now
           → (s : State) → StandsFor (state g old.now).now.trees s
           → (n : ℕ) → driver_of n (step s).after ≡ driver_of n s
           → OnOk result (KeepsRowsOf n (state g old.now).now.trees (state g new.now).now.trees)
@@ -48,15 +47,15 @@ module _ {S : Type 0} (g : Ghosts S) (old new : MutBor (Held S)) where
     -- The same of a step that what was found before it decides.
     pub record StepsGiven {B P : Type 0} (given : P → Trees → State → Type 0) (view : A → B) (step : P → State → Turn B) : Type 0 where
       pub stays : Stays g old new
-      pub keeps : HasCleanDisk (state g new.now) → (state g old.now).now.schema ≡ archive_schema → KeepsCommit (state g old.now) (state g new.now)
+      pub keeps : HasCleanDisk (state g new.now) → IsArchive (state g old.now).now → KeepsCommit (state g old.now) (state g new.now)
       pub of_no_file : IsOfNoFile result
-      pub answer : HasCleanDisk (state g new.now) → (state g old.now).now.schema ≡ archive_schema
+      pub answer : HasCleanDisk (state g new.now) → IsArchive (state g old.now).now
           → (s : State) → StandsFor (state g old.now).now.trees s
           → (p : P) → given p (state g old.now).now.trees s → Answers view result (step p s).answer
-      pub made : HasCleanDisk (state g new.now) → (state g old.now).now.schema ≡ archive_schema
+      pub made : HasCleanDisk (state g new.now) → IsArchive (state g old.now).now
           → (s : State) → StandsFor (state g old.now).now.trees s → (p : P) → given p (state g old.now).now.trees s
-          → OnOk result (((state g new.now).now.schema ≡ archive_schema) × StandsFor (state g new.now).now.trees (step p s).after)
-      pub others : HasCleanDisk (state g new.now) → (state g old.now).now.schema ≡ archive_schema
+          → OnOk result (IsArchive (state g new.now).now × StandsFor (state g new.now).now.trees (step p s).after)
+      pub others : HasCleanDisk (state g new.now) → IsArchive (state g old.now).now
           → (s : State) → StandsFor (state g old.now).now.trees s → (p : P) → given p (state g old.now).now.trees s
           → (n : ℕ) → driver_of n (step p s).after ≡ driver_of n s
           → OnOk result (KeepsRowsOf n (state g old.now).now.trees (state g new.now).now.trees)
@@ -64,8 +63,8 @@ module _ {S : Type 0} (g : Ghosts S) (old new : MutBor (Held S)) where
   -- A change of tables of which something is given.
   pub record ChangesWhere {A E : Type 0} (result : Result A E) (given : Tables → Type 0) (step : Tables → Tables) : Type 0 where
     pub stays : Stays g old new
-    pub keeps : HasCleanDisk (state g new.now) → (state g old.now).now.schema ≡ archive_schema → KeepsCommit (state g old.now) (state g new.now)
-    pub schema : HasCleanDisk (state g new.now) → (state g old.now).now.schema ≡ archive_schema
-        → OnOk result ((state g new.now).now.schema ≡ archive_schema)
-    pub turned : HasCleanDisk (state g new.now) → (state g old.now).now.schema ≡ archive_schema
+    pub keeps : HasCleanDisk (state g new.now) → IsArchive (state g old.now).now → KeepsCommit (state g old.now) (state g new.now)
+    pub schema : HasCleanDisk (state g new.now) → IsArchive (state g old.now).now
+        → OnOk result (IsArchive (state g new.now).now)
+    pub turned : HasCleanDisk (state g new.now) → IsArchive (state g old.now).now
         → (t : Tables) → HasTables (state g old.now).now.trees t → given t → OnOk result (HasTables (state g new.now).now.trees (step t))

@@ -9,7 +9,8 @@ use Rattle.tacho_state.specs.declared.fault.StoreFault.TheVariants.{Memory, Stor
 use Rattle.tacho_state.specs.State.{State}
 use Rattle.tacho_state.specs.Steps.{Turn}
 use Rattle.tacho_state.specs.Acts.{Acts, Reads}
-use Rattle.tacho_tables.specs.Schema.{no_schema, archive_schema}
+use Rattle.tacho_tables.specs.Schema.{no_schema}
+use Rattle.tacho_tables.specs.Tables.{IsArchive}
 use Rattle.tacho_reading.specs.Standing.{StandsFor, KeepsRowsOf}
 
 -- this is true of one of the states
@@ -23,7 +24,7 @@ IsBlank c = c.now.schema ≡ no_schema
 
 -- it sees an archive's tables, and they stand for the state
 abbrev pub Sees : Sqlite → State → Type 0
-Sees c s = (c.now.schema ≡ archive_schema) × StandsFor c.now.trees s
+Sees c s = IsArchive c.now × StandsFor c.now.trees s
 
 -- it does while it is open: of a connection that a failure has shut nothing is said
 abbrev pub SeesWhileOpen : Sqlite → State → Type 0

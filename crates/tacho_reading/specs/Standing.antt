@@ -8,14 +8,14 @@ use Rattle.tacho_time.specs.declared.span.Activity.TheVariants.{Rest, Available,
 use Rattle.tacho_time.specs.Spans.{Gives, IsFirstConflict}
 use Rattle.tacho_card.specs.declared.file.Part.{Part}
 use Rattle.tacho_state.specs.declared.entry.Entry.{Entry as Listed}
+use Rattle.tacho_state.specs.Limits.{IsName, IsNote}
 use Rattle.tacho_state.specs.State.{Download, Entry, Driver, State, Given, Held, AreFull, driver_of}
 use Rattle.tacho_state.specs.Disjoint.{Keeps}
 use Rattle.tacho_state.specs.Content.{FileTells, part_number}
 use Rattle.tacho_state.specs.Summaries.{Summary}
 use Rattle.tacho_tables.specs.Rows.{SpanRow, DownloadRow, EntryRow, DriverRow}
 use Rattle.tacho_tables.specs.declared.rows.StoredSpan.{StoredSpan}
-use Rattle.tacho_tables.specs.declared.rows.StoredEntry.{StoredEntry}
-use Rattle.tacho_tables.specs.Tables.{ListedDriver, Tables, HasTables, has_number, is_of, is_near, is_kept_near, span_of, entry_span_of}
+use Rattle.tacho_tables.specs.Tables.{ListedDriver, ListedEntry, Tables, HasTables, has_number, is_of, is_near, is_kept_near, span_of, entry_span_of}
 
 -- ---- marks as numbers: 0 rest, 1 available, 2 work, 3 drive, and 4 more for crew
 
@@ -60,7 +60,16 @@ download_rows n i [] = []
 download_rows n i (d ∷ ds) = record { driver = n; number = i; part = d.part; file = d.file } ∷ download_rows n (i + 1) ds
 
 abbrev pub entry_row : ℕ → ℕ → Entry → EntryRow
-entry_row n i e = record { driver = n; number = i; start = e.start; past = e.past; mark = activity_number e.activity; withdrawn = (if e.withdrawn then 1 else 0) }
+entry_row n i e = record {
+  driver = n;
+  number = i;
+  start = e.start;
+  past = e.past;
+  mark = activity_number e.activity;
+  withdrawn = (if e.withdrawn then 1 else 0);
+  author = e.author;
+  note = e.note;
+}
 
 abbrev pub entry_rows : ℕ → ℕ → List Entry → List EntryRow
 entry_rows n i [] = []
@@ -176,9 +185,11 @@ pub record IsFit (s : StoredSpan) : Type 0 where
   pub minutes : AreMinutes s.start s.past
   pub mark : IsMark s.mark
 
--- a stored entry that can be listed
-abbrev pub IsListed : StoredEntry → Type 0
-IsListed it = AreMinutes it.start it.past
+-- a stored entry that can be listed: its numbers are of minutes, and its texts within their limits
+pub record IsListed (it : ListedEntry) : Type 0 where
+  pub minutes : AreMinutes it.start it.past
+  pub author : IsName it.author
+  pub note : IsNote it.note
 
 -- a stored span as a span
 abbrev pub stored_span : StoredSpan → Span
@@ -197,9 +208,12 @@ abbrev pub IsKeptNear : List EntryRow → ℕ → ℕ → ℕ → List StoredSpa
 IsKeptNear rows n start past found = IsPermutation (map entry_span_of (filter (is_kept_near n start past) rows)) found
 
 -- an entry as it is listed
-abbrev pub listed_as : StoredEntry → Listed
-listed_as it =
-    record { number = it.number; line = record { start = it.start; past = it.past; activity = numbered_activity it.mark }; withdrawn = not (it.withdrawn == 0) }
+abbrev pub listed_as : ListedEntry → Listed
+listed_as it = record {
+  number = it.number;
+  line = record { start = it.start; past = it.past; activity = numbered_activity it.mark; author = it.author; note = it.note };
+  withdrawn = not (it.withdrawn == 0);
+}
 
 -- a driver as he is listed
 abbrev pub summarized : ListedDriver → Summary

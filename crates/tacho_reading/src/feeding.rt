@@ -5,8 +5,7 @@ ghost use Rattle.sqlite.specs.State.{HasCleanDisk};
 ghost use Rattle.sqlite.specs.Held.{state};
 ghost use Rattle.tacho_hours.specs.Limits.{latest};
 ghost use Rattle.tacho_rules.specs.Scan.{IsAt};
-ghost use Rattle.tacho_tables.specs.Schema.{archive_schema};
-ghost use Rattle.tacho_tables.specs.Tables.{Tables, HasTables};
+ghost use Rattle.tacho_tables.specs.Tables.{Tables, HasTables, IsArchive};
 ghost use Rattle.tacho_reading.specs.Taken.{cut, IsStepOf, IsRefusalOf, HasFed, AreFed, EndsAt, ReadsRows, ReadsSettled};
 
 use crate::fault::store_fault;
@@ -130,7 +129,7 @@ pub fn feed_held<S: Alter>(
     requires early { base ≤ latest }
     ensures reads { ReadsSettled S.Store result conn.old conn.new }
     ensures ends { EndsAt base scan.old found.old scan.new found.new result }
-    ensures fed { HasCleanDisk (state S.Store conn.new) → (state S.Store conn.old).now.schema ≡ archive_schema
+    ensures fed { HasCleanDisk (state S.Store conn.new) → IsArchive (state S.Store conn.old).now
         → (t : Tables) → HasTables (state S.Store conn.old).now.trees t
         → IfOk result (AreFed driver start base t.held scan.old found.old scan.new found.new) }
 {

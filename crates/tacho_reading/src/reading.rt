@@ -224,7 +224,7 @@ fn entries_in<S: Alter>(
 {
     driver_with(tx, driver)?;
     let rows = entries::of_driver(alloc, tx, driver).map_err(store_fault)?;
-    listed_entries(alloc, &rows)
+    listed_entries(alloc, rows)
 }
 
 /// A driver's entries by their numbers: S4.

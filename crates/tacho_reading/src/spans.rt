@@ -3,7 +3,7 @@ ghost use Rattle.tacho_time.specs.OrMemory.{OrMemory};
 ghost use Rattle.tacho_time.specs.Spans.{Gives, IsCanonical, IsCanonicalOf};
 ghost use Rattle.tacho_state.specs.Disjoint.{AreInRange};
 ghost use Rattle.tacho_state.specs.Summaries.{told_summary};
-ghost use Rattle.tacho_tables.specs.Tables.{row_of, told_driver};
+ghost use Rattle.tacho_tables.specs.Tables.{row_of, told_driver, told_entry};
 ghost use Rattle.tacho_reading.specs.Standing.{activity_number, mark_number, numbered_activity, numbered_mark, stored_span, span_row, listed_as, summarized, HasDay, IsFit, IsListed, AreFaulty};
 
 use std::alloc::{AllocError, Global};
@@ -129,26 +129,28 @@ pub fn line_of_stored(alloc: Global, rows: &[StoredSpan]) -> Result<Line, StoreF
 }
 
 /// The entry of a stored row, where an archive writes such a row.
-fn listed_entry(row: &StoredEntry) -> Option<Entry>
-    ensures some { IfSome result (λ entry. entry ≡ listed_as row.now) }
-    ensures none { IsNone result ↔ (¬ IsListed row.now) }
+fn listed_entry(row: StoredEntry) -> Option<Entry>
+    ensures some { IfSome result (λ entry. entry ≡ listed_as (told_entry row)) }
+    ensures none { IsNone result ↔ (¬ IsListed (told_entry row)) }
 {
+    let start = minute_of(row.start)?;
+    let past = minute_of(row.past)?;
+    let activity = activity_of(row.mark);
+    let Ok(line) = EntryLine::new(start, past, activity, row.author, row.note) else {
+        return None;
+    };
     Some(Entry {
         number: row.number,
-        line: EntryLine {
-            start: minute_of(row.start)?,
-            past: minute_of(row.past)?,
-            activity: activity_of(row.mark),
-        },
+        line,
         withdrawn: row.withdrawn != 0,
     })
 }
 
 /// The entries of stored rows; a row that no archive writes is a fault of the store.
-pub fn listed_entries(alloc: Global, rows: &[StoredEntry]) -> Result<Vec<Entry>, StoreFault>
-    ensures entries { IfOk result (λ entries. entries.items ≡ map listed_as rows.now) }
+pub fn listed_entries(alloc: Global, rows: Vec<StoredEntry>) -> Result<Vec<Entry>, StoreFault>
+    ensures entries { IfOk result (λ entries. entries.items ≡ map listed_as (map told_entry rows.items)) }
     ensures fault { IfErr result (λ fault. OrMemory StoreFault.Memory fault (fault ≡ StoreFault.Store)) }
-    ensures cause { result ≡ Err StoreFault.Store → ¬ All IsListed rows.now }
+    ensures cause { result ≡ Err StoreFault.Store → ¬ All IsListed (map told_entry rows.items) }
 {
     let mut entries = Vec::new(alloc);
     for row in rows {
@@ -206,7 +208,7 @@ pub fn summaries_of(
 }
 
 /// A span as it is stored.
-fn stored_row(span: &Span) -> StoredSpan
+pub fn stored_row(span: &Span) -> StoredSpan
     ensures { (n : ℕ) → row_of n result ≡ span_row n span.now }
 {
     StoredSpan {

@@ -6,9 +6,8 @@ use Rattle.sqlite.specs.State.{HasCleanDisk, KeepsCommit}
 use Rattle.sqlite.specs.Store.{Ghosts}
 use Rattle.sqlite.specs.Held.{Held, state}
 use Rattle.tacho_tables.specs.declared.rows.StoredSpan.{StoredSpan}
-use Rattle.tacho_tables.specs.Schema.{archive_schema}
 use Rattle.tacho_tables.specs.Rows.{SpanRow}
-use Rattle.tacho_tables.specs.Tables.{Tables, row_of}
+use Rattle.tacho_tables.specs.Tables.{Tables, IsArchive, row_of}
 use Rattle.tacho_tables.specs.Calls.{Stays, Changes}
 use Rattle.tacho_tables.proofs.CallLemmas.{stays_then}
 use Rattle.tacho_tables.proofs.Inside.{keeps_then}
@@ -19,7 +18,7 @@ pub record HasAdded {S : Type 0} (g : Ghosts S) (get : Tables → List SpanRow) 
     (old now : MutBor (Held S)) : Type 0 where
   pub stays : Stays g old now
   pub keeps : HasCleanDisk (state g now.now) → KeepsCommit (state g old.now) (state g now.now)
-  pub left : HasCleanDisk (state g now.now) → (state g old.now).now.schema ≡ archive_schema
+  pub left : HasCleanDisk (state g now.now) → IsArchive (state g old.now).now
       → HasLeft get put driver all (drop count all) (state g old.now) (state g now.now)
 
 -- any span
@@ -35,10 +34,10 @@ module _ {S : Type 0} {g : Ghosts S} {at tree : ℕ} {name : List ℕ} {get : Ta
   adds_one {old} {mid} {now} was within it = record {
     stays = stays_then was.stays it.stays;
     keeps = λ clean. keeps_then (state g old.now) (state g mid.now) (state g now.now) (was.keeps (it.stays.clean clean)) (it.keeps clean);
-    left = λ clean schema.
+    left = λ clean is.
         let s = get_or all count none in
         let cut : drop count all ≡ s ∷ drop (count + 1) all = drop-cons all count none within ∙ ap (λ k. s ∷ drop k all) (sym (add-one count)) in
-        let left = subst (λ l. HasLeft get put driver all l (state g old.now) (state g mid.now)) cut (was.left (it.stays.clean clean) schema) in
+        let left = subst (λ l. HasLeft get put driver all l (state g old.now) (state g mid.now)) cut (was.left (it.stays.clean clean) is) in
         leaves_one_less table driver all (drop (count + 1) all) s (state g old.now) (state g mid.now) (state g now.now) left (it.turned clean left.schema);
   }
 
@@ -48,6 +47,6 @@ module _ {S : Type 0} {g : Ghosts S} {at tree : ℕ} {name : List ℕ} {get : Ta
   added_all {old} {now} was past = record {
     stays = was.stays;
     keeps = was.keeps;
-    turned = λ clean schema. all_added table driver all (state g old.now) (state g now.now)
-        (subst (λ l. HasLeft get put driver all l (state g old.now) (state g now.now)) (drop_all count all past) (was.left clean schema));
+    turned = λ clean is. all_added table driver all (state g old.now) (state g now.now)
+        (subst (λ l. HasLeft get put driver all l (state g old.now) (state g now.now)) (drop_all count all past) (was.left clean is));
   }

@@ -1,12 +1,18 @@
 -- Calls within a transaction, one after the other.
-use Rattle.std.proofs.Common.{◌∙◌, Result, Ok}
+use Rattle.std.proofs.Common.{◌≡◌, ◌∙◌, ℕ, Err, IfOk, IsErr, IsTrue, List, Ok, OnOk, Result, subst, sym}
 use Rattle.std.specs.Borrow.{MutBor}
 use Rattle.std.proofs.lemmas.Result.{on_ok_weaker}
+use Rattle.sqlite.specs.Effect.{Database}
+use Rattle.sqlite.specs.Given.{IsPlain}
+use Rattle.sqlite.specs.Listing.{understood}
+use Rattle.sqlite.specs.Schema.{Schema}
+use Rattle.sqlite.specs.State.{HasCleanDisk, IsUnchanged, KeepsCommit}
 use Rattle.sqlite.specs.Store.{Ghosts}
 use Rattle.sqlite.specs.Held.{Held, state}
 use Rattle.sqlite.proofs.StateLemmas.{survives_then}
-use Rattle.tacho_tables.specs.Tables.{Tables}
-use Rattle.tacho_tables.specs.Calls.{Stays, Changes}
+use Rattle.tacho_tables.specs.Schema.{Layout, archive_schema}
+use Rattle.tacho_tables.specs.Tables.{Tables, HasTables, IsArchive}
+use Rattle.tacho_tables.specs.Calls.{Stays, ReadsOf, Changes, Finds}
 use Rattle.tacho_tables.proofs.Inside.{keeps_then}
 
 module _ {S : Type 0} {g : Ghosts S} {a b c : MutBor (Held S)} where
@@ -28,3 +34,72 @@ module _ {S : Type 0} {g : Ghosts S} {a b c : MutBor (Held S)} where
         let first = p.turned (q.stays.clean clean) schema in
         on_ok_weaker r (λ last. record { schema = last.schema; stands = λ t stand. last.stands _ (first.stands t stand) }) (q.turned clean first.schema);
   }
+
+-- ---- readings
+
+-- a text that means a reading under each layout means one in an archive
+pub plain_in : (text : List ℕ) → ((layout : Layout) → IsPlain (understood (archive_schema layout) text))
+    → (d : Database) → IsArchive d → IsPlain (understood d.schema text)
+plain_in text plain d is = subst (λ (s : Schema). IsPlain (understood s text)) (sym is.schema) (plain is.layout)
+
+-- a text means one where it is another that does
+pub plain_text : (text : List ℕ) {other : List ℕ} → other ≡ text
+    → ((layout : Layout) → IsPlain (understood (archive_schema layout) other)) → (layout : Layout)
+    → IsPlain (understood (archive_schema layout) text)
+plain_text text same plain layout = subst (λ t. IsPlain (understood (archive_schema layout) t)) same (plain layout)
+
+-- a fact holds where there is a value
+pub any_ok : {A E : Type 0} (r : Result A E) {P : Type 0} → P → OnOk r P
+any_ok (Ok x) holds = holds
+any_ok (Err e) holds = tt
+
+-- and any fact where there is none
+no_ok : {A E : Type 0} (r : Result A E) (P : Type 0) → IsErr r → OnOk r P
+no_ok (Ok x) P fails = absurd (let e = fails in cc)
+no_ok (Err e) P fails = tt
+
+-- any fact of the value too
+none_ok : {A E : Type 0} (r : Result A E) (P : A → Type 0) → IsErr r → IfOk r P
+none_ok (Ok x) P fails = absurd (let e = fails in cc)
+none_ok (Err e) P fails = tt
+
+module _ {S : Type 0} {g : Ghosts S} {a b : MutBor (Held S)} (text : List ℕ) {Known : Database → Type 0}
+    (plain : (d : Database) → Known d → IsPlain (understood d.schema text)) (stays : Stays g a b)
+    (keeps : HasCleanDisk (state g b.now) → IsPlain (understood (state g a.now).now.schema text)
+    → KeepsCommit (state g a.now) (state g b.now))
+    {A E : Type 0} (r : Result A E) where
+  -- what was read of a database of which that is known
+  pub reads_known : (HasCleanDisk (state g b.now) → IsTrue (state g b.now).is_open)
+      → (HasCleanDisk (state g b.now) → IsPlain (understood (state g a.now).now.schema text) → IsUnchanged (state g a.now) (state g b.now))
+      → ReadsOf g a b r Known
+  reads_known live same = record {
+    stays = stays;
+    keeps = λ clean known. keeps clean (plain _ known);
+    live = λ clean. any_ok r (live clean);
+    same = λ clean known. any_ok r (same clean (plain _ known));
+  }
+
+  -- and a reading of it that failed
+  pub fails_known : IsErr r → ReadsOf g a b r Known
+  fails_known fails = record {
+    stays = stays;
+    keeps = λ clean known. keeps clean (plain _ known);
+    live = λ clean. no_ok r _ fails;
+    same = λ clean known. no_ok r _ fails;
+  }
+
+module _ {S : Type 0} {g : Ghosts S} {a b : MutBor (Held S)} (text : List ℕ)
+    (plain : (layout : Layout) → IsPlain (understood (archive_schema layout) text)) (stays : Stays g a b)
+    (keeps : HasCleanDisk (state g b.now) → IsPlain (understood (state g a.now).now.schema text)
+    → KeepsCommit (state g a.now) (state g b.now))
+    {A E : Type 0} (r : Result A E) {fact : Tables → A → Type 0} where
+  -- what was read of an archive, and is a fact of its tables
+  pub finds : (HasCleanDisk (state g b.now) → IsTrue (state g b.now).is_open)
+      → (HasCleanDisk (state g b.now) → IsPlain (understood (state g a.now).now.schema text) → IsUnchanged (state g a.now) (state g b.now))
+      → (HasCleanDisk (state g b.now) → (is : IsArchive (state g a.now).now)
+      → IfOk r (λ answer. (t : Tables) → HasTables (state g a.now).now.trees t → fact t answer)) → Finds g a b r fact
+  finds live same found = record { reads = reads_known text (plain_in text plain) stays keeps r live same; found = found }
+
+  -- and a reading of it that failed
+  pub finds_none : IsErr r → Finds g a b r fact
+  finds_none fails = record { reads = fails_known text (plain_in text plain) stays keeps r fails; found = λ clean is. none_ok r _ fails }

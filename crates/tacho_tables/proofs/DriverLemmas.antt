@@ -16,16 +16,18 @@ use Rattle.sqlite.specs.Edit.{is_taken, without_all, put_all, are_fresh}
 use Rattle.sqlite.specs.Program.{overlay}
 use Rattle.sqlite.specs.State.{State, Executes, Shown}
 use Rattle.sqlite.proofs.Callers.{reads_as}
-use Rattle.tacho_tables.specs.Schema.{archive_schema}
+use Rattle.tacho_tables.specs.Schema.{Layout, archive_schema}
 use Rattle.tacho_tables.specs.Schema as made
 use Rattle.tacho_tables.specs.Rows.{DriverRow, driver_row, AreNumberedRowsOf}
-use Rattle.tacho_tables.specs.Tables.{HasTables, Turns, has_number, has_secret, has_holder, with_base, with_downloads, with_entries}
+use Rattle.tacho_tables.specs.Tables.{IsArchive, Turns, has_number, has_secret, has_holder, with_base, with_downloads, with_entries}
 use Rattle.tacho_tables.proofs.Answers.{simple, passes, listed, shows, eq_test, text_test, blob_test}
 use Rattle.tacho_tables.proofs.Idle.{idle}
 use Rattle.tacho_tables.proofs.Kept.{with_drivers}
+use Rattle.tacho_tables.proofs.Places.{drivers_listed}
 use Rattle.tacho_tables.proofs.Numbered.{numbered_put, numbered_shown, numbered_updated}
 use Rattle.tacho_tables.proofs.SpanLemmas.{and-true, none_given}
 use Rattle.tacho_tables.proofs.Statements.{IsStatement, IsReading, column_is, driver_values, driver_insert_text, driver_insert_is, with_base_shown, with_count_shown, base_text, base_is, count_text, count_is, with_entry_count_shown, entry_count_text, entry_count_is}
+use Rattle.tacho_tables.proofs.TurnLemmas.{turns}
 use Rattle.tacho_tables.proofs.Writes.{inserted, updated, cast_null, cast_int}
 
 -- a driver who has neither downloads nor entries
@@ -33,28 +35,24 @@ abbrev pub new_driver : ℕ → List ℕ → List ℕ → ℕ → List ℕ → D
 new_driver driver holder secret base name = record { driver = driver; holder = holder; secret = secret; base = base; name = name; downloads = 0; entries = 0 }
 
 -- an INSERT into drivers adds a driver, and changes no other table
-pub adds_driver : (old new : State) (driver : ℕ) (holder secret : List ℕ) (base : ℕ) (name : List ℕ) (count : ℕ)
-    → old.now.schema ≡ archive_schema
+pub adds_driver : (old new : State) (driver : ℕ) (holder secret : List ℕ) (base : ℕ) (name : List ℕ) (count : ℕ) → IsArchive old.now
     → Executes driver_insert_text (Int (pos driver) ∷ Blob holder ∷ Text secret ∷ Int (pos base) ∷ Text name ∷ []) old new (Ok count)
     → Turns old new (λ a. record a { drivers = new_driver driver holder secret base name ∷ a.drivers })
-adds_driver old new driver holder secret base name count has h =
+adds_driver old new driver holder secret base name count is h =
     let db = old.now.trees in
     let t = made.drivers in
     let x = new_driver driver holder secret base name in
     let params = Int (pos driver) ∷ Blob holder ∷ Text secret ∷ Int (pos base) ∷ Text name ∷ [] in
-    let e = inserted archive_schema old new has driver_insert_text driver_insert_is.plain params count 1 (codes "drivers") 1 t.columns
-    (Some 0) (0 ∷ []) ((2 ∷ []) ∷ (3 ∷ []) ∷ []) t.orders [] [] refl (idle 1)
-    driver_values 8 driver_insert_is.meant (driver_row x ∷ []) refl h in
+    let it = driver_insert_is is.layout in
+    let e = inserted (archive_schema is.layout) old new is.schema driver_insert_text it.plain params count 1 (codes "drivers") 1 t.columns
+    (Some 0) (0 ∷ []) ((2 ∷ []) ∷ (3 ∷ []) ∷ []) t.orders [] [] (drivers_listed is.layout) (idle is.layout 1)
+    driver_values 8 it.meant (driver_row x ∷ []) refl h in
     let stored = rw (cast_int (pos driver), cast_null, cast_int (pos base), cast_int (pos 0)) at e.applies.rows in
     let fresh = rw (cast_int (pos driver)) at e.applies.fresh in
     let free : is_taken (db 1) (driver_row x) ≡ false = not-true _ (and_parts _ _ fresh).0 in
-    record {
-      schema = ap (λ d. d.schema) e.now_is;
-      stands = λ a s.
-          let it = subst (λ rs. AreNumberedRowsOf rs (x ∷ a.drivers)) (sym stored) (numbered_put (db 1) a.drivers x s.drivers free) in
-          subst (λ t. HasTables t (record a { drivers = x ∷ a.drivers })) (sym (ap (λ d. d.trees) e.now_is))
-          (with_drivers db e.next a (x ∷ a.drivers) e.sound e.applies.tables s it);
-    }
+    turns old new is e (λ a. record a { drivers = x ∷ a.drivers })
+    (λ a s same. with_drivers is.layout db e.next a e.sound s same e.applies.tables (x ∷ a.drivers)
+    (subst (λ rs. AreNumberedRowsOf rs (x ∷ a.drivers)) (sym stored) (numbered_put (db 1) a.drivers x s.drivers free)))
 
 -- ---- readings
 
@@ -71,21 +69,23 @@ pub holder_test : (holder : List ℕ) (x : DriverRow) → passes (column_is 2) (
 holder_test holder x = rw (blob_test x.holder holder) (and-true (bytes_eq x.holder holder))
 
 -- a reading shows this of the drivers that pass
-pub shows_drivers : (text : List ℕ) (tests terms : List Term) (names : List (List ℕ)) → IsReading text 1 tests terms [] names
+pub shows_drivers : (text : List ℕ) (tests terms : List Term) (names : List (List ℕ))
+    → ((layout : Layout) → IsReading (archive_schema layout) text 1 tests terms [] names)
     → (params : Row) (t : DriverRow → Bool) → ((x : DriverRow) → passes tests params (driver_row x) ≡ t x)
     → (show : DriverRow → Row) → ((x : DriverRow) → eval_all terms (params ∷ driver_row x ∷ []) ≡ show x)
-    → (old new : State) (rows : List Row) → old.now.schema ≡ archive_schema → Shown text params old new rows
+    → (old new : State) (rows : List Row) → IsArchive old.now → Shown text params old new rows
     → (all : List DriverRow) → AreNumberedRowsOf (old.now.trees 1) all → IsPermutation (map show (filter t all)) rows
-shows_drivers text tests terms names it params t deaf show same old new rows has h all s =
+shows_drivers text tests terms names each params t deaf show same old new rows is h all s =
     let db = old.now.trees in
-    let got = reads_as text params old new archive_schema has _ it.meant it.plain it.unlisted rows h in
+    let it = each is.layout in
+    let got = reads_as text params old new (archive_schema is.layout) is.schema _ it.meant it.plain it.unlisted rows h in
     let l = listed 1 tests terms [] (overlay db []) params rows (got.answer Null) in
     IsPermutation-trans _ _ _ (numbered_shown (passes tests params) t deaf (λ (r : Row). eval_all terms (params ∷ r ∷ [])) show same
     (db 1) all s) (rw (none_given db 1) at (shows 1 tests terms [] (overlay db []) params rows l))
 
 -- ---- changes
 
-module _ (old new : State) (driver value count : ℕ) (has : old.now.schema ≡ archive_schema) where
+module _ (old new : State) (driver value count : ℕ) (is : IsArchive old.now) where
   -- the parameters
   abbrev params : Row
   params = Int (pos driver) ∷ Int (pos value) ∷ []
@@ -96,31 +96,30 @@ module _ (old new : State) (driver value count : ℕ) (has : old.now.schema ≡ 
 
   -- an UPDATE of the driver with this number changes him alone
   changes : (text : List ℕ) (terms : List Term) (change : DriverRow → DriverRow)
-      → IsStatement text (Update 1 (record { lets = []; body = simple 1 (column_is 0) terms [] }))
+      → ((layout : Layout)
+      → IsStatement (archive_schema layout) text (Update 1 (record { lets = []; body = simple 1 (column_is 0) terms [] })))
       → ((x : DriverRow) → rowid (eval_all terms (params ∷ driver_row x ∷ [])) ≡ rowid (driver_row x))
       → ((x : DriverRow) → new_of (eval_all terms (params ∷ driver_row x ∷ [])) ≡ driver_row (change x))
       → Executes text params old new (Ok count)
       → Turns old new (λ a. record a { drivers = map (λ x. cond (has_number driver x) (change x) x) a.drivers })
-  changes text terms change it finds makes h =
+  changes text terms change each finds makes h =
       let db = old.now.trees in
       let t = made.drivers in
-      let e = updated archive_schema old new has text it.plain params count 1 (codes "drivers") 1 t.columns (Some 0) (0 ∷ [])
-      ((2 ∷ []) ∷ (3 ∷ []) ∷ []) t.orders [] [] refl (idle 1) _ it.meant h in
+      let it = each is.layout in
+      let e = updated (archive_schema is.layout) old new is.schema text it.plain params count 1 (codes "drivers") 1 t.columns (Some 0)
+      (0 ∷ []) ((2 ∷ []) ∷ (3 ∷ []) ∷ []) t.orders [] [] (drivers_listed is.layout) (idle is.layout 1) _ it.meant h in
       let l = listed 1 (column_is 0) terms [] (overlay db []) params e.0 (e.1.answer Null) in
       let found = rw (none_given db 1) at (shows 1 (column_is 0) terms [] (overlay db []) params e.0 l) in
       let left = without_all (db 1) (ids_of e.0) in
       let rows = e.2.applies.rows ∙ ap (put_all left) (given left (map new_of e.0)) in
       let fresh : are_fresh left (map new_of e.0) ≡ true = ap (are_fresh left) (sym (given left (map new_of e.0))) ∙ e.2.applies.fresh in
-      record {
-        schema = ap (λ d. d.schema) e.2.now_is;
-        stands = λ a s.
-            let all = map (λ x. cond (has_number driver x) (change x) x) a.drivers in
-            let turned = numbered_updated (db 1) a.drivers s.drivers (passes (column_is 0) params) (has_number driver) (number_passes)
-            (λ (r : Row). eval_all terms (params ∷ r ∷ [])) new_of change finds makes e.0 found fresh in
-            let it = subst (λ rs. AreNumberedRowsOf rs all) (sym rows) turned in
-            subst (λ ts. HasTables ts (record a { drivers = all })) (sym (ap (λ d. d.trees) e.2.now_is))
-            (with_drivers db e.2.next a all e.2.sound e.2.applies.tables s it);
-      }
+      turns old new is e.2 (λ a. record a { drivers = map (λ x. cond (has_number driver x) (change x) x) a.drivers })
+      (λ a s same.
+      let all = map (λ x. cond (has_number driver x) (change x) x) a.drivers in
+      let turned = numbered_updated (db 1) a.drivers s.drivers (passes (column_is 0) params) (has_number driver) (number_passes)
+      (λ (r : Row). eval_all terms (params ∷ r ∷ [])) new_of change finds makes e.0 found fresh in
+      with_drivers is.layout db e.2.next a e.2.sound s same e.2.applies.tables all
+      (subst (λ rs. AreNumberedRowsOf rs all) (sym rows) turned))
     where
       number_passes : (x : DriverRow) → passes (column_is 0) params (driver_row x) ≡ has_number driver x
       number_passes x = rw (eq_test x.driver driver) (and-true (x.driver == driver))

@@ -1,4 +1,4 @@
--- What the statements on `entries`, and the DELETE of held spans, do.
+-- What the statements on `entry_rows`, and the DELETE of held spans, do.
 use Rattle.std.proofs.Common.{◌≡◌, ℕ, pos, ◌==◌, List, [], ◌∷◌, map, filter, codes, Bool, not, None, true, false, Ok, refl, sym, ap, subst, ◌∙◌, ◌&&◌, drop}
 use Rattle.std.specs.Prelude.{nat_lt}
 use Rattle.std.specs.List.Sorted.{IsPermutation}
@@ -7,7 +7,7 @@ use Rattle.std.proofs.lemmas.List.Sorted.{IsPermutation-trans}
 use Rattle.sqlite_rules.proofs.PlaceLemmas.{given}
 use Rattle.sqlite_rules.specs.Calls.{ids_of}
 use Rattle.sqlite.specs.declared.types.Value.{Value}
-use Rattle.sqlite.specs.declared.types.Value.TheVariants.{Null, Int}
+use Rattle.sqlite.specs.declared.types.Value.TheVariants.{Null, Int, Text}
 use Rattle.sqlite.specs.Cast.{cast_row}
 use Rattle.sqlite.specs.Order.{Row}
 use Rattle.sqlite.specs.Term.{Term, col, eval_all}
@@ -16,16 +16,21 @@ use Rattle.sqlite.specs.Program.{overlay}
 use Rattle.sqlite.specs.State.{State, Executes, Shown}
 use Rattle.sqlite.proofs.Callers.{reads_as}
 use Rattle.sqlite_value.specs.declared.keys.Key.{Key}
-use Rattle.tacho_tables.specs.Schema.{archive_schema, spans, to_driver}
+use Rattle.tacho_tables.specs.Schema.{Layout, archive_schema, entry_tree, spans, to_driver}
 use Rattle.tacho_tables.specs.Schema as made
 use Rattle.tacho_tables.specs.Rows.{AreRowsOf, SpanRow, EntryRow, span_columns, entry_columns}
 use Rattle.tacho_tables.specs.declared.rows.StoredSpan.{StoredSpan}
-use Rattle.tacho_tables.specs.Tables.{HasTables, Turns, is_begun, is_entry, is_entry_of, is_kept_near, entered_row, with_withdrawn}
+use Rattle.tacho_tables.specs.declared.spans.SpanTable.TheVariants.{Held}
+use Rattle.tacho_tables.specs.Tables.{Tables, HasTables, IsArchive, Turns}
+use Rattle.tacho_tables.specs.Tables.{is_begun, is_entry, is_entry_of, is_kept_near, entered_row, with_withdrawn}
 use Rattle.tacho_tables.proofs.Answers.{passes, listed, shows, eq_test, lt_test}
 use Rattle.tacho_tables.proofs.Stored.{stands_put, stands_left, shown_of}
 use Rattle.tacho_tables.proofs.Updates.{stands_updated}
+use Rattle.tacho_tables.proofs.CatalogLemmas.{entries_stand}
 use Rattle.tacho_tables.proofs.Idle.{idle}
 use Rattle.tacho_tables.proofs.Kept.{with_held, with_entries}
+use Rattle.tacho_tables.proofs.Places.{entry_place, entries_listed, spans_listed}
+use Rattle.tacho_tables.proofs.TurnLemmas.{turns}
 use Rattle.tacho_tables.proofs.SpanLemmas.{and-true, none_given, tests_begun}
 use Rattle.tacho_tables.proofs.Statements.{IsReading, begun, own, numbered, held_delete_text, held_delete_is, new_entry, entry_insert_text, entry_insert_is, withdrawn_shown, withdraw_text, withdraw_is, kept_near}
 use Rattle.tacho_tables.proofs.Writes.{inserted, deleted, updated, cast_null, cast_int}
@@ -33,48 +38,60 @@ use Rattle.tacho_tables.proofs.Writes.{inserted, deleted, updated, cast_null, ca
 -- ---- held
 
 -- a DELETE of what begins in a range leaves the others
-pub deletes_begun : (old new : State) (driver start past count : ℕ) → old.now.schema ≡ archive_schema
+pub deletes_begun : (old new : State) (driver start past count : ℕ) → IsArchive old.now
     → Executes held_delete_text (Int (pos driver) ∷ Int (pos start) ∷ Int (pos past) ∷ []) old new (Ok count)
     → Turns old new (λ a. record a { held = filter (λ r. not (is_begun driver start past r)) a.held })
-deletes_begun old new driver start past count has h =
+deletes_begun old new driver start past count is h =
     let db = old.now.trees in
     let params = Int (pos driver) ∷ Int (pos start) ∷ Int (pos past) ∷ [] in
     let t = spans (codes "held") in
-    let e = deleted archive_schema old new has held_delete_text held_delete_is.plain params count 5 (codes "held") 10 t.columns None (1 ∷ 2 ∷ []) ((1 ∷ 2 ∷ []) ∷ []) t.orders []
-    (to_driver ∷ []) refl (idle 10) _ held_delete_is.meant h in
+    let it = held_delete_is is.layout in
+    let e = deleted (archive_schema is.layout) old new is.schema held_delete_text it.plain params count 5 (codes "held") 10 t.columns None
+    (1 ∷ 2 ∷ []) ((1 ∷ 2 ∷ []) ∷ []) t.orders [] (to_driver ∷ []) (spans_listed is.layout Held) (idle is.layout 10) _ it.meant h in
     let l = listed 10 begun (col 1 0 ∷ []) [] (overlay db []) params e.0 (e.1.answer Null) in
     let found = rw (none_given db 10) at (shows 10 begun (col 1 0 ∷ []) [] (overlay db []) params e.0 l) in
-    record {
-      schema = ap (λ d. d.schema) e.2.now_is;
-      stands = λ a s.
-          let left = stands_left span_columns (db 10) a.held s.held (passes begun params) (is_begun driver start past) (tests_begun driver start past) e.0 found in
-          let rest = filter (λ r. not (is_begun driver start past r)) a.held in
-          let held = subst (λ rs. AreRowsOf span_columns rs rest) (sym e.2.applies.rows) left in
-          subst (λ t. HasTables t (record a { held = rest })) (sym (ap (λ d. d.trees) e.2.now_is)) (with_held db e.2.next a rest e.2.sound e.2.applies.tables s held);
-    }
+    turns old new is e.2 (λ a. record a { held = filter (λ r. not (is_begun driver start past r)) a.held })
+    (λ a s same.
+    let rest = filter (λ r. not (is_begun driver start past r)) a.held in
+    let left = stands_left span_columns (db 10) a.held s.held (passes begun params) (is_begun driver start past)
+    (tests_begun driver start past) e.0 found in
+    with_held is.layout db e.2.next a e.2.sound s same e.2.applies.tables rest
+    (subst (λ rs. AreRowsOf span_columns rs rest) (sym e.2.applies.rows) left))
 
 -- ---- entries
 
 -- an INSERT adds an entry, and changes no other table
-pub adds_entry : (old new : State) (driver number : ℕ) (x : StoredSpan) (count : ℕ) → old.now.schema ≡ archive_schema
-    → Executes entry_insert_text (Int (pos driver) ∷ Int (pos number) ∷ Int (pos x.start) ∷ Int (pos x.past) ∷ Int (pos x.mark) ∷ []) old new (Ok count)
-    → Turns old new (λ a. record a { entries = entered_row driver number x ∷ a.entries })
-adds_entry old new driver number x count has h =
-    let rows = old.now.trees 8 in
-    let t = made.entries in
-    let row = entered_row driver number x in
-    let params = Int (pos driver) ∷ Int (pos number) ∷ Int (pos x.start) ∷ Int (pos x.past) ∷ Int (pos x.mark) ∷ [] in
-    let e = inserted archive_schema old new has entry_insert_text entry_insert_is.plain params count 4 (codes "entries") 8 t.columns None (1 ∷ 2 ∷ []) ((1 ∷ 2 ∷ []) ∷ []) t.orders t.checks
-    (to_driver ∷ []) refl (idle 8) new_entry 7 entry_insert_is.meant ((Null ∷ entry_columns row) ∷ []) refl h in
-    let stored = rw (cast_null, cast_int (pos driver), cast_int (pos number), cast_int (pos x.start), cast_int (pos x.past), cast_int (pos x.mark), cast_int (pos 0)) at e.applies.rows in
+pub adds_entry : (old new : State) (driver number : ℕ) (x : StoredSpan) (author note : List ℕ) (count : ℕ) → IsArchive old.now
+    → Executes entry_insert_text
+    (Int (pos driver) ∷ Int (pos number) ∷ Int (pos x.start) ∷ Int (pos x.past) ∷ Int (pos x.mark) ∷ Text author ∷ Text note ∷ [])
+    old new (Ok count)
+    → Turns old new (λ a. record a { entries = entered_row driver number x author note ∷ a.entries })
+adds_entry old new driver number x author note count is h =
+    let tree = entry_tree is.layout in
+    let rows = old.now.trees tree in
+    let t = made.entry_rows in
+    let row = entered_row driver number x author note in
+    let params =
+    Int (pos driver) ∷ Int (pos number) ∷ Int (pos x.start) ∷ Int (pos x.past) ∷ Int (pos x.mark) ∷ Text author ∷ Text note ∷ [] in
+    let it = entry_insert_is is.layout in
+    let e = inserted (archive_schema is.layout) old new is.schema entry_insert_text it.plain params count (entry_place is.layout)
+    (codes "entry_rows") tree t.columns None (1 ∷ 2 ∷ []) ((1 ∷ 2 ∷ []) ∷ []) t.orders t.checks (to_driver ∷ []) (entries_listed is.layout)
+    (idle is.layout tree) new_entry 9 it.meant ((Null ∷ entry_columns row) ∷ []) refl h in
+    let stored = rw (
+      cast_null,
+      cast_int (pos driver),
+      cast_int (pos number),
+      cast_int (pos x.start),
+      cast_int (pos x.past),
+      cast_int (pos x.mark),
+      cast_int (pos 0),
+    ) at e.applies.rows in
     let fresh = rw cast_null at e.applies.fresh in
     let free : is_taken rows (Int (next_rowid rows) ∷ entry_columns row) ≡ false = not-true _ (and_parts _ _ fresh).0 in
-    record {
-      schema = ap (λ d. d.schema) e.now_is;
-      stands = λ a s.
-          let it = subst (λ rs. AreRowsOf entry_columns rs (row ∷ a.entries)) (sym stored) (stands_put entry_columns rows a.entries (next_rowid rows) row s.entries free) in
-          subst (λ t. HasTables t (record a { entries = row ∷ a.entries })) (sym (ap (λ d. d.trees) e.now_is)) (with_entries old.now.trees e.next a (row ∷ a.entries) e.sound e.applies.tables s it);
-    }
+    turns old new is e (λ a. record a { entries = row ∷ a.entries })
+    (λ a s same. with_entries is.layout old.now.trees e.next a e.sound s same e.applies.tables (row ∷ a.entries)
+    (subst (λ rs. AreRowsOf entry_columns rs (row ∷ a.entries)) (sym stored)
+    (stands_put entry_columns rows a.entries (next_rowid rows) row (entries_stand old.now a is s) free)))
 
 -- the tests of a reading by number are those of an entry
 pub entry_test : (driver number : ℕ) (v : Value) (x : EntryRow) → passes numbered (Int (pos driver) ∷ Int (pos number) ∷ []) (v ∷ entry_columns x) ≡ is_entry driver number x
@@ -92,43 +109,66 @@ kept_test driver start past v x =
     (ap (λ b. (x.driver == driver) && ((x.withdrawn == 0) && (nat_lt x.start past && b))) (and-true (nat_lt start x.past)))
 
 -- an UPDATE marks the entry with this number, and no other
-pub withdraws : (old new : State) (driver number count : ℕ) → old.now.schema ≡ archive_schema → Executes withdraw_text (Int (pos driver) ∷ Int (pos number) ∷ []) old new (Ok count)
+pub withdraws : (old new : State) (driver number count : ℕ) → IsArchive old.now
+    → Executes withdraw_text (Int (pos driver) ∷ Int (pos number) ∷ []) old new (Ok count)
     → Turns old new (λ a. record a { entries = map (with_withdrawn driver number) a.entries })
-withdraws old new driver number count has h =
+withdraws old new driver number count is h =
     let db = old.now.trees in
+    let tree = entry_tree is.layout in
     let params = Int (pos driver) ∷ Int (pos number) ∷ [] in
-    let t = made.entries in
-    let e = updated archive_schema old new has withdraw_text withdraw_is.plain params count 4 (codes "entries") 8 t.columns None (1 ∷ 2 ∷ []) ((1 ∷ 2 ∷ []) ∷ []) t.orders t.checks (to_driver ∷ []) refl
-    (idle 8) _ withdraw_is.meant h in
-    let l = listed 8 numbered withdrawn_shown [] (overlay db []) params e.0 (e.1.answer Null) in
-    let found = rw (none_given db 8) at (shows 8 numbered withdrawn_shown [] (overlay db []) params e.0 l) in
-    let new_of : Row → Row = λ s. cast_row (record t { tree = 8 }) (drop 1 s) in
-    let left = without_all (db 8) (ids_of e.0) in
+    let t = made.entry_rows in
+    let it = withdraw_is is.layout in
+    let e = updated (archive_schema is.layout) old new is.schema withdraw_text it.plain params count (entry_place is.layout)
+    (codes "entry_rows") tree t.columns None (1 ∷ 2 ∷ []) ((1 ∷ 2 ∷ []) ∷ []) t.orders t.checks (to_driver ∷ []) (entries_listed is.layout)
+    (idle is.layout tree) _ it.meant h in
+    let l = listed tree numbered withdrawn_shown [] (overlay db []) params e.0 (e.1.answer Null) in
+    let found = rw (none_given db tree) at (shows tree numbered withdrawn_shown [] (overlay db []) params e.0 l) in
+    let new_of : Row → Row = λ s. cast_row (record t { tree = tree }) (drop 1 s) in
+    let left = without_all (db tree) (ids_of e.0) in
     let rows = e.2.applies.rows ∙ ap (put_all left) (given left (map new_of e.0)) in
     let fresh : are_fresh left (map new_of e.0) ≡ true = ap (are_fresh left) (sym (given left (map new_of e.0))) ∙ e.2.applies.fresh in
-    record {
-      schema = ap (λ d. d.schema) e.2.now_is;
-      stands = λ a s.
-          let all = map (with_withdrawn driver number) a.entries in
-          let turned = stands_updated entry_columns (db 8) a.entries s.entries (passes numbered params) (is_entry driver number) (entry_test driver number)
-          (λ (r : Row). eval_all withdrawn_shown (params ∷ r ∷ [])) new_of (λ x. record x { withdrawn = 1 }) (λ v x. refl)
-          (λ id x. rw (cast_int id, cast_int (pos x.driver), cast_int (pos x.number), cast_int (pos x.start), cast_int (pos x.past), cast_int (pos x.mark), cast_int (pos 1)) refl)
-          (λ v x. rw (cast_int (pos x.driver), cast_int (pos x.number), cast_int (pos x.start), cast_int (pos x.past), cast_int (pos x.mark), cast_int (pos 1)) refl) e.0 found fresh in
-          let it = subst (λ rs. AreRowsOf entry_columns rs all) (sym rows) turned in
-          subst (λ ts. HasTables ts (record a { entries = all })) (sym (ap (λ d. d.trees) e.2.now_is)) (with_entries db e.2.next a all e.2.sound e.2.applies.tables s it);
-    }
+    turns old new is e.2 (λ a. record a { entries = map (with_withdrawn driver number) a.entries })
+    (λ a s same.
+    let all = map (with_withdrawn driver number) a.entries in
+    let turned = stands_updated entry_columns (db tree) a.entries (entries_stand old.now a is s) (passes numbered params)
+    (is_entry driver number) (entry_test driver number) (λ (r : Row). eval_all withdrawn_shown (params ∷ r ∷ [])) new_of
+    (λ x. record x { withdrawn = 1 }) (λ v x. refl)
+    (λ id x. rw (
+      cast_int id,
+      cast_int (pos x.driver),
+      cast_int (pos x.number),
+      cast_int (pos x.start),
+      cast_int (pos x.past),
+      cast_int (pos x.mark),
+      cast_int (pos 1),
+    ) refl)
+    (λ v x. rw (
+      cast_int (pos x.driver),
+      cast_int (pos x.number),
+      cast_int (pos x.start),
+      cast_int (pos x.past),
+      cast_int (pos x.mark),
+      cast_int (pos 1),
+    ) refl) e.0 found fresh in
+    with_entries is.layout db e.2.next a e.2.sound s same e.2.applies.tables all
+    (subst (λ rs. AreRowsOf entry_columns rs all) (sym rows) turned))
 
 -- a reading shows this of the entries that pass
-pub shows_entries : (text : List ℕ) (tests terms : List Term) (order : List (Term × Key)) (names : List (List ℕ)) → IsReading text 8 tests terms order names → (params : Row) (t : EntryRow → Bool)
-    → ((v : Value) (x : EntryRow) → passes tests params (v ∷ entry_columns x) ≡ t x) → (show : EntryRow → Row) → ((v : Value) (x : EntryRow) → eval_all terms (params ∷ (v ∷ entry_columns x) ∷ []) ≡ show x)
-    → (old new : State) (rows : List Row) → old.now.schema ≡ archive_schema → Shown text params old new rows → (all : List EntryRow) → AreRowsOf entry_columns (old.now.trees 8) all
-    → IsPermutation (map show (filter t all)) rows
-shows_entries text tests terms order names it params t deaf show same old new rows has h all s =
+pub shows_entries : (text : List ℕ) (tests terms : List Term) (order : List (Term × Key)) (names : List (List ℕ))
+    → ((layout : Layout) → IsReading (archive_schema layout) text (entry_tree layout) tests terms order names)
+    → (params : Row) (t : EntryRow → Bool) → ((v : Value) (x : EntryRow) → passes tests params (v ∷ entry_columns x) ≡ t x)
+    → (show : EntryRow → Row) → ((v : Value) (x : EntryRow) → eval_all terms (params ∷ (v ∷ entry_columns x) ∷ []) ≡ show x)
+    → (old new : State) (rows : List Row) → IsArchive old.now → Shown text params old new rows
+    → (a : Tables) → HasTables old.now.trees a → IsPermutation (map show (filter t a.entries)) rows
+shows_entries text tests terms order names each params t deaf show same old new rows is h a s =
     let db = old.now.trees in
-    let got = reads_as text params old new archive_schema has _ it.meant it.plain it.unlisted rows h in
-    let l = listed 8 tests terms order (overlay db []) params rows (got.answer Null) in
-    IsPermutation-trans _ _ _ (shown_of entry_columns (db 8) all s (passes tests params) t deaf (λ (r : Row). eval_all terms (params ∷ r ∷ [])) show same)
-    (rw (none_given db 8) at (shows 8 tests terms order (overlay db []) params rows l))
+    let tree = entry_tree is.layout in
+    let it = each is.layout in
+    let got = reads_as text params old new (archive_schema is.layout) is.schema _ it.meant it.plain it.unlisted rows h in
+    let l = listed tree tests terms order (overlay db []) params rows (got.answer Null) in
+    IsPermutation-trans _ _ _ (shown_of entry_columns (db tree) a.entries (entries_stand old.now a is s) (passes tests params) t deaf
+    (λ (r : Row). eval_all terms (params ∷ r ∷ [])) show same)
+    (rw (none_given db tree) at (shows tree tests terms order (overlay db []) params rows l))
 
 -- an entry's minutes as a row of spans
 abbrev pub entry_row_span : EntryRow → SpanRow

@@ -4,7 +4,7 @@ use Rattle.sqlite.specs.Order.{Row}
 use Rattle.sqlite_schema.specs.declared.schema.Keys.TheVariants.{Enforced}
 use Rattle.sqlite_schema.specs.declared.schema.Action.TheVariants.{NoAction}
 use Rattle.sqlite_rules.specs.Action.{works, deed_of}
-use Rattle.tacho_tables.specs.Schema.{archive_schema}
+use Rattle.tacho_tables.specs.Schema.{Layout, Made, Carried, archive_schema}
 
 -- NO ACTION does nothing
 none : (b : Bool) → deed_of Enforced b (cond b NoAction NoAction) ≡ None
@@ -12,5 +12,6 @@ none true = refl
 none false = refl
 
 -- no edit of a table makes a foreign key act
-pub idle : (tree : ℕ) (olds news : List Row) → works archive_schema Enforced 0 tree olds news ≡ []
-idle tree olds news = rw (none (length news == 0)) refl
+pub idle : (layout : Layout) (tree : ℕ) (olds news : List Row) → works (archive_schema layout) Enforced 0 tree olds news ≡ []
+idle Made tree olds news = rw (none (length news == 0)) refl
+idle Carried tree olds news = rw (none (length news == 0)) refl

@@ -17,7 +17,6 @@ use Rattle.sqlite_resolve.specs.declared.error.CompileError.{CompileError}
 use Rattle.sqlite_schema.specs.declared.command.Returning.{Returning}
 use Rattle.std.proofs.Common.{Option, Some, None}
 use Rattle.std.proofs.lemmas.Result.{IfOk-weaker}
-use Rattle.tacho_tables.specs.Schema.{archive_schema}
 use Rattle.tacho_tables.proofs.Answers.{shown_same}
 
 -- a statement that went well was within a transaction
@@ -79,12 +78,12 @@ keeps_read sql params old new (Err e) plain same (inr h) = keeps_unchanged old n
 
 -- a reading commits nothing
 pub keeps_reading : (sql : List ℕ) (params : Row) (old new : State) (r : Result (Vec TheRow Global) Error)
-    → old.now.schema ≡ archive_schema → IsPlain (understood archive_schema sql)
+    → IsPlain (understood old.now.schema sql)
     → IfOk r (λ rows. Shown sql params old new rows.items)
     → IfErr r (λ e. FailsToQuery sql params old new e ⊎ IsTooLate sql params old new e) → KeepsCommit old new
-keeps_reading sql params old new r has plain shown fails =
-    keeps_read sql params old new r (subst (λ s. IsPlain (understood s sql)) (sym has) plain)
-    (IfOk-weaker r _ _ (λ rows h. shown_same sql params old new archive_schema rows.items has plain h) shown) fails
+keeps_reading sql params old new r plain shown fails =
+    keeps_read sql params old new r plain
+    (IfOk-weaker r _ _ (λ rows h. shown_same sql params old new rows.items plain h) shown) fails
 
 -- two steps that commit nothing
 pub keeps_then : (a b c : State) → KeepsCommit a b → KeepsCommit b c → KeepsCommit a c

@@ -1,77 +1,156 @@
 -- What a change of one table leaves of the others.
-use Rattle.std.proofs.Common.{◌≡◌, ◌≢◌, ℕ, List, sym, subst, ◌∙◌, arith}
+use Rattle.std.proofs.Common.{◌≡◌, ◌≢◌, ◌∙◌, ℕ, List, arith, refl, subst, sym}
 use Rattle.std.specs.List.{AllByRecursion}
 use Rattle.sqlite.specs.Tree.{Trees}
 use Rattle.sqlite_catalog.specs.Listing.{IsSound}
-use Rattle.tacho_tables.specs.Schema.{archive_schema}
+use Rattle.tacho_tables.specs.Schema.{Layout, Made, Carried, archive_schema, entry_tree}
 use Rattle.tacho_tables.specs.Rows.{AreRowsOf, AreNumberedRowsOf, SpanRow, DownloadRow, EntryRow, DriverRow, span_columns, download_columns, entry_columns}
-use Rattle.tacho_tables.specs.Tables.{Tables, HasTables}
+use Rattle.tacho_tables.specs.Tables.{Tables, HasTables, IsVersion}
 
 -- every table but the one with this tree has its rows
-abbrev pub AreKept : ℕ → Trees → Trees → Type 0
-AreKept tree db next = AllByRecursion (λ t. t.tree ≢ tree → next t.tree ≡ db t.tree) archive_schema.tables
+abbrev pub AreKept : Layout → ℕ → Trees → Trees → Type 0
+AreKept layout tree db next = AllByRecursion (λ t. t.tree ≢ tree → next t.tree ≡ db t.tree) (archive_schema layout).tables
 
--- only the rows of held changed
-pub with_held : (db next : Trees) (a : Tables) (held : List SpanRow) → IsSound archive_schema next → AreKept 10 db next → HasTables db a → AreRowsOf span_columns (next 10) held
-    → HasTables next (record a { held = held })
-with_held db next a held sound kept s it = record {
-  sound = sound;
-  meta = kept.0 (λ e. omega (arith, e)) ∙ s.meta;
-  drivers = subst (λ rows. AreNumberedRowsOf rows a.drivers) (sym (kept.1.0 (λ e. omega (arith, e)))) s.drivers;
-  downloads = subst (λ rows. AreRowsOf download_columns rows a.downloads) (sym (kept.1.1.0 (λ e. omega (arith, e)))) s.downloads;
-  card_spans = subst (λ rows. AreRowsOf span_columns rows a.card_spans) (sym (kept.1.1.1.0 (λ e. omega (arith, e)))) s.card_spans;
-  entries = subst (λ rows. AreRowsOf entry_columns rows a.entries) (sym (kept.1.1.1.1.0 (λ e. omega (arith, e)))) s.entries;
-  held = it;
+-- where nothing changed, every table has its rows
+pub kept_itself : (layout : Layout) (tree : ℕ) (db : Trees) → AreKept layout tree db db
+kept_itself Made tree db = (λ _. refl, (λ _. refl, (λ _. refl, (λ _. refl, (λ _. refl, (λ _. refl, tt))))))
+kept_itself Carried tree db = (λ _. refl, (λ _. refl, (λ _. refl, (λ _. refl, (λ _. refl, (λ _. refl, (λ _. refl, tt)))))))
+
+-- each of the six tables that is not the one with this tree has its rows
+pub record IsKept (layout : Layout) (tree : ℕ) (db next : Trees) : Type 0 where
+  pub meta : 0 ≢ tree → next 0 ≡ db 0
+  pub drivers : 1 ≢ tree → next 1 ≡ db 1
+  pub downloads : 4 ≢ tree → next 4 ≡ db 4
+  pub card_spans : 6 ≢ tree → next 6 ≡ db 6
+  pub entries : entry_tree layout ≢ tree → next (entry_tree layout) ≡ db (entry_tree layout)
+  pub held : 10 ≢ tree → next 10 ≡ db 10
+
+-- so it is, whatever the layout
+pub each_kept : (layout : Layout) (tree : ℕ) (db next : Trees) → AreKept layout tree db next → IsKept layout tree db next
+each_kept Made tree db next kept = record {
+  meta = kept.0;
+  drivers = kept.1.0;
+  downloads = kept.1.1.0;
+  card_spans = kept.1.1.1.0;
+  entries = kept.1.1.1.1.0;
+  held = kept.1.1.1.1.1.0;
+}
+each_kept Carried tree db next kept = record {
+  meta = kept.0;
+  drivers = kept.1.0;
+  downloads = kept.1.1.0;
+  card_spans = kept.1.1.1.0;
+  entries = kept.1.1.1.1.1.1.0;
+  held = kept.1.1.1.1.1.0;
 }
 
--- only the rows of card_spans changed
-pub with_card_spans : (db next : Trees) (a : Tables) (card_spans : List SpanRow) → IsSound archive_schema next → AreKept 6 db next → HasTables db a
-    → AreRowsOf span_columns (next 6) card_spans → HasTables next (record a { card_spans = card_spans })
-with_card_spans db next a card_spans sound kept s it = record {
-  sound = sound;
-  meta = kept.0 (λ e. omega (arith, e)) ∙ s.meta;
-  drivers = subst (λ rows. AreNumberedRowsOf rows a.drivers) (sym (kept.1.0 (λ e. omega (arith, e)))) s.drivers;
-  downloads = subst (λ rows. AreRowsOf download_columns rows a.downloads) (sym (kept.1.1.0 (λ e. omega (arith, e)))) s.downloads;
-  card_spans = it;
-  entries = subst (λ rows. AreRowsOf entry_columns rows a.entries) (sym (kept.1.1.1.1.0 (λ e. omega (arith, e)))) s.entries;
-  held = subst (λ rows. AreRowsOf span_columns rows a.held) (sym (kept.1.1.1.1.1.0 (λ e. omega (arith, e)))) s.held;
-}
+-- no other table has the tree of the entries
+apart : (layout : Layout) (tree : ℕ) → tree ≢ 8 → tree ≢ 12 → entry_tree layout ≢ tree
+apart Made tree made carried same = made (sym same)
+apart Carried tree made carried same = carried (sym same)
 
--- only the rows of downloads changed
-pub with_downloads : (db next : Trees) (a : Tables) (downloads : List DownloadRow) → IsSound archive_schema next → AreKept 4 db next → HasTables db a
-    → AreRowsOf download_columns (next 4) downloads → HasTables next (record a { downloads = downloads })
-with_downloads db next a downloads sound kept s it = record {
-  sound = sound;
-  meta = kept.0 (λ e. omega (arith, e)) ∙ s.meta;
-  drivers = subst (λ rows. AreNumberedRowsOf rows a.drivers) (sym (kept.1.0 (λ e. omega (arith, e)))) s.drivers;
-  downloads = it;
-  card_spans = subst (λ rows. AreRowsOf span_columns rows a.card_spans) (sym (kept.1.1.1.0 (λ e. omega (arith, e)))) s.card_spans;
-  entries = subst (λ rows. AreRowsOf entry_columns rows a.entries) (sym (kept.1.1.1.1.0 (λ e. omega (arith, e)))) s.entries;
-  held = subst (λ rows. AreRowsOf span_columns rows a.held) (sym (kept.1.1.1.1.1.0 (λ e. omega (arith, e)))) s.held;
-}
+module _ (layout : Layout) (db next : Trees) (a : Tables) (sound : IsSound (archive_schema layout) next) (s : HasTables db a)
+    (same : s.layout ≡ layout) where
+  module _ (tree : ℕ) (all : AreKept layout tree db next) where
+    -- what is kept
+    abbrev kept : IsKept layout tree db next
+    kept = each_kept layout tree db next all
 
--- only the rows of drivers changed
-pub with_drivers : (db next : Trees) (a : Tables) (drivers : List DriverRow) → IsSound archive_schema next → AreKept 1 db next → HasTables db a
-    → AreNumberedRowsOf (next 1) drivers → HasTables next (record a { drivers = drivers })
-with_drivers db next a drivers sound kept s it = record {
-  sound = sound;
-  meta = kept.0 (λ e. omega (arith, e)) ∙ s.meta;
-  drivers = it;
-  downloads = subst (λ rows. AreRowsOf download_columns rows a.downloads) (sym (kept.1.1.0 (λ e. omega (arith, e)))) s.downloads;
-  card_spans = subst (λ rows. AreRowsOf span_columns rows a.card_spans) (sym (kept.1.1.1.0 (λ e. omega (arith, e)))) s.card_spans;
-  entries = subst (λ rows. AreRowsOf entry_columns rows a.entries) (sym (kept.1.1.1.1.0 (λ e. omega (arith, e)))) s.entries;
-  held = subst (λ rows. AreRowsOf span_columns rows a.held) (sym (kept.1.1.1.1.1.0 (λ e. omega (arith, e)))) s.held;
-}
+    -- the version stays
+    meta_stays : 0 ≢ tree → IsVersion 2 next
+    meta_stays other = kept.meta other ∙ s.meta
 
--- only the rows of entries changed
-pub with_entries : (db next : Trees) (a : Tables) (entries : List EntryRow) → IsSound archive_schema next → AreKept 8 db next → HasTables db a → AreRowsOf entry_columns (next 8) entries
-    → HasTables next (record a { entries = entries })
-with_entries db next a entries sound kept s it = record {
-  sound = sound;
-  meta = kept.0 (λ e. omega (arith, e)) ∙ s.meta;
-  drivers = subst (λ rows. AreNumberedRowsOf rows a.drivers) (sym (kept.1.0 (λ e. omega (arith, e)))) s.drivers;
-  downloads = subst (λ rows. AreRowsOf download_columns rows a.downloads) (sym (kept.1.1.0 (λ e. omega (arith, e)))) s.downloads;
-  card_spans = subst (λ rows. AreRowsOf span_columns rows a.card_spans) (sym (kept.1.1.1.0 (λ e. omega (arith, e)))) s.card_spans;
-  entries = it;
-  held = subst (λ rows. AreRowsOf span_columns rows a.held) (sym (kept.1.1.1.1.1.0 (λ e. omega (arith, e)))) s.held;
-}
+    -- the drivers stay
+    drivers_stay : 1 ≢ tree → AreNumberedRowsOf (next 1) a.drivers
+    drivers_stay other = subst (λ rows. AreNumberedRowsOf rows a.drivers) (sym (kept.drivers other)) s.drivers
+
+    -- the downloads stay
+    downloads_stay : 4 ≢ tree → AreRowsOf download_columns (next 4) a.downloads
+    downloads_stay other = subst (λ rows. AreRowsOf download_columns rows a.downloads) (sym (kept.downloads other)) s.downloads
+
+    -- the spans of the cards stay
+    card_spans_stay : 6 ≢ tree → AreRowsOf span_columns (next 6) a.card_spans
+    card_spans_stay other = subst (λ rows. AreRowsOf span_columns rows a.card_spans) (sym (kept.card_spans other)) s.card_spans
+
+    -- the entries stay
+    entries_stay : entry_tree layout ≢ tree → AreRowsOf entry_columns (next (entry_tree layout)) a.entries
+    entries_stay other = subst (λ rows. AreRowsOf entry_columns rows a.entries) (sym (kept.entries other))
+        (subst (λ l. AreRowsOf entry_columns (db (entry_tree l)) a.entries) same s.entries)
+
+    -- what the drivers hold stays
+    held_stays : 10 ≢ tree → AreRowsOf span_columns (next 10) a.held
+    held_stays other = subst (λ rows. AreRowsOf span_columns rows a.held) (sym (kept.held other)) s.held
+
+  -- only the rows of held changed
+  pub with_held : AreKept layout 10 db next → (held : List SpanRow) → AreRowsOf span_columns (next 10) held
+      → HasTables next (record a { held = held })
+  with_held kept held it = record {
+    layout = layout;
+    sound = sound;
+    meta = meta_stays 10 kept (λ e. omega (arith, e));
+    drivers = drivers_stay 10 kept (λ e. omega (arith, e));
+    downloads = downloads_stay 10 kept (λ e. omega (arith, e));
+    card_spans = card_spans_stay 10 kept (λ e. omega (arith, e));
+    entries = entries_stay 10 kept (apart layout 10 (λ e. omega (arith, e)) (λ e. omega (arith, e)));
+    held = it;
+  }
+
+  -- only the rows of card_spans changed
+  pub with_card_spans : AreKept layout 6 db next → (card_spans : List SpanRow) → AreRowsOf span_columns (next 6) card_spans
+      → HasTables next (record a { card_spans = card_spans })
+  with_card_spans kept card_spans it = record {
+    layout = layout;
+    sound = sound;
+    meta = meta_stays 6 kept (λ e. omega (arith, e));
+    drivers = drivers_stay 6 kept (λ e. omega (arith, e));
+    downloads = downloads_stay 6 kept (λ e. omega (arith, e));
+    card_spans = it;
+    entries = entries_stay 6 kept (apart layout 6 (λ e. omega (arith, e)) (λ e. omega (arith, e)));
+    held = held_stays 6 kept (λ e. omega (arith, e));
+  }
+
+  -- only the rows of downloads changed
+  pub with_downloads : AreKept layout 4 db next → (downloads : List DownloadRow) → AreRowsOf download_columns (next 4) downloads
+      → HasTables next (record a { downloads = downloads })
+  with_downloads kept downloads it = record {
+    layout = layout;
+    sound = sound;
+    meta = meta_stays 4 kept (λ e. omega (arith, e));
+    drivers = drivers_stay 4 kept (λ e. omega (arith, e));
+    downloads = it;
+    card_spans = card_spans_stay 4 kept (λ e. omega (arith, e));
+    entries = entries_stay 4 kept (apart layout 4 (λ e. omega (arith, e)) (λ e. omega (arith, e)));
+    held = held_stays 4 kept (λ e. omega (arith, e));
+  }
+
+  -- only the rows of drivers changed
+  pub with_drivers : AreKept layout 1 db next → (drivers : List DriverRow) → AreNumberedRowsOf (next 1) drivers
+      → HasTables next (record a { drivers = drivers })
+  with_drivers kept drivers it = record {
+    layout = layout;
+    sound = sound;
+    meta = meta_stays 1 kept (λ e. omega (arith, e));
+    drivers = it;
+    downloads = downloads_stay 1 kept (λ e. omega (arith, e));
+    card_spans = card_spans_stay 1 kept (λ e. omega (arith, e));
+    entries = entries_stay 1 kept (apart layout 1 (λ e. omega (arith, e)) (λ e. omega (arith, e)));
+    held = held_stays 1 kept (λ e. omega (arith, e));
+  }
+
+  -- only the rows of entry_rows changed
+  pub with_entries : AreKept layout (entry_tree layout) db next → (entries : List EntryRow)
+      → AreRowsOf entry_columns (next (entry_tree layout)) entries → HasTables next (record a { entries = entries })
+  with_entries kept entries it = record {
+    layout = layout;
+    sound = sound;
+    meta = meta_stays (entry_tree layout) kept (another 0 (λ e. omega (arith, e)) (λ e. omega (arith, e)));
+    drivers = drivers_stay (entry_tree layout) kept (another 1 (λ e. omega (arith, e)) (λ e. omega (arith, e)));
+    downloads = downloads_stay (entry_tree layout) kept (another 4 (λ e. omega (arith, e)) (λ e. omega (arith, e)));
+    card_spans = card_spans_stay (entry_tree layout) kept (another 6 (λ e. omega (arith, e)) (λ e. omega (arith, e)));
+    entries = it;
+    held = held_stays (entry_tree layout) kept (another 10 (λ e. omega (arith, e)) (λ e. omega (arith, e)));
+  }
+    where
+      -- another table's tree is not that of the entries
+      another : (tree : ℕ) → tree ≢ 8 → tree ≢ 12 → tree ≢ entry_tree layout
+      another tree made carried same = apart layout tree made carried (sym same)

@@ -17,10 +17,10 @@ use Rattle.sqlite.specs.Order.{Row}
 use Rattle.sqlite.specs.Program.{overlay}
 use Rattle.sqlite.specs.State.{State, Shown}
 use Rattle.sqlite.proofs.Callers.{reads_as}
-use Rattle.tacho_tables.specs.Schema.{archive_schema}
+use Rattle.tacho_tables.specs.Schema.{Layout, archive_schema}
 use Rattle.tacho_tables.specs.Rows.{AreRowsOf, SpanRow, span_columns}
 use Rattle.tacho_tables.specs.declared.rows.StoredSpan.{StoredSpan}
-use Rattle.tacho_tables.specs.Tables.{IsLatest, is_before, span_of, span_shown}
+use Rattle.tacho_tables.specs.Tables.{IsArchive, IsLatest, is_before, span_of, span_shown}
 use Rattle.tacho_tables.proofs.Answers.{simple, passes, listed_first}
 use Rattle.tacho_tables.proofs.Reading.{none_of_none}
 use Rattle.tacho_tables.proofs.SpanLemmas.{tests_before, none_given}
@@ -81,17 +81,20 @@ found_in wanted (r ∷ to) rows (Some s) moved sorted shown none some =
     )
 
 -- a reading of the latest span that begins before a minute finds it
-pub finds_latest : (text : List ℕ) (tree : ℕ) → IsReadingFirst text tree before three_shown by_start_down span_names → (driver minute : ℕ) (old new : State) (rows : List Row)
-    → old.now.schema ≡ archive_schema → Shown text (Int (pos driver) ∷ Int (pos minute) ∷ []) old new rows
+pub finds_latest : (text : List ℕ) (tree : ℕ)
+    → ((layout : Layout) → IsReadingFirst (archive_schema layout) text tree before three_shown by_start_down span_names)
+    → (driver minute : ℕ) (old new : State) (rows : List Row) → IsArchive old.now
+    → Shown text (Int (pos driver) ∷ Int (pos minute) ∷ []) old new rows
     → (all : List SpanRow) → AreRowsOf span_columns (old.now.trees tree) all → (found : Option StoredSpan) → (IsNone found ↔ (rows ≡ []))
     → IfSome found (λ s. (r : SpanRow) (more : List Row) → rows ≡ span_shown r ∷ more → s ≡ span_of r)
     → MatchOption found (filter (is_before driver minute) all ≡ []) (λ s. (r : SpanRow) × IsLatest r (filter (is_before driver minute) all) × (s ≡ span_of r))
-finds_latest text tree it driver minute old new rows has h all s found none some =
+finds_latest text tree each driver minute old new rows is h all s found none some =
     let db = old.now.trees in
     let params = Int (pos driver) ∷ Int (pos minute) ∷ [] in
     let q = simple tree before three_shown by_start_down in
     let wanted = filter (is_before driver minute) all in
-    let got = reads_as text params old new archive_schema has _ it.meant it.plain it.unlisted rows h in
+    let it = each is.layout in
+    let got = reads_as text params old new (archive_schema is.layout) is.schema _ it.meant it.plain it.unlisted rows h in
     let l = listed_first tree before three_shown by_start_down (overlay db []) params rows (got.answer Null) in
     let passed = shown_of span_columns (db tree) all s (passes before params) (is_before driver minute) (tests_before driver minute) (λ (r : Row). output q (params ∷ r ∷ [])) shown_as (λ v x. refl) in
     let same = IsPermutation-trans _ _ _ passed (rw (none_given db tree) at l.same) in

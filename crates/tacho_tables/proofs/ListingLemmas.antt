@@ -13,7 +13,7 @@ use Rattle.sqlite.proofs.Callers.{reads_as}
 use Rattle.tacho_tables.specs.Schema.{archive_schema}
 use Rattle.tacho_tables.specs.Rows.{AreNumberedRowsOf, DriverRow}
 use Rattle.tacho_tables.specs.declared.rows.StoredDriver.{StoredDriver}
-use Rattle.tacho_tables.specs.Tables.{AreListed, ListedDriver, driver_shown, listed_driver, told_driver}
+use Rattle.tacho_tables.specs.Tables.{IsArchive, AreListed, ListedDriver, driver_shown, listed_driver, told_driver}
 use Rattle.tacho_tables.proofs.Answers.{simple, passes, listed}
 use Rattle.tacho_tables.proofs.Numbered.{numbered_shown}
 use Rattle.tacho_tables.proofs.SortedLemmas.{by_one_number, sorted_before, sorted_after}
@@ -29,7 +29,7 @@ abbrev shown_as : DriverRow → Output
 shown_as x = (Int (pos x.driver) ∷ [], driver_shown x)
 
 -- a test that is true of all leaves all
-all_pass : {X : Type 0} (xs : List X) → filter (λ _. true) xs ≡ xs
+pub all_pass : {X : Type 0} (xs : List X) → filter (λ _. true) xs ≡ xs
 all_pass [] = refl
 all_pass (x ∷ xs) = ap (λ rest. x ∷ rest) (all_pass xs)
 
@@ -41,12 +41,13 @@ pub record AreShown (all : List DriverRow) (rows : List Row) : Type 0 where
   pub sorted : IsSorted (λ (x y : DriverRow). nat_cmp x.driver y.driver) shown
 
 -- the rows of such a reading show them so
-pub shows_all : (old new : State) (rows : List Row) → old.now.schema ≡ archive_schema → Shown drivers_text [] old new rows
+pub shows_all : (old new : State) (rows : List Row) → IsArchive old.now → Shown drivers_text [] old new rows
     → (all : List DriverRow) → AreNumberedRowsOf (old.now.trees 1) all → AreShown all rows
-shows_all old new rows has h all s =
+shows_all old new rows is h all s =
     let db = old.now.trees in
     let out = λ (r : Row). output asked ([] ∷ r ∷ []) in
-    let got = reads_as drivers_text [] old new archive_schema has _ drivers_is.meant drivers_is.plain drivers_is.unlisted rows h in
+    let it = drivers_is is.layout in
+    let got = reads_as drivers_text [] old new (archive_schema is.layout) is.schema _ it.meant it.plain it.unlisted rows h in
     let l = listed 1 [] six_shown by_driver (overlay db []) [] rows (got.answer Null) in
     let passed = numbered_shown (passes [] []) (λ _. true) (λ x. refl) out shown_as (λ x. refl) (db 1) all s in
     let same = IsPermutation-trans _ _ _ passed (rw (none_given db 1) at l.same) in

@@ -1,5 +1,6 @@
 -- What CREATE TABLE leaves, and what is read of `meta`.
-use Rattle.std.proofs.Common.{◌≡◌, ℕ, pos, List, [], ◌∷◌, codes, Ok, Option, Some, None, true, false, refl, sym, ap, subst, ◌∙◌, arith}
+use Rattle.std.proofs.Common.{◌≡◌, ℕ, pos, List, [], ◌∷◌, codes, Ok, Option, Some, None, true, false, inl, inr, refl, sym, ap, subst, ◌∙◌}
+use Rattle.std.proofs.Common.{arith}
 use Rattle.std.specs.Prelude.{IfSome, IsNone, ◌↔◌}
 use Rattle.std.specs.Prelude.{IsPermutation}
 use Rattle.std.proofs.lemmas.List.Sorted.{IsPermutation-refl, length_permutation}
@@ -9,15 +10,15 @@ use Rattle.sqlite.specs.Source.TheVariants.{Values}
 use Rattle.sqlite.specs.Term.{Term, lit, col}
 use Rattle.sqlite_tied.specs.Compute.{everything}
 use Rattle.sqlite.specs.Listing.{understood}
-use Rattle.tacho_tables.specs.Schema.{archive_schema}
+use Rattle.tacho_tables.specs.Schema.{Made, archive_schema}
 use Rattle.tacho_tables.specs.Schema as made
 use Rattle.tacho_tables.specs.Rows.{AreRowsOf, AreNumberedRowsOf, span_columns, download_columns, entry_columns}
-use Rattle.tacho_tables.specs.Tables.{HasTables, IsVersion, no_rows}
-use Rattle.tacho_tables.specs.Making.{AreEmpty}
+use Rattle.tacho_tables.specs.Tables.{HasTables, IsArchive, IsVersion, no_rows}
+use Rattle.tacho_tables.specs.Making.{AreEmpty, IsVersioned}
 use Rattle.tacho_tables.proofs.Idle.{idle}
 use Rattle.tacho_tables.proofs.Answers.{listed, shows, eq_test}
 use Rattle.tacho_tables.proofs.SpanLemmas.{none_given}
-use Rattle.tacho_tables.proofs.Statements.{IsStatement, version_text, version_is, first_row}
+use Rattle.tacho_tables.proofs.Statements.{IsStatement, IsReading, version_text, version_is, version_was, first_row}
 use Rattle.tacho_tables.proofs.Writes.{inserted, cast_null, cast_int}
 use Rattle.sqlite.specs.Schema.{Schema}
 use Rattle.sqlite.specs.Table.{Table}
@@ -25,6 +26,8 @@ use Rattle.sqlite.specs.Command.TheVariants.{CreateTable, Insert}
 use Rattle.sqlite.specs.Change.{created, next_tree, KeepsRows}
 use Rattle.sqlite.specs.Does.{Tally, lacks_sequence}
 use Rattle.sqlite.specs.Effect.{Database}
+use Rattle.sqlite.specs.Tree.{Trees}
+use Rattle.sqlite_catalog.specs.Listing.{IsSound}
 use Rattle.sqlite.specs.State.{State, Writes, Executes, Shows, Shown}
 use Rattle.sqlite.specs.Program.{overlay}
 use Rattle.sqlite.proofs.Callers.{runs_as, reads_as, one_permutation}
@@ -59,23 +62,23 @@ makes schema table text old new count has it h shown =
 
 -- the text that adds it
 abbrev pub meta_row_text : List ℕ
-meta_row_text = codes "INSERT INTO meta (id, version) VALUES (1, 1)"
+meta_row_text = codes "INSERT INTO meta (id, version) VALUES (1, 2)"
 
 -- its values
 abbrev meta_values : List Term
-meta_values = lit (Int (pos 1)) ∷ lit Null ∷ lit (Int (pos 1)) ∷ []
+meta_values = lit (Int (pos 1)) ∷ lit Null ∷ lit (Int (pos 2)) ∷ []
 
 -- the row
 abbrev meta_row : Row
-meta_row = Int (pos 1) ∷ Null ∷ Int (pos 1) ∷ []
+meta_row = Int (pos 1) ∷ Null ∷ Int (pos 2) ∷ []
 
 -- the text means so
-meta_row_is : IsStatement meta_row_text (Insert 0 (Values meta_values 3))
+meta_row_is : IsStatement (archive_schema Made) meta_row_text (Insert 0 (Values meta_values 3))
 unfolding understood everything
 meta_row_is = record { meant = refl; plain = (refl, refl) }
 
 -- no rows stand for nothing
-nothing_stands : {X : Type 0} (columns : X → Row) (rows : List Row) → rows ≡ [] → AreRowsOf columns rows []
+pub nothing_stands : {X : Type 0} (columns : X → Row) (rows : List Row) → rows ≡ [] → AreRowsOf columns rows []
 nothing_stands columns rows none = subst (λ rs. AreRowsOf columns rs []) (sym none)
     (record { stored = λ r has. absurd has; apart = λ a b has other same. absurd has; same = IsPermutation-refl [] })
 
@@ -85,17 +88,23 @@ no_driver_stands rows none = subst (λ rs. AreNumberedRowsOf rs []) (sym none)
     (record { apart = λ a b has other same. absurd has; same = IsPermutation-refl [] })
 
 -- with its row in meta, six empty tables are an archive of no drivers
-pub makes_archive : (old new : State) (count : ℕ) → old.now.schema ≡ archive_schema → AreEmpty (0 ∷ 1 ∷ 4 ∷ 6 ∷ 8 ∷ 10 ∷ []) old.now.trees
-    → Executes meta_row_text [] old new (Ok count)
-    → (new.now.schema ≡ archive_schema) × HasTables new.now.trees no_rows
+pub makes_archive : (old new : State) (count : ℕ) → old.now.schema ≡ archive_schema Made
+    → AreEmpty (0 ∷ 1 ∷ 4 ∷ 6 ∷ 8 ∷ 10 ∷ []) old.now.trees → Executes meta_row_text [] old new (Ok count)
+    → IsArchive new.now × HasTables new.now.trees no_rows
 makes_archive old new count has none h =
     let t = made.meta in
-    let e = inserted archive_schema old new has meta_row_text meta_row_is.plain [] count 0 (codes "meta") 0 t.columns (Some 0)
-    (0 ∷ []) [] [] [] [] refl (idle 0) meta_values 3 meta_row_is.meant (meta_row ∷ []) refl h in
-    let stored = rw (cast_int (pos 1), cast_null, none.0) at e.applies.rows in
-    let kept = e.applies.tables in (
-      ap (λ d. d.schema) e.now_is,
-      subst (λ db. HasTables db no_rows) (sym (ap (λ d. d.trees) e.now_is)) (record {
+    let e = inserted (archive_schema Made) old new has meta_row_text meta_row_is.plain [] count 0 (codes "meta") 0 t.columns (Some 0)
+    (0 ∷ []) [] [] [] [] refl (idle Made 0) meta_values 3 meta_row_is.meant (meta_row ∷ []) refl h in
+    let stored = rw (cast_int (pos 1), cast_int (pos 2), cast_null, none.0) at e.applies.rows in
+    let kept = e.applies.tables in
+    let trees : new.now.trees ≡ e.next = ap (λ (d : Database). d.trees) e.now_is in (
+      record {
+        layout = Made;
+        schema = ap (λ (d : Database). d.schema) e.now_is;
+        sound = subst (IsSound (archive_schema Made)) (sym trees) e.sound;
+      },
+      subst (λ (db : Trees). HasTables db no_rows) (sym trees) (record {
+        layout = Made;
         sound = e.sound;
         meta = stored;
         drivers = no_driver_stands (e.next 1) (kept.1.0 (λ e. omega (arith, e)) ∙ none.1.0);
@@ -106,13 +115,22 @@ makes_archive old new count has none h =
       }),
     )
 
+-- ---- the version
+
+-- the text that reads it means the same under each schema
+pub version_reads : (d : Database) → IsVersioned d → IsReading d.schema version_text 0 first_row (col 1 2 ∷ []) [] (codes "version" ∷ [])
+version_reads d (inl old) = subst (λ s. IsReading s version_text 0 first_row (col 1 2 ∷ []) [] (codes "version" ∷ [])) (sym old) version_was
+version_reads d (inr new) =
+    subst (λ s. IsReading s version_text 0 first_row (col 1 2 ∷ []) [] (codes "version" ∷ [])) (sym new.1) (version_is new.0)
+
 -- the reading of the version shows the one that is there
-pub shows_version : (version : ℕ) (old new : State) (rows : List Row) → old.now.schema ≡ archive_schema → Shown version_text [] old new rows
+pub shows_version : (version : ℕ) (old new : State) (rows : List Row) → IsVersioned old.now → Shown version_text [] old new rows
     → IsVersion version old.now.trees → rows ≡ (Int (pos version) ∷ []) ∷ []
 shows_version version old new rows has h is =
     let db = old.now.trees in
     let shown = col 1 2 ∷ [] in
-    let got = reads_as version_text [] old new archive_schema has _ version_is.meant version_is.plain version_is.unlisted rows h in
+    let it = version_reads old.now has in
+    let got = reads_as version_text [] old new old.now.schema refl _ it.meant it.plain it.unlisted rows h in
     let l = listed 0 first_row shown [] (overlay db []) [] rows (got.answer Null) in
     one_permutation (Int (pos version) ∷ []) rows (rw (none_given db 0, is, eq_test 1 1) at
     (shows 0 first_row shown [] (overlay db []) [] rows l))
@@ -125,17 +143,18 @@ first_is version None rows is none some = absurd (let e = sym is ∙ none.0 refl
 first_is version (Some n) rows is none some = ap Some (some version [] is)
 
 -- nothing is a permutation of nothing alone
-no_permutation : (rows : List Row) → IsPermutation [] rows → rows ≡ []
+pub no_permutation : (rows : List Row) → IsPermutation [] rows → rows ≡ []
 no_permutation [] h = refl
 no_permutation (r ∷ rows) h = absurd (let e = length_permutation [] (r ∷ rows) h in cc)
 
 -- and nothing where there is no row
-pub shows_no_version : (old new : State) (rows : List Row) → old.now.schema ≡ archive_schema → Shown version_text [] old new rows
+pub shows_no_version : (old new : State) (rows : List Row) → IsVersioned old.now → Shown version_text [] old new rows
     → old.now.trees 0 ≡ [] → rows ≡ []
 shows_no_version old new rows has h is =
     let db = old.now.trees in
     let shown = col 1 2 ∷ [] in
-    let got = reads_as version_text [] old new archive_schema has _ version_is.meant version_is.plain version_is.unlisted rows h in
+    let it = version_reads old.now has in
+    let got = reads_as version_text [] old new old.now.schema refl _ it.meant it.plain it.unlisted rows h in
     let l = listed 0 first_row shown [] (overlay db []) [] rows (got.answer Null) in
     no_permutation rows (rw (none_given db 0, is) at (shows 0 first_row shown [] (overlay db []) [] rows l))
 

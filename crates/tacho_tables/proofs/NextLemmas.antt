@@ -42,8 +42,8 @@ use Rattle.sqlite_value.specs.Order.{value_cmp}
 use Rattle.sqlite_value.proofs.OrderLemmas.{value_cmp-Int}
 use Rattle.tacho_tables.specs.Next.{AreOnward, IsKept, onward_text, IsAsked, BeginsOnward}
 use Rattle.tacho_tables.specs.Rows.{AreRowsOf, SpanRow, span_columns}
-use Rattle.tacho_tables.specs.Schema.{archive_schema}
-use Rattle.tacho_tables.specs.Tables.{is_onward, span_shown}
+use Rattle.tacho_tables.specs.Schema.{Layout, Made, Carried, archive_schema}
+use Rattle.tacho_tables.specs.Tables.{IsArchive, is_onward, span_shown}
 use Rattle.tacho_tables.proofs.Answers.{simple, passes, listed, eq_test, le_test}
 use Rattle.tacho_tables.proofs.SortedLemmas.{sorted_before}
 use Rattle.tacho_tables.proofs.SpanLemmas.{and-true, none_given}
@@ -57,9 +57,10 @@ abbrev onward : List Term
 onward = op2 (Compare Eq Binary) (col 1 1) (col 0 0) ∷ op2 (Compare Le Binary) (col 0 1) (col 1 2) ∷ []
 
 -- what it means
-pub onward_is : IsReading onward_text 10 onward three_shown by_start span_names
+pub onward_is : (layout : Layout) → IsReading (archive_schema layout) onward_text 10 onward three_shown by_start span_names
 unfolding understood everything
-onward_is = record { meant = refl; unlisted = refl; plain = (refl, refl) }
+onward_is Made = record { meant = refl; unlisted = refl; plain = (refl, refl) }
+onward_is Carried = record { meant = refl; unlisted = refl; plain = (refl, refl) }
 
 -- its tests are those of a row
 onward_test : (driver start : ℕ) (v : Value) (x : SpanRow)
@@ -219,15 +220,15 @@ by_starts x y =
 
 module _ (driver start : ℕ) (all : List SpanRow) where
   -- a whole answer shows all of them
-  pub shown_onward : (old new : State) (rows : List Row) → old.now.schema ≡ archive_schema
+  pub shown_onward : (old new : State) (rows : List Row) → IsArchive old.now
       → Shown onward_text (Int (pos driver) ∷ Int (pos start) ∷ []) old new rows
       → AreRowsOf span_columns (old.now.trees 10) all
       → (shown : List SpanRow) × (rows ≡ map span_shown shown) × AreOnward driver start all shown
-  shown_onward old new rows has h s =
+  shown_onward old new rows is h s =
       let db = old.now.trees in
       let params = Int (pos driver) ∷ Int (pos start) ∷ [] in
-      let got = reads_as onward_text params old new archive_schema has _ onward_is.meant onward_is.plain
-      onward_is.unlisted rows h in
+      let it = onward_is is.layout in
+      let got = reads_as onward_text params old new (archive_schema is.layout) is.schema _ it.meant it.plain it.unlisted rows h in
       let l = listed 10 onward three_shown by_start (overlay db []) params rows (got.answer Null) in
       let passed = shown_of span_columns (db 10) all s (passes onward params) (is_onward driver start)
       (onward_test driver start)
@@ -245,13 +246,13 @@ module _ (driver start : ℕ) (all : List SpanRow) where
       )
 
   -- and those that were given so far are the first of them
-  pub given_onward : {S : Type 0} (g : Ghosts S) (h : Held S) (given : List Row) → h.schema ≡ archive_schema
+  pub given_onward : {S : Type 0} (g : Ghosts S) (h : Held S) (given : List Row) → IsArchive (state g h).now
       → IsTrue (state g h).is_open
       → HasGiven g onward_text (Int (pos driver) ∷ Int (pos start) ∷ []) h given
       → AreRowsOf span_columns ((state g h).now.trees 10) all
       → (tail : List Row) × (shown : List SpanRow) × (given ++ tail ≡ map span_shown shown) × AreOnward driver start all
       shown
-  given_onward g h given has opened it s =
+  given_onward g h given archive opened it s =
       let now = state g h in
       let params = Int (pos driver) ∷ Int (pos start) ∷ [] in
       let whole = begins_shown onward_text params now now given (given_begin g onward_text params h given it) (
@@ -260,6 +261,7 @@ module _ (driver start : ℕ) (all : List SpanRow) where
         refl,
       )
       (λ c db is source. subst (λ (k : Command). EndsIn k db (timed params c.formats is.now))
-      (sym onward_is.meant ∙ ap (λ x. command_of (understood x onward_text)) (sym has) ∙ ap command_of is.is) tt) in
-      let all = shown_onward now now (given ++ whole.0) has whole.1 s in
+      (sym (onward_is archive.layout).meant ∙ ap (λ x. command_of (understood x onward_text)) (sym archive.schema)
+      ∙ ap command_of is.is) tt) in
+      let all = shown_onward now now (given ++ whole.0) archive whole.1 s in
       (whole.0, all.0, all.1, all.2)

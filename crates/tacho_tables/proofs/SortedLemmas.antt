@@ -15,19 +15,20 @@ use Rattle.sqlite.specs.Order.{Row}
 use Rattle.sqlite.specs.Program.{overlay}
 use Rattle.sqlite.specs.State.{State, Shown}
 use Rattle.sqlite.proofs.Callers.{reads_as}
-use Rattle.tacho_tables.specs.Schema.{archive_schema}
-use Rattle.tacho_tables.specs.Rows.{AreRowsOf, EntryRow, entry_columns}
+use Rattle.tacho_tables.specs.Schema.{archive_schema, entry_tree}
+use Rattle.tacho_tables.specs.Rows.{EntryRow, entry_columns}
 use Rattle.tacho_tables.specs.declared.rows.StoredEntry.{StoredEntry}
-use Rattle.tacho_tables.specs.Tables.{is_entry_of, entry_of, entry_shown}
+use Rattle.tacho_tables.specs.Tables.{Tables, HasTables, IsArchive, ListedEntry, is_entry_of, entry_shown, listed_entry, told_entry}
 use Rattle.tacho_tables.proofs.Answers.{simple, passes, listed}
+use Rattle.tacho_tables.proofs.CatalogLemmas.{entries_stand}
 use Rattle.tacho_tables.proofs.EntryLemmas.{own_test}
 use Rattle.tacho_tables.proofs.SpanLemmas.{none_given}
-use Rattle.tacho_tables.proofs.Statements.{own, five_shown, by_number, entries_text, entries_is}
+use Rattle.tacho_tables.proofs.Statements.{own, seven_shown, by_number, entries_text, entries_is}
 use Rattle.tacho_tables.proofs.Stored.{shown_of}
 
 -- a query over one table, sorted by number
-abbrev asked : Query
-asked = simple 8 own five_shown by_number
+abbrev asked : ℕ → Query
+asked tree = simple tree own seven_shown by_number
 
 -- what an entry is sorted by, and what it shows
 abbrev shown_as : EntryRow → Output
@@ -45,8 +46,8 @@ by_one_number a b = ap is_lt (then_equal (value_cmp (Int (pos a)) (Int (pos b)))
   same a b = grind (arith, ints)
 
 -- entries are sorted by their numbers
-by_numbers : (x y : EntryRow) → is_lt (output_cmp asked (shown_as x) (shown_as y)) ≡ is_lt (nat_cmp x.number y.number)
-by_numbers x y = by_one_number x.number y.number
+by_numbers : (tree : ℕ) (x y : EntryRow) → is_lt (output_cmp (asked tree) (shown_as x) (shown_as y)) ≡ is_lt (nat_cmp x.number y.number)
+by_numbers tree x y = by_one_number x.number y.number
 
 -- what is sorted is so by what it was made of
 pub sorted_before : {X Y : Type 0} (f : X → Y) (less : Y → Y → Bool) (lt : X → X → Bool) (xs : List X) → ((x y : X) → less (f x) (f y) ≡ lt x y)
@@ -70,30 +71,40 @@ sorted_after f less lt xs none same h k d low high =
     ∙ h k none low high_2
 
 -- the rows of a reading of all entries of a driver show his entries in the order of their numbers
-pub shows_sorted : (driver : ℕ) (old new : State) (rows : List Row) → old.now.schema ≡ archive_schema
-    → Shown entries_text (Int (pos driver) ∷ []) old new rows → (all : List EntryRow) → AreRowsOf entry_columns (old.now.trees 8) all
+pub shows_sorted : (driver : ℕ) (old new : State) (rows : List Row) → IsArchive old.now
+    → Shown entries_text (Int (pos driver) ∷ []) old new rows
+    → (a : Tables) → HasTables old.now.trees a
     → (shown : List EntryRow) × (rows ≡ map entry_shown shown) × IsSorted (λ x y. nat_cmp x.number y.number) shown
-shows_sorted driver old new rows has h all s =
+shows_sorted driver old new rows is h a s =
     let db = old.now.trees in
+    let tree = entry_tree is.layout in
     let params = Int (pos driver) ∷ [] in
-    let out = λ (r : Row). output asked (params ∷ r ∷ []) in
-    let got = reads_as entries_text params old new archive_schema has _ entries_is.meant entries_is.plain entries_is.unlisted rows h in
-    let l = listed 8 own five_shown by_number (overlay db []) params rows (got.answer Null) in
-    let passed = shown_of entry_columns (db 8) all s (passes own params) (is_entry_of driver) (own_test driver) out shown_as (λ v x. refl) in
-    let same = IsPermutation-trans _ _ _ passed (rw (none_given db 8) at l.same) in
-    let back = pull_back shown_as _ l.all same (filter (is_entry_of driver) all) refl in (
+    let out = λ (r : Row). output (asked tree) (params ∷ r ∷ []) in
+    let it = entries_is is.layout in
+    let got = reads_as entries_text params old new (archive_schema is.layout) is.schema _ it.meant it.plain it.unlisted rows h in
+    let l = listed tree own seven_shown by_number (overlay db []) params rows (got.answer Null) in
+    let passed = shown_of entry_columns (db tree) a.entries (entries_stand old.now a is s) (passes own params) (is_entry_of driver)
+    (own_test driver) out shown_as (λ v x. refl) in
+    let same = IsPermutation-trans _ _ _ passed (rw (none_given db tree) at l.same) in
+    let back = pull_back shown_as _ l.all same (filter (is_entry_of driver) a.entries) refl in (
       back.0,
       l.shown_is ∙ ap (map (λ (o : Output). o.1)) back.2 ∙ map-map (λ (o : Output). o.1) shown_as back.0,
-      sorted_before shown_as (λ a b. is_lt (output_cmp asked a b)) (λ x y. is_lt (nat_cmp x.number y.number)) back.0 by_numbers (subst (IsSorted (output_cmp asked)) back.2 l.sorted),
+      sorted_before shown_as (λ p q. is_lt (output_cmp (asked tree) p q)) (λ x y. is_lt (nat_cmp x.number y.number)) back.0
+          (by_numbers tree) (subst (IsSorted (output_cmp (asked tree))) back.2 l.sorted),
     )
 
 -- so they are read in that order
-pub read_sorted : (driver : ℕ) (old new : State) (rows : List Row) (found : List StoredEntry) → old.now.schema ≡ archive_schema
-    → Shown entries_text (Int (pos driver) ∷ []) old new rows → (all : List EntryRow) → AreRowsOf entry_columns (old.now.trees 8) all
-    → ((shown : List EntryRow) → rows ≡ map entry_shown shown → found ≡ map entry_of shown)
+pub read_sorted : (driver : ℕ) (old new : State) (rows : List Row) (found : List StoredEntry) → IsArchive old.now
+    → Shown entries_text (Int (pos driver) ∷ []) old new rows → (a : Tables) → HasTables old.now.trees a
+    → ((shown : List EntryRow) → rows ≡ map entry_shown shown → map told_entry found ≡ map listed_entry shown)
     → IsSorted (λ x y. nat_cmp x.number y.number) found
-read_sorted driver old new rows found has h all s reads =
-    let it = shows_sorted driver old new rows has h all s in
-    subst (IsSorted (λ x y. nat_cmp x.number y.number)) (sym (reads it.0 it.1))
-    (sorted_after entry_of (λ x y. is_lt (nat_cmp x.number y.number)) (λ x y. is_lt (nat_cmp x.number y.number)) it.0
-    (record { driver = 0; number = 0; start = 0; past = 0; mark = 0; withdrawn = 0 }) (λ x y. refl) it.2)
+read_sorted driver old new rows found is h a s reads =
+    let it = shows_sorted driver old new rows is h a s in
+    let listed = sorted_after listed_entry (λ x y. is_lt (nat_cmp x.number y.number)) (λ x y. is_lt (nat_cmp x.number y.number)) it.0
+    no_entry (λ x y. refl) it.2 in
+    sorted_before told_entry (λ x y. is_lt (nat_cmp x.number y.number)) (λ x y. is_lt (nat_cmp x.number y.number)) found (λ x y. refl)
+    (subst (IsSorted (λ (x y : ListedEntry). nat_cmp x.number y.number)) (sym (reads it.0 it.1)) listed)
+  where
+    -- any entry
+    no_entry : EntryRow
+    no_entry = record { driver = 0; number = 0; start = 0; past = 0; mark = 0; withdrawn = 0; author = []; note = [] }

@@ -1,5 +1,6 @@
 -- What the statements on a table of spans do.
-use Rattle.std.proofs.Common.{◌≡◌, codes, ℕ, pos, ◌==◌, ◌^◌, leb, List, [], ◌∷◌, ◌++◌, map, filter, slice_get, Bool, true, false, cond, ◌&&◌, None, Some, Ok, unwrap_or, refl, sym, ap, subst}
+use Rattle.std.proofs.Common.{◌≡◌, ℕ, pos, ◌==◌, ◌^◌, leb, List, [], ◌∷◌, ◌++◌, map, filter, slice_get, Bool, true, false, cond, ◌&&◌}
+use Rattle.std.proofs.Common.{None, Some, Ok, unwrap_or, refl, sym, ap, subst}
 use Rattle.std.specs.Prelude.{nat_lt, nat_le}
 use Rattle.std.specs.List.Sorted.{IsPermutation}
 use Rattle.std.proofs.lemmas.Bool.{and_parts, not-true}
@@ -16,39 +17,53 @@ use Rattle.sqlite.specs.Edit.{next_rowid, is_taken}
 use Rattle.sqlite.specs.Program.{overlay}
 use Rattle.sqlite.specs.State.{State, Executes, Shown}
 use Rattle.sqlite.proofs.Callers.{reads_as}
-use Rattle.tacho_tables.specs.Schema.{archive_schema, to_driver, spans}
+use Rattle.tacho_tables.specs.Schema.{Layout, archive_schema, to_driver, spans}
 use Rattle.tacho_tables.specs.Rows.{AreRowsOf, SpanRow, span_columns}
 use Rattle.tacho_tables.specs.declared.rows.StoredSpan.{StoredSpan}
 use Rattle.tacho_tables.specs.declared.spans.SpanTable.{SpanTable}
 use Rattle.tacho_tables.specs.declared.spans.SpanTable.TheVariants.{CardSpans, Held}
 use Rattle.tacho_tables.specs.Spans.{spans_in, with_spans, rows_of}
-use Rattle.tacho_tables.specs.Tables.{Tables, HasTables, Turns, is_before, is_begun, is_of, span_shown, span_of, row_of}
+use Rattle.tacho_tables.specs.Tables.{Tables, HasTables, IsArchive, Turns, is_before, is_begun, is_of, span_shown, span_of, row_of}
 use Rattle.tacho_tables.proofs.Answers.{passes, listed, shows, eq_test, lt_test, le_test}
 use Rattle.tacho_tables.proofs.Stored.{stands_put, stands_shuffled, shown_of}
 use Rattle.tacho_tables.proofs.Idle.{idle}
 use Rattle.sqlite_catalog.specs.Listing.{IsSound}
-use Rattle.tacho_tables.proofs.Kept.{AreKept, with_held, with_card_spans}
-use Rattle.tacho_tables.proofs.Statements.{IsStatement, IsReading, four, before, begun, own, three_shown, by_start, span_names, place_of}
+use Rattle.tacho_tables.proofs.Kept.{AreKept, kept_itself, with_held, with_card_spans}
+use Rattle.tacho_tables.proofs.Statements.{IsStatement, IsReading, four, before, begun, own, three_shown, by_start, span_names}
+use Rattle.tacho_tables.proofs.Places.{place_of, name_of, spans_listed}
+use Rattle.tacho_tables.proofs.TurnLemmas.{turns}
 use Rattle.tacho_tables.proofs.Writes.{flat, inserted, cast_null, cast_int}
 
 -- a table of spans: its place, its tree and its name, and the list that its rows stand for
 pub record IsSpanTable (at tree : ℕ) (name : List ℕ) (get : Tables → List SpanRow) (put : List SpanRow → Tables → Tables) : Type 0 where
-  pub place : slice_get archive_schema.tables at ≡ Some (flat name tree (spans name).columns None (1 ∷ 2 ∷ []) ((1 ∷ 2 ∷ []) ∷ []) (spans name).orders [] (to_driver ∷ []))
+  pub place : (layout : Layout) → slice_get (archive_schema layout).tables at
+      ≡ Some (flat name tree (spans name).columns None (1 ∷ 2 ∷ []) ((1 ∷ 2 ∷ []) ∷ []) (spans name).orders [] (to_driver ∷ []))
   pub got : (xs : List SpanRow) (a : Tables) → get (put xs a) ≡ xs
   pub same : (a : Tables) → put (get a) a ≡ a
   pub again : (xs ys : List SpanRow) (a : Tables) → put ys (put xs a) ≡ put ys a
   pub stands : (db : Trees) (a : Tables) → HasTables db a → AreRowsOf span_columns (db tree) (get a)
-  pub changed : (db next : Trees) (a : Tables) (xs : List SpanRow) → IsSound archive_schema next → AreKept tree db next → HasTables db a → AreRowsOf span_columns (next tree) xs → HasTables next (put xs a)
-
--- its name
-abbrev pub name_of : SpanTable → List ℕ
-name_of CardSpans = codes "card_spans"
-name_of Held = codes "held"
+  pub changed : (layout : Layout) (db next : Trees) (a : Tables) → IsSound (archive_schema layout) next → (s : HasTables db a)
+      → s.layout ≡ layout → AreKept layout tree db next → (xs : List SpanRow) → AreRowsOf span_columns (next tree) xs
+      → HasTables next (put xs a)
 
 -- each of the two is such a table
 pub span_table : (table : SpanTable) → IsSpanTable (place_of table) (rows_of table) (name_of table) (spans_in table) (with_spans table)
-span_table CardSpans = record { place = refl; got = λ xs a. refl; same = λ a. refl; again = λ xs ys a. refl; stands = λ db a s. s.card_spans; changed = with_card_spans }
-span_table Held = record { place = refl; got = λ xs a. refl; same = λ a. refl; again = λ xs ys a. refl; stands = λ db a s. s.held; changed = with_held }
+span_table CardSpans = record {
+  place = λ layout. spans_listed layout CardSpans;
+  got = λ xs a. refl;
+  same = λ a. refl;
+  again = λ xs ys a. refl;
+  stands = λ db a s. s.card_spans;
+  changed = with_card_spans;
+}
+span_table Held = record {
+  place = λ layout. spans_listed layout Held;
+  got = λ xs a. refl;
+  same = λ a. refl;
+  again = λ xs ys a. refl;
+  stands = λ db a s. s.held;
+  changed = with_held;
+}
 
 -- true is neutral
 pub and-true : (b : Bool) → (b && true) ≡ b
@@ -72,13 +87,16 @@ pub own_is : (driver : ℕ) (v : Value) (x : SpanRow) → passes own (Int (pos d
 own_is driver v x = rw (eq_test x.driver driver) (and-true (x.driver == driver))
 
 module _ (text : List ℕ) (tree : ℕ) (tests : List Term) (params : Row) (p : SpanRow → Bool) (tested : (v : Value) (x : SpanRow) → passes tests params (v ∷ span_columns x) ≡ p x)
-    (old new : State) (rows : List Row) (has : old.now.schema ≡ archive_schema) (it : IsReading text tree tests three_shown by_start span_names) (h : Shown text params old new rows)
+    (old new : State) (rows : List Row) (is : IsArchive old.now)
+    (each : (layout : Layout) → IsReading (archive_schema layout) text tree tests three_shown by_start span_names)
+    (h : Shown text params old new rows)
     (all : List SpanRow) (s : AreRowsOf span_columns (old.now.trees tree) all) where
   -- a reading shows the spans that pass its tests
   shows_spans : IsPermutation (map span_shown (filter p all)) rows
   shows_spans =
       let db = old.now.trees in
-      let got = reads_as text params old new archive_schema has _ it.meant it.plain it.unlisted rows h in
+      let it = each is.layout in
+      let got = reads_as text params old new (archive_schema is.layout) is.schema _ it.meant it.plain it.unlisted rows h in
       let l = listed tree tests three_shown by_start (overlay db []) params rows (got.answer Null) in
       IsPermutation-trans _ _ _ (shown_of span_columns (db tree) all s (passes tests params) p tested (λ (r : Row). eval_all three_shown (params ∷ r ∷ [])) span_shown (λ v x. refl))
       (rw (none_given db tree) at (shows tree tests three_shown by_start (overlay db []) params rows l))
@@ -93,39 +111,42 @@ module _ (text : List ℕ) (tree : ℕ) (tests : List Term) (params : Row) (p : 
 -- ---- INSERTs
 
 -- what is left to add, on top of what stands, is all on top of what stood, but for the order
-pub record HasLeft (get : Tables → List SpanRow) (put : List SpanRow → Tables → Tables) (driver : ℕ) (all left : List StoredSpan) (old now : State) : Type 0 where
-  pub schema : now.now.schema ≡ archive_schema
+pub record HasLeft (get : Tables → List SpanRow) (put : List SpanRow → Tables → Tables) (driver : ℕ) (all left : List StoredSpan)
+    (old now : State) : Type 0 where
+  pub schema : IsArchive now.now
   pub rows : (a : Tables) → HasTables old.now.trees a
       → (some : List SpanRow) × HasTables now.now.trees (put some a) × IsPermutation (map (row_of driver) all ++ get a) (map (row_of driver) left ++ some)
 
-module _ {at tree : ℕ} {name : List ℕ} {get : Tables → List SpanRow} {put : List SpanRow → Tables → Tables} (table : IsSpanTable at tree name get put) where
+module _ {at tree : ℕ} {name : List ℕ} {get : Tables → List SpanRow} {put : List SpanRow → Tables → Tables}
+    (table : IsSpanTable at tree name get put) where
   -- an INSERT adds a row to the table, and changes no other
-  pub adds_span : (text : List ℕ) (old new : State) (x : SpanRow) (count : ℕ) → old.now.schema ≡ archive_schema → IsStatement text (Insert at (Values four 5)) → Executes text (span_columns x) old new (Ok count)
-      → Turns old new (λ a. put (x ∷ get a) a)
-  adds_span text old new x count has it h =
+  pub adds_span : (text : List ℕ) (old new : State) (x : SpanRow) (count : ℕ) → IsArchive old.now
+      → ((layout : Layout) → IsStatement (archive_schema layout) text (Insert at (Values four 5)))
+      → Executes text (span_columns x) old new (Ok count) → Turns old new (λ a. put (x ∷ get a) a)
+  adds_span text old new x count is each h =
       let rows = old.now.trees tree in
-      let e = inserted archive_schema old new has text it.plain (span_columns x) count at name tree (spans name).columns None (1 ∷ 2 ∷ []) ((1 ∷ 2 ∷ []) ∷ []) (spans name).orders [] (to_driver ∷ []) table.place (idle tree)
+      let it = each is.layout in
+      let e = inserted (archive_schema is.layout) old new is.schema text it.plain (span_columns x) count at name tree (spans name).columns
+      None (1 ∷ 2 ∷ []) ((1 ∷ 2 ∷ []) ∷ []) (spans name).orders [] (to_driver ∷ []) (table.place is.layout) (idle is.layout tree)
       four 5 it.meant ((Null ∷ span_columns x) ∷ []) refl h in
       let stored = rw (cast_null, cast_int (pos x.driver), cast_int (pos x.start), cast_int (pos x.past), cast_int (pos x.mark)) at e.applies.rows in
       let fresh = rw cast_null at e.applies.fresh in
       let free : is_taken rows (Int (next_rowid rows) ∷ span_columns x) ≡ false = not-true _ (and_parts _ _ fresh).0 in
-      record {
-        schema = ap (λ d. d.schema) e.now_is;
-        stands = λ a s.
-            let more = x ∷ get a in
-            let it = subst (λ rs. AreRowsOf span_columns rs more) (sym stored) (stands_put span_columns rows (get a) (next_rowid rows) x (table.stands old.now.trees a s) free) in
-            subst (λ db. HasTables db (put more a)) (sym (ap (λ d. d.trees) e.now_is)) (table.changed old.now.trees e.next a more e.sound e.applies.tables s it);
-      }
+      turns old new is e (λ a. put (x ∷ get a) a)
+      (λ a s same. table.changed is.layout old.now.trees e.next a e.sound s same e.applies.tables (x ∷ get a)
+      (subst (λ rs. AreRowsOf span_columns rs (x ∷ get a)) (sym stored)
+      (stands_put span_columns rows (get a) (next_rowid rows) x (table.stands old.now.trees a s) free)))
 
   -- before the first is added
-  pub all_left : (driver : ℕ) (all : List StoredSpan) (now : State) → now.now.schema ≡ archive_schema → HasLeft get put driver all all now now
-  all_left driver all now has = record {
-    schema = has;
+  pub all_left : (driver : ℕ) (all : List StoredSpan) (now : State) → IsArchive now.now → HasLeft get put driver all all now now
+  all_left driver all now is = record {
+    schema = is;
     rows = λ a stood. (get a, subst (HasTables now.now.trees) (sym (table.same a)) stood, IsPermutation-refl (map (row_of driver) all ++ get a));
   }
 
   -- one more was added
-  pub leaves_one_less : (driver : ℕ) (all left : List StoredSpan) (s : StoredSpan) (old mid now : State) → HasLeft get put driver all (s ∷ left) old mid → Turns mid now (λ a. put (row_of driver s ∷ get a) a)
+  pub leaves_one_less : (driver : ℕ) (all left : List StoredSpan) (s : StoredSpan) (old mid now : State)
+      → HasLeft get put driver all (s ∷ left) old mid → Turns mid now (λ a. put (row_of driver s ∷ get a) a)
       → HasLeft get put driver all left old now
   leaves_one_less driver all left s old mid now was turned = record {
     schema = turned.schema;
@@ -139,7 +160,8 @@ module _ {at tree : ℕ} {name : List ℕ} {get : Tables → List SpanRow} {put 
   }
 
   -- once nothing is left, all were added
-  pub all_added : (driver : ℕ) (all : List StoredSpan) (old now : State) → HasLeft get put driver all [] old now → Turns old now (λ a. put (map (row_of driver) all ++ get a) a)
+  pub all_added : (driver : ℕ) (all : List StoredSpan) (old now : State) → HasLeft get put driver all [] old now
+      → Turns old now (λ a. put (map (row_of driver) all ++ get a) a)
   all_added driver all old now last = record {
     schema = last.schema;
     stands = λ a s.
@@ -148,5 +170,6 @@ module _ {at tree : ℕ} {name : List ℕ} {get : Tables → List SpanRow} {put 
         let more = map (row_of driver) all ++ get a in
         let some = subst (AreRowsOf span_columns (db tree)) (table.got it.0 a) (table.stands db (put it.0 a) it.1) in
         subst (HasTables db) (table.again it.0 more a)
-        (table.changed db db (put it.0 a) more it.1.sound (λ _. refl, (λ _. refl, (λ _. refl, (λ _. refl, (λ _. refl, (λ _. refl, tt)))))) it.1 (stands_shuffled span_columns (db tree) it.0 more some (IsPermutation-map span_columns more it.0 it.2)));
+        (table.changed it.1.layout db db (put it.0 a) it.1.sound it.1 refl (kept_itself it.1.layout tree db) more
+        (stands_shuffled span_columns (db tree) it.0 more some (IsPermutation-map span_columns more it.0 it.2)));
   }

@@ -2,6 +2,7 @@
 use Rattle.std.proofs.Common.{◌≡◌, ℕ, List, [], ◌∷◌, codes, false, true, refl, pos, Err}
 use Rattle.sqlite.specs.declared.types.Value.TheVariants.{Null, Int}
 use Rattle.sqlite.specs.Command.{Command}
+use Rattle.sqlite.specs.Schema.{Schema}
 use Rattle.sqlite.specs.Command.TheVariants.{Insert, Select, Update, Delete}
 use Rattle.sqlite.specs.Source.TheVariants.{Values}
 use Rattle.sqlite.specs.Term.{Term, lit, col, op2}
@@ -13,28 +14,31 @@ use Rattle.sqlite_tied.specs.Compute.{everything}
 use Rattle.sqlite.specs.Listing.{understood, reads_listing, listing_schema}
 use Rattle.sqlite.proofs.Callers.{IsPlain, command_of}
 use Rattle.sqlite_resolve.specs.declared.error.CompileError.TheVariants.{NoSuchTable}
-use Rattle.tacho_tables.specs.Schema.{archive_schema, no_schema}
+use Rattle.tacho_tables.specs.Schema.{Layout, Made, Carried, archive_schema, old_schema, no_schema, entry_tree}
 use Rattle.tacho_tables.specs.declared.spans.SpanTable.{SpanTable}
 use Rattle.tacho_tables.specs.declared.spans.SpanTable.TheVariants.{CardSpans, Held}
 use Rattle.tacho_tables.specs.Spans.{rows_of, before_text, begun_text, insert_text}
 use Rattle.tacho_tables.proofs.Answers.{simple, first_of}
+use Rattle.tacho_tables.proofs.Places.{place_of, entry_place}
 
--- the text is this statement, which reads no clock
-pub record IsStatement (text : List ℕ) (command : Command) : Type 0 where
-  pub meant : command_of (understood archive_schema text) ≡ command
-  pub plain : IsPlain (understood archive_schema text)
+-- under the schema the text is this statement, which reads no clock
+pub record IsStatement (schema : Schema) (text : List ℕ) (command : Command) : Type 0 where
+  pub meant : command_of (understood schema text) ≡ command
+  pub plain : IsPlain (understood schema text)
 
--- the text shows this of the rows of one table that pass these tests
-pub record IsReading (text : List ℕ) (tree : ℕ) (tests shown : List Term) (order : List (Term × Key)) (names : List (List ℕ)) : Type 0 where
-  pub meant : command_of (understood archive_schema text) ≡ Select (record { lets = []; body = simple tree tests shown order }) names
-  pub unlisted : reads_listing archive_schema text ≡ false
-  pub plain : IsPlain (understood archive_schema text)
+-- under the schema the text shows this of the rows of one table that pass these tests
+pub record IsReading (schema : Schema) (text : List ℕ) (tree : ℕ) (tests shown : List Term) (order : List (Term × Key))
+    (names : List (List ℕ)) : Type 0 where
+  pub meant : command_of (understood schema text) ≡ Select (record { lets = []; body = simple tree tests shown order }) names
+  pub unlisted : reads_listing schema text ≡ false
+  pub plain : IsPlain (understood schema text)
 
--- the text shows this of the first of these rows
-pub record IsReadingFirst (text : List ℕ) (tree : ℕ) (tests shown : List Term) (order : List (Term × Key)) (names : List (List ℕ)) : Type 0 where
-  pub meant : command_of (understood archive_schema text) ≡ Select (record { lets = []; body = first_of tree tests shown order }) names
-  pub unlisted : reads_listing archive_schema text ≡ false
-  pub plain : IsPlain (understood archive_schema text)
+-- under the schema the text shows this of the first of these rows
+pub record IsReadingFirst (schema : Schema) (text : List ℕ) (tree : ℕ) (tests shown : List Term) (order : List (Term × Key))
+    (names : List (List ℕ)) : Type 0 where
+  pub meant : command_of (understood schema text) ≡ Select (record { lets = []; body = first_of tree tests shown order }) names
+  pub unlisted : reads_listing schema text ≡ false
+  pub plain : IsPlain (understood schema text)
 
 -- ---- terms
 
@@ -84,10 +88,16 @@ version_text = codes "SELECT version FROM meta WHERE id = 1"
 abbrev pub first_row : List Term
 first_row = op2 (Compare Eq Binary) (col 1 0) (lit (Int (pos 1))) ∷ []
 
--- what it means
-pub version_is : IsReading version_text 0 first_row (col 1 2 ∷ []) [] (codes "version" ∷ [])
+-- what it means under schema 2
+pub version_is : (layout : Layout) → IsReading (archive_schema layout) version_text 0 first_row (col 1 2 ∷ []) [] (codes "version" ∷ [])
 unfolding understood everything
-version_is = record { meant = refl; unlisted = refl; plain = (refl, refl) }
+version_is Made = record { meant = refl; unlisted = refl; plain = (refl, refl) }
+version_is Carried = record { meant = refl; unlisted = refl; plain = (refl, refl) }
+
+-- and the same under schema 1
+pub version_was : IsReading old_schema version_text 0 first_row (col 1 2 ∷ []) [] (codes "version" ∷ [])
+unfolding understood everything
+version_was = record { meant = refl; unlisted = refl; plain = (refl, refl) }
 
 -- without tables it means nothing
 pub version_is_unknown : understood no_schema version_text ≡ Err NoSuchTable
@@ -96,28 +106,32 @@ version_is_unknown = refl
 
 -- ---- the tables of spans
 
--- its place among the tables
-abbrev pub place_of : SpanTable → ℕ
-place_of CardSpans = 3
-place_of Held = 5
-
 -- what the text that adds a span means
-pub insert_is : (table : SpanTable) → IsStatement (insert_text table) (Insert (place_of table) (Values four 5))
+pub insert_is : (layout : Layout) (table : SpanTable)
+    → IsStatement (archive_schema layout) (insert_text table) (Insert (place_of table) (Values four 5))
 unfolding understood everything
-insert_is CardSpans = record { meant = refl; plain = (refl, refl) }
-insert_is Held = record { meant = refl; plain = (refl, refl) }
+insert_is Made CardSpans = record { meant = refl; plain = (refl, refl) }
+insert_is Carried CardSpans = record { meant = refl; plain = (refl, refl) }
+insert_is Made Held = record { meant = refl; plain = (refl, refl) }
+insert_is Carried Held = record { meant = refl; plain = (refl, refl) }
 
 -- what the text means that reads the latest span that begins before a minute
-pub before_is : (table : SpanTable) → IsReadingFirst (before_text table) (rows_of table) before three_shown by_start_down span_names
+pub before_is : (layout : Layout) (table : SpanTable)
+    → IsReadingFirst (archive_schema layout) (before_text table) (rows_of table) before three_shown by_start_down span_names
 unfolding understood everything
-before_is CardSpans = record { meant = refl; unlisted = refl; plain = (refl, refl) }
-before_is Held = record { meant = refl; unlisted = refl; plain = (refl, refl) }
+before_is Made CardSpans = record { meant = refl; unlisted = refl; plain = (refl, refl) }
+before_is Carried CardSpans = record { meant = refl; unlisted = refl; plain = (refl, refl) }
+before_is Made Held = record { meant = refl; unlisted = refl; plain = (refl, refl) }
+before_is Carried Held = record { meant = refl; unlisted = refl; plain = (refl, refl) }
 
 -- what the text means that reads the spans that begin in a range
-pub begun_is : (table : SpanTable) → IsReading (begun_text table) (rows_of table) begun three_shown by_start span_names
+pub begun_is : (layout : Layout) (table : SpanTable)
+    → IsReading (archive_schema layout) (begun_text table) (rows_of table) begun three_shown by_start span_names
 unfolding understood everything
-begun_is CardSpans = record { meant = refl; unlisted = refl; plain = (refl, refl) }
-begun_is Held = record { meant = refl; unlisted = refl; plain = (refl, refl) }
+begun_is Made CardSpans = record { meant = refl; unlisted = refl; plain = (refl, refl) }
+begun_is Carried CardSpans = record { meant = refl; unlisted = refl; plain = (refl, refl) }
+begun_is Made Held = record { meant = refl; unlisted = refl; plain = (refl, refl) }
+begun_is Carried Held = record { meant = refl; unlisted = refl; plain = (refl, refl) }
 
 -- ---- held
 
@@ -126,18 +140,21 @@ abbrev pub held_own_text : List ℕ
 held_own_text = codes "SELECT start, past, mark FROM held WHERE driver = ?1 ORDER BY start"
 
 -- what it means
-pub held_own_is : IsReading held_own_text 10 own three_shown by_start span_names
+pub held_own_is : (layout : Layout) → IsReading (archive_schema layout) held_own_text 10 own three_shown by_start span_names
 unfolding understood everything
-held_own_is = record { meant = refl; unlisted = refl; plain = (refl, refl) }
+held_own_is Made = record { meant = refl; unlisted = refl; plain = (refl, refl) }
+held_own_is Carried = record { meant = refl; unlisted = refl; plain = (refl, refl) }
 
 -- the text that removes the spans that begin in a range
 abbrev pub held_delete_text : List ℕ
 held_delete_text = codes "DELETE FROM held WHERE driver = ?1 AND ?2 <= start AND start < ?3"
 
 -- what it means
-pub held_delete_is : IsStatement held_delete_text (Delete 5 (record { lets = []; body = simple 10 begun (col 1 0 ∷ []) [] }))
+pub held_delete_is : (layout : Layout)
+    → IsStatement (archive_schema layout) held_delete_text (Delete 5 (record { lets = []; body = simple 10 begun (col 1 0 ∷ []) [] }))
 unfolding understood everything
-held_delete_is = record { meant = refl; plain = (refl, refl) }
+held_delete_is Made = record { meant = refl; plain = (refl, refl) }
+held_delete_is Carried = record { meant = refl; plain = (refl, refl) }
 
 -- ---- downloads
 
@@ -150,14 +167,16 @@ abbrev pub file_text : List ℕ
 file_text = codes "SELECT file FROM downloads WHERE driver = ?1 AND number = ?2"
 
 -- what the first means
-pub download_insert_is : IsStatement download_insert_text (Insert 2 (Values four 5))
+pub download_insert_is : (layout : Layout) → IsStatement (archive_schema layout) download_insert_text (Insert 2 (Values four 5))
 unfolding understood everything
-download_insert_is = record { meant = refl; plain = (refl, refl) }
+download_insert_is Made = record { meant = refl; plain = (refl, refl) }
+download_insert_is Carried = record { meant = refl; plain = (refl, refl) }
 
 -- what the second means
-pub file_is : IsReading file_text 4 numbered (col 1 4 ∷ []) [] (codes "file" ∷ [])
+pub file_is : (layout : Layout) → IsReading (archive_schema layout) file_text 4 numbered (col 1 4 ∷ []) [] (codes "file" ∷ [])
 unfolding understood everything
-file_is = record { meant = refl; unlisted = refl; plain = (refl, refl) }
+file_is Made = record { meant = refl; unlisted = refl; plain = (refl, refl) }
+file_is Carried = record { meant = refl; unlisted = refl; plain = (refl, refl) }
 
 -- ---- drivers
 
@@ -206,9 +225,10 @@ abbrev pub with_count_shown : List Term
 with_count_shown = col 1 0 ∷ col 1 0 ∷ lit Null ∷ col 1 2 ∷ col 1 3 ∷ col 1 4 ∷ col 1 5 ∷ col 0 1 ∷ col 1 7 ∷ []
 
 -- what each text means
-pub driver_insert_is : IsStatement driver_insert_text (Insert 1 (Values driver_values 8))
+pub driver_insert_is : (layout : Layout) → IsStatement (archive_schema layout) driver_insert_text (Insert 1 (Values driver_values 8))
 unfolding understood everything
-driver_insert_is = record { meant = refl; plain = (refl, refl) }
+driver_insert_is Made = record { meant = refl; plain = (refl, refl) }
+driver_insert_is Carried = record { meant = refl; plain = (refl, refl) }
 
 -- driver, holder, base, name, downloads and entries
 abbrev pub six_shown : List Term
@@ -223,34 +243,44 @@ abbrev pub by_driver : List (Term × Key)
 by_driver = (col 1 0, record { collation = Binary; descending = false }) ∷ []
 
 -- a reading by number
-pub by_number_is : IsReading by_number_text 1 (column_is 0) six_shown [] driver_names
+pub by_number_is : (layout : Layout) → IsReading (archive_schema layout) by_number_text 1 (column_is 0) six_shown [] driver_names
 unfolding understood everything
-by_number_is = record { meant = refl; unlisted = refl; plain = (refl, refl) }
+by_number_is Made = record { meant = refl; unlisted = refl; plain = (refl, refl) }
+by_number_is Carried = record { meant = refl; unlisted = refl; plain = (refl, refl) }
 
 -- a reading of all
-pub drivers_is : IsReading drivers_text 1 [] six_shown by_driver driver_names
+pub drivers_is : (layout : Layout) → IsReading (archive_schema layout) drivers_text 1 [] six_shown by_driver driver_names
 unfolding understood everything
-drivers_is = record { meant = refl; unlisted = refl; plain = (refl, refl) }
+drivers_is Made = record { meant = refl; unlisted = refl; plain = (refl, refl) }
+drivers_is Carried = record { meant = refl; unlisted = refl; plain = (refl, refl) }
 
 -- a reading by key
-pub by_secret_is : IsReading by_secret_text 1 (column_is 3) (col 1 0 ∷ []) [] (codes "driver" ∷ [])
+pub by_secret_is : (layout : Layout)
+    → IsReading (archive_schema layout) by_secret_text 1 (column_is 3) (col 1 0 ∷ []) [] (codes "driver" ∷ [])
 unfolding understood everything
-by_secret_is = record { meant = refl; unlisted = refl; plain = (refl, refl) }
+by_secret_is Made = record { meant = refl; unlisted = refl; plain = (refl, refl) }
+by_secret_is Carried = record { meant = refl; unlisted = refl; plain = (refl, refl) }
 
 -- a reading by holder
-pub by_holder_is : IsReading by_holder_text 1 (column_is 2) (col 1 0 ∷ []) [] (codes "driver" ∷ [])
+pub by_holder_is : (layout : Layout)
+    → IsReading (archive_schema layout) by_holder_text 1 (column_is 2) (col 1 0 ∷ []) [] (codes "driver" ∷ [])
 unfolding understood everything
-by_holder_is = record { meant = refl; unlisted = refl; plain = (refl, refl) }
+by_holder_is Made = record { meant = refl; unlisted = refl; plain = (refl, refl) }
+by_holder_is Carried = record { meant = refl; unlisted = refl; plain = (refl, refl) }
 
 -- a change of the base
-pub base_is : IsStatement base_text (Update 1 (record { lets = []; body = simple 1 (column_is 0) with_base_shown [] }))
+pub base_is : (layout : Layout)
+    → IsStatement (archive_schema layout) base_text (Update 1 (record { lets = []; body = simple 1 (column_is 0) with_base_shown [] }))
 unfolding understood everything
-base_is = record { meant = refl; plain = (refl, refl) }
+base_is Made = record { meant = refl; plain = (refl, refl) }
+base_is Carried = record { meant = refl; plain = (refl, refl) }
 
 -- a change of the count
-pub count_is : IsStatement count_text (Update 1 (record { lets = []; body = simple 1 (column_is 0) with_count_shown [] }))
+pub count_is : (layout : Layout)
+    → IsStatement (archive_schema layout) count_text (Update 1 (record { lets = []; body = simple 1 (column_is 0) with_count_shown [] }))
 unfolding understood everything
-count_is = record { meant = refl; plain = (refl, refl) }
+count_is Made = record { meant = refl; plain = (refl, refl) }
+count_is Carried = record { meant = refl; plain = (refl, refl) }
 
 -- how many numbers were given out to entries
 abbrev pub with_entry_count_shown : List Term
@@ -261,54 +291,64 @@ abbrev pub entry_count_text : List ℕ
 entry_count_text = codes "UPDATE drivers SET entries = ?2 WHERE driver = ?1"
 
 -- what it means
-pub entry_count_is : IsStatement entry_count_text (Update 1 (record { lets = []; body = simple 1 (column_is 0) with_entry_count_shown [] }))
+pub entry_count_is : (layout : Layout)
+    → IsStatement (archive_schema layout) entry_count_text
+    (Update 1 (record { lets = []; body = simple 1 (column_is 0) with_entry_count_shown [] }))
 unfolding understood everything
-entry_count_is = record { meant = refl; plain = (refl, refl) }
+entry_count_is Made = record { meant = refl; plain = (refl, refl) }
+entry_count_is Carried = record { meant = refl; plain = (refl, refl) }
 
 -- ---- entries
 
--- an entry of five columns, whose row's number the store gives, and which isn't withdrawn
+-- an entry of seven parameters, whose row's number the store gives, and which isn't withdrawn
 abbrev pub new_entry : List Term
-new_entry = lit Null ∷ col 0 0 ∷ col 0 1 ∷ col 0 2 ∷ col 0 3 ∷ col 0 4 ∷ lit (Int (pos 0)) ∷ []
+new_entry = lit Null ∷ col 0 0 ∷ col 0 1 ∷ col 0 2 ∷ col 0 3 ∷ col 0 4 ∷ lit (Int (pos 0)) ∷ col 0 5 ∷ col 0 6 ∷ []
 
 -- the text that adds an entry
 abbrev pub entry_insert_text : List ℕ
-entry_insert_text = codes "INSERT INTO entries (driver, number, start, past, mark, withdrawn) VALUES (?1, ?2, ?3, ?4, ?5, 0)"
+entry_insert_text =
+    codes "INSERT INTO entry_rows (driver, number, start, past, mark, withdrawn, author, note) VALUES (?1, ?2, ?3, ?4, ?5, 0, ?6, ?7)"
 
 -- what it means
-pub entry_insert_is : IsStatement entry_insert_text (Insert 4 (Values new_entry 7))
+pub entry_insert_is : (layout : Layout)
+    → IsStatement (archive_schema layout) entry_insert_text (Insert (entry_place layout) (Values new_entry 9))
 unfolding understood everything
-entry_insert_is = record { meant = refl; plain = (refl, refl) }
+entry_insert_is Made = record { meant = refl; plain = (refl, refl) }
+entry_insert_is Carried = record { meant = refl; plain = (refl, refl) }
 
 -- the old number, the new number and the new columns of an entry that is withdrawn
 abbrev pub withdrawn_shown : List Term
-withdrawn_shown = col 1 0 ∷ col 1 0 ∷ col 1 1 ∷ col 1 2 ∷ col 1 3 ∷ col 1 4 ∷ col 1 5 ∷ lit (Int (pos 1)) ∷ []
+withdrawn_shown = col 1 0 ∷ col 1 0 ∷ col 1 1 ∷ col 1 2 ∷ col 1 3 ∷ col 1 4 ∷ col 1 5 ∷ lit (Int (pos 1)) ∷ col 1 7 ∷ col 1 8 ∷ []
 
 -- the text that marks it
 abbrev pub withdraw_text : List ℕ
-withdraw_text = codes "UPDATE entries SET withdrawn = 1 WHERE driver = ?1 AND number = ?2"
+withdraw_text = codes "UPDATE entry_rows SET withdrawn = 1 WHERE driver = ?1 AND number = ?2"
 
 -- what it means
-pub withdraw_is : IsStatement withdraw_text (Update 4 (record { lets = []; body = simple 8 numbered withdrawn_shown [] }))
+pub withdraw_is : (layout : Layout)
+    → IsStatement (archive_schema layout) withdraw_text
+    (Update (entry_place layout) (record { lets = []; body = simple (entry_tree layout) numbered withdrawn_shown [] }))
 unfolding understood everything
-withdraw_is = record { meant = refl; plain = (refl, refl) }
+withdraw_is Made = record { meant = refl; plain = (refl, refl) }
+withdraw_is Carried = record { meant = refl; plain = (refl, refl) }
 
--- number, start, past, mark and whether it was withdrawn
-abbrev pub five_shown : List Term
-five_shown = col 1 2 ∷ col 1 3 ∷ col 1 4 ∷ col 1 5 ∷ col 1 6 ∷ []
+-- number, start, past, mark, whether it was withdrawn, author and note
+abbrev pub seven_shown : List Term
+seven_shown = col 1 2 ∷ col 1 3 ∷ col 1 4 ∷ col 1 5 ∷ col 1 6 ∷ col 1 7 ∷ col 1 8 ∷ []
 
 -- their names
 abbrev pub entry_names : List (List ℕ)
-entry_names = codes "number" ∷ codes "start" ∷ codes "past" ∷ codes "mark" ∷ codes "withdrawn" ∷ []
+entry_names = codes "number" ∷ codes "start" ∷ codes "past" ∷ codes "mark" ∷ codes "withdrawn" ∷ codes "author" ∷ codes "note" ∷ []
 
 -- the text that reads the entry with a number
 abbrev pub entry_text : List ℕ
-entry_text = codes "SELECT number, start, past, mark, withdrawn FROM entries WHERE driver = ?1 AND number = ?2"
+entry_text = codes "SELECT number, start, past, mark, withdrawn, author, note FROM entry_rows WHERE driver = ?1 AND number = ?2"
 
 -- what it means
-pub entry_is : IsReading entry_text 8 numbered five_shown [] entry_names
+pub entry_is : (layout : Layout) → IsReading (archive_schema layout) entry_text (entry_tree layout) numbered seven_shown [] entry_names
 unfolding understood everything
-entry_is = record { meant = refl; unlisted = refl; plain = (refl, refl) }
+entry_is Made = record { meant = refl; unlisted = refl; plain = (refl, refl) }
+entry_is Carried = record { meant = refl; unlisted = refl; plain = (refl, refl) }
 
 -- the smaller number first
 abbrev pub by_number : List (Term × Key)
@@ -316,12 +356,14 @@ by_number = (col 1 2, record { collation = Binary; descending = false }) ∷ []
 
 -- the text that reads all entries of a driver
 abbrev pub entries_text : List ℕ
-entries_text = codes "SELECT number, start, past, mark, withdrawn FROM entries WHERE driver = ?1 ORDER BY number"
+entries_text = codes "SELECT number, start, past, mark, withdrawn, author, note FROM entry_rows WHERE driver = ?1 ORDER BY number"
 
 -- what it means
-pub entries_is : IsReading entries_text 8 own five_shown by_number entry_names
+pub entries_is : (layout : Layout)
+    → IsReading (archive_schema layout) entries_text (entry_tree layout) own seven_shown by_number entry_names
 unfolding understood everything
-entries_is = record { meant = refl; unlisted = refl; plain = (refl, refl) }
+entries_is Made = record { meant = refl; unlisted = refl; plain = (refl, refl) }
+entries_is Carried = record { meant = refl; unlisted = refl; plain = (refl, refl) }
 
 -- an entry of driver ?1 that isn't withdrawn and has a minute from ?2 to before ?3
 abbrev pub kept_near : List Term
@@ -338,9 +380,12 @@ by_entry_start = (col 1 3, record { collation = Binary; descending = false }) �
 
 -- the text that reads the spans of entries near a range
 abbrev pub kept_near_text : List ℕ
-kept_near_text = codes "SELECT start, past, mark FROM entries WHERE driver = ?1 AND withdrawn = 0 AND start < ?3 AND ?2 < past ORDER BY start"
+kept_near_text =
+    codes "SELECT start, past, mark FROM entry_rows WHERE driver = ?1 AND withdrawn = 0 AND start < ?3 AND ?2 < past ORDER BY start"
 
 -- what it means
-pub kept_near_is : IsReading kept_near_text 8 kept_near entry_span_shown by_entry_start span_names
+pub kept_near_is : (layout : Layout)
+    → IsReading (archive_schema layout) kept_near_text (entry_tree layout) kept_near entry_span_shown by_entry_start span_names
 unfolding understood everything
-kept_near_is = record { meant = refl; unlisted = refl; plain = (refl, refl) }
+kept_near_is Made = record { meant = refl; unlisted = refl; plain = (refl, refl) }
+kept_near_is Carried = record { meant = refl; unlisted = refl; plain = (refl, refl) }

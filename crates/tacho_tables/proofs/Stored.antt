@@ -52,7 +52,7 @@ same_id a b h = int_eq_same a b (sym (ap is_eq (value_cmp-Int a b)) ∙ h)
     int_eq_same a b h = grind (arith, ints)
 
 -- a number ties with itself
-own_id : (a : ℤ) → is_eq (value_cmp (Int a) (Int a)) ≡ true
+pub own_id : (a : ℤ) → is_eq (value_cmp (Int a) (Int a)) ≡ true
 own_id a = ap is_eq (value_cmp-Int a a) ∙ ap is_eq (tied_itself int_cmp_total a)
 
 -- ---- the edits of rows that stand for a list

@@ -6,13 +6,14 @@ use Rattle.std.proofs.lemmas.Bool.{and_parts, not-true}
 use Rattle.std.proofs.lemmas.List.{map-append}
 use Rattle.std.proofs.lemmas.List.Sorted.{IsPermutation-sym, IsPermutation-trans, IsPermutation-middle, IsPermutation-map, IsPermutation-append_left, IsPermutation-filter_both}
 use Rattle.sqlite_value.specs.declared.value.Value.{Value}
-use Rattle.sqlite_value.specs.declared.value.Value.TheVariants.{Int}
+use Rattle.sqlite_value.specs.declared.value.Value.TheVariants.{Null, Int}
 use Rattle.sqlite_value.specs.Order.{Row}
 use Rattle.sqlite_trees.specs.Tree.{rowid, put_row}
 use Rattle.sqlite_trees.proofs.ListLemmas.{map-map, all-permutation}
 use Rattle.sqlite_rules.specs.Calls.{ids_of}
 use Rattle.sqlite_rules.specs.Lists.{Has}
-use Rattle.sqlite_rules.specs.Edit.{without_all, put_all, are_fresh}
+use Rattle.sqlite_rules.specs.Edit.{next_rowid, numbered, without_all, put_all, are_fresh}
+use Rattle.sqlite_rules.specs.declared.error.Rowids.TheVariants.{Chosen}
 use Rattle.sqlite_rules.proofs.ListLemmas.{all_from, has_filtered}
 use Rattle.tacho_tables.specs.Rows.{AreRowsOf}
 use Rattle.tacho_tables.proofs.Stored.{stands_put, stands_shuffled, stands_left, shown_of, map_same}
@@ -34,6 +35,17 @@ module _ {X : Type 0} (columns : X → Row) where
       let parts = and_parts _ _ fresh in
       let later = stands_put_all ps (put_row (as_row p) rows) (p.1 ∷ all) (stands_put columns rows all p.0 p.1 s (not-true _ parts.0)) parts.1 in
       stands_shuffled columns _ _ _ later (IsPermutation-map columns _ _ (IsPermutation-sym _ _ (IsPermutation-middle (map (λ (p : ℤ × X). p.1) ps) p.1 all)))
+
+  -- so are values whose numbers the store chooses
+  pub stands_chosen : (xs : List X) (rows : List Row) (all : List X) → AreRowsOf columns rows all
+      → are_fresh rows (numbered Chosen rows (map (λ x. Null ∷ columns x) xs)) ≡ true
+      → AreRowsOf columns (put_all rows (numbered Chosen rows (map (λ x. Null ∷ columns x) xs))) (xs ++ all)
+  stands_chosen [] rows all s fresh = s
+  stands_chosen (x ∷ xs) rows all s fresh =
+      let parts = and_parts _ _ fresh in
+      let put = stands_put columns rows all (next_rowid rows) x s (not-true _ parts.0) in
+      let later = stands_chosen xs (put_row (Int (next_rowid rows) ∷ columns x) rows) (x ∷ all) put parts.1 in
+      stands_shuffled columns _ _ _ later (IsPermutation-map columns _ _ (IsPermutation-sym _ _ (IsPermutation-middle xs x all)))
 
   -- such rows, as numbers and values
   pairs_of : (rows : List Row) → AllByRecursion IsStored rows → (pairs : List (ℤ × X)) × (rows ≡ map as_row pairs)

@@ -1,5 +1,5 @@
--- Private to tacho_tables: How a table is made.
-use Rattle.std.specs.Prelude.{◌≡◌, ℕ, List, [], Option, Some, None, false, Ok, IsTrue}
+-- Trusted in part: The tables of which version there are; how a table is made, and how the entries of schema 1 are copied.
+use Rattle.std.specs.Prelude.{◌≡◌, ◌⊎◌, ℕ, List, [], Option, Some, None, false, Ok, IsTrue, map}
 use Rattle.std.specs.List.{AllByRecursion}
 use Rattle.sqlite.specs.Schema.{Schema}
 use Rattle.sqlite.specs.Table.{Table}
@@ -11,7 +11,10 @@ use Rattle.sqlite.specs.Command.TheVariants.{CreateTable}
 use Rattle.sqlite.specs.Compile.{table_defined_by}
 use Rattle.sqlite.specs.Change.{created, next_tree, KeepsRows}
 use Rattle.sqlite.specs.Given.{IsPlain}
-use Rattle.tacho_tables.specs.Schema.{meta_rows}
+use Rattle.sqlite.specs.Effect.{Database}
+use Rattle.sqlite_catalog.specs.Listing.{IsSound}
+use Rattle.tacho_tables.specs.Schema.{Layout, Carried, archive_schema, old_schema, entry_tree, meta_rows, old_entry_tree}
+use Rattle.tacho_tables.specs.Rows.{AreRowsOf, OldEntryRow, by_office, entry_columns, old_entry_columns}
 use Rattle.tacho_tables.specs.Tables.{IsVersion}
 use Rattle.sqlite.proofs.Callers.{command_of, statement_of}
 
@@ -31,9 +34,22 @@ pub record HasMade (schema : Schema) (table : Table) (old new : State) : Type 0 
   pub empty : new.now.trees (next_tree schema) ≡ []
   pub others : KeepsRows schema.tables old.now.trees new.now.trees
 
+-- each entry of schema 1 has a row in `entry_rows`, as one of the office without a note, and the other tables are as they were
+pub record Copies (old new : Database) : Type 0 where
+  pub schema : new.schema ≡ archive_schema Carried
+  pub sound : IsSound (archive_schema Carried) new.trees
+  pub others : KeepsRows old_schema.tables old.trees new.trees
+  pub copied : old.trees (entry_tree Carried) ≡ [] → (entries : List OldEntryRow)
+      → AreRowsOf old_entry_columns (old.trees old_entry_tree) entries
+      → AreRowsOf entry_columns (new.trees (entry_tree Carried)) (map by_office entries)
+
 -- these tables have no rows
 abbrev pub AreEmpty : List ℕ → Trees → Type 0
 AreEmpty trees db = AllByRecursion (λ t. db t ≡ []) trees
+
+-- the tables are of schema 1 or of schema 2
+abbrev pub IsVersioned : Database → Type 0
+IsVersioned d = (d.schema ≡ old_schema) ⊎ ((layout : Layout) × (d.schema ≡ archive_schema layout))
 
 -- the version that the row of `meta` says, or none where there is no row
 pub record TellsVersion (db : Trees) (found : Option ℕ) : Type 0 where

@@ -1,5 +1,5 @@
 -- Trusted: The rows of the archive's tables as values of types, and when stored rows stand for a list of them.
-use Rattle.std.specs.Prelude.{◌≡◌, ℕ, ℤ, pos, List, [], ◌∷◌, map, drop, IsPermutation}
+use Rattle.std.specs.Prelude.{◌≡◌, ℕ, ℤ, pos, List, [], ◌∷◌, codes, map, drop, IsPermutation}
 use Rattle.sqlite.specs.declared.types.Value.TheVariants.{Null, Int, Text, Blob}
 use Rattle.sqlite.specs.Order.{Row}
 use Rattle.sqlite.specs.Tree.{rowid}
@@ -33,7 +33,7 @@ pub record DownloadRow : Type 0 where
 abbrev pub download_columns : DownloadRow → Row
 download_columns r = Int (pos r.driver) ∷ Int (pos r.number) ∷ Int (pos r.part) ∷ Blob r.file ∷ []
 
--- hours of a driver that were entered by hand, their number among his, and 1 where they were withdrawn
+-- hours of a driver that were entered by hand, their number among his, 1 where they were withdrawn, who said so, and why
 pub record EntryRow : Type 0 where
   pub driver : ℕ
   pub number : ℕ
@@ -41,9 +41,30 @@ pub record EntryRow : Type 0 where
   pub past : ℕ
   pub mark : ℕ
   pub withdrawn : ℕ
+  pub author : List ℕ
+  pub note : List ℕ
 
 abbrev pub entry_columns : EntryRow → Row
-entry_columns r = Int (pos r.driver) ∷ Int (pos r.number) ∷ Int (pos r.start) ∷ Int (pos r.past) ∷ Int (pos r.mark) ∷ Int (pos r.withdrawn) ∷ []
+entry_columns r = Int (pos r.driver) ∷ Int (pos r.number) ∷ Int (pos r.start) ∷ Int (pos r.past) ∷ Int (pos r.mark) ∷ Int (pos r.withdrawn)
+    ∷ Text r.author ∷ Text r.note ∷ []
+
+-- the same in schema 1
+pub record OldEntryRow : Type 0 where
+  pub driver : ℕ
+  pub number : ℕ
+  pub start : ℕ
+  pub past : ℕ
+  pub mark : ℕ
+  pub withdrawn : ℕ
+
+abbrev pub old_entry_columns : OldEntryRow → Row
+old_entry_columns r = Int (pos r.driver) ∷ Int (pos r.number) ∷ Int (pos r.start) ∷ Int (pos r.past) ∷ Int (pos r.mark)
+    ∷ Int (pos r.withdrawn) ∷ []
+
+-- and in schema 2, where the office had entered it and said nothing
+abbrev pub by_office : OldEntryRow → EntryRow
+by_office r =
+    record { driver = r.driver; number = r.number; start = r.start; past = r.past; mark = r.mark; withdrawn = r.withdrawn; author = codes "office"; note = [] }
 
 -- ---- drivers, whose number is the row's own
 

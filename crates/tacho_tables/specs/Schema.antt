@@ -1,4 +1,5 @@
--- Trusted in part: Schema 1 of the archive: six tables, in the order in which they are made, and the texts that make them.
+-- Trusted in part: The schemas of the archive, and the texts that make their tables. Schema 2 has six tables. Schema 1 had `entries` in
+-- the place of `entry_rows`. An archive that was carried over has both.
 use Rattle.std.specs.Prelude.{true, false, [], ◌∷◌, Some, None, codes, List, ℕ, pos}
 use Rattle.sqlite.specs.Collation.TheVariants.{Binary}
 use Rattle.sqlite.specs.declared.types.Value.TheVariants.{Null, Int}
@@ -96,7 +97,25 @@ spans name = record {
   is_counted = false;
 }
 
--- the hours that were entered by hand
+-- the hours that were entered by hand, who said so, and why
+abbrev pub entry_rows : Table
+entry_rows = record {
+  name = codes "entry_rows";
+  tree = 0;
+  columns = need (codes "driver") Integer ∷ need (codes "number") Integer ∷ need (codes "start") Integer ∷ need (codes "past") Integer ∷ need (codes "mark") Integer ∷ need (codes "withdrawn") Integer
+      ∷ need (codes "author") Text ∷ need (codes "note") Text ∷ [];
+  key = None;
+  primary = 1 ∷ 2 ∷ [];
+  uniques = (1 ∷ 2 ∷ []) ∷ [];
+  orders = plain ∷ [];
+  checks = op2 Or (op2 (Compare Eq Binary) (col 1 6) (lit (Int (pos 0)))) (op2 (Compare Eq Binary) (col 1 6) (lit (Int (pos 1)))) ∷ [];
+  references = to_driver ∷ [];
+  computed = [];
+  stamps = record { places = []; terms = []; formats = [] };
+  is_counted = false;
+}
+
+-- the hours of schema 1, of which nobody said who had entered them
 abbrev pub entries : Table
 entries = record {
   name = codes "entries";
@@ -117,25 +136,33 @@ entries = record {
 abbrev pub no_schema : Schema
 no_schema = record { tables = []; indexes = []; views = [] }
 
--- the schema after each of the tables was made
-abbrev pub schema_1 : Schema
-schema_1 = created no_schema meta
+-- the schema after each of the first four tables was made
+abbrev pub with_meta : Schema
+with_meta = created no_schema meta
 
-abbrev pub schema_2 : Schema
-schema_2 = created schema_1 drivers
+abbrev pub with_drivers : Schema
+with_drivers = created with_meta drivers
 
-abbrev pub schema_3 : Schema
-schema_3 = created schema_2 downloads
+abbrev pub with_downloads : Schema
+with_downloads = created with_drivers downloads
 
-abbrev pub schema_4 : Schema
-schema_4 = created schema_3 (spans (codes "card_spans"))
+abbrev pub with_card_spans : Schema
+with_card_spans = created with_downloads (spans (codes "card_spans"))
 
-abbrev pub schema_5 : Schema
-schema_5 = created schema_4 entries
+-- schema 1
+abbrev pub old_schema : Schema
+old_schema = created (created with_card_spans entries) (spans (codes "held"))
+
+-- how an archive of schema 2 came to be: it was made so, or carried over from schema 1, of which an empty table `entries` is left,
+-- which means nothing
+pub data Layout : Type 0 where
+  Made : Layout
+  Carried : Layout
 
 -- the schema of an archive
-abbrev pub archive_schema : Schema
-archive_schema = created schema_5 (spans (codes "held"))
+abbrev pub archive_schema : Layout → Schema
+archive_schema Made = created (created with_card_spans entry_rows) (spans (codes "held"))
+archive_schema Carried = created old_schema entry_rows
 
 -- the numbers by which the store knows the rows of each table; an index has one too
 abbrev pub meta_rows : ℕ
@@ -150,11 +177,16 @@ download_rows = 4
 abbrev pub card_span_rows : ℕ
 card_span_rows = 6
 
-abbrev pub entry_rows : ℕ
-entry_rows = 8
-
 abbrev pub held_rows : ℕ
 held_rows = 10
+
+abbrev pub entry_tree : Layout → ℕ
+entry_tree Made = 8
+entry_tree Carried = 12
+
+-- and those of `entries`
+abbrev pub old_entry_tree : ℕ
+old_entry_tree = 8
 
 -- the texts that make the tables
 abbrev pub meta_text : List ℕ
@@ -169,6 +201,10 @@ downloads_text = codes "CREATE TABLE downloads (driver INTEGER NOT NULL REFERENC
 abbrev pub card_spans_text : List ℕ
 card_spans_text = codes "CREATE TABLE card_spans (driver INTEGER NOT NULL REFERENCES drivers(driver), start INTEGER NOT NULL, past INTEGER NOT NULL, mark INTEGER NOT NULL, PRIMARY KEY (driver, start)) STRICT"
 
+abbrev pub entry_rows_text : List ℕ
+entry_rows_text = codes "CREATE TABLE entry_rows (driver INTEGER NOT NULL REFERENCES drivers(driver), number INTEGER NOT NULL, start INTEGER NOT NULL, past INTEGER NOT NULL, mark INTEGER NOT NULL, withdrawn INTEGER NOT NULL CHECK (withdrawn IN (0, 1)), author TEXT NOT NULL, note TEXT NOT NULL, PRIMARY KEY (driver, number)) STRICT"
+
+-- that of schema 1
 abbrev pub entries_text : List ℕ
 entries_text = codes "CREATE TABLE entries (driver INTEGER NOT NULL REFERENCES drivers(driver), number INTEGER NOT NULL, start INTEGER NOT NULL, past INTEGER NOT NULL, mark INTEGER NOT NULL, withdrawn INTEGER NOT NULL CHECK (withdrawn IN (0, 1)), PRIMARY KEY (driver, number)) STRICT"
 

@@ -1,17 +1,19 @@
 -- Trusted in part: The six tables as lists of typed rows, and what a call within a transaction makes of them.
-use Rattle.std.specs.Prelude.{◌≡◌, ℕ, ◌+◌, ◌≤◌, pos, Bool, ◌&&◌, ◌==◌, nat_lt, nat_le, Contains, All, if◌then◌else◌, List, [], ◌∷◌, bytes_eq, map, IsPermutation, IsSorted, string_bytes}
+use Rattle.std.specs.Prelude.{◌≡◌, ℕ, ◌≤◌, pos, Bool, ◌&&◌, ◌==◌, nat_lt, nat_le, Contains, All, if◌then◌else◌, List, [], ◌∷◌}
+use Rattle.std.specs.Prelude.{bytes_eq, map, IsPermutation, IsSorted, string_bytes}
 use Rattle.std.specs.Ordering.{nat_cmp}
 use Rattle.sqlite.specs.declared.types.Value.TheVariants.{Null, Int, Text, Blob}
 use Rattle.sqlite.specs.Order.{Row}
 use Rattle.sqlite.specs.Tree.{Trees}
+use Rattle.sqlite.specs.Effect.{Database}
 use Rattle.sqlite.specs.State.{State}
 use Rattle.sqlite_catalog.specs.Listing.{IsSound}
 use Rattle.tacho_tables.specs.declared.rows.StoredSpan.{StoredSpan}
 use Rattle.tacho_tables.specs.declared.rows.StoredDriver.{StoredDriver}
 use Rattle.tacho_tables.specs.declared.rows.StoredEntry.{StoredEntry}
-use Rattle.tacho_tables.specs.Schema.{archive_schema}
+use Rattle.tacho_tables.specs.Schema.{Layout, archive_schema, old_schema, entry_tree, old_entry_tree}
 use Rattle.tacho_tables.specs.Schema as tree
-use Rattle.tacho_tables.specs.Rows.{AreRowsOf, SpanRow, span_columns, DownloadRow, download_columns, EntryRow, entry_columns, DriverRow, AreNumberedRowsOf}
+use Rattle.tacho_tables.specs.Rows.{AreRowsOf, SpanRow, span_columns, DownloadRow, download_columns, EntryRow, entry_columns, OldEntryRow, old_entry_columns, by_office, DriverRow, AreNumberedRowsOf}
 
 pub record Tables : Type 0 where
   pub drivers : List DriverRow
@@ -20,23 +22,67 @@ pub record Tables : Type 0 where
   pub entries : List EntryRow
   pub held : List SpanRow
 
+-- the database of a connection has the tables of schema 2
+pub record IsArchive (d : Database) : Type 0 where
+  pub layout : Layout
+  pub schema : d.schema ≡ archive_schema layout
+  pub sound : IsSound (archive_schema layout) d.trees
+
 -- the one row of `meta` says that the tables are of this schema
 abbrev pub IsVersion : ℕ → Trees → Type 0
 IsVersion version db = db tree.meta_rows ≡ (Int (pos 1) ∷ Null ∷ Int (pos version) ∷ []) ∷ []
 
 -- what is stored is an archive's database, and stands for these lists; their order means nothing
 pub record HasTables (db : Trees) (a : Tables) : Type 0 where
-  pub sound : IsSound archive_schema db
+  pub layout : Layout
+  pub sound : IsSound (archive_schema layout) db
+  pub meta : IsVersion 2 db
+  pub drivers : AreNumberedRowsOf (db tree.driver_rows) a.drivers
+  pub downloads : AreRowsOf download_columns (db tree.download_rows) a.downloads
+  pub card_spans : AreRowsOf span_columns (db tree.card_span_rows) a.card_spans
+  pub entries : AreRowsOf entry_columns (db (entry_tree layout)) a.entries
+  pub held : AreRowsOf span_columns (db tree.held_rows) a.held
+
+-- ---- schema 1
+
+pub record OldTables : Type 0 where
+  pub drivers : List DriverRow
+  pub downloads : List DownloadRow
+  pub card_spans : List SpanRow
+  pub entries : List OldEntryRow
+  pub held : List SpanRow
+
+-- what is stored is a database of schema 1, and stands for these lists
+pub record HasOldTables (db : Trees) (a : OldTables) : Type 0 where
+  pub sound : IsSound old_schema db
   pub meta : IsVersion 1 db
   pub drivers : AreNumberedRowsOf (db tree.driver_rows) a.drivers
   pub downloads : AreRowsOf download_columns (db tree.download_rows) a.downloads
   pub card_spans : AreRowsOf span_columns (db tree.card_span_rows) a.card_spans
-  pub entries : AreRowsOf entry_columns (db tree.entry_rows) a.entries
+  pub entries : AreRowsOf old_entry_columns (db old_entry_tree) a.entries
   pub held : AreRowsOf span_columns (db tree.held_rows) a.held
+
+-- the same in schema 2: each entry is one of the office, without a note
+abbrev pub carried : OldTables → Tables
+carried a = record {
+  drivers = a.drivers;
+  downloads = a.downloads;
+  card_spans = a.card_spans;
+  entries = map by_office a.entries;
+  held = a.held;
+}
+
+-- ---- steps
+
+-- tables of schema 1 became such of schema 2, and `entries` has no rows
+pub record Carries (old new : Database) : Type 0 where
+  pub schema : IsArchive new
+  pub stands : (a : OldTables) → HasOldTables old.trees a → HasTables new.trees (carried a)
+  pub emptied : (a : OldTables) → HasOldTables old.trees a → new.trees old_entry_tree ≡ []
 
 -- a step that makes of what stands for some lists what stands for others
 pub record Turns (old new : State) (step : Tables → Tables) : Type 0 where
-  pub schema : new.now.schema ≡ archive_schema
+  pub schema : IsArchive new.now
   pub stands : (a : Tables) → HasTables old.now.trees a → HasTables new.now.trees (step a)
 
 -- a row of the driver that has a minute in the range
@@ -81,7 +127,8 @@ abbrev pub driver_shown : DriverRow → Row
 driver_shown r = Int (pos r.driver) ∷ Blob r.holder ∷ Int (pos r.base) ∷ Text r.name ∷ Int (pos r.downloads) ∷ Int (pos r.entries) ∷ []
 
 abbrev pub entry_shown : EntryRow → Row
-entry_shown r = Int (pos r.number) ∷ Int (pos r.start) ∷ Int (pos r.past) ∷ Int (pos r.mark) ∷ Int (pos r.withdrawn) ∷ []
+entry_shown r = Int (pos r.number) ∷ Int (pos r.start) ∷ Int (pos r.past) ∷ Int (pos r.mark) ∷ Int (pos r.withdrawn)
+    ∷ Text r.author ∷ Text r.note ∷ []
 
 abbrev pub file_shown : DownloadRow → Row
 file_shown r = Blob r.file ∷ []
@@ -100,21 +147,40 @@ is_entry_of driver r = r.driver == driver
 abbrev pub is_kept_near : ℕ → ℕ → ℕ → EntryRow → Bool
 is_kept_near driver start past r = (r.driver == driver) && ((r.withdrawn == 0) && (nat_lt r.start past && nat_lt start r.past))
 
--- an entry as it is read, and the span of it
-abbrev pub entry_of : EntryRow → StoredEntry
-entry_of r = record { number = r.number; start = r.start; past = r.past; mark = r.mark; withdrawn = r.withdrawn }
+-- an entry as it is read: all of its row but the driver
+pub record ListedEntry : Type 0 where
+  pub number : ℕ
+  pub start : ℕ
+  pub past : ℕ
+  pub mark : ℕ
+  pub withdrawn : ℕ
+  pub author : List ℕ
+  pub note : List ℕ
+
+abbrev pub listed_entry : EntryRow → ListedEntry
+listed_entry r =
+    record { number = r.number; start = r.start; past = r.past; mark = r.mark; withdrawn = r.withdrawn; author = r.author; note = r.note }
+
+abbrev pub told_entry : StoredEntry → ListedEntry
+told_entry e = record {
+  number = e.number;
+  start = e.start;
+  past = e.past;
+  mark = e.mark;
+  withdrawn = e.withdrawn;
+  author = string_bytes e.author;
+  note = string_bytes e.note;
+}
+
+-- and the span of it
 
 abbrev pub entry_span_of : EntryRow → StoredSpan
 entry_span_of r = record { start = r.start; past = r.past; mark = r.mark }
 
--- a driver's new entry with this number
-abbrev pub entered_row : ℕ → ℕ → StoredSpan → EntryRow
-entered_row driver number s = record { driver = driver; number = number; start = s.start; past = s.past; mark = s.mark; withdrawn = 0 }
-
--- the entries of a batch, numbered from a number on
-abbrev pub entered_rows : ℕ → ℕ → List StoredSpan → List EntryRow
-entered_rows driver number [] = []
-entered_rows driver number (s ∷ spans) = entered_row driver number s ∷ entered_rows driver (number + 1) spans
+-- a driver's new entry with this number: its minutes, who says so, and why
+abbrev pub entered_row : ℕ → ℕ → StoredSpan → List ℕ → List ℕ → EntryRow
+entered_row driver number s author note =
+    record { driver = driver; number = number; start = s.start; past = s.past; mark = s.mark; withdrawn = 0; author = author; note = note }
 
 -- tests of drivers: by number, by key, by holder
 abbrev pub has_number : ℕ → DriverRow → Bool

@@ -3,10 +3,10 @@
 ghost use Rattle.std.specs.Prelude.{◌≡◌, [], ◌∷◌, IfOk, OnOk, IsErr};
 ghost use Rattle.sqlite.specs.State.{HasCleanDisk, KeepsCommit};
 ghost use Rattle.sqlite.specs.Held.{state};
-ghost use Rattle.tacho_tables.specs.Schema.{no_schema, schema_3, archive_schema};
-ghost use Rattle.tacho_tables.specs.Calls.{Stays, Reads};
-ghost use Rattle.tacho_tables.specs.Making.{AreEmpty, IsCreate, HasMade, TellsVersion};
-ghost use Rattle.tacho_tables.specs.Tables.{HasTables, no_rows};
+ghost use Rattle.tacho_tables.specs.Schema.{Made, Carried, no_schema, with_downloads, archive_schema, old_schema, entry_rows, entry_rows_text};
+ghost use Rattle.tacho_tables.specs.Calls.{Stays, ReadsOf};
+ghost use Rattle.tacho_tables.specs.Making.{AreEmpty, Copies, IsCreate, HasMade, IsVersioned, TellsVersion};
+ghost use Rattle.tacho_tables.specs.Tables.{HasTables, IsArchive, Carries, no_rows};
 
 use crate::fault::TableFault;
 use crate::rows::first_number;
@@ -29,7 +29,7 @@ fn make_table<S: Alter>(tx: &mut Transaction<'_, S>, text: &str) -> Result<(), T
 fn make_first<S: Alter>(tx: &mut Transaction<'_, S>) -> Result<(), TableFault>
     ensures stays { Stays S.Store tx.old.conn tx.new.conn }
     ensures made { HasCleanDisk (state S.Store tx.new.conn.now) → (state S.Store tx.old.conn.now).now.schema ≡ no_schema
-        → OnOk result (((state S.Store tx.new.conn.now).now.schema ≡ schema_3)
+        → OnOk result (((state S.Store tx.new.conn.now).now.schema ≡ with_downloads)
         × AreEmpty (0 ∷ 1 ∷ 4 ∷ []) (state S.Store tx.new.conn.now).now.trees) }
     ensures keeps { HasCleanDisk (state S.Store tx.new.conn.now)
         → KeepsCommit (state S.Store tx.old.conn.now) (state S.Store tx.new.conn.now) }
@@ -48,13 +48,28 @@ fn make_first<S: Alter>(tx: &mut Transaction<'_, S>) -> Result<(), TableFault>
     )
 }
 
+/// Makes the table of the hours that are entered.
+fn make_entry_rows<S: Alter>(tx: &mut Transaction<'_, S>) -> Result<(), TableFault>
+    ensures stays { Stays S.Store tx.old.conn tx.new.conn }
+    ensures made { HasCleanDisk (state S.Store tx.new.conn.now) → (schema : _)
+        → (state S.Store tx.old.conn.now).now.schema ≡ schema → IsCreate schema entry_rows_text entry_rows
+        → OnOk result (HasMade schema entry_rows (state S.Store tx.old.conn.now) (state S.Store tx.new.conn.now)) }
+    ensures keeps { HasCleanDisk (state S.Store tx.new.conn.now)
+        → KeepsCommit (state S.Store tx.old.conn.now) (state S.Store tx.new.conn.now) }
+{
+    make_table(
+        tx,
+        "CREATE TABLE entry_rows (driver INTEGER NOT NULL REFERENCES drivers(driver), number INTEGER NOT NULL, start INTEGER NOT NULL, past INTEGER NOT NULL, mark INTEGER NOT NULL, withdrawn INTEGER NOT NULL CHECK (withdrawn IN (0, 1)), author TEXT NOT NULL, note TEXT NOT NULL, PRIMARY KEY (driver, number)) STRICT",
+    )
+}
+
 /// Makes the three other tables.
 fn make_rest<S: Alter>(tx: &mut Transaction<'_, S>) -> Result<(), TableFault>
     ensures stays { Stays S.Store tx.old.conn tx.new.conn }
     ensures made { HasCleanDisk (state S.Store tx.new.conn.now)
-        → (state S.Store tx.old.conn.now).now.schema ≡ schema_3
+        → (state S.Store tx.old.conn.now).now.schema ≡ with_downloads
         → AreEmpty (0 ∷ 1 ∷ 4 ∷ []) (state S.Store tx.old.conn.now).now.trees
-        → OnOk result (((state S.Store tx.new.conn.now).now.schema ≡ archive_schema)
+        → OnOk result (((state S.Store tx.new.conn.now).now.schema ≡ archive_schema Made)
         × AreEmpty (0 ∷ 1 ∷ 4 ∷ 6 ∷ 8 ∷ 10 ∷ []) (state S.Store tx.new.conn.now).now.trees) }
     ensures keeps { HasCleanDisk (state S.Store tx.new.conn.now)
         → KeepsCommit (state S.Store tx.old.conn.now) (state S.Store tx.new.conn.now) }
@@ -63,10 +78,7 @@ fn make_rest<S: Alter>(tx: &mut Transaction<'_, S>) -> Result<(), TableFault>
         tx,
         "CREATE TABLE card_spans (driver INTEGER NOT NULL REFERENCES drivers(driver), start INTEGER NOT NULL, past INTEGER NOT NULL, mark INTEGER NOT NULL, PRIMARY KEY (driver, start)) STRICT",
     )?;
-    make_table(
-        tx,
-        "CREATE TABLE entries (driver INTEGER NOT NULL REFERENCES drivers(driver), number INTEGER NOT NULL, start INTEGER NOT NULL, past INTEGER NOT NULL, mark INTEGER NOT NULL, withdrawn INTEGER NOT NULL CHECK (withdrawn IN (0, 1)), PRIMARY KEY (driver, number)) STRICT",
-    )?;
+    make_entry_rows(tx)?;
     make_table(
         tx,
         "CREATE TABLE held (driver INTEGER NOT NULL REFERENCES drivers(driver), start INTEGER NOT NULL, past INTEGER NOT NULL, mark INTEGER NOT NULL, PRIMARY KEY (driver, start)) STRICT",
@@ -77,22 +89,53 @@ fn make_rest<S: Alter>(tx: &mut Transaction<'_, S>) -> Result<(), TableFault>
 pub fn make_all<S: Alter>(tx: &mut Transaction<'_, S>) -> Result<(), TableFault>
     ensures stays { Stays S.Store tx.old.conn tx.new.conn }
     ensures made { HasCleanDisk (state S.Store tx.new.conn.now) → (state S.Store tx.old.conn.now).now.schema ≡ no_schema
-        → OnOk result (((state S.Store tx.new.conn.now).now.schema ≡ archive_schema)
+        → OnOk result (IsArchive (state S.Store tx.new.conn.now).now
         × HasTables (state S.Store tx.new.conn.now).now.trees no_rows) }
     ensures keeps { HasCleanDisk (state S.Store tx.new.conn.now)
         → KeepsCommit (state S.Store tx.old.conn.now) (state S.Store tx.new.conn.now) }
 {
     make_first(tx)?;
     make_rest(tx)?;
-    run(tx, "INSERT INTO meta (id, version) VALUES (1, 1)", &[])
+    run(tx, "INSERT INTO meta (id, version) VALUES (1, 2)", &[])
+}
+
+/// Copies each entry of schema 1.
+fn copy_entries<S: Alter>(tx: &mut Transaction<'_, S>) -> Result<(), TableFault>
+    ensures stays { Stays S.Store tx.old.conn tx.new.conn }
+    ensures copied { HasCleanDisk (state S.Store tx.new.conn.now)
+        → (state S.Store tx.old.conn.now).now.schema ≡ archive_schema Carried
+        → OnOk result (Copies (state S.Store tx.old.conn.now).now (state S.Store tx.new.conn.now).now) }
+    ensures keeps { HasCleanDisk (state S.Store tx.new.conn.now)
+        → KeepsCommit (state S.Store tx.old.conn.now) (state S.Store tx.new.conn.now) }
+{
+    run(
+        tx,
+        "INSERT INTO entry_rows (driver, number, start, past, mark, withdrawn, author, note) SELECT driver, number, start, past, mark, withdrawn, 'office', '' FROM entries",
+        &[],
+    )
+}
+
+/// Carries the tables of schema 1 over to schema 2: makes `entry_rows`, copies each entry there as one of the office without a
+/// note, removes it from `entries`, whose empty table stays, and says the version.
+pub fn carry<S: Alter>(tx: &mut Transaction<'_, S>) -> Result<(), TableFault>
+    ensures stays { Stays S.Store tx.old.conn tx.new.conn }
+    ensures carried { HasCleanDisk (state S.Store tx.new.conn.now) → (state S.Store tx.old.conn.now).now.schema ≡ old_schema
+        → OnOk result (Carries (state S.Store tx.old.conn.now).now (state S.Store tx.new.conn.now).now) }
+    ensures keeps { HasCleanDisk (state S.Store tx.new.conn.now)
+        → KeepsCommit (state S.Store tx.old.conn.now) (state S.Store tx.new.conn.now) }
+{
+    make_entry_rows(tx)?;
+    copy_entries(tx)?;
+    run(tx, "DELETE FROM entries", &[])?;
+    run(tx, "UPDATE meta SET version = 2 WHERE id = 1", &[])
 }
 
 /// The number of the schema that the tables are of, or none where its row is missing. A store without tables gives
 /// `TableFault::Store`.
 pub fn version<S: Alter>(tx: &mut Transaction<'_, S>) -> Result<Option<u32>, TableFault>
-    ensures reads { Reads S.Store tx.old.conn tx.new.conn result }
+    ensures reads { ReadsOf S.Store tx.old.conn tx.new.conn result IsVersioned }
     ensures found { HasCleanDisk (state S.Store tx.new.conn.now)
-        → (state S.Store tx.old.conn.now).now.schema ≡ archive_schema
+        → IsVersioned (state S.Store tx.old.conn.now).now
         → IfOk result (TellsVersion (state S.Store tx.old.conn.now).now.trees) }
     ensures missing { HasCleanDisk (state S.Store tx.new.conn.now)
         → (state S.Store tx.old.conn.now).now.schema ≡ no_schema → IsErr result }

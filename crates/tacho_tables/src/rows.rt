@@ -4,7 +4,7 @@ ghost use Rattle.sqlite.specs.State.{HasCleanDisk, IsUnchanged, Survives};
 ghost use Rattle.sqlite.specs.declared.types.Value.TheVariants.{Int};
 ghost use Rattle.sqlite.specs.Order.{Row as Values};
 ghost use Rattle.tacho_tables.specs.Rows.{SpanRow, DownloadRow, EntryRow, DriverRow};
-ghost use Rattle.tacho_tables.specs.Tables.{span_of, span_shown, entry_of, entry_shown, file_shown, driver_shown, listed_driver, told_driver};
+ghost use Rattle.tacho_tables.specs.Tables.{span_of, span_shown, told_entry, listed_entry, entry_shown, file_shown, driver_shown, listed_driver, told_driver};
 ghost use Rattle.tacho_tables.specs.Next.{Tells, GivesNext, IsAsked};
 
 use crate::fault::TableFault;
@@ -20,14 +20,16 @@ pub struct StoredSpan {
 }
 
 /// Hours that were entered by hand: their number among the driver's, minutes from `start` to before `past`, the number
-/// of the mark, and 1 where they were withdrawn, else 0.
-#[derive(Clone, Copy, Debug, PartialEq, Eq)]
+/// of the mark, 1 where they were withdrawn, else 0, who said so, and why.
+#[derive(Debug, Drop)]
 pub struct StoredEntry {
     pub number: u32,
     pub start: u32,
     pub past: u32,
     pub mark: u32,
     pub withdrawn: u32,
+    pub author: String,
+    pub note: String,
 }
 
 /// What is stored of a driver, but for his key.
@@ -165,9 +167,9 @@ pub(crate) fn stored_drivers(alloc: Global, rows: &[Row]) -> Result<Vec<StoredDr
     Ok(drivers)
 }
 
-/// The entry that a row of number, start, past, mark and withdrawn shows.
+/// The entry that a row of number, start, past, mark, withdrawn, author and note shows.
 fn stored_entry(row: &Row) -> Result<StoredEntry, TableFault>
-    ensures { IfOk result (λ e. (r : EntryRow) → row.now ≡ entry_shown r → e ≡ entry_of r) }
+    ensures { IfOk result (λ e. (r : EntryRow) → row.now ≡ entry_shown r → told_entry e ≡ listed_entry r) }
 {
     Ok(StoredEntry {
         number: row.get(0)?,
@@ -175,13 +177,15 @@ fn stored_entry(row: &Row) -> Result<StoredEntry, TableFault>
         past: row.get(2)?,
         mark: row.get(3)?,
         withdrawn: row.get(4)?,
+        author: row.get(5)?,
+        note: row.get(6)?,
     })
 }
 
 /// The entries that such rows show.
 pub(crate) fn stored_entries(alloc: Global, rows: &[Row]) -> Result<Vec<StoredEntry>, TableFault>
     ensures { IfOk result (λ entries. (shown : List EntryRow) → rows.now ≡ map entry_shown shown
-        → entries.items ≡ map entry_of shown) }
+        → map told_entry entries.items ≡ map listed_entry shown) }
 {
     let mut entries = Vec::new(alloc);
     for row in rows {
@@ -194,7 +198,7 @@ pub(crate) fn stored_entries(alloc: Global, rows: &[Row]) -> Result<Vec<StoredEn
 pub(crate) fn first_entry(rows: &[Row]) -> Result<Option<StoredEntry>, TableFault>
     ensures none { IfOk result (λ found. IsNone found ↔ (rows.now ≡ [])) }
     ensures some { IfOk result (λ found. IfSome found (λ e. (r : EntryRow) (more : List Values)
-        → rows.now ≡ entry_shown r ∷ more → e ≡ entry_of r)) }
+        → rows.now ≡ entry_shown r ∷ more → told_entry e ≡ listed_entry r)) }
 {
     match rows.first() {
         None => Ok(None),

@@ -3,6 +3,7 @@ use Rattle.sqlite.specs.Effect.{Database}
 use Rattle.sqlite.specs.Held.{state}
 use Rattle.sqlite.specs.State.{HasCleanDisk}
 use Rattle.tacho_tables.specs.Rows.{AreRowsOf, span_columns}
+use Rattle.tacho_tables.specs.Tables.{IsArchive}
 use Rattle.tacho_reading.specs.Taken.{ReadsSettled}
 use Rattle.tacho_reading.proofs.TakenLemmas.{settled_where_refused, settled_where_read, are_fed, taken_none}
 use Rattle.tacho_reading.proofs.feeding.feed_held.Goals as goal
@@ -45,7 +46,7 @@ returns-clause-fed g c clean schema t stand =
     c.requires.settled) same.0.was_open in
     are_fed g.S.Store c.args.driver c.args.start c.args.base t.held c.in-Ok.rows.conn.now c.feed_rows.new.rows.conn.now
     c.args.scan.now c.args.found.now
-    c.feed_rows.new.scan c.feed_rows.new.found (ap (λ (d : Database). d.schema) same.0.now_is ∙ schema)
+    c.feed_rows.new.scan c.feed_rows.new.found (subst IsArchive (sym same.0.now_is) schema)
     (λ live. kept.same live (same.0.now_is ∙ settled ∙ sym same.0.committed_is))
     (subst (λ (d : Database). AreRowsOf span_columns (d.trees 10) t.held) (sym same.0.now_is) stand.held)
     (c.in-Ok.ensures.begun.given early) c.feed_rows.result

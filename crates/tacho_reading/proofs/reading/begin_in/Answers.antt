@@ -1,9 +1,10 @@
-use Rattle.std.proofs.Common.{rules, ◌∙◌, ap, sym, subst}
+use Rattle.std.proofs.Common.{rules, sym, subst}
 use Rattle.sqlite.specs.Effect.{Database}
 use Rattle.tacho_tables.specs.Tables.{HasTables}
 use Rattle.tacho_reading.proofs.MappedLemmas.{was_ok}
 use Rattle.tacho_reading.proofs.LookUpLemmas.{the_driver, unknown_refuses, handed_on}
 use Rattle.tacho_reading.proofs.ReadingLemmas.{nobody}
+use Rattle.tacho_reading.proofs.SeenLemmas.{still_archive}
 use Rattle.tacho_reading.proofs.ReportLemmas.{somebody}
 use Rattle.tacho_reading.proofs.BegunLemmas.{is_begun}
 use Rattle.tacho_reading.proofs.reading.begin_in.Goals as goal
@@ -27,7 +28,7 @@ returns-clause-begun g c = record {
       let clean_1 = c.last_before.ensures.reads.stays.clean clean in
       let d = the_driver c.args.driver s _ (c.in_ok-stored.ensures.told clean_1 schema s stands) in
       let same = c.in_ok-stored.ensures.same clean_1 schema in
-      let schema_1 = ap (λ (db : Database). db.schema) same.0.now_is ∙ schema in
+      let schema_1 = still_archive _ _ same schema in
       let read = was_ok c.last_before.result c.in_ok-before.before _ c.in_ok-before.ensures.cases
       (c.last_before.ensures.found clean schema_1) in (
         somebody c.args.driver s d.0 d.1,
@@ -37,4 +38,16 @@ returns-clause-begun g c = record {
             (λ t stand. rw c.number-first.ensures.value at (read t (subst (λ (db : Database). HasTables db.trees t)
             (sym same.0.now_is) stand))),
       );
+}
+
+pub returns-in_err-before-clause-begun : goal.returns-in_err-before-clause-begun
+returns-in_err-before-clause-begun g c = record {
+  goes = record {
+    stays = search rules;
+    keeps = search rules;
+    live = search rules;
+    of_no_file = search rules;
+  };
+  same = search rules;
+  told = search rules;
 }

@@ -28,3 +28,15 @@ returns g c = record {
       (file_told (λ bytes. bytes.items) _ _ _ s c.in_ok-file.file d.0 d.1 seen.1
       (was_ok c.file.result c.in_ok-file.file _ c.in_ok-file.ensures.cases (c.file.ensures.found clean seen.0)));
 }
+
+pub returns-in_err-file : goal.returns-in_err-file
+returns-in_err-file g c = record {
+  goes = record {
+    stays = search rules;
+    keeps = search rules;
+    live = search rules;
+    of_no_file = search rules;
+  };
+  same = search rules;
+  told = search rules;
+}

@@ -29,3 +29,15 @@ returns g c = record {
       (IfOk-weaker c.line_of_stored.result _ _ (λ line of. line_told _ _ s d.0 c.in_ok-rows.rows.items line seen.1 d.1 read
       (rw c.deref.ensures.value at of)) c.line_of_stored.ensures.line) c.line_of_stored.ensures.fault;
 }
+
+pub returns-in_err-rows : goal.returns-in_err-rows
+returns-in_err-rows g c = record {
+  goes = record {
+    stays = search rules;
+    keeps = search rules;
+    live = search rules;
+    of_no_file = search rules;
+  };
+  same = search rules;
+  told = search rules;
+}

@@ -32,3 +32,15 @@ returns g c = record {
             (rw c.deref.ensures.value at c.line_of_stored.ensures.line),
       );
 }
+
+pub returns-in_err-rows : goal.returns-in_err-rows
+returns-in_err-rows g c = record {
+  goes = record {
+    stays = search rules;
+    keeps = search rules;
+    live = search rules;
+    of_no_file = search rules;
+  };
+  same = search rules;
+  told = search rules;
+}

@@ -1,7 +1,14 @@
-use Rattle.std.proofs.Common.{◌≡◌, ◌++◌, map, drop}
-use Rattle.tacho_reading.specs.Standing.{listed_as}
+use Rattle.std.proofs.Common.{◌≡◌, ◌++◌, map}
+use Rattle.std.specs.List.{All}
+use Rattle.std.specs.Vec.Iter.{into_iter_items}
+use Rattle.tacho_tables.specs.Tables.{told_entry}
+use Rattle.tacho_reading.specs.Standing.{listed_as, IsListed}
 use Rattle.tacho_reading.proofs.spans.listed_entries.Given as goal
 
--- the entries so far, before those of the rows that are left
+-- the entries so far, before those of the rows that are left, which can be listed where all can
 abbrev pub invariant-loop-row : goal.invariant-loop-row
-invariant-loop-row l = l.entries.items ++ map listed_as (drop l.row-index l.rows) ≡ map listed_as l.rows
+invariant-loop-row l = record {
+  listed : l.entries.items ++ map listed_as (map told_entry (into_iter_items l.row-iterator))
+      ≡ map listed_as (map told_entry l.fn.rows.items);
+  fit : All IsListed (map told_entry l.fn.rows.items) → All IsListed (map told_entry (into_iter_items l.row-iterator));
+}

@@ -11,12 +11,12 @@ pub returns : goal.returns
 returns g c = record {
   stays = search rules;
   keeps = search rules;
-  turned = λ clean schema.
+  turned = λ clean is.
       let table = c.args.table in
       let old = state g.S.Store c.args.tx.now.conn.now in
       let new = state g.S.Store c.run.new.tx.conn.now in
       on_ok_weaker c.run.result (λ ran. adds_span (span_table table) (insert_text table) old new
-      (row_of c.args.driver c.args.span.now) ran.0 schema (insert_is table) ran.1)
+      (row_of c.args.driver c.args.span.now) ran.0 is (λ layout. insert_is layout table) ran.1)
       (rw (c.insert_text.ensures, c.params-to_sql.ensures, c.params-to_sql-2.ensures, c.params-to_sql-3.ensures, c.params-to_sql-4.ensures) at
       (c.run.ensures.ran clean));
 }

@@ -8,7 +8,7 @@ pub loop-span-init : goal.loop-span-init
 loop-span-init g c = record {
   stays = search rules;
   keeps = search rules;
-  left = λ clean schema. all_left (span_table c.args.table) c.args.driver c.args.spans.now (state g.S.Store c.args.tx.now.conn.now) schema;
+  left = λ clean is. all_left (span_table c.args.table) c.args.driver c.args.spans.now (state g.S.Store c.args.tx.now.conn.now) is;
 }
 
 pub loop-span-preserved : goal.loop-span-preserved
