@@ -1,8 +1,9 @@
 -- What a batch gives, what entering it answers, and what its writes stand for.
-use Rattle.std.proofs.Common.{◌≡◌, ◌∙◌, ℕ, zero, suc, ◌+◌, ◌-◌, ◌<◌, ◌≤◌, ◌⊎◌, inl, inr, Bool, true, false, cond, List, [], ◌∷◌, length, map, Some, None, Result, Ok, Err, refl, sym, ap, subst, arith}
+use Rattle.std.proofs.Common.{◌≡◌, ◌∙◌, get_or, ℕ, zero, suc, ◌+◌, ◌-◌, ◌<◌, ◌≤◌, ◌⊎◌, inl, inr, Bool, true, false, cond, List, [], ◌∷◌, length, map, Some, None, Result, Ok, Err, refl, sym, ap, subst, arith}
 use Rattle.std.specs.Prelude.{MatchResult, IsErr, IsErrAnd, nat_le}
 use Rattle.std.specs.List.{slice_get, slice_index_or, AllByRecursion}
 use Rattle.std.proofs.lemmas.Bool.Decides.{nat_tests}
+use Rattle.std.proofs.lemmas.List.{length-map}
 use Rattle.std.proofs.lemmas.List.Elements.{recursion_from_All}
 use Rattle.std.proofs.lemmas.Option.{slice_get_within, get_or_from_slice_get}
 use Rattle.sqlite.specs.Effect.{Database}
@@ -14,9 +15,8 @@ use Rattle.tacho_time.specs.Spans.{Gives, IsCanonicalOf}
 use Rattle.tacho_line.specs.Line.{empty_from, first_empty, AreGains}
 use Rattle.tacho_state.specs.declared.fault.StoreFault.{StoreFault}
 use Rattle.tacho_state.specs.declared.fault.StoreFault.TheVariants.{Memory, Store, UnknownDriver, Full}
-use Rattle.tacho_state.specs.declared.entry.EntryLine.{EntryLine}
 use Rattle.tacho_state.specs.Acts.{Answers}
-use Rattle.tacho_state.specs.Batch.{IsEntryLine, AreInOrder, IsBatch, entry_of, batch_of}
+use Rattle.tacho_state.specs.Batch.{Hours, IsEntryLine, AreInOrder, IsBatch, entry_of, batch_of}
 use Rattle.tacho_state.specs.Disjoint.{AreInRange, near}
 use Rattle.tacho_state.specs.Limits.{next_number}
 use Rattle.tacho_state.specs.State.{Driver, Entry, State, AreFull, driver_of, entry_span, entered_spans, put, with_batch}
@@ -24,7 +24,7 @@ use Rattle.tacho_state.specs.Steps.{Turn, settled, enter_own, entered, most}
 use Rattle.tacho_state.proofs.StepLemmas.{contradicted_batch, entered_batch, full_batch}
 use Rattle.tacho_tables.specs.declared.rows.StoredSpan.{StoredSpan}
 use Rattle.tacho_tables.specs.Rows.{SpanRow, EntryRow}
-use Rattle.tacho_tables.specs.Tables.{Tables, HasTables, entered_rows, row_of}
+use Rattle.tacho_tables.specs.Tables.{Tables, HasTables, entered_row, row_of}
 use Rattle.tacho_reading.specs.Standing.{StandsFor, Follows, TablesStandFor, activity_number, spans_of, span_row, entry_row, entry_rows, stored_span}
 use Rattle.tacho_reading.specs.Finding.{Refuses}
 use Rattle.tacho_reading.proofs.ApartLemmas.{held_apart}
@@ -39,25 +39,15 @@ use Rattle.tacho_store.proofs.OthersLemmas.{another_or_none}
 
 -- ---- the spans of a batch's lines
 
--- there are as many as entries
-pub spans_counted : (lines : List EntryLine) → length (entered_spans (batch_of lines)) ≡ length (batch_of lines)
-spans_counted [] = refl
-spans_counted (l ∷ ls) = ap suc (spans_counted ls)
-
--- and as lines
-pub lines_counted : (lines : List EntryLine) → length (entered_spans (batch_of lines)) ≡ length lines
-lines_counted [] = refl
-lines_counted (l ∷ ls) = ap suc (lines_counted ls)
-
 -- none is empty
-full_lines : (lines : List EntryLine) → AllByRecursion IsEntryLine lines → AreFull (batch_of lines)
+full_lines : (lines : List Hours) → AllByRecursion IsEntryLine lines → AreFull (batch_of lines)
 full_lines [] h = tt
 full_lines (l ∷ ls) h = (h.0.full, full_lines ls h.1)
 
-pub batch_full : (lines : List EntryLine) → IsBatch lines → AreFull (batch_of lines)
+pub batch_full : (lines : List Hours) → IsBatch lines → AreFull (batch_of lines)
 batch_full lines h = full_lines lines (recursion_from_All IsEntryLine lines h.each)
 
-none_empty_from : (place : ℕ) (lines : List EntryLine) → AllByRecursion IsEntryLine lines
+none_empty_from : (place : ℕ) (lines : List Hours) → AllByRecursion IsEntryLine lines
     → empty_from place (entered_spans (batch_of lines)) ≡ None
 none_empty_from place [] h = refl
 none_empty_from place (l ∷ ls) h =
@@ -67,11 +57,11 @@ none_empty_from place (l ∷ ls) h =
     let full : nat_le past start ≡ false = grind (arith, nat_tests) in
     ap (λ b. cond b (Some place) (empty_from (place + 1) (entered_spans (batch_of ls)))) full ∙ none_empty_from (place + 1) ls h.1
 
-pub none_empty_line : (lines : List EntryLine) → IsBatch lines → first_empty (entered_spans (batch_of lines)) ≡ None
+pub none_empty_line : (lines : List Hours) → IsBatch lines → first_empty (entered_spans (batch_of lines)) ≡ None
 none_empty_line lines h = none_empty_from 0 lines (recursion_from_All IsEntryLine lines h.each)
 
 -- no minute is before the start of the first
-first_line : (l : EntryLine) (ls : List EntryLine) (m : ℕ) (k : Mark) → AllByRecursion IsEntryLine (l ∷ ls) → AreInOrder (l ∷ ls)
+first_line : (l : Hours) (ls : List Hours) (m : ℕ) (k : Mark) → AllByRecursion IsEntryLine (l ∷ ls) → AreInOrder (l ∷ ls)
     → Gives (entered_spans (batch_of (l ∷ ls))) m k → l.start ≤ m
 first_line l ls m k h o (inl c) = c.0.0
 first_line l [] m k h o (inr g) = absurd g
@@ -82,7 +72,7 @@ first_line l (next ∷ ls) m k h o (inr g) =
     omega (arith, more, full, apart)
 
 -- and all are before the past of the last
-last_line : (lines : List EntryLine) (i m : ℕ) (k : Mark) (none : EntryLine) → AllByRecursion IsEntryLine lines → AreInOrder lines
+last_line : (lines : List Hours) (i m : ℕ) (k : Mark) (none : Hours) → AllByRecursion IsEntryLine lines → AreInOrder lines
     → length lines ≡ i + 1 → Gives (entered_spans (batch_of lines)) m k → m < (slice_index_or lines i none).past
 last_line [] i m k none h o e g = absurd g
 last_line (l ∷ []) zero m k none h o e (inl c) = c.0.1
@@ -100,52 +90,54 @@ last_line (l ∷ next ∷ ls) (suc i) m k none h o e (inl c) =
 last_line (l ∷ next ∷ ls) (suc i) m k none h o e (inr g) = last_line (next ∷ ls) i m k none h.1 o.1 (omega (arith, e)) g
 
 -- so the range from the first start to the last past has them all
-pub lines_in_range : (lines : List EntryLine) (first last : EntryLine) → IsBatch lines → slice_get lines 0 ≡ Some first
+pub lines_in_range : (lines : List Hours) (first last : Hours) → IsBatch lines → slice_get lines 0 ≡ Some first
     → slice_get lines (length lines - 1) ≡ Some last → AreInRange first.start last.past (entered_spans (batch_of lines))
 lines_in_range lines first last h from to m k g =
     let all = recursion_from_All IsEntryLine lines h.each in
     let some = slice_get_within lines 0 first from in
     let end = get_or_from_slice_get lines (length lines - 1) last last to in (
       begins lines all h.order from g,
-      subst (λ (l : EntryLine). m < l.past) end (last_line lines (length lines - 1) m k last all h.order (omega (arith, some)) g),
+      subst (λ (l : Hours). m < l.past) end (last_line lines (length lines - 1) m k last all h.order (omega (arith, some)) g),
     ) where
-      begins : (ls : List EntryLine) → AllByRecursion IsEntryLine ls → AreInOrder ls → slice_get ls 0 ≡ Some first
+      begins : (ls : List Hours) → AllByRecursion IsEntryLine ls → AreInOrder ls → slice_get ls 0 ≡ Some first
           → Gives (entered_spans (batch_of ls)) m k → first.start ≤ m
       begins [] all order from g = absurd g
       begins (l ∷ ls) all order from g =
           let same : l ≡ first = (let both = from in cc) in
-          subst (λ (x : EntryLine). x.start ≤ m) same (first_line l ls m k all order g)
+          subst (λ (x : Hours). x.start ≤ m) same (first_line l ls m k all order g)
 
 -- ---- the rows of a batch
 
--- stored rows of the spans are, numbered, those of the entries
-abbrev entry_as : ℕ → SpanRow → EntryRow
-entry_as i x = record { driver = x.driver; number = i; start = x.start; past = x.past; mark = x.mark; withdrawn = 0 }
+-- the stored row of what a line gives is, with its author and its note, that of its entry
+pub line_entered : (n i : ℕ) (line : Hours) (row : StoredSpan) → row_of n row ≡ span_row n (entry_span (entry_of line))
+    → entered_row n i row line.author line.note ≡ entry_row n i (entry_of line)
+line_entered n i line row is =
+    let entered : SpanRow → EntryRow = λ x. record {
+      driver = x.driver;
+      number = i;
+      start = x.start;
+      past = x.past;
+      mark = x.mark;
+      withdrawn = 0;
+      author = line.author;
+      note = line.note;
+    } in
+    let same : activity_number line.activity + 0 ≡ activity_number line.activity = omega arith in
+    ap entered is ∙ ap (λ (k : ℕ). record (entry_row n i (entry_of line)) { mark = k }) same
 
-entry_as_is : (n i : ℕ) (l : EntryLine) → entry_as i (span_row n (entry_span (entry_of l))) ≡ entry_row n i (entry_of l)
-entry_as_is n i l =
-    let same : activity_number l.activity + 0 ≡ activity_number l.activity = omega arith in
-    ap (λ (k : ℕ). record { driver = n; number = i; start = l.start; past = l.past; mark = k; withdrawn = 0 }) same
+-- there is a row for each line
+pub rows_counted : (n i : ℕ) (lines : List Hours) → length (entry_rows n i (batch_of lines)) ≡ length lines
+rows_counted n i [] = refl
+rows_counted n i (l ∷ ls) = ap suc (rows_counted n (i + 1) ls)
 
-pub rows_entered : (n i : ℕ) (lines : List EntryLine) (rows : List StoredSpan)
-    → map (row_of n) rows ≡ map (span_row n) (entered_spans (batch_of lines)) → entered_rows n i rows ≡ entry_rows n i (batch_of lines)
-rows_entered n i [] [] e = refl
-rows_entered n i [] (r ∷ rows) e = absurd (let wrong = e in cc)
-rows_entered n i (l ∷ ls) [] e = absurd (let wrong = e in cc)
-rows_entered n i (l ∷ ls) (r ∷ rows) e =
-    let head : row_of n r ≡ span_row n (entry_span (entry_of l)) = (let both = e in cc) in
-    let tail : map (row_of n) rows ≡ map (span_row n) (entered_spans (batch_of ls)) = (let both = e in cc) in
-    ap (λ (x : EntryRow). x ∷ entered_rows n (i + 1) rows) (ap (entry_as i) head ∙ entry_as_is n i l)
-    ∙ ap (λ (x : List EntryRow). entry_row n i (entry_of l) ∷ x) (rows_entered n (i + 1) ls rows tail)
-
--- and there are as many
-pub rows_counted : (n : ℕ) (rows : List StoredSpan) (spans : List Span) → map (row_of n) rows ≡ map (span_row n) spans
-    → length rows ≡ length spans
-rows_counted n [] [] e = refl
-rows_counted n [] (s ∷ spans) e = absurd (let wrong = e in cc)
-rows_counted n (r ∷ rows) [] e = absurd (let wrong = e in cc)
-rows_counted n (r ∷ rows) (s ∷ spans) e =
-    let tail : map (row_of n) rows ≡ map (span_row n) spans = (let both = e in cc) in ap suc (rows_counted n rows spans tail)
+-- which is that of its entry, by the number that comes next
+pub row_there : (n i k : ℕ) (lines : List Hours) (none : EntryRow) (line : Hours) → k < length lines
+    → get_or (entry_rows n i (batch_of lines)) k none ≡ entry_row n (i + k) (entry_of (get_or lines k line))
+row_there n i k [] none line within = absurd (omega (arith, within))
+row_there n i zero (l ∷ ls) none line within = ap (λ (j : ℕ). entry_row n j (entry_of l)) (omega arith)
+row_there n i (suc k) (l ∷ ls) none line within =
+    row_there n (i + 1) k ls none line (omega (arith, within))
+    ∙ ap (λ (j : ℕ). entry_row n j (entry_of (get_or ls k line))) (omega arith)
 
 -- ---- numbers
 
@@ -166,7 +158,7 @@ no_numbers given count is = go (nat_le (given + count) 1000000) refl is where
 
 -- ---- what is near a batch decides it
 
-module _ (db : Trees) (s : State) (n : ℕ) (d : Driver) (a b : ℕ) (lines : List EntryLine) (is : driver_of n s ≡ Some d)
+module _ (db : Trees) (s : State) (n : ℕ) (d : Driver) (a b : ℕ) (lines : List Hours) (is : driver_of n s ≡ Some d)
     (batch : IsBatch lines) (within : AreInRange a b (entered_spans (batch_of lines))) (t : Tables) (stand : HasTables db t)
     (of : TablesStandFor t s) (line : List Span) (held_near : IsCanonicalOf (Gives (near a b (spans_of n t.held))) line) where
   -- it goes in
@@ -199,7 +191,7 @@ module _ (db : Trees) (s : State) (n : ℕ) (d : Driver) (a b : ℕ) (lines : Li
   by_gains items (Err fault) h = is_refused fault h
 
 -- by the rows that were read near it
-pub gained : (db : Trees) (s : State) (n : ℕ) (d : Driver) (a b : ℕ) (lines : List EntryLine) (spans : List Span)
+pub gained : (db : Trees) (s : State) (n : ℕ) (d : Driver) (a b : ℕ) (lines : List Hours) (spans : List Span)
     (helds : List StoredSpan) (line : List Span) {V : Type 0} (items : V → List Span) (r : Result V StoreFault) → StandsFor db s
     → driver_of n s ≡ Some d → IsBatch lines → spans ≡ entered_spans (batch_of lines)
     → AreInRange a b (entered_spans (batch_of lines)) → AreRead (λ t. t.held) db n a b helds
@@ -219,44 +211,40 @@ still_numbered old now s n d batch gains same = subst (λ (w : Database). AreNum
 
 -- ---- what the step answers
 
-module _ (db : Trees) (s : State) (n : ℕ) (d : Driver) (lines : List EntryLine) (gains : List Span)
-    (new : AreNumbered db s n d (batch_of lines) gains) (given : ℕ) (is : given ≡ length d.entries)
-    (spans : List Span) (all : spans ≡ entered_spans (batch_of lines)) where
-  -- there are as many spans as entries
-  counted : length spans ≡ length (batch_of lines)
-  counted = ap length all ∙ spans_counted lines
+module _ (db : Trees) (s : State) (n : ℕ) (d : Driver) (lines : List Hours) (gains : List Span)
+    (new : AreNumbered db s n d (batch_of lines) gains) (given : ℕ) (is : given ≡ length d.entries) where
+  -- there are as many entries as lines
+  counted : length (batch_of lines) ≡ length lines
+  counted = length-map lines entry_of
 
   -- S14
-  pub too_many : most < given + length spans → (settled s (enter_own (batch_of lines) d)).answer ≡ Err Full
+  pub too_many : most < given + length lines → (settled s (enter_own (batch_of lines) d)).answer ≡ Err Full
   too_many over = ap (λ r. (settled s r).answer) (new.full (let a = is in let b = counted in omega (arith, a, b, over)))
 
   -- the batch's own step
-  own : given + length spans ≤ most → enter_own (batch_of lines) d ≡ Ok (1 + length d.entries, with_batch (batch_of lines) d)
+  own : given + length lines ≤ most → enter_own (batch_of lines) d ≡ Ok (1 + length d.entries, with_batch (batch_of lines) d)
   own room = new.numbered (let a = is in let b = counted in omega (arith, a, b, room))
 
   -- it is numbered on
-  pub batch_answer : (first : ℕ) → given + length spans ≤ most → first ≡ 1 + given
+  pub batch_answer : (first : ℕ) → given + length lines ≤ most → first ≡ 1 + given
       → (settled s (enter_own (batch_of lines) d)).answer ≡ Ok first
   batch_answer first room next = ap (λ r. (settled s r).answer) (own room)
       ∙ ap Ok (let a = is in (let same : 1 + length d.entries ≡ first = omega (arith, a, next) in same))
 
   -- and what its writes leave follows
-  pub batch_written : (first count : ℕ) (rows helds : List StoredSpan) (next : Trees) → given + length spans ≤ most → first ≡ 1 + given
-      → count ≡ given + length spans
-      → map (row_of n) rows ≡ map (span_row n) spans → map (row_of n) helds ≡ map (span_row n) gains
-      → ((t : Tables) → HasTables db t → HasTables next (batched n count (entered_rows n first rows) (map (row_of n) helds) t))
+  pub batch_written : (first count : ℕ) (helds : List StoredSpan) (next : Trees) → given + length lines ≤ most → first ≡ 1 + given
+      → count ≡ given + length lines → map (row_of n) helds ≡ map (span_row n) gains
+      → ((t : Tables) → HasTables db t → HasTables next (batched n count (entry_rows n first (batch_of lines)) (map (row_of n) helds) t))
       → Follows db next s (settled s (enter_own (batch_of lines) d)).after
-  batch_written first count rows helds next room one counts same_rows same_helds written =
+  batch_written first count helds next room one counts same_helds written =
       let first_is : first ≡ 1 + length d.entries = (let a = is in omega (arith, a, one)) in
       let count_is : count ≡ length d.entries + length (batch_of lines) = (let a = is in let b = counted in omega (arith, a, b, counts)) in
-      let entries_are : entered_rows n first rows ≡ entry_rows n (1 + length d.entries) (batch_of lines) =
-      ap (λ i. entered_rows n i rows) first_is
-      ∙ rows_entered n (1 + length d.entries) lines rows (same_rows ∙ ap (λ (x : List Span). map (span_row n) x) all) in
+      let all = batch_of lines in
       subst (Follows db next s) (sym (ap (λ r. (settled s r).after) (own room)))
       (new.follows next (λ t stand. subst (λ (x : List SpanRow). HasTables next
-      (batched n (length d.entries + length (batch_of lines)) (entry_rows n (1 + length d.entries) (batch_of lines)) x t)) same_helds
-      (subst (λ (x : List EntryRow). HasTables next (batched n (length d.entries + length (batch_of lines)) x (map (row_of n) helds) t)) entries_are
-      (subst (λ (x : ℕ). HasTables next (batched n x (entered_rows n first rows) (map (row_of n) helds) t)) count_is (written t stand)))))
+      (batched n (length d.entries + length all) (entry_rows n (1 + length d.entries) all) x t)) same_helds
+      (subst (λ (x : ℕ). HasTables next (batched n (length d.entries + length all) (entry_rows n x all) (map (row_of n) helds) t)) first_is
+      (subst (λ (x : ℕ). HasTables next (batched n x (entry_rows n first all) (map (row_of n) helds) t)) count_is (written t stand)))))
 
 -- ---- the driver's step
 

@@ -11,6 +11,7 @@ mod ImportDriverLemmas
 mod DecisionLemmas
 mod AdditionLemmas
 mod EmptyLemmas
+mod OldLemmas
 mod FileLemmas
 mod WithdrawalLemmas
 mod EnteringLemmas

@@ -7,23 +7,25 @@ use Rattle.sqlite.specs.State.{State as Sqlite, HasCleanDisk, IsUnchanged, Keeps
 use Rattle.sqlite.specs.Store.{Ghosts}
 use Rattle.sqlite.specs.Held.{Held, state}
 use Rattle.sqlite.specs.Tree.{Trees}
+use Rattle.tacho_tables.specs.Tables.{IsArchive}
+use Rattle.sqlite.proofs.Callers.{unchanged_then}
 use Rattle.tacho_state.specs.declared.fault.StoreFault.{StoreFault}
 use Rattle.tacho_state.specs.Acts.{Answers, IsOfNoFile}
 use Rattle.tacho_state.specs.State.{State, driver_of}
 use Rattle.tacho_state.specs.Steps.{Turn}
 use Rattle.tacho_tables.specs.Calls.{Stays}
-use Rattle.tacho_tables.specs.Schema.{archive_schema}
+use Rattle.tacho_tables.proofs.Inside.{keeps_then}
 use Rattle.tacho_reading.specs.Calls.{Goes, Steps, StepsGiven}
 use Rattle.tacho_reading.specs.Standing.{StandsFor, KeepsRowsOf, Follows}
-use Rattle.tacho_reading.proofs.SeenLemmas.{still_seen}
+use Rattle.tacho_reading.proofs.SeenLemmas.{still_archive, still_seen}
 use Rattle.tacho_store.proofs.OthersLemmas.{kept_rows, unchanged_follows}
 
 -- an archive that follows another one
 abbrev pub FollowsIn : Sqlite → Sqlite → State → State → Type 0
-FollowsIn old new s after = (new.now.schema ≡ archive_schema) × Follows old.now.trees new.now.trees s after
+FollowsIn old new s after = IsArchive new.now × Follows old.now.trees new.now.trees s after
 
 -- what hasn't changed follows
-pub still_follows : (old new : Sqlite) (s : State) → IsUnchanged old new → old.now.schema ≡ archive_schema → StandsFor old.now.trees s
+pub still_follows : (old new : Sqlite) (s : State) → IsUnchanged old new → IsArchive old.now → StandsFor old.now.trees s
     → FollowsIn old new s s
 still_follows old new s same schema stands = (
   (still_seen old new s same schema stands).0,
@@ -35,12 +37,37 @@ pub follows_then : (old mid : Sqlite) (next : Trees) (s after : State) → IsUnc
     → Follows old.now.trees next s after
 follows_then old mid next s after same = subst (λ (d : Database). Follows d.trees next s after) same.0.now_is
 
+-- ---- a call after a reading that answered
+
+-- it commits nothing where neither does
+pub keeps_after : (x y z : Sqlite) → (HasCleanDisk z → HasCleanDisk y) → (HasCleanDisk y → IsArchive x.now → IsUnchanged x y)
+    → (HasCleanDisk y → IsArchive x.now → KeepsCommit x y) → (HasCleanDisk z → IsArchive y.now → KeepsCommit y z)
+    → HasCleanDisk z → IsArchive x.now → KeepsCommit x z
+keeps_after x y z before same first more clean is =
+    keeps_then x y z (first (before clean) is) (more clean (still_archive x y (same (before clean) is) is))
+
+-- nor where the first is a change
+pub keeps_changed : (x y z : Sqlite) → (HasCleanDisk z → HasCleanDisk y) → (HasCleanDisk y → KeepsCommit x y)
+    → (HasCleanDisk y → IsArchive x.now → IsArchive y.now) → (HasCleanDisk z → IsArchive y.now → KeepsCommit y z)
+    → HasCleanDisk z → IsArchive x.now → KeepsCommit x z
+keeps_changed x y z before first archive more clean is =
+    keeps_then x y z (first (before clean)) (more clean (archive (before clean) is))
+
+-- what two readings have seen is what there was
+pub unchanged_after : (x y z : Sqlite) → (HasCleanDisk z → HasCleanDisk y) → (HasCleanDisk y → IsArchive x.now → IsUnchanged x y)
+    → (HasCleanDisk z → IsArchive y.now → IsUnchanged y z) → HasCleanDisk z → IsArchive x.now → IsUnchanged x z
+unchanged_after x y z before same more clean is =
+    let first = same (before clean) is in
+    unchanged_then x y z first (more clean (still_archive x y first is))
+
+-- ---- steps
+
 module _ {S : Type 0} {g : Ghosts S} {old new : MutBor (Held S)} {A B : Type 0} {result : Result A StoreFault} {view : A → B} where
   -- a step whose tables follow
   pub steps_by : {step : State → Turn B} → Goes g old new result
-      → (HasCleanDisk (state g new.now) → (state g old.now).now.schema ≡ archive_schema
+      → (HasCleanDisk (state g new.now) → IsArchive (state g old.now).now
       → (s : State) → StandsFor (state g old.now).now.trees s → Answers view result (step s).answer)
-      → (HasCleanDisk (state g new.now) → (state g old.now).now.schema ≡ archive_schema
+      → (HasCleanDisk (state g new.now) → IsArchive (state g old.now).now
       → (s : State) → StandsFor (state g old.now).now.trees s
       → OnOk result (FollowsIn (state g old.now) (state g new.now) s (step s).after))
       → Steps g old new result view step
@@ -53,12 +80,12 @@ module _ {S : Type 0} {g : Ghosts S} {old new : MutBor (Held S)} {A B : Type 0} 
 
   -- and one that what was found before it decides
   pub given_by : {P : Type 0} {given : P → Trees → State → Type 0} {step : P → State → Turn B} → Stays g old new
-      → (HasCleanDisk (state g new.now) → (state g old.now).now.schema ≡ archive_schema → KeepsCommit (state g old.now) (state g new.now))
+      → (HasCleanDisk (state g new.now) → IsArchive (state g old.now).now → KeepsCommit (state g old.now) (state g new.now))
       → IsOfNoFile result
-      → (HasCleanDisk (state g new.now) → (state g old.now).now.schema ≡ archive_schema
+      → (HasCleanDisk (state g new.now) → IsArchive (state g old.now).now
       → (s : State) → StandsFor (state g old.now).now.trees s
       → (p : P) → given p (state g old.now).now.trees s → Answers view result (step p s).answer)
-      → (HasCleanDisk (state g new.now) → (state g old.now).now.schema ≡ archive_schema
+      → (HasCleanDisk (state g new.now) → IsArchive (state g old.now).now
       → (s : State) → StandsFor (state g old.now).now.trees s → (p : P) → given p (state g old.now).now.trees s
       → OnOk result (FollowsIn (state g old.now) (state g new.now) s (step p s).after))
       → StepsGiven g old new result given view step
@@ -83,7 +110,7 @@ module _ {S : Type 0} {g : Ghosts S} {A B P : Type 0} {result : Result A StoreFa
     {view : A → B} {step : P → State → Turn B} where
   module _ (old : MutBor (Held S)) {mid new : MutBor (Held S)} (h : StepsGiven g mid new result given view step)
       (same : IsUnchanged (state g old.now) (state g mid.now)) (clean : HasCleanDisk (state g new.now))
-      (schema : (state g old.now).now.schema ≡ archive_schema) (s : State) (stands : StandsFor (state g old.now).now.trees s)
+      (schema : IsArchive (state g old.now).now) (s : State) (stands : StandsFor (state g old.now).now.trees s)
       {turn : Turn B} (found : IsFound given step (state g mid.now).now.trees s turn) where
     -- it is answered as it was decided
     answer_then : Answers view result turn.answer
@@ -92,11 +119,11 @@ module _ {S : Type 0} {g : Ghosts S} {A B P : Type 0} {result : Result A StoreFa
         subst (λ (x : Turn B). Answers view result x.answer) (sym found.2) (h.answer clean seen.0 s seen.1 found.0 found.1)
 
     -- the tables stand for the state after it
-    made_then : OnOk result (((state g new.now).now.schema ≡ archive_schema) × StandsFor (state g new.now).now.trees turn.after)
+    made_then : OnOk result (IsArchive (state g new.now).now × StandsFor (state g new.now).now.trees turn.after)
     made_then =
         let seen = still_seen _ _ s same schema stands in
         subst (λ (x : Turn B). OnOk result
-        (((state g new.now).now.schema ≡ archive_schema) × StandsFor (state g new.now).now.trees x.after)) (sym found.2)
+        (IsArchive (state g new.now).now × StandsFor (state g new.now).now.trees x.after)) (sym found.2)
         (h.made clean seen.0 s seen.1 found.0 found.1)
 
     -- and of whom it says nothing new the rows are kept
@@ -108,11 +135,11 @@ module _ {S : Type 0} {g : Ghosts S} {A B P : Type 0} {result : Result A StoreFa
         (h.others clean seen.0 s seen.1 found.0 found.1 n (subst (λ (x : Turn B). driver_of n x.after ≡ driver_of n s) found.2 is))
 
   module _ {old mid new : MutBor (Held S)} (h : StepsGiven g mid new result given view step)
-      (same : HasCleanDisk (state g new.now) → (state g old.now).now.schema ≡ archive_schema
+      (same : HasCleanDisk (state g new.now) → IsArchive (state g old.now).now
       → IsUnchanged (state g old.now) (state g mid.now)) where
     -- a step of a state
     pub steps_then : {turn : State → Turn B} → Goes g old new result
-        → (HasCleanDisk (state g new.now) → (state g old.now).now.schema ≡ archive_schema → (s : State)
+        → (HasCleanDisk (state g new.now) → IsArchive (state g old.now).now → (s : State)
         → StandsFor (state g old.now).now.trees s → IsFound given step (state g mid.now).now.trees s (turn s))
         → Steps g old new result view turn
     steps_then goes found = record {
@@ -124,9 +151,9 @@ module _ {S : Type 0} {g : Ghosts S} {A B P : Type 0} {result : Result A StoreFa
 
     -- and one that something found before decides
     pub given_then : {Q : Type 0} {asked : Q → Trees → State → Type 0} {turn : Q → State → Turn B} → Stays g old new
-        → (HasCleanDisk (state g new.now) → (state g old.now).now.schema ≡ archive_schema → KeepsCommit (state g old.now) (state g new.now))
+        → (HasCleanDisk (state g new.now) → IsArchive (state g old.now).now → KeepsCommit (state g old.now) (state g new.now))
         → IsOfNoFile result
-        → (HasCleanDisk (state g new.now) → (state g old.now).now.schema ≡ archive_schema → (s : State)
+        → (HasCleanDisk (state g new.now) → IsArchive (state g old.now).now → (s : State)
         → StandsFor (state g old.now).now.trees s → (q : Q) → asked q (state g old.now).now.trees s
         → IsFound given step (state g mid.now).now.trees s (turn q s))
         → StepsGiven g old new result asked view turn

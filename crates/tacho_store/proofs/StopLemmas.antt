@@ -1,9 +1,10 @@
 -- What a stop leaves is found again.
 use Rattle.std.proofs.Common.{◌≡◌, List, [], ◌∷◌, IsTrue, inl, inr, sym, subst}
 use Rattle.sqlite.specs.Effect.{Database}
-use Rattle.sqlite.specs.State.{State as Sqlite, IsLive}
+use Rattle.sqlite.specs.State.{State as Sqlite, IsLive, HasCleanDisk, Survives}
+use Rattle.sqlite.specs.Tree.{Trees}
+use Rattle.tacho_tables.specs.Tables.{IsArchive}
 use Rattle.tacho_state.specs.State.{State}
-use Rattle.tacho_tables.specs.Schema.{archive_schema}
 use Rattle.tacho_tables.proofs.CatalogLemmas.{is_archive}
 use Rattle.tacho_reading.specs.Standing.{StandsFor}
 use Rattle.tacho_reading.specs.Kept.{SeesWhileOpen, IsOfOne, LeavesOneOf}
@@ -15,7 +16,7 @@ pub shows_found : (old new : Sqlite) → IsLive old → (IsTrue new.is_open → 
 unfolding StandsFor
 shows_found old new live was_open same s it opened =
     let has = is_archive old.now it.0 it.1 (live (was_open opened)).0 in
-    subst (λ (d : Database). (d.schema ≡ archive_schema) × StandsFor d.trees s) (sym (same opened (inl has))) (has, it)
+    subst (λ (d : Database). IsArchive d × StandsFor d.trees s) (sym (same opened (inl (inr (has.layout, has.schema))))) (has, it)
 
 -- what follows of a fact is true of one of the states where the fact is
 one_weaker : (fact other : State → Type 0) → ((s : State) → fact s → other s) → (states : List State) → IsOfOne fact states
@@ -30,3 +31,15 @@ pub found_again : (K : Type 0) (stands : K → State → Type 0) (is_live : K �
     → IsAdopted stands is_live leaves found archive → IsOfOne (stands archive) states
 found_again K stands is_live leaves left found archive states leave may it =
     one_weaker _ (stands archive) it.held states (leave found.now.trees may)
+
+-- where a stop is known only of a clean disk, it is known of any
+pub crash_by : (old new : Sqlite) (P : Trees → Type 0) → Survives old new (λ _. Unit {0}) → (HasCleanDisk new → Survives old new P)
+    → Survives old new P
+crash_by old new P whatever it = record {
+  clean = whatever.clean;
+  shield = whatever.shield;
+  counts = whatever.counts;
+  limit = whatever.limit;
+  closes = whatever.closes;
+  crash = λ clean. (it clean).crash clean;
+}

@@ -16,7 +16,7 @@ use Rattle.tacho_state.specs.Steps.{withdrawn}
 use Rattle.tacho_tables.specs.declared.rows.StoredEntry.{StoredEntry}
 use Rattle.tacho_tables.specs.declared.rows.StoredSpan.{StoredSpan}
 use Rattle.tacho_tables.specs.Rows.{EntryRow, SpanRow}
-use Rattle.tacho_tables.specs.Tables.{Tables, HasTables, Turns, is_entry, is_near, entry_of, row_of, with_withdrawn}
+use Rattle.tacho_tables.specs.Tables.{Tables, HasTables, Turns, is_entry, is_near, ListedEntry, listed_entry, told_entry, row_of, with_withdrawn}
 use Rattle.tacho_reading.specs.Standing.{StandsFor, Follows, TablesStandFor, span_row, stored_span, entry_row, IsReadNear, IsKeptNear}
 use Rattle.tacho_reading.specs.Finding.{Refuses}
 use Rattle.tacho_reading.specs.Apart.{AreApart, rows_of}
@@ -61,15 +61,15 @@ module _ (n number : ℕ) (s : State) (d : Driver) (is : driver_of n s ≡ Some 
 pub entry_found : (db : Trees) (s : State) (n number : ℕ) (d : Driver) (found : Option StoredEntry)
     → StandsFor db s → driver_of n s ≡ Some d
     → ((a : Tables) → HasTables db a → MatchOption found (filter (is_entry n number) a.entries ≡ [])
-    (λ it. (r : EntryRow) × Contains (filter (is_entry n number) a.entries) r × (it ≡ entry_of r)))
+    (λ it. (r : EntryRow) × Contains (filter (is_entry n number) a.entries) r × (told_entry it ≡ listed_entry r)))
     → MatchOption found (entry_from 1 number d.entries ≡ None)
-    (λ it. (e : Entry) × (entry_from 1 number d.entries ≡ Some e) × (it ≡ entry_of (entry_row n number e)))
+    (λ it. (e : Entry) × (entry_from 1 number d.entries ≡ Some e) × (told_entry it ≡ listed_entry (entry_row n number e)))
 unfolding StandsFor
 entry_found db s n number d None (t, stand, of) is h = (entry_none t s n number d of is).0 (h t stand)
 entry_found db s n number d (Some it) (t, stand, of) is h =
     let found = h t stand in
     let e = entry_some t s n number d found.0 of is found.1 in
-    (e.0, e.1, found.2 ∙ ap entry_of e.2)
+    (e.0, e.1, found.2 ∙ ap listed_entry e.2)
 
 -- where none was found: S7
 pub unknown_entry : (n number : ℕ) (s : State) (d : Driver) (found : Option StoredEntry) (is : StoredEntry → Entry → Type 0)
@@ -104,15 +104,15 @@ flag_kept false w is none = refl
 
 -- it was withdrawn already: S8
 pub entry_gone : (n number : ℕ) (s : State) (d : Driver) (it : StoredEntry) → driver_of n s ≡ Some d → it.withdrawn ≢ 0
-    → (e : Entry) × (entry_from 1 number d.entries ≡ Some e) × (it ≡ entry_of (entry_row n number e))
+    → (e : Entry) × (entry_from 1 number d.entries ≡ Some e) × (told_entry it ≡ listed_entry (entry_row n number e))
     → IsEntry s n number (Err AlreadyWithdrawn)
 unfolding IsEntry
 entry_gone n number s d it is gone (e, some, row) = no_more n number s d is e some
-    (flag_gone e.withdrawn it.withdrawn (ap (λ (x : StoredEntry). x.withdrawn) row) gone)
+    (flag_gone e.withdrawn it.withdrawn (ap (λ (x : ListedEntry). x.withdrawn) row) gone)
 
 -- it is there
 pub entry_kept : (n number : ℕ) (s : State) (d : Driver) (it : StoredEntry) → driver_of n s ≡ Some d → it.withdrawn ≡ 0
-    → (e : Entry) × (entry_from 1 number d.entries ≡ Some e) × (it ≡ entry_of (entry_row n number e))
+    → (e : Entry) × (entry_from 1 number d.entries ≡ Some e) × (told_entry it ≡ listed_entry (entry_row n number e))
     → IsEntry s n number (Ok it)
 unfolding IsEntry
 entry_kept n number s d it is kept (e, some, row) = (
@@ -121,7 +121,7 @@ entry_kept n number s d it is kept (e, some, row) = (
   record {
     driver = is;
     entry = some;
-    kept = flag_kept e.withdrawn it.withdrawn (ap (λ (x : StoredEntry). x.withdrawn) row) kept;
+    kept = flag_kept e.withdrawn it.withdrawn (ap (λ (x : ListedEntry). x.withdrawn) row) kept;
     row = row;
   },
 )
@@ -194,7 +194,7 @@ renewed_is : (t : Tables) (s : State) (n number : ℕ) (it : StoredEntry) (rows 
     (outside it.start it.past (map stored_span found.helds) ++ found.are_rows.inside) t)
     (put (with_marked number d) s)
 renewed_is t s n number it rows d e of there = subst
-    (λ (x : StoredEntry). (found : AreRenewed t n number x.start x.past rows)
+    (λ (x : ListedEntry). (found : AreRenewed t n number x.start x.past rows)
     → TablesStandFor (with_renewed n number x.start x.past
     (outside x.start x.past (map stored_span found.helds) ++ found.are_rows.inside) t)
     (put (with_marked number d) s))

@@ -3,9 +3,8 @@ use Rattle.std.specs.Prelude.{◌≡◌, ℕ, ◌+◌, ◌<◌, ◌≤◌, ◌++
 use Rattle.sqlite.specs.Tree.{Trees}
 use Rattle.tacho_time.specs.declared.span.Span.{Span}
 use Rattle.tacho_state.specs.declared.fault.StoreFault.TheVariants.{Full}
-use Rattle.tacho_state.specs.State.{Driver, Entry, State, put, with_batch, entered_spans}
-use Rattle.tacho_state.specs.declared.entry.EntryLine.{EntryLine}
-use Rattle.tacho_state.specs.Batch.{batch_of}
+use Rattle.tacho_state.specs.State.{Driver, Entry, State, put, with_batch}
+use Rattle.tacho_state.specs.Batch.{Hours, batch_of}
 use Rattle.tacho_state.specs.Steps.{Turn, settled, enter_own, most}
 use Rattle.tacho_tables.specs.Rows.{SpanRow, EntryRow}
 use Rattle.tacho_tables.specs.Tables.{Tables, HasTables, with_entries}
@@ -29,10 +28,9 @@ pub record AreNumbered (db : Trees) (s : State) (n : ℕ) (d : Driver) (batch : 
       → Follows db next s (put (with_batch batch d) s)
 
 -- the driver's batch
-abbrev pub enter_turn : List EntryLine → Driver → State → Turn ℕ
+abbrev pub enter_turn : List Hours → Driver → State → Turn ℕ
 enter_turn lines d s = settled s (enter_own (batch_of lines) d)
 
--- a driver with so many entries, and lines that give these spans, of which these are new to what he holds
-abbrev pub AreToEnter : ℕ → ℕ → List Span → List Span → Driver × List EntryLine → Trees → State → Type 0
-AreToEnter n given spans gains p db s =
-    (given ≡ length p.0.entries) × (spans ≡ entered_spans (batch_of p.1)) × AreNumbered db s n p.0 (batch_of p.1) gains
+-- a driver with so many entries, and of what the lines give these are new to what he holds
+abbrev pub AreToEnter : ℕ → ℕ → List Hours → List Span → Driver → Trees → State → Type 0
+AreToEnter n given lines gains d db s = (given ≡ length d.entries) × AreNumbered db s n d (batch_of lines) gains

@@ -1,17 +1,19 @@
 -- Trusted in part: How an archive comes into a store, and how it is found there again.
-use Rattle.std.specs.Prelude.{◌≡◌, ◌≢◌, ◌⊎◌, ℕ, List, [], ◌∷◌, Option, Result, OnOk, OnErr, IfOk, IsErr, IsTrue}
+use Rattle.std.specs.Prelude.{◌≡◌, ◌≢◌, ◌⊎◌, ℕ, List, [], ◌∷◌, Option, Result, Err, OnOk, OnErr, IfOk, IsErr, IsTrue}
 use Rattle.std.specs.Borrow.{MutBor}
 use Rattle.sqlite.specs.State.{State as Sqlite, HasCleanDisk, KeepsCommit, Survives}
 use Rattle.sqlite.specs.Store.{Ghosts}
 use Rattle.sqlite.specs.Held.{Held, state}
 use Rattle.tacho_state.specs.declared.fault.StoreFault.{StoreFault}
+use Rattle.tacho_state.specs.declared.fault.StoreFault.TheVariants.{OldSchema}
 use Rattle.tacho_state.specs.State.{State}
-use Rattle.tacho_tables.specs.Schema.{archive_schema}
-use Rattle.tacho_tables.specs.Making.{TellsVersion}
+use Rattle.tacho_tables.specs.Schema.{old_schema}
+use Rattle.tacho_tables.specs.Making.{IsVersioned, TellsVersion}
 use Rattle.tacho_tables.specs.Tables.{IsVersion}
 use Rattle.tacho_tables.specs.Calls.{Stays}
 use Rattle.tacho_reading.specs.Standing.{StandsFor}
-use Rattle.tacho_reading.specs.Kept.{IsBlank, Sees, LeavesOneOf}
+use Rattle.tacho_reading.specs.Kept.{IsBlank, IsGivenUp, Sees, LeavesOneOf}
+use Rattle.tacho_store.specs.Old.{OldState, StoodFor, with_office}
 
 -- within a transaction, the tables of an archive of no drivers are made
 pub record Makes {S : Type 0} (g : Ghosts S) (old new : MutBor (Held S)) {A : Type 0} (result : Result A StoreFault) : Type 0 where
@@ -19,9 +21,26 @@ pub record Makes {S : Type 0} (g : Ghosts S) (old new : MutBor (Held S)) {A : Ty
   pub keeps : HasCleanDisk (state g new.now) → KeepsCommit (state g old.now) (state g new.now)
   pub made : HasCleanDisk (state g new.now) → IsBlank (state g old.now) → OnOk result (Sees (state g new.now) [])
 
--- the schema that a store's catalog tells is an archive's, of whatever version, or it tells no table
+-- the schema that a store's catalog tells is 2, or 1, or it tells no table
 abbrev pub IsKnown : Sqlite → Type 0
-IsKnown c = (c.now.schema ≡ archive_schema) ⊎ IsBlank c
+IsKnown c = IsVersioned c.now ⊎ IsBlank c
+
+-- it has tables, and where they are of schema 1 or 2 the version is 1
+pub record IsOld (c : Sqlite) : Type 0 where
+  pub tables : ¬ IsBlank c
+  pub version : IsVersioned c.now → (version : ℕ) → IsVersion version c.now.trees → version ≡ 1
+
+-- the faults of a store that isn't adopted
+abbrev pub IsOpeningFault : StoreFault → Type 0
+IsOpeningFault OldSchema = Unit {0}
+IsOpeningFault fault = IsGivenUp fault
+
+-- within a transaction, tables of schema 1 are carried over
+pub record CarriesOver {S : Type 0} (g : Ghosts S) (old new : MutBor (Held S)) {A : Type 0} (result : Result A StoreFault) : Type 0 where
+  pub stays : Stays g old new
+  pub keeps : HasCleanDisk (state g new.now) → KeepsCommit (state g old.now) (state g new.now)
+  pub carried : HasCleanDisk (state g new.now) → (state g old.now).now.schema ≡ old_schema → (s : OldState)
+      → StoodFor (state g old.now).now.trees s → OnOk result (Sees (state g new.now) (with_office s))
 
 module _ (old new : Sqlite) where
   -- the making was given up, and has changed nothing: at most a stop leaves the new archive
@@ -46,20 +65,43 @@ module _ (old new : Sqlite) where
       pub kept : HasCleanDisk new → IsBlank old → OnOk result (LeavesOneOf new ([] ∷ []))
       pub crash : IsBlank old → Survives old new (λ db. StandsFor db [])
 
-    -- tables of schema 1 were found; nothing has changed
+    -- tables of schema 2 were found; nothing has changed
     pub record IsChecked : Type 0 where
       pub alone : IsLeftAlone
       pub live : HasCleanDisk new → OnOk result (IsTrue new.is_open)
       pub missing : HasCleanDisk new → IsBlank old → IsErr result
-      pub version : HasCleanDisk new → old.now.schema ≡ archive_schema
-          → (version : ℕ) → IsVersion version old.now.trees → OnOk result (version ≡ 1)
+      pub version : HasCleanDisk new → IsVersioned old.now → (version : ℕ) → IsVersion version old.now.trees → OnOk result (version ≡ 2)
+      pub is_old : HasCleanDisk new → result ≡ Err OldSchema → IsTrue new.is_open × IsOld old
+
+    -- tables of schema 1 were carried over, or nothing has changed; a stop leaves what it would have left, or these tables, carried over
+    pub record IsCarried : Type 0 where
+      pub clean : HasCleanDisk new → HasCleanDisk old
+      pub was_open : HasCleanDisk new → IsTrue new.is_open → IsTrue old.is_open
+      pub live : HasCleanDisk new → OnOk result (IsTrue new.is_open)
+      pub same : HasCleanDisk new → IsTrue new.is_open → OnErr result (new.now ≡ old.now)
+      pub survives : Survives old new (λ _. Unit {0})
+      pub carried : HasCleanDisk new → old.now.schema ≡ old_schema → (s : OldState) → StoodFor old.now.trees s
+          → OnOk result (Sees new (with_office s))
+      pub kept : HasCleanDisk new → old.now.schema ≡ old_schema → (s : OldState) → StoodFor old.now.trees s
+          → OnOk result (LeavesOneOf new (with_office s ∷ []))
+      pub crash : old.now.schema ≡ old_schema → (s : OldState) → StoodFor old.now.trees s
+          → Survives old new (λ db. StandsFor db (with_office s))
 
   -- the version was read; nothing has changed
   pub record TellsSchema (result : Result (Option ℕ) StoreFault) : Type 0 where
     pub was_open : HasCleanDisk new → IsTrue new.is_open → IsTrue old.is_open
-    pub same : HasCleanDisk new → IsTrue new.is_open → old.now.schema ≡ archive_schema → new.now ≡ old.now
+    pub same : HasCleanDisk new → IsTrue new.is_open → IsVersioned old.now → new.now ≡ old.now
     pub survives : Survives old new (λ _. ⊥)
-    pub version : HasCleanDisk new → old.now.schema ≡ archive_schema → IfOk result (TellsVersion old.now.trees)
+    pub version : HasCleanDisk new → IsVersioned old.now → IfOk result (TellsVersion old.now.trees)
+    pub missing : HasCleanDisk new → IsBlank old → IsErr result
+
+  -- an archive that was not carried over is as it was; a stop leaves what it would have left, or the archive of schema 1 carried over
+  pub record IsNotMigrated : Type 0 where
+    pub was_open : HasCleanDisk new → IsTrue new.is_open → IsTrue old.is_open
+    pub same : HasCleanDisk new → IsTrue new.is_open → IsKnown old → new.now ≡ old.now
+    pub crash : (s : OldState) → StoodFor old.now.trees s → Survives old new (λ db. StandsFor db (with_office s))
+    pub alone : (s : State) → StandsFor old.now.trees s → Survives old new (λ _. ⊥)
+    pub blank : IsBlank old → Survives old new (λ _. ⊥)
 
 -- ---- archives, as whatever keeps them says
 
@@ -70,10 +112,20 @@ module _ {K : Type 0} (stands : K → State → Type 0) (is_live : K → Type 0)
     pub live : is_live archive
     pub left : leaves archive ([] ∷ [])
 
-  -- the archive that a store had, of schema 1
+  -- the archive that a store had, of schema 2
   pub record IsAdopted (old : Sqlite) (archive : K) : Type 0 where
+    pub was_open : IsTrue old.is_open
     pub held : (s : State) → StandsFor old.now.trees s → stands archive s
     pub live : is_live archive
     pub left : (states : List State) → LeavesOneOf old states → leaves archive states
     pub found : ¬ IsBlank old
-    pub version : old.now.schema ≡ archive_schema → (version : ℕ) → IsVersion version old.now.trees → version ≡ 1
+    pub version : IsVersioned old.now → (version : ℕ) → IsVersion version old.now.trees → version ≡ 2
+
+  -- the archive that a store had: of schema 1, whose entries are the office's now, or of schema 2, as it was
+  pub record IsMigrated (old : Sqlite) (archive : K) : Type 0 where
+    pub carried : (s : OldState) → StoodFor old.now.trees s → stands archive (with_office s)
+    pub held : (s : State) → StandsFor old.now.trees s → stands archive s
+    pub live : is_live archive
+    pub kept : (s : OldState) → StoodFor old.now.trees s → leaves archive (with_office s ∷ [])
+    pub left : (s : State) → StandsFor old.now.trees s → (states : List State) → LeavesOneOf old states → leaves archive states
+    pub found : ¬ IsBlank old

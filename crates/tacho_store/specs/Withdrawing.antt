@@ -9,7 +9,7 @@ use Rattle.tacho_state.specs.State.{Driver, Entry, State, driver_of, entry_from}
 use Rattle.tacho_state.specs.Steps.{withdrawn}
 use Rattle.tacho_tables.specs.declared.rows.StoredSpan.{StoredSpan}
 use Rattle.tacho_tables.specs.declared.rows.StoredEntry.{StoredEntry}
-use Rattle.tacho_tables.specs.Tables.{Tables, row_of, entry_of, with_withdrawn}
+use Rattle.tacho_tables.specs.Tables.{Tables, row_of, listed_entry, told_entry, with_withdrawn}
 use Rattle.tacho_reading.specs.Standing.{AreFaulty, AreMinutes, IsFit, span_row, stored_span, entry_row, IsReadNear, IsKeptNear}
 use Rattle.tacho_reading.specs.Finding.{Refuses}
 
@@ -18,7 +18,7 @@ pub record IsThere (s : State) (n number : ℕ) (it : StoredEntry) (d : Driver) 
   pub driver : driver_of n s ≡ Some d
   pub entry : entry_from 1 number d.entries ≡ Some e
   pub kept : e.withdrawn ≡ false
-  pub row : it ≡ entry_of (entry_row n number e)
+  pub row : told_entry it ≡ listed_entry (entry_row n number e)
 
 -- the entry is there and not withdrawn; or the withdrawal is refused: S4, S7, S8; or a call gave up
 unfoldable pub IsEntry : State → ℕ → ℕ → Result StoredEntry StoreFault → Type 0

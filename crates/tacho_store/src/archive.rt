@@ -3,7 +3,7 @@ ghost use Rattle.sqlite.specs.State.{HasCleanDisk};
 ghost use Rattle.sqlite.specs.Held.{state};
 ghost use Rattle.tacho_state.specs.State.{State};
 ghost use Rattle.tacho_reading.specs.Kept.{IsBlank, SeesWhileOpen, LeavesOneOf, IsSame, IsGivenUp};
-ghost use Rattle.tacho_store.specs.Opening.{Makes, IsMade, IsUnmade, TellsSchema, IsChecked, IsEmptyArchive, IsAdopted, IsLeftAlone};
+ghost use Rattle.tacho_store.specs.Opening.{Makes, CarriesOver, IsMade, IsUnmade, TellsSchema, IsChecked, IsCarried, IsEmptyArchive, IsAdopted, IsLeftAlone, IsOld, IsOpeningFault, IsMigrated, IsNotMigrated};
 
 use crate::base::rebase;
 use crate::content::content_of;
@@ -73,21 +73,49 @@ fn read_version<S: Alter>(conn: &mut Connection<S>) -> Result<Option<u32>, Store
     making::version(&mut tx).map_err(store_fault)
 }
 
-/// Asks a store for tables of schema 1, and changes nothing.
+/// Asks a store for tables of schema 2, and changes nothing. S13 where they are of schema 1.
 fn check<S: Alter>(conn: &mut Connection<S>) -> Result<(), StoreFault>
     requires { conn.old.in_transaction ≡ false }
     ensures autocommit { conn.new.in_transaction ≡ false }
-    ensures refused { IfErr result IsGivenUp }
+    ensures refused { IfErr result IsOpeningFault }
     ensures checked { IsChecked (state S.Store conn.old) (state S.Store conn.new) result }
 {
     let _settled = conn.is_autocommit();
     opening::ask(conn).map_err(store_fault)?;
-    match read_version(conn)? {
-        Some(1) => {
-            let _settled = conn.is_autocommit();
-            opening::ask(conn).map_err(store_fault)
-        }
+    let version = read_version(conn)?;
+    let _settled = conn.is_autocommit();
+    opening::ask(conn).map_err(store_fault)?;
+    match version {
+        Some(2) => Ok(()),
+        Some(1) => Err(StoreFault::OldSchema),
         _ => Err(StoreFault::Store),
+    }
+}
+
+/// Carries tables of schema 1 over, within a transaction.
+fn carry_in<S: Alter>(tx: &mut Transaction<'_, S>) -> Result<(), StoreFault>
+    ensures refused { IfErr result IsGivenUp }
+    ensures carries { CarriesOver S.Store tx.old.conn tx.new.conn result }
+{
+    making::carry(tx).map_err(store_fault)
+}
+
+/// Carries tables of schema 1 over.
+fn carry<S: Alter>(conn: &mut Connection<S>) -> Result<(), StoreFault>
+    requires { conn.old.in_transaction ≡ false }
+    ensures autocommit { conn.new.in_transaction ≡ false }
+    ensures refused { IfErr result IsGivenUp }
+    ensures carried { IsCarried (state S.Store conn.old) (state S.Store conn.new) result }
+{
+    let _settled = conn.is_autocommit();
+    let mut tx = conn.transaction();
+    carry_in(&mut tx)?;
+    match tx.commit() {
+        Ok(()) => Ok(()),
+        Err(_) => {
+            let _undone = conn.is_autocommit();
+            Err(StoreFault::Store)
+        }
     }
 }
 
@@ -97,7 +125,8 @@ impl<S: Alter> Archive<S> {
     ghost use Rattle.sqlite.specs.Held.{state};
     ghost use Rattle.tacho_state.specs.State.{State};
     ghost use Rattle.tacho_reading.specs.Kept.{IsBlank, SeesWhileOpen, LeavesOneOf, IsGivenUp};
-    ghost use Rattle.tacho_store.specs.Opening.{IsUnmade, IsEmptyArchive, IsAdopted, IsLeftAlone};
+    ghost use Rattle.tacho_state.specs.declared.fault.StoreFault.TheVariants.{OldSchema};
+    ghost use Rattle.tacho_store.specs.Opening.{IsUnmade, IsEmptyArchive, IsAdopted, IsLeftAlone, IsOld, IsOpeningFault, IsMigrated, IsNotMigrated};
 
     /// An archive of no drivers in a store without tables, made in one transaction. S12 where the store has tables. A
     /// refusal hands the connection back, with the store as it was.
@@ -117,20 +146,43 @@ impl<S: Alter> Archive<S> {
         }
     }
 
-    /// The archive that a store has. S12 where the store has no tables, or tables of another schema. A refusal hands
-    /// the connection back, with an archive's tables of whatever version, or the store without tables, as they were.
+    /// The archive that a store has. S13 where its tables are of schema 1, and S12 where the store has no tables, or others. A
+    /// refusal hands the connection back, with an archive's tables of whatever version, or the store without tables, as they were.
     pub fn adopt(mut conn: Connection<S>) -> Result<Archive<S>, (StoreFault, Connection<S>)>
         requires { conn.in_transaction ≡ false }
         ensures adopted { IfOk result (λ archive. ⟦<Archive<S> as Keeper>⟧.is_clean archive
             → IsAdopted ⟦<Archive<S> as Keeper>⟧.stands ⟦<Archive<S> as Keeper>⟧.is_live
             ⟦<Archive<S> as Keeper>⟧.leaves (state S.Store conn) archive) }
-        ensures refused { IfErr result (λ e. IsGivenUp e.0 × (e.1.in_transaction ≡ false)
+        ensures refused { IfErr result (λ e. IsOpeningFault e.0 × (e.1.in_transaction ≡ false)
             × IsLeftAlone (state S.Store conn) (state S.Store e.1)) }
+        ensures old { IfErr result (λ e. HasCleanDisk (state S.Store e.1) → e.0 ≡ OldSchema
+            → IsTrue (state S.Store e.1).is_open × IsOld (state S.Store conn)) }
     {
         let _sound = conn.schema();
         match check(&mut conn) {
             Ok(()) => Ok(Archive { conn }),
             Err(fault) => Err((fault, conn)),
+        }
+    }
+
+    /// The archive that a store has, of schema 2; tables of schema 1 are carried over first, in one transaction: each entry is one
+    /// of the office, without a note. S12 where the store has neither. A refusal hands the connection back, with the store as it was.
+    pub fn migrate(conn: Connection<S>) -> Result<Archive<S>, (StoreFault, Connection<S>)>
+        requires { conn.in_transaction ≡ false }
+        ensures migrated { IfOk result (λ archive. ⟦<Archive<S> as Keeper>⟧.is_clean archive
+            → IsMigrated ⟦<Archive<S> as Keeper>⟧.stands ⟦<Archive<S> as Keeper>⟧.is_live
+            ⟦<Archive<S> as Keeper>⟧.leaves (state S.Store conn) archive) }
+        ensures refused { IfErr result (λ e. IsGivenUp e.0 × (e.1.in_transaction ≡ false)
+            × IsNotMigrated (state S.Store conn) (state S.Store e.1)) }
+    {
+        let _sound = conn.schema();
+        match Self::adopt(conn) {
+            Ok(archive) => Ok(archive),
+            Err((StoreFault::OldSchema, mut conn)) => match carry(&mut conn) {
+                Ok(()) => Ok(Archive { conn }),
+                Err(fault) => Err((fault, conn)),
+            },
+            Err(refusal) => Err(refusal),
         }
     }
 

@@ -1,13 +1,14 @@
-ghost use Rattle.std.specs.Prelude.{◌≡◌, ◌+◌, ◌<◌, ◌^◌, Some, length, map, false, IfOk, MatchResult};
+ghost use Rattle.std.specs.Prelude.{◌≡◌, ◌+◌, ◌<◌, ◌^◌, ◌∷◌, ◌++◌, Some, length, map, false, IfOk, MatchResult};
 ghost use Rattle.tacho_state.specs.Batch.{IsBatch, entry_of, batch_of};
 ghost use Rattle.tacho_state.specs.Disjoint.{AreInRange};
 ghost use Rattle.tacho_state.specs.State.{Driver, driver_of, entry_span, entered_spans};
 ghost use Rattle.tacho_state.specs.Steps.{enter_own, entered};
-ghost use Rattle.tacho_tables.specs.Tables.{entered_rows, row_of};
+ghost use Rattle.tacho_tables.specs.Tables.{row_of};
 ghost use Rattle.tacho_tables.specs.Calls.{Changes};
 ghost use Rattle.tacho_reading.specs.Calls.{Tells, Steps, StepsGiven};
 ghost use Rattle.tacho_reading.specs.Kept.{ActsOn};
 ghost use Rattle.tacho_reading.specs.Finding.{Refuses};
+ghost use Rattle.tacho_reading.specs.Standing.{entry_row, entry_rows};
 ghost use Rattle.tacho_store.specs.Entering.{AreNumbered, AreToEnter, enter_turn, batched};
 
 use crate::news::gains_of;
@@ -16,7 +17,7 @@ use std::alloc::{AllocError, Global};
 use tacho_reading::fault::store_fault;
 use tacho_reading::finding::driver_with;
 use tacho_reading::near::rows_near;
-use tacho_reading::spans::{line_of_stored, stored};
+use tacho_reading::spans::{line_of_stored, stored, stored_row};
 use tacho_state::{Entered, EntryLine, StoreFault, first_number};
 use tacho_tables::{SpanTable, StoredSpan, TableFault, drivers, entries, spans};
 use tacho_time::{Mark, Span};
@@ -26,10 +27,10 @@ fn span_of_line(line: &EntryLine) -> Span
     ensures { result ≡ entry_span (entry_of line.now) }
 {
     Span {
-        start: line.start,
-        past: line.past,
+        start: line.start(),
+        past: line.past(),
         mark: Mark {
-            activity: line.activity,
+            activity: line.activity(),
             crew: false,
         },
     }
@@ -52,7 +53,7 @@ fn range_of_lines(lines: &[EntryLine]) -> (u32, u32)
     ensures { AreInRange result.0 result.1 (entered_spans (batch_of lines.now)) }
 {
     match (lines.first(), lines.last()) {
-        (Some(first), Some(last)) => (first.start.number(), last.past.number()),
+        (Some(first), Some(last)) => (first.start().number(), last.past().number()),
         _ => (0, 0),
     }
 }
@@ -77,6 +78,39 @@ fn gains_near<S: Alter>(
     gains_of(alloc, &line, spans)
 }
 
+/// Adds the entry of a line to a driver's, by its number.
+fn insert_line<S: Alter>(
+    tx: &mut Transaction<'_, S>,
+    driver: u32,
+    number: u32,
+    line: &EntryLine,
+) -> Result<(), TableFault>
+    ensures { Changes S.Store tx.old.conn tx.new.conn result
+        (λ a. record a { entries = entry_row driver number (entry_of line.now) ∷ a.entries }) }
+{
+    let span = stored_row(&span_of_line(line));
+    entries::insert(tx, driver, number, &span, line.author(), line.note())
+}
+
+/// Adds the entries of a batch's lines to a driver's, numbered from `first` on.
+fn insert_lines<S: Alter>(
+    tx: &mut Transaction<'_, S>,
+    driver: u32,
+    first: u32,
+    lines: &[EntryLine],
+) -> Result<(), TableFault>
+    requires { first + length lines.now < 2 ^ 32 }
+    ensures { Changes S.Store tx.old.conn tx.new.conn result
+        (λ a. record a { entries = entry_rows driver first (batch_of lines.now) ++ a.entries }) }
+{
+    let mut number = first;
+    for line in lines {
+        insert_line(tx, driver, number, line)?;
+        number += 1;
+    }
+    Ok(())
+}
+
 /// Writes a batch: how many entries the driver has then, the rows of its lines, numbered from `first` on, and the rows
 /// of what he holds more.
 fn write_batch<S: Alter>(
@@ -84,15 +118,15 @@ fn write_batch<S: Alter>(
     driver: u32,
     first: u32,
     count: u32,
-    rows: &[StoredSpan],
+    lines: &[EntryLine],
     helds: &[StoredSpan],
 ) -> Result<(), TableFault>
-    requires { first + length rows.now < 2 ^ 32 }
+    requires { first + length lines.now < 2 ^ 32 }
     ensures { Changes S.Store tx.old.conn tx.new.conn result
-        (batched driver count (entered_rows driver first rows.now) (map (row_of driver) helds.now)) }
+        (batched driver count (entry_rows driver first (batch_of lines.now)) (map (row_of driver) helds.now)) }
 {
     drivers::set_entries(tx, driver, count)?;
-    entries::insert_all(tx, driver, first, rows)?;
+    insert_lines(tx, driver, first, lines)?;
     spans::insert_all(tx, SpanTable::Held, driver, helds)
 }
 
@@ -102,22 +136,21 @@ fn add_batch<S: Alter>(
     tx: &mut Transaction<'_, S>,
     driver: u32,
     given: u32,
-    spans: &[Span],
+    lines: &[EntryLine],
     gains: &[Span],
 ) -> Result<Entered, StoreFault>
-    ensures steps { StepsGiven S.Store tx.old.conn tx.new.conn result (AreToEnter driver given spans.now gains.now)
-        (λ done. done.first) (λ p. enter_turn p.1 p.0) }
-    ensures count { IfOk result (λ done. done.count ≡ length spans.now) }
+    ensures steps { StepsGiven S.Store tx.old.conn tx.new.conn result (AreToEnter driver given lines.now gains.now)
+        (λ done. done.first) (enter_turn lines.now) }
+    ensures count { IfOk result (λ done. done.count ≡ length lines.now) }
 {
-    let Ok(count) = u32::try_from(spans.len()) else {
+    let Ok(count) = u32::try_from(lines.len()) else {
         return Err(StoreFault::Full);
     };
     let Some(first) = first_number(given, count) else {
         return Err(StoreFault::Full);
     };
-    let rows = stored(alloc, spans)?;
     let helds = stored(alloc, gains)?;
-    write_batch(tx, driver, first, given + count, &rows, &helds).map_err(store_fault)?;
+    write_batch(tx, driver, first, given + count, lines, &helds).map_err(store_fault)?;
     Ok(Entered { first, count })
 }
 
@@ -136,7 +169,7 @@ fn enter_in<S: Alter>(
     let found = driver_with(tx, driver)?;
     let spans = spans_of_lines(alloc, lines)?;
     let gains = gains_near(alloc, tx, driver, lines, &spans)?;
-    add_batch(alloc, tx, driver, found.entries, &spans, &gains)
+    add_batch(alloc, tx, driver, found.entries, lines, &gains)
 }
 
 /// Enters a batch of hours: S4, S6, S14.

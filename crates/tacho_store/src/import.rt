@@ -7,8 +7,7 @@ ghost use Rattle.tacho_state.specs.declared.imported.Imported.TheVariants.{Repea
 ghost use Rattle.tacho_state.specs.Steps.{imported};
 ghost use Rattle.tacho_state.specs.Content.{FileTells, part_number};
 ghost use Rattle.tacho_state.specs.Acts.{caller_number, IsOfNoFile};
-ghost use Rattle.tacho_tables.specs.Schema.{archive_schema};
-ghost use Rattle.tacho_tables.specs.Tables.{row_of};
+ghost use Rattle.tacho_tables.specs.Tables.{row_of, IsArchive};
 ghost use Rattle.tacho_tables.specs.Calls.{Changes};
 ghost use Rattle.tacho_reading.specs.Calls.{Tells, Steps, StepsGiven};
 ghost use Rattle.tacho_reading.specs.Kept.{ActsOn, SeesWhileOpen, IsSame};
@@ -187,7 +186,7 @@ fn import_spans<S: Alter>(
         (AreToImport importer part file.now spans.now) (λ done. done)
         (λ p. import_turn part file.now spans.now p.0) }
     ensures repeated { HasCleanDisk (state S.Store tx.new.conn.now)
-        → (state S.Store tx.old.conn.now).now.schema ≡ archive_schema
+        → IsArchive (state S.Store tx.old.conn.now).now
         → (number : ℕ) → result ≡ Ok (Repeated number)
         → IsUnchanged (state S.Store tx.old.conn.now) (state S.Store tx.new.conn.now) }
 {
@@ -213,7 +212,7 @@ fn import_in<S: Alter>(
     ensures steps { Steps S.Store tx.old.conn tx.new.conn result (λ done. done)
         (imported (caller_number caller) (part_number part) file.now (Ok (content_told content.now))) }
     ensures repeated { HasCleanDisk (state S.Store tx.new.conn.now)
-        → (state S.Store tx.old.conn.now).now.schema ≡ archive_schema
+        → IsArchive (state S.Store tx.old.conn.now).now
         → (number : ℕ) → result ≡ Ok (Repeated number)
         → IsUnchanged (state S.Store tx.old.conn.now) (state S.Store tx.new.conn.now) }
 {

@@ -1,7 +1,8 @@
 //! Laws about what the archive's tables stand for after a command. A law is a function without a body: what it ensures
 //! is proved, and holds for all that it names.
 
-ghost use Rattle.std.specs.Prelude.{◌≡◌, ℕ, ◌+◌, ◌++◌, List, [], ◌∷◌, None, Some, Ok, length, map};
+ghost use Rattle.std.specs.Prelude.{◌≡◌, ℕ, ◌+◌, ◌==◌, ◌++◌, List, [], ◌∷◌, None, Some, Ok, filter, length, map};
+ghost use Rattle.std.specs.List.{AllByRecursion};
 ghost use Rattle.sqlite.specs.Held.{state};
 ghost use Rattle.tacho_time.specs.Spans.{Gives, IsCanonicalOf};
 ghost use Rattle.tacho_time.specs.declared.span.Span.{Span};
@@ -12,9 +13,11 @@ ghost use Rattle.tacho_state.specs.Disjoint.{AreInRange, near, outside};
 ghost use Rattle.tacho_state.specs.State.{Driver, Entry, State, AreFull, driver_of, keyed, holding, entry_from, entered_spans, put, with_base, with_download, with_batch, with_marked};
 ghost use Rattle.tacho_state.specs.Steps.{Content};
 ghost use Rattle.tacho_tables.specs.declared.rows.StoredSpan.{StoredSpan as StoredValue};
-ghost use Rattle.tacho_tables.specs.Tables.{Tables, no_rows, with_withdrawn};
+ghost use Rattle.tacho_tables.specs.Tables.{Tables, OldTables, carried, no_rows, with_withdrawn};
+ghost use Rattle.tacho_tables.specs.Rows.{OldEntryRow};
 ghost use Rattle.tacho_reading.specs.Kept.{IsOfOne, LeavesOneOf};
 ghost use Rattle.tacho_reading.specs.Standing.{TablesStandFor, spans_of, driver_columns, stored_span, IsReadNear, IsKeptNear};
+ghost use Rattle.tacho_store.specs.Old.{OldDriver, OldState, old_entry_rows, with_office};
 ghost use Rattle.tacho_store.specs.Opening.{IsAdopted};
 ghost use Rattle.tacho_store.specs.After.{with_driver, with_rebased, with_imported, with_entered, with_renewed};
 
@@ -67,6 +70,13 @@ pub fn imported_tables_stand()
         → IsCanonicalOf (Gives (near start past (spans_of n t.held))) line → AreGains line content.spans gains
         → TablesStandFor (with_imported n (1 + length d.downloads) (part_number part) file card_gains gains t)
         (put (with_download (part_number part) file content.spans d) s) }
+{}
+
+/// Where tables of schema 1 stand for a state, the rows of a driver's entries are those of his entries, by their numbers.
+pub fn old_entries_are_rows()
+    ensures { (t : OldTables) (s : OldState) → TablesStandFor (carried t) (with_office s)
+        → AllByRecursion (λ (d : OldDriver). filter (λ (r : OldEntryRow). r.driver == d.number) t.entries
+        ≡ old_entry_rows d.number 1 d.entries) s }
 {}
 
 /// A batch of entries, on the tables: its rows are added, and its gains against held rows near it.

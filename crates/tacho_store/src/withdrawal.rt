@@ -6,8 +6,7 @@ ghost use Rattle.tacho_time.specs.Spans.{Gives, IsCanonicalOf};
 ghost use Rattle.tacho_line.specs.Line.{IsWithin};
 ghost use Rattle.tacho_state.specs.Disjoint.{outside};
 ghost use Rattle.tacho_state.specs.Steps.{withdrawn};
-ghost use Rattle.tacho_tables.specs.Schema.{archive_schema};
-ghost use Rattle.tacho_tables.specs.Tables.{Tables, HasTables, is_near, row_of, with_withdrawn};
+ghost use Rattle.tacho_tables.specs.Tables.{Tables, HasTables, is_near, row_of, with_withdrawn, IsArchive};
 ghost use Rattle.tacho_reading.specs.Standing.{stored_span, IsFit, AreFaulty};
 ghost use Rattle.tacho_reading.specs.Calls.{Tells, Steps, ChangesWhere};
 ghost use Rattle.tacho_reading.specs.Kept.{ActsOn};
@@ -118,7 +117,7 @@ fn mark<S: Alter>(
     ensures marked { ChangesWhere S.Store tx.old.conn tx.new.conn result (λ _. Unit {0})
         (λ t. record t { entries = map (with_withdrawn driver number) t.entries }) }
     ensures renewed { HasCleanDisk (state S.Store tx.new.conn.now)
-        → (state S.Store tx.old.conn.now).now.schema ≡ archive_schema
+        → IsArchive (state S.Store tx.old.conn.now).now
         → IfOk result (λ rows. (t : Tables) → HasTables (state S.Store tx.old.conn.now).now.trees t
         → AreApart (rows_of driver t.card_spans) → AreApart (rows_of driver t.held)
         → AreRenewed t driver number start past rows.items) }

@@ -1,11 +1,11 @@
-use Rattle.std.proofs.Common.{rules, ◌≡◌, ◌∙◌, ◌+◌, ◌≤◌, ◌<◌, map, length, sym, ap, subst, arith}
+use Rattle.std.proofs.Common.{rules, ◌≡◌, ◌∙◌, ◌+◌, ◌≤◌, ◌<◌, map, sym, ap, subst, arith}
 use Rattle.sqlite.specs.Held.{state}
 use Rattle.tacho_tables.specs.Tables.{row_of}
 use Rattle.tacho_state.specs.Steps.{most}
 use Rattle.tacho_reading.specs.Standing.{span_row}
 use Rattle.tacho_reading.proofs.MappedLemmas.{was_ok}
 use Rattle.tacho_store.proofs.StepsLemmas.{given_by}
-use Rattle.tacho_store.proofs.EnteringLemmas.{rows_counted, numbers_left, no_numbers, too_many, batch_answer, batch_written}
+use Rattle.tacho_store.proofs.EnteringLemmas.{numbers_left, no_numbers, too_many, batch_answer, batch_written}
 use Rattle.tacho_store.proofs.entering.add_batch.Goals as goal
 
 pub returns-in_default-clause-steps : goal.returns-in_default-clause-steps
@@ -13,10 +13,9 @@ returns-in_default-clause-steps g c = record {
   stays = search rules;
   keeps = search rules;
   of_no_file = search rules;
-  answer = λ clean schema s stands p all.
+  answer = λ clean schema s stands d all.
       let long = c.in_default.ensures in
-      too_many _ s c.args.driver p.0 p.1 c.args.gains.now all.2 c.args.given all.0 c.args.spans.now all.1
-      (omega (arith, long));
+      too_many _ s c.args.driver d c.args.lines.now c.args.gains.now all.1 c.args.given all.0 (omega (arith, long));
   made = search rules;
   others = search rules;
 }
@@ -26,9 +25,9 @@ returns-in_default-first_number-clause-steps g c = record {
   stays = search rules;
   keeps = search rules;
   of_no_file = search rules;
-  answer = λ clean schema s stands p all.
+  answer = λ clean schema s stands d all.
       let over = no_numbers c.args.given c.in-Ok.count (sym c.first_number.ensures ∙ c.in_default-first_number.is) in
-      too_many _ s c.args.driver p.0 p.1 c.args.gains.now all.2 c.args.given all.0 c.args.spans.now all.1
+      too_many _ s c.args.driver d c.args.lines.now c.args.gains.now all.1 c.args.given all.0
       (subst (λ n. most < c.args.given + n) c.in-Ok.ensures.1 over);
   made = search rules;
   others = search rules;
@@ -37,34 +36,29 @@ returns-in_default-first_number-clause-steps g c = record {
 pub write_batch-requires : goal.write_batch-requires
 write_batch-requires g c =
     let room = numbers_left c.args.given c.in-Ok.count c.in-Some.first (sym c.first_number.ensures ∙ c.in-Some.is) in
-    let rows = rows_counted 0 c.in_ok-rows.rows.items c.args.spans.now (c.in_ok-rows.ensures 0) in
     let counted = c.in-Ok.ensures.1 in
     let most_of = room.0 in
     let first = room.1 in
-    let value = ap length c.deref.ensures.value in
-    omega (arith, rows, counted, most_of, first, value)
+    omega (arith, counted, most_of, first)
 
 pub returns-clause-steps : goal.returns-clause-steps
 returns-clause-steps g c = given_by (search rules) (search rules) (search rules)
-    (λ clean schema s stands p all.
+    (λ clean schema s stands d all.
     let room = numbers_left c.args.given c.in-Ok.count c.in-Some.first (sym c.first_number.ensures ∙ c.in-Some.is) in
-    batch_answer _ s c.args.driver p.0 p.1 c.args.gains.now all.2 c.args.given all.0 c.args.spans.now all.1
+    batch_answer _ s c.args.driver d c.args.lines.now c.args.gains.now all.1 c.args.given all.0
     c.in-Some.first (subst (λ n. c.args.given + n ≤ most) c.in-Ok.ensures.1 room.0) room.1)
-    (λ clean schema s stands p all.
+    (λ clean schema s stands d all.
     let n = c.args.driver in
     let room = numbers_left c.args.given c.in-Ok.count c.in-Some.first (sym c.first_number.ensures ∙ c.in-Some.is) in
     let wrote = was_ok c.write_batch.result c.in_ok-map_err.field-0 _ c.in_ok-map_err.ensures.cases
     (c.write_batch.ensures.turned clean schema) in (
       wrote.schema,
-      batch_written (state g.S.Store c.args.tx.now.conn.now).now.trees s n p.0 p.1 c.args.gains.now all.2 c.args.given all.0
-          c.args.spans.now all.1 c.in-Some.first
-          (c.args.given + c.in-Ok.count) c.deref.result.now c.deref-2.result.now
+      batch_written (state g.S.Store c.args.tx.now.conn.now).now.trees s n d c.args.lines.now c.args.gains.now all.1 c.args.given all.0
+          c.in-Some.first (c.args.given + c.in-Ok.count) c.deref.result.now
           (state g.S.Store c.write_batch.new.tx.conn.now).now.trees
           (subst (λ k. c.args.given + k ≤ most) c.in-Ok.ensures.1 room.0) room.1
           (ap (λ k. c.args.given + k) c.in-Ok.ensures.1)
-          (subst (λ x. map (row_of n) x ≡ map (span_row n) c.args.spans.now) (sym c.deref.ensures.value)
-          (c.in_ok-rows.ensures n))
-          (subst (λ x. map (row_of n) x ≡ map (span_row n) c.args.gains.now) (sym c.deref-2.ensures.value)
+          (subst (λ x. map (row_of n) x ≡ map (span_row n) c.args.gains.now) (sym c.deref.ensures.value)
           (c.in_ok-helds.ensures n))
           wrote.stands,
     ))

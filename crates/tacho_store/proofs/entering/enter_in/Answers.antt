@@ -1,12 +1,11 @@
-use Rattle.std.proofs.Common.{rules, ◌≡◌, ◌∙◌, ap, length}
-use Rattle.std.proofs.lemmas.Result.{IfOk-weaker}
-use Rattle.sqlite.specs.Effect.{Database}
+use Rattle.std.proofs.Common.{rules, sym, subst}
 use Rattle.sqlite.proofs.Callers.{unchanged_then}
 use Rattle.tacho_state.specs.Batch.{batch_of}
+use Rattle.tacho_tables.specs.Tables.{IsArchive}
 use Rattle.tacho_reading.proofs.SeenLemmas.{still_seen}
 use Rattle.tacho_reading.proofs.LookUpLemmas.{the_driver, unknown_refuses, handed_on}
-use Rattle.tacho_store.proofs.StepsLemmas.{steps_then}
-use Rattle.tacho_store.proofs.EnteringLemmas.{lines_counted, nobody_enters, enters, handed_refusal, still_numbered}
+use Rattle.tacho_store.proofs.StepsLemmas.{keeps_after, steps_then, unchanged_after}
+use Rattle.tacho_store.proofs.EnteringLemmas.{nobody_enters, enters, handed_refusal, still_numbered}
 use Rattle.tacho_store.proofs.entering.enter_in.Goals as goal
 
 pub returns-in_err-found-clause-steps : goal.returns-in_err-found-clause-steps
@@ -22,7 +21,13 @@ returns-in_err-found-clause-steps g c = record {
 
 pub returns-in_err-gains-clause-steps : goal.returns-in_err-gains-clause-steps
 returns-in_err-gains-clause-steps g c = record {
-  goes = search rules;
+  goes = record {
+    stays = search rules;
+    keeps = keeps_after _ _ _ c.gains_near.ensures.goes.stays.clean c.in_ok-found.ensures.same c.in_ok-found.ensures.goes.keeps
+        c.gains_near.ensures.goes.keeps;
+    live = search rules;
+    of_no_file = search rules;
+  };
   answer = λ clean schema s stands.
       let clean_1 = c.gains_near.ensures.goes.stays.clean clean in
       let d = the_driver c.args.driver s _ (c.in_ok-found.ensures.told clean_1 schema s stands) in
@@ -38,8 +43,17 @@ returns-clause-steps g c = steps_then c.add_batch.ensures.steps
     (λ clean schema.
     let clean_2 = c.add_batch.ensures.steps.stays.clean clean in
     let same = c.in_ok-found.ensures.same (c.gains_near.ensures.goes.stays.clean clean_2) schema in
-    unchanged_then _ _ _ same (c.in_ok-gains.ensures.same clean_2 (ap (λ (d : Database). d.schema) same.0.now_is ∙ schema)))
-    (search rules)
+    unchanged_then _ _ _ same (c.in_ok-gains.ensures.same clean_2 (subst IsArchive (sym same.0.now_is) schema)))
+    (record {
+      stays = search rules;
+      keeps = keeps_after _ _ _ c.add_batch.ensures.steps.stays.clean
+          (unchanged_after _ _ _ c.gains_near.ensures.goes.stays.clean c.in_ok-found.ensures.same c.in_ok-gains.ensures.same)
+          (keeps_after _ _ _ c.gains_near.ensures.goes.stays.clean c.in_ok-found.ensures.same c.in_ok-found.ensures.goes.keeps
+          c.gains_near.ensures.goes.keeps)
+          c.add_batch.ensures.steps.keeps;
+      live = search rules;
+      of_no_file = search rules;
+    })
     (λ clean schema s stands.
     let clean_2 = c.add_batch.ensures.steps.stays.clean clean in
     let clean_1 = c.gains_near.ensures.goes.stays.clean clean_2 in
@@ -47,13 +61,7 @@ returns-clause-steps g c = steps_then c.add_batch.ensures.steps
     let seen = still_seen _ _ s (c.in_ok-found.ensures.same clean_1 schema) schema stands in
     let new = still_numbered _ _ s c.args.driver d.0 (batch_of c.args.lines.now) _ (c.in_ok-gains.ensures.same clean_2 seen.0)
     (c.in_ok-gains.ensures.told clean_2 seen.0 s seen.1 d.0 d.1) in (
-      (d.0, c.args.lines.now),
-      (d.2.entries, c.deref-2.ensures.value ∙ c.in_ok-spans.ensures, rw c.deref-3.ensures.value new),
+      d.0,
+      (d.2.entries, rw c.deref-2.ensures.value new),
       enters c.args.driver s (batch_of c.args.lines.now) d.0 d.1,
     ))
-
-pub returns-clause-count : goal.returns-clause-count
-returns-clause-count g c =
-    let all : length c.deref-2.result.now ≡ length c.args.lines.now =
-    ap length (c.deref-2.ensures.value ∙ c.in_ok-spans.ensures) ∙ lines_counted c.args.lines.now in
-    IfOk-weaker c.add_batch.result _ _ (λ done count. count ∙ all) c.add_batch.ensures.count

@@ -8,4 +8,4 @@ returns-in-Some-Some c m k g =
     let within = lines_in_range c.args.lines.now c.in-Some-Some.first.now c.in-Some-Some.last.now c.requires
     (sym c.first.ensures.value ∙ ap option_copied c.in-Some-Some.is-0)
     (sym c.last.ensures.value ∙ ap option_copied c.in-Some-Some.is-1) m k g in
-    (rw c.number.ensures.value within.0, rw c.number-in-Some-Some.ensures.value within.1)
+    (rw (c.number.ensures.value, c.start.ensures) within.0, rw (c.number-in-Some-Some.ensures.value, c.past.ensures) within.1)

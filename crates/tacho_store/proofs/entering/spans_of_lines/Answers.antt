@@ -1,17 +1,16 @@
 use Rattle.std.proofs.Common.{◌≡◌, ◌∙◌, ◌+◌, ◌++◌, [], ◌∷◌, List, sym, ap, drop, get_or, drop-cons, add-one, append_assoc}
 use Rattle.std.proofs.lemmas.List.{drop_all, append-nil}
 use Rattle.tacho_time.specs.declared.span.Span.{Span}
-use Rattle.tacho_state.specs.declared.entry.EntryLine.{EntryLine}
-use Rattle.tacho_state.specs.Batch.{batch_of}
+use Rattle.tacho_state.specs.Batch.{Hours, batch_of}
 use Rattle.tacho_state.specs.State.{entered_spans}
 use Rattle.tacho_store.proofs.entering.spans_of_lines.Goals as goal
 
 pub loop-line-preserved : goal.loop-line-preserved
 loop-line-preserved c =
-    let xs : List EntryLine = c.args.lines.now in
+    let xs : List Hours = c.args.lines.now in
     let i = c.loop-line.line-index in
     let before : List Span = c.loop-line.spans.items in
-    let line : EntryLine = c.line-item.result in
+    let line : Hours = c.line-item.result in
     let later : List Span = entered_spans (batch_of (drop (i + 1) xs)) in
     let cut : drop i xs ≡ line ∷ drop (i + 1) xs =
     drop-cons xs i line c.loop-line-test.true ∙ ap (λ k. get_or xs i line ∷ drop k xs) (sym (add-one i))

@@ -4,7 +4,7 @@ use Rattle.tacho_state.specs.Content.{part_number}
 use Rattle.tacho_state.specs.Steps.{Content}
 use Rattle.tacho_reading.proofs.LookUpLemmas.{handed_on}
 use Rattle.tacho_store.specs.Importing.{content_told}
-use Rattle.tacho_store.proofs.StepsLemmas.{steps_then}
+use Rattle.tacho_store.proofs.StepsLemmas.{keeps_after, steps_then}
 use Rattle.tacho_store.proofs.ImportDriverLemmas.{the_importer, not_importer, imports_his}
 use Rattle.tacho_store.proofs.import.import_in.Goals as goal
 
@@ -21,7 +21,13 @@ returns-in_err-importer-clause-steps g c = record {
 pub returns-clause-steps : goal.returns-clause-steps
 returns-clause-steps g c = steps_then (rw c.deref.ensures.value at c.import_spans.ensures.steps)
     (λ clean schema. c.in_ok-importer.ensures.same (c.import_spans.ensures.steps.stays.clean clean) schema)
-    (search rules)
+    (record {
+      stays = search rules;
+      keeps = keeps_after _ _ _ c.import_spans.ensures.steps.stays.clean c.in_ok-importer.ensures.same c.in_ok-importer.ensures.goes.keeps
+          c.import_spans.ensures.steps.keeps;
+      live = search rules;
+      of_no_file = search rules;
+    })
     (λ clean schema s stands.
     let content : Content = content_told c.args.content.now in
     let clean_1 = c.import_spans.ensures.steps.stays.clean clean in

@@ -3,6 +3,7 @@ use Rattle.tacho_reading.proofs.MappedLemmas.{was_ok}
 use Rattle.tacho_reading.proofs.LookUpLemmas.{number_found, key_found, holder_found, not_found}
 use Rattle.tacho_reading.proofs.SeenLemmas.{still_seen}
 use Rattle.tacho_store.specs.Registering.{IsAskedFree}
+use Rattle.tacho_store.proofs.StepsLemmas.{keeps_after, unchanged_after}
 use Rattle.tacho_store.proofs.RegistrationLemmas.{number_taken, key_taken, holder_taken}
 use Rattle.tacho_store.proofs.registration.ask_free.Goals as goal
 
@@ -40,7 +41,21 @@ returns-then-is_some-2 g c = record {
 pub returns-then-is_some-3 : goal.returns-then-is_some-3
 unfolding IsAskedFree
 returns-then-is_some-3 g c = record {
-  goes = search rules;
+  goes = record {
+    stays = search rules;
+    keeps = keeps_after _ _ _ c.number_by_holder.ensures.reads.stays.clean
+        (unchanged_after _ _ _ c.number_by_secret.ensures.reads.stays.clean
+        (λ clean is. was_ok c.by_number.result c.in_ok-by_number.by_number _ c.in_ok-by_number.ensures.cases
+        (c.by_number.ensures.reads.same clean is))
+        (λ clean is. was_ok c.number_by_secret.result c.in_ok-by_key.by_key _ c.in_ok-by_key.ensures.cases
+        (c.number_by_secret.ensures.reads.same clean is)))
+        (keeps_after _ _ _ c.number_by_secret.ensures.reads.stays.clean
+        (λ clean is. was_ok c.by_number.result c.in_ok-by_number.by_number _ c.in_ok-by_number.ensures.cases
+        (c.by_number.ensures.reads.same clean is))
+        c.by_number.ensures.reads.keeps c.number_by_secret.ensures.reads.keeps) c.number_by_holder.ensures.reads.keeps;
+    live = search rules;
+    of_no_file = search rules;
+  };
   same = search rules;
   told = λ clean schema s stands base name.
       let clean_2 = c.number_by_holder.ensures.reads.stays.clean clean in
@@ -66,8 +81,29 @@ returns-then-is_some-3 g c = record {
 pub returns : goal.returns
 unfolding IsAskedFree
 returns g c = record {
-  goes = search rules;
-  same = search rules;
+  goes = record {
+    stays = search rules;
+    keeps = keeps_after _ _ _ c.number_by_holder.ensures.reads.stays.clean
+        (unchanged_after _ _ _ c.number_by_secret.ensures.reads.stays.clean
+        (λ clean is. was_ok c.by_number.result c.in_ok-by_number.by_number _ c.in_ok-by_number.ensures.cases
+        (c.by_number.ensures.reads.same clean is))
+        (λ clean is. was_ok c.number_by_secret.result c.in_ok-by_key.by_key _ c.in_ok-by_key.ensures.cases
+        (c.number_by_secret.ensures.reads.same clean is)))
+        (keeps_after _ _ _ c.number_by_secret.ensures.reads.stays.clean
+        (λ clean is. was_ok c.by_number.result c.in_ok-by_number.by_number _ c.in_ok-by_number.ensures.cases
+        (c.by_number.ensures.reads.same clean is))
+        c.by_number.ensures.reads.keeps c.number_by_secret.ensures.reads.keeps) c.number_by_holder.ensures.reads.keeps;
+    live = search rules;
+    of_no_file = search rules;
+  };
+  same = unchanged_after _ _ _ c.number_by_holder.ensures.reads.stays.clean
+      (unchanged_after _ _ _ c.number_by_secret.ensures.reads.stays.clean
+      (λ clean is. was_ok c.by_number.result c.in_ok-by_number.by_number _ c.in_ok-by_number.ensures.cases
+      (c.by_number.ensures.reads.same clean is))
+      (λ clean is. was_ok c.number_by_secret.result c.in_ok-by_key.by_key _ c.in_ok-by_key.ensures.cases
+      (c.number_by_secret.ensures.reads.same clean is)))
+      (λ clean is. was_ok c.number_by_holder.result c.in_ok-by_holder.by_holder _ c.in_ok-by_holder.ensures.cases
+      (c.number_by_holder.ensures.reads.same clean is));
   told = λ clean schema s stands.
       let clean_2 = c.number_by_holder.ensures.reads.stays.clean clean in
       let clean_1 = c.number_by_secret.ensures.reads.stays.clean clean_2 in
@@ -92,4 +128,26 @@ returns g c = record {
         new_holder = not_found c.in_ok-by_holder.by_holder _ _
             (sym c.is_some-3.ensures ∙ c.if-is_some-3.false) holder;
       };
+}
+
+pub returns-in_err-by_holder : goal.returns-in_err-by_holder
+unfolding IsAskedFree
+returns-in_err-by_holder g c = record {
+  goes = record {
+    stays = search rules;
+    keeps = keeps_after _ _ _ c.number_by_holder.ensures.reads.stays.clean
+        (unchanged_after _ _ _ c.number_by_secret.ensures.reads.stays.clean
+        (λ clean is. was_ok c.by_number.result c.in_ok-by_number.by_number _ c.in_ok-by_number.ensures.cases
+        (c.by_number.ensures.reads.same clean is))
+        (λ clean is. was_ok c.number_by_secret.result c.in_ok-by_key.by_key _ c.in_ok-by_key.ensures.cases
+        (c.number_by_secret.ensures.reads.same clean is)))
+        (keeps_after _ _ _ c.number_by_secret.ensures.reads.stays.clean
+        (λ clean is. was_ok c.by_number.result c.in_ok-by_number.by_number _ c.in_ok-by_number.ensures.cases
+        (c.by_number.ensures.reads.same clean is))
+        c.by_number.ensures.reads.keeps c.number_by_secret.ensures.reads.keeps) c.number_by_holder.ensures.reads.keeps;
+    live = search rules;
+    of_no_file = search rules;
+  };
+  same = search rules;
+  told = search rules;
 }

@@ -2,6 +2,7 @@ use Rattle.std.proofs.Common.{rules}
 use Rattle.tacho_reading.proofs.MappedLemmas.{was_ok}
 use Rattle.tacho_reading.proofs.SeenLemmas.{still_seen}
 use Rattle.tacho_reading.proofs.LookUpLemmas.{the_driver, unknown_refuses}
+use Rattle.tacho_store.specs.Withdrawing.{IsEntry}
 use Rattle.tacho_store.proofs.WithdrawalLemmas.{no_driver, entry_found, unknown_entry, some_entry, entry_gone, entry_kept, handed_entry}
 use Rattle.tacho_store.proofs.withdrawal.entry_with.Goals as goal
 
@@ -57,4 +58,17 @@ returns g c = record {
       (c.by_number.ensures.found clean seen.0)) in
       entry_kept c.args.driver c.args.number s d.0 c.in-Some.entry d.1 c.if-entry-ne0.false
       (some_entry c.args.number d.0 c.in_ok-found.found c.in-Some.entry _ c.in-Some.is found);
+}
+
+pub returns-in_err-found : goal.returns-in_err-found
+unfolding IsEntry
+returns-in_err-found g c = record {
+  goes = record {
+    stays = search rules;
+    keeps = search rules;
+    live = search rules;
+    of_no_file = search rules;
+  };
+  same = search rules;
+  told = search rules;
 }

@@ -1,12 +1,13 @@
-use Rattle.std.proofs.Common.{rules, ◌∙◌, ap}
+use Rattle.std.proofs.Common.{rules, ◌∙◌, ap, subst, sym}
 use Rattle.sqlite.specs.Effect.{Database}
 use Rattle.sqlite.specs.Held.{state}
+use Rattle.tacho_tables.specs.Tables.{IsArchive}
 use Rattle.tacho_tables.proofs.CallLemmas.{stays_then}
 use Rattle.sqlite.proofs.InsideLemmas.{keeps_then}
 use Rattle.tacho_reading.proofs.MappedLemmas.{on_ok_mapped, on_ok_both, answers_mapped}
 use Rattle.tacho_reading.proofs.LookUpLemmas.{handed_on}
 use Rattle.tacho_reading.proofs.SeenLemmas.{still_seen}
-use Rattle.tacho_store.proofs.StepsLemmas.{steps_by, follows_then}
+use Rattle.tacho_store.proofs.StepsLemmas.{steps_by, follows_then, keeps_after}
 use Rattle.tacho_store.proofs.WithdrawalLemmas.{not_entry, entry_marked, withdrawal_follows}
 use Rattle.tacho_store.proofs.withdrawal.withdraw_in.Goals as goal
 
@@ -29,7 +30,7 @@ returns g c = steps_by
       keeps = λ clean schema.
           let clean_2 = c.rewrite.ensures.stays.clean clean in
           let clean_1 = c.mark.ensures.marked.stays.clean clean_2 in
-          let seen = ap (λ (d : Database). d.schema) (c.in_ok-entry.ensures.same clean_1 schema).0.now_is ∙ schema in
+          let seen = subst IsArchive (sym (c.in_ok-entry.ensures.same clean_1 schema).0.now_is) schema in
           keeps_then _ _ _ (c.in_ok-entry.ensures.goes.keeps clean_1 schema)
           (keeps_then _ _ _ (c.in_ok-rows.ensures.marked.keeps clean_2 seen)
           (c.rewrite.ensures.keeps clean (c.in_ok-rows.ensures.marked.schema clean_2 seen)));
@@ -56,3 +57,17 @@ returns g c = steps_by
     (withdrawal_follows _ (state g.S.Store c.mark.new.tx.conn.now).now.trees (state g.S.Store c.rewrite.new.tx.conn.now).now.trees s
     c.args.driver c.args.number c.in_ok-entry.entry c.in_ok-rows.rows.items c.rewrite.result entry seen.1 renewed marked
     (rw c.deref.ensures.value at (c.rewrite.ensures.turned clean schema_2)))))
+
+pub returns-in_err-rows : goal.returns-in_err-rows
+returns-in_err-rows g c = record {
+  goes = record {
+    stays = search rules;
+    keeps = keeps_after _ _ _ c.mark.ensures.marked.stays.clean c.in_ok-entry.ensures.same c.in_ok-entry.ensures.goes.keeps
+        c.mark.ensures.marked.keeps;
+    live = search rules;
+    of_no_file = search rules;
+  };
+  answer = search rules;
+  made = search rules;
+  others = search rules;
+}

@@ -1,0 +1,70 @@
+-- Trusted: An archive of schema 1, in which nobody said who had entered hours, and why, and what it becomes in schema 2.
+use Rattle.std.specs.Prelude.{ℕ, ◌+◌, Bool, List, [], ◌∷◌, codes, map, if◌then◌else◌}
+use Rattle.sqlite.specs.Tree.{Trees}
+use Rattle.tacho_time.specs.declared.span.Activity.{Activity}
+use Rattle.tacho_state.specs.State.{Download, Entry, Driver, State}
+use Rattle.tacho_tables.specs.Rows.{OldEntryRow}
+use Rattle.tacho_tables.specs.Tables.{OldTables, HasOldTables, carried}
+use Rattle.tacho_reading.specs.Standing.{TablesStandFor, activity_number}
+
+-- hours that were entered: minutes from start to before past
+pub record OldEntry : Type 0 where
+  pub start : ℕ
+  pub past : ℕ
+  pub activity : Activity
+  pub withdrawn : Bool
+
+pub record OldDriver : Type 0 where
+  pub number : ℕ
+  pub holder : List ℕ
+  pub key : List ℕ
+  pub base : ℕ
+  pub name : List ℕ
+  pub downloads : List Download
+  pub entries : List OldEntry
+
+abbrev pub OldState : Type 0
+OldState = List OldDriver
+
+-- ---- in schema 2
+
+-- the same hours, which the office had entered, and said nothing of
+abbrev pub entry_by_office : OldEntry → Entry
+entry_by_office e =
+    record { start = e.start; past = e.past; activity = e.activity; author = codes "office"; note = []; withdrawn = e.withdrawn }
+
+abbrev pub driver_by_office : OldDriver → Driver
+driver_by_office d = record {
+  number = d.number;
+  holder = d.holder;
+  key = d.key;
+  base = d.base;
+  name = d.name;
+  downloads = d.downloads;
+  entries = map entry_by_office d.entries;
+}
+
+abbrev pub with_office : OldState → State
+with_office s = map driver_by_office s
+
+-- ---- what the tables of schema 1 stand for
+
+-- they stand for a state of schema 1 where, with the office as the author of each row, they stand for the state with the office as the
+-- author of each entry
+unfoldable pub StoodFor : Trees → OldState → Type 0
+StoodFor db s = (t : OldTables) × HasOldTables db t × TablesStandFor (carried t) (with_office s)
+
+-- the rows of a driver's entries in schema 1, numbered from a number on
+abbrev pub old_entry_row : ℕ → ℕ → OldEntry → OldEntryRow
+old_entry_row n i e = record {
+  driver = n;
+  number = i;
+  start = e.start;
+  past = e.past;
+  mark = activity_number e.activity;
+  withdrawn = (if e.withdrawn then 1 else 0);
+}
+
+abbrev pub old_entry_rows : ℕ → ℕ → List OldEntry → List OldEntryRow
+old_entry_rows n i [] = []
+old_entry_rows n i (e ∷ es) = old_entry_row n i e ∷ old_entry_rows n (i + 1) es
