@@ -1,6 +1,6 @@
 //! The file of an archive.
 
-ghost use Rattle.std.specs.Prelude.{◌≡◌, true};
+ghost use Rattle.std.specs.Prelude.{◌≡◌, IfOk, false, true};
 ghost use Rattle.tacho_cli.specs.Words.{at_desk};
 
 use sqlite::{Connection, Error, ErrorCode, File, FileStore};
@@ -16,13 +16,21 @@ type FileConnection = Connection<FileStore<File>>;
 /// An archive in a file.
 pub type FileArchive = Archive<FileStore<File>>;
 
-/// Tells that the store failed, or that there was no memory, and answers the program's status.
+/// Tells a line, and answers the program's status: the one that is given, or 3 where the line can't be written.
+fn tell(rt: &impl Print, line: &str, status: u8) -> u8 {
+    match print!(rt; "{line}") {
+        Ok(()) => status,
+        Err(_) => 3,
+    }
+}
+
+/// Tells that the archive is old, that the store failed, or that there was no memory, and answers the program's status.
 pub fn refuse(rt: &impl Print, fault: StoreFault) -> u8 {
-    let _ = match fault {
-        StoreFault::Memory => print!(rt; "M1 no memory\n"),
-        _ => print!(rt; "S12 store failed\n"),
-    };
-    3
+    match fault {
+        StoreFault::OldSchema => tell(rt, "S13 old archive\n", 1),
+        StoreFault::Memory => tell(rt, "M1 no memory\n", 3),
+        _ => tell(rt, "S12 store failed\n", 3),
+    }
 }
 
 /// Opens a file. One that is new gets sums of its pages, by which a later open finds what has changed in it.
@@ -52,8 +60,10 @@ fn create(rt: &HostRuntime, path: &str) -> Result<FileArchive, StoreFault> {
     }
 }
 
-/// Opens the archive of a file that is there.
-pub fn adopt(rt: &HostRuntime, path: &str) -> Result<FileArchive, StoreFault> {
+/// A connection to a file that is there, outside a transaction.
+fn found(rt: &HostRuntime, path: &str) -> Result<FileConnection, StoreFault>
+    ensures { IfOk result (λ conn. conn.in_transaction ≡ false) }
+{
     let Ok(true) = fs::exists(rt, path) else {
         return Err(StoreFault::Store);
     };
@@ -61,7 +71,20 @@ pub fn adopt(rt: &HostRuntime, path: &str) -> Result<FileArchive, StoreFault> {
     if !conn.is_autocommit() {
         return Err(given_up(conn, StoreFault::Store));
     }
-    match Archive::adopt(conn) {
+    Ok(conn)
+}
+
+/// Opens the archive of a file that is there.
+pub fn adopt(rt: &HostRuntime, path: &str) -> Result<FileArchive, StoreFault> {
+    match Archive::adopt(found(rt, path)?) {
+        Ok(archive) => Ok(archive),
+        Err(refused) => Err(given_up(refused.1, refused.0)),
+    }
+}
+
+/// Opens the archive of a file that is there, carried over where it is of schema 1.
+fn carried(rt: &HostRuntime, path: &str) -> Result<FileArchive, StoreFault> {
+    match Archive::migrate(found(rt, path)?) {
         Ok(archive) => Ok(archive),
         Err(refused) => Err(given_up(refused.1, refused.0)),
     }
@@ -72,10 +95,18 @@ pub fn init(rt: &HostRuntime, path: &str) -> u8 {
     match create(rt, path) {
         Ok(archive) => {
             close(archive);
-            match print!(rt; "created\n") {
-                Ok(()) => 0,
-                Err(_) => 3,
-            }
+            tell(rt, "created\n", 0)
+        }
+        Err(fault) => refuse(rt, fault),
+    }
+}
+
+/// `tacho migrate`: carries the archive of a file that is there over to schema 2, and answers the program's status.
+pub fn migrate(rt: &HostRuntime, path: &str) -> u8 {
+    match carried(rt, path) {
+        Ok(archive) => {
+            close(archive);
+            tell(rt, "migrated\n", 0)
         }
         Err(fault) => refuse(rt, fault),
     }

@@ -38,6 +38,9 @@ fn run(rt: &HostRuntime, job: Job<'_>) -> u8 {
     if let Job::Init { archive } = job {
         return archive::init(rt, archive);
     }
+    if let Job::Migrate { archive } = job {
+        return archive::migrate(rt, archive);
+    }
     if let Job::Serve {
         archive,
         key,

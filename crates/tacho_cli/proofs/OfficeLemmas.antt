@@ -1,5 +1,5 @@
 -- What is wanted of the office's archive leaves, by what its parts did.
-use Rattle.std.proofs.Common.{◌≡◌, ℕ, ◌<◌, ◌≤◌, ◌⊎◌, inl, inr, ◌↔◌, Bool, true, false, List, [], length}
+use Rattle.std.proofs.Common.{◌≡◌, ℕ, ◌<◌, ◌≤◌, inl, inr, ◌↔◌, Bool, true, false, List, [], length}
 use Rattle.std.proofs.Common.{Option, Ok, Err, refl, sym, subst, arith}
 use Rattle.std.proofs.lemmas.List.{length-replicate}
 use Rattle.std.specs.Prelude.{IfSome, replicate}

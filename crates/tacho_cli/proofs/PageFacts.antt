@@ -34,6 +34,9 @@ whole_card = refl
 init : act_named (codes "init") the_table ≡ Some act.Init
 init = refl
 
+migrate : act_named (codes "migrate") the_table ≡ Some act.Migrate
+migrate = refl
+
 register : act_named (codes "register") the_table ≡ Some (act.AtDesk want.Register)
 register = refl
 
@@ -85,8 +88,8 @@ abbrev given : Subcommand → Text
 given row = row.0 ++ flat_map (λ word. codes " " ++ word) row.1
 
 all_given : map given the_table
-    ≡ codes "dump" ∷ codes "holder" ∷ codes "card part" ∷ codes "init archive" ∷ codes "register archive" ∷ codes "import archive part"
-    ∷ codes "enter archive driver" ∷ codes "withdraw archive driver number" ∷ codes "base archive driver date"
+    ≡ codes "dump" ∷ codes "holder" ∷ codes "card part" ∷ codes "init archive" ∷ codes "migrate archive" ∷ codes "register archive"
+    ∷ codes "import archive part" ∷ codes "enter archive driver" ∷ codes "withdraw archive driver number" ∷ codes "base archive driver date"
     ∷ codes "spans archive driver month" ∷ codes "gaps archive driver month" ∷ codes "sheet archive driver month"
     ∷ codes "breaches archive driver" ∷ codes "owed archive driver" ∷ codes "entries archive driver"
     ∷ codes "file archive driver number" ∷ codes "drivers archive" ∷ codes "serve archive key port count" ∷ []
@@ -142,15 +145,15 @@ bad_files = refl
 -- of the archive
 refused_by_archive : map (λ f. fault_status (fault.Told (told.Store f)))
     (store.DriverTaken ∷ store.KeyTaken ∷ store.HolderTaken ∷ store.UnknownDriver ∷ store.NotYourCard ∷ store.Contradiction 28491840
-    ∷ store.UnknownEntry ∷ store.AlreadyWithdrawn ∷ store.NotMonday ∷ store.UnknownDownload ∷ store.Full ∷ [])
-    ≡ replicate 11 1
+    ∷ store.UnknownEntry ∷ store.AlreadyWithdrawn ∷ store.NotMonday ∷ store.UnknownDownload ∷ store.OldSchema ∷ store.Full ∷ [])
+    ≡ replicate 12 1
 refused_by_archive = refl
 
 -- of a text of CSV
 bad_texts : map (λ f. fault_status (fault.Told (told.Sheet f)))
     (sheet.Head ∷ sheet.Fields 2 ∷ sheet.Time 2 ∷ sheet.Order 2 ∷ sheet.LeftOut 2 left_out.Ferry ∷ sheet.Activity 2 ∷ sheet.TooLong 2
-    ∷ sheet.Csv ∷ sheet.Column column.Key ∷ [])
-    ≡ replicate 9 1
+    ∷ sheet.Csv ∷ sheet.Column column.Key ∷ sheet.Text 2 column.Author ∷ sheet.Text 2 column.Note ∷ [])
+    ≡ replicate 11 1
 bad_texts = refl
 
 -- status 3 where memory, the store or a device failed

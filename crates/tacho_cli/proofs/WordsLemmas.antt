@@ -61,6 +61,7 @@ act_usage taken sub name rows act.Dump usage.Numbers is named h = absurd h
 act_usage taken sub name rows act.Holder usage.Numbers is named h = absurd h
 act_usage taken sub name rows act.Card usage.Numbers is named h = absurd h
 act_usage taken sub name rows act.Init usage.Numbers is named h = absurd h
+act_usage taken sub name rows act.Migrate usage.Numbers is named h = absurd h
 act_usage taken sub name rows (act.AtDesk w) usage.Numbers is named h = absurd h
 act_usage taken sub name rows a usage.Parser is named h = tt
 act_usage taken sub name rows a usage.Memory is named h = tt
@@ -69,6 +70,7 @@ act_usage taken sub name rows act.Dump (usage.Words text) is named h = absurd h
 act_usage taken sub name rows act.Holder (usage.Words text) is named h = absurd h
 act_usage taken sub name rows act.Card (usage.Words text) is named h = absurd h
 act_usage taken sub name rows act.Init (usage.Words text) is named h = absurd h
+act_usage taken sub name rows act.Migrate (usage.Words text) is named h = absurd h
 act_usage taken sub name rows (act.AtDesk w) (usage.Words text) is named h = absurd h
 
 pub usage_met : (taken : Bool) (sub : Option (Text × List Row)) (name : Text) (rows : List Row) (a : Act) (result : Result Job Usage)

@@ -46,6 +46,7 @@ the_table =
     ∷ (codes "holder", [], act.Holder)
     ∷ (codes "card", codes "part" ∷ [], act.Card)
     ∷ (codes "init", codes "archive" ∷ [], act.Init)
+    ∷ (codes "migrate", codes "archive" ∷ [], act.Migrate)
     ∷ (codes "register", codes "archive" ∷ [], act.AtDesk want.Register)
     ∷ (codes "import", codes "archive" ∷ codes "part" ∷ [], act.AtDesk want.Import)
     ∷ (codes "enter", codes "archive" ∷ codes "driver" ∷ [], act.AtDesk want.Enter)
@@ -123,6 +124,7 @@ IsJobOf act.Dump rows j = j ≡ job.Dump
 IsJobOf act.Holder rows j = j ≡ job.Holder
 IsJobOf act.Card rows (job.Card part) = IsWord rows (codes "part") part.now
 IsJobOf act.Init rows (job.Init archive) = IsWord rows (codes "archive") archive.now
+IsJobOf act.Migrate rows (job.Migrate archive) = IsWord rows (codes "archive") archive.now
 IsJobOf (act.AtDesk w) rows (job.AtDesk archive want driver word) =
     (want ≡ w) × IsWord rows (codes "archive") archive.now × IsDriverText w rows driver.now × IsWordText (word_id w) rows word.now
 IsJobOf act.Serve rows (job.Serve archive key port count) =
@@ -146,6 +148,7 @@ archive_of job.Dump = None
 archive_of job.Holder = None
 archive_of (job.Card part) = None
 archive_of (job.Init archive) = Some archive.now
+archive_of (job.Migrate archive) = Some archive.now
 archive_of (job.AtDesk archive want driver word) = Some archive.now
 archive_of (job.Serve archive key port count) = Some archive.now
 

@@ -14,6 +14,8 @@ pub(crate) enum Act {
     Card,
     /// It makes an archive.
     Init,
+    /// It carries an archive of schema 1 over.
+    Migrate,
     /// What is wanted is done at an archive.
     AtDesk(Want),
     /// It answers requests.

@@ -15,6 +15,10 @@ pub enum Job<'a> {
     Init {
         archive: &'a str,
     },
+    /// An archive of schema 1, which is carried over to schema 2.
+    Migrate {
+        archive: &'a str,
+    },
     /// What is wanted at an archive that is there: the driver's number, and the other word, each empty where there is none.
     AtDesk {
         archive: &'a str,
@@ -48,8 +52,10 @@ impl<'a> Job<'a> {
     {
         match self {
             Job::Dump | Job::Holder | Job::Card { .. } => None,
-            Job::Init { archive } | Job::AtDesk { archive, .. } | Job::Serve { archive, .. } =>
-                Some(archive),
+            Job::Init { archive }
+            | Job::Migrate { archive }
+            | Job::AtDesk { archive, .. }
+            | Job::Serve { archive, .. } => Some(archive),
         }
     }
 }

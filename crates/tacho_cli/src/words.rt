@@ -40,7 +40,7 @@ impl From<AllocError> for Usage {
 type Row = (&'static str, &'static str, &'static [&'static str], Act);
 
 /// The subcommands.
-static TABLE: [Row; 18] = [
+static TABLE: [Row; 19] = [
     (
         "dump",
         "Prints the spans of the value of an EF Driver_Activity_Data (0504), a line each: tacho dump < FILE",
@@ -66,6 +66,12 @@ static TABLE: [Row; 18] = [
         Act::Init,
     ),
     (
+        "migrate",
+        "Carries an archive of an older version over to this one, once; copy its file before",
+        &["archive"],
+        Act::Migrate,
+    ),
+    (
         "register",
         "Adds a driver: tacho register ARCHIVE < CSV with the head driver,holder,key,base,name",
         &["archive"],
@@ -79,7 +85,7 @@ static TABLE: [Row; 18] = [
     ),
     (
         "enter",
-        "Enters hours of a driver by hand: tacho enter ARCHIVE DRIVER < CSV with the head start,past,activity",
+        "Enters hours of a driver by hand: tacho enter ARCHIVE DRIVER < CSV with the head start,past,activity or start,past,activity,author,note",
         &["archive", "driver"],
         Act::AtDesk(Want::Enter),
     ),
@@ -288,6 +294,10 @@ fn job_of<'a>(act: Act, words: &ArgMatches<'a>) -> Result<Job<'a>, Usage>
         },
         Act::Init => match text_of(words, "archive") {
             Some(archive) => Ok(Job::Init { archive }),
+            None => Err(Usage::Parser),
+        },
+        Act::Migrate => match text_of(words, "archive") {
+            Some(archive) => Ok(Job::Migrate { archive }),
             None => Err(Usage::Parser),
         },
         Act::AtDesk(want) => desk_of(want, words),
