@@ -14,10 +14,10 @@ pub(crate) struct Count {
 impl Count {
     /// Counts a line.
     fn add(&mut self, line: &EntryLine) {
-        let minutes = line.past.number().wrapping_sub(line.start.number());
+        let minutes = line.past().number().wrapping_sub(line.start().number());
         self.lines = self.lines.wrapping_add(1);
         self.minutes = self.minutes.wrapping_add(u64::from(minutes));
-        if line.activity == Activity::Rest {
+        if line.activity() == Activity::Rest {
             self.rests = self.rests.wrapping_add(1);
         }
     }

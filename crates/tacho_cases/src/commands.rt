@@ -368,11 +368,15 @@ fn writers_fail_at_each_call(rt: HostRuntime) -> Result<(), Fail> {
 }
 
 /// Words, and the job that they name.
-static JOBS: [(&[&str], Job<'static>); 19] = [
+static JOBS: [(&[&str], Job<'static>); 20] = [
     (&["tacho", "dump"], Job::Dump),
     (&["tacho", "holder"], Job::Holder),
     (&["tacho", "card", "first"], Job::Card { part: "first" }),
     (&["tacho", "init", "a.db"], Job::Init { archive: "a.db" }),
+    (
+        &["tacho", "migrate", "a.db"],
+        Job::Migrate { archive: "a.db" },
+    ),
     (
         &["tacho", "register", "a.db"],
         Job::AtDesk {
@@ -545,7 +549,11 @@ fn words_name_jobs(rt: HostRuntime) -> Result<(), Fail> {
         assert_same(
             &rt,
             named.at_desk(),
-            has_archive && !matches!(job, Job::Init { .. } | Job::Serve { .. }),
+            has_archive
+                && !matches!(
+                    job,
+                    Job::Init { .. } | Job::Migrate { .. } | Job::Serve { .. }
+                ),
         );
     }
     Ok(())
@@ -573,9 +581,10 @@ Commands:
   holder    Prints the holder of a whole card download file in hexadecimal digits: tacho holder < FILE
   card      Prints the spans of a whole card download file, a line each: tacho card PART < FILE, of which PART is both, first or second
   init      Makes an archive of no drivers in a file that isn't there
+  migrate   Carries an archive of an older version over to this one, once; copy its file before
   register  Adds a driver: tacho register ARCHIVE < CSV with the head driver,holder,key,base,name
   import    Keeps a card download file of a driver: tacho import ARCHIVE PART < FILE, of which PART is both, first or second
-  enter     Enters hours of a driver by hand: tacho enter ARCHIVE DRIVER < CSV with the head start,past,activity
+  enter     Enters hours of a driver by hand: tacho enter ARCHIVE DRIVER < CSV with the head start,past,activity or start,past,activity,author,note
   withdraw  Withdraws an entry, which stays listed
   base      Sets the Monday from which a driver is examined: DATE is YYYY-MM-DD
   spans     Prints what a driver holds in a month as CSV: MONTH is YYYY-MM
@@ -627,7 +636,7 @@ Options:
 
 const NO_COMMAND: &str = "\
 error: 'tacho' requires a subcommand but one was not provided
-  [subcommands: dump, holder, card, init, register, import, enter, withdraw, base, spans, gaps, sheet, breaches, owed, entries, file, drivers, serve, help]
+  [subcommands: dump, holder, card, init, migrate, register, import, enter, withdraw, base, spans, gaps, sheet, breaches, owed, entries, file, drivers, serve, help]
 
 Usage: tacho <COMMAND>
 

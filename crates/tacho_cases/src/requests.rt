@@ -16,7 +16,7 @@ pub(crate) const OFFICE: &[u8] = b"office-key-1";
 type Exchange = (&'static [u8], &'static [u8]);
 
 /// Requests to one archive, one after the other.
-static CONVERSATION: [Exchange; 38] = [
+static CONVERSATION: [Exchange; 39] = [
     // A driver is registered.
     (
         b"POST /drivers HTTP/1.1\r\nx-key: office-key-1\r\ncontent-length: 94\r\n\r\ndriver,holder,key,base,name\n17,0d4431323334353637383930313233,anna-key-1,2024-03-04,Anna Berg\n",
@@ -145,8 +145,12 @@ static CONVERSATION: [Exchange; 38] = [
         b"HTTP/1.1 422 Unprocessable Entity\r\ncontent-type: text/plain; charset=utf-8\r\ncontent-length: 28\r\nconnection: close\r\n\r\nE5 left out in row 2: ferry\n",
     ),
     (
+        b"POST /drivers/17/entries HTTP/1.1\r\nx-key: office-key-1\r\ncontent-length: 73\r\n\r\nstart,past,activity,author,note\n2024-03-06 08:00,2024-03-06 09:00,rest,,\n",
+        b"HTTP/1.1 422 Unprocessable Entity\r\ncontent-type: text/plain; charset=utf-8\r\ncontent-length: 24\r\nconnection: close\r\n\r\nE10 bad author in row 2\n",
+    ),
+    (
         b"GET /me/entries HTTP/1.1\r\nx-key: anna-key-1\r\n\r\n",
-        b"HTTP/1.1 200 OK\r\ncontent-type: text/plain; charset=utf-8\r\ncontent-length: 46\r\nconnection: close\r\n\r\n1 2024-03-06 00:00 2024-03-06 08:00 rest kept\n",
+        b"HTTP/1.1 200 OK\r\ncontent-type: text/plain; charset=utf-8\r\ncontent-length: 58\r\nconnection: close\r\n\r\n1 2024-03-06 00:00 2024-03-06 08:00 rest kept \"office\" \"\"\n",
     ),
     (
         b"POST /drivers/17/withdraw/1 HTTP/1.1\r\nx-key: office-key-1\r\n\r\n",
@@ -162,7 +166,7 @@ static CONVERSATION: [Exchange; 38] = [
     ),
     (
         b"GET /me/entries HTTP/1.1\r\nx-key: anna-key-1\r\n\r\n",
-        b"HTTP/1.1 200 OK\r\ncontent-type: text/plain; charset=utf-8\r\ncontent-length: 51\r\nconnection: close\r\n\r\n1 2024-03-06 00:00 2024-03-06 08:00 rest withdrawn\n",
+        b"HTTP/1.1 200 OK\r\ncontent-type: text/plain; charset=utf-8\r\ncontent-length: 63\r\nconnection: close\r\n\r\n1 2024-03-06 00:00 2024-03-06 08:00 rest withdrawn \"office\" \"\"\n",
     ),
     // His base is set.
     (
@@ -595,7 +599,7 @@ static ORDER: [Asked; 54] = [
         "",
         "POST /drivers HTTP/1.1\r\n\r\n",
         "200 OK",
-        "1 2024-03-06 00:00 2024-03-06 08:00 rest kept\n",
+        "1 2024-03-06 00:00 2024-03-06 08:00 rest kept \"office\" \"\"\n",
     ),
     // Of a GET no body is looked at.
     (
@@ -603,21 +607,21 @@ static ORDER: [Asked; 54] = [
         "content-length: lunch\r\n",
         "",
         "200 OK",
-        "1 2024-03-06 00:00 2024-03-06 08:00 rest kept\n",
+        "1 2024-03-06 00:00 2024-03-06 08:00 rest kept \"office\" \"\"\n",
     ),
     (
         "GET /drivers/17/entries",
         "content-length: 999999\r\n",
         "",
         "200 OK",
-        "1 2024-03-06 00:00 2024-03-06 08:00 rest kept\n",
+        "1 2024-03-06 00:00 2024-03-06 08:00 rest kept \"office\" \"\"\n",
     ),
     (
         "GET /drivers/17/entries",
         "content-length: 1\r\ncontent-length: 2\r\ntransfer-encoding: chunked\r\n",
         "",
         "200 OK",
-        "1 2024-03-06 00:00 2024-03-06 08:00 rest kept\n",
+        "1 2024-03-06 00:00 2024-03-06 08:00 rest kept \"office\" \"\"\n",
     ),
 ];
 

@@ -15,13 +15,24 @@ use tacho_time::{Activity, Day, Minute, TimeFault};
 /// Monday, 4 March 2024, 00:00.
 const MONDAY: u32 = 28_491_840;
 
-/// A line of rest.
-fn rest(start: u32, past: u32) -> EntryLine {
-    EntryLine {
-        start: Minute::new(start % 68_428_801),
-        past: Minute::new(past % 68_428_801),
-        activity: Activity::Rest,
-    }
+/// A line of rest, which the office enters and says nothing of. An Err is want of memory.
+fn rest(alloc: Global, start: u32, past: u32) -> Result<EntryLine, Fail> {
+    let author = String::from_str(alloc, "office")?;
+    let note = String::from_str(alloc, "")?;
+    let (start, past) = (
+        Minute::new(start % 68_428_801),
+        Minute::new(past % 68_428_801),
+    );
+    Ok(EntryLine::new(start, past, Activity::Rest, author, note)?)
+}
+
+/// Whether there is a line, and it is one of rest, which the office enters and says nothing of.
+fn is_rest(line: Option<&EntryLine>, start: u32, past: u32) -> bool {
+    line.is_some_and(|line| {
+        (line.start().number(), line.past().number()) == (start, past)
+            && line.activity() == Activity::Rest
+            && (line.author(), line.note()) == ("office", "")
+    })
 }
 
 /// The fault of a text. An Err is want of memory.
@@ -45,7 +56,6 @@ fn driver_fault_of(alloc: Global, text: &str) -> Result<Option<SheetFault>, Shee
 #[test]
 fn entries_are_read(rt: HostRuntime) -> Result<(), Fail> {
     let alloc = rt.alloc();
-    let wanted = [rest(MONDAY, MONDAY + 720), rest(MONDAY + 720, MONDAY + 721)];
     let texts = [
         "start,past,activity\n2024-03-04 00:00,2024-03-04 12:00,rest\n2024-03-04 12:00,2024-03-04 12:01,rest\n",
         // As a spreadsheet saves it: a byte order mark, CR LF, quotes; and blank lines.
@@ -59,16 +69,18 @@ fn entries_are_read(rt: HostRuntime) -> Result<(), Fail> {
     ];
     for text in texts {
         let lines = read_entries(alloc, text.as_bytes())?;
-        assert!(rt; lines.as_slice() == wanted.as_slice(), "of {text}");
+        assert!(rt; lines.len() == 2, "of {text}");
+        assert!(rt; is_rest(lines.first(), MONDAY, MONDAY + 720), "of {text}");
+        assert!(rt;
+            is_rest(lines.get(1), MONDAY + 720, MONDAY + 721),
+            "of {text}"
+        );
     }
     // 366 days.
     let text = "start,past,activity\n2024-01-01 00:00,2025-01-01 00:00,rest\n";
     let lines = read_entries(alloc, text.as_bytes())?;
-    assert_same(
-        &rt,
-        lines.as_slice(),
-        [rest(28_401_120, 28_928_160)].as_slice(),
-    );
+    assert_same(&rt, lines.len(), 1);
+    assert!(rt; is_rest(lines.first(), 28_401_120, 28_928_160));
     Ok(())
 }
 
@@ -77,16 +89,77 @@ fn many_entries_are_read(rt: HostRuntime) -> Result<(), Fail> {
     let alloc = rt.alloc();
     let mut text = String::from_str(alloc, "start,past,activity\n")?;
     for i in 0..40_u32 {
-        let line = rest(MONDAY + 720 * i, MONDAY + 720 * i + 720);
-        let start = line.start;
-        let past = line.past;
+        let start = Minute::new(MONDAY + 720 * i);
+        let past = Minute::new(MONDAY + 720 * i + 720);
         writeln!(text, "{start},{past},rest")?;
     }
     let lines = read_entries(alloc, text.as_bytes())?;
     assert_same(&rt, lines.len(), 40);
     for i in 0..40_u32 {
-        let line = rest(MONDAY + 720 * i, MONDAY + 720 * i + 720);
-        assert_same(&rt, lines.get(i as usize).copied(), Some(line));
+        let (start, past) = (MONDAY + 720 * i, MONDAY + 720 * i + 720);
+        assert!(rt; is_rest(lines.get(i as usize), start, past), "of {i}");
+    }
+    Ok(())
+}
+
+#[test]
+fn authors_and_notes_are_read(rt: HostRuntime) -> Result<(), Fail> {
+    let alloc = rt.alloc();
+    for (author, note) in [
+        ("Eva Lund", "day off"),
+        ("E", ""),
+        ("\u{00c5}sa", "f\u{00f6}rs\u{00e4}ljning; 'ill'"),
+        (" ", " "),
+    ] {
+        let text = format!(in alloc;
+            "start,past,activity,author,note\n2024-03-04 00:00,2024-03-04 12:00,rest,{author},{note}\n"
+        )?;
+        let lines = read_entries(alloc, text.as_bytes())?;
+        assert!(rt; lines.len() == 1, "of {author}");
+        let line = &lines[0];
+        assert!(rt;
+            (line.author(), line.note()) == (author, note),
+            "of {author}"
+        );
+        assert!(rt; line.past().number() == MONDAY + 720, "of {author}");
+    }
+    Ok(())
+}
+
+/// A text of so many letters. An Err is want of memory.
+fn letters(alloc: Global, count: usize) -> Result<String, Fail> {
+    let mut text = String::new(alloc);
+    for _ in 0..count {
+        text.push_str("a")?;
+    }
+    Ok(text)
+}
+
+#[test]
+fn authors_and_notes_have_their_lengths(rt: HostRuntime) -> Result<(), Fail> {
+    let alloc = rt.alloc();
+    for (author, note, wanted) in [
+        (0, 0, Some(Column::Author)),
+        (1, 0, None),
+        (64, 200, None),
+        (65, 200, Some(Column::Author)),
+        (64, 201, Some(Column::Note)),
+        (65, 201, Some(Column::Author)),
+    ] {
+        let (author, note) = (letters(alloc, author)?, letters(alloc, note)?);
+        let text = format!(in alloc;
+            "start,past,activity,author,note\n2024-03-04 00:00,2024-03-04 12:00,rest,{author},{note}\n"
+        )?;
+        let fault = wanted.map(|column| SheetFault::Text(2, column));
+        assert!(rt; fault_of(alloc, &text)? == fault, "of {text}");
+        let line = EntryLine::new(
+            Minute::new(MONDAY),
+            Minute::new(MONDAY + 720),
+            Activity::Rest,
+            author,
+            note,
+        );
+        assert!(rt; line.err() == wanted, "of {text}");
     }
     Ok(())
 }
@@ -217,6 +290,73 @@ fn the_first_fault_is_told(rt: HostRuntime) -> Result<(), Fail> {
     for (row, fault) in rows {
         let text = format!(in alloc; "start,past,activity\n{row}")?;
         assert!(rt; fault_of(alloc, &text)? == Some(fault), "of {row}");
+    }
+    Ok(())
+}
+
+#[test]
+fn the_first_fault_of_five_columns_is_told(rt: HostRuntime) -> Result<(), Fail> {
+    let alloc = rt.alloc();
+    let rows = [
+        (
+            "2024-03-04 00:00,2024-03-04 12:00,rest\n",
+            SheetFault::Fields(2),
+        ),
+        (
+            "2024-03-04 00:00,2024-03-04 12:00,rest,Eva\n",
+            SheetFault::Fields(2),
+        ),
+        (
+            "2024-01-01 00:00,2025-01-01 00:01,rest,,\n",
+            SheetFault::TooLong(2),
+        ),
+        (
+            "2024-03-04 00:00,2024-03-04 12:00,lunch,,\n",
+            SheetFault::Activity(2),
+        ),
+        (
+            "2024-03-04 00:00,2024-03-04 12:00,rest,,\"a,b\"\n",
+            SheetFault::Text(2, Column::Author),
+        ),
+        (
+            "2024-03-04 00:00,2024-03-04 12:00,rest,\"Lund, Eva\",\n",
+            SheetFault::Text(2, Column::Author),
+        ),
+        (
+            "2024-03-04 00:00,2024-03-04 12:00,rest,Eva,\"a,b\"\n",
+            SheetFault::Text(2, Column::Note),
+        ),
+        (
+            "2024-03-04 00:00,2024-03-04 12:00,rest,Eva,\"a \"\"b\"\"\"\n",
+            SheetFault::Text(2, Column::Note),
+        ),
+        (
+            "2024-03-04 00:00,2024-03-04 12:00,rest,Eva,a\tb\n",
+            SheetFault::Text(2, Column::Note),
+        ),
+        (
+            "2024-03-04 00:00,2024-03-04 12:00,rest,Eva,a\u{7f}b\n",
+            SheetFault::Text(2, Column::Note),
+        ),
+        (
+            "2024-03-04 00:00,2024-03-04 12:00,rest,Eva,\n2024-03-04 12:00,2024-03-04 13:00,rest,,\n",
+            SheetFault::Text(3, Column::Author),
+        ),
+    ];
+    for (row, fault) in rows {
+        let text = format!(in alloc; "start,past,activity,author,note\n{row}")?;
+        assert!(rt; fault_of(alloc, &text)? == Some(fault), "of {row}");
+    }
+    for head in [
+        "start,past,activity,author\n",
+        "start,past,activity,note,author\n",
+        "start,past,activity,author,note,\n",
+        "start,past,activity,Author,note\n",
+    ] {
+        assert!(rt;
+            fault_of(alloc, head)? == Some(SheetFault::Head),
+            "of {head}"
+        );
     }
     Ok(())
 }
@@ -445,23 +585,27 @@ fn commands_that_were_done_have_lines(rt: HostRuntime) {
 
 #[test]
 fn entries_are_printed(rt: HostRuntime) -> Result<(), Fail> {
+    let alloc = rt.alloc();
+    let author = String::from_str(alloc, "Eva Lund")?;
+    let note = String::from_str(alloc, "day off")?;
+    let (start, past) = (Minute::new(MONDAY + 360), Minute::new(MONDAY + 1_080));
     let entries = [
         Entry {
             number: 1,
-            line: rest(MONDAY, MONDAY + 720),
+            line: rest(alloc, MONDAY, MONDAY + 720)?,
             withdrawn: true,
         },
         Entry {
             number: 2,
-            line: rest(MONDAY + 360, MONDAY + 1_080),
+            line: EntryLine::new(start, past, Activity::Work, author, note)?,
             withdrawn: false,
         },
     ];
-    let text = entry_text(rt.alloc(), &entries)?;
+    let text = entry_text(alloc, &entries)?;
     assert_same(
         &rt,
         text.as_str(),
-        "1 2024-03-04 00:00 2024-03-04 12:00 rest withdrawn\n2 2024-03-04 06:00 2024-03-04 18:00 rest kept\n",
+        "1 2024-03-04 00:00 2024-03-04 12:00 rest withdrawn \"office\" \"\"\n2 2024-03-04 06:00 2024-03-04 18:00 work kept \"Eva Lund\" \"day off\"\n",
     );
     Ok(())
 }
@@ -530,6 +674,7 @@ fn faults_have_lines(rt: HostRuntime) {
         (StoreFault::NotMonday, "S9 not a Monday\n"),
         (StoreFault::UnknownDownload, "S10 unknown download\n"),
         (StoreFault::Store, "S12 store failed\n"),
+        (StoreFault::OldSchema, "S13 old archive\n"),
         (StoreFault::Full, "S14 full\n"),
         (StoreFault::Memory, "M1 no memory\n"),
     ];
@@ -574,6 +719,14 @@ fn faults_have_lines(rt: HostRuntime) {
         (SheetFault::Column(Column::Key), "E9 bad value for key\n"),
         (SheetFault::Column(Column::Base), "E9 bad value for base\n"),
         (SheetFault::Column(Column::Name), "E9 bad value for name\n"),
+        (
+            SheetFault::Text(2, Column::Author),
+            "E10 bad author in row 2\n",
+        ),
+        (
+            SheetFault::Text(12, Column::Note),
+            "E10 bad note in row 12\n",
+        ),
         (SheetFault::Memory, "M1 no memory\n"),
     ];
     for (fault, line) in sheets {

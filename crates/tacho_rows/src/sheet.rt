@@ -8,11 +8,16 @@ fn tell_fault(rt: &impl Print, fault: SheetFault) -> io::Result<()> {
     print!(rt; "{}", fault_line(Fault::Sheet(fault)).as_str())
 }
 
-/// Prints entered hours, a line each: start, past and activity.
+/// Prints entered hours, a line each: start, past, activity, author and note, the two in double quotes.
 fn print_lines(rt: &impl Print, lines: &[EntryLine]) -> io::Result<()> {
     for line in lines {
-        let (start, past) = (line.start.number(), line.past.number());
-        println!(rt; "{start} {past} {}", line.activity.name())?;
+        let (start, past) = (line.start().number(), line.past().number());
+        println!(rt;
+            "{start} {past} {} \"{}\" \"{}\"",
+            line.activity().name(),
+            line.author(),
+            line.note()
+        )?;
     }
     Ok(())
 }

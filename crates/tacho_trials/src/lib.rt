@@ -4,6 +4,8 @@
 #[cfg(test)]
 mod office_tests;
 #[cfg(test)]
+mod old_tests;
+#[cfg(test)]
 mod rows;
 #[cfg(test)]
 mod same;

@@ -210,7 +210,7 @@ static ROWS: [(&str, &[Command]); 8] = [
             (
                 "entries 17",
                 "",
-                "1 2024-03-09 00:00 2024-03-11 00:00 rest withdrawn\n",
+                "1 2024-03-09 00:00 2024-03-11 00:00 rest withdrawn \"office\" \"\"\n",
                 0,
             ),
             ("import both", SATURDAY, "added driver 17 number 1\n", 0),

@@ -33,6 +33,16 @@ pub(crate) fn adopted<S: Alter + Drop>(conn: Connection<S>) -> Result<Archive<S>
     }
 }
 
+/// The archive that a store has, carried over where it is old.
+pub(crate) fn migrated<S: Alter + Drop>(conn: Connection<S>) -> Result<Archive<S>, StoreFault>
+    requires { conn.in_transaction ≡ false }
+{
+    match Archive::migrate(conn) {
+        Ok(archive) => Ok(archive),
+        Err(refused) => Err(refused.0),
+    }
+}
+
 /// An archive that is made in a store.
 fn created<S: Alter + Drop>(conn: Connection<S>) -> Result<Archive<S>, StoreFault>
     requires { conn.in_transaction ≡ false }
@@ -43,10 +53,11 @@ fn created<S: Alter + Drop>(conn: Connection<S>) -> Result<Archive<S>, StoreFaul
     }
 }
 
-/// The connection that a refusal, which has to be S12, hands back.
-fn handed_back<S: Alter + Drop>(
+/// The connection that a refusal, which has to be this one, hands back.
+pub(crate) fn handed_back<S: Alter + Drop>(
     rt: &impl Abort,
     made: Result<Archive<S>, (StoreFault, Connection<S>)>,
+    wanted: StoreFault,
 ) -> Result<Connection<S>, Fail>
     requires { IfErr made (λ e. e.1.in_transaction ≡ false) }
     ensures { IfOk result (λ conn. conn.in_transaction ≡ false) }
@@ -54,7 +65,7 @@ fn handed_back<S: Alter + Drop>(
     match made {
         Ok(_) => Err("the store was taken")?,
         Err((fault, conn)) => {
-            assert_same(rt, fault, StoreFault::Store);
+            assert_same(rt, fault, wanted);
             Ok(conn)
         }
     }
@@ -130,14 +141,14 @@ fn an_archive_is_not_made_twice(rt: HostRuntime) -> Result<(), Fail> {
     let (before, after) = A_DAY_IS_ADDED.split_at(3);
     let mut archive = open_memory(rt.alloc())?;
     take(&rt, rt.alloc(), &mut archive, row, before)?;
-    let conn = handed_back(&rt, Archive::create(archive.close()))?;
+    let conn = handed_back(&rt, Archive::create(archive.close()), StoreFault::Store)?;
     take(&rt, rt.alloc(), &mut adopted(conn)?, row, after)
 }
 
 #[test]
 fn a_store_without_tables_has_no_archive(rt: HostRuntime) -> Result<(), Fail> {
     let conn = Connection::open_in_memory(rt.alloc())?;
-    let conn = handed_back(&rt, Archive::adopt(conn))?;
+    let conn = handed_back(&rt, Archive::adopt(conn), StoreFault::Store)?;
     let mut archive = created(conn)?;
     take(&rt, rt.alloc(), &mut archive, "made later", A_DAY_IS_ADDED)
 }
@@ -147,8 +158,8 @@ fn a_store_with_other_tables_has_no_archive(rt: HostRuntime) -> Result<(), Fail>
     let mut conn = Connection::open_in_memory(rt.alloc())?;
     conn.execute_batch("CREATE TABLE note (a INTEGER) STRICT")?;
     assert!(rt; conn.is_autocommit());
-    let conn = handed_back(&rt, Archive::create(conn))?;
-    let mut conn = handed_back(&rt, Archive::adopt(conn))?;
+    let conn = handed_back(&rt, Archive::create(conn), StoreFault::Store)?;
+    let mut conn = handed_back(&rt, Archive::adopt(conn), StoreFault::Store)?;
     let row = conn.query_row("SELECT count(*) FROM sqlite_master", &[])?;
     let count: i64 = row.get(0)?;
     assert_same(&rt, count, 1);
@@ -157,18 +168,18 @@ fn a_store_with_other_tables_has_no_archive(rt: HostRuntime) -> Result<(), Fail>
 
 #[test]
 fn tables_of_another_version_are_left_alone(rt: HostRuntime) -> Result<(), Fail> {
-    let row = "version 2";
+    let row = "version 3";
     let (before, after) = A_DAY_IS_ADDED.split_at(3);
     let mut archive = open_memory(rt.alloc())?;
     take(&rt, rt.alloc(), &mut archive, row, before)?;
     let mut conn = archive.close();
-    conn.execute("UPDATE meta SET version = 2 WHERE id = 1", &[])?;
+    conn.execute("UPDATE meta SET version = 3 WHERE id = 1", &[])?;
     assert!(rt; conn.is_autocommit());
-    let mut conn = handed_back(&rt, Archive::adopt(conn))?;
+    let mut conn = handed_back(&rt, Archive::adopt(conn), StoreFault::Store)?;
     let told = conn.query_row("SELECT version FROM meta", &[])?;
     let version: u32 = told.get(0)?;
-    assert_same(&rt, version, 2);
-    conn.execute("UPDATE meta SET version = 1 WHERE id = 1", &[])?;
+    assert_same(&rt, version, 3);
+    conn.execute("UPDATE meta SET version = 2 WHERE id = 1", &[])?;
     assert!(rt; conn.is_autocommit());
     take(&rt, rt.alloc(), &mut adopted(conn)?, row, after)
 }
