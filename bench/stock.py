@@ -18,18 +18,27 @@ TABLES = [
     " part INTEGER NOT NULL, file BLOB NOT NULL, PRIMARY KEY (driver, number)) STRICT",
     "CREATE TABLE card_spans (driver INTEGER NOT NULL REFERENCES drivers(driver), start INTEGER NOT NULL,"
     " past INTEGER NOT NULL, mark INTEGER NOT NULL, PRIMARY KEY (driver, start)) STRICT",
-    "CREATE TABLE entries (driver INTEGER NOT NULL REFERENCES drivers(driver), number INTEGER NOT NULL,"
+    "CREATE TABLE entry_rows (driver INTEGER NOT NULL REFERENCES drivers(driver), number INTEGER NOT NULL,"
     " start INTEGER NOT NULL, past INTEGER NOT NULL, mark INTEGER NOT NULL,"
-    " withdrawn INTEGER NOT NULL CHECK (withdrawn IN (0, 1)), PRIMARY KEY (driver, number)) STRICT",
+    " withdrawn INTEGER NOT NULL CHECK (withdrawn IN (0, 1)), author TEXT NOT NULL, note TEXT NOT NULL,"
+    " PRIMARY KEY (driver, number)) STRICT",
     "CREATE TABLE held (driver INTEGER NOT NULL REFERENCES drivers(driver), start INTEGER NOT NULL,"
     " past INTEGER NOT NULL, mark INTEGER NOT NULL, PRIMARY KEY (driver, start)) STRICT",
-    "INSERT INTO meta (id, version) VALUES (1, 1)",
+    "INSERT INTO meta (id, version) VALUES (1, 2)",
+]
+# What carries an archive of schema 1 over.
+CARRY = [
+    *[text for text in TABLES if " entry_rows " in text],
+    "INSERT INTO entry_rows (driver, number, start, past, mark, withdrawn, author, note)"
+    " SELECT driver, number, start, past, mark, withdrawn, 'office', '' FROM entries",
+    "DELETE FROM entries",
+    "UPDATE meta SET version = 2 WHERE id = 1",
 ]
 DRIVER = "SELECT holder, base, downloads, entries FROM drivers WHERE driver = ?1"
 BEFORE = "SELECT start, past, mark FROM {} WHERE driver = ?1 AND start < ?2 ORDER BY start DESC LIMIT 1"
 BEGUN = "SELECT start, past, mark FROM {} WHERE driver = ?1 AND ?2 <= start AND start < ?3 ORDER BY start"
 KEPT_NEAR = (
-    "SELECT start, past, mark FROM entries WHERE driver = ?1 AND withdrawn = 0 AND start < ?3 AND ?2 < past ORDER BY start"
+    "SELECT start, past, mark FROM entry_rows WHERE driver = ?1 AND withdrawn = 0 AND start < ?3 AND ?2 < past ORDER BY start"
 )
 ADD = "INSERT INTO {} (driver, start, past, mark) VALUES (?1, ?2, ?3, ?4)"
 
@@ -44,11 +53,16 @@ def opened(path):
         connection.execute("PRAGMA synchronous = FULL")
         connection.execute("PRAGMA cache_size = 2000")
     if not first(connection, "SELECT name FROM sqlite_schema"):
-        connection.execute("BEGIN")
-        for text in TABLES:
-            connection.execute(text)
-        connection.execute("COMMIT")
+        do_all(connection, TABLES)
     return connection
+
+
+def do_all(connection, texts):
+    """Does statements in one transaction."""
+    connection.execute("BEGIN")
+    for text in texts:
+        connection.execute(text)
+    connection.execute("COMMIT")
 
 
 class Given:
@@ -133,8 +147,8 @@ def enter(connection, given, word):
     last = number - 1 + len(given.spans)
     connection.execute("UPDATE drivers SET entries = ?2 WHERE driver = ?1", (driver, last))
     connection.executemany(
-        "INSERT INTO entries (driver, number, start, past, mark, withdrawn) VALUES (?1, ?2, ?3, ?4, ?5, 0)",
-        [(driver, place, *span) for place, span in enumerate(given.spans, number)],
+        "INSERT INTO entry_rows (driver, number, start, past, mark, withdrawn, author, note) VALUES (?1, ?2, ?3, ?4, ?5, 0, ?6, ?7)",
+        [(driver, place, *span, "office", "") for place, span in enumerate(given.spans, number)],
     )
     connection.executemany(ADD.format("held"), [(driver, *span) for span in given.spans])
     connection.execute("COMMIT")
@@ -146,9 +160,9 @@ def withdraw(connection, _, *words):
     driver, number = key = tuple(map(int, words))
     connection.execute("BEGIN")
     first(connection, DRIVER, driver)
-    text = "SELECT number, start, past, mark, withdrawn FROM entries WHERE driver = ?1 AND number = ?2"
-    _, start, past, mark, _ = first(connection, text, *key)
-    connection.execute("UPDATE entries SET withdrawn = 1 WHERE driver = ?1 AND number = ?2", key)
+    text = "SELECT number, start, past, mark, withdrawn, author, note FROM entry_rows WHERE driver = ?1 AND number = ?2"
+    _, start, past, mark, *_ = first(connection, text, *key)
+    connection.execute("UPDATE entry_rows SET withdrawn = 1 WHERE driver = ?1 AND number = ?2", key)
     cards = rows_near(connection, "card_spans", driver, start, past)
     others = connection.execute(KEPT_NEAR, (driver, start, past)).fetchall()
     if cards or others or rows_near(connection, "held", driver, start, past) != [(start, past, mark)]:
@@ -159,13 +173,20 @@ def withdraw(connection, _, *words):
     return f"withdrawn {number}"
 
 
+def migrate(connection, _):
+    """Carries an archive of schema 1 over, and takes the log into the file."""
+    do_all(connection, CARRY)
+    connection.execute("PRAGMA wal_checkpoint(TRUNCATE)").fetchone()
+    return "migrated"
+
+
 def settings(connection):
     """The settings that matter, as SQLite names them."""
     names = ["journal_mode", "synchronous", "locking_mode", "cache_size", "page_size", "foreign_keys", "wal_autocheckpoint"]
     return ", ".join(f"{name} {first(connection, f'PRAGMA {name}')[0]}" for name in names)
 
 
-COMMANDS = {"register": register, "import": import_card, "enter": enter, "withdraw": withdraw}
+COMMANDS = {"register": register, "import": import_card, "enter": enter, "withdraw": withdraw, "migrate": migrate}
 
 
 def answer(connection, line):

@@ -18,7 +18,8 @@ import counting
 import random_cards
 import random_commands
 import slow_office
-from office_rows import ADDED, ANNA, BOTH, BREACH, DAY, EXAMINED, FREE_DAYS, HOLDER, HOURS_HEAD, NOON, NOTHING, OTHER_DAY, SATURDAY, SPANS, done, refused
+from office_rows import ADDED, ANNA, BOTH, BREACH, DAY, DAY_OFF, DAY_OFF_LINE, EXAMINED, FREE_DAYS, FREE_LINE, HOLDER, HOURS_HEAD, LONG_NOTE
+from office_rows import NO_AUTHOR, NOON, NOTHING, OTHER_DAY, SATURDAY, SPANS, done, refused
 
 SEEDS = 160
 PROCESSES = 2
@@ -39,9 +40,9 @@ LONG_NIGHT = "2024-03-04 23:00,2024-03-05 08:00,rest,single\n"
 REFUSED_DAY = "S6 contradiction at 2024-03-04 08:00"
 
 
-def hours(*rows):
+def hours(*rows, head=HOURS_HEAD):
     """The text of CSV with rows of hours."""
-    return HOURS_HEAD + "".join(f"{row}\n" for row in rows).encode()
+    return head + "".join(f"{row}\n" for row in rows).encode()
 
 
 def bert(key, holder=HOLDER, base="2024-03-05"):
@@ -109,7 +110,11 @@ ROWS = {
             f"{SPAN_HEAD}2024-03-09 00:00,2024-03-09 08:00,rest,single\n2024-03-09 08:00,2024-03-09 10:00,work,single\n",
         ),
         refused("withdraw 17 1", "S8 already withdrawn"),
-        done("entries 17", "1 2024-03-09 00:00 2024-03-11 00:00 rest withdrawn\n"),
+        done("entries 17", FREE_LINE),
+        done("enter 17", "entered 2 to 2\n", DAY_OFF),
+        done("entries 17", FREE_LINE + DAY_OFF_LINE),
+        refused("enter 17", "E10 bad author in row 2", NO_AUTHOR),
+        refused("enter 17", "E10 bad note in row 2", LONG_NOTE),
     ],
     "entries that overlap": [
         done("enter 17", "entered 1 to 1\n", hours("2024-03-04 00:00,2024-03-04 12:00,rest")),
@@ -118,7 +123,8 @@ ROWS = {
         done("spans 17 2024-03", f"{SPAN_HEAD}2024-03-04 06:00,2024-03-04 18:00,rest,single\n"),
         done(
             "entries 17",
-            "1 2024-03-04 00:00 2024-03-04 12:00 rest withdrawn\n2 2024-03-04 06:00 2024-03-04 18:00 rest kept\n",
+            '1 2024-03-04 00:00 2024-03-04 12:00 rest withdrawn "office" ""\n'
+            '2 2024-03-04 06:00 2024-03-04 18:00 rest kept "office" ""\n',
         ),
     ],
     "a file of entered hours": [
@@ -189,10 +195,10 @@ ROWS = {
 DAYS = [str(datetime.date(2000, 1, 3) + datetime.timedelta(days=place)) for place in range(3001)]
 FULL_DAYS = [(a, b, "rest" if place % 2 else "work") for place, (a, b) in enumerate(zip(DAYS, DAYS[1:]))]
 FULL_ROWS = [f"{a} 00:00,{b} 00:00,{activity}" for a, b, activity in FULL_DAYS]
-FULL_ENTRIES = [f"{n} {a} 00:00 {b} 00:00 {activity} kept\n" for n, (a, b, activity) in enumerate(FULL_DAYS, 1)]
+FULL_ENTRIES = [f'{n} {a} 00:00 {b} 00:00 {activity} kept "office" ""\n' for n, (a, b, activity) in enumerate(FULL_DAYS, 1)]
 LATE_BASE = "2008-02-11"  # a Monday, 39 days before the last entry ends
 LATE_ENTRIES = 60
-LAST_ENTRY = "3001 2024-03-09 00:00 2024-03-11 00:00 rest withdrawn\n"
+LAST_ENTRY = FREE_LINE.replace("1", "3001", 1)
 ROWS_BEHIND_ENTRIES = {
     "another day": ROWS["another day"],
     "two generations": ROWS["two generations"],
@@ -208,14 +214,17 @@ ROWS_BEHIND_ENTRIES = {
 
 
 def documented():
-    """The statements by which the tables are made, as the document shows them."""
+    """The statements by which the tables of both schemas are made, as the document shows them, by the names of the tables."""
     path = os.path.join(os.path.dirname(os.path.abspath(__file__)), "..", "docs", "TABLES.md")
     with open(path, encoding="utf-8") as document:
-        found = re.findall(r"^    (CREATE TABLE .*\n(?:      .*\n)*)", document.read(), re.MULTILINE)
-    return sorted(" ".join(statement.split()) for statement in found)
+        found = re.findall(r"^    (CREATE TABLE (\w+) .*\n(?:      .*\n)*)", document.read(), re.MULTILINE)
+    return {name: " ".join(statement.split()) for statement, name in found}
 
 
-STATEMENTS = documented()
+MADE = documented()
+# The tables of schema 2 as `init` makes them, and as `migrate` leaves them, each in its order.
+TABLES = ["meta", "drivers", "downloads", "card_spans", "entry_rows", "held"]
+CARRIED_TABLES = ["meta", "drivers", "downloads", "card_spans", "entries", "held", "entry_rows"]
 
 
 # What is told
@@ -254,22 +263,26 @@ def minutes_of(rows):
 
 def read(store):
     """The tables of a store, the statements that made them, and what SQLite says of all."""
-    made = store.execute("select name, sql from sqlite_schema where type = 'table'").fetchall()
+    made = store.execute("select name, sql from sqlite_schema where type = 'table' order by rowid").fetchall()
     found = {name: sorted(store.execute(f"select * from {name}")) for name, _ in made}
     for question in ["integrity_check", "foreign_key_check"]:
         found[question] = store.execute(f"pragma {question}").fetchall()
-    for name in ["card_spans", "held"]:
-        found[name] = minutes_of(found.get(name, []))
-    return {**found, "statements": sorted(statement for _, statement in made)}
+    return {**found, "statements": [statement for _, statement in made]}
 
 
-def tables(path):
+def rows_at(path):
     """The tables of a file as SQLite reads them, or why it doesn't."""
     with contextlib.closing(sqlite3.connect(path)) as store:
         try:
             return read(store)
         except sqlite3.Error as fault:
             return {"fault": [str(fault)]}
+
+
+def tables(path):
+    """The same, with minutes in the place of spans."""
+    found = rows_at(path)
+    return {**found, **{name: minutes_of(found.get(name, [])) for name in ["card_spans", "held"]}}
 
 
 def rows_of(found):
@@ -285,17 +298,23 @@ def wanted_of(office, commands):
     return [(b"", 0), *[office.answer(*command) for command in commands], (b"", 0)]
 
 
-def wanted_tables(archive):
-    """What SQLite has to find in the file."""
-    return {**archive.tables(), "statements": STATEMENTS, "integrity_check": [("ok",)], "foreign_key_check": []}
+def sound(names, rows):
+    """What SQLite has to find in a file that has these tables, in this order, with these rows."""
+    found = {name: sorted(rows[name]) for name in names}
+    return {**found, "statements": [MADE[name] for name in names], "integrity_check": [("ok",)], "foreign_key_check": []}
+
+
+def wanted_tables(archive, is_carried):
+    """What SQLite has to find in the file of an archive that `init` has made, or that was carried over from schema 1."""
+    return sound(CARRIED_TABLES if is_carried else TABLES, {"entries": [], **archive.tables()})
 
 
 # Comparisons
 
 
-def of_tables(name, path, archive):
+def of_tables(name, path, archive, is_carried=False):
     """The comparison of a file's tables with those that it has to have."""
-    return f"{name}: tables", rows_of(tables(path)), rows_of(wanted_tables(archive))
+    return f"{name}: tables", rows_of(tables(path)), rows_of(wanted_tables(archive, is_carried))
 
 
 def of_commands(program, name, commands):

@@ -13,14 +13,14 @@ import sys
 
 import counting
 import programs
+import random_commands
 import slow_csv
-from slow_reader import minute_text
 
 EXAMPLES = os.path.join(os.path.dirname(os.path.dirname(os.path.abspath(__file__))), "examples")
 SEEDS = 3000  # of each of the two
 REFUSED_SEEDS = 100  # one in so many is also run with its allocations refused
 RECORD_SEEDS = 2000
-FIRST, LAST = 15_780_960, 68_374_079  # 2000-01-03 00:00 and 2099-12-31 23:59
+FIRST, LAST = random_commands.MINUTES[0], random_commands.MINUTES[-1]  # 2000-01-03 00:00 and 2099-12-31 23:59
 ALPHABET = b',"\r\n a1'
 
 QUESTIONS = {"entries": slow_csv.entries, "driver": slow_csv.driver}
@@ -29,9 +29,16 @@ QUESTIONS = {"entries": slow_csv.entries, "driver": slow_csv.driver}
 
 HEAD = "start,past,activity\n"
 REST = "2024-03-04 00:00,2024-03-04 12:00,rest\n"
-RESTED = "28491840 28492560 rest\n"
+RESTED = '28491840 28492560 rest "office" ""\n'
 WORK = "2024-03-04 12:00,2024-03-04 12:01,work\n"
-WORKED = "28492560 28492561 work\n"
+WORKED = '28492560 28492561 work "office" ""\n'
+
+SIGNED = "start,past,activity,author,note\n"
+SIGNED_REST = REST[:-1] + ",Eva Lund,day off\n"
+SIGNED_RESTED = '28491840 28492560 rest "Eva Lund" "day off"\n'
+SIGNED_WORK = WORK[:-1] + ",b,\n"
+SIGNED_WORKED = '28492560 28492561 work "b" ""\n'
+NO_AUTHOR, NO_NOTE = "E10 bad author in row 2\n", "E10 bad note in row 2\n"
 
 ENTRIES = {
     "": "E1 wrong head\n",
@@ -64,8 +71,8 @@ ENTRIES = {
     HEAD + "2024-03-04 00:00,2023-02-29 12:00,crew\n": "E3 bad time in row 2\n",
     HEAD + "2024-03-04 23:00,2024-03-05 00:60,rest\n": "E3 bad time in row 2\n",
     HEAD + "2000-01-02 23:59,2000-01-03 00:00,rest\n": "E3 bad time in row 2\n",
-    HEAD + "2000-01-03 00:00,2000-01-03 00:01,rest\n": "15780960 15780961 rest\n",
-    HEAD + "2099-12-31 23:58,2099-12-31 23:59,rest\n": "68374078 68374079 rest\n",
+    HEAD + "2000-01-03 00:00,2000-01-03 00:01,rest\n": '15780960 15780961 rest "office" ""\n',
+    HEAD + "2099-12-31 23:58,2099-12-31 23:59,rest\n": '68374078 68374079 rest "office" ""\n',
     HEAD + "2099-12-31 23:59,2100-01-01 00:00,rest\n": "E3 bad time in row 2\n",
     HEAD + "2024-03-04 12:00,2024-03-04 12:00,rest\n": "E4 wrong order in row 2\n",
     HEAD + "2024-03-04 12:00,2024-03-04 12:00,crew\n": "E4 wrong order in row 2\n",
@@ -79,8 +86,81 @@ ENTRIES = {
     HEAD + REST.replace("rest", "Rest"): "E6 no such activity in row 2\n",
     HEAD + REST.replace("rest", "rest "): "E6 no such activity in row 2\n",
     HEAD + REST.replace("rest", ""): "E6 no such activity in row 2\n",
-    HEAD + "2024-01-01 00:00,2025-01-01 00:00,rest\n": "28401120 28928160 rest\n",
+    HEAD + "2024-01-01 00:00,2025-01-01 00:00,rest\n": '28401120 28928160 rest "office" ""\n',
     HEAD + "2024-01-01 00:00,2025-01-01 00:01,rest\n": "E7 too long in row 2\n",
+    # the head with author and note
+    SIGNED: "",
+    SIGNED[:-1]: "",
+    "\ufeff" + SIGNED + SIGNED_REST: SIGNED_RESTED,
+    SIGNED + SIGNED_REST + "\n" + SIGNED_WORK: SIGNED_RESTED + SIGNED_WORKED,
+    (SIGNED + SIGNED_REST + SIGNED_WORK).replace("\n", "\r\n"): SIGNED_RESTED + SIGNED_WORKED,
+    "start,past,activity,author\n": "E1 wrong head\n",
+    "start,past,activity,note,author\n": "E1 wrong head\n",
+    "start,past,activity,Author,note\n": "E1 wrong head\n",
+    "start,past,activity,author,note,\n": "E1 wrong head\n",
+    "author,note,start,past,activity\n": "E1 wrong head\n",
+    '"start","past","activity","author","note"\n' + SIGNED_REST: SIGNED_RESTED,
+    SIGNED + REST: "E2 wrong fields in row 2\n",
+    SIGNED + REST[:-1] + ",Eva Lund\n": "E2 wrong fields in row 2\n",
+    SIGNED + SIGNED_REST[:-1] + ",\n": "E2 wrong fields in row 2\n",
+    SIGNED + SIGNED_REST.replace("day off", "day, off"): "E2 wrong fields in row 2\n",
+    SIGNED + SIGNED_REST + WORK: "E2 wrong fields in row 3\n",
+    HEAD + SIGNED_REST: "E2 wrong fields in row 2\n",
+    HEAD + REST + SIGNED_WORK: "E2 wrong fields in row 3\n",
+    # authors and notes
+    SIGNED + SIGNED_REST.replace("Eva Lund", '"Eva Lund"').replace("day off", '"day off"'): SIGNED_RESTED,
+    SIGNED + SIGNED_REST.replace("day off", '"day" off'): SIGNED_RESTED,
+    SIGNED + SIGNED_REST.replace("day off", '"day off'): NO_NOTE,
+    SIGNED + SIGNED_REST[:-1].replace("day off", '"day off'): SIGNED_RESTED,
+    SIGNED + SIGNED_REST.replace("day off", '""'): SIGNED_RESTED.replace("day off", ""),
+    SIGNED + SIGNED_REST.replace("Eva Lund", '""'): NO_AUTHOR,
+    SIGNED + SIGNED_REST.replace("Eva Lund", ""): NO_AUTHOR,
+    SIGNED + SIGNED_REST.replace("Eva Lund", " "): SIGNED_RESTED.replace("Eva Lund", " "),
+    SIGNED + SIGNED_REST.replace("Eva Lund", 64 * "a"): SIGNED_RESTED.replace("Eva Lund", 64 * "a"),
+    SIGNED + SIGNED_REST.replace("Eva Lund", 65 * "a"): NO_AUTHOR,
+    SIGNED + SIGNED_REST.replace("Eva Lund", 32 * "ö"): SIGNED_RESTED.replace("Eva Lund", 32 * "ö"),
+    SIGNED + SIGNED_REST.replace("Eva Lund", 32 * "ö" + "a"): NO_AUTHOR,
+    SIGNED + SIGNED_REST.replace("Eva Lund", 33 * "ö"): NO_AUTHOR,
+    SIGNED + SIGNED_REST.replace("Eva Lund", '"Lund, Eva"'): NO_AUTHOR,
+    SIGNED + SIGNED_REST.replace("Eva Lund", '"Eva ""E"" Lund"'): NO_AUTHOR,
+    SIGNED + SIGNED_REST.replace("Eva Lund", 'Eva "E"'): NO_AUTHOR,
+    SIGNED + SIGNED_REST.replace("Eva Lund", '"Eva\nLund"'): NO_AUTHOR,
+    SIGNED + SIGNED_REST.replace("Eva Lund", "Eva\tLund"): NO_AUTHOR,
+    SIGNED + SIGNED_REST.replace("Eva Lund", "Eva\x1fLund"): NO_AUTHOR,
+    SIGNED + SIGNED_REST.replace("Eva Lund", "Eva\x7fLund"): NO_AUTHOR,
+    SIGNED + SIGNED_REST.replace("Eva Lund", "Eva\x80Lund"): SIGNED_RESTED.replace("Eva Lund", "Eva\x80Lund"),
+    SIGNED + SIGNED_REST.replace("day off", 200 * "n"): SIGNED_RESTED.replace("day off", 200 * "n"),
+    SIGNED + SIGNED_REST.replace("day off", 201 * "n"): NO_NOTE,
+    SIGNED + SIGNED_REST.replace("day off", 100 * "ö"): SIGNED_RESTED.replace("day off", 100 * "ö"),
+    SIGNED + SIGNED_REST.replace("day off", 100 * "ö" + "n"): NO_NOTE,
+    SIGNED + SIGNED_REST.replace("day off", '"day, off"'): NO_NOTE,
+    SIGNED + SIGNED_REST.replace("day off", '"day ""off"""'): NO_NOTE,
+    SIGNED + SIGNED_REST.replace("day off", '"day\r\noff"'): NO_NOTE,
+    SIGNED + SIGNED_REST.replace("day off", "day\0off"): NO_NOTE,
+    SIGNED + SIGNED_REST.replace("day off", "day off\x7f"): NO_NOTE,
+    # which of two faults is told
+    SIGNED + SIGNED_REST.replace("Eva Lund", "").replace("day off", 201 * "n"): NO_AUTHOR,
+    SIGNED + "2024-01-01 00:00,2025-01-01 00:01,rest,,\n": "E7 too long in row 2\n",
+    SIGNED + "2024-01-01 00:00,2025-01-01 00:00,rest,,\n": NO_AUTHOR,
+    SIGNED + REST[:-1] + "!,,\n": "E6 no such activity in row 2\n",
+    SIGNED + REST.replace("rest\n", "crew,,\n"): "E5 left out in row 2: crew\n",
+    SIGNED + "2024-03-04 12:00,2024-03-04 12:00,rest,,\n": "E4 wrong order in row 2\n",
+    SIGNED + "2024-03-04 12:00,2024-03-04 24:00,rest,,\n": "E3 bad time in row 2\n",
+    SIGNED + SIGNED_REST.replace("Eva Lund", "") + "2024-03-05,,,\n": NO_AUTHOR,
+    SIGNED + SIGNED_REST + SIGNED_WORK.replace(",b,", ",,"): "E10 bad author in row 3\n",
+    SIGNED + SIGNED_REST + SIGNED_WORK.replace(",b,", ",b,\x1f"): "E10 bad note in row 3\n",
+    SIGNED + SIGNED_REST + SIGNED_REST.replace("Eva Lund", ""): "E4 wrong order in row 3\n",
+}
+
+# The same of texts that aren't UTF-8.
+BYTES = {
+    (SIGNED + REST[:-1]).encode() + b",Zo\xc3,\n": NO_AUTHOR,
+    (SIGNED + REST[:-1]).encode() + b"," + 63 * b"a" + b"\xc3,\n": NO_AUTHOR,
+    (SIGNED + REST[:-1]).encode() + b",\xff,\n": NO_AUTHOR,
+    (SIGNED + REST[:-1]).encode() + b",b," + 199 * b"n" + b"\xc3\n": NO_NOTE,
+    (SIGNED + REST[:-1]).encode() + b",b,\x80\n": NO_NOTE,
+    (SIGNED + REST[:-1]).encode() + b",b,\xed\xa0\x80\n": NO_NOTE,
+    (HEAD + REST[:-1]).encode() + b"\xff\n": "E6 no such activity in row 2\n",
 }
 
 COLUMNS = "driver,holder,key,base,name\n"
@@ -126,18 +206,16 @@ DRIVERS = {
     COLUMNS + ANNA.replace("Anna Berg", 33 * "Å"): "E9 bad value for name\n",
 }
 
-WORKED_TEXTS = {"entries": ENTRIES, "driver": DRIVERS}
+WORKED_TEXTS = {"entries": {**{text.encode(): wanted for text, wanted in ENTRIES.items()}, **BYTES}}
+WORKED_TEXTS["driver"] = {text.encode(): wanted for text, wanted in DRIVERS.items()}
 
 # The examples, and what each is.
-FILES = {"entries.csv": "entries", "entries-spreadsheet.csv": "entries", "driver.csv": "driver"}
+FILES = {"entries.csv": "entries", "entries-spreadsheet.csv": "entries", "entries-signed.csv": "entries", "driver.csv": "driver"}
 
 
 # Random texts
 
-BAD_TIMES = ["", "2024-03-04", "2024-03-04T00:00", "2024-3-4 00:00", " 2024-03-04 00:00", "2024-03-04 00:00:00", "04.03.2024 00:00"]
-BAD_TIMES += ["2023-02-29 00:00", "2024-13-01 00:00", "2024-03-04 24:00", "2024-03-04 00:60", "2000-01-02 23:59", "2100-01-01 00:00"]
 WORDS = ["rest", "available", "work", "drive"]
-BAD_WORDS = ["crew", "ferry", "out", "derogation", "", "Rest", "rest ", "lunch", "Crew", "driving", "ö"]
 BAD_COLUMNS = [
     ["", "0", "017", "1000000", "+17", "-17", " 17", "17 ", "4294967297", "x"],
     ["", HOLDER[1:], HOLDER + "0", HOLDER.upper(), HOLDER[:-1] + "g"],
@@ -147,9 +225,10 @@ BAD_COLUMNS = [
 ]
 
 
-# What stands before random bytes: nothing, a head, a row with its end of line or without, a driver up to his name.
+# What stands before random bytes: nothing, a head, a row with its end of line or without, one up to its author or his note, a driver
+# up to his name.
 BEGINNINGS = {
-    "entries": ["", HEAD[:-1], HEAD, HEAD + REST[:-1], HEAD + REST],
+    "entries": ["", HEAD[:-1], HEAD, HEAD + REST[:-1], HEAD + REST, SIGNED[:-1], SIGNED + REST[:-1] + ",", SIGNED + REST[:-1] + ",b,"],
     "driver": ["", COLUMNS[:-1], COLUMNS, COLUMNS + ANNA[:-10], COLUMNS + ANNA[:-10], COLUMNS + ANNA],
 }
 
@@ -163,20 +242,20 @@ class Texts:
     def is_now(self, part):
         return self.chance.random() < part
 
-    def entry_rows(self):
-        """Rows of entered hours, some right behind the one before. Some are so many that the reader takes them in pieces."""
+    def spans(self):
+        """Hours to be entered, some right behind those before. Some are so many that the reader takes them in pieces."""
         chance = self.chance
         count = chance.choice([0, 1, 2, 3, 5] * 10 + [500])
         lengths = [1, 15, 480] if count == 500 else [1, 15, 480, 1440, 527_039, 527_040]
         minute = chance.choice([FIRST, 28_491_840, 28_491_840, LAST - 5_000, chance.randrange(FIRST, LAST)])
-        rows = []
+        spans = []
         for _ in range(count):
             start = min(LAST - 1, minute + chance.choice([0, 0, 1, 30, 600]))
             past = min(LAST, start + chance.choice(lengths))
             if start < past:
-                rows.append([minute_text(start), minute_text(past), chance.choice(WORDS)])
+                spans.append((start, past, chance.choice(WORDS)))
                 minute = past
-        return rows
+        return spans
 
     def driver_row(self):
         """The columns of a driver, near their limits too."""
@@ -191,23 +270,7 @@ class Texts:
 
     def spoil_entry(self, rows):
         """Puts a fault into a row."""
-        chance = self.chance
-        row = chance.choice(rows)
-        kind = chance.randrange(7)
-        if kind == 0:
-            row.append("")
-        elif kind == 1:
-            row.pop()
-        elif kind == 2:
-            row[chance.randrange(2)] = chance.choice(BAD_TIMES)
-        elif kind == 3:
-            row[0] = minute_text(chance.randrange(FIRST, LAST))
-        elif kind == 4:
-            row[-1] = chance.choice(BAD_WORDS)
-        elif kind == 5:
-            row[:2] = [row[0], row[0]]
-        else:
-            row[0] = "2000-01-03 00:00"
+        random_commands.spoil_hours(self.chance, rows)
 
     def spoil_driver(self, rows):
         """Puts a fault into the driver's columns, or adds or removes a row."""
@@ -228,7 +291,7 @@ class Texts:
     def spoil_head(self, head):
         """Changes the head."""
         place = self.chance.randrange(len(head))
-        head[place : place + 1] = self.chance.choice([[], [head[place].upper()], [head[place], ""], [" " + head[place]]])
+        head[place : place + 1] = self.chance.choice([[], [head[place].upper()], [head[place], b""], [b" " + head[place]]])
 
     def field(self, field, style):
         """A field as it is written: as it is where that can be, in quotes, or partly in quotes."""
@@ -281,9 +344,9 @@ class Texts:
         if self.is_now(0.1):
             return self.random_bytes(question)
         if question == "entries":
-            head, rows, spoil = ["start", "past", "activity"], self.entry_rows(), self.spoil_entry
+            (head, *rows), spoil = random_commands.rows_of(self.chance, self.spans()), self.spoil_entry
         else:
-            head, rows, spoil = ["driver", "holder", "key", "base", "name"], [self.driver_row()], self.spoil_driver
+            head, rows, spoil = [*slow_csv.DRIVER_HEAD], [self.driver_row()], self.spoil_driver
         for _ in range(self.chance.choice([0, 0, 0, 1, 1, 2])):
             if rows and all(rows):
                 spoil(rows)
@@ -307,8 +370,8 @@ def of_worked(program):
     """The comparisons of the worked texts, and of the slow reader with what they say."""
     for question, texts in WORKED_TEXTS.items():
         for text, wanted in texts.items():
-            yield f"the slow {question} of {text!r}", QUESTIONS[question](text.encode()), wanted
-            yield of_text(program, question, "a worked text", text.encode())
+            yield f"the slow {question} of {text!r}", QUESTIONS[question](text), wanted
+            yield of_text(program, question, "a worked text", text)
 
 
 def example(name):
@@ -330,8 +393,8 @@ def contradictions(lines, spans):
 
 
 def of_examples(program):
-    """The comparisons of the examples: each is read, the two files of entries enter the same hours, and these don't
-    contradict the spans of the example of a card."""
+    """The comparisons of the examples: each is read, two of the files of entries enter the same hours, and these don't
+    contradict the spans of the example of a card, nor do those of the third contradict any of them."""
     for name, question in FILES.items():
         text = example(name)
         yield of_text(program, question, name, text)
@@ -340,6 +403,8 @@ def of_examples(program):
     spans = [span_of(line) for line in example("driver-year.spans").decode().splitlines()]
     yield "entries-spreadsheet.csv", slow_csv.entries_of(example("entries-spreadsheet.csv")), lines
     yield "what entries.csv contradicts", contradictions(lines, spans), []
+    signed = slow_csv.entries_of(example("entries-signed.csv"))
+    yield "what entries-signed.csv contradicts", contradictions(signed, [*spans, *lines]), []
 
 
 def of_records(seed):

@@ -43,6 +43,7 @@ READINGS = [
     "drivers",
 ]
 COMMANDS = ["register", "import both", "enter 17", "withdraw 17 1", "base 17 2024-03-11", *READINGS]
+OPENING = ["migrate", *COMMANDS]
 
 # Words that name no command, with the archive's path where it belongs.
 NO_COMMANDS = [
@@ -57,6 +58,9 @@ NO_COMMANDS = [
     ["line", "PATH", "17"],
     ["init"],
     ["init", "PATH", "17"],
+    ["migrate"],
+    ["migrate", "PATH", "17"],
+    ["migrate", "PATH", "--all"],
     ["register"],
     ["register", "PATH", "17"],
     ["import", "PATH"],
@@ -235,28 +239,37 @@ def lying_at(path):
     return sorted({*names} - {*logs}), content(path)
 
 
-def of_refused_file(desk, name, make, commands):
+def of_refused_file(desk, name, make, commands, wanted=STORE_FAILED):
     """The comparisons of commands on a path where no archive can be opened: what lies there stays as it is."""
     make(desk.path)
     for words in commands:
         before = lying_at(desk.path)
-        yield f"{name}: {words}", desk.run(words.split()), STORE_FAILED
+        yield f"{name}: {words}", desk.run(words.split()), wanted
         yield f"{name}: {words}: what lies there", lying_at(desk.path), before
 
 
-def make_database(path):
+def make_database(path, rows):
     """Makes a database that is no archive."""
     with contextlib.closing(sqlite3.connect(path)) as store:
         store.execute("create table meta (id integer primary key, version integer not null) strict")
-        store.execute("insert into meta values (1, 2)")
+        store.executemany("insert into meta values (?, ?)", rows)
+        store.commit()
+
+
+def make_other(path):
+    """Makes a database without a table `meta`."""
+    with contextlib.closing(sqlite3.connect(path)) as store:
+        store.execute("create table entries (driver integer not null) strict")
         store.commit()
 
 
 FILES = {
-    "no file": (lambda path: None, COMMANDS),
-    "a text": (lambda path: write(path, b"driver,holder,key,base,name\n" * 400), ["init", *COMMANDS]),
-    "a folder": (os.mkdir, ["init", *COMMANDS]),
-    "another database": (make_database, ["init", *COMMANDS]),
+    "no file": (lambda path: None, OPENING),
+    "a text": (lambda path: write(path, b"driver,holder,key,base,name\n" * 400), ["init", *OPENING]),
+    "a folder": (os.mkdir, ["init", *OPENING]),
+    "a later schema": (lambda path: make_database(path, [(1, 3)]), ["init", *OPENING]),
+    "no version": (lambda path: make_database(path, []), ["init", *OPENING]),
+    "another database": (make_other, ["init", *OPENING]),
 }
 
 
@@ -285,7 +298,7 @@ def of_rights(program):
         desk = Desk(shutil.copy(program, os.path.join(folder, "program")), folder)
         desk.prepare(WITH_DAY)
         os.chmod(desk.path, 0)
-        for words in COMMANDS:
+        for words in OPENING:
             yield f"a file without rights: {words}", desk.run(words.split(), **someone), STORE_FAILED
         os.chmod(desk.path, 0o600)
         yield desk.tables("a file without rights")

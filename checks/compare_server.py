@@ -30,8 +30,8 @@ import counting
 import random_requests
 import slow_office
 import slow_server
-from office_rows import ANNA, BERT, BREACH, CARD, DAY, EXAMINED, FREE_DAYS, GAPS, HOLDER, HOURS_HEAD, LARGEST_DAY
-from office_rows import LARGEST_HOURS, LIMIT, MARCH, SATURDAY, SPANS
+from office_rows import ANNA, BERT, BREACH, CARD, DAY, DAY_OFF, DAY_OFF_LINE, EXAMINED, FREE_DAYS, FREE_LINE, GAPS, HOLDER, HOURS_HEAD
+from office_rows import LARGEST_DAY, LARGEST_HOURS, LIMIT, LONG_NOTE, MARCH, NO_AUTHOR, SATURDAY, SIGNED_HEAD, SPANS
 
 SEEDS = 80
 SLOW_SEEDS = 20
@@ -315,7 +315,10 @@ ROWS = {
         posted("/drivers/18/entries", OFFICE, b"", line("422 Unprocessable Entity", 14, "E1 wrong head")),
         posted("/drivers/18/entries", OFFICE, FREE_DAYS, line("404 Not Found", 18, "S4 unknown driver")),
         posted("/drivers/17/entries", OFFICE, FERRY, line("422 Unprocessable Entity", 28, "E5 left out in row 2: ferry")),
+        posted("/drivers/18/entries", OFFICE, NO_AUTHOR, line("422 Unprocessable Entity", 24, "E10 bad author in row 2")),
+        posted("/drivers/17/entries", OFFICE, LONG_NOTE, line("422 Unprocessable Entity", 22, "E10 bad note in row 2")),
         posted("/drivers/17/entries", OFFICE, HOURS_HEAD, line("200 OK", 13, "entered none")),
+        posted("/drivers/17/entries", OFFICE, SIGNED_HEAD, line("200 OK", 13, "entered none")),
         posted("/drivers/17/entries", OFFICE, FREE_DAYS, line("201 Created", 15, "entered 1 to 1")),
         posted("/cards/both", OFFICE, b"", line("422 Unprocessable Entity", 21, "C3 no identification")),
         posted("/cards/both", OFFICE, DAY[:-1], line("422 Unprocessable Entity", 25, "C1 truncated block at 22")),
@@ -323,6 +326,8 @@ ROWS = {
         posted("/me/cards/both", DRIVER, SATURDAY, line("409 Conflict", 37, "S6 contradiction at 2024-03-09 08:00")),
         row("POST /drivers/17/withdraw/1", OFFICE, line("200 OK", 12, "withdrawn 1")),
         row("POST /drivers/17/withdraw/1", OFFICE, line("409 Conflict", 21, "S8 already withdrawn")),
+        posted("/drivers/17/entries", OFFICE, DAY_OFF, line("201 Created", 15, "entered 2 to 2")),
+        row("GET /me/entries", DRIVER, told("200 OK", 130, FREE_LINE + DAY_OFF_LINE)),
         posted("/me/cards/both", DRIVER, SATURDAY, ADDED),
         posted("/me/cards/both", DRIVER, SATURDAY, REPEATED),
     ],
@@ -336,7 +341,7 @@ OWN_PATHS = {
     "sheet/2024-03": MARCH,
     "breaches": BREACH + EXAMINED,
     "owed": EXAMINED,
-    "entries": "1 2024-03-09 00:00 2024-03-11 00:00 rest withdrawn\n",
+    "entries": FREE_LINE,
 }
 LIBRARY = [
     ("POST", "/drivers", OFFICE, ANNA, 201, "Created", "registered 17\n"),

@@ -17,7 +17,7 @@ import counting
 import programs
 import slow_office
 from compare_archive import bert, hours
-from office_rows import ANNA, DAY, NOON, OTHER_DAY
+from office_rows import ANNA, DAY, NO_AUTHOR, NOON, OTHER_DAY, SIGNED_HEAD
 
 PROCESSES = 2
 MOST = 100_000  # more allocations than any run asks for
@@ -30,6 +30,8 @@ NOT_OPENED = [[(b"", 3), (b"", 0)], ENDED]
 REGISTER = (["register"], ANNA)
 OTHER = (["register"], ANNA.replace(b"\n17,", b"\n9,").replace(b"anna-key-1", b"carl-key-1").replace(b"3233,", b"3239,"))
 ENTER = (["enter", "17"], hours("2024-03-04 07:00,2024-03-04 08:00,rest", "2024-03-04 16:30,2024-03-04 18:00,drive"))
+SIGNED_ROWS = ["2024-03-04 07:00,2024-03-04 08:00,rest,Eva Lund,", "2024-03-04 16:30,2024-03-04 18:00,drive,Eva Lund,by the printout"]
+SIGNED = (["enter", "17"], hours(*SIGNED_ROWS, head=SIGNED_HEAD))
 CONTRADICT = (["enter", "17"], hours("2024-03-04 17:00,2024-03-04 17:40,drive", "2024-03-04 17:40,2024-03-04 19:20,work"))
 WITH_DAY = [REGISTER, (["import", "both"], DAY)]
 WITH_HOURS = [*WITH_DAY, ENTER]
@@ -46,11 +48,13 @@ CASES = {
     "first hours": ([REGISTER], ENTER),
     "hours beside a download": (WITH_DAY, ENTER),
     "hours that contradict": (WITH_HOURS, CONTRADICT),
+    "signed hours": (WITH_DAY, SIGNED),
+    "hours without an author": ([REGISTER], (["enter", "17"], NO_AUTHOR)),
     "a withdrawal": (WITH_HOURS, (["withdraw", "17", "2"], b"")),
     "another base": ([REGISTER], (["base", "17", "2024-03-11"], b"")),
     "a timeline": (WITH_DAY, (["spans", "17", "2024-03"], b"")),
     "a sheet": (WITH_DAY, (["sheet", "17", "2024-03"], b"")),
-    "entries": (WITH_HOURS, (["entries", "17"], b"")),
+    "entries": ([*WITH_HOURS, SIGNED], (["entries", "17"], b"")),
     "a file": (WITH_DAY, (["file", "17", "1"], b"")),
     "drivers": ([*WITH_HOURS, OTHER], (["drivers"], b"")),
 }

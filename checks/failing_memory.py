@@ -21,6 +21,7 @@ RUNS = [
     (["card", "both"], DAY),
     (["card", "both"], BOTH),
     (["card", "whole"], DAY),
+    (["migrate", "/no/archive.db"], b""),
     ([], b""),
     (["help"], b""),
 ]

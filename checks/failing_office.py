@@ -1,11 +1,13 @@
 #!/usr/bin/env python3
-"""Runs the program's commands on an archive in a file with each of their allocations refused in turn, and looks for an answer or
-a table that changes.
+"""Runs the program's commands on an archive in a file with each of their allocations refused in turn, and on a disk that stops at
+each of their calls in turn, and looks for an answer or a table that changes.
 
 A run whose allocation is refused answers as without, or says that there was no memory (M1), that the store had none (S12), or
 nothing, where the reader of the command line had none. In the last three the archive is as before: the same command, given
-again, answers as the first would have. Of the allocations of an opening some are refused. The words are the program and the compiler of
-C. The last line is 'N passed, M failed'."""
+again, answers as the first would have. Of the allocations of an opening some are refused. A run whose disk stops answers as without, and
+has then acted, or says that the store failed (S12), and has then acted or hasn't: the same command, given again on a disk that works,
+tells which. The words are the program and the compiler of C. The last line is 'N passed, M failed'."""
+import itertools
 import multiprocessing
 import os
 import sqlite3
@@ -13,20 +15,25 @@ import sys
 import tempfile
 
 import counting
+import old_archive
 import programs
 from office_rows import DAY, HOLDER, NOON, OTHER_DAY
 
 PROCESSES = 2
 STEP = 43  # one in so many of the allocations of an opening is refused
-GIVEN_UP = [("M1 no memory\n", 3), ("S12 store failed\n", 3), ("", 2)]
+STORE_FAILED = ("S12 store failed\n", 3)
+GIVEN_UP = [("M1 no memory\n", 3), STORE_FAILED, ("", 2)]
 
 ANNA = (["register"], f"driver,holder,key,base,name\n17,{HOLDER},anna-key-1,2024-03-04,Anna Berg\n".encode())
 BERT = (["register"], f"driver,holder,key,base,name\n18,{HOLDER},bert-key-1,2024-03-04,Bert Holm\n".encode())
 OTHER = (["register"], f"driver,holder,key,base,name\n9,{HOLDER[:-1]}9,carl-key-1,2024-03-04,Carl Ek\n".encode())
 ENTER = (["enter", "17"], b"start,past,activity\n2024-03-04 07:00,2024-03-04 08:00,rest\n2024-03-04 16:30,2024-03-04 18:00,drive\n")
+SIGNED_ROWS = b"2024-03-04 07:00,2024-03-04 08:00,rest,Eva Lund,\n2024-03-04 16:30,2024-03-04 18:00,drive,Zo\xc3\xab,by the printout\n"
+SIGNED = (["enter", "17"], b"start,past,activity,author,note\n" + SIGNED_ROWS)
 CONTRADICT = (["enter", "17"], b"start,past,activity\n2024-03-04 17:00,2024-03-04 18:00,rest\n2024-03-04 16:00,2024-03-04 17:30,work\n")
 WITH_DAY = [ANNA, (["import", "both"], DAY)]
 WITH_HOURS = [*WITH_DAY, ENTER]
+OF_SCHEMA_1 = None
 
 # What an archive was given before, and the command.
 CASES = {
@@ -37,30 +44,43 @@ CASES = {
     "a contradiction": (WITH_DAY, (["import", "both"], OTHER_DAY)),
     "hours": (WITH_DAY, ENTER),
     "hours in another order": (WITH_DAY, CONTRADICT),
+    "signed hours": (WITH_DAY, SIGNED),
     "a withdrawal": (WITH_HOURS, (["withdraw", "17", "2"], b"")),
     "another base": (WITH_DAY, (["base", "17", "2024-03-11"], b"")),
+    "a migration": (OF_SCHEMA_1, (["migrate"], b"")),
+    "an old archive": (OF_SCHEMA_1, (["drivers"], b"")),
     "spans": (WITH_HOURS, (["spans", "17", "2024-03"], b"")),
     "gaps": (WITH_HOURS, (["gaps", "17", "2024-03"], b"")),
     "a sheet": (WITH_HOURS, (["sheet", "17", "2024-03"], b"")),
     "breaches": (WITH_HOURS, (["breaches", "17"], b"")),
     "what is owed": (WITH_HOURS, (["owed", "17"], b"")),
-    "entries": (WITH_HOURS, (["entries", "17"], b"")),
+    "entries": ([*WITH_HOURS, SIGNED], (["entries", "17"], b"")),
     "a file": (WITH_HOURS, (["file", "17", "1"], b"")),
     "drivers": ([*WITH_HOURS, OTHER], (["drivers"], b"")),
     "a bad month": (WITH_HOURS, (["sheet", "17", "2024-13"], b"")),
 }
 
+# Those of a disk that stops.
+STOPPED = ["a first driver", "a first download", "signed hours", "a withdrawal", "another base", "a migration", "an old archive"]
+
 
 class Office:
-    """An archive in a folder, to which some commands were given."""
+    """An archive in a folder, to which some commands were given, or one of schema 1."""
 
     def __init__(self, program, folder, commands):
         self.program = program
         self.path = os.path.join(folder, "archive.db")
-        for command in [(["init"], b""), *commands]:
-            self.answer(command)
+        self.make(commands)
         with open(self.path, "rb") as file:
             self.bytes = file.read()
+
+    def make(self, commands):
+        """Makes the file."""
+        if commands is OF_SCHEMA_1:
+            old_archive.make(self.path, old_archive.example_rows())
+        else:
+            for command in [(["init"], b""), *commands]:
+                self.answer(command)
 
     def words(self, command):
         """The command line of a command."""
@@ -102,15 +122,30 @@ def numbers_of(office, compiler, command):
     return [*range(1, opening, STEP), *range(max(1, opening), programs.allocations(compiler, office.words(command), command[1]) + 1)]
 
 
-def of_case(question):
-    """The comparisons of a case, each of its allocations refused in turn."""
-    program, compiler, case = question
+def of_stops(program, compiler, case):
+    """The comparisons of a case on a disk that stops at each of its calls in turn, up to the first run that makes fewer."""
     before, command = CASES[case]
-    return list(of_command(program, compiler, case, before, command))
+    with tempfile.TemporaryDirectory() as folder:
+        office = Office(program, folder, before)
+        wanted = undisturbed(office, command)
+        stopper = programs.built(compiler, folder, "stop_disk")
+        for number in itertools.count(1):
+            office.restore()
+            run, is_stopped = programs.run_stopped(stopper, number, office.words(command), command[1])
+            if not is_stopped:
+                break
+            told = run.stdout.decode(errors="backslashreplace"), run.returncode
+            name = f"{case}, the disk stopped at call {number}"
+            has_failed = told == STORE_FAILED
+            yield name, told, told if has_failed else wanted[0][0]
+            again = office.answer(command), office.tables()
+            yield f"{name}, and again", again, again if has_failed and again in wanted else wanted[1]
+        yield f"{case}: whether the disk was stopped", number > 1, True
 
 
-def of_command(program, compiler, case, before, command):
-    """The comparisons of a command after others."""
+def of_allocations(program, compiler, case):
+    """The comparisons of a case, each of its allocations refused in turn."""
+    before, command = CASES[case]
     with tempfile.TemporaryDirectory() as folder:
         office = Office(program, folder, before)
         wanted = undisturbed(office, command)
@@ -127,9 +162,17 @@ def of_command(program, compiler, case, before, command):
             yield f"{name}, and again", (office.answer(command), office.tables()), wanted[0 if gave_up else 1]
 
 
+def of_question(question):
+    """The comparisons of a question: a function and what it is given."""
+    function, *words = question
+    return list(function(*words))
+
+
 def comparisons(program, compiler):
+    questions = [(of_allocations, program, compiler, case) for case in CASES]
+    questions += [(of_stops, program, compiler, case) for case in STOPPED]
     with multiprocessing.Pool(PROCESSES) as pool:
-        for found in pool.imap(of_case, [(program, compiler, case) for case in CASES]):
+        for found in pool.imap(of_question, questions):
             yield from found
         pool.close()
         pool.join()

@@ -18,7 +18,7 @@ import counting
 import failing_office
 import programs
 from compare_server import DRIVER, HOST, OFFICE, asking, posting
-from failing_office import ANNA, CONTRADICT, ENTER, WITH_DAY, WITH_HOURS
+from failing_office import ANNA, CONTRADICT, SIGNED, WITH_DAY, WITH_HOURS
 from office_rows import DAY, OTHER_DAY
 
 PROCESSES = 4  # each waits for its program most of the time
@@ -33,7 +33,7 @@ CASES = {
     "a repeated download": Case(WITH_DAY, posting("/cards/both", OFFICE, DAY)),
     "a download of his own": Case([ANNA], posting("/me/cards/both", DRIVER, DAY)),
     "a contradiction": Case(WITH_DAY, posting("/cards/both", OFFICE, OTHER_DAY)),
-    "hours": Case(WITH_DAY, posting("/drivers/17/entries", OFFICE, ENTER[1])),
+    "signed hours": Case(WITH_DAY, posting("/drivers/17/entries", OFFICE, SIGNED[1])),
     "hours in another order": Case(WITH_DAY, posting("/drivers/17/entries", OFFICE, CONTRADICT[1])),
     "a withdrawal": Case(WITH_HOURS, asking("POST /drivers/17/withdraw/2", OFFICE)),
     "another base": Case(WITH_DAY, asking("POST /drivers/17/base/2024-03-11", OFFICE)),
@@ -42,7 +42,7 @@ CASES = {
     "a sheet": Case(WITH_HOURS, asking("GET /drivers/17/sheet/2024-03", OFFICE)),
     "breaches": Case(WITH_HOURS, asking("GET /me/breaches", DRIVER)),
     "what is owed": Case(WITH_HOURS, asking("GET /drivers/17/owed", OFFICE)),
-    "entries": Case(WITH_HOURS, asking("GET /me/entries", DRIVER)),
+    "entries": Case([*WITH_HOURS, SIGNED], asking("GET /me/entries", DRIVER)),
     "a file": Case(WITH_HOURS, asking("GET /me/files/1", DRIVER)),
     "a bad month": Case(WITH_HOURS, asking("GET /drivers/17/sheet/2024-13", OFFICE)),
     "an unknown path": Case(WITH_HOURS, asking("GET /nothing", DRIVER)),

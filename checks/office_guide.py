@@ -17,6 +17,7 @@ import tempfile
 import time
 
 import counting
+import old_archive
 from office_rows import ANNA, DAY, HOLDER, OTHER_DAY
 from random_commands import hours_csv
 
@@ -232,7 +233,7 @@ def weeks(office):
     yield office.typed("./tacho gaps archive.db 17 2024-03 > gaps.txt", "")
     yield "the gaps of the page", office.read("gaps.txt"), office.block("2024-03-01 00:00 2024-03-04 00:00\n")
     yield "the rows of the page", office.read("hours.csv"), office.block("start,past,activity\n2024-03-01")
-    twins = office.block("1 2024-03-09 00:00")
+    twins = office.block('1 2024-03-09 00:00 2024-03-11 00:00 rest kept "office" ""\n2 2024-03-09')
     free = "start,past,activity\n2024-03-09 00:00,2024-03-11 00:00,rest\n"
     shutil.copy(office.path("archive.db"), office.path("before.db"))
     shutil.copy(office.path("archive.db-wal"), office.path("before.db-wal"))
@@ -247,9 +248,11 @@ def weeks(office):
         shutil.move(office.path(name.replace("archive", "before")), office.path(name))
     office.write("hours.csv", office.block("start,past,activity\n2024-03-09"))
     yield office.typed("./tacho enter archive.db 17 < hours.csv", "entered 1 to 2\n")
+    office.write("signed.csv", office.block("start,past,activity,author,note"))
+    listed = office.block('1 2024-03-09 00:00 2024-03-11 00:00 rest kept "office" ""\n2 2024-03-11')
+    yield office.typed("./tacho enter archive.db 17 < signed.csv", f"entered 3 to 4\n{listed}")
     office.write("corrected.csv", "start,past,activity\n2024-03-11 06:00,2024-03-11 13:00,work\n")
-    listed = "1 2024-03-09 00:00 2024-03-11 00:00 rest kept\n2 2024-03-11 06:00 2024-03-11 14:00 work kept\n"
-    yield office.typed("./tacho entries archive.db 17\n./tacho withdraw", f"{listed}withdrawn 2\nentered 3 to 3\n")
+    yield office.typed("./tacho entries archive.db 17\n./tacho withdraw", f"{listed}withdrawn 2\nentered 5 to 5\n")
 
 
 # What the first column of the table of spreadsheets says, as rows behind the head.
@@ -264,6 +267,9 @@ SPREADSHEETS = {
     "an empty row at the end, saved as `,,`": b"start,past,activity\n2024-03-11 06:00,2024-03-11 14:00,work\n,,\n",
     "a row with nothing but a blank": b"start,past,activity\n2024-03-11 06:00,2024-03-11 14:00,work\n \n",
     "`Rest`, or `rest` with a blank behind it": b"start,past,activity\n2024-03-11 06:00,2024-03-11 14:00,Rest\n",
+    "a row whose author is empty": b"start,past,activity,author,note\n2024-03-11 06:00,2024-03-11 14:00,work,,ill\n",
+    "a note with a comma or a quote in it, saved as `\"ill, at home\"`":
+        b'start,past,activity,author,note\n2024-03-11 06:00,2024-03-11 14:00,rest,Eva Lund,"ill, at home"\n',
 }
 
 # What does no harm, and a second form of some of them.
@@ -284,11 +290,11 @@ def spreadsheets(office):
         yield f"a spreadsheet with {did}", office.told("enter", "17", given=SPREADSHEETS.get(did, b"")), line.strip("`") + "\n"
     semicolons = SPREADSHEETS["semicolons between the fields"].replace(b"-11", b"-13")
     mended = subprocess.run(["sed", "s/;/,/g"], input=semicolons, capture_output=True).stdout
-    yield "semicolons, mended", office.told("enter", "17", given=mended), "entered 4 to 4\n"
+    yield "semicolons, mended", office.told("enter", "17", given=mended), "entered 6 to 6\n"
     wide = SPREADSHEETS["UTF-16 ('Unicode text')"].decode("utf-16").replace("-11", "-14").encode("utf-16")
     mended = subprocess.run(["iconv", "-f", "utf-16", "-t", "utf-8"], input=wide, capture_output=True).stdout
-    yield "UTF-16, mended", office.told("enter", "17", given=mended), "entered 5 to 5\n"
-    for number, (name, given) in enumerate(HARMLESS.items(), 6):
+    yield "UTF-16, mended", office.told("enter", "17", given=mended), "entered 7 to 7\n"
+    for number, (name, given) in enumerate(HARMLESS.items(), 8):
         yield name, office.told("enter", "17", given=given), f"entered {number} to {number}\n"
 
 
@@ -342,6 +348,21 @@ def backups(office):
     yield "an archive behind an UPDATE", (run.stdout, run.returncode), (b"S12 store failed\n", 3)
 
 
+def updates(office):
+    """An archive of schema 1, which is carried over."""
+    folder = office.folder
+    office.folder = os.path.join(office.root, "old")
+    os.makedirs(office.folder)
+    os.symlink(office.program, office.path("tacho"))
+    old_archive.make(office.path("archive.db"), old_archive.example_rows())
+    yield "an old archive", [office.told("entries", "17"), office.told("serve", KEY, str(office.port), "1")], 2 * ["S13 old archive\n"]
+    yield office.typed("./tacho migrate archive.db", "migrated\n")
+    yield "its entries then", office.told("entries", "18"), \
+        '1 2024-03-05 06:00 2024-03-05 14:00 work kept "office" ""\n2 2024-03-05 14:00 2024-03-06 06:00 rest withdrawn "office" ""\n'
+    yield "a migration once more", office.told("migrate"), "migrated\n"
+    office.folder = folder
+
+
 def services(office):
     """The service, by its unit: made, asked, backed up, and restored."""
     root = office.root
@@ -373,6 +394,7 @@ def services(office):
     yield "a change behind the copy", office.type(f"{asked[:-len('entries')]}withdraw/1 -X POST"), ("withdrawn 1\n", 0)
     yield office.typed("systemctl stop tacho\nrm -f", "")
     yield "what is served after the restore", office.type(asked), before
+    yield from updated(office)
     yield office.typed("install -m 644 examples/tacho-backup.service", "")
     copies = unit_commands(office, "tacho-backup.service")
     yield "the commands of the backup's unit", office.run("\n".join(copies)), ("", 0)
@@ -382,6 +404,23 @@ def services(office):
         yield from proxied(office)
     office.type("systemctl stop tacho")
     yield from served_by_hand(office)
+
+
+def updated(office):
+    """The service at an archive of schema 1, and its update."""
+    office.type("systemctl stop tacho")
+    kept = os.path.join(office.root, "var/lib/tacho/archive.db")
+    for path in (kept, kept + "-wal"):
+        os.remove(path)
+    old_archive.make(kept, old_archive.example_rows())
+    yield "a service at an old archive", office.type("systemctl start tacho"), ("", 0)
+    with open(os.path.join(office.root, "journal"), encoding="utf-8") as file:
+        yield "what it says", file.read(), "S13 old archive\n"
+    yield office.typed("umask 077\nsystemctl stop tacho\nmkdir -p backup/before-the-update", "migrated\n")
+    yield "what is kept from before", sorted(os.listdir(office.path("backup/before-the-update"))), ["archive.db", "archive.db-wal", "tacho"]
+    told, status = office.type("curl -sS -H @office.head http://127.0.0.1:8017/drivers/17/entries")
+    yield "what is served after the update", (told.splitlines()[:1], status), \
+        (['1 2024-03-09 00:00 2024-03-11 00:00 rest withdrawn "office" ""'], 0)
 
 
 NGINX = """daemon off;
@@ -453,7 +492,7 @@ def comparisons(program):
     with tempfile.TemporaryDirectory() as folder:
         office = Office(program, folder)
         try:
-            for part in (beginnings, weeks, spreadsheets, months, backups, services):
+            for part in (beginnings, weeks, spreadsheets, months, backups, updates, services):
                 yield from part(office)
         finally:
             office.end()

@@ -4,11 +4,11 @@ import hard_timelines
 import random_commands
 import slow_csv
 import slow_office
-from random_commands import date_text, hours_csv
+from random_commands import date_text, rows_csv, rows_of
 
 LINES = 30
 FIRST_DAY = 10_957  # 2000-01-01, the first day of a month that is read
-READINGS = ["spans", "gaps", "sheet", "sheet", "breaches", "breaches", "owed", "owed", "entries", "file", "drivers"]
+READINGS = ["spans", "gaps", "sheet", "sheet", "breaches", "breaches", "owed", "owed", "entries", "entries", "file", "drivers", "migrate"]
 BAD_DRIVERS = ["017", "0", "1000000", "", "+17", "1e3", "\u0661\u0667"]
 BAD_NUMBERS = ["0", "01", "1000001", "x", "99999999999999999999"]
 BAD_MONTHS = ["2024-13", "2024-00", "2024-3", "1999-12", "2100-01", "0000-01", "2024-03-04", "2024/03"]
@@ -26,6 +26,7 @@ BAD = {
     "sheet": [BAD_DRIVERS, BAD_MONTHS],
     "file": [BAD_DRIVERS, BAD_NUMBERS],
     "drivers": [],
+    "migrate": [],
 }
 
 
@@ -64,7 +65,7 @@ class Lines(random_commands.Commands):
         """The entry of some of the hard weeks' hours that are left."""
         count = self.chance.choice([len(self.hard), len(self.hard), len(self.hard) // 2])
         taken, self.hard = self.hard[:count], self.hard[count:]
-        return ["enter", str(self.examined)], hours_csv(taken)
+        return ["enter", str(self.examined)], rows_csv(*rows_of(self.chance, taken))
 
     def month(self, driver):
         """A month of which a driver holds something or the next to it, or a word that is none."""
@@ -78,10 +79,10 @@ class Lines(random_commands.Commands):
         return self.chance.choice([self.examined, self.one_of(with_downloads or [self.examined]), self.one_of(random_commands.NUMBERS)])
 
     def reading(self):
-        """A reading of a driver."""
+        """A reading of a driver, or a command that changes nothing of an archive of today."""
         word, number = self.chance.choice(READINGS), self.number()
         driver = self.drivers.get(number)
-        if word == "drivers":
+        if word in ("drivers", "migrate"):
             return [word], b""
         if word in ("spans", "gaps", "sheet"):
             return [word, str(number), self.month(driver)], b""

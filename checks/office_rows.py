@@ -24,10 +24,14 @@ LARGEST_DAY = DAY + 3 * (bytes.fromhex("050100ffff") + bytes(65_535))
 LARGEST_DAY += bytes.fromhex("050100") + (LIMIT - len(LARGEST_DAY) - 5).to_bytes(2, "big") + bytes(LIMIT - len(LARGEST_DAY) - 5)
 
 HOURS_HEAD = b"start,past,activity\n"
+SIGNED_HEAD = b"start,past,activity,author,note\n"
 FREE_DAYS = HOURS_HEAD + b"2024-03-09 00:00,2024-03-11 00:00,rest\n"
 MORNING = HOURS_HEAD + b"2024-03-05 08:00,2024-03-05 08:30,work\n2024-03-05 08:30,2024-03-05 12:00,drive\n"
 DRIVEN = HOURS_HEAD + b"2024-03-04 08:00,2024-03-04 08:30,work\n2024-03-04 08:30,2024-03-04 17:00,drive\n"
 LARGEST_HOURS = FREE_DAYS + b"\n" * (LIMIT - len(FREE_DAYS))
+DAY_OFF = SIGNED_HEAD + b"2024-03-11 00:00,2024-03-12 00:00,rest,Eva Lund,day off\n"
+NO_AUTHOR = DAY_OFF.replace(b"Eva Lund", b"")
+LONG_NOTE = DAY_OFF.replace(b"day off", 201 * b"n")
 
 HEAD = "DATE       DAY   REST  AVAIL   WORK  DRIVE   CREW   NONE\n"
 BREACH = "B1 Art 7 at 2024-03-04 13:00 since 2024-03-04 08:30 amount 240\n"
@@ -40,6 +44,9 @@ FROM_MONDAY = ["Mon", "Tue", "Wed", "Thu", "Fri", "Sat", "Sun"]
 FROM_WEDNESDAY = FROM_MONDAY[2:] + FROM_MONDAY[:2]
 FROM_THURSDAY = FROM_MONDAY[3:] + FROM_MONDAY[:3]
 FROM_FRIDAY = FROM_MONDAY[4:] + FROM_MONDAY[:4]
+
+FREE_LINE = '1 2024-03-09 00:00 2024-03-11 00:00 rest withdrawn "office" ""\n'
+DAY_OFF_LINE = '2 2024-03-11 00:00 2024-03-12 00:00 rest kept "Eva Lund" "day off"\n'
 
 Row = namedtuple("Row", "words given text status")
 
@@ -208,15 +215,52 @@ ROWS = {
         done("import both", "added driver 17 number 2\n", SATURDAY),
         refused("withdraw 17 1", "S8 already withdrawn"),
         refused("withdraw 17 2", "S7 unknown entry"),
-        done("entries 17", "1 2024-03-09 00:00 2024-03-11 00:00 rest withdrawn\n"),
+        done("entries 17", FREE_LINE),
         done("file 17 2", SATURDAY),
         refused("enter 17", "S6 contradiction at 2024-03-09 08:00", FREE_DAYS),
         done("enter 17", "entered 2 to 3\n", MORNING),
         done(
             "entries 17",
-            "1 2024-03-09 00:00 2024-03-11 00:00 rest withdrawn\n"
-            "2 2024-03-05 08:00 2024-03-05 08:30 work kept\n"
-            "3 2024-03-05 08:30 2024-03-05 12:00 drive kept\n",
+            FREE_LINE + '2 2024-03-05 08:00 2024-03-05 08:30 work kept "office" ""\n'
+            '3 2024-03-05 08:30 2024-03-05 12:00 drive kept "office" ""\n',
+        ),
+    ],
+    "who entered hours, and why": [
+        ADDED,
+        done("enter 17", "entered none\n", SIGNED_HEAD),
+        done("enter 17", "entered 1 to 1\n", FREE_DAYS),
+        done("withdraw 17 1", "withdrawn 1\n"),
+        done("enter 17", "entered 2 to 2\n", DAY_OFF),
+        done("entries 17", FREE_LINE + DAY_OFF_LINE),
+        refused("enter 17", "E10 bad author in row 2", NO_AUTHOR),
+        refused("enter 17", "E10 bad author in row 2", DAY_OFF.replace(b"Eva Lund", 65 * b"a")),
+        refused("enter 17", "E10 bad author in row 2", DAY_OFF.replace(b"Eva Lund", 63 * b"a" + b"\xc3")),
+        refused("enter 17", "E10 bad author in row 2", DAY_OFF.replace(b"Eva Lund", b'"Lund, Eva"')),
+        refused("enter 17", "E10 bad author in row 2", DAY_OFF.replace(b"Eva Lund", b'"Eva ""E"" Lund"')),
+        refused("enter 17", "E10 bad author in row 2", DAY_OFF.replace(b"Eva Lund", b"Eva\x1fLund")),
+        refused("enter 17", "E10 bad author in row 2", LONG_NOTE.replace(b"Eva Lund", b"Eva\x7f")),
+        refused("enter 17", "E10 bad note in row 2", LONG_NOTE),
+        refused("enter 17", "E10 bad note in row 2", DAY_OFF.replace(b"day off", 199 * b"n" + b"\xc3")),
+        refused("enter 17", "E10 bad note in row 2", DAY_OFF.replace(b"day off", b'"day, off"')),
+        refused("enter 17", "E2 wrong fields in row 2", SIGNED_HEAD + FREE_DAYS.splitlines(keepends=True)[1]),
+        refused("enter 17", "E2 wrong fields in row 2", HOURS_HEAD + DAY_OFF.splitlines(keepends=True)[1]),
+        refused("enter 17", "E7 too long in row 2", NO_AUTHOR.replace(b"2024-03-12", b"2025-03-13")),
+        refused("enter 17", "E6 no such activity in row 2", NO_AUTHOR.replace(b"rest", b"Rest")),
+        refused("enter 17", "E10 bad author in row 2", NO_AUTHOR + b"2024-03-11,,,,\n"),
+        refused("enter 17", "E4 wrong order in row 3", DAY_OFF + NO_AUTHOR.splitlines(keepends=True)[1]),
+        refused("enter 18", "E10 bad author in row 2", NO_AUTHOR),
+        refused("enter 18", "S4 unknown driver", DAY_OFF),
+        refused("enter 17", "E10 bad note in row 2", LONG_NOTE.replace(b"rest", b"work")),
+        refused("enter 17", "S6 contradiction at 2024-03-11 00:00", DAY_OFF.replace(b"rest", b"work")),
+        done("enter 17", "entered 3 to 3\n", DAY_OFF.replace(b"Eva Lund", 64 * b"a").replace(b"day off", 200 * b"n")),
+        done("enter 17", "entered 4 to 4\n", DAY_OFF.replace(b"Eva Lund", 32 * b"\xc3\xb6").replace(b"day off", b"")),
+        done("withdraw 17 2", "withdrawn 2\n"),
+        done(
+            "entries 17",
+            FREE_LINE
+            + DAY_OFF_LINE.replace("kept", "withdrawn")
+            + f'3 2024-03-11 00:00 2024-03-12 00:00 rest kept "{64 * "a"}" "{200 * "n"}"\n'
+            + f'4 2024-03-11 00:00 2024-03-12 00:00 rest kept "{32 * chr(246)}" ""\n',
         ),
     ],
     "a report after each change": [

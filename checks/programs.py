@@ -1,4 +1,4 @@
-"""Runs programs, as they are and with their memory refused."""
+"""Runs programs, as they are, with their memory refused, and on disks that stop."""
 import bisect
 import os
 import subprocess
@@ -11,21 +11,31 @@ def answer(words, given):
     return run.stdout.decode(errors="backslashreplace"), run.returncode
 
 
-def built(compiler, folder):
-    """The library that refuses an allocation."""
-    refuser = os.path.join(folder, "refuse_allocation.so")
-    source = os.path.join(os.path.dirname(os.path.abspath(__file__)), "refuse_allocation.c")
-    subprocess.run([compiler, "-O1", "-fPIC", "-shared", "-nostdlib", "-fuse-ld=lld", "-o", refuser, source], check=True)
-    return refuser
+def built(compiler, folder, name="refuse_allocation"):
+    """The library that refuses an allocation, or another one."""
+    library = os.path.join(folder, f"{name}.so")
+    source = os.path.join(os.path.dirname(os.path.abspath(__file__)), f"{name}.c")
+    subprocess.run([compiler, "-O1", "-fPIC", "-shared", "-nostdlib", "-fuse-ld=lld", "-o", library, source], check=True)
+    return library
+
+
+def run_with(library, words, given, **asked):
+    """A run of a program with a library before that of C, which is asked for something."""
+    environment = dict(os.environ, LD_PRELOAD=library, **{name: str(number) for name, number in asked.items()})
+    return subprocess.run(words, input=given, capture_output=True, env=environment)
 
 
 def run_without(refuser, number, words, given, in_a_row=1):
     """A run of a program with so many allocations in a row refused, from that number on, and whether it asked for the first
     of them."""
-    refused = {"REFUSED_ALLOCATION": str(number), "REFUSED_IN_A_ROW": str(in_a_row)}
-    environment = dict(os.environ, LD_PRELOAD=refuser, **refused)
-    run = subprocess.run(words, input=given, capture_output=True, env=environment)
+    run = run_with(refuser, words, given, REFUSED_ALLOCATION=number, REFUSED_IN_A_ROW=in_a_row)
     return run, b"refused\n" in run.stderr
+
+
+def run_stopped(stopper, number, words, given):
+    """A run of a program on a disk that takes no more from its call of that number on, and whether it came to that call."""
+    run = run_with(stopper, words, given, STOPPED_CALL=number)
+    return run, b"stopped\n" in run.stderr
 
 
 def runs_without_memory(compiler, words, given, numbers=range(1, 1_000_000), in_a_row=1):

@@ -1,5 +1,6 @@
 """Random commands of the office, from a seed: three drivers and their cards, files of these, whole or in part, and hours that agree
-with what is held, or touch it, or contradict it. A command is its words, without the archive's path, and its input."""
+with what is held, or touch it, or contradict it, some of them with an author and a note, or with faults in their rows. A command is its
+words, without the archive's path, and its input."""
 import datetime
 import random
 
@@ -21,6 +22,18 @@ OTHER_BASES = [19_787, 19_792, 10_958, 47_482, 0]
 LENGTHS = [1, 2, 30, 60, 300, 1440, 2880]
 MINUTES = range(1440 * slow_reader.READ_DAYS.start, 1440 * slow_reader.READ_DAYS.stop)
 
+# Authors and notes at their limits, and behind them; two bytes are a letter `\u00f6`, and one of them alone is none.
+AUTHORS = [b"office", b"Eva Lund", "Zo\u00eb".encode(), b"a", b"a'b;c", b" ", 64 * b"a", 32 * "\u00f6".encode()]
+NOTES = [b"", b"", b"day off", "l\u00e4kare".encode(), b" ", 200 * b"n", 100 * "\u00f6".encode(), 50 * "\U0001f69a".encode()]
+BAD_TEXTS = [b"a, b", b"a,", b'"', b'Eva "E"', b"a\n", b"a\r\nb", b"\ta", b"a\0b", b"\x1f", b"a\x7f", b"\x80", b"\xff", b"Zo\xc3"]
+BAD_AUTHORS = [b"", 65 * b"a", 63 * b"a" + "\u00f6".encode(), 63 * b"a" + b"\xc3", 33 * "\u00f6".encode(), 200 * b"n", *BAD_TEXTS]
+BAD_NOTES = [201 * b"n", 199 * b"n" + "\u00f6".encode(), 199 * b"n" + b"\xc3", 101 * "\u00f6".encode(), *BAD_TEXTS]
+
+# What stands in the place of a time or of an activity.
+BAD_TIMES = ["", "2024-03-04", "2024-03-04T00:00", "2024-3-4 00:00", " 2024-03-04 00:00", "2024-03-04 00:00:00", "04.03.2024 00:00"]
+BAD_TIMES += ["2023-02-29 00:00", "2024-13-01 00:00", "2024-03-04 24:00", "2024-03-04 00:60", "2000-01-02 23:59", "2100-01-01 00:00"]
+BAD_WORDS = ["crew", "ferry", "out", "derogation", "", "Rest", "rest ", "lunch", "Crew", "driving", "\u00f6"]
+
 # The months in which the cards have their days, and the readings of all that a driver holds in them.
 MONTHS = ["2000-01", "2024-03", "2099-12"]
 TIMELINE = [*[("spans", month) for month in MONTHS], ("sheet", MONTHS[1])]
@@ -36,19 +49,63 @@ def date_text(day):
 
 def field(text):
     """A field of CSV, in quotes where it needs them."""
-    return b'"' + text.replace(b'"', b'""') + b'"' if b"," in text or b'"' in text else text
+    needs_quotes = any(byte in text for byte in b',"\r\n')
+    return b'"' + text.replace(b'"', b'""') + b'"' if needs_quotes else text
+
+
+def rows_csv(*rows):
+    """The text of CSV with rows of fields."""
+    return b"".join(b",".join(map(field, row)) + b"\n" for row in rows)
 
 
 def driver_csv(number, holder, key, base, name):
     """The text of CSV with a driver."""
-    columns = [str(number).encode(), holder.hex().encode(), key.encode(), date_text(base).encode(), field(name)]
-    return b",".join(slow_csv.DRIVER_HEAD) + b"\n" + b",".join(columns) + b"\n"
+    columns = [str(number).encode(), holder.hex().encode(), key.encode(), date_text(base).encode(), name]
+    return rows_csv(slow_csv.DRIVER_HEAD, columns)
+
+
+def fields_of(start, past, activity):
+    """The fields of hours."""
+    return [text.encode() for text in (slow_reader.minute_text(start), slow_reader.minute_text(past), activity)]
 
 
 def hours_csv(spans):
     """The text of CSV with hours: a start, a past and an activity each."""
-    rows = [f"{slow_reader.minute_text(start)},{slow_reader.minute_text(past)},{activity}\n" for start, past, activity in spans]
-    return b",".join(slow_csv.ENTRIES_HEAD) + b"\n" + "".join(rows).encode()
+    return rows_csv(slow_csv.ENTRIES_HEAD, *[fields_of(*span) for span in spans])
+
+
+def rows_of(chance, spans):
+    """The head and the rows of hours: half of them have authors and notes."""
+    rows = [fields_of(*span) for span in spans]
+    if chance.random() < 0.5:
+        return [[*slow_csv.ENTRIES_HEAD], *rows]
+    return [[*slow_csv.SIGNED_HEAD], *[[*row, chance.choice(AUTHORS), chance.choice(NOTES)] for row in rows]]
+
+
+def spoil_hours(chance, rows):
+    """Puts a fault into a row of hours, mostly into its author or his note where it has them. A row that lacks fields stays as it is."""
+    row = chance.choice(rows)
+    if len(row) < 3:
+        return
+    kind = chance.choice([*range(7), *[7, 8] * 5 * (len(row) == 5)])
+    if kind == 0:
+        row.append(b"")
+    elif kind == 1:
+        row.pop()
+    elif kind == 2:
+        row[chance.randrange(2)] = chance.choice(BAD_TIMES).encode()
+    elif kind == 3:
+        row[0] = slow_reader.minute_text(chance.choice(MINUTES)).encode()
+    elif kind == 4:
+        row[2:3] = [chance.choice(BAD_WORDS).encode()]
+    elif kind == 5:
+        row[:2] = [row[0], row[0]]
+    elif kind == 6:
+        row[0] = b"2000-01-03 00:00"
+    elif kind == 7:
+        row[3] = chance.choice(BAD_AUTHORS)
+    else:
+        row[4] = chance.choice(BAD_NOTES)
 
 
 # Commands
@@ -135,6 +192,14 @@ class Commands:
             past = self.chance.choice(ends)
         return start, past, self.activity(runs, start, past)
 
+    def batch(self, spans):
+        """The text of a batch of hours, at times with faults in its rows."""
+        rows = rows_of(self.chance, spans)
+        count = self.chance.choice([1, 1, 2, 3]) if spans and self.chance.random() < 0.25 else 0
+        for _ in range(count):
+            spoil_hours(self.chance, rows[1:])
+        return rows_csv(*rows)
+
     def enter(self):
         """A batch of hours, or of none: lines that agree with what the driver holds, or touch it, or contradict it."""
         number, runs = self.driver()
@@ -144,7 +209,7 @@ class Commands:
             for start, limit in zip(starts, [*starts[1:], MINUTES[-1]])
             if start in MINUTES and start < limit
         ]
-        return ["enter", str(number)], hours_csv(spans)
+        return ["enter", str(number)], self.batch(spans)
 
     def withdraw(self):
         """A withdrawal of an entry that is kept or withdrawn, or of one that there isn't."""

@@ -128,7 +128,7 @@ class Requests(office_lines.Lines):
         return random_commands.Commands.import_new(self)
 
     def reading(self):
-        """A reading that has a path: that of all drivers is the command line's alone."""
+        """A reading that has a path: that of all drivers and `migrate` are the command line's alone."""
         words, given = super().reading()
         return (words, given) if words[0] in PATHS else self.reading()
 

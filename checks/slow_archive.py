@@ -15,12 +15,14 @@ Download = namedtuple("Download", "part file marks")
 
 
 class Entry:
-    """Hours of one activity that were entered by hand: the minutes from start to before past."""
+    """Hours of one activity that were entered by hand: the minutes from start to before past, who entered them, and why."""
 
-    def __init__(self, start, past, activity):
+    def __init__(self, start, past, activity, author, note):
         self.start = start
         self.past = past
         self.mark = slow_reader.ACTIVITIES[activity], "single"
+        self.author = author
+        self.note = note
         self.is_withdrawn = False
 
     def marks(self):
@@ -154,7 +156,7 @@ class Archive:
         return driver.take(part, file, marks)
 
     def enter(self, number, lines):
-        """The entry of lines of hours, each a start, a past and the number of an activity: S4, S6, S14."""
+        """The entry of lines of hours, each a start, a past, the number of an activity, an author and a note: S4, S6, S14."""
         return self.driver(number).enter([Entry(*line) for line in lines])
 
     def withdraw(self, number, entry):
@@ -178,7 +180,7 @@ class Archive:
         """The rows of each table, in order; of spans the minutes, each with its driver and its mark."""
         drivers = sorted(self.drivers.values(), key=lambda driver: driver.number)
         return {
-            "meta": [(1, 1)],
+            "meta": [(1, 2)],
             "drivers": [
                 (d.number, d.holder, d.key, d.base, d.name.decode(), len(d.downloads), len(d.entries)) for d in drivers
             ],
@@ -187,10 +189,10 @@ class Archive:
                 for driver in drivers
                 for number, download in enumerate(driver.downloads, 1)
             ],
-            "entries": [
-                (driver.number, number, entry.start, entry.past, mark_number(entry.mark), int(entry.is_withdrawn))
-                for driver in drivers
-                for number, entry in enumerate(driver.entries, 1)
+            "entry_rows": [
+                (d.number, number, e.start, e.past, mark_number(e.mark), int(e.is_withdrawn), e.author, e.note)
+                for d in drivers
+                for number, e in enumerate(d.entries, 1)
             ],
             "card_spans": sorted(
                 {

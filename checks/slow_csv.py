@@ -14,6 +14,8 @@ FIELD = re.compile(rb'(?:"((?:[^"]|"")*)(?:"|\Z))?([^,\r\n]*)')
 LINE_ENDS = (b"\r", b"\n")
 
 ENTRIES_HEAD = [b"start", b"past", b"activity"]
+SIGNED_HEAD = [*ENTRIES_HEAD, b"author", b"note"]
+OFFICE = b"office"  # the author where the head has no column for one
 DRIVER_HEAD = [b"driver", b"holder", b"key", b"base", b"name"]
 LEFT_OUT = ["crew", "ferry", "out", "derogation"]
 LONGEST = 366 * 1440
@@ -74,13 +76,23 @@ def is_text(pattern, text):
     return re.fullmatch(pattern, text) is not None
 
 
-def is_name(text):
-    """Whether these are 1 to 64 bytes of UTF-8 without controls, commas and double quotes."""
+def is_plain(text):
+    """Whether these are bytes of UTF-8 without controls, commas and double quotes."""
     try:
         text.decode()
     except UnicodeDecodeError:
         return False
-    return is_text(rb'[^\x00-\x1f\x7f,"]{1,64}', text)
+    return is_text(rb'[^\x00-\x1f\x7f,"]*', text)
+
+
+def is_name(text):
+    """Whether these may be the name of a driver or of an author."""
+    return is_plain(text) and 1 <= len(text) <= 64
+
+
+def is_note(text):
+    """Whether these may be a note."""
+    return is_plain(text) and len(text) <= 200
 
 
 COLUMNS = {
@@ -95,18 +107,16 @@ COLUMNS = {
 # What is read
 
 
-def rows_of(text, head):
-    """The rows behind the head."""
+def rows_of(text, *heads):
+    """The rows: the first is one of these heads."""
     rows = records(text)
-    if rows[:1] != [head]:
+    if not rows or rows[0] not in heads:
         raise Fault("E1 wrong head")
-    return rows[1:]
+    return rows
 
 
-def entry_of(number, fields, before):
+def worked_of(number, fields, before):
     """The start, the past and the activity of a row whose row before ends at a minute."""
-    if len(fields) != 3:
-        raise Fault(f"E2 wrong fields in row {number}")
     start, past = minute_of(fields[0]), minute_of(fields[1])
     activity = fields[2].decode(errors="replace")
     if start is None or past is None:
@@ -122,17 +132,32 @@ def entry_of(number, fields, before):
     return start, past, activity
 
 
+def entry_of(number, fields, count, before):
+    """The start, the past, the activity, the author and the note of a row which has to have so many fields, and whose row before ends
+    at a minute."""
+    if len(fields) != count:
+        raise Fault(f"E2 wrong fields in row {number}")
+    worked = worked_of(number, fields, before)
+    author, note = fields[3:] or [OFFICE, b""]
+    if not is_name(author):
+        raise Fault(f"E10 bad author in row {number}")
+    if not is_note(note):
+        raise Fault(f"E10 bad note in row {number}")
+    return *worked, author.decode(), note.decode()
+
+
 def entries_of(text):
-    """The hours that a text enters."""
+    """The hours that a text enters, by either of the two heads."""
+    head, *rows = rows_of(text, ENTRIES_HEAD, SIGNED_HEAD)
     found = []
-    for number, fields in enumerate(rows_of(text, ENTRIES_HEAD), 2):
-        found.append(entry_of(number, fields, found[-1][1] if found else 0))
+    for number, fields in enumerate(rows, 2):
+        found.append(entry_of(number, fields, len(head), found[-1][1] if found else 0))
     return found
 
 
 def driver_of(text):
     """The columns of the driver that a text registers."""
-    rows = rows_of(text, DRIVER_HEAD)
+    _, *rows = rows_of(text, DRIVER_HEAD)
     if not rows or len(rows[0]) != 5:
         raise Fault("E2 wrong fields in row 2")
     for (name, is_good), value in zip(COLUMNS.items(), rows[0]):
@@ -148,7 +173,7 @@ def driver_of(text):
 
 def entries(text):
     """The lines of the hours that a text enters, or that of its first fault."""
-    lines = lambda: "".join(f"{start} {past} {activity}\n" for start, past, activity in entries_of(text))
+    lines = lambda: "".join(f'{start} {past} {what} "{author}" "{note}"\n' for start, past, what, author, note in entries_of(text))
     return slow_reader.answer(lines)[0]
 
 

@@ -2,7 +2,8 @@
 input, and its status. Its texts are written a minute at a time. `docs/FORMATS.md` says what they are.
 
 `Office.answer` is given the words without the archive's path (`["spans", "17", "2024-03"]`) and the input's bytes. It takes one
-command more than the program, `own`: the import of a card file by the driver himself whose number it has."""
+command more than the program, `own`: the import of a card file by the driver himself whose number it has. Its archive is one of schema 2,
+which `migrate` leaves as it is."""
 import datetime
 import functools
 import re
@@ -252,6 +253,7 @@ class Office:
             "entries": lambda: self.entries(*others),
             "file": lambda: self.file(*others),
             "drivers": self.drivers,
+            "migrate": lambda: "migrated\n",
         }
         try:
             told = commands[command]()
@@ -279,10 +281,10 @@ class Office:
         return self.archive.import_file(caller, part, within(given)) + "\n"
 
     def enter(self, given, number):
-        """N1, X1, E1 to E7, S4, S6, S14."""
+        """N1, X1, E1 to E7, E10, S4, S6, S14."""
         number = number_of(number, LAST_DRIVER)
         lines = slow_csv.entries_of(within(given))
-        hours = [(start, past, slow_reader.ACTIVITIES.index(activity)) for start, past, activity in lines]
+        hours = [(start, past, slow_reader.ACTIVITIES.index(activity), *signs) for start, past, activity, *signs in lines]
         first = self.archive.enter(number, hours)
         return f"entered {first} to {first + len(lines) - 1}\n" if lines else "entered none\n"
 
@@ -335,7 +337,7 @@ class Office:
         """The entries of a driver."""
         lines = [
             f"{place} {slow_reader.minute_text(entry.start)} {slow_reader.minute_text(entry.past)} {entry.mark[0]} "
-            f"{'withdrawn' if entry.is_withdrawn else 'kept'}\n"
+            f"{'withdrawn' if entry.is_withdrawn else 'kept'} \"{entry.author}\" \"{entry.note}\"\n"
             for place, entry in enumerate(self.driver(number).entries, 1)
         ]
         return "".join(lines)

@@ -64,13 +64,13 @@ DATABASE = Order(
     ("tacho_store::", "tacho_state::keeper::", "tacho_state::laws::a_run_of_calls"),
     ("tacho_time", "tacho_card", "tacho_line", "tacho_hours", "tacho_rules"),
     (
-        ("the tables, and their rows as values of types", "tacho_tables: Schema Rows Tables"),
+        ("the tables, and their rows as values of types", "tacho_tables: Schema Rows Tables Making"),
         ("an archive's state, and which state the tables stand for", "tacho_state: State; tacho_reading: Standing"),
         ("what each command and each reading answers, and the state after it",
          "tacho_state: Steps Content Batch Registration Limits Least Disjoint Reported Summaries"),
         ("what a call does to what is kept, and what a stop within it or behind several leaves",
          "tacho_state: Acts; tacho_reading: Kept; tacho_state: Runs"),
-        ("how an archive is made and found again; the tables after a command", "tacho_store: Opening After"),
+        ("how an archive is made, found again and carried over from schema 1; the tables after a command", "tacho_store: Opening Old After"),
     ),
 )
 

@@ -1,0 +1,36 @@
+/* Fails each call that writes, cuts or flushes a file at a place, from the one on whose number the environment's STOPPED_CALL tells, as
+   a disk that has stopped, and says so on standard error. What goes to standard output isn't counted.
+   It is loaded before the C library by LD_PRELOAD. */
+extern long syscall(long number, ...);
+extern char *getenv(const char *name);
+extern int *__errno_location(void);
+extern long write(int file, const void *bytes, unsigned long count);
+
+enum { PWRITE = 18, FSYNC = 74, FDATASYNC = 75, FTRUNCATE = 77, NO_DEVICE = 5 };
+
+static unsigned long called;
+
+static int is_stopped(void) {
+    const char *digits = getenv("STOPPED_CALL");
+    unsigned long first = 0;
+    if (!digits) return 0;
+    while (*digits) first = first * 10 + (unsigned long)(*digits++ - '0');
+    if (++called < first) return 0;
+    if (called == first) write(2, "stopped\n", 8);
+    *__errno_location() = NO_DEVICE;
+    return 1;
+}
+
+long pwrite(int file, const void *bytes, unsigned long count, long place) {
+    return is_stopped() ? -1 : syscall(PWRITE, file, bytes, count, place);
+}
+
+long pwrite64(int file, const void *bytes, unsigned long count, long place) { return pwrite(file, bytes, count, place); }
+
+int fsync(int file) { return is_stopped() ? -1 : (int)syscall(FSYNC, file); }
+
+int fdatasync(int file) { return is_stopped() ? -1 : (int)syscall(FDATASYNC, file); }
+
+int ftruncate(int file, long length) { return is_stopped() ? -1 : (int)syscall(FTRUNCATE, file, length); }
+
+int ftruncate64(int file, long length) { return ftruncate(file, length); }
