@@ -10,7 +10,7 @@ use Rattle.tacho_hours.specs.Line.{Line}
 use Rattle.tacho_hours.specs.Runs.{IsRestRun}
 
 -- an activity is rest, or another
-rest_or : (a : Activity) → (a ≡ Rest) ⊎ (a ≢ Rest)
+pub rest_or : (a : Activity) → (a ≡ Rest) ⊎ (a ≢ Rest)
 rest_or Rest = inl refl
 rest_or Available = inr (λ e. cc)
 rest_or Work = inr (λ e. cc)
@@ -53,14 +53,14 @@ starts_by line (suc m) here = elim (rest_or (line m)) [
 ]
 
 -- at rest from a minute to before another, and not there
-record EndsBehind (line : Line) (p : ℕ) : Type 0 where
+pub record EndsBehind (line : Line) (p : ℕ) : Type 0 where
   pub past : ℕ
   pub above : p ≤ past
   pub rest : (k : ℕ) → p ≤ k → k < past → line k ≡ Rest
   pub until : (past ≡ FAR) ⊎ (line past ≢ Rest)
 
 -- each minute is before such an end
-ends_behind : (line : Line) (n p : ℕ) → p + n ≡ FAR → EndsBehind line p
+pub ends_behind : (line : Line) (n p : ℕ) → p + n ≡ FAR → EndsBehind line p
 ends_behind line zero p e =
     record { past = p; above = omega arith; rest = λ k above below. absurd (omega arith); until = inl (omega arith) }
 ends_behind line (suc n) p e = elim (rest_or (line p)) [

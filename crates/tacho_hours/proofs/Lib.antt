@@ -10,6 +10,7 @@ pub mod DebtsLemmas
 pub mod ByRunsLemmas
 pub mod LongDrivingLemmas
 pub mod OverdueLemmas
+pub mod AnewLemmas
 pub mod LackingWeekLemmas
 pub mod BreachesLemmas
 pub mod PageFacts

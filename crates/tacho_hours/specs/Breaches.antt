@@ -14,7 +14,9 @@ use Rattle.tacho_hours.specs.Line.{Line}
 use Rattle.tacho_hours.specs.Days.{EarlierDay, IsDuty, HasPortion, IsReduced}
 use Rattle.tacho_hours.specs.Exactly.{AreSoMany}
 use Rattle.tacho_hours.specs.Order.{AreBreaches}
-use Rattle.tacho_hours.specs.Weeks.{week_start, IsInWeek, IsWhollyAtRest, IsWeeklyRest, HasTwoRests}
+use Rattle.tacho_hours.specs.Weeks.{week_start, IsInWeek, IsWeeklyRest}
+use Rattle.tacho_hours.specs.Choice.{CanServe}
+use Rattle.tacho_hours.specs.Anew.{Fails, EndedBy}
 use Rattle.tacho_hours.specs.Debts.{AreDebts}
 use Rattle.tacho_hours.specs.Limits.{driving_before_break, minutes_of_day, daily_rest, reduced_daily_rests}
 use Rattle.tacho_hours.specs.Limits.{driving_in_day, driving_in_extended_day, extended_days}
@@ -115,14 +117,14 @@ pub record IsB8 (line : Line) (breach : Breach) : Type 0 where
   pub late : 0 < breach.amount
   pub amount : breach.moment + breach.amount ≡ b.start
 
--- Article 8(6), first subparagraph: two neighbouring weeks without two weekly rests of which one is regular
+-- Articles 8(6), first subparagraph, and 8(9): from the week of the base on, and anew from each week at which the rule
+-- failed, the least week up to which no choice of a week for each weekly rest serves; told of that week and the one
+-- before it
 pub record IsB9 (line : Line) (base horizon : ℕ) (breach : Breach) : Type 0 where
+  pub first : ℕ
   pub week : ℕ
-  pub from : base ≤ week_start week
-  pub ended : week_start (week + 2) ≤ horizon
-  pub first : ¬ (IsWhollyAtRest line week)
-  pub second : ¬ (IsWhollyAtRest line (week + 1))
-  pub lacks : ¬ (HasTwoRests line week)
+  pub monday : base ≡ week_start first
+  pub fails : Fails (CanServe line) (EndedBy horizon) first (week + 1)
   pub moment : breach.moment ≡ week_start (week + 2)
   pub since : breach.since ≡ week_start week
   pub amount : breach.amount ≡ 0

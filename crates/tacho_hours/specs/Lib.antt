@@ -6,6 +6,8 @@ pub mod Driving
 pub mod Breaks
 pub mod Days
 pub mod Weeks
+pub mod Choice
+pub mod Anew
 pub mod Debts
 pub mod MainRests
 pub mod Order

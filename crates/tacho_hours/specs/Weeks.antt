@@ -1,11 +1,10 @@
--- Trusted in part: Weeks and their weekly rests (Regulation (EC) 561/2006, Articles 4(h), 4(i) and 8(6),
--- 8(6) as amended by (EU) 2020/1054).
-use Rattle.std.specs.Prelude.{◌≡◌, ◌≢◌, ℕ, ◌+◌, ◌*◌, ◌<◌, ◌≤◌, ◌⊎◌}
+-- Trusted: Weeks and weekly rests (Regulation (EC) 561/2006, Articles 4(h) and 4(i)).
+use Rattle.std.specs.Prelude.{◌≡◌, ℕ, ◌+◌, ◌*◌, ◌<◌, ◌≤◌}
 use Rattle.tacho_time.specs.declared.span.Activity.TheVariants.{Rest}
 use Rattle.tacho_hours.specs.declared.run.Run.{Run}
 use Rattle.tacho_hours.specs.Line.{Line}
 use Rattle.tacho_hours.specs.Runs.{IsRestOf}
-use Rattle.tacho_hours.specs.Limits.{weekly_rest, regular_weekly_rest, minutes_of_week, first_week}
+use Rattle.tacho_hours.specs.Limits.{weekly_rest, minutes_of_week, first_week}
 
 -- Article 4(i): the first minute of a week, on a Monday at 00:00; week 0 is that of 1970-01-05
 abbrev pub week_start : ℕ → ℕ
@@ -26,21 +25,3 @@ IsWhollyAtRest line w = (m : ℕ) → IsInWeek w m → line m ≡ Rest
 -- Article 4(h): 24 hours (1440 minutes) or more
 abbrev pub IsWeeklyRest : Line → Run → Type 0
 IsWeeklyRest line run = IsRestOf line weekly_rest run
-
--- Article 8(6), first subparagraph, of the week and the next: two different weekly rests have a minute in them, and one
--- is regular, of 45 hours (2700 minutes). A rest that lies in two weeks is counted for each pair of weeks by itself,
--- where Article 8(9) counts it in one week only.
-pub record HasTwoRests (line : Line) (w : ℕ) : Type 0 where
-  pub long : Run
-  pub other : Run
-  pub enough : IsRestOf line regular_weekly_rest long
-  pub weekly : IsWeeklyRest line other
-  pub different : long ≢ other
-  pub long_within : Touches long w ⊎ Touches long (w + 1)
-  pub other_within : Touches other w ⊎ Touches other (w + 1)
-
--- two neighbouring weeks, neither at rest, without the two rests that they need (Article 8(6), first subparagraph)
-pub record LacksRests (line : Line) (w : ℕ) : Type 0 where
-  pub first : ¬ (IsWhollyAtRest line w)
-  pub second : ¬ (IsWhollyAtRest line (w + 1))
-  pub lacks : ¬ (HasTwoRests line w)

@@ -1,5 +1,5 @@
 -- Private to tacho_pass: A pass that hears the rest runs for a rule, and what it has found.
-use Rattle.std.specs.Prelude.{◌≡◌, ℕ, Bool, true, false, List}
+use Rattle.std.specs.Prelude.{◌≡◌, ℕ, true, false, List}
 use Rattle.tacho_time.specs.declared.span.Span.{Span}
 use Rattle.tacho_pass.specs.declared.found.Found.{Found}
 use Rattle.tacho_pass.specs.declared.judge.Judge.{Ghosts}
