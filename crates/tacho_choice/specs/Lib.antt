@@ -1,0 +1,4 @@
+pub mod Step
+pub mod Counted
+pub mod Weeks
+pub mod Laws

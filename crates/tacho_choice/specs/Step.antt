@@ -1,0 +1,110 @@
+-- Private to tacho_choice: What is counted in a week, by the weekly rests that it has and by whether those over its
+-- start and its end are counted by then (Regulation (EC) 561/2006, Articles 8(6), first subparagraph, and 8(9)).
+use Rattle.std.specs.Prelude.{◌≡◌, ◌+◌, ◌&&◌, ◌||◌, not, ℕ, Bool, true, false, List, Option, Some, None, is_some}
+use Rattle.std.specs.Prelude.{if◌then◌else◌, slice_index_or, nat_lt, nat_le}
+use Rattle.tacho_choice.specs.declared.counted.Counted.{Counted}
+use Rattle.tacho_choice.specs.declared.counted.Counted.TheVariants.{Nothing, One, More}
+use Rattle.tacho_choice.specs.declared.outcome.Outcome.{Outcome}
+use Rattle.tacho_choice.specs.declared.weekly_rests.WeeklyRests.{WeeklyRests}
+
+-- one or more
+abbrev pub has_one : Counted → Bool
+has_one Nothing = false
+has_one (One regular) = true
+has_one (More regular) = true
+
+-- two or more
+abbrev pub has_two : Counted → Bool
+has_two Nothing = false
+has_two (One regular) = false
+has_two (More regular) = true
+
+-- a regular one among them
+abbrev pub has_regular : Counted → Bool
+has_regular Nothing = false
+has_regular (One regular) = regular
+has_regular (More regular) = regular
+
+-- one more rest
+abbrev pub plus : Counted → Bool → Counted
+plus Nothing regular = One regular
+plus (One before) regular = More (before || regular)
+plus (More before) regular = More (before || regular)
+
+-- one more rest, where it is there and taken
+abbrev pub plus_where : Bool → Option Bool → Counted → Counted
+plus_where taken None counted = counted
+plus_where true (Some regular) counted = plus counted regular
+plus_where false (Some regular) counted = counted
+
+-- what is counted in a week: the rests inside, the one over its start where it isn't counted before and is by its end,
+-- and the one over its end where it is by then
+abbrev pub counted_of : WeeklyRests → Bool → Bool → Counted
+counted_of week before after =
+    plus_where after week.starting
+    (plus_where (not before && (not week.through || after)) week.entering week.inside)
+
+-- only a rest over a week's end can be counted by then, and one that was counted before the week is
+abbrev pub may : WeeklyRests → Bool → Bool → Bool
+may week before after =
+    (not after || (week.through || is_some week.starting)) && (not (week.through && before) || after)
+
+-- Article 8(6), first subparagraph: two rests in two weeks, one of them regular
+abbrev pub serves : Counted → Counted → Bool
+serves a b = (has_regular a || has_regular b) && ((has_two a || has_two b) || (has_one a && has_one b))
+
+-- a week's outcome behind that of the week before
+pub record IsNext (week : WeeklyRests) (asks : Bool) (old new : Outcome) : Type 0 where
+  pub allowed : may week old.crossing new.crossing ≡ true
+  pub counted : new.counted ≡ counted_of week old.crossing new.crossing
+  pub served : asks ≡ true → serves old.counted new.counted ≡ true
+
+-- a week's outcome where nothing is asked of the week before
+pub record IsFirst (week : WeeklyRests) (new : Outcome) : Type 0 where
+  pub before : Bool
+  pub comes : before ≡ true → is_some week.entering ≡ true
+  pub allowed : may week before new.crossing ≡ true
+  pub counted : new.counted ≡ counted_of week before new.crossing
+
+-- an outcome's place among the ten
+abbrev pub place_of_counted : Counted → ℕ
+place_of_counted Nothing = 0
+place_of_counted (One false) = 1
+place_of_counted (One true) = 2
+place_of_counted (More false) = 3
+place_of_counted (More true) = 4
+
+abbrev pub place_of : Outcome → ℕ
+place_of outcome = place_of_counted outcome.counted + (if outcome.crossing then 5 else 0)
+
+-- the outcome is among these
+abbrev pub Holds : List Bool → Outcome → Type 0
+Holds outcomes outcome = slice_index_or outcomes (place_of outcome) false ≡ true
+
+-- a week with one more rest, by the rest's first week and last
+abbrev pub with_rest : WeeklyRests → ℕ → ℕ → ℕ → Bool → WeeklyRests
+with_rest week w first last regular =
+    if nat_lt first w
+    then (if nat_le w last
+    then record {
+      entering = Some regular;
+      inside = week.inside;
+      starting = week.starting;
+      through = week.through || nat_lt w last;
+    }
+    else week)
+    else (if nat_lt w first
+    then week
+    else (if nat_lt w last
+    then record {
+      entering = week.entering;
+      inside = week.inside;
+      starting = Some regular;
+      through = week.through;
+    }
+    else record {
+      entering = week.entering;
+      inside = plus week.inside regular;
+      starting = week.starting;
+      through = week.through;
+    }))

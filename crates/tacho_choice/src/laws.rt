@@ -1,0 +1,13 @@
+//! The law about choices of a week for each weekly rest. A law is a function without a body: what it ensures is proved,
+//! and holds for all that it names.
+
+ghost use Rattle.tacho_choice.specs.Laws.{ChoicesReach, ChoicesStart, ChoicesServe};
+
+/// One week's step on the ten outcomes is exact, over the definitions (Article 8(9)): what choices that serve all weeks
+/// so far leave of a week is what a step leads to from what they leave of the week before; in the first week it is what
+/// any choice leaves; and some choice serves up to a week exactly where one of the ten is left of it.
+pub fn choices_reach()
+    ensures step { ChoicesReach }
+    ensures start { ChoicesStart }
+    ensures serve { ChoicesServe }
+{}

@@ -1,0 +1,14 @@
+//! A week for each weekly rest, in which it is counted (Articles 8(6), first subparagraph, and 8(9) of Regulation (EC)
+//! 561/2006): what all choices leave of a week, from what they leave of the week before.
+#![tactic(auto)]
+
+mod counted;
+pub mod laws;
+mod outcome;
+mod week;
+mod weekly_rests;
+
+pub use counted::Counted;
+pub use outcome::{ANY, Outcome};
+pub use week::WeekOfRests;
+pub use weekly_rests::WeeklyRests;

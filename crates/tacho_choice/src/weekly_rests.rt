@@ -1,0 +1,135 @@
+ghost use Rattle.std.specs.Prelude.{◌≡◌, ◌<◌, ◌⊎◌, ◌↔◌, false};
+ghost use Rattle.tacho_choice.specs.declared.counted.Counted.TheVariants.{Nothing};
+ghost use Rattle.tacho_choice.specs.declared.outcome.Outcome.{Outcome as OutcomeValue};
+ghost use Rattle.tacho_choice.specs.Step.{counted_of, may, with_rest, Holds, IsNext};
+ghost use Rattle.tacho_choice.specs.Weeks.{first_of, last_of, is_regular};
+
+use crate::counted::Counted;
+use crate::outcome::Outcome;
+use tacho_hours::Run;
+use tacho_hours::limits::{FIRST_WEEK, REGULAR_WEEKLY_REST};
+
+/// A week's minutes (Article 4(i)).
+const MINUTES_OF_WEEK: u32 = 10_080;
+
+/// The weekly rests that have a minute in a week, by where they lie: whether the one over the week's start is regular,
+/// those inside, whether the one that starts in the week and goes on over its end is regular, and whether the one over
+/// its start goes on over its end too.
+#[derive(Clone, Copy)]
+pub struct WeeklyRests {
+    pub entering: Option<bool>,
+    pub inside: Counted,
+    pub starting: Option<bool>,
+    pub through: bool,
+}
+
+/// The first week in which a rest has a minute.
+fn first(rest: Run) -> u32
+    ensures { result ≡ first_of rest }
+{
+    rest.start.saturating_sub(FIRST_WEEK) / MINUTES_OF_WEEK
+}
+
+/// The last week in which a rest has a minute.
+fn last(rest: Run) -> u32
+    ensures { result ≡ last_of rest }
+{
+    rest.past.saturating_sub(FIRST_WEEK + 1) / MINUTES_OF_WEEK
+}
+
+/// Whether a weekly rest is regular (Article 4(h)).
+fn regular(rest: Run) -> bool
+    ensures { result ≡ is_regular rest }
+{
+    rest.past.saturating_sub(rest.start) >= REGULAR_WEEKLY_REST
+}
+
+impl WeeklyRests {
+    /// None.
+    pub fn none() -> WeeklyRests
+        ensures { result ≡ record { entering = None; inside = Nothing; starting = None; through = false } }
+    {
+        WeeklyRests {
+            entering: None,
+            inside: Counted::Nothing,
+            starting: None,
+            through: false,
+        }
+    }
+
+    /// With one more weekly rest, where it has a minute in the week.
+    pub fn with(self, week: u32, rest: Run) -> WeeklyRests
+        ensures { result ≡ with_rest self week (first_of rest) (last_of rest) (is_regular rest) }
+    {
+        let (first, last) = (first(rest), last(rest));
+        if first < week {
+            if last < week {
+                return self;
+            }
+            return WeeklyRests {
+                entering: Some(regular(rest)),
+                through: self.through || week < last,
+                ..self
+            };
+        }
+        if week < first {
+            return self;
+        }
+        if week < last {
+            return WeeklyRests {
+                starting: Some(regular(rest)),
+                ..self
+            };
+        }
+        WeeklyRests {
+            inside: self.inside.and(regular(rest)),
+            ..self
+        }
+    }
+
+    /// What is counted in the week, by whether the rests over its start and its end are counted by then.
+    pub fn counted(self, before: bool, after: bool) -> Counted
+        ensures { result ≡ counted_of self before after }
+    {
+        self.inside
+            .and_where(!before && (!self.through || after), self.entering)
+            .and_where(after, self.starting)
+    }
+
+    /// Whether the rests over its start and its end can be counted so.
+    pub fn allows(self, before: bool, after: bool) -> bool
+        ensures { result ≡ may self before after }
+    {
+        (!after || self.through || self.starting.is_some()) && (!(self.through && before) || after)
+    }
+
+    fn reach(self, asks: bool, old: Outcome, crossing: bool, outcomes: &mut [bool; 10])
+        ensures { (new : OutcomeValue) → Holds outcomes.new new
+            ↔ (Holds outcomes.old new ⊎ ((new.crossing ≡ crossing) × IsNext self asks old new)) }
+    {
+        if !self.allows(old.crossing, crossing) {
+            return;
+        }
+        let counted = self.counted(old.crossing, crossing);
+        if !asks || old.counted.serves(counted) {
+            let new = Outcome { counted, crossing };
+            outcomes[new.place()] = true;
+        }
+    }
+
+    /// The outcomes of the week, behind those of the week before.
+    pub fn step(self, asks: bool, outcomes: [bool; 10]) -> [bool; 10]
+        ensures { (new : OutcomeValue) → Holds result new
+            ↔ ((old : OutcomeValue) × (Holds outcomes old × IsNext self asks old new)) }
+    {
+        let mut next = [false; 10];
+        for i in 0..10 {
+            if outcomes[i] {
+                let old = Outcome::at(i);
+                self.reach(asks, old, false, &mut next);
+                self.reach(asks, old, true, &mut next);
+            }
+        }
+        next
+    }
+}
