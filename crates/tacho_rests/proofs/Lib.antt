@@ -8,7 +8,7 @@ pub mod LedgerLemmas
 pub mod OwingLemmas
 pub mod LateRestLemmas
 pub mod LatenessLemmas
-pub mod TallyLemmas
-pub mod PairsLemmas
-pub mod PairingLemmas
+pub mod ClosingLemmas
+pub mod ChoicesLemmas
+pub mod LackingLemmas
 pub mod WeekRestsLemmas

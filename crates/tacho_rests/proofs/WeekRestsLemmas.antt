@@ -1,11 +1,11 @@
 -- The three rules on weekly rests together: the debts, and the breaches of all three (specs/WeekRests).
-use Rattle.std.proofs.Common.{◌≡◌, ℕ, ◌↔◌, List, [], refl, sym, ◌∙◌, Bool, true, false, subst}
-use Rattle.std.specs.Prelude.{IsTrue, ◌||◌}
+use Rattle.std.proofs.Common.{◌≡◌, ℕ, ◌↔◌, List, [], refl, sym, ◌∙◌, true, false, subst}
+use Rattle.std.specs.Prelude.{IsTrue}
 use Rattle.std.specs.List.{All}
 use Rattle.tacho_time.specs.declared.span.Span.{Span}
 use Rattle.tacho_hours.specs.declared.breach.Breach.{Breach}
 use Rattle.tacho_hours.specs.declared.breach.Kind.{Kind}
-use Rattle.tacho_hours.specs.declared.breach.Kind.TheVariants.{B1, B2, B3, B4, B5, B6, B7, B8, B9, B10}
+use Rattle.tacho_hours.specs.declared.breach.Kind.TheVariants.{B8, B9, B10}
 use Rattle.tacho_hours.specs.declared.debt.Debt.{Debt}
 use Rattle.tacho_hours.specs.Line.{Line, line_of}
 use Rattle.tacho_hours.specs.Order.{Apart}
@@ -15,7 +15,7 @@ use Rattle.tacho_hours.proofs.ExactlyLemmas.{exactly_as}
 use Rattle.tacho_pass.specs.Found.{own_of}
 use Rattle.tacho_pass.specs.Kinds.{is_b8, is_b9, is_b10, is_b8_or_b10, is_b8_to_b10}
 use Rattle.tacho_pass.proofs.AppendingLemmas.{own_sub}
-use Rattle.tacho_pass.proofs.JoiningLemmas.{IsPart, joined, own_kinds}
+use Rattle.tacho_pass.proofs.JoiningLemmas.{IsPart, joined}
 use Rattle.tacho_rests.specs.Lateness.{LateDefined}
 use Rattle.tacho_rests.specs.Owing.{OwingDefined}
 use Rattle.tacho_rests.specs.Lacking.{LackingDefined}

@@ -3,6 +3,6 @@ pub mod Paying
 pub mod Turns
 pub mod Owing
 pub mod Lateness
-pub mod Pairs
+pub mod Choices
 pub mod Lacking
 pub mod WeekRests

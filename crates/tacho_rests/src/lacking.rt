@@ -2,15 +2,16 @@ ghost use Rattle.std.specs.Prelude.{◌≡◌, true, false};
 ghost use Rattle.tacho_pass.specs.Kinds.{is_b9};
 ghost use Rattle.tacho_rests.specs.Lacking.{LackingStands, LackingDefined};
 
-use crate::pairs::Pairs;
+use crate::choices::Choices;
 use std::alloc::AllocError;
 use tacho_hours::limits::WEEKLY_REST;
 use tacho_hours::{FAR, Run};
 use tacho_pass::{Found, Judge};
 use tacho_time::{Minute, Span, week_of};
 
-/// The breaches of neighbouring weeks that lack weekly rests (Article 8(6) of Regulation (EC) 561/2006).
-impl Judge for Pairs {
+/// The breaches of neighbouring weeks up to which no choice of a week for each weekly rest serves (Articles 8(6), first
+/// subparagraph, and 8(9) of Regulation (EC) 561/2006).
+impl Judge for Choices {
     ghost own = { is_b9 };
 
     ghost owes = { false };
@@ -22,7 +23,7 @@ impl Judge for Pairs {
     ghost defined = { LackingDefined };
 
     fn new(base: Minute) -> Self {
-        Pairs::none(week_of(base))
+        Choices::none(week_of(base))
     }
 
     fn feed(

@@ -5,6 +5,8 @@ ghost use Rattle.std.specs.Prelude.{ℕ, List, All, IsTrue};
 ghost use Rattle.tacho_time.specs.declared.span.Span.{Span as Stretch};
 ghost use Rattle.tacho_hours.specs.declared.breach.Breach.{Breach as BreachValue};
 ghost use Rattle.tacho_hours.specs.declared.debt.Debt.{Debt as DebtValue};
+ghost use Rattle.tacho_hours.specs.Line.{line_of, IsExamined};
+ghost use Rattle.tacho_choice.specs.Weeks.{IsInWeeks};
 ghost use Rattle.tacho_pass.specs.Kinds.{is_b8_to_b10};
 ghost use Rattle.tacho_rests.specs.WeekRests.{WeekRestsDefined};
 
@@ -18,4 +20,10 @@ pub fn week_rests_as_defined()
         → All (λ breach. IsTrue (is_b8_to_b10 breach.kind)) own
         → ⟦<WeekRests as Pass>⟧.defined own owed base horizon spans
         → WeekRestsDefined own owed base horizon spans }
+{}
+
+/// The law on choices of a week for each weekly rest (`choices_reach`) holds for every examined line: each of its weekly
+/// rests has a minute in some week.
+pub fn examined_line_is_in_weeks()
+    ensures { (spans : List Stretch) (base horizon : ℕ) → IsExamined spans base horizon → IsInWeeks (line_of spans) }
 {}

@@ -1,8 +1,9 @@
-//! The rules on weekly rests over an examined line whose spans come one at a time (Article 8(6) and (6b) of Regulation
-//! (EC) 561/2006, as amended by (EU) 2020/1054): late rests, weeks that lack rests, and debts, with working state of
-//! fixed size.
+//! The rules on weekly rests over an examined line whose spans come one at a time (Articles 8(6), 8(6b) and 8(9) of
+//! Regulation (EC) 561/2006, as amended by (EU) 2020/1054): late rests, weeks that lack rests, and debts, with working
+//! state of fixed size.
 #![tactic(auto)]
 
+mod choices;
 mod due_debts;
 mod few;
 mod lacking;
@@ -10,12 +11,10 @@ mod late;
 pub mod laws;
 mod ledger;
 mod owing;
-mod pairs;
 mod payment;
-mod tally;
 mod week_rests;
 
+pub use choices::Choices;
 pub use late::Late;
 pub use ledger::Ledger;
-pub use pairs::Pairs;
 pub use week_rests::{LackingFirst, LateFirst, RestRules, WeekRests};

@@ -2,9 +2,9 @@ ghost use Rattle.std.specs.Prelude.{◌≡◌, true, false};
 ghost use Rattle.std.proofs.Common.{refl, sym};
 ghost use Rattle.tacho_hours.specs.declared.breach.Kind.TheVariants.{B1, B2, B3, B4, B5, B6, B7, B8, B9, B10};
 
+use crate::choices::Choices;
 use crate::late::Late;
 use crate::ledger::Ledger;
-use crate::pairs::Pairs;
 use tacho_pass::{Apart, Both, Hearing};
 
 /// Late weekly rests go before debts: they have no debts, and no kind of breach in common with them.
@@ -32,7 +32,7 @@ impl Apart<Late, Ledger> for LateFirst {
 #[derive(Clone, Copy)]
 pub struct LackingFirst {}
 
-impl Apart<Pairs, Both<Late, Ledger, LateFirst>> for LackingFirst {
+impl Apart<Choices, Both<Late, Ledger, LateFirst>> for LackingFirst {
     ghost apart = { elim [
       | B1 ↦ λ e. refl
       | B2 ↦ λ e. refl
@@ -50,7 +50,7 @@ impl Apart<Pairs, Both<Late, Ledger, LateFirst>> for LackingFirst {
 }
 
 /// Weeks that lack weekly rests, late weekly rests, and debts, as one rule.
-pub type RestRules = Both<Pairs, Both<Late, Ledger, LateFirst>, LackingFirst>;
+pub type RestRules = Both<Choices, Both<Late, Ledger, LateFirst>, LackingFirst>;
 
-/// The rules on weekly rests (Article 8(6) and (6b) of Regulation (EC) 561/2006).
+/// The rules on weekly rests (Articles 8(6), 8(6b) and 8(9) of Regulation (EC) 561/2006).
 pub type WeekRests = Hearing<RestRules>;

@@ -1,4 +1,4 @@
--- What is kept of neighbouring weeks stands for the spans, span by span (specs/Lacking).
+-- Choices of a week for each weekly rest stand for the spans, span by span (specs/Lacking).
 use Rattle.std.proofs.Common.{◌≡◌, ◌≢◌, ℕ, ◌+◌, ◌<◌, ◌≤◌, ◌⊎◌, inl, inr, Bool, true, false, None, Some, List}
 use Rattle.std.proofs.Common.{[], ◌∷◌, ◌++◌, refl, sym, ap, subst, ◌∙◌, arith, nat_lt, if◌then◌else◌}
 use Rattle.std.proofs.lemmas.Bool.{cases_lt}
@@ -9,23 +9,34 @@ use Rattle.tacho_hours.specs.declared.run.TheConstants.{FAR}
 use Rattle.tacho_hours.specs.declared.breach.Breach.{Breach}
 use Rattle.tacho_hours.specs.declared.debt.Debt.{Debt}
 use Rattle.tacho_hours.specs.Line.{line_of, Joined, IsExamined, Line}
+use Rattle.tacho_hours.specs.Limits.{first_base, latest}
 use Rattle.tacho_hours.specs.Runs.{IsRestRun, AreRestRuns, minutes_of, IsRestOf}
 use Rattle.tacho_hours.specs.Weeks.{week_start}
 use Rattle.tacho_hours.specs.SoFar.{AreCollected}
 use Rattle.tacho_hours.specs.Breaches.{IsLacking}
-use Rattle.tacho_hours.proofs.RunsLemmas.{run_of}
+use Rattle.tacho_hours.proofs.RunsLemmas.{run_of, joined_le, line_before}
 use Rattle.tacho_hours.proofs.ByRunsLemmas.{one_run}
 use Rattle.tacho_pass.specs.Heard.{is_rest, start_after, run_before, Continues, IsHeard, IsLineTo}
 use Rattle.tacho_pass.proofs.HearingLemmas.{line_append, line_at_end, joined_append, rests_yes, rests_no, heard_rest}
-use Rattle.tacho_pass.proofs.HearingLemmas.{heard_busy, heard_gap, by_span, line_to}
-use Rattle.tacho_rests.specs.declared.pairs.Pairs.{Pairs}
-use Rattle.tacho_rests.specs.Pairs.{IsPairs}
-use Rattle.tacho_rests.specs.Lacking.{IsPairing, LackingStands, LackingDefined}
-use Rattle.tacho_rests.proofs.PairsLemmas.{pairs_keep}
+use Rattle.tacho_pass.proofs.HearingLemmas.{heard_busy, heard_gap, by_span, line_runs, line_to}
+use Rattle.tacho_choice.specs.Weeks.{IsInWeeks}
+use Rattle.tacho_choice.proofs.SeenLemmas.{in_weeks}
+use Rattle.tacho_rests.specs.declared.choices.Choices.{Choices}
+use Rattle.tacho_rests.specs.Choices.{AreChoices}
+use Rattle.tacho_rests.specs.Lacking.{IsChoosing, LackingStands, LackingDefined}
+use Rattle.tacho_rests.proofs.ChoicesLemmas.{choices_keep}
 use Rattle.tacho_rests.proofs.HeardLemmas.{run_some, none_if}
 
+-- rest runs of a line that is at rest before a base, which is behind the first minute of week 0
+in_weeks_by : (line : Line) (runs : List Run) (spans : List Span) (base place : ℕ) → AreRestRuns line runs
+    → Joined spans base place → 5760 < base → Continues line spans place → IsInWeeks line
+in_weeks_by line runs spans base place are joined behind c =
+    let within : base ≤ place = joined_le spans base place joined in
+    in_weeks line runs are
+    (λ m early. c m (omega arith) ∙ line_before spans base place m joined (omega arith))
+
 -- a span more
-module _ (spans : List Span) (s : Span) (base start : ℕ) (p : Pairs) (own : List Breach) (owed : List Debt)
+module _ (spans : List Span) (s : Span) (base start : ℕ) (p : Choices) (own : List Breach) (owed : List Debt)
     (r : LackingStands p start s.start own owed base spans) (some : s.start < s.past) where
   joined : Joined (spans ++ s ∷ []) base s.past
   joined = joined_append spans s base r.joined some
@@ -35,18 +46,21 @@ module _ (spans : List Span) (s : Span) (base start : ℕ) (p : Pairs) (own : Li
     at : (m : ℕ) → s.start ≤ m → m < s.past → line m ≡ s.mark.activity
     at m above below = c m below ∙ line_at_end spans s base m r.joined above below
 
-    before : IsPairing line r.first start s.start p own
+    before : IsChoosing line r.first start s.start p own
     before = r.kept line runs are (λ m below. c m (omega arith) ∙ line_append spans s m below)
+
+    weeks : IsInWeeks line
+    weeks = in_weeks_by line runs (spans ++ s ∷ []) base s.past are joined r.behind c
 
     busy : is_rest s.mark.activity ≡ false → (m : ℕ) → s.start ≤ m → m < s.past → line m ≢ Rest
     busy e m above below f = rests_no s.mark.activity e (sym (at m above below) ∙ f)
 
-    quiet : s.mark.activity ≡ Rest → IsPairing line r.first start s.past p own
+    quiet : s.mark.activity ≡ Rest → IsChoosing line r.first start s.past p own
     quiet e = record {
       e = before.e;
       low = before.low;
       heard = heard_rest line start before.e s before.heard some (λ m above below. at m above below ∙ e);
-      pairs = before.pairs;
+      choices = before.choices;
     }
 
     heard_on : is_rest s.mark.activity ≡ false → (e : ℕ) × (5760 ≤ e) × IsHeard line s.past s.past e
@@ -79,14 +93,16 @@ module _ (spans : List Span) (s : Span) (base start : ℕ) (p : Pairs) (own : Li
 
     -- where no weekly rest ends
     keep : is_rest s.mark.activity ≡ false → (start < s.start → minutes_of (run_of start s.start) < 1440)
-        → IsPairing line r.first s.past s.past p own
+        → IsChoosing line r.first s.past s.past p own
     keep e short =
         let h : (e : ℕ) × (5760 ≤ e) × IsHeard line s.past s.past e = heard_on e in
         record {
           e = h.0;
           low = h.1;
           heard = h.2;
-          pairs = λ horizon last_run l. pairs_keep line horizon r.first start s.past p.week p.here p.ahead p.last own
+          choices = λ horizon last_run l. choices_keep line horizon r.first start s.past p.week p.current p.last
+              p.rested
+              p.outcomes own
               (let b : start ≤ s.start = before.heard.below in omega arith)
               (λ x is below. elim (by_span line start before.e s before.heard some (busy e) x is.rests below) [
                 | inl old ↦ old
@@ -98,26 +114,26 @@ module _ (spans : List Span) (s : Span) (base start : ℕ) (p : Pairs) (own : Li
                     let long : 1440 ≤ minutes_of x = is.enough in
                     let few : minutes_of (run_of start s.start) < 1440 = short gap in
                     omega arith)
-              ]) (before.pairs horizon last_run l);
+              ]) (before.choices horizon last_run l);
         }
 
     -- where one ends
     more : is_rest s.mark.activity ≡ false → start < s.start → 1440 ≤ minutes_of (run_of start s.start)
-        → (q : Pairs) (own' : List Breach)
-        → ((line : Line) (runs : List Run) (horizon : ℕ) (first later : ℕ) → AreRestRuns line runs → start ≤ horizon
+        → (q : Choices) (own' : List Breach)
+        → ((line : Line) (horizon first later : ℕ) → IsInWeeks line → start ≤ horizon
         → IsRestOf line 1440 (run_of start s.start) → start < later
         → ((x : Run) → IsRestOf line 1440 x → x.start < later → (x.start < start) ⊎ (x ≡ run_of start s.start))
-        → IsPairs line horizon first start p.week p.here p.ahead p.last own
-        → IsPairs line horizon first later q.week q.here q.ahead q.last own')
-        → IsPairing line r.first s.past s.past q own'
+        → AreChoices line horizon first start p.week p.current p.last p.rested p.outcomes own
+        → AreChoices line horizon first later q.week q.current q.last q.rested q.outcomes own')
+        → IsChoosing line r.first s.past s.past q own'
     more e gap long q own' law =
         let h : (e : ℕ) × (5760 ≤ e) × IsHeard line s.past s.past e = heard_on e in
         record {
           e = h.0;
           low = h.1;
           heard = h.2;
-          pairs = λ horizon last_run l.
-              law line runs horizon r.first s.past are (let a : start ≤ last_run.start =
+          choices = λ horizon last_run l.
+              law line horizon r.first s.past weeks (let a : start ≤ last_run.start =
               l.all (run_of start s.start) (open_run e gap) in
               let b : last_run.start ≤ horizon = l.start in
               omega arith)
@@ -125,7 +141,7 @@ module _ (spans : List Span) (s : Span) (base start : ℕ) (p : Pairs) (own : Li
               (λ x is below. elim (by_span line start before.e s before.heard some (busy e) x is.rests below) [
                 | inl old ↦ inl old
                 | inr here ↦ inr (one_run line 0 runs are x (run_of start s.start) is.rests (open_run e gap) here.0)
-              ]) (before.pairs horizon last_run l);
+              ]) (before.choices horizon last_run l);
         }
 
   none_by : (b : Bool) → is_rest s.mark.activity ≡ b
@@ -134,6 +150,7 @@ module _ (spans : List Span) (s : Span) (base start : ℕ) (p : Pairs) (own : Li
   none_by true e is = record {
     first = r.first;
     monday = r.monday;
+    behind = r.behind;
     none = r.none;
     joined = joined;
     kept = λ line runs are c. quiet line runs are c (rests_yes s.mark.activity e);
@@ -143,80 +160,86 @@ module _ (spans : List Span) (s : Span) (base start : ℕ) (p : Pairs) (own : Li
       record {
         first = r.first;
         monday = r.monday;
+        behind = r.behind;
         none = r.none;
         joined = joined;
         kept = λ line runs are c. keep line runs are c e (λ gap. absurd (omega arith));
       }
 
   -- where no run ends
-  pub pairs_fed_none : run_before start s ≡ None
+  pub choices_fed_none : run_before start s ≡ None
       → LackingStands p (start_after start s) s.past own owed base (spans ++ s ∷ [])
-  pairs_fed_none is = none_by (is_rest s.mark.activity) refl is
+  choices_fed_none is = none_by (is_rest s.mark.activity) refl is
 
   after_busy : is_rest s.mark.activity ≡ false → start_after start s ≡ s.past
   after_busy e = rw e refl
 
   -- where a short one ends
-  pub pairs_fed_short : (run : Run) → run_before start s ≡ Some run → minutes_of run < 1440
+  pub choices_fed_short : (run : Run) → run_before start s ≡ Some run → minutes_of run < 1440
       → LackingStands p (start_after start s) s.past own owed base (spans ++ s ∷ [])
-  pairs_fed_short run is short =
+  choices_fed_short run is short =
       let of = run_some start s run is in
       let m : minutes_of (run_of start s.start) ≡ minutes_of run = ap minutes_of of.2 in
       subst (λ (n : ℕ). LackingStands p n s.past own owed base (spans ++ s ∷ [])) (sym (after_busy of.0))
       (record {
         first = r.first;
         monday = r.monday;
+        behind = r.behind;
         none = r.none;
         joined = joined;
         kept = λ line runs are c. keep line runs are c of.0 (λ gap. (omega arith));
       })
 
   -- and where a weekly rest does
-  pub pairs_fed_more : (run : Run) → run_before start s ≡ Some run → 1440 ≤ minutes_of run
-      → (q : Pairs) (own' : List Breach)
-      → ((line : Line) (runs : List Run) (horizon first later : ℕ) → AreRestRuns line runs → run.start ≤ horizon
+  pub choices_fed_more : (run : Run) → run_before start s ≡ Some run → 1440 ≤ minutes_of run
+      → (q : Choices) (own' : List Breach)
+      → ((line : Line) (horizon first later : ℕ) → IsInWeeks line → run.start ≤ horizon
       → IsRestOf line 1440 run → run.start < later
       → ((x : Run) → IsRestOf line 1440 x → x.start < later → (x.start < run.start) ⊎ (x ≡ run))
-      → IsPairs line horizon first run.start p.week p.here p.ahead p.last own
-      → IsPairs line horizon first later q.week q.here q.ahead q.last own')
+      → AreChoices line horizon first run.start p.week p.current p.last p.rested p.outcomes own
+      → AreChoices line horizon first later q.week q.current q.last q.rested q.outcomes own')
       → LackingStands q (start_after start s) s.past own' owed base (spans ++ s ∷ [])
-  pairs_fed_more run is long q own' law =
+  choices_fed_more run is long q own' law =
       let of = run_some start s run is in
       let m : minutes_of (run_of start s.start) ≡ minutes_of run = ap minutes_of of.2 in
       subst (λ (n : ℕ). LackingStands q n s.past own' owed base (spans ++ s ∷ [])) (sym (after_busy of.0))
       (record {
         first = r.first;
         monday = r.monday;
+        behind = r.behind;
         none = r.none;
         joined = joined;
         kept = λ line runs are c. more line runs are c of.0 of.1 (omega arith) q own'
-            (subst (λ (x : Run). (line : Line) (runs : List Run) (horizon first later : ℕ) → AreRestRuns line runs
+            (subst (λ (x : Run). (line : Line) (horizon first later : ℕ) → IsInWeeks line
             → x.start ≤ horizon → IsRestOf line 1440 x → x.start < later
             → ((y : Run) → IsRestOf line 1440 y → y.start < later → (y.start < x.start) ⊎ (y ≡ x))
-            → IsPairs line horizon first x.start p.week p.here p.ahead p.last own
-            → IsPairs line horizon first later q.week q.here q.ahead q.last own') (sym of.2) law);
+            → AreChoices line horizon first x.start p.week p.current p.last p.rested p.outcomes own
+            → AreChoices line horizon first later q.week q.current q.last q.rested q.outcomes own') (sym of.2) law);
       })
 
 -- at the end
-module _ (spans : List Span) (base past start : ℕ) (p : Pairs) (own : List Breach) (owed : List Debt)
+module _ (spans : List Span) (base past start : ℕ) (p : Choices) (own : List Breach) (owed : List Debt)
     (r : LackingStands p start past own owed base spans) (x : IsExamined spans base past)
     (all : (rs : List Run) × AreRestRuns (line_of spans) rs) where
-  at_end : IsPairing (line_of spans) r.first start past p own
+  at_end : IsChoosing (line_of spans) r.first start past p own
   at_end = r.kept (line_of spans) all.0 all.1 (λ m below. refl)
+
+  at_weeks : IsInWeeks (line_of spans)
+  at_weeks = in_weeks_by (line_of spans) all.0 spans base past all.1 r.joined r.behind (λ m below. refl)
 
   line_is : IsLineTo (line_of spans) past (run_of start FAR)
   line_is = line_to spans base past x start at_end.e at_end.heard
 
-  pub pairs_end : (own' : List Breach)
-      → ((line : Line) (runs : List Run) (base first : ℕ) → AreRestRuns line runs → base ≡ week_start first
+  pub choices_end : (own' : List Breach)
+      → ((line : Line) (base first : ℕ) → IsInWeeks line → base ≡ week_start first
       → start ≤ past → IsRestOf line 1440 (run_of start FAR)
       → ((y : Run) → IsRestOf line 1440 y → (y.start < start) ⊎ (y ≡ run_of start FAR))
-      → IsPairs line past first start p.week p.here p.ahead p.last own
+      → AreChoices line past first start p.week p.current p.last p.rested p.outcomes own
       → AreCollected (λ breach. IsLacking line base past breach) own')
       → LackingDefined own' owed base past spans
-  pairs_end own' law = record {
+  choices_end own' law = record {
     none = r.none;
-    breaches = law (line_of spans) all.0 base r.first all.1 r.monday line_is.start
+    breaches = law (line_of spans) base r.first at_weeks r.monday line_is.start
         (record {
           rests = line_is.is;
           enough = let s : start ≤ past = line_is.start in let e : past ≤ 68374080 = line_is.early in omega arith;
@@ -226,5 +249,13 @@ module _ (spans : List Span) (base past start : ℕ) (p : Pairs) (own : List Bre
           | inr here ↦
               inr (one_run (line_of spans) 0 all.0 all.1 y (run_of start FAR) is.rests line_is.is
               (let most : y.start ≤ start = line_is.all y is.rests in omega arith))
-        ]) (at_end.pairs past (run_of start FAR) line_is);
+        ]) (at_end.choices past (run_of start FAR) line_is);
   }
+
+-- an examined line is at rest before its base, which is late enough
+pub examined_in_weeks : (spans : List Span) (base past : ℕ) → IsExamined spans base past → IsInWeeks (line_of spans)
+examined_in_weeks spans base past x =
+    let within : past ≤ latest = x.within in
+    let from : first_base ≤ base = x.base_is.from in
+    let all : (rs : List Run) × AreRestRuns (line_of spans) rs = line_runs spans past (omega arith) base x.joined in
+    in_weeks_by (line_of spans) all.0 spans base past all.1 x.joined (omega arith) (λ m below. refl)
