@@ -7,5 +7,6 @@ pub mod StayingHoursLemmas
 pub mod StayingBreaksLemmas
 pub mod StayingDaysLemmas
 pub mod StayingWeeksLemmas
+pub mod StayingChoiceLemmas
 pub mod StayingReportLemmas
 pub mod PageFacts

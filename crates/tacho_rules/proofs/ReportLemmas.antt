@@ -1,6 +1,6 @@
 -- There is one report of a timeline; it is told by marks; rest alone has none (`laws`).
 -- A report is the only one, and where all is rest there is nothing to report.
-use Rattle.std.proofs.Common.{◌≡◌, ℕ, ◌-◌, ◌<◌, ◌≤◌, inl, inr, List, [], ◌∷◌, Option}
+use Rattle.std.proofs.Common.{◌≡◌, ℕ, ◌+◌, ◌-◌, ◌<◌, ◌≤◌, inl, inr, List, [], ◌∷◌, Option}
 use Rattle.std.proofs.Common.{None, Some, true, false, refl, sym, ap, subst, ◌∙◌, arith}
 use Rattle.std.specs.Prelude.{◌&&◌, nat_le, nat_lt, if◌then◌else◌}
 use Rattle.std.specs.List.{All, Contains}
@@ -32,6 +32,7 @@ use Rattle.tacho_hours.proofs.BreaksLemmas.{one_complete_breaks}
 use Rattle.tacho_hours.proofs.OrderLemmas.{one_breaches}
 use Rattle.tacho_hours.proofs.DebtsLemmas.{one_debts}
 use Rattle.tacho_rules.specs.Report.{examined, IsReport}
+use Rattle.tacho_rules.proofs.StayingChoiceLemmas.{none_at_rest}
 
 -- a minute that stops the examination isn't a single driver's
 not_single : (mark : Option Mark) (cause : Cause) → IsCause mark cause → IsSingle mark → ⊥
@@ -176,7 +177,8 @@ module _ (line : Line) (resting : (m : ℕ) → line m ≡ Rest) where
   no_breach base horizon runs breaks are complete B7 breach h = no_drive breach.moment h.over.moment.drives
   no_breach base horizon runs breaks are complete B8 breach h =
       none_behind h.a h.b h.neighbours.second.rests h.neighbours.before
-  no_breach base horizon runs breaks are complete B9 breach h = h.first (λ m in'. resting m)
+  no_breach base horizon runs breaks are complete B9 breach h =
+      none_at_rest line resting horizon h.first (h.week + 1) h.fails
   no_breach base horizon runs breaks are complete B10 breach h = let k : h.owed.0 < 0 = h.owed.1 in omega arith
 
 -- where nothing but rest is examined, there is nothing to report

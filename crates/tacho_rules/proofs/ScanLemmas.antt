@@ -1,5 +1,5 @@
 -- What the rules of a scan have found in one `Found` (specs/Scan): each has its own kinds, and every kind is some rule's.
-use Rattle.std.proofs.Common.{◌≡◌, ℕ, ◌↔◌, ◌++◌, List, [], get_or, refl, sym, subst, ◌∙◌, Bool, true, false}
+use Rattle.std.proofs.Common.{◌≡◌, ℕ, ◌↔◌, List, [], get_or, refl, sym, subst, ◌∙◌, Bool, true, false}
 use Rattle.std.specs.Prelude.{IsTrue, ◌||◌}
 use Rattle.std.specs.List.{Contains}
 use Rattle.std.proofs.lemmas.List.Elements.{Contains-append_left}

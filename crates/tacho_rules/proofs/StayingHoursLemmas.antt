@@ -6,7 +6,6 @@ use Rattle.std.proofs.lemmas.Bool.{cases_lt}
 use Rattle.tacho_time.specs.declared.span.Activity.{Activity}
 use Rattle.tacho_time.specs.declared.span.Activity.TheVariants.{Rest, Drive}
 use Rattle.tacho_hours.specs.declared.run.Run.{Run}
-use Rattle.tacho_hours.specs.declared.run.TheConstants.{FAR}
 use Rattle.tacho_hours.specs.declared.breach.Breach.{Breach}
 use Rattle.tacho_hours.specs.Line.{Line}
 use Rattle.tacho_hours.specs.Limits.{latest}
@@ -17,7 +16,7 @@ use Rattle.tacho_hours.specs.Order.{Agree}
 use Rattle.tacho_hours.proofs.DrivingLemmas.{driving_reaches}
 use Rattle.tacho_hours.proofs.RunsLemmas.{rest_runs_are}
 use Rattle.tacho_hours.proofs.ByRunsLemmas.{one_run}
-use Rattle.tacho_rules.proofs.StayingLemmas.{GoesOn, run_stays, run_was, run_cut, last_run, next_there}
+use Rattle.tacho_rules.proofs.StayingLemmas.{GoesOn, run_stays, run_was, last_run, next_there}
 
 -- a breach of a sort at the same place in the order
 abbrev pub HasSame : (Breach → Type 0) → Breach → Type 0
@@ -70,18 +69,6 @@ module _ (line other : Line) (h k : ℕ) (g : GoesOn line other h k) where
       minute_stays from to past (limit + 1) breach.moment le is.moment in
       let r : limit + 1 ≤ driving other from past = driving_reaches other from past (limit + 1) breach.moment m in
       (driving other from past - limit, record { moment = m; amount = omega (arith, r) })
-
-  -- a run of the other line that ends behind the horizon has no end, or ends there
-  pub ended_by : (run : Run) → IsRestRun other run → run.past ≤ FAR
-  ended_by run is =
-      let early : k ≤ latest = g.early in
-      elim is.until [
-        | inl far ↦ omega arith
-        | inr busy ↦ elim (cases_lt run.past k) [
-          | inl before ↦ omega arith
-          | inr after ↦ absurd (busy (g.other_rest run.past after))
-        ]
-      ]
 
   module _ (runs : List Run) (are : AreRestRuns other runs) where
     -- one that starts no later than a run of the line, which ends before the horizon, ends before it too
@@ -137,18 +124,3 @@ module _ (line other : Line) (h k : ℕ) (g : GoesOn line other h k) where
             before = n.before;
             between = λ c is after sooner. n.between c (rest_stays c is (omega arith)) after sooner;
           }
-
-      -- a rest of the other line that starts before the horizon is one of the line, or a part of one
-      pub rest_cut : (r : Run) → IsRestOf other least r → r.start < h
-          → (cut : Run) × IsRestOf line least cut × (cut.start ≡ r.start) × (r.past ≤ cut.past)
-      rest_cut r is before = elim (cases_lt r.past h) [
-        | inl ended ↦ (r, rest_was r is ended, refl, omega arith)
-        | inr open' ↦
-            let end : r.past ≤ FAR = ended_by r is.rests in
-            let enough : least ≤ minutes_of r = is.enough in (
-              record { start = r.start; past = FAR },
-              record { rests = run_cut line other h k g r is.rests before open'; enough = omega arith },
-              refl,
-              end,
-            )
-      ]

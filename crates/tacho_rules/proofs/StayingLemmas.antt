@@ -146,25 +146,6 @@ module _ (line other : Line) (h k : ℕ) (g : GoesOn line other h k) where
         ];
       }
 
-  -- what starts before the horizon and doesn't end before it is cut from the line's last run
-  pub run_cut : (run : Run) → IsRestRun other run → run.start < h → h ≤ run.past
-      → IsRestRun line (record { start = run.start; past = FAR })
-  run_cut run is before after =
-      let one : h ≤ k = g.later in
-      let two : k ≤ latest = g.early in
-      record {
-        some = omega arith;
-        rest = λ m a b. elim (cases_lt m h) [
-          | inl below ↦ g.agree m below ∙ is.rest m a (omega arith)
-          | inr above ↦ g.rest m above
-        ];
-        from = elim is.from [
-          | inl none ↦ inl none
-          | inr busy ↦ inr (λ m e f. busy m e (sym (g.agree m (omega arith)) ∙ f))
-        ];
-        until = inl refl;
-      }
-
   -- the other line has a last run, without an end
   pub last_run : (last : Run) × IsRestRun other last × (last.past ≡ FAR) × (last.start ≤ k)
   last_run =

@@ -27,7 +27,8 @@ use Rattle.tacho_rules.proofs.StayingLemmas.{GoesOn}
 use Rattle.tacho_rules.proofs.StayingHoursLemmas.{HasSame}
 use Rattle.tacho_rules.proofs.StayingBreaksLemmas.{b1_stays}
 use Rattle.tacho_rules.proofs.StayingDaysLemmas.{b2_stays, b3_stays, b4_stays, b5_stays}
-use Rattle.tacho_rules.proofs.StayingWeeksLemmas.{b6_stays, b7_stays, b8_stays, b9_stays}
+use Rattle.tacho_rules.proofs.StayingWeeksLemmas.{b6_stays, b7_stays, b8_stays}
+use Rattle.tacho_rules.proofs.StayingChoiceLemmas.{b9_stays}
 
 -- behind its horizon an examined line is at rest
 rests_behind : (held : List Span) (base h m : ℕ) → h ≤ m → examined held base h m ≡ Rest
@@ -81,8 +82,7 @@ module _ (line other : Line) (base h k : ℕ) (g : GoesOn line other h k)
   stays_by breach B6 e not is = said breach B6 e _ (λ b k' p. p) (b6_stays line other h k g breach is)
   stays_by breach B7 e not is = said breach B7 e _ (λ b k' p. p) (b7_stays line other h k g breach is)
   stays_by breach B8 e not is = said breach B8 e _ (λ b k' p. p) (b8_stays line other h k g theirs are_there breach is)
-  stays_by breach B9 e not is =
-      said breach B9 e _ (λ b k' p. p) (b9_stays line other h k g theirs are_there base breach is)
+  stays_by breach B9 e not is = said breach B9 e _ (λ b k' p. p) (b9_stays line other h k g base breach is)
   stays_by breach B10 e not is = absurd (not refl)
 
   pub stays : (breach : Breach) → breach.kind ≢ B10 → IsBreach line base h breaks debts breach.kind breach

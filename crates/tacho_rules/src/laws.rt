@@ -12,7 +12,9 @@ ghost use Rattle.tacho_hours.specs.Limits.{latest};
 ghost use Rattle.tacho_hours.specs.Order.{Agree};
 ghost use Rattle.tacho_rules.specs.Report.{IsReport, examined};
 
+pub use tacho_choice::laws::choices_reach;
 pub use tacho_hours::laws::paid_by_runs;
+pub use tacho_rests::laws::examined_line_is_in_weeks;
 
 /// What is held has one report from a base.
 pub fn one_report()

@@ -1,5 +1,4 @@
-use Rattle.std.proofs.Common.{◌≡◌, ◌<◌, ◌≤◌, ℕ, List, map, length, get_or, inl, arith, true}
-use Rattle.tacho_time.specs.declared.span.Span.{Span}
+use Rattle.std.proofs.Common.{◌≤◌, map, inl, arith, true}
 use Rattle.tacho_line.specs.Walk.{cut_to}
 use Rattle.tacho_pass.specs.Kinds.{is_any}
 use Rattle.tacho_pass.proofs.AppendingLemmas.{appends_then}
