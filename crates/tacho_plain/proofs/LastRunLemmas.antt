@@ -1,4 +1,4 @@
--- The last rest run of an examined line has no end, and its rests start in time (`rests`).
+-- The last rest run of an examined line has no end, and its rests start in time and touch some week (`rests`).
 use Rattle.std.proofs.Common.{◌≡◌, ℕ, ◌-◌, ◌<◌, ◌≤◌, inl, inr, List}
 use Rattle.std.proofs.Common.{length, get_or, sym, ap, ◌∙◌, arith}
 use Rattle.std.proofs.lemmas.Bool.{cases_lt}
@@ -9,8 +9,11 @@ use Rattle.tacho_hours.specs.declared.run.Run.{Run}
 use Rattle.tacho_hours.specs.declared.run.TheConstants.{FAR}
 use Rattle.tacho_hours.specs.Line.{line_of, IsExamined}
 use Rattle.tacho_hours.specs.Runs.{IsRestRun, AreRestRuns, AreRestsOf, Before}
+use Rattle.tacho_choice.specs.Weeks.{IsInWeeks}
+use Rattle.tacho_choice.proofs.SeenLemmas.{in_weeks as weeks_by}
 use Rattle.tacho_plain.specs.Rests.{AreInTime}
 use Rattle.tacho_hours.proofs.ExactlyLemmas.{at_index}
+use Rattle.tacho_hours.proofs.RunsLemmas.{line_before}
 use Rattle.tacho_plain.proofs.RunsLemmas.{rests_are}
 use Rattle.tacho_hours.proofs.DrivingLemmas.{line_behind}
 use Rattle.tacho_hours.proofs.CoveringLemmas.{Covers, covered}
@@ -71,6 +74,12 @@ module _ (spans : List Span) (base past : ℕ) (x : IsExamined spans base past) 
               let same : k ≡ length runs - 1 = omega arith in
               record { rests = last; no_end = ap (λ (i : ℕ). (get_or runs i d).past) (sym same) ∙ ends; early = early }
         ]
+
+    -- each weekly rest has a minute in some week, since the line is at rest before its base
+    pub in_weeks : IsInWeeks (line_of spans)
+    in_weeks =
+        let from : 15780960 ≤ base = x.base_is.from in
+        weeks_by (line_of spans) runs are (λ m early. line_before spans base past m x.joined (omega arith))
 
   -- its rests of so many minutes are in time
   pub rests_in_time : (least : ℕ) (rests : List Run) → AreRestsOf (line_of spans) least rests → AreInTime rests

@@ -13,8 +13,9 @@ pub mod DayBreachesLemmas
 pub mod WeekBreachesLemmas
 pub mod LastRunLemmas
 pub mod LateRestLemmas
-pub mod TwoRestsLemmas
-pub mod LackingWeekLemmas
+pub mod WeeksOfRestsLemmas
+pub mod TryingLemmas
+pub mod ServedLemmas
 pub mod CompensationLemmas
 pub mod RestBreachesLemmas
 pub mod PageFacts

@@ -5,4 +5,5 @@ pub mod DayBreaches
 pub mod DailyRests
 pub mod DailyDriving
 pub mod WeekBreaches
+pub mod Choices
 pub mod RestBreaches

@@ -3,6 +3,7 @@
 
 mod break_breaches;
 mod break_runs;
+mod choices;
 mod compensation;
 mod daily_driving;
 mod daily_rests;

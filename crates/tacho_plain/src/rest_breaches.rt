@@ -1,19 +1,19 @@
-ghost use Rattle.std.specs.Prelude.{◌≡◌, ◌+◌, ◌<◌, ◌≤◌, ◌↔◌, ◌⊎◌, IfOk, IsTrue};
+ghost use Rattle.std.specs.Prelude.{◌≤◌, IfOk};
 ghost use Rattle.tacho_hours.specs.Line.{line_of, IsBase, IsExamined, Line};
 ghost use Rattle.tacho_hours.specs.Runs.{AreRestsOf};
+ghost use Rattle.tacho_choice.specs.Weeks.{IsInWeeks};
 ghost use Rattle.tacho_plain.specs.Rests.{AreInTime};
-ghost use Rattle.tacho_hours.specs.Weeks.{IsWhollyAtRest, HasTwoRests, week_start, LacksRests};
 ghost use Rattle.tacho_hours.specs.Breaches.{AreRestBreaches, IsLate, IsLacking};
 ghost use Rattle.tacho_hours.specs.SoFar.{AreCollected};
 ghost use Rattle.tacho_hours.specs.Limits.{weekly_rest, latest};
 
+use crate::choices::{can_serve, weeks_of_rests};
 use crate::compensation::{debts_of, overdue};
 use crate::duty::long_rests;
 use crate::examined::Examined;
-use crate::main_rests::touching;
 use crate::runs::rest_runs;
 use std::alloc::{AllocError, Global};
-use tacho_hours::limits::{DAILY_REST, REGULAR_WEEKLY_REST, SIX_DAYS, WEEKLY_REST};
+use tacho_hours::limits::{DAILY_REST, SIX_DAYS, WEEKLY_REST};
 use tacho_hours::{Breach, Kind, Run, put_in_order};
 use tacho_pass::Found;
 use tacho_time::{Minute, Span, Week, first_minute, week_of};
@@ -41,55 +41,8 @@ fn late_rests(alloc: Global, weekly: &[Run]) -> Result<Vec<Breach>, AllocError>
     Ok(found)
 }
 
-/// Whether each minute of a week is at rest.
-fn is_wholly_at_rest(weekly: &[Run], week: Week) -> bool
-    requires in_time { AreInTime weekly.now }
-    requires early { week ≤ 6787 }
-    ensures { (line : Line) → AreRestsOf line weekly_rest weekly.now → (IsTrue result ↔ IsWhollyAtRest line week) }
-{
-    let start = first_minute(week).number();
-    let end = first_minute(Week::new(week.number() + 1)).number();
-    for rest in touching(weekly, start, end) {
-        if rest.start <= start && end <= rest.past {
-            return true;
-        }
-    }
-    false
-}
-
-/// Whether a week and the next have two weekly rests, one of them regular (Article 8(6)).
-fn has_two_rests(weekly: &[Run], week: Week) -> bool
-    requires in_time { AreInTime weekly.now }
-    requires early { week ≤ 6786 }
-    ensures { (line : Line) → AreRestsOf line weekly_rest weekly.now → (IsTrue result ↔ HasTwoRests line week) }
-{
-    let start = first_minute(week).number();
-    let end = first_minute(Week::new(week.number() + 2)).number();
-    let rests = touching(weekly, start, end);
-    if rests.len() < 2 {
-        return false;
-    }
-    for rest in rests {
-        if rest.past - rest.start >= REGULAR_WEEKLY_REST {
-            return true;
-        }
-    }
-    false
-}
-
-/// Whether a week and the next lack the weekly rests that they need (Article 8(6)).
-fn lacks_rests(weekly: &[Run], week: Week) -> bool
-    requires in_time { AreInTime weekly.now }
-    requires early { week ≤ 6786 }
-    ensures { (line : Line) → AreRestsOf line weekly_rest weekly.now → (IsTrue result ↔ LacksRests line week) }
-{
-    if is_wholly_at_rest(weekly, week) || is_wholly_at_rest(weekly, Week::new(week.number() + 1)) {
-        return false;
-    }
-    !has_two_rests(weekly, week)
-}
-
-/// The breaches of neighbouring weeks that lack weekly rests (Article 8(6)), week by week.
+/// The breaches of weeks up to which no choice of a week for each weekly rest serves, week by week, and anew from each
+/// week at which none did (Articles 8(6), first subparagraph, and 8(9)).
 fn lacking_weeks(
     alloc: Global,
     weekly: &[Run],
@@ -100,21 +53,24 @@ fn lacking_weeks(
     requires base { IsBase base }
     requires range { base ≤ horizon }
     requires early { horizon ≤ latest }
-    ensures { IfOk result (λ found. (line : Line) → AreRestsOf line weekly_rest weekly.now
+    ensures { IfOk result (λ found. (line : Line) → AreRestsOf line weekly_rest weekly.now → IsInWeeks line
         → AreCollected (IsLacking line base horizon) found.items) }
 {
     let first = week_of(base).number();
     let past = week_of(horizon).number();
+    let weeks = weeks_of_rests(alloc, weekly, first, past)?;
     let mut found = Vec::new(alloc);
-    for number in first..past {
-        let end = first_minute(Week::new(number + 2));
-        if end <= horizon && lacks_rests(weekly, Week::new(number)) {
+    let mut start = 0;
+    for at in 1..weeks.len() {
+        if !can_serve(&weeks, start, at) {
+            let number = first + at as u32;
             found.push(Breach {
                 kind: Kind::B9,
-                moment: end,
-                since: first_minute(Week::new(number)),
+                moment: first_minute(Week::new(number + 1)),
+                since: first_minute(Week::new(number - 1)),
                 amount: 0,
             })?;
+            start = at;
         }
     }
     Ok(found)

@@ -1,66 +1,68 @@
-use Rattle.std.proofs.Common.{◌≡◌, ◌+◌, ◌*◌, ◌≤◌, ◌<◌, ℕ, List, false, refl, sym, ◌∙◌, arith, nat_cmp, is_le}
+use Rattle.std.proofs.Common.{◌≡◌, ℕ, ◌+◌, ◌-◌, ◌*◌, ◌≤◌, ◌<◌, List, refl, arith}
 use Rattle.std.specs.Prelude.{◌↔◌, IsTrue}
 use Rattle.std.proofs.lemmas.Bool.{both_ways}
-use Rattle.std.proofs.lemmas.Bool.Decides.{nat_tests}
-use Rattle.std.proofs.lemmas.Map.Keys.{le_from_is_le}
 use Rattle.tacho_hours.specs.declared.breach.Breach.{Breach}
-use Rattle.tacho_hours.specs.Weeks.{week_start, LacksRests}
-use Rattle.tacho_hours.proofs.LackingWeekLemmas.{lacking_none, lacking_skip, lacking_add}
-use Rattle.tacho_plain.proofs.LackingWeekLemmas.{lacking_all}
+use Rattle.tacho_hours.specs.Line.{Line}
+use Rattle.tacho_hours.specs.Runs.{AreRestsOf}
+use Rattle.tacho_hours.specs.Choice.{CanServe}
+use Rattle.tacho_choice.specs.Weeks.{IsInWeeks}
+use Rattle.tacho_plain.proofs.ServedLemmas.{judged_first, judged_on, judged_anew, judged_all}
 use Rattle.tacho_plain.proofs.rest_breaches.lacking_weeks.Goals as goal
-use Rattle.tacho_plain.proofs.rest_breaches.lacking_weeks.Goals.{then-le+then-lacks_rests+in_ok-push, else-le}
-use Rattle.tacho_plain.proofs.rest_breaches.lacking_weeks.Goals.{else-le-via-then-le+else-lacks_rests}
-use Rattle.tacho_plain.proofs.rest_breaches.lacking_weeks.Goals.{else-le-via-else-le}
+use Rattle.tacho_plain.proofs.rest_breaches.lacking_weeks.Goals.{then-not-can_serve+in_ok-push, else-not-can_serve}
 
--- where a test says no, the numbers are the other way round
-gt_from_not_le : (a b : ℕ) → is_le (nat_cmp a b) ≡ false → b < a
-gt_from_not_le a b e = grind (arith, nat_tests)
+pub can_serve-requires-clause-range : goal.can_serve-requires-clause-range
+can_serve-requires-clause-range c =
+    let before : c.loop-at.start < c.loop-at.at = c.loop-at.invariant.before in
+    omega arith
 
-pub loop-number-init : goal.loop-number-init
-loop-number-init c = λ line are. rw c.new-found.ensures.items (lacking_none line c.args.horizon c.number-first.result)
-
-pub loop-number-preserved : goal.loop-number-preserved
-loop-number-preserved c = λ line are.
-    (let n : ℕ = c.loop-number.number in
+pub loop-at-init : goal.loop-at-init
+loop-at-init c =
     let first : ℕ = c.number-first.result in
-    let some : first ≤ n = c.loop-number.auto.number in
-    let old : List Breach = c.loop-number.found.items in
-    let end : c.first_minute-end.result ≡ week_start (n + 2) = omega arith in
-    elim c.if-le.branch [
-      | then-le+then-lacks_rests+in_ok-push w ↦
-          let at : w.new-then-le.result ≡ n = omega arith in
-          let from : w.first_minute.result ≡ week_start n = omega arith in
-          let ended : c.first_minute-end.result ≤ c.args.horizon =
-          le_from_is_le c.first_minute-end.result c.args.horizon (sym c.le.ensures ∙ w.if-le.true) in
-          let lacks : LacksRests line w.new-then-le.result = (w.lacks_rests.ensures line are).0 w.if-lacks_rests.true in
-          rw (w.found-is, w.in_ok-push.ensures.items)
-          (lacking_add line c.args.horizon first n some old (c.loop-number.invariant line are) _
-          (record {
-            kind_is = refl;
-            ended = omega arith;
-            lacks = rw at at lacks;
-            moment = end;
-            since = from;
-            amount = refl;
-          }))
-      | else-le w ↦ rw w.found-is (lacking_skip line c.args.horizon first n some old (c.loop-number.invariant line are)
-          (λ breach h. elim w.else-le.branch [
-            | else-le-via-then-le+else-lacks_rests v ↦
-                let at : v.new-then-le.result ≡ n = omega arith in
-                let lacks : IsTrue v.lacks_rests.result ↔ LacksRests line v.new-then-le.result =
-                v.lacks_rests.ensures line are in
-                both_ways v.lacks_rests.result v.if-lacks_rests.false ((rw at at lacks).1 h.lacks)
-            | else-le-via-else-le v ↦
-                let late : c.args.horizon < c.first_minute-end.result =
-                gt_from_not_le c.first_minute-end.result c.args.horizon (sym c.le.ensures ∙ v.if-le.false) in
-                let ended : week_start (n + 2) ≤ c.args.horizon = h.ended in
-                omega arith
-          ]))
-    ])
+    record {
+      before = omega arith;
+      judged = λ line are is. rw c.new-found.ensures.items
+          (judged_first line c.args.horizon first (first + 0) (first + (1 - 1)) (omega arith) (omega arith) is);
+    }
+
+-- whether some choice serves up to the week
+served : (c : goal.Joined-not-can_serve) (line : Line) → AreRestsOf line 1440 c.args.weekly.now → IsInWeeks line
+    → (IsTrue c.can_serve.result
+    ↔ CanServe line (c.number-first.result + c.loop-at.start) (c.number-first.result + c.loop-at.at))
+served c line are is =
+    c.can_serve.ensures line c.number-first.result is
+    (rw c.deref.ensures.value (c.in_ok-weeks.ensures.each line are is))
+
+pub loop-at-preserved : goal.loop-at-preserved
+loop-at-preserved c =
+    let first : ℕ = c.number-first.result in
+    let at : ℕ = c.loop-at.at in
+    let from : 1 ≤ at = c.loop-at.auto.at in
+    let count = c.in_ok-weeks.ensures.count in
+    let found : List Breach = c.loop-at.found.items in
+    let before : c.loop-at.start < at = c.loop-at.invariant.before in
+    elim c.if-not-can_serve.branch [
+      | then-not-can_serve+in_ok-push w ↦ rw (w.found-is, w.start-is, w.in_ok-push.ensures.items) (record {
+        before = omega arith;
+        judged = λ line are is.
+            judged_anew line c.args.horizon first (first + c.loop-at.start) (first + (at - 1)) found
+            (c.loop-at.invariant.judged line are is) (first + at) (first + (at + 1 - 1)) (omega arith) (omega arith) is
+            (λ h. both_ways c.can_serve.result w.if-not-can_serve.true ((served c line are is).1 h))
+            (omega arith) _ refl (omega arith) (omega arith) refl;
+      })
+      | else-not-can_serve w ↦ rw (w.found-is, w.start-is) (record {
+        before = omega arith;
+        judged = λ line are is.
+            judged_on line c.args.horizon first (first + c.loop-at.start) (first + (at - 1)) found
+            (c.loop-at.invariant.judged line are is) (first + at) (first + (at + 1 - 1)) (omega arith) (omega arith)
+            ((served c line are is).0 w.if-not-can_serve.false);
+      })
+    ]
 
 pub returns : goal.returns
-returns c = λ line are.
-    lacking_all line c.args.base c.args.horizon c.number-first.result c.loop-number.number
-    (let w : ℕ = c.requires.base.week in let e : c.args.base ≡ 5760 + 10080 * w = c.requires.base.monday in omega arith)
-    (omega arith)
-    c.loop-number.found.items (c.loop-number.invariant line are)
+returns c = λ line are is.
+    (let first : ℕ = c.number-first.result in
+    let w : ℕ = c.requires.base.week in
+    let monday : c.args.base ≡ 5760 + 10080 * w = c.requires.base.monday in
+    let count = c.in_ok-weeks.ensures.count in
+    judged_all line c.args.horizon first (first + c.loop-at.start) (first + (c.loop-at.at - 1)) c.loop-at.found.items
+    (c.loop-at.invariant.judged line are is) c.args.base (omega arith) (omega arith))

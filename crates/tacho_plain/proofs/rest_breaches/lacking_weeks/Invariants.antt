@@ -1,10 +1,13 @@
+use Rattle.std.proofs.Common.{◌+◌, ◌-◌, ◌<◌}
 use Rattle.tacho_hours.specs.Line.{Line}
 use Rattle.tacho_hours.specs.Runs.{AreRestsOf}
-use Rattle.tacho_hours.specs.SoFar.{AreCollected}
-use Rattle.tacho_hours.proofs.LackingWeekLemmas.{LackingBelow}
+use Rattle.tacho_choice.specs.Weeks.{IsInWeeks}
+use Rattle.tacho_plain.proofs.ServedLemmas.{AreJudged}
 use Rattle.tacho_plain.proofs.rest_breaches.lacking_weeks.Given as goal
 
-abbrev pub invariant-loop-number : goal.invariant-loop-number
-invariant-loop-number l =
-    (line : Line) → AreRestsOf line 1440 l.weekly
-    → AreCollected (LackingBelow line l.horizon l.first l.number) l.found.items
+abbrev pub invariant-loop-at : goal.invariant-loop-at
+invariant-loop-at l = record {
+  before : l.start < l.at;
+  judged : (line : Line) → AreRestsOf line 1440 l.weekly → IsInWeeks line
+      → AreJudged line l.fn.horizon l.first (l.first + l.start) (l.first + (l.at - 1)) l.found.items;
+}

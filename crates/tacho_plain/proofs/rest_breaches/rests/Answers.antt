@@ -7,7 +7,7 @@ use Rattle.tacho_hours.proofs.RunsLemmas.{joined_le, rest_runs_are}
 use Rattle.tacho_hours.specs.SoFar.{AreCollected}
 use Rattle.tacho_plain.specs.RestBreaches.{IsLastRun}
 use Rattle.tacho_hours.specs.Breaches.{IsLate, IsLacking, IsOverdue}
-use Rattle.tacho_plain.proofs.LastRunLemmas.{some_run, last_is_last, rests_in_time}
+use Rattle.tacho_plain.proofs.LastRunLemmas.{some_run, last_is_last, in_weeks, rests_in_time}
 use Rattle.tacho_plain.proofs.RestBreachesLemmas.{IsRestKind, weekly_join, rests_join, due_as, rests_exactly}
 use Rattle.tacho_plain.proofs.rest_breaches.rests.Goals as goal
 
@@ -120,7 +120,8 @@ returns c =
     let late : AreCollected (IsLate line) c.in_ok-breaches.breaches.items =
     c.in_ok-breaches.ensures line (rw c.deref-5.ensures.value weekly) in
     let lacking : AreCollected (IsLacking line c.args.base c.args.past) c.in_ok-lacking.lacking.items =
-    c.in_ok-lacking.ensures line (rw c.deref-6.ensures.value weekly) in
+    c.in_ok-lacking.ensures line (rw c.deref-6.ensures.value weekly)
+    (in_weeks c.args.spans.now c.args.base c.args.past c.requires c.in_ok-runs.runs.items all) in
     let due : AreCollected (IsOverdue c.args.past c.in_ok-debts.debts.items) c.in_ok-unpaid.unpaid.items =
     due_as line c.args.past c.number-2.result c.in_ok-debts.debts.items c.deref-7.result.now
     c.in_ok-unpaid.unpaid.items c.number-2.ensures.value c.deref-7.ensures.value debts c.in_ok-unpaid.ensures in

@@ -1,0 +1,11 @@
+use Rattle.std.proofs.Common.{ℕ, ◌+◌}
+use Rattle.tacho_hours.specs.Line.{Line}
+use Rattle.tacho_choice.specs.Weeks.{IsInWeeks, CanReach}
+use Rattle.tacho_plain.specs.Choices.{AreWeeksOf}
+use Rattle.tacho_plain.proofs.TryingLemmas.{NoneBelow}
+use Rattle.tacho_plain.proofs.choices.can_serve.Given as goal
+
+abbrev pub invariant-loop-place : goal.invariant-loop-place
+invariant-loop-place l =
+    (line : Line) (start : ℕ) → IsInWeeks line → AreWeeksOf line start l.weeks
+    → NoneBelow (λ left. CanReach line (start + l.first) (start + l.at) left) l.place
