@@ -4,6 +4,10 @@ rules, on lines near the limits, and with those that are written beside the work
 timelines with those of the same slow reading. A scan is given the spans of a line as they are, cut at every midnight,
 and cut at random minutes.
 
+Some of the lines are rows of weeks whose rests lie over their ends, asked of the passes and of a scan. Of these at least
+a third have to be such that a rule which judges each two weeks by themselves finds other breaches B9 in them; how many
+there are is printed.
+
 The words are the program `tacho_rows` and, where memory is to be refused in turn, the compiler of C. The last line is
 'N passed, M failed'."""
 import multiprocessing
@@ -21,6 +25,7 @@ PASSES = {"breaks": {1}, "days": {2, 3, 4, 5}, "weeks": {6, 7}, "rests": {8, 9, 
 PROCESSES = 2
 LINES = 4000
 WEEKLY_LINES = 4000
+CHAINED_LINES = 3000
 SCANNED_LINES = 6000
 HELD_LINES = 2400
 REFUSED_LINES = 5
@@ -74,9 +79,9 @@ def report_told(horizon, cause, breaches, debts):
 # Questions: the word that asks, the words given, and what has to be told, line by line
 
 
-def line_question(line):
+def line_question(line, found):
     """What the passes have to find in a line."""
-    return "rules", given_line(line[0]), passes_told(*slow_rules.examine(*line))
+    return "rules", given_line(line[0]), passes_told(*found)
 
 
 def cut(spans, minutes):
@@ -102,10 +107,10 @@ def cuts(seed, base, horizon):
     return sorted(chance.sample(range(base, horizon), min(horizon - base, 40)))
 
 
-def scan_question(seed, line):
+def scan_question(seed, line, found):
     """What a scan has to find in a line, however that is cut."""
     spans, base, horizon = line
-    return "scan", given_line(cut(spans, cuts(seed, base, horizon))), scan_told(*slow_rules.examine(*line))
+    return "scan", given_line(cut(spans, cuts(seed, base, horizon))), scan_told(*found)
 
 
 def held_question(held):
@@ -113,22 +118,48 @@ def held_question(held):
     return "reports", given_held(*held), report_told(*slow_rules.report(*held))
 
 
+def pairs_that_lack_rests(line):
+    """The breaches B9 by another rule, which judges each two neighbouring weeks by themselves: a weekly rest that falls in
+    two weeks counts in both."""
+    spans, base, horizon = line
+    known = slow_rules.line_of(spans)
+    rests = slow_rules.weekly_rests(slow_rules.rest_runs(known))
+    found = []
+    for week in range(slow_rules.week_of(base), slow_rules.week_of(horizon) - 1):
+        near = [rest for rest in rests if slow_rules.weeks_touched(rest, week, week + 1)]
+        has_long = any(slow_rules.minutes_of(rest) >= 2700 for rest in near)
+        if slow_rules.asks_for_rests(known, week) and not (has_long and len(near) >= 2):
+            found.append((9, slow_rules.week_start(week + 2), slow_rules.week_start(week), 0))
+    return found
+
+
 def near_limits(seed):
     """The question of a line near the limits of all rules, or None for an empty one."""
     line = hard_timelines.timeline(seed, 1 + seed % 6)
-    return line_question(line) if line[0] else None
+    return line_question(line, slow_rules.examine(*line)) if line[0] else None
 
 
 def near_weekly_limits(seed):
     """The question of a line near the limits of the rules on weekly rests, or None for an empty one."""
     line = hard_timelines.weekly_timeline(seed)
-    return line_question(line) if line[0] else None
+    return line_question(line, slow_rules.examine(*line)) if line[0] else None
 
 
 def scanned_near_limits(seed):
     """The question of a line near the limits, of all rules or of those of weekly rests, to a scan."""
     line = hard_timelines.weekly_timeline(seed) if seed % 2 else hard_timelines.timeline(seed, 1 + seed % 6)
-    return scan_question(seed, line) if line[0] else None
+    return scan_question(seed, line, slow_rules.examine(*line)) if line[0] else None
+
+
+def near_week_ends(seed):
+    """The questions of a line whose rests lie over the ends of weeks, to the passes and to a scan, and whether a rule of
+    pairs finds other breaches in it; or None for an empty one."""
+    line = hard_timelines.chained_timeline(seed)
+    if not line[0]:
+        return None
+    found = slow_rules.examine(*line)
+    is_apart = pairs_that_lack_rests(line) != [breach for breach in found[0] if breach[0] == 9]
+    return line_question(line, found), scan_question(seed, line, found), is_apart
 
 
 def near_horizons(seed):
@@ -210,10 +241,16 @@ def comparisons(program, compiler=None):
     with multiprocessing.Pool(PROCESSES) as pool:
         lines = of_seeds(pool, near_limits, LINES)
         weekly_lines = of_seeds(pool, near_weekly_limits, WEEKLY_LINES)
+        chained_lines = of_seeds(pool, near_week_ends, CHAINED_LINES)
         scanned_lines = of_seeds(pool, scanned_near_limits, SCANNED_LINES)
         held_lines = of_seeds(pool, near_horizons, HELD_LINES)
         pool.close()
         pool.join()
+    apart = sum(is_apart for _, _, is_apart in chained_lines)
+    print(f"a rule of pairs of weeks finds other breaches in {apart} of {len(chained_lines)} lines", flush=True)
+    yield "lines that a rule of pairs tells apart are a third", apart * 3 >= len(chained_lines), True
+    lines += [line for line, _, _ in chained_lines]
+    scanned_lines += [scanned for _, scanned, _ in chained_lines]
     questions = lines + weekly_lines + scanned_lines + held_lines + list(examples())
     for (word, given, expected), answer in answers(program, questions):
         yield f"{word} of {given.strip()}", answer, expected

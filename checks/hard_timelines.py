@@ -2,9 +2,9 @@
 
 `timeline(seed, weeks)` returns (spans, base, past): spans joined from the first minute of a Monday to the horizon, as
 `slow_rules.examine` takes them. The same seed and weeks give the same timeline. `weekly_timeline(seed)` returns the same
-at the limits of the rules on weekly rests and debts, and `held_timeline(seed)` returns (spans, base) as
-`slow_rules.report` takes them: spans of a card with crew and gaps. Run as a command with a seed and a number of weeks, it
-prints what `slow_rules.py` reads.
+at the limits of the rules on weekly rests and debts, `chained_timeline(seed)` long rows of weeks whose rests lie over
+their ends, and `held_timeline(seed)` returns (spans, base) as `slow_rules.report` takes them: spans of a card with crew
+and gaps. Run as a command with a seed and a number of weeks, it prints what `slow_rules.py` reads.
 """
 
 import random
@@ -404,6 +404,54 @@ def weekly_timeline(seed):
     if chance.random() < 0.2:
         spans = merged(moved(chance, spans, chance.randint(1, 3)))
     return spans, base, past
+
+
+# Rests over the ends of weeks
+
+
+def over_end(writer, end):
+    """A rest of a limit over a week's end, or one that only just reaches it from one side."""
+    chance = writer.chance
+    minutes = chance.choice([2700] * 5 + [2820, 2699, 1440])
+    rest_from(writer, end - chance.choice([minutes // 2] * 6 + [1, minutes - 1, minutes, 0]), minutes)
+
+
+def within_week(writer, end):
+    """A rest of a limit in the middle of the week, and maybe one over its end."""
+    chance = writer.chance
+    rest_from(writer, end - chance.choice([4, 5]) * 1440, chance.choice([2700, 2820, 2699, 1440]))
+    if chance.random() < 0.5:
+        over_end(writer, end)
+
+
+def over_next_week(writer, end):
+    """A rest from before the next week, or near its first minute, to behind it, or near its last minute."""
+    chance = writer.chance
+    start = max(writer.place + 1, end - chance.choice([600, 1440, 1440, 1, 0, -1]))
+    rest_from(writer, start, end + WEEK + chance.choice([600, 1440, 1440, 1, 0, -1]) - start)
+
+
+def without_rest(writer, end):
+    """A week without a weekly rest, up to its last minutes."""
+    work_until(writer, end - writer.chance.choice([0, 600, 1350]))
+
+
+def chained_timeline(seed):
+    """The spans from a Monday's first minute to a horizon, the Monday, and the horizon, about five to fourteen weeks later:
+    long rows of weeks whose rests lie over their ends, so that the week in which one is counted decides over others."""
+    chance = random.Random(f"chained {seed}")
+    length = chance.randint(5, 14)
+    base = chance.choice([USUAL_BASE] * 8 + [FIRST_BASE, LAST_BASE - (length - 1) * WEEK])
+    writer = Writer(chance, base, min(LAST_PAST, base + length * WEEK + chance.choice([-1, 0, 0, 1, 1441, 4000])))
+    if chance.random() < 0.3:
+        writer.rest(chance.choice([1, 360, 1440, WEEK]))
+    weights = chance.choice([(6, 1, 0, 2), (5, 0, 0, 2), (7, 1, 1, 2), (9, 1, 1, 2)])
+    while not writer.is_full():
+        end = writer.place + to_week_end(writer.place, base)
+        chance.choices([over_end, within_week, over_next_week, without_rest], weights)[0](writer, end)
+        work_until(writer, end + 1)
+    pieces, past = chance.choices([laid, closed, ended], [8, 1, 1])[0](chance, writer)
+    return merged(pieces), base, past
 
 
 # A whole timeline

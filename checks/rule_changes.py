@@ -25,10 +25,6 @@ OTHER_COMPARISON = {
 }
 KNOWN = "min(run.past, end) - run.start"
 WITHIN = "week_start(week) <= minute < week_start(week + 1)"
-ENDED = (
-    "week_start(week + 2) <= horizon and (not is_wholly_at_rest(line, week)) and (not is_wholly_at_rest(line, week + 1))"
-    " and (not has_two_rests(runs, week))"
-)
 OTHER_NAME = {"min": "max", "max": "min", "any": "all", "all": "any"}
 
 # Changes that mean the same: the function, the text as it stands, the text as it is changed.
@@ -58,6 +54,10 @@ SAME = {
     ("weeks_around", "week_of(base) - 2", "week_of(base) - 3"),
     ("weeks_around", "week_of(past) + 3", "week_of(past) + 2"),
     ("weeks_around", "week_of(past) + 3", "week_of(past) + 4"),
+    # A rest that is counted in a week behind the last serves none of the weeks.
+    ("weeks_touched", "last + 1", "last + 2"),
+    # Two weeks may be judged later, at the latest when no rest is left.
+    ("can_be_counted", "week + 1", "week + 2"),
     # A minute more or less than none is below any limit too.
     ("minutes_before", f"max(0, {KNOWN})", f"max(1, {KNOWN})"),
     ("minutes_before", f"max(0, {KNOWN})", f"max(-1, {KNOWN})"),
@@ -70,8 +70,6 @@ SAME = {
     # Nothing is owed where it is no more than 0.
     ("owed", "return 0", "return -1"),
     ("owed", "max(0, 2700 - minutes_of(main))", "max(-1, 2700 - minutes_of(main))"),
-    # The weeks before the base are wholly at rest.
-    ("breaches_9", f"base <= week_start(week) and {ENDED}", ENDED),
 }
 
 

@@ -252,6 +252,10 @@ RESTS_FROM_BELOW = [
     Row("one rest of 45 hours for two weeks", at(18, "00:00"),
         work([4], "00:00-01:00") + work([*range(4, 10), *range(12, 18)], "06:00-07:00") + work([17], "23:00-24:00"),
         [(9, at(18, "00:00"), at(4, "00:00"), 0)], NONE),
+    Row("both rests in the second of two weeks", at(18, "00:00"),
+        work([4], "00:00-01:00") + work([*range(4, 11), 13, 14, 15, 17], "06:00-07:00") + work([10, 17], "23:00-24:00")
+        + work([12], "21:00-22:00"),
+        [(8, at(10, "00:00"), at(4, "00:00"), 1440)], NONE),
     Row("a rest of 45 hours but a minute, and one of 24", at(18, "00:00"),
         work([4], "00:00-01:00") + work([*range(4, 9), *range(11, 17)], "06:00-07:00") + work([10], "03:59-07:00")
         + work([17], "07:00-08:00", "23:00-24:00"),
@@ -292,9 +296,65 @@ DEBTS_IN_TURN = [
         NONE, [(WEEK_4, 1260, at(32, "00:00"), None), (WEEK_11, 59, at(39, "00:00"), at(20, "07:00"))]),
 ]
 
+# Weekly rests over a Sunday and a Monday, each of which is counted in one of its two weeks. A week is called by the
+# Monday with which it begins, as the 11th. Each line begins with work, so that the rest before it has no minute in the 4th.
+FIRST_HOUR = work([4], "00:00-01:00")
+THREE_SUNDAYS = (
+    FIRST_HOUR
+    + work([9], "23:00-24:00") + work([11], "21:00-22:00")
+    + work([17], "05:00-06:00") + work([19], "03:00-04:00")
+    + work([24], "05:00-06:00") + work([26], "03:00-04:00")
+    + work([*range(4, 10), *range(12, 17), *range(19, 24), *range(26, 32)], "06:00-07:00")
+    + work([31], "23:00-24:00")
+)
+
+LONG_REST = (
+    FIRST_HOUR
+    + work([9], "02:00-03:00") + work([11], "00:00-01:00")
+    + work([16], "22:00-23:00")
+    + work([31], "05:00-06:00") + work([33], "03:00-04:00")
+    + work([*range(4, 9), *range(11, 17), *range(25, 31), *range(33, 39)], "06:00-07:00")
+    + work([38], "23:00-24:00")
+)
+
+COUNTED_ONCE = [
+    # Three rests of 45 hours, from the 10th, the 17th and the 24th. The 4th and the 11th have no rests but the first and
+    # the second, so the second counts in the 11th. The 18th and the 25th have none but the second and the third.
+    Row("three rests over Sundays for four weeks", at(32, "00:00"), THREE_SUNDAYS,
+        [(9, at(32, "00:00"), at(18, "00:00"), 0)], NONE),
+    # One more, of 47 hours, in the 25th: it and the third are the rests of the 18th and the 25th.
+    Row("three rests over Sundays, and one in the fourth week", at(32, "00:00"),
+        [piece for piece in THREE_SUNDAYS if piece[0] != at(28, "06:00")], NONE, NONE),
+    # As before, and in the week from 1 April there is none. From the 25th on the choice is made anew, but the 25th and
+    # 1 April have the third rest alone, wherever that counts.
+    Row("a failure directly behind another", at(39, "00:00"),
+        THREE_SUNDAYS + work(range(32, 39), "06:00-07:00") + work([38], "23:00-24:00"),
+        [
+            (9, at(32, "00:00"), at(18, "00:00"), 0),
+            (8, at(32, "03:00"), at(26, "03:00"), 9900),
+            (9, at(39, "00:00"), at(25, "00:00"), 0),
+        ], NONE),
+    # Rests of 45 hours: in the 4th; from the 16th to the 18th; from the 24th to the 26th; in the week from 1 April. The
+    # 4th and the 11th need the second in the 11th, so the 11th and the 18th need the third in the 18th; then the 18th and
+    # the 25th have no other. From the 25th on the third counts in the 25th, and with the last it is enough.
+    Row("a rest that counts in another week after a failure", at(39, "00:00"),
+        FIRST_HOUR + work([11], "00:00-01:00") + work([16], "22:00-23:00") + work([18], "20:00-21:00")
+        + work([9], "02:00-03:00") + work([24], "05:00-06:00") + work([26], "03:00-04:00")
+        + work([31], "23:00-24:00") + work([33], "21:00-22:00") + work([38], "23:00-24:00")
+        + work([*range(4, 9), *range(11, 17), *range(19, 24), *range(26, 32), *range(34, 39)], "06:00-07:00"),
+        [(9, at(32, "00:00"), at(18, "00:00"), 0)], NONE),
+    # The 18th is all at rest, from the 16th to the 25th: that is one rest. The 4th and the 11th need it in the 11th,
+    # beside the one in the 4th; the 25th and 1 April need it in the 25th, beside the one from the 31st.
+    Row("a rest of more than a week counts before it or behind it", at(39, "00:00"), LONG_REST,
+        [(9, at(39, "00:00"), at(25, "00:00"), 0)], NONE),
+    # One more, of 47 hours, in the 11th: it and the one in the 4th are enough, and the long one counts in the 25th.
+    Row("a rest of more than a week counts behind it", at(39, "00:00"),
+        [piece for piece in LONG_REST if piece[0] != at(13, "06:00")], NONE, NONE),
+]
+
 ROWS = (
     BREAKS + SHORT_NIGHTS + DAYS + WEEKS + DEBTS + HORIZONS + WEEKLY_RESTS + MONTHS + EDGES + SHORT_RESTS
-    + BREAKS_FROM_BELOW + DAYS_FROM_BELOW + RESTS_FROM_BELOW + DEBTS_IN_TURN
+    + BREAKS_FROM_BELOW + DAYS_FROM_BELOW + RESTS_FROM_BELOW + DEBTS_IN_TURN + COUNTED_ONCE
 )
 
 # What the rows say of a day's rest: the row, the portion, and whether it is regular or reduced.

@@ -204,10 +204,57 @@ def weekly_rests(runs):
     return rests_of(runs, 1440)
 
 
-def has_two_rests(runs, week):
-    """Two different weekly rests have a minute in the week or the next, one of them of 45 hours (Article 8(6))."""
-    within = [run for run in weekly_rests(runs) if touches(run, week) or touches(run, week + 1)]
-    return any(minutes_of(long) >= 2700 and long != other for long in within for other in within)
+def weeks_touched(run, first, last):
+    """The weeks from one to another in which a run has a minute."""
+    return [week for week in range(first, last + 1) if touches(run, week)]
+
+
+# The week in which a weekly rest is counted
+
+
+def asks_for_rests(line, week):
+    """The week and the next ask for weekly rests: neither is wholly at rest."""
+    return not is_wholly_at_rest(line, week) and not is_wholly_at_rest(line, week + 1)
+
+
+def serves(choice, week):
+    """Two different weekly rests are counted in the week and the next, one of them of 45 hours (Article 8(6))."""
+    counted = [rest for rest, place in choice.items() if place in (week, week + 1)]
+    return any(minutes_of(long) >= 2700 and long != other for long in counted for other in counted)
+
+
+def can_be_counted(rests, first, last, asking, choice):
+    """Each of the rests can be counted in one of the weeks in which it has a minute (Article 8(9)), beside those of the
+    choice, so that each asking week is served, with the next. All ways are tried, the latest rest first; one is given up as
+    soon as an asking week isn't served in which, and in the next, none of the rests that are left has a minute. That a rest
+    is counted before the first week or behind the last isn't tried: there it would serve none of these."""
+    left = [week for week in asking if any(weeks_touched(rest, week, week + 1) for rest in rests)]
+    if not all(serves(choice, week) for week in asking if week not in left):
+        return False
+    if not rests:
+        return True
+    *earlier, latest = rests
+    return any(
+        can_be_counted(earlier, first, last, left, {**choice, latest: week})
+        for week in weeks_touched(latest, first, last)
+    )
+
+
+def can_serve(line, runs, first, last):
+    """One choice of a week for each weekly rest serves each two neighbouring weeks from one week to another."""
+    rests = [run for run in weekly_rests(runs) if weeks_touched(run, first, last)]
+    asking = [week for week in range(first, last) if asks_for_rests(line, week)]
+    return can_be_counted(rests, first, last, asking, {})
+
+
+def failing_weeks(line, runs, first, horizon):
+    """The least ended week up to which no choice serves from the first week on, and so anew from that week on."""
+    found = []
+    for week in range(first, week_of(horizon)):
+        if not can_serve(line, runs, first, week):
+            found.append(week)
+            first = week
+    return found
 
 
 # Debts
@@ -367,15 +414,10 @@ def breaches_8(runs):
 
 
 def breaches_9(line, runs, base, horizon):
-    """Article 8(6): two neighbouring weeks, ended and neither all rest, without two weekly rests, one of 45 hours."""
+    """Articles 8(6) and 8(9): a week up to which no choice of a week for each weekly rest serves, told with the week before."""
     return [
-        Breach(9, week_start(week + 2), week_start(week), 0)
-        for week in weeks_around(base, horizon)
-        if base <= week_start(week)
-        and week_start(week + 2) <= horizon
-        and not is_wholly_at_rest(line, week)
-        and not is_wholly_at_rest(line, week + 1)
-        and not has_two_rests(runs, week)
+        Breach(9, week_start(week + 1), week_start(week - 1), 0)
+        for week in failing_weeks(line, runs, week_of(base), horizon)
     ]
 
 

@@ -54,6 +54,7 @@ LAWYER = Order(
         ("the numbers of the law", "tacho_hours: Limits"),
         ("runs of rest, driving time, and breaks", "tacho_hours: Runs Driving Breaks"),
         ("duty days, weeks, and weekly rests that are owed", "tacho_hours: Days Weeks Debts"),
+        ("the week in which a weekly rest is counted, and where no choice of weeks serves", "tacho_hours: Choice Anew"),
         ("the breaches B1 to B10, each once, all of them and in order", "tacho_hours: Breaches Exactly Order"),
     ),
 )

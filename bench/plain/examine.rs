@@ -318,11 +318,48 @@ fn add_late_rests(weekly: &[Rest], breaches: &mut Vec<Breach>) {
     }
 }
 
-/// Adds the breaches of two neighbouring weeks without two weekly rests, one of them regular.
+/// A way to count the rests so far, each in one week, as a number below twelve: how many the last week has, two for more;
+/// whether one of them is regular; and whether the rest that goes on behind that week isn't counted yet.
+fn way_of(rests: &[Rest], is_open: bool) -> u32 {
+    let has_regular = rests.iter().any(|rest| rest.minutes() >= REGULAR_WEEKLY_REST);
+    4 * rests.len().min(2) as u32 + 2 * u32::from(has_regular) + u32::from(is_open)
+}
+
+/// Some ways are a number with a bit for each of them. Here that is the one in which nothing is counted yet.
+const ANEW: u32 = 1 << 1;
+
+/// The ways on behind a week, by the weekly rests that have minutes in it, where it and the week before need two rests, one
+/// of them regular, or ask for nothing.
+fn ways_behind(mut ways: u32, near: &[Rest], week: u32, asks: bool) -> u32 {
+    let enters = near.first().is_some_and(|rest| rest.start < week_start(week));
+    let mut behind = 0;
+    while ways != 0 {
+        let way = ways.trailing_zeros();
+        ways &= ways - 1;
+        let is_counted = enters && way & 1 == 0;
+        let free = &near[usize::from(is_counted)..];
+        let mut add = |rests, is_open| {
+            let on = way_of(rests, is_open);
+            if !asks || way / 4 + on / 4 >= 2 && (way | on) & 2 != 0 {
+                behind |= 1 << on;
+            }
+        };
+        add(free, false);
+        if let Some((last, others)) = free.split_last() {
+            if week_start(week + 1) < last.past {
+                add(others, true);
+            }
+        }
+    }
+    behind
+}
+
+/// Adds the breaches of weeks up to which the weekly rests, each counted in one week, aren't enough for each two
+/// neighbouring weeks: two rests, one of them regular. From each of these weeks on they are counted anew.
 fn add_lacking_rests(weekly: &[Rest], base: u32, horizon: u32, breaches: &mut Vec<Breach>) {
-    let mut first = 0;
+    let (mut first, mut ways, mut was_at_rest) = (0, ANEW, true);
     for week in week_of(base).. {
-        let (start, middle, end) = (week_start(week), week_start(week + 1), week_start(week + 2));
+        let (start, end) = (week_start(week), week_start(week + 1));
         if horizon < end {
             return;
         }
@@ -331,11 +368,13 @@ fn add_lacking_rests(weekly: &[Rest], base: u32, horizon: u32, breaches: &mut Ve
         }
         let count = weekly[first..].iter().take_while(|rest| rest.start < end).count();
         let near = &weekly[first..first + count];
-        let is_at_rest = |from, to| near.iter().any(|rest| rest.start <= from && to <= rest.past);
-        let has_two = count >= 2 && near.iter().any(|rest| rest.minutes() >= REGULAR_WEEKLY_REST);
-        if !has_two && !is_at_rest(start, middle) && !is_at_rest(middle, end) {
-            breaches.push(Breach { kind: Kind::B9, moment: end, since: start, amount: 0 });
+        let is_at_rest = near.iter().any(|rest| rest.start <= start && end <= rest.past);
+        ways = ways_behind(ways, near, week, !was_at_rest && !is_at_rest);
+        if ways == 0 {
+            breaches.push(Breach { kind: Kind::B9, moment: end, since: week_start(week - 1), amount: 0 });
+            ways = ways_behind(ANEW, near, week, false);
         }
+        was_at_rest = is_at_rest;
     }
 }
 

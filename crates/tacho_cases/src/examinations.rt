@@ -5,6 +5,7 @@ use std::alloc::{AllocError, Global};
 use std::test::Fail;
 use tacho_line::{Line, LineFault};
 use tacho_rules::{Breach, Cause, Debt, Kind, Report, can_be_examined, examine};
+use tacho_sheet::breach_text;
 use tacho_time::{Activity, Mark, Minute, Span, Week, first_minute};
 
 /// 2024-03-04 00:00, a Monday's first minute.
@@ -322,6 +323,142 @@ fn two_weeks_with_short_weekly_rests(rt: HostRuntime) -> Result<(), Fail> {
             &[debt(1260, None), next]
         )?
     );
+    Ok(())
+}
+
+/// The pieces of four weeks with a rest of 45 hours over each Sunday and Monday between them and no other of 24 hours, but for
+/// the days from the 26th on, and some more.
+fn three_sundays(alloc: Global, more: &[Piece]) -> Result<Vec<Piece>, AllocError> {
+    let mut pieces = Vec::new(alloc);
+    pieces.extend_from_slice(&[
+        work(4, 4, 0, 60),
+        work(4, 9, 360, 420),
+        work(9, 9, 1380, 1440),
+        work(11, 11, 1260, 1320),
+        work(12, 16, 360, 420),
+        work(17, 17, 300, 360),
+        work(19, 19, 180, 240),
+        work(19, 23, 360, 420),
+        work(24, 24, 300, 360),
+        work(26, 26, 180, 240),
+        work(31, 31, 1380, 1440),
+    ])?;
+    pieces.extend_from_slice(more)?;
+    Ok(pieces)
+}
+
+/// The breach of the weeks from the 18th and the 25th.
+fn lacking_by_april() -> Breach {
+    breach(Kind::B9, at(32, 0), at(18, 0), 0)
+}
+
+/// The weeks from the 4th and the 11th have two rests only where the second counts in the week from the 11th, those from the
+/// 18th and the 25th only where it counts in that from the 18th.
+#[test]
+fn three_rests_over_sundays_are_not_enough(rt: HostRuntime) -> Result<(), Fail> {
+    let alloc = rt.alloc();
+    let pieces = three_sundays(alloc, &[work(26, 31, 360, 420)])?;
+    assert!(rt; finds(alloc, &pieces, at(32, 0), &[lacking_by_april()], &[])?);
+    let report = report_of(alloc, &line_of(alloc, &pieces, at(32, 0))?, 0)?;
+    assert_same(
+        &rt,
+        breach_text(alloc, &report)?.as_str(),
+        "B9 Art 8(6) at 2024-04-01 00:00 since 2024-03-18 00:00 amount 0\nEXAMINED TO 2024-04-01 00:00 unknown\n",
+    );
+    Ok(())
+}
+
+/// With a fourth rest, from the 27th to the 29th, the week from the 25th and the one before have that and the third.
+#[test]
+fn a_fourth_rest_is_enough(rt: HostRuntime) -> Result<(), Fail> {
+    let alloc = rt.alloc();
+    let pieces = three_sundays(alloc, &[work(26, 27, 360, 420), work(29, 31, 360, 420)])?;
+    assert!(rt; finds(alloc, &pieces, at(32, 0), &[], &[])?);
+    Ok(())
+}
+
+/// The weeks from the 25th and from 1 April have the third rest alone, also where it is counted anew.
+#[test]
+fn weeks_lack_rests_directly_behind_others(rt: HostRuntime) -> Result<(), Fail> {
+    let alloc = rt.alloc();
+    let pieces = three_sundays(alloc, &[work(26, 38, 360, 420), work(38, 38, 1380, 1440)])?;
+    let late = breach(Kind::B8, at(32, 180), at(26, 180), 9900);
+    let next = breach(Kind::B9, at(39, 0), at(25, 0), 0);
+    assert!(rt;
+        finds(
+            alloc,
+            &pieces,
+            at(39, 0),
+            &[lacking_by_april(), late, next],
+            &[]
+        )?
+    );
+    Ok(())
+}
+
+/// The weeks from the 4th and the 11th need the rest from the 16th in that from the 11th, so that and the next need the one
+/// from the 24th in the week from the 18th, which leaves none for it and the week from the 25th. From there on the rest from
+/// the 24th counts in the week from the 25th, and is enough with the one from 1 April.
+#[test]
+fn a_rest_counts_in_another_week_behind_a_breach(rt: HostRuntime) -> Result<(), Fail> {
+    let pieces = [
+        work(4, 4, 0, 60),
+        work(4, 8, 360, 420),
+        work(9, 9, 120, 180),
+        work(11, 11, 0, 60),
+        work(11, 16, 360, 420),
+        work(16, 16, 1320, 1380),
+        work(18, 18, 1200, 1260),
+        work(19, 23, 360, 420),
+        work(24, 24, 300, 360),
+        work(26, 26, 180, 240),
+        work(26, 31, 360, 420),
+        work(31, 31, 1380, 1440),
+        work(33, 33, 1260, 1320),
+        work(34, 38, 360, 420),
+        work(38, 38, 1380, 1440),
+    ];
+    assert!(rt; finds(rt.alloc(), &pieces, at(39, 0), &[lacking_by_april()], &[])?);
+    Ok(())
+}
+
+/// The pieces of five weeks with a rest from the 16th to the 25th, one in the week from the 4th and one from the 31st to
+/// 2 April, and some more.
+fn a_long_rest(alloc: Global, more: &[Piece]) -> Result<Vec<Piece>, AllocError> {
+    let mut pieces = Vec::new(alloc);
+    pieces.extend_from_slice(&[
+        work(4, 4, 0, 60),
+        work(4, 8, 360, 420),
+        work(9, 9, 120, 180),
+        work(11, 11, 0, 60),
+        work(14, 16, 360, 420),
+        work(16, 16, 1320, 1380),
+        work(25, 30, 360, 420),
+        work(31, 31, 300, 360),
+        work(33, 33, 180, 240),
+        work(33, 38, 360, 420),
+        work(38, 38, 1380, 1440),
+    ])?;
+    pieces.extend_from_slice(more)?;
+    Ok(pieces)
+}
+
+/// The weeks before the one that is wholly at rest need the long rest, and those behind it need it too.
+#[test]
+fn a_rest_of_more_than_a_week_counts_once(rt: HostRuntime) -> Result<(), Fail> {
+    let alloc = rt.alloc();
+    let pieces = a_long_rest(alloc, &[work(11, 13, 360, 420)])?;
+    let lacking = breach(Kind::B9, at(39, 0), at(25, 0), 0);
+    assert!(rt; finds(alloc, &pieces, at(39, 0), &[lacking], &[])?);
+    Ok(())
+}
+
+/// With one more, from the 12th to the 14th, those before it don't.
+#[test]
+fn a_rest_of_more_than_a_week_counts_behind_it(rt: HostRuntime) -> Result<(), Fail> {
+    let alloc = rt.alloc();
+    let pieces = a_long_rest(alloc, &[work(11, 12, 360, 420)])?;
+    assert!(rt; finds(alloc, &pieces, at(39, 0), &[], &[])?);
     Ok(())
 }
 

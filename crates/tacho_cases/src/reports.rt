@@ -138,6 +138,28 @@ fn breaches_are_printed(rt: HostRuntime) -> Result<(), Fail> {
 }
 
 #[test]
+fn a_lack_of_weekly_rests_is_printed(rt: HostRuntime) -> Result<(), Fail> {
+    let alloc = rt.alloc();
+    let april = Horizon {
+        minute: at(32, 0),
+        cause: Cause::Unknown,
+    };
+    let lacking = breach(Kind::B9, at(32, 0), at(18, 0), 0);
+    let report = report_of(alloc, april, &[lacking])?;
+    assert_same(
+        &rt,
+        breach_text(alloc, &report)?.as_str(),
+        "B9 Art 8(6) at 2024-04-01 00:00 since 2024-03-18 00:00 amount 0\nEXAMINED TO 2024-04-01 00:00 unknown\n",
+    );
+    assert_same(
+        &rt,
+        owed_text(alloc, &report)?.as_str(),
+        "EXAMINED TO 2024-04-01 00:00 unknown\n",
+    );
+    Ok(())
+}
+
+#[test]
 fn debts_are_printed(rt: HostRuntime) -> Result<(), Fail> {
     let alloc = rt.alloc();
     assert_same(
