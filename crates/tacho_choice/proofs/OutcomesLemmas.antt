@@ -1,13 +1,14 @@
 -- Ten truth values as a set of outcomes (specs/Step, Holds), and the step on them.
 use Rattle.std.proofs.Common.{◌≡◌, ◌≢◌, ℕ, zero, suc, ◌+◌, ◌<◌, ◌≤◌, ◌⊎◌, inl, inr, refl, sym, ap, subst, ◌∙◌, arith}
-use Rattle.std.proofs.Common.{Bool, true, false, List, length, get_or, set, get_or-set_other, get_or-set_same}
+use Rattle.std.proofs.Common.{Bool, true, false, List, [], ◌∷◌, length, get_or, set, get_or-set_other, get_or-set_same}
 use Rattle.std.specs.Prelude.{◌↔◌}
 use Rattle.std.proofs.lemmas.Bool.{cases_lt, cases_eq, cases_Bool, both_ways}
 use Rattle.tacho_choice.specs.declared.counted.Counted.{Counted}
 use Rattle.tacho_choice.specs.declared.counted.Counted.TheVariants.{Nothing, One, More}
 use Rattle.tacho_choice.specs.declared.outcome.Outcome.{Outcome}
 use Rattle.tacho_choice.specs.declared.weekly_rests.WeeklyRests.{WeeklyRests}
-use Rattle.tacho_choice.specs.Step.{counted_of, may, serves, place_of_counted, place_of, Holds, IsNext}
+use Rattle.tacho_choice.specs.Step.{counted_of, first_place, may, serves, place_of_counted, place_of, Holds, IsNext}
+use Rattle.tacho_choice.specs.Step.{IsLedTo}
 
 -- which of the five cases a number is
 abbrev counted_at : ℕ → Counted
@@ -76,83 +77,221 @@ holds_set outcomes s new size =
       )
     ]
 
--- a outcome that is reached is put among those reached so far
-pub reach_put : (outcomes : List Bool) (week : WeeklyRests) (asks : Bool) (old : Outcome) (counted : Counted)
-    (crossing allows : Bool) (place : ℕ) → length outcomes ≡ 10
-    → counted ≡ counted_of week old.crossing crossing → allows ≡ true → allows ≡ may week old.crossing crossing
-    → (asks ≡ true → serves old.counted counted ≡ true)
-    → place ≡ place_of (record { counted = counted; crossing = crossing })
-    → (new : Outcome) → Holds (set outcomes place true) new ↔ (Holds outcomes new ⊎ ((new.crossing ≡ crossing) ×
-    IsNext week asks old new))
-reach_put outcomes week asks old counted crossing allows place size e yes' f served at new =
-    let s : Outcome = record { counted = counted; crossing = crossing } in
-    let one : Holds (set outcomes (place_of s) true) new ↔ (Holds outcomes new ⊎ (new ≡ s)) = holds_set outcomes s new
-    size in
-    let two : Holds (set outcomes place true) new ↔ (Holds outcomes new ⊎ (new ≡ s)) = subst
-    (λ (k : ℕ). Holds (set outcomes k true) new ↔ (Holds outcomes new ⊎ (new ≡ s))) (sym at) one in
-    let is : IsNext week asks old s = record { allowed = sym f ∙ yes'; counted = e; served = served } in (
-      λ h. elim (two.0 h) [
-        | inl before ↦ inl before
-        | inr same ↦ inr (ap (λ (x : Outcome). x.crossing) same, subst (IsNext week asks old) (sym same) is)
-      ],
-      λ h. two.1 (elim h [
-        | inl before ↦ inl before
-        | inr next ↦
-            let g : new.counted ≡ counted_of week old.crossing new.crossing = next.1.counted in
-            inr (same_outcome new s (subst (λ (b : Bool). new.counted ≡ counted_of week old.crossing b) next.0 g ∙ sym
-            e) next.0)
-      ]),
-    )
+-- each place among the ten is that of an outcome
+pub at_place : (k : ℕ) → k < 10 → (s : Outcome) × (place_of s ≡ k)
+at_place zero b = (record { counted = Nothing; crossing = false }, refl)
+at_place (suc zero) b = (record { counted = One false; crossing = false }, refl)
+at_place (suc (suc zero)) b = (record { counted = One true; crossing = false }, refl)
+at_place (suc (suc (suc zero))) b = (record { counted = More false; crossing = false }, refl)
+at_place (suc (suc (suc (suc zero)))) b = (record { counted = More true; crossing = false }, refl)
+at_place (suc (suc (suc (suc (suc zero))))) b = (record { counted = Nothing; crossing = true }, refl)
+at_place (suc (suc (suc (suc (suc (suc zero)))))) b = (record { counted = One false; crossing = true }, refl)
+at_place (suc (suc (suc (suc (suc (suc (suc zero))))))) b = (record { counted = One true; crossing = true }, refl)
+at_place (suc (suc (suc (suc (suc (suc (suc (suc zero)))))))) b =
+    (record { counted = More false; crossing = true }, refl)
+at_place (suc (suc (suc (suc (suc (suc (suc (suc (suc zero))))))))) b =
+    (record { counted = More true; crossing = true }, refl)
+at_place (suc (suc (suc (suc (suc (suc (suc (suc (suc (suc n)))))))))) b = absurd (omega arith)
 
-module _ (week : WeeklyRests) (asks : Bool) (outcomes : List Bool) where
-  -- the outcomes reached from those in the first places
-  abbrev pub Reached : ℕ → List Bool → Type 0
-  Reached i next = (new : Outcome) → Holds next new ↔ ((old : Outcome) × ((place_of old < i) × Holds outcomes old ×
-      IsNext week asks old new))
+pub some_holds : (outcomes : List Bool) (k : ℕ) → k < 10 → get_or outcomes k false ≡ true
+    → (s : Outcome) × Holds outcomes s
+some_holds outcomes k b h =
+    let x = at_place k b in
+    (x.0, subst (λ (j : ℕ). get_or outcomes j false ≡ true) (sym x.1) h)
 
-  pub step_skip : (i : ℕ) (next : List Bool) → get_or outcomes i false ≡ false → Reached i next → Reached (i + 1) next
-  step_skip i next out r new = (
-    λ h. let x = (r new).0 h in let b : place_of x.0 < i = x.1.0 in (x.0, (omega arith, x.1.1, x.1.2)),
-    λ x. let b : place_of x.0 < i + 1 = x.1.0 in elim (cases_lt (place_of x.0) i) [
-      | inl below ↦ (r new).1 (x.0, (below, x.1.1, x.1.2))
-      | inr here ↦ let e : place_of x.0 ≡ i = omega arith in
-          absurd (both_ways (get_or outcomes i false) out (subst (λ (k : ℕ). get_or outcomes k false ≡ true) e x.1.1))
+pub first_few : (b : Bool) → first_place b ≤ 5
+first_few true = omega arith
+first_few false = omega arith
+
+-- an outcome's place, by whether the rest over the week's end is counted by then
+first_at : (s : Outcome) (b : Bool) → s.crossing ≡ b → (first_place b ≤ place_of s) × (place_of s < first_place b + 5)
+first_at s b e =
+    let below : place_of_counted s.counted < 5 = counted_below s.counted in
+    let same : first_place s.crossing ≡ first_place b = ap first_place e in
+    (omega arith, omega arith)
+
+crossing_by : (c : Bool) (n : ℕ) (b : Bool) → n < 5 → first_place b ≤ n + first_place c
+    → n + first_place c < first_place b + 5
+    → c ≡ b
+crossing_by true n true few above below = refl
+crossing_by true n false few above below = absurd (omega arith)
+crossing_by false n true few above below = absurd (omega arith)
+crossing_by false n false few above below = refl
+
+-- an outcome of these, with the rest over the week's end counted by then or not, that serves with what is counted next
+abbrev pub Leads : Bool → List Bool → Bool → Counted → Outcome → Type 0
+Leads asks outcomes crossing counted old =
+    Holds outcomes old × (old.crossing ≡ crossing) × (asks ≡ true → serves old.counted counted ≡ true)
+
+module _ (asks : Bool) (outcomes : List Bool) (crossing : Bool) (counted : Counted) where
+  -- of those at the first places none does
+  abbrev pub NoneLeads : ℕ → Type 0
+  NoneLeads n = (old : Outcome) → Leads asks outcomes crossing counted old → place_of old < n → ⊥
+
+  pub none_leads_first : NoneLeads (first_place crossing)
+  none_leads_first old leads below =
+      let at = first_at old crossing leads.1 in
+      let above : first_place crossing ≤ place_of old = at.0 in
+      omega arith
+
+  pub none_leads_more : (n : ℕ) → ((old : Outcome) → place_of old ≡ n → Leads asks outcomes crossing counted old → ⊥)
+      → NoneLeads n → NoneLeads (n + 1)
+  none_leads_more n here none old leads below = elim (cases_lt (place_of old) n) [
+    | inl before ↦ none old leads before
+    | inr at ↦ here old (omega arith) leads
+  ]
+
+  pub none_leads_all : (n : ℕ) → first_place crossing + 5 ≤ n → NoneLeads n → (old : Outcome)
+      → Leads asks outcomes crossing counted old → ⊥
+  none_leads_all n all none old leads =
+      let at = first_at old crossing leads.1 in
+      let below : place_of old < first_place crossing + 5 = at.1 in
+      none old leads (omega arith)
+
+  pub leads_at : (old : Outcome) (n : ℕ) → place_of old ≡ n → first_place crossing ≤ n → n < first_place crossing + 5
+      → get_or outcomes n false ≡ true → (asks ≡ true → serves old.counted counted ≡ true)
+      → (o : Outcome) × Leads asks outcomes crossing counted o
+  leads_at old n at above below held served = (
+    old,
+    (
+      subst (λ (k : ℕ). get_or outcomes k false ≡ true) (sym at) held,
+      crossing_by old.crossing (place_of_counted old.counted) crossing (counted_below old.counted) (omega arith)
+          (omega arith),
+      served,
+    ),
+  )
+
+module _ (outcomes old : List Bool) (week : WeeklyRests) (asks before after allows : Bool) (counted : Counted)
+    (is : counted ≡ counted_of week before after) (may_is : allows ≡ may week before after) where
+  -- what leads to an outcome that may be left
+  led_allowed : (new : Outcome) → IsLedTo week asks old before after new → allows ≡ true
+  led_allowed new (at, (o, (held, from, next))) =
+      let one : may week before new.crossing ≡ true =
+      subst (λ (b : Bool). may week b new.crossing ≡ true) from next.allowed in
+      may_is ∙ subst (λ (b : Bool). may week before b ≡ true) at one
+
+  led_counted : (new : Outcome) → IsLedTo week asks old before after new → new.counted ≡ counted
+  led_counted new (at, (o, (held, from, next))) =
+      let one : new.counted ≡ counted_of week before new.crossing =
+      subst (λ (b : Bool). new.counted ≡ counted_of week b new.crossing) from next.counted in
+      subst (λ (b : Bool). new.counted ≡ counted_of week before b) at one ∙ sym is
+
+  led_leads : (new : Outcome) → IsLedTo week asks old before after new
+      → (o : Outcome) × Leads asks old before counted o
+  led_leads new (at, (o, (held, from, next))) = (
+    o,
+    (
+      held,
+      from,
+      λ e. subst (λ (c : Counted). serves o.counted c ≡ true)
+          (led_counted new (at, (o, (held, from, next)))) (next.served e),
+    ),
+  )
+
+  -- no outcome is added
+  pub reach_not : allows ≡ false → (new : Outcome)
+      → Holds outcomes new ↔ (Holds outcomes new ⊎ IsLedTo week asks old before after new)
+  reach_not no' new = (
+    λ h. inl h,
+    λ h. elim h [
+      | inl held ↦ held
+      | inr led ↦ absurd
+          (both_ways allows no' (led_allowed new led))
     ],
   )
 
-  pub step_take : (i : ℕ) (none one two : List Bool) (old : Outcome) → get_or outcomes i false ≡ true → place_of old ≡ i
-      → ((new : Outcome) → Holds one new ↔ (Holds none new ⊎ ((new.crossing ≡ false) × IsNext week asks old new)))
-      → ((new : Outcome) → Holds two new ↔ (Holds one new ⊎ ((new.crossing ≡ true) × IsNext week asks old new)))
-      → Reached i none → Reached (i + 1) two
-  step_take i none one two old inside at first second r new =
-      let mine : (old' : Outcome) × ((place_of old' < i + 1) × Holds outcomes old' × IsNext week asks old' new)
-      → place_of old ≡ place_of old → Holds two new = λ x e.
-      let b : place_of x.0 < i + 1 = x.1.0 in elim (cases_lt (place_of x.0) i) [
-        | inl below ↦ (second new).1 (inl ((first new).1 (inl ((r new).1 (x.0, (below, x.1.1, x.1.2))))))
-        | inr here ↦
-            let next : IsNext week asks old new = subst (λ (y : Outcome). IsNext week asks y new)
-            (place_only x.0 old (omega arith)) x.1.2 in
-            elim (cases_Bool new.crossing) [
-              | inl late ↦ (second new).1 (inr (late, next))
-              | inr early ↦ (second new).1 (inl ((first new).1 (inr (early, next))))
-            ]
-      ] in
-      let from : IsNext week asks old new → (old' : Outcome) × ((place_of old' < i + 1) × Holds outcomes old' × IsNext
-      week asks old' new) = λ next.
-      (old, (omega arith, subst (λ (k : ℕ). get_or outcomes k false ≡ true) (sym at) inside, next)) in (
-        λ h. elim ((second new).0 h) [
-          | inr late ↦ from late.1
-          | inl h1 ↦ elim ((first new).0 h1) [
-            | inr early ↦ from early.1
-            | inl h0 ↦ let x = (r new).0 h0 in let b : place_of x.0 < i = x.1.0 in (x.0, (omega arith, x.1.1, x.1.2))
-          ]
+  pub reach_none : ((o : Outcome) → Leads asks old before counted o → ⊥) → (new : Outcome)
+      → Holds outcomes new ↔ (Holds outcomes new ⊎ IsLedTo week asks old before after new)
+  reach_none none new = (
+    λ h. inl h,
+    λ h. elim h [ inl held ↦ held | inr led ↦ let x = led_leads new led in absurd (none x.0 x.1) ],
+  )
+
+  -- or one is
+  pub reach_put : (place : ℕ) → length outcomes ≡ 10 → allows ≡ true → ((o : Outcome) × Leads asks old before counted o)
+      → place ≡ place_of (record { counted = counted; crossing = after }) → (new : Outcome)
+      → Holds (set outcomes place true) new ↔ (Holds outcomes new ⊎ IsLedTo week asks old before after new)
+  reach_put place size allowed (o, (held, from, served)) at new =
+      let s : Outcome = record { counted = counted; crossing = after } in
+      let two : Holds (set outcomes place true) new ↔ (Holds outcomes new ⊎ (new ≡ s)) =
+      subst (λ (k : ℕ). Holds (set outcomes k true) new ↔ (Holds outcomes new ⊎ (new ≡ s))) (sym at)
+      (holds_set outcomes s new size) in
+      let led : IsLedTo week asks old before after s = (
+        refl,
+        (
+          o,
+          (
+            held,
+            from,
+            record {
+              allowed = subst (λ (b : Bool). may week b after ≡ true) (sym from) (sym may_is ∙ allowed);
+              counted = subst (λ (b : Bool). counted ≡ counted_of week b after) (sym from) is;
+              served = served;
+            },
+          ),
+        ),
+      ) in (
+        λ h. elim (two.0 h) [
+          | inl earlier ↦ inl earlier
+          | inr same ↦ inr (subst (IsLedTo week asks old before after) (sym same) led)
         ],
-        λ x. mine x refl,
+        λ h. two.1 (elim h [
+          | inl earlier ↦ inl earlier
+          | inr next ↦ inr (same_outcome new s (led_counted new next) next.0)
+        ]),
       )
 
-  pub step_all : (i : ℕ) (next : List Bool) → 10 ≤ i → Reached i next → (new : Outcome)
-      → Holds next new ↔ ((old : Outcome) × (Holds outcomes old × IsNext week asks old new))
-  step_all i next all r new = (
-    λ h. let x = (r new).0 h in (x.0, (x.1.1, x.1.2)),
-    λ x. (r new).1 (x.0, ((let b : place_of x.0 < 10 = place_below x.0 in omega arith), x.1.0, x.1.1)),
-  )
+-- none of the ten
+abbrev pub no_outcomes : List Bool
+no_outcomes = false ∷ false ∷ false ∷ false ∷ false ∷ false ∷ false ∷ false ∷ false ∷ false ∷ []
+
+none_held : (counted : Counted) (crossing : Bool)
+    → Holds no_outcomes (record { counted = counted; crossing = crossing })
+    → ⊥
+none_held Nothing true h = let e : false ≡ true = h in cc
+none_held Nothing false h = let e : false ≡ true = h in cc
+none_held (One true) true h = let e : false ≡ true = h in cc
+none_held (One true) false h = let e : false ≡ true = h in cc
+none_held (One false) true h = let e : false ≡ true = h in cc
+none_held (One false) false h = let e : false ≡ true = h in cc
+none_held (More true) true h = let e : false ≡ true = h in cc
+none_held (More true) false h = let e : false ≡ true = h in cc
+none_held (More false) true h = let e : false ≡ true = h in cc
+none_held (More false) false h = let e : false ≡ true = h in cc
+
+pub holds_none : (new : Outcome) → Holds no_outcomes new → ⊥
+holds_none new h = none_held new.counted new.crossing h
+
+-- the step is what is led to in each of the four ways
+pub step_four : (week : WeeklyRests) (asks : Bool) (old none one two three four : List Bool)
+    → ((new : Outcome) → Holds none new → ⊥)
+    → ((new : Outcome) → Holds one new ↔ (Holds none new ⊎ IsLedTo week asks old false false new))
+    → ((new : Outcome) → Holds two new ↔ (Holds one new ⊎ IsLedTo week asks old false true new))
+    → ((new : Outcome) → Holds three new ↔ (Holds two new ⊎ IsLedTo week asks old true false new))
+    → ((new : Outcome) → Holds four new ↔ (Holds three new ⊎ IsLedTo week asks old true true new))
+    → (new : Outcome) → Holds four new ↔ ((o : Outcome) × (Holds old o × IsNext week asks o new))
+step_four week asks old none one two three four empty a b c d new =
+    let back : (x y : Bool) → IsLedTo week asks old x y new → (o : Outcome) × (Holds old o × IsNext week asks o new) =
+    λ x y led. let (at, (o, (held, from, next))) = led in (o, (held, next)) in (
+      λ h4. elim ((d new).0 h4) [
+        | inr led ↦ back true true led
+        | inl h3 ↦ elim ((c new).0 h3) [
+          | inr led ↦ back true false led
+          | inl h2 ↦ elim ((b new).0 h2) [
+            | inr led ↦ back false true led
+            | inl h1 ↦ elim ((a new).0 h1) [ inr led ↦ back false false led | inl h0 ↦ absurd (empty new h0) ]
+          ]
+        ]
+      ],
+      λ x. elim (cases_Bool x.0.crossing) [
+        | inl from ↦ elim (cases_Bool new.crossing) [
+          | inl at ↦ (d new).1 (inr (at, (x.0, (x.1.0, from, x.1.1))))
+          | inr at ↦ (d new).1 (inl ((c new).1 (inr (at, (x.0, (x.1.0, from, x.1.1))))))
+        ]
+        | inr from ↦ elim (cases_Bool new.crossing) [
+          | inl at ↦ (d new).1 (inl ((c new).1 (inl ((b new).1 (inr (at, (x.0, (x.1.0, from, x.1.1))))))))
+          | inr at ↦ (d new).1 (inl
+              ((c new).1 (inl ((b new).1 (inl ((a new).1 (inr (at, (x.0, (x.1.0, from, x.1.1))))))))))
+        ]
+      ],
+    )

@@ -74,12 +74,22 @@ place_of_counted (One true) = 2
 place_of_counted (More false) = 3
 place_of_counted (More true) = 4
 
+abbrev pub first_place : Bool → ℕ
+first_place crossing = if crossing then 5 else 0
+
 abbrev pub place_of : Outcome → ℕ
-place_of outcome = place_of_counted outcome.counted + (if outcome.crossing then 5 else 0)
+place_of outcome = place_of_counted outcome.counted + first_place outcome.crossing
 
 -- the outcome is among these
 abbrev pub Holds : List Bool → Outcome → Type 0
 Holds outcomes outcome = slice_index_or outcomes (place_of outcome) false ≡ true
+
+-- an outcome behind some of these, with the rest over the week's start counted before it or not, and the one over its
+-- end by then or not
+abbrev pub IsLedTo : WeeklyRests → Bool → List Bool → Bool → Bool → Outcome → Type 0
+IsLedTo week asks outcomes before after new =
+    (new.crossing ≡ after)
+    × ((old : Outcome) × (Holds outcomes old × (old.crossing ≡ before) × IsNext week asks old new))
 
 -- a week with one more rest, by the rest's first week and last
 abbrev pub with_rest : WeeklyRests → ℕ → ℕ → ℕ → Bool → WeeklyRests

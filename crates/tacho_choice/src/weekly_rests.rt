@@ -1,7 +1,8 @@
-ghost use Rattle.std.specs.Prelude.{◌≡◌, ◌<◌, ◌⊎◌, ◌↔◌, false};
+ghost use Rattle.std.specs.Prelude.{◌≡◌, ◌<◌, ◌⊎◌, ◌↔◌, false, true, IsTrue};
 ghost use Rattle.tacho_choice.specs.declared.counted.Counted.TheVariants.{Nothing};
 ghost use Rattle.tacho_choice.specs.declared.outcome.Outcome.{Outcome as OutcomeValue};
-ghost use Rattle.tacho_choice.specs.Step.{counted_of, may, with_rest, Holds, IsNext};
+ghost use Rattle.tacho_choice.specs.Step.{counted_of, first_place as first_place_of, may, serves, with_rest};
+ghost use Rattle.tacho_choice.specs.Step.{Holds, IsNext, IsLedTo};
 ghost use Rattle.tacho_choice.specs.Weeks.{first_of, last_of, is_regular};
 
 use crate::counted::Counted;
@@ -42,6 +43,28 @@ fn regular(rest: Run) -> bool
     ensures { result ≡ is_regular rest }
 {
     rest.past.saturating_sub(rest.start) >= REGULAR_WEEKLY_REST
+}
+
+/// The first place of the outcomes with the rest over the week's end counted by then, or not.
+fn first_place(crossing: bool) -> usize
+    ensures { result ≡ first_place_of crossing }
+{
+    if crossing { 5 } else { 0 }
+}
+
+/// Whether one of these outcomes, with the rest over the week's end counted by then or not, serves with what is counted
+/// in the next week, where something is asked.
+fn lead_to(asks: bool, outcomes: [bool; 10], crossing: bool, counted: Counted) -> bool
+    ensures { IsTrue result ↔ ((old : OutcomeValue) × (Holds outcomes old × (old.crossing ≡ crossing)
+        × (asks ≡ true → serves old.counted counted ≡ true))) }
+{
+    let first = first_place(crossing);
+    for i in first..first + 5 {
+        if outcomes[i] && (!asks || Outcome::at(i).counted.serves(counted)) {
+            return true;
+        }
+    }
+    false
 }
 
 impl WeeklyRests {
@@ -103,16 +126,28 @@ impl WeeklyRests {
         (!after || self.through || self.starting.is_some()) && (!(self.through && before) || after)
     }
 
-    fn reach(self, asks: bool, old: Outcome, crossing: bool, outcomes: &mut [bool; 10])
+    /// Adds the outcome that is left behind those which count the rest over the week's start before it, or those which
+    /// don't, and which counts the rest over its end by then or not.
+    fn reach(
+        self,
+        asks: bool,
+        old: [bool; 10],
+        before: bool,
+        after: bool,
+        outcomes: &mut [bool; 10],
+    )
         ensures { (new : OutcomeValue) → Holds outcomes.new new
-            ↔ (Holds outcomes.old new ⊎ ((new.crossing ≡ crossing) × IsNext self asks old new)) }
+            ↔ (Holds outcomes.old new ⊎ IsLedTo self asks old before after new) }
     {
-        if !self.allows(old.crossing, crossing) {
+        if !self.allows(before, after) {
             return;
         }
-        let counted = self.counted(old.crossing, crossing);
-        if !asks || old.counted.serves(counted) {
-            let new = Outcome { counted, crossing };
+        let counted = self.counted(before, after);
+        if lead_to(asks, old, before, counted) {
+            let new = Outcome {
+                counted,
+                crossing: after,
+            };
             outcomes[new.place()] = true;
         }
     }
@@ -123,13 +158,10 @@ impl WeeklyRests {
             ↔ ((old : OutcomeValue) × (Holds outcomes old × IsNext self asks old new)) }
     {
         let mut next = [false; 10];
-        for i in 0..10 {
-            if outcomes[i] {
-                let old = Outcome::at(i);
-                self.reach(asks, old, false, &mut next);
-                self.reach(asks, old, true, &mut next);
-            }
-        }
+        self.reach(asks, outcomes, false, false, &mut next);
+        self.reach(asks, outcomes, false, true, &mut next);
+        self.reach(asks, outcomes, true, false, &mut next);
+        self.reach(asks, outcomes, true, true, &mut next);
         next
     }
 }

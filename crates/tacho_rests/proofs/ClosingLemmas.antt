@@ -1,7 +1,7 @@
 -- A closed week: what the choices that serve since a start leave of it, from what they leave of the week before
 -- (specs/Choices, IsClosed).
-use Rattle.std.proofs.Common.{◌≡◌, ℕ, ◌+◌, ◌<◌, ◌≤◌, ◌⊎◌, inl, inr, refl, sym, ap, subst, ◌∙◌, arith, Bool, true, false}
-use Rattle.std.proofs.Common.{List, Option, Some, None, zero, suc, get_or}
+use Rattle.std.proofs.Common.{◌≡◌, ℕ, ◌+◌, ◌<◌, ◌≤◌, ◌⊎◌, inl, inr, refl, sym, ap, ◌∙◌, arith, Bool, true, false}
+use Rattle.std.proofs.Common.{List, Option, Some, None}
 use Rattle.std.specs.Prelude.{◌↔◌, ◌&&◌, ◌||◌, not, is_some}
 use Rattle.std.proofs.lemmas.Bool.{cases_Bool, both_ways, false_from_ne_true}
 use Rattle.tacho_hours.specs.declared.run.Run.{Run}
@@ -12,12 +12,12 @@ use Rattle.tacho_hours.specs.Anew.{Fails, EndedBy}
 use Rattle.tacho_hours.proofs.AnewLemmas.{none_at, fails_at}
 use Rattle.tacho_hours.proofs.LackingWeekLemmas.{serves_less}
 use Rattle.tacho_choice.specs.declared.counted.Counted.{Counted}
-use Rattle.tacho_choice.specs.declared.counted.Counted.TheVariants.{Nothing, One, More}
+use Rattle.tacho_choice.specs.declared.counted.Counted.TheVariants.{Nothing}
 use Rattle.tacho_choice.specs.declared.outcome.Outcome.{Outcome}
 use Rattle.tacho_choice.specs.declared.outcome.TheConstants.{ANY}
 use Rattle.tacho_choice.specs.declared.weekly_rests.WeeklyRests.{WeeklyRests}
 use Rattle.tacho_choice.specs.Counted.{IsOneOf}
-use Rattle.tacho_choice.specs.Step.{Holds, IsNext, IsFirst, place_of, plus_where}
+use Rattle.tacho_choice.specs.Step.{Holds, IsNext, IsFirst, plus_where}
 use Rattle.tacho_choice.specs.Weeks.{first_of, last_of, is_regular, IsInWeeks, IsWeekOf, CanReach}
 use Rattle.tacho_choice.proofs.ConnectingLemmas.{order, can_serve_is}
 use Rattle.tacho_choice.proofs.LawfulLemmas.{reach_law, start_law, serve_law}
@@ -37,28 +37,6 @@ may_either : (through before after : Bool) (starting : Option Bool) → through 
     → ((not after || (through || is_some starting)) && (not (through && before) || after))
     ≡ ((not after || (through || is_some starting)) && (not (through && false) || after))
 may_either through before after starting h = rw h refl
-
--- each place among the ten is that of an outcome
-at_place : (k : ℕ) → k < 10 → (s : Outcome) × (place_of s ≡ k)
-at_place zero b = (record { counted = Nothing; crossing = false }, refl)
-at_place (suc zero) b = (record { counted = One false; crossing = false }, refl)
-at_place (suc (suc zero)) b = (record { counted = One true; crossing = false }, refl)
-at_place (suc (suc (suc zero))) b = (record { counted = More false; crossing = false }, refl)
-at_place (suc (suc (suc (suc zero)))) b = (record { counted = More true; crossing = false }, refl)
-at_place (suc (suc (suc (suc (suc zero))))) b = (record { counted = Nothing; crossing = true }, refl)
-at_place (suc (suc (suc (suc (suc (suc zero)))))) b = (record { counted = One false; crossing = true }, refl)
-at_place (suc (suc (suc (suc (suc (suc (suc zero))))))) b = (record { counted = One true; crossing = true }, refl)
-at_place (suc (suc (suc (suc (suc (suc (suc (suc zero)))))))) b =
-    (record { counted = More false; crossing = true }, refl)
-at_place (suc (suc (suc (suc (suc (suc (suc (suc (suc zero))))))))) b =
-    (record { counted = More true; crossing = true }, refl)
-at_place (suc (suc (suc (suc (suc (suc (suc (suc (suc (suc n)))))))))) b = absurd (omega arith)
-
-pub some_holds : (outcomes : List Bool) (k : ℕ) → k < 10 → get_or outcomes k false ≡ true
-    → (s : Outcome) × Holds outcomes s
-some_holds outcomes k b h =
-    let x = at_place k b in
-    (x.0, subst (λ (j : ℕ). get_or outcomes j false ≡ true) (sym x.1) h)
 
 module _ (line : Line) (is : IsInWeeks line) (horizon first : ℕ) where
   -- up to the first week nothing is asked

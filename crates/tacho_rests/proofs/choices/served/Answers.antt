@@ -2,9 +2,8 @@ use Rattle.std.proofs.Common.{rules, ◌≡◌, ◌<◌, length, arith, subst, B
 use Rattle.std.specs.Prelude.{◌&&◌, not}
 use Rattle.std.proofs.lemmas.Bool.{both_ways}
 use Rattle.tacho_choice.specs.Step.{place_of}
-use Rattle.tacho_choice.proofs.OutcomesLemmas.{place_below}
+use Rattle.tacho_choice.proofs.OutcomesLemmas.{place_below, some_holds}
 use Rattle.tacho_rests.specs.Choices.{IsStep}
-use Rattle.tacho_rests.proofs.ClosingLemmas.{some_holds}
 use Rattle.tacho_rests.proofs.choices.served.Goals as goal
 
 pub returns-then-is_left : goal.returns-then-is_left
