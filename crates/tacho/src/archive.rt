@@ -5,6 +5,7 @@ ghost use Rattle.tacho_cli.specs.Words.{at_desk};
 
 use sqlite::{Connection, Error, ErrorCode, File, FileStore};
 use std::fs;
+use std::os::unix::fs::OpenOptionsExt;
 use tacho_cli::Job;
 use tacho_state::StoreFault;
 use tacho_store::Archive;
@@ -15,6 +16,9 @@ type FileConnection = Connection<FileStore<File>>;
 
 /// An archive in a file.
 pub type FileArchive = Archive<FileStore<File>>;
+
+/// The mode of a new file: its owner reads and writes it, and nobody else, as the keys of drivers stand in it.
+const OWNER_ALONE: u32 = 0o600;
 
 /// Tells a line, and answers the program's status: the one that is given, or 3 where the line can't be written.
 fn tell(rt: &impl Print, line: &str, status: u8) -> u8 {
@@ -48,8 +52,20 @@ fn given_up(conn: FileConnection, fault: StoreFault) -> StoreFault {
     fault
 }
 
+/// Makes an empty file with that mode, where none is there: the store takes it as new, and gives its log the same mode. Where it can't be
+/// made, the store tells why.
+fn make_own(rt: &HostRuntime, path: &str) {
+    let mut options = fs::File::options();
+    let _ = options
+        .write(true)
+        .create_new(true)
+        .mode(OWNER_ALONE)
+        .open(rt, path);
+}
+
 /// Makes an archive of no drivers in a file.
 fn create(rt: &HostRuntime, path: &str) -> Result<FileArchive, StoreFault> {
+    make_own(rt, path);
     let conn = open(rt, path)?;
     if !conn.is_autocommit() {
         return Err(given_up(conn, StoreFault::Store));

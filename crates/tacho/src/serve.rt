@@ -7,7 +7,7 @@ use std::net::{Ipv4Addr, Shutdown, TcpListener, TcpStream};
 use std::thread;
 use std::time::Duration;
 use tacho_http::answer_all;
-use tacho_state::is_key;
+use tacho_state::{Keeper, StoreFault, is_key};
 use tacho_time::Device;
 
 /// How many seconds a connection may take, from when it is taken to the last byte of its reply: others wait behind it.
@@ -63,7 +63,8 @@ fn no_port(rt: &HostRuntime) -> u8 {
     3
 }
 
-/// Answers so many connections. A fault of one ends it and nothing else.
+/// Answers so many connections. A fault of one ends it and nothing else; but where the archive's store has failed and was shut, nothing
+/// could be answered until it is opened anew, and so the server ends.
 fn listen(rt: &HostRuntime, archive: &mut FileArchive, key: &str, port: u16, count: u32) -> u8 {
     let Ok(listener) = TcpListener::bind(rt, (Ipv4Addr::LOCALHOST, port)) else {
         return no_port(rt);
@@ -73,8 +74,16 @@ fn listen(rt: &HostRuntime, archive: &mut FileArchive, key: &str, port: u16, cou
             return no_port(rt);
         };
         let _ = answer_one(rt, archive, key, &stream);
+        if has_failed(archive, key) {
+            return archive::refuse(rt, StoreFault::Store);
+        }
     }
     0
+}
+
+/// Whether the archive's store fails at a question, as each that was shut does.
+fn has_failed(archive: &mut FileArchive, key: &str) -> bool {
+    matches!(archive.who(key.as_bytes()), Err(StoreFault::Store))
 }
 
 /// Takes the next connection. Where what it needs is short it waits and tries again, and fails at the last try.
