@@ -1,12 +1,14 @@
 #!/usr/bin/env python3
 """Runs the program's commands on an archive in a file with each of their allocations refused in turn, and on a disk that stops at
-each of their calls in turn, and looks for an answer or a table that changes.
+each of their calls in turn or fails that call alone, and looks for an answer or a table that changes.
 
 A run whose allocation is refused answers as without, or says that there was no memory (M1), that the store had none (S12), or
 nothing, where the reader of the command line had none. In the last three the archive is as before: the same command, given
 again, answers as the first would have. Of the allocations of an opening some are refused. A run whose disk stops answers as without, and
-has then acted, or says that the store failed (S12), and has then acted or hasn't: the same command, given again on a disk that works,
-tells which. The words are the program and the compiler of C. The last line is 'N passed, M failed'."""
+has then acted, or says that the store failed (S12), and has then acted or hasn't: SQLite itself tells which, in a copy, and the same
+command, given again on a disk that works, answers so. The words are the program and the compiler of C. The last line is 'N passed, M
+failed'."""
+import contextlib
 import itertools
 import multiprocessing
 import os
@@ -15,6 +17,7 @@ import sys
 import tempfile
 
 import counting
+import migrating_archive
 import old_archive
 import programs
 from office_rows import DAY, HOLDER, NOON, OTHER_DAY
@@ -60,8 +63,9 @@ CASES = {
     "a bad month": (WITH_HOURS, (["sheet", "17", "2024-13"], b"")),
 }
 
-# Those of a disk that stops.
+# Those of a disk that stops, and for how many calls it does so.
 STOPPED = ["a first driver", "a first download", "signed hours", "a withdrawal", "another base", "a migration", "an old archive"]
+STOPS = {"the disk stopped at": None, "the disk failed": 1}
 
 
 class Office:
@@ -98,13 +102,14 @@ class Office:
         with open(self.path, "wb") as file:
             file.write(self.bytes)
 
-    def tables(self):
-        """All that SQLite finds in the archive."""
-        connection = sqlite3.connect(self.path)
-        try:
+    def tables(self, path=None):
+        """All that SQLite finds in the archive, or in another one."""
+        with contextlib.closing(sqlite3.connect(path or self.path)) as connection:
             return list(connection.iterdump())
-        finally:
-            connection.close()
+
+    def left(self, folder):
+        """The same in a copy of its file and its log, so that both stay as they are."""
+        return self.tables(migrating_archive.copied(self.path, folder))
 
 
 def undisturbed(office, command):
@@ -122,25 +127,30 @@ def numbers_of(office, compiler, command):
     return [*range(1, opening, STEP), *range(max(1, opening), programs.allocations(compiler, office.words(command), command[1]) + 1)]
 
 
-def of_stops(program, compiler, case):
-    """The comparisons of a case on a disk that stops at each of its calls in turn, up to the first run that makes fewer."""
+def of_stops(program, compiler, case, kind):
+    """The comparisons of a case on a disk that stops at each of its calls in turn, for good or for that call, up to the first run that
+    makes fewer."""
     before, command = CASES[case]
     with tempfile.TemporaryDirectory() as folder:
         office = Office(program, folder, before)
         wanted = undisturbed(office, command)
+        office.restore()
+        as_before = office.tables()
         stopper = programs.built(compiler, folder, "stop_disk")
         for number in itertools.count(1):
             office.restore()
-            run, is_stopped = programs.run_stopped(stopper, number, office.words(command), command[1])
+            run, is_stopped = programs.run_stopped(stopper, number, office.words(command), command[1], STOPS[kind])
             if not is_stopped:
                 break
             told = run.stdout.decode(errors="backslashreplace"), run.returncode
-            name = f"{case}, the disk stopped at call {number}"
+            name = f"{case}, {kind} call {number}"
             has_failed = told == STORE_FAILED
             yield name, told, told if has_failed else wanted[0][0]
-            again = office.answer(command), office.tables()
-            yield f"{name}, and again", again, again if has_failed and again in wanted else wanted[1]
-        yield f"{case}: whether the disk was stopped", number > 1, True
+            left = office.left(folder)
+            is_undone = has_failed and left == as_before
+            yield f"{name}: what is left", left, as_before if is_undone else wanted[0][1]
+            yield f"{name}, and again", (office.answer(command), office.tables()), wanted[0 if is_undone else 1]
+        yield f"{case}, {kind} a call: whether it was", number > 1, True
 
 
 def of_allocations(program, compiler, case):
@@ -170,7 +180,7 @@ def of_question(question):
 
 def comparisons(program, compiler):
     questions = [(of_allocations, program, compiler, case) for case in CASES]
-    questions += [(of_stops, program, compiler, case) for case in STOPPED]
+    questions += [(of_stops, program, compiler, case, kind) for case in STOPPED for kind in STOPS]
     with multiprocessing.Pool(PROCESSES) as pool:
         for found in pool.imap(of_question, questions):
             yield from found

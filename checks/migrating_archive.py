@@ -353,25 +353,35 @@ def measured(desk):
         return time.monotonic() - start, count
 
 
+def wait(running, path, chance, seconds, count):
+    """Waits for a random moment of a running program: of the time that it takes, or behind one of the changes of its files."""
+    if chance.random() < 0.5:
+        time.sleep(chance.uniform(0, 1.2 * seconds))
+    else:
+        watch(running, path, chance.randrange(1, count + 2))
+
+
 def kill(desk, chance, seconds, count):
-    """Ends a migration at a random moment: of the time that it takes, or behind one of the changes of its files."""
+    """Ends a migration at a random moment."""
     with running_at(desk) as running:
-        if chance.random() < 0.5:
-            time.sleep(chance.uniform(0, 1.2 * seconds))
-        else:
-            watch(running, desk.path, chance.randrange(1, count + 2))
+        wait(running, desk.path, chance, seconds, count)
         end(running)
+
+
+def copied(path, folder):
+    """Copies a file and its log, as far as they are there, into a folder, and tells the copy's path."""
+    copy = os.path.join(folder, "copy.db")
+    for ending in ["", "-wal"]:
+        with contextlib.suppress(FileNotFoundError):
+            os.remove(copy + ending)
+        with contextlib.suppress(FileNotFoundError):
+            shutil.copy(path + ending, copy + ending)
+    return copy
 
 
 def left(desk, folder):
     """What an end has left, by SQLite over a copy of the file and its log: the old archive, or the new one, or what it is."""
-    path = os.path.join(folder, "copy.db")
-    for ending in ["", "-wal"]:
-        with contextlib.suppress(FileNotFoundError):
-            os.remove(path + ending)
-        with contextlib.suppress(FileNotFoundError):
-            shutil.copy(desk.path + ending, path + ending)
-    found = compare_archive.rows_of(compare_archive.rows_at(path))
+    found = compare_archive.rows_of(compare_archive.rows_at(copied(desk.path, folder)))
     return "old" if found == desk.old() else "new" if found == desk.new() else found
 
 

@@ -103,15 +103,24 @@ class Lines(random_commands.Commands):
             given = slow_csv.MARK + given.replace(b"\n", b"\r\n")
         return words, given
 
-    def lines(self):
-        """The command lines: some drivers first, then the weeks, and then anything."""
+    def command(self):
+        """A command."""
         kinds = [self.import_new] * 4 + [self.enter] * 4 + [self.withdraw] * 3 + [self.weeks] * 2
         kinds += [self.import_again, self.rebase, self.register]
+        return self.chance.choice(kinds)()
+
+    def line(self):
+        """A command or a reading."""
+        line = self.reading() if self.chance.random() < 0.5 else self.command()
+        return self.spoiled(*line) if self.chance.random() < 0.1 else line
+
+    def lines(self):
+        """The command lines: some drivers first, then the weeks, and then anything."""
         lines = [*self.registrations(), self.weeks()]
         for line in lines:
             self.office.answer(*line)
         while len(lines) < LINES:
-            command = None if self.chance.random() < 0.5 else self.chance.choice(kinds)()
+            command = None if self.chance.random() < 0.5 else self.command()
             line = command or self.reading()
             if self.chance.random() < 0.1:
                 line = self.spoiled(*line)

@@ -32,9 +32,16 @@ def run_without(refuser, number, words, given, in_a_row=1):
     return run, b"refused\n" in run.stderr
 
 
-def run_stopped(stopper, number, words, given):
-    """A run of a program on a disk that takes no more from its call of that number on, and whether it came to that call."""
-    run = run_with(stopper, words, given, STOPPED_CALL=number)
+def stopped_from(number, count=None):
+    """What the environment has to say to the library that stops a disk, so that it takes no more from its call of that number on, or
+    none of so many calls."""
+    return {"STOPPED_CALL": str(number), **({} if count is None else {"STOPPED_CALLS": str(count)})}
+
+
+def run_stopped(stopper, number, words, given, count=None):
+    """A run of a program on a disk that takes no more from its call of that number on, or none of so many calls, and whether it came to
+    that call."""
+    run = run_with(stopper, words, given, **stopped_from(number, count))
     return run, b"stopped\n" in run.stderr
 
 

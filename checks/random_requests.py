@@ -138,13 +138,6 @@ class Requests(office_lines.Lines):
             return ["own", words[1], self.chance.choice(office_lines.BAD_PARTS)], given
         return super().spoiled(words, given)
 
-    def line(self):
-        """A command or a reading."""
-        kinds = [self.import_new] * 4 + [self.enter] * 4 + [self.withdraw] * 3 + [self.weeks] * 2
-        kinds += [self.import_again, self.rebase, self.register]
-        line = self.reading() if self.chance.random() < 0.5 else self.chance.choice(kinds)()
-        return self.spoiled(*line) if self.chance.random() < 0.1 else line
-
     # A request as it should be
 
     def any_key(self):

@@ -1,5 +1,6 @@
 /* Fails each call that writes, cuts or flushes a file at a place, from the one on whose number the environment's STOPPED_CALL tells, as
-   a disk that has stopped, and says so on standard error. What goes to standard output isn't counted.
+   a disk that has stopped, and says so on standard error. Where STOPPED_CALLS is there, only so many of them fail, and those behind them
+   are made again, as by a disk that fails for a while. What goes to standard output isn't counted.
    It is loaded before the C library by LD_PRELOAD. */
 extern long syscall(long number, ...);
 extern char *getenv(const char *name);
@@ -10,13 +11,17 @@ enum { PWRITE = 18, FSYNC = 74, FDATASYNC = 75, FTRUNCATE = 77, NO_DEVICE = 5 };
 
 static unsigned long called;
 
+static unsigned long number_of(const char *digits) {
+    unsigned long number = 0;
+    while (*digits) number = number * 10 + (unsigned long)(*digits++ - '0');
+    return number;
+}
+
 static int is_stopped(void) {
-    const char *digits = getenv("STOPPED_CALL");
-    unsigned long first = 0;
-    if (!digits) return 0;
-    while (*digits) first = first * 10 + (unsigned long)(*digits++ - '0');
-    if (++called < first) return 0;
-    if (called == first) write(2, "stopped\n", 8);
+    const char *first = getenv("STOPPED_CALL"), *count = getenv("STOPPED_CALLS");
+    if (!first || ++called < number_of(first)) return 0;
+    if (count && called - number_of(first) >= number_of(count)) return 0;
+    if (called == number_of(first)) write(2, "stopped\n", 8);
     *__errno_location() = NO_DEVICE;
     return 1;
 }

@@ -20,7 +20,7 @@ import time
 
 import compare_office
 import counting
-from compare_server import BREACHES, COUNTED, ENDED, NO_PORT, OFFICE, OWN, REPEATED, STORED, TOO_LARGE
+from compare_server import BREACHES, COUNTED, ENDED, FORBIDDEN, NO_PORT, OFFICE, OWN, REPEATED, STORED, TOO_LARGE
 from compare_server import Serving, asking, posting, received, told
 from office_rows import DAY, LARGEST_DAY, LIMIT
 
@@ -29,10 +29,17 @@ CONNECTION = (29.5, 45)
 LINGERING = (1.9, 10)
 FILES = (29.5, 60)
 SOON = (0, 5)
+BEHIND_ONE = (29.5, 40)  # that another client waits behind a silent one
+BEHIND_MANY = (19.5, 40)  # that it waits behind those of which each leaves after a second
+MANY = 20
 LONGEST = 65  # after that a client gives up
 PIECE = bytes(65_536)
 
-DRIPPED = asking("GET /me/breaches", None, f"x-pad: {200 * 'p'}")
+PADDING = f"x-pad: {200 * 'p'}"
+DRIPPED = asking("GET /me/breaches", None, PADDING)
+UNKNOWN_KEY = "anna-key-2"
+UNKNOWN = asking("GET /me/breaches", UNKNOWN_KEY)
+UNKNOWN_FRONT = posting("/drivers", UNKNOWN_KEY, PIECE)[: -len(PIECE)]
 FILE = asking("GET /drivers/17/files/1", OFFICE)
 UNREAD = 4_000_000  # bytes of a body that is refused by its length
 
@@ -119,6 +126,36 @@ def of_pushing(program, name, piece, pause):
         _, seconds = timed(push, pushing, piece, pause)
         yield f"{name}: the seconds", within(seconds, LINGERING), True
         yield f"{name}: the next", timed_reply(other), (BREACHES, True)
+        yield f"{name}: the end", serving.end(), ENDED
+
+
+def of_answered(program, name, front, reply):
+    """The comparisons of a client that has its reply soon, takes it whole, and then sends a byte a second, and of the one behind it."""
+    with served(program, 2) as serving, serving.connection() as answered, serving.connection() as other:
+        answered.sendall(front)
+        other.sendall(OWN)
+        yield f"{name}: its reply", timed_reply(answered), (reply, True)
+        _, seconds = timed(push, answered, b"p", 1)
+        yield f"{name}: the seconds", within(seconds, LINGERING), True
+        yield f"{name}: the next", timed_reply(other), (BREACHES, True)
+        yield f"{name}: the end", serving.end(), ENDED
+
+
+def of_silent(program, name, stays, limits):
+    """The comparisons of the one behind clients that send nothing, each of which leaves so many seconds after the one before it, or stays
+    where there is no such number."""
+    with served(program, len(stays) + 1) as serving, contextlib.ExitStack() as clients:
+        silent = [clients.enter_context(serving.connection()) for _ in stays]
+        other = clients.enter_context(serving.connection())
+        other.sendall(OWN)
+        start = time.monotonic()
+        for client, seconds in zip(silent, stays):
+            if seconds is not None:
+                time.sleep(seconds)
+                client.close()
+        other.settimeout(LONGEST)
+        yield f"{name}: the next", received(other), BREACHES
+        yield f"{name}: the seconds of the next", within(time.monotonic() - start, limits), True
         yield f"{name}: the end", serving.end(), ENDED
 
 
@@ -260,6 +297,11 @@ def comparisons(program):
         (of_slow, program, "a head byte by byte", b"", pieces_of(DRIPPED)),
         (of_slow, program, "a body byte by byte", file[: -len(LARGEST_DAY)], pieces_of(LARGEST_DAY[:200])),
         (of_slow, program, "a client that sends nothing", b"", LONGEST * [b""]),
+        (of_slow, program, "a head byte by byte behind an unknown key", UNKNOWN[:-2], pieces_of(PADDING.encode())),
+        (of_answered, program, "a byte a second behind a reply", OWN, BREACHES),
+        (of_answered, program, "a body byte by byte behind an unknown key", UNKNOWN_FRONT, FORBIDDEN),
+        (of_silent, program, "a silent client", [None], BEHIND_ONE),
+        (of_silent, program, "silent clients that leave", MANY * [1], BEHIND_MANY),
         (of_pushing, program, "a byte now and then behind a request", b"p", 0.5),
         (of_pushing, program, "all that goes behind a request", PIECE, 0),
         *[(part, program) for part in [of_staying, of_unread, of_stops, of_files, of_no_files]],

@@ -1,0 +1,251 @@
+#!/usr/bin/env python3
+"""Gives the program mutated card files, texts of CSV, command lines and requests, and compares what it answers, and the tables that it
+leaves, with the slow reader, the slow office and the slow server.
+
+The first word is the program. With no other one the inputs of some seeds are tried, and of each kind all answers have to come that stand
+below. With '--seconds N' those from a seed on are tried until the time is over ('--first SEED', '--processes P'), and before the last line
+stand the seeds, and of each kind how many inputs were tried, and how often each answer was wanted. With '--kind KIND --seed SEED' those of
+one seed are tried. A failure tells kind, seed and input. The last line is 'N passed, M failed'."""
+import argparse
+import collections
+import itertools
+import multiprocessing
+import os
+import re
+import subprocess
+import sys
+import tempfile
+import time
+
+import compare_office
+import compare_server
+import counting
+import mutated_inputs
+import slow_archive
+import slow_office
+import slow_reader
+from compare_office import STORE_FAILED
+from mutated_inputs import NO_TEXT, PATH
+from office_rows import ANNA, CARD, DAY
+
+SEEDS = 45
+STEP = 4  # seeds of a round
+HANGING = 60  # seconds
+SHOWN = 3_000
+
+# Inputs that are tried first in each run: the kind, the bytes, and why. Those of a command line are its words, an end of line, and then
+# what it reads. Texts of CSV are given to `register` and to `enter`, command lines and requests to an archive with a driver and a file.
+CARDS, CSV, LINES, REQUESTS = "card files", "csv", "command lines", "requests"
+KEPT = [
+    (CARDS, bytes.fromhex(CARD + "0504000010" "00060006" "0f0000010000" "0000000c65e5"), "a date over the end of the shortest buffer"),
+    (CSV, b'start,past,activity\r"2024-03-09 00:00",2024-03-11 00:00,"rest', "a quote that nothing closes"),
+    (LINES, b"breaches -- PATH 17", "two hyphens before the values"),
+    (LINES, b"sheet PATH 17 -- 2024-03", "two hyphens among the values"),
+    (LINES, b"breaches PATH -- --", "two hyphens as a value"),
+    (LINES, b"breaches PATH -", "a hyphen as a value"),
+    (LINES, b"breaches PATH 17 --", "two hyphens behind the values"),
+    (LINES, b"drivers help", "a path that is a command's name"),
+    (REQUESTS, b"\n\r\nGET /drivers/17/breaches HTTP/1.0\nX-KEY:office-key-1\n\r\n\0GET", "ends of lines of both forms"),
+]
+
+# By the kind: the answers that have to come. The code of a fault, or a status.
+ANSWERS = {
+    CARDS: "done C1 C2 C3 C4 C5 C6 C7 C8 C9 C10 C11 C12 C13 C14 X1",
+    CSV: "done E1 E2 E3 E4 E5 E6 E7 E9 E10 S1 S2 S3 S4 S6 S9",
+    LINES: "done usage N1 P1 Z1 Z2 Z3 E1 E2 E9 C1 C9 S1 S2 S3 S4 S6 S7 S8 S9 S10 S12 X1",
+    REQUESTS: "200 201 400 403 404 405 409 411 413 422 431",
+}
+
+Tried = collections.namedtuple("Tried", "name told wanted answers")  # no answers, where it isn't an input that is compared
+
+
+def shown(number, *given):
+    """The number of an input, and the input, or the front of a long one."""
+    text = ", ".join(map(repr, given))
+    return f"{number}: {text[:SHOWN]}{'..' * (len(text) > SHOWN)}"
+
+
+def told_by(words, given, folder=None):
+    """What the program prints for an input, its status, and whether it prints something on standard error; or that it hangs."""
+    try:
+        text, status, errors = compare_office.told_by(words, given, cwd=folder, timeout=HANGING)
+        return text, status, bool(errors)
+    except subprocess.TimeoutExpired as fault:
+        return repr(fault)
+
+
+def answer_of(text, status, *_):
+    """What an answer says in a word: the code of a fault, or what the status says."""
+    return text.split(b" ")[0].decode() if status in (1, 3) else ["done", "", "usage"][status]
+
+
+# Card files
+
+
+def of_files(program, name, files):
+    """The comparisons of card files, and of activity data: what `holder`, `card` and `dump` tell."""
+    for number, (file, part, value) in enumerate(files, 1):
+        told = [told_by([program, "holder"], file), told_by([program, "card", part], file), told_by([program, "dump"], value)]
+        wanted = [slow_reader.holder(file), slow_reader.card(file, part), slow_reader.dump(value)]
+        wanted = [(text.encode(), status, False) for text, status in wanted]
+        yield Tried(f"{name}: {shown(number, file, part, value)}", told, wanted, [answer_of(*one) for one in wanted[1:]])
+
+
+# Command lines
+
+COUNTS = {"dump": 0, "holder": 0, "card": 1, "init": 1, "migrate": 1, "register": 1, "drivers": 1, "import": 2, "enter": 2}
+COUNTS |= {"breaches": 2, "owed": 2, "entries": 2, "withdraw": 3, "base": 3, "spans": 3, "gaps": 3, "sheet": 3, "file": 3}
+USAGE = b"", 2
+
+
+def values_of(words):
+    """The words that are values, or nothing where one of them is an option. Behind two hyphens each of them is a value."""
+    front = [*itertools.takewhile(lambda word: word != "--", words)]
+    if any(word.startswith("-") and word != "-" for word in front):
+        return None
+    return front + words[len(front) + 1 :]
+
+
+def without_archive(name, given, part=None):
+    """What a command prints that has no archive, and its status."""
+    if name == "card" and part not in slow_archive.PARTS:
+        return b"P1 bad part\n", 1
+    text, status = slow_reader.card(given, part) if name == "card" else getattr(slow_reader, name)(given)
+    return text.encode(), status
+
+
+def answer_to(office, words, given):
+    """What a command line prints, whose words are those behind the program's name, and its status."""
+    name, *others = words or [""]
+    values = values_of(others)
+    if NO_TEXT in words or values is None or len(values) != COUNTS.get(name):
+        return USAGE
+    if name in ("dump", "holder", "card"):
+        return without_archive(name, given, *values)
+    return office.answer([name, *values[1:]], given) if values[0] == PATH and name != "init" else STORE_FAILED[:2]
+
+
+def of_lines(program, name, office, lines):
+    """The comparisons of command lines at an archive, and of the tables that they leave."""
+    with tempfile.TemporaryDirectory() as folder:
+        desk = compare_office.Desk(program, folder)
+        desk.office = office
+        desk.run(["init"])
+        for number, (words, given) in enumerate(lines, 1):
+            wanted = answer_to(office, words, given)
+            told = told_by([program, *[{PATH: desk.path, NO_TEXT: b"\xff"}.get(word, word) for word in words]], given, folder)
+            yield Tried(f"{name}: {shown(number, words, given)}", told, (*wanted, wanted == USAGE), [answer_of(*wanted)])
+        yield Tried(*desk.tables(name), [])
+
+
+# Requests
+
+
+def answers_of_reply(reply):
+    """The status of a reply, and the code of the fault whose line it has."""
+    found = re.match(rb"HTTP/1.1 (\d+) .*?\r\n\r\n(?:([CENPSZ]\d+) )?", reply, re.DOTALL)
+    return [word.decode() for word in found.groups() if word]
+
+
+def of_requests(program, name, server, commands, requests):
+    """The comparisons of requests to an archive that was given commands, and of the tables that they leave."""
+    asked = compare_server.asked_of(server, ((shown(number, one), one) for number, one in enumerate(requests, 1)))
+    found = compare_server.of_asked(program, name, commands, asked, server)
+    for comparison, one in itertools.zip_longest(found, asked):
+        yield Tried(*comparison, answers_of_reply(one.replies[0]) if one else [])
+
+
+# All
+
+
+def of_seed(program, kind, seed):
+    """The comparisons of a seed's inputs of a kind."""
+    name = f"{kind}, seed {seed}"
+    if kind == CARDS:
+        return of_files(program, name, mutated_inputs.Files(seed).files())
+    if kind == REQUESTS:
+        maker = mutated_inputs.Requests(seed)
+        return of_requests(program, name, maker.server, [], maker.requests())
+    maker = {CSV: mutated_inputs.Texts, LINES: mutated_inputs.Lines}[kind](seed)
+    return of_lines(program, name, maker.office, maker.lines())
+
+
+def of_kept(program, kind, number):
+    """The comparisons of an input that is kept."""
+    _, given, note = KEPT[number]
+    name = f"{kind}, kept, {note}"
+    if kind == CARDS:
+        return of_files(program, name, [(given, part, given) for part in slow_archive.PARTS])
+    if kind == REQUESTS:
+        commands = [(["register"], ANNA), (["import", "both"], DAY)]
+        return of_requests(program, name, compare_server.server_after(commands), commands, [given])
+    words, _, rest = given.partition(b"\n")
+    others = [(["register", PATH], given), (["enter", PATH, "17"], given)] if kind == CSV else [(words.decode().split(" "), rest)]
+    lines = [(["register", PATH], ANNA), (["import", PATH, "both"], DAY), *others]
+    return of_lines(program, name, slow_office.Office(), lines)
+
+
+def of_question(question):
+    """The kind of a question, and its comparisons. That it comes to no end is one which fails."""
+    function, program, kind, number = question
+    found = []
+    try:
+        for one in function(program, kind, number):
+            found.append(one if one.told != one.wanted else one._replace(name="", told=True, wanted=True))
+    except Exception as fault:  # whatever it is, the other questions are asked
+        found.append(Tried(f"{kind}, {number}: the end", repr(fault), None, []))
+    return kind, found
+
+
+def rounds(program, asked):
+    """The questions, in lists that are asked one after the other."""
+    if asked.seed is not None:
+        yield [(of_seed, program, asked.kind, asked.seed)]
+        return
+    yield [(of_kept, program, kind, number) for number, (kind, *_) in enumerate(KEPT)]
+    if asked.seconds is None:
+        yield [(of_seed, program, kind, seed) for seed in range(SEEDS) for kind in ANSWERS]
+        return
+    first, last = asked.first, time.monotonic() + asked.seconds
+    while time.monotonic() < last:
+        yield [(of_seed, program, kind, seed) for seed in range(first, first + STEP) for kind in ANSWERS]
+        first += STEP
+    print(f"seeds: {asked.first} to {first - 1}")
+
+
+def comparisons(program, asked):
+    program = os.path.abspath(program)
+    counts, answers = collections.Counter(), {kind: collections.Counter() for kind in ANSWERS}
+    with multiprocessing.Pool(asked.processes) as pool:
+        for questions in rounds(program, asked):
+            for kind, found in pool.imap(of_question, questions):
+                for one in found:
+                    counts[kind] += bool(one.answers)
+                    answers[kind].update(one.answers)
+                    yield one[:3]
+        pool.close()
+        pool.join()
+    if asked.seconds is not None:
+        for kind in ANSWERS:
+            told = [f"{answer} {count}" for answer, count in answers[kind].most_common()]
+            print(f"{kind}: {counts[kind]}", f"({', '.join(told)})")
+    elif asked.seed is None:
+        for kind, wanted in ANSWERS.items():
+            yield f"{kind}: answers that didn't come", [answer for answer in wanted.split() if answer not in answers[kind]], []
+
+
+def words():
+    """The words of the command line."""
+    reader = argparse.ArgumentParser()
+    reader.add_argument("program")
+    reader.add_argument("--first", type=int, default=SEEDS)
+    reader.add_argument("--seconds", type=int)
+    reader.add_argument("--processes", type=int, default=2)
+    reader.add_argument("--kind", choices=ANSWERS, default=CARDS)
+    reader.add_argument("--seed", type=int)
+    return reader.parse_args()
+
+
+if __name__ == "__main__":
+    ASKED = words()
+    sys.exit(counting.count(comparisons(ASKED.program, ASKED)))

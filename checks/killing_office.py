@@ -1,0 +1,344 @@
+#!/usr/bin/env python3
+"""Ends the program at random moments, by a signal that none can catch: while it makes an archive, changes it or reads it by commands, and
+while it serves requests that change it. Then it looks at what is left.
+
+SQLite itself has to find, in a copy of the file and its log, the tables as they were before the command that was ended, or as they are
+behind it, and behind it where it has answered; and of requests those of all that were answered, and perhaps of the next one. Then the
+program has to tell what a slow office tells of that state, and the same once more is answered as there. Half of the ends come at any
+time and half behind a change of the files, and some of them while the program opens what another end has left. The word is the program;
+behind it may stand how many lists of commands and of requests there are, as `--rounds N`, and the seed of the first, as `--first SEED`.
+The last line is 'N passed, M failed'."""
+import argparse
+import copy
+import multiprocessing
+import os
+import random
+import re
+import signal
+import subprocess
+import sys
+import tempfile
+import threading
+import time
+
+import compare_archive
+import compare_office
+import compare_server
+import counting
+import migrating_archive
+import office_lines
+import old_archive
+import random_commands
+import random_requests
+import slow_office
+import slow_reader
+import slow_server
+from compare_office import STORE_FAILED, name_of
+
+ROUNDS = 5
+PROCESSES = 2
+REQUESTS = 30  # of a list
+MOST_REQUESTS = 8  # of a server that is ended
+MAKINGS = 4  # archives of a list that are made, the last of which is used
+READINGS_LEFT = 0.3  # of a list of commands, and of one of requests
+CHANGING = ["register", "import", "own", "enter", "withdraw", "base"]
+HOURS = 300  # of a long batch
+KILLED = -signal.SIGKILL
+CREATED = (b"created\n", 0, b"")
+NO_DRIVERS = (b"", 0, b"")
+
+
+def copy_of(office):
+    """A copy of a slow office: what is done at the one doesn't change the other."""
+    made = slow_office.Office()
+    for number, driver in office.archive.drivers.items():
+        other = copy.copy(driver)
+        other.downloads = [*driver.downloads]
+        other.entries = [copy.copy(entry) for entry in driver.entries]
+        made.archive.drivers[number] = other
+    return made
+
+
+def rows_of(office):
+    """What SQLite has to find in the file of an archive that stands for a slow office, or for none."""
+    if office is None:
+        return compare_archive.rows_of({**compare_archive.sound([], {}), "card_spans": [], "held": []})
+    return compare_archive.rows_of(compare_archive.wanted_tables(office.archive, False))
+
+
+class Desk(compare_office.Desk):
+    """The program at an archive in a folder, which ends it, and the slow office beside it, in the state that the last end has left."""
+
+    def __init__(self, program, folder, chance):
+        super().__init__(program, folder)
+        self.chance = chance
+        self.kinds = set()
+        self.is_known = True
+        self.aside = os.path.join(folder, "aside")
+        os.mkdir(self.aside)
+
+    # Ends
+
+    def started(self, path, words, given):
+        """The program, which runs with words at a file. What it prints goes to a file, also that to standard error."""
+        compare_office.write(os.path.join(self.aside, "input"), given)
+        with open(os.path.join(self.aside, "input"), "rb") as source, open(os.path.join(self.aside, "output"), "wb") as target:
+            line = [self.program, words[0], path, *words[1:]]
+            return subprocess.Popen(line, stdin=source, stdout=target, stderr=subprocess.STDOUT)
+
+    def measured(self, words, given):
+        """How long a command takes that nobody ends, in seconds, and how often it changes its files: at a copy of them."""
+        path, start = migrating_archive.copied(self.path, self.aside), time.monotonic()
+        with self.started(path, words, given) as running:
+            count = migrating_archive.watch(running, path, sys.maxsize)
+        return time.monotonic() - start, count
+
+    def ended(self, words, given):
+        """What a command prints that is ended at a random moment, and its status."""
+        seconds, count = self.measured(words, given)
+        with self.started(self.path, words, given) as running:
+            migrating_archive.wait(running, self.path, self.chance, seconds, count)
+            migrating_archive.end(running)
+        return compare_office.content(os.path.join(self.aside, "output")), running.returncode
+
+    def served(self, path, requests, key, watching):
+        """The replies to requests by the program as a server, as far as they come, and how it ends; and what is told by a function that
+        watches it meanwhile."""
+        told = []
+        with compare_server.Serving(self.program, path, key, len(requests)) as serving:
+            watcher = threading.Thread(target=lambda: told.append(watching(serving.process)))
+            watcher.start()
+            replies = replies_of(serving, requests)
+            watcher.join()
+            return replies, serving.end(), told[0]
+
+    def ended_serving(self, requests, key):
+        """The replies by a server that is ended at a random moment, and how it ends."""
+        copied, start = migrating_archive.copied(self.path, self.aside), time.monotonic()
+        *_, count = self.served(copied, requests, key, lambda process: migrating_archive.watch(process, copied, sys.maxsize))
+        seconds = time.monotonic() - start
+
+        def end(process):
+            migrating_archive.wait(process, self.path, self.chance, seconds, count)
+            process.kill()
+
+        replies, told, _ = self.served(self.path, requests, key, end)
+        return replies, told
+
+    # What they leave
+
+    def found(self):
+        """What SQLite finds in a copy of the file and its log. One page without its first byte, which is written last, is no file yet."""
+        copied = migrating_archive.copied(self.path, self.aside)
+        whole = compare_office.content(copied) or b""
+        is_begun = len(whole) <= old_archive.PAGE and whole.startswith(b"\0")
+        return rows_of(None) if is_begun else compare_archive.rows_of(compare_archive.tables(copied))
+
+    def left(self, name, word, before, after, is_answered, is_killed):
+        """The comparison of what an end has left of a command with the tables before it, where it hasn't answered, and with those behind
+        it. The slow office is in that state then; if it is neither, the list ends."""
+        found, was, now = self.found(), rows_of(before), rows_of(after)
+        is_before = found == was and not is_answered
+        self.office = before if is_before else after
+        self.is_known = self.is_known and (is_before or found == now)
+        if was != now and is_killed:
+            self.kinds.add((word, "before" if is_before else "after"))
+        return f"{name}: what is left", found, was if is_before else now
+
+    def reading(self):
+        """A reading: of all drivers, or of one, or of nobody."""
+        number, month = self.chance.choice([*self.office.archive.drivers, 1]), self.chance.choice(random_commands.MONTHS)
+        readings = ["drivers", f"breaches {number}", f"entries {number}", f"spans {number} {month}", f"file {number} 1"]
+        return self.chance.choice(readings).split(" ")
+
+    def of_state(self, name):
+        """The comparison of a reading with that of the state that is left."""
+        words = self.reading()
+        return f"{name}, and then {name_of(words)}", *self.both(words)
+
+    # Lists
+
+    def of_making(self, name):
+        """The comparisons of the making of an archive, which is ended once or a few times, and of the making that succeeds."""
+        self.office = None
+        for place in range(self.chance.choice([1, 1, 2, 3])):
+            before, after = self.office, slow_office.Office()
+            first = (CREATED if before is None else STORE_FAILED)[:2]
+            told = self.ended(["init"], b"")
+            yield f"{name}, end {place}: what is printed", told, right_of(told, first)
+            yield self.left(f"{name}, end {place}", "init", before, after, is_whole(told, first), told[1] == KILLED)
+        yield f"{name}, and then drivers", self.run(["drivers"]), NO_DRIVERS if self.office else STORE_FAILED
+        yield f"{name} once more", self.run(["init"]), STORE_FAILED if self.office else CREATED
+        self.office = slow_office.Office()
+        yield f"{name} once more: tables", self.found(), rows_of(self.office)
+
+    def of_command(self, name, words, given):
+        """The comparisons of a command that is ended once or a few times, and then given once more."""
+        for place in range(self.chance.choice([1, 1, 2, 3])):
+            before, after = self.office, copy_of(self.office)
+            first = after.answer(words, given)
+            told = self.ended(words, given)
+            yield f"{name}, end {place}: what is printed", told, right_of(told, first)
+            yield self.left(f"{name}, end {place}", words[0], before, after, is_whole(told, first), told[1] == KILLED)
+        yield self.of_state(name)
+        yield f"{name} once more", *self.both(words, given)
+        yield f"{name} once more: tables", self.found(), rows_of(self.office)
+
+    def of_requests(self, name, requests, key):
+        """The comparisons of requests to a server that is ended; then the one that wasn't answered is mostly sent once more, and a reading
+        asked for. Answers how many of them are done."""
+        replies, told = self.ended_serving(requests, key)
+        before, after, is_answered = self.office, copy_of(self.office), True
+        for number, (request, reply) in enumerate(zip(requests, replies), 1):
+            before = copy_of(after)
+            wanted = slow_server.Server(after, key).reply(request)
+            is_answered = reply == wanted
+            is_cut = number == len(replies) and wanted.startswith(reply)
+            yield f"{name}, request {number}", reply, reply if is_cut else wanted
+        has_all = is_answered and len(replies) == len(requests)
+        yield f"{name}: its end", told, told if has_all and told == compare_server.ENDED else (b"", KILLED, b"")
+        yield self.left(name, "serve", before, after, is_answered, told != compare_server.ENDED)
+        done = len(replies) - (not is_answered and rows_of(self.office) != rows_of(after))
+        if self.chance.random() < 0.6:
+            yield self.of_state(name)
+            yield from self.of_once_more(name, requests[min(done, len(requests) - 1)], key)
+            done += 1
+        return done
+
+    def of_once_more(self, name, request, key):
+        """The comparisons of a request that is sent to a server of its own."""
+        wanted = slow_server.Server(self.office, key).reply(request)
+        with compare_server.Serving(self.program, self.path, key, 1) as serving:
+            yield f"{name}: {request[:40]} once more", serving.ask([request], False), wanted
+            yield f"{name}: the end of the server then", serving.end(), compare_server.ENDED
+        yield f"{name}: tables then", self.found(), rows_of(self.office)
+
+
+def is_whole(told, wanted):
+    """Whether a command has told all that it has to tell: by its status, or by its text alone where it was ended behind that."""
+    text, status = told
+    return status != KILLED or text != b"" and text == wanted[0]
+
+
+def right_of(told, wanted):
+    """What a command has to tell: where it was ended, the beginning of its text."""
+    text, status = told
+    return told if status == KILLED and wanted[0].startswith(text) else wanted
+
+
+def replies_of(serving, requests):
+    """The replies to requests over connections of their own, up to the first that isn't whole, and to the end of the server."""
+    replies = []
+    for request in requests:
+        try:
+            with serving.connection() as connection:
+                compare_server.sent(connection, [request])
+                replies.append(compare_server.received(connection))
+        except OSError:
+            break
+        head, _, body = replies[-1].partition(b"\r\n\r\n")
+        length = re.search(rb"content-length: ([0-9]+)", head)
+        if not length or len(body) < int(length[1]):
+            break
+    return replies
+
+
+# What is done
+
+
+def long_batch(chance, number):
+    """The entry of many hours of a driver, from any day of 2010 or 2011 on."""
+    start = 1440 * slow_office.day_number(slow_office.date_of(2010, 1, 1)) + 15 * chance.randrange(70_000)
+    starts = [start + 15 * place for place in range(chance.randrange(HOURS))]
+    return ["enter", str(number)], random_commands.hours_csv([(a, a + 15, chance.choice(slow_reader.ACTIVITIES)) for a in starts])
+
+
+def enlarged(chance, words, given):
+    """The same, where it is an import now and then with blocks behind the file that aren't read."""
+    if words[0] in ("import", "own") and len(given) < slow_office.INPUT_LIMIT and chance.random() < 0.3:
+        return words, random_requests.padded_file(given, chance.randrange(len(given), slow_office.INPUT_LIMIT + 1))
+    return words, given
+
+
+def lines_of(seed, chance):
+    """Command lines of a seed, and long batches between them; some of the readings are left out."""
+    lines = [enlarged(chance, *line) for line in office_lines.Lines(seed).lines()]
+    lines = [line for line in lines if line[0][0] in CHANGING or chance.random() < READINGS_LEFT]
+    for _ in range(3):
+        lines.insert(chance.randrange(3, len(lines)), long_batch(chance, chance.choice(random_commands.NUMBERS)))
+    return lines
+
+
+def requests_of(seed, chance):
+    """Requests of a seed, most of which change the archive, and the office's key."""
+    made = random_requests.Requests(seed)
+    lines, requests = [*made.registrations(), made.weeks()], []
+    while len(requests) < REQUESTS:
+        line = lines.pop(0) if lines else enlarged(chance, *made.line())
+        if chance.random() < 0.1:
+            line = long_batch(chance, made.number())
+        if line[0][0] in CHANGING or chance.random() < READINGS_LEFT:
+            requests.append(made.parts(*line).bytes())
+            made.server.replies(requests[-1])
+    return requests, made.office_key
+
+
+def of_commands(desk, seed):
+    """The comparisons of a seed's commands."""
+    for number in range(MAKINGS):
+        desk.path = os.path.join(os.path.dirname(desk.aside), f"archive-{number}.db")
+        yield from desk.of_making(f"seed {seed}, init {number}")
+    for number, (words, given) in enumerate(lines_of(seed, desk.chance), 1):
+        if desk.is_known:
+            yield from desk.of_command(f"seed {seed}, line {number}: {name_of(words)}", words, given)
+
+
+def of_serving(desk, seed):
+    """The comparisons of a seed's requests."""
+    desk.prepare([])
+    requests, key = requests_of(seed, desk.chance)
+    number = 0
+    while requests and desk.is_known:
+        number += 1
+        some = requests[: desk.chance.randrange(1, MOST_REQUESTS + 1)]
+        done = yield from desk.of_requests(f"seed {seed}, server {number}", some, key)
+        requests = requests[done:]
+
+
+# All
+
+
+def of_question(question):
+    """The comparisons of a function over a list, and which kinds of states the ends have left."""
+    function, program, seed = question
+    with tempfile.TemporaryDirectory() as folder:
+        desk = Desk(program, folder, random.Random(f"{function.__name__} {seed}"))
+        return list(function(desk, seed)), desk.kinds
+
+
+def comparisons(program, rounds, first):
+    program = os.path.abspath(program)
+    questions = [(part, program, seed) for seed in range(first, first + rounds) for part in (of_commands, of_serving)]
+    kinds = set()
+    with multiprocessing.Pool(PROCESSES) as pool:
+        for found, left in pool.imap(of_question, questions):
+            yield from found
+            kinds |= left
+        pool.close()
+        pool.join()
+    both = [word for word in ["init", *CHANGING, "serve"] if {(word, "before"), (word, "after")} <= kinds]
+    yield "whether ends have left a command undone and done", any(word != "serve" for word in both), True
+    yield "whether ends have left a request undone and done", "serve" in both, True
+
+
+def words():
+    """The words of the command line."""
+    parser = argparse.ArgumentParser()
+    parser.add_argument("program")
+    parser.add_argument("--rounds", type=int, default=ROUNDS)
+    parser.add_argument("--first", type=int, default=0)
+    return parser.parse_args()
+
+
+if __name__ == "__main__":
+    sys.exit(counting.count(comparisons(**vars(words()))))

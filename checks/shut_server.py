@@ -1,0 +1,257 @@
+#!/usr/bin/env python3
+"""Starts the program as a server on a disk that stops at each of its calls in turn, or fails that call alone, and looks for a reply, a
+table or an end that is wrong; and looks at who may read the files that it makes.
+
+A request that changes the archive is replied to as by a slow server, or with 503, and then the archive is as before it or as behind it.
+Behind a 503 the next request is replied to as in one of these two states, or the server has ended, since the store is shut: it says so
+(S12), and its status is 3. What it has replied to is in the tables that SQLite finds at the end, and what the program tells of them then
+is as it was told. The file of a new archive and its log are their owner's alone, whatever the umask. The words are the program and the
+compiler of C. The last line is 'N passed, M failed'."""
+import contextlib
+import itertools
+import multiprocessing
+import os
+import shutil
+import stat
+import subprocess
+import sys
+import tempfile
+
+import compare_archive
+import compare_office
+import counting
+import migrating_archive
+import programs
+import slow_server
+from compare_office import STORE_FAILED, WITH_ANNA, WITH_DAY
+from compare_server import ENDED, OFFICE, Serving, asking, posting
+from failing_server import UNAVAILABLE
+from killing_office import CREATED, copy_of, rows_of
+from office_rows import ANNA, BERT, DAY, DAY_OFF, LARGEST_DAY, MORNING
+
+PROCESSES = 4  # each waits for its program most of the time
+STOPPED = b"stopped\n"
+BECOMES = ": what becomes of the server"
+
+# How many calls of the disk fail, and how many replies may be 503 then.
+STOPS = {"the disk stopped at": (None, 3), "the disk failed": (1, 1)}
+
+ENTRIES = asking("GET /drivers/17/entries", OFFICE)
+HELD = asking("GET /drivers/17/spans/2024-03", OFFICE)
+REGISTER = posting("/drivers", OFFICE, BERT)
+IMPORT = posting("/cards/both", OFFICE, DAY)
+ENTER = posting("/drivers/17/entries", OFFICE, MORNING)
+SIGN = posting("/drivers/17/entries", OFFICE, DAY_OFF)
+WITHDRAW = asking("POST /drivers/17/withdraw/1", OFFICE)
+REBASE = asking("POST /drivers/17/base/2024-03-11", OFFICE)
+
+# What an archive was given before, and three requests to it.
+CASES = {
+    "a first driver": ([], [posting("/drivers", OFFICE, ANNA), ENTRIES, REGISTER]),
+    "a first download": (WITH_ANNA, [IMPORT, HELD, ENTER]),
+    "the largest download": (WITH_ANNA, [posting("/cards/both", OFFICE, LARGEST_DAY), HELD, REBASE]),
+    "hours": (WITH_DAY, [ENTER, ENTRIES, WITHDRAW]),
+    "a withdrawal": (WITH_DAY, [WITHDRAW, HELD, SIGN]),
+    "another base": (WITH_DAY, [REBASE, asking("GET /drivers/17/breaches", OFFICE), IMPORT]),
+    "changes one after the other": (WITH_DAY, [ENTER, SIGN, WITHDRAW]),
+}
+
+
+class Judge:
+    """What may be told by a server whose disk fails: the states in which its archive may be, and how many replies may still be 503."""
+
+    def __init__(self, office, most):
+        self.states = [office]
+        self.most = most
+        self.replies = []
+
+    def has_failed(self):
+        """Whether a reply was 503."""
+        return UNAVAILABLE in self.replies
+
+    def has_ended(self):
+        """Whether there was no reply any more."""
+        return b"" in self.replies
+
+    def right(self, request, reply):
+        """The reply to a request if it may be so, and else one that may. Behind it the archive may be in other states."""
+        may_end = self.has_failed() or self.has_ended() or not self.replies
+        may_fail = request.startswith(b"POST ") and self.replies.count(UNAVAILABLE) < self.most
+        is_over = self.has_ended()
+        self.replies.append(reply)
+        if is_over or reply == b"" and may_end:
+            return b""
+        offices = [copy_of(office) for office in self.states]
+        wanted = [slow_server.Server(office, OFFICE).reply(request) for office in offices]
+        if reply == UNAVAILABLE and may_fail:
+            self.states += offices
+            return reply
+        self.states = [office for office, told in zip(offices, wanted) if told == reply] or offices
+        return reply if reply in wanted else wanted[0]
+
+    def end(self, told):
+        """How the server may end: where the store is shut behind its last reply, it ends so too."""
+        may_be_shut = self.has_ended() or self.replies[-1] == UNAVAILABLE
+        return STORE_FAILED[:2] if self.has_ended() or may_be_shut and told == STORE_FAILED[:2] else ENDED[:2]
+
+    def kind(self, told):
+        """What has become of the server that ended so, in a word."""
+        if not self.has_failed():
+            return "unopened" if self.has_ended() else "undisturbed"
+        return "shut" if told == STORE_FAILED[:2] else "open"
+
+
+def remove_log(path):
+    """Removes the log beside a file, if there is one."""
+    with contextlib.suppress(FileNotFoundError):
+        os.remove(path + "-wal")
+
+
+class Desk(compare_office.Desk):
+    """The program at an archive in a folder, to which some commands were given, the slow office beside it, and a folder for copies."""
+
+    def __init__(self, program, folder, commands):
+        super().__init__(program, folder)
+        self.prepare(commands)
+        self.aside = os.path.join(folder, "aside")
+        os.mkdir(self.aside)
+        self.whole = shutil.copy(self.path, os.path.join(folder, "whole.db"))
+
+    def restore(self):
+        """Makes the file what it was, without a log."""
+        remove_log(self.path)
+        shutil.copy(self.whole, self.path)
+
+    def found(self):
+        """What SQLite finds in a copy of the file and its log."""
+        return compare_archive.rows_of(compare_archive.tables(migrating_archive.copied(self.path, self.aside)))
+
+    def of_server(self, name, requests, environment, most):
+        """The comparisons of requests to a server whose disk fails, and of what it leaves. Answers whether the disk has failed."""
+        judge = Judge(self.office, most)
+        with Serving(self.program, self.path, OFFICE, len(requests), environment) as serving:
+            for number, request in enumerate(requests, 1):
+                reply = serving.ask([request], False)
+                reply = reply if isinstance(reply, bytes) else b""
+                yield f"{name}, request {number}", reply, judge.right(request, reply)
+            serving.lost = None
+            *told, errors = serving.end()
+        yield f"{name}: the end", tuple(told), judge.end(tuple(told))
+        found = self.found()
+        office = next((office for office in judge.states if rows_of(office) == found), judge.states[0])
+        yield f"{name}: tables", found, rows_of(office)
+        yield f"{name}, and then entries", self.run(["entries", "17"]), (*office.answer(["entries", "17"]), b"")
+        is_stopped, kind = errors == STOPPED, judge.kind(tuple(told))
+        yield f"{name}{BECOMES if is_stopped else ' was not made'}", kind, kind if is_stopped else "undisturbed"
+        return is_stopped
+
+
+def of_case(program, compiler, case, kind):
+    """The comparisons of a case on a disk that fails at each call in turn, up to the first server that makes fewer."""
+    commands, requests = CASES[case]
+    count, most = STOPS[kind]
+    with tempfile.TemporaryDirectory() as folder:
+        desk = Desk(program, folder, commands)
+        stopper = programs.built(compiler, folder, "stop_disk")
+        for number in itertools.count(1):
+            desk.restore()
+            environment = {"LD_PRELOAD": stopper, **programs.stopped_from(number, count)}
+            if not (yield from desk.of_server(f"{case}, {kind} call {number}", requests, environment, most)):
+                break
+        yield f"{case}, {kind} a call: whether it was", number > 1, True
+
+
+# Who may read the files
+
+
+def modes(path):
+    """The modes of a file and its log, as far as they are there."""
+    return {ending: f"{stat.S_IMODE(os.stat(path + ending).st_mode):o}" for ending in ["", "-wal"] if os.path.exists(path + ending)}
+
+
+OWNED = {"": "600", "-wal": "600"}
+
+
+@contextlib.contextmanager
+def masked(umask):
+    """Has programs begin with a umask."""
+    before = os.umask(umask)
+    try:
+        yield
+    finally:
+        os.umask(before)
+
+
+def end_in_log(desk):
+    """Ends a command once it has made a log."""
+    with open(os.path.join(os.path.dirname(desk.path), "input"), "w+b") as source:
+        source.write(MORNING)
+        source.seek(0)
+        with subprocess.Popen(desk.words(["enter", "17"]), stdin=source, stdout=subprocess.DEVNULL) as running:
+            while not os.path.exists(desk.path + "-wal") and running.poll() is None:
+                pass
+            migrating_archive.end(running)
+
+
+def of_modes(program, umask):
+    """The comparisons of the modes of a new archive's files: as they are made, while a server has them open, and after an end; also where
+    the log is made anew."""
+    name = f"umask {umask:03o}"
+    with tempfile.TemporaryDirectory() as folder, masked(umask):
+        desk = compare_office.Desk(program, folder)
+        yield f"{name}: init", desk.run(["init"]), CREATED
+        yield f"{name}: the modes after init", modes(desk.path), OWNED
+        yield f"{name}: register", *desk.both(["register"], ANNA)
+        yield f"{name}: the modes after a command", modes(desk.path), OWNED
+        for is_new in (False, True):
+            if is_new:
+                remove_log(desk.path)
+            with Serving(program, desk.path, OFFICE, 2) as serving:
+                yield f"{name}: a reply", serving.ask([ENTRIES], False), slow_server.Server(desk.office, OFFICE).reply(ENTRIES)
+                yield f"{name}: the modes while a server runs, a new log {is_new}", modes(desk.path), OWNED
+            yield f"{name}: the modes after its end", modes(desk.path), OWNED
+        yield f"{name}: drivers", *desk.both(["drivers"])
+        remove_log(desk.path)
+        end_in_log(desk)
+        yield f"{name}: the modes after the end of a command", modes(desk.path), OWNED
+
+
+def of_refused_modes(program):
+    """The comparisons of the modes of files that are there and where no archive is made: they stay."""
+    for mode in (0o600, 0o640, 0o644, 0o666):
+        for name in ["a text", "an archive"]:
+            with tempfile.TemporaryDirectory() as folder:
+                desk = compare_office.Desk(program, folder)
+                if name == "an archive":
+                    desk.prepare([])
+                else:
+                    compare_office.FILES[name][0](desk.path)
+                os.chmod(desk.path, mode)
+                yield f"{name} of mode {mode:03o}: init", desk.run(["init"]), STORE_FAILED
+                yield f"{name} of mode {mode:03o}: its mode", modes(desk.path)[""], f"{mode:o}"
+
+
+# All
+
+
+def of_question(question):
+    """The comparisons of a question: a function and what it is given."""
+    function, *words = question
+    return list(function(*words))
+
+
+def comparisons(program, compiler):
+    questions = [(of_case, program, compiler, case, kind) for case in CASES for kind in STOPS]
+    questions += [(of_modes, program, 0o022), (of_modes, program, 0), (of_refused_modes, program)]
+    kinds = set()
+    with multiprocessing.Pool(PROCESSES) as pool:
+        for found in pool.imap(of_question, questions):
+            yield from found
+            kinds.update(told for name, told, _ in found if name.endswith(BECOMES))
+        pool.close()
+        pool.join()
+    yield "whether servers were shut, and others undisturbed", kinds >= {"shut", "undisturbed"}, True
+
+
+if __name__ == "__main__":
+    sys.exit(counting.count(comparisons(*sys.argv[1:])))
