@@ -22,6 +22,9 @@ const TRIES: u32 = 300;
 
 const PAUSE: u64 = 100;
 
+/// How often the server asks an archive whose store has failed, with that pause behind each question, before it ends: a second in all.
+const QUESTIONS: u32 = 10;
+
 /// The system's numbers of what can keep it from giving a connection for a while: memory, all files that are open and those of the program,
 /// a client that has left, and memory for sockets.
 const ENOMEM: i32 = 12;
@@ -74,16 +77,23 @@ fn listen(rt: &HostRuntime, archive: &mut FileArchive, key: &str, port: u16, cou
             return no_port(rt);
         };
         let _ = answer_one(rt, archive, key, &stream);
-        if has_failed(archive, key) {
+        if has_failed(rt, archive, key) {
             return archive::refuse(rt, StoreFault::Store);
         }
     }
     0
 }
 
-/// Whether the archive's store fails at a question, as each that was shut does.
-fn has_failed(archive: &mut FileArchive, key: &str) -> bool {
-    matches!(archive.who(key.as_bytes()), Err(StoreFault::Store))
+/// Whether the archive's store fails at each of some questions, as one that was shut does. One that had no memory for a moment answers a
+/// later one.
+fn has_failed(rt: &HostRuntime, archive: &mut FileArchive, key: &str) -> bool {
+    for _ in 0..QUESTIONS {
+        if !matches!(archive.who(key.as_bytes()), Err(StoreFault::Store)) {
+            return false;
+        }
+        thread::sleep(rt, Duration::from_millis(PAUSE));
+    }
+    true
 }
 
 /// Takes the next connection. Where what it needs is short it waits and tries again, and fails at the last try.
