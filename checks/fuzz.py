@@ -118,7 +118,7 @@ def answer_to(office, words, given):
     """What a command line prints, whose words are those behind the program's name, and its status."""
     name, *others = words or [""]
     values = values_of(others)
-    if NO_TEXT in words or values is None or len(values) != COUNTS.get(name):
+    if any(NO_TEXT in word for word in words) or values is None or len(values) != COUNTS.get(name):
         return USAGE
     if name in ("dump", "holder", "card"):
         return without_archive(name, given, *values)
@@ -133,7 +133,8 @@ def of_lines(program, name, office, lines):
         desk.run(["init"])
         for number, (words, given) in enumerate(lines, 1):
             wanted = answer_to(office, words, given)
-            told = told_by([program, *[{PATH: desk.path, NO_TEXT: b"\xff"}.get(word, word) for word in words]], given, folder)
+            bytes_of = [desk.path if word == PATH else word.encode(errors="surrogatepass") for word in words]
+            told = told_by([program, *bytes_of], given, folder)
             yield Tried(f"{name}: {shown(number, words, given)}", told, (*wanted, wanted == USAGE), [answer_of(*wanted)])
         yield Tried(*desk.tables(name), [])
 
