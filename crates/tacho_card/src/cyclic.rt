@@ -1,4 +1,4 @@
-ghost use Rattle.std.specs.Prelude.{◌≡◌, ◌<◌, length};
+ghost use Rattle.std.specs.Prelude.{◌≡◌, ◌<◌, ◌%◌, length};
 ghost use Rattle.tacho_card.specs.DriverActivity.{byte_at, number_at};
 
 use crate::fault::CardFault;
@@ -87,7 +87,19 @@ pub(crate) fn byte_in(buffer: &[u8], i: usize) -> u8
     requires { 0 < length buffer.now }
     ensures { result ≡ byte_at buffer.now i }
 {
-    buffer[i % buffer.len()]
+    buffer[place_in(buffer, i)]
+}
+
+/// The place that is counted on past the end. Most lie before it, and take no division.
+pub(crate) fn place_in(buffer: &[u8], i: usize) -> usize
+    requires { 0 < length buffer.now }
+    ensures value { result ≡ i % length buffer.now }
+    ensures inside { result < length buffer.now }
+{
+    if i < buffer.len() {
+        return i;
+    }
+    i % buffer.len()
 }
 
 /// The number in the two bytes from a place on.
@@ -95,7 +107,7 @@ pub(crate) fn number_in(buffer: &[u8], i: usize) -> u16
     requires { 0 < length buffer.now }
     ensures { result ≡ number_at buffer.now i }
 {
-    let place = i % buffer.len();
+    let place = place_in(buffer, i);
     let bytes = [byte_in(buffer, place), byte_in(buffer, place + 1)];
     BigEndian::read_u16(&bytes)
 }

@@ -3,7 +3,7 @@ ghost use Rattle.tacho_card.specs.ActivityChangeInfo.{time_of};
 ghost use Rattle.tacho_card.specs.RawSpans.{marked};
 ghost use Rattle.tacho_card.specs.DailyRecord.{is_length as length_test, is_read_day as day_test, day_at, words_fault};
 
-use crate::cyclic::number_in;
+use crate::cyclic::{number_in, place_in};
 use crate::fault::CardFault;
 use crate::word::Word;
 use std::alloc::AllocError;
@@ -61,7 +61,7 @@ impl<'a> Record<'a> {
     pub fn word(&self, i: usize) -> Word
         ensures { result ≡ word_at self.now.buffer self.now.place i }
     {
-        let i = i % self.buffer.len();
+        let i = place_in(self.buffer, i);
         Word::of(number_in(self.buffer, self.place + 12 + 2 * i))
     }
 

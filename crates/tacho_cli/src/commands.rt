@@ -1,5 +1,4 @@
-ghost use Rattle.std.specs.Prelude.{◌≡◌, ◌≤◌, ◌⊎◌, Err, None, Some, length, false, flat_map, IfOk, MatchResult, string_bytes};
-ghost use Rattle.tacho_time.specs.Text.{span_line};
+ghost use Rattle.std.specs.Prelude.{◌≡◌, ◌≤◌, ◌⊎◌, Err, None, Some, length, false, IfOk, MatchResult, string_bytes};
 ghost use Rattle.tacho_card.specs.declared.fault.CardFault.TheVariants.{Memory};
 ghost use Rattle.tacho_state.specs.Content.{FileTells};
 ghost use Rattle.tacho_desk.specs.Words.{part_of as part_named};
@@ -13,7 +12,7 @@ use std::alloc::{AllocError, Global};
 use tacho_card::{CardFault, CardFile, Cyclic, Part, spans, spans_of};
 use tacho_desk::{Fault, part_of};
 use tacho_sheet::{Fault as ToldFault, push_bytes};
-use tacho_time::{Sink, Source, Span, read_all, write_span};
+use tacho_time::{Sink, Source, read_all, span_lines};
 
 /// How many bytes an EF Driver_Activity_Data has at the most.
 const ACTIVITY_LIMIT: usize = 65_535;
@@ -31,30 +30,19 @@ pub fn dump<R: Source, W: Sink>(alloc: Global, reader: &mut R, writer: &mut W) -
         Err(fault) => return tell_fault(writer, Fault::from(fault)),
     };
     match dump_text(alloc, &input) {
-        Ok(text) => tell(writer, text.as_bytes(), 0),
+        Ok(text) => tell(writer, &text, 0),
         Err(fault) => tell_fault(writer, Fault::from(fault)),
     }
 }
 
 /// The lines of what a value's bytes give.
-fn dump_text(alloc: Global, bytes: &[u8]) -> Result<String, CardFault>
+fn dump_text(alloc: Global, bytes: &[u8]) -> Result<Vec<u8>, CardFault>
     requires { length bytes.now ≤ 65535 }
-    ensures { MatchResult result (λ text. IsDumped bytes.now (string_bytes text)) (λ fault. ReadsValue bytes.now (Err fault) ⊎ (fault ≡ Memory)) }
+    ensures { MatchResult result (λ text. IsDumped bytes.now text.items) (λ fault. ReadsValue bytes.now (Err fault) ⊎ (fault ≡ Memory)) }
 {
     let block = Cyclic::read(bytes)?;
     let spans = spans_of(alloc, &block)?;
     Ok(span_lines(alloc, &spans)?)
-}
-
-/// The lines of spans.
-fn span_lines(alloc: Global, spans: &[Span]) -> Result<String, AllocError>
-    ensures { IfOk result (λ text. string_bytes text ≡ flat_map span_line spans.now) }
-{
-    let mut text = String::new(alloc);
-    for span in spans {
-        write_span(&mut text, span)?;
-    }
-    Ok(text)
 }
 
 /// How many bytes a card file has at the most.
@@ -106,14 +94,14 @@ fn card_by<R: Source, W: Sink>(alloc: Global, part: Part, reader: &mut R, writer
         Err(fault) => return tell_fault(writer, Fault::from(fault)),
     };
     match card_text(alloc, part, &file) {
-        Ok(text) => tell(writer, text.as_bytes(), 0),
+        Ok(text) => tell(writer, &text, 0),
         Err(fault) => tell_fault(writer, Fault::from(fault)),
     }
 }
 
 /// The lines of what a card file gives, read by a part.
-fn card_text(alloc: Global, part: Part, bytes: &[u8]) -> Result<String, CardFault>
-    ensures { MatchResult result (λ text. IsListed part bytes.now (string_bytes text))
+fn card_text(alloc: Global, part: Part, bytes: &[u8]) -> Result<Vec<u8>, CardFault>
+    ensures { MatchResult result (λ text. IsListed part bytes.now text.items)
         (λ fault. FileTells part bytes.now (Err fault) ⊎ (fault ≡ Memory)) }
 {
     let file = CardFile::read(bytes)?;

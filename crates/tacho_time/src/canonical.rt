@@ -1,4 +1,4 @@
-ghost use Rattle.std.specs.Prelude.{◌≡◌, ◌++◌, ◌∷◌, [], filter, IfOk, OnOk, MatchResult, Ok};
+ghost use Rattle.std.specs.Prelude.{◌≡◌, ◌++◌, ◌∷◌, [], filter, IfOk, IsTrue, OnOk, MatchResult, Ok};
 ghost use Rattle.tacho_time.specs.Merge.{merged, IsMergeFault, is_apart, stretched, IsFirstFault, is_full};
 ghost use Rattle.tacho_time.specs.Spans.{Gives, IsCanonical, IsCanonicalOf, GiveSame, StartsFrom};
 
@@ -30,7 +30,7 @@ impl From<AllocError> for SpanFault {
 fn merge(alloc: Global, spans: &[Span]) -> Result<Vec<Span>, SpanFault>
     ensures { MatchResult result (λ runs. merged spans.now ≡ Ok runs.items) (λ fault. IsMergeFault fault (merged spans.now)) }
 {
-    let mut runs = Vec::new(alloc);
+    let mut runs = Vec::with_capacity(alloc, spans.len())?;
     let Some((first, others)) = spans.split_first() else {
         return Ok(runs);
     };
@@ -86,6 +86,31 @@ fn merge_ordered(alloc: Global, spans: &[Span]) -> Result<Vec<Span>, SpanFault>
 /// The canonical list of what spans give: in order, disjoint, none empty, and two that touch have
 /// different marks. The spans come in any order, and may overlap or be empty.
 pub fn canonical_spans(alloc: Global, spans: &[Span]) -> Result<Vec<Span>, SpanFault>
+    ensures { MatchResult result (λ runs. IsCanonicalOf (Gives spans.now) runs.items) (IsFirstFault (Gives spans.now)) }
+{
+    if are_in_order(spans) {
+        merge_ordered(alloc, spans)
+    } else {
+        merge_in_order(alloc, spans)
+    }
+}
+
+/// Whether no span is empty, and none starts before the one before it, as those of a card mostly are.
+fn are_in_order(spans: &[Span]) -> bool
+    ensures { IsTrue result → StartsFrom 0 spans.now }
+{
+    let mut from = 0;
+    for span in spans {
+        if span.start.number() < from || span.past <= span.start {
+            return false;
+        }
+        from = span.start.number();
+    }
+    true
+}
+
+/// The canonical list of spans in any order.
+fn merge_in_order(alloc: Global, spans: &[Span]) -> Result<Vec<Span>, SpanFault>
     ensures { MatchResult result (λ runs. IsCanonicalOf (Gives spans.now) runs.items) (IsFirstFault (Gives spans.now)) }
 {
     let mut full = full_spans(alloc, spans)?;

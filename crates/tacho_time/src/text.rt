@@ -14,7 +14,7 @@ use std::fmt;
 pub type Line = ArrayString<64>;
 
 /// How many days before 1970-01-01 the calendar of `jiff` begins.
-const DAYS_TO_EPOCH: u32 = 4_371_587;
+pub(crate) const DAYS_TO_EPOCH: u32 = 4_371_587;
 
 fn push_two_digits(line: &mut Line, number: u32)
     requires digits { number < 100 }

@@ -1,4 +1,4 @@
-use Rattle.std.proofs.Common.{◌≡◌, ◌⊎◌, ◌↔◌, true, inl, List, ℕ, Some, refl, ap, subst, sym, string_bytes, Err}
+use Rattle.std.proofs.Common.{◌≡◌, ◌⊎◌, ◌↔◌, true, inl, List, ℕ, Some, refl, ap, subst, sym, Err}
 use Rattle.tacho_time.specs.declared.whole.ReadFault.TheVariants as read
 use Rattle.tacho_card.specs.declared.fault.CardFault.TheVariants as card
 use Rattle.tacho_state.specs.Content.{FileTells}
@@ -26,12 +26,12 @@ pub returns-in-Ok-card_text : goal.returns-in-Ok-card_text
 returns-in-Ok-card_text g c =
     let part = c.args.part in
     let input = c.in-Ok.file.items in
-    let text = string_bytes c.in-Ok-card_text.text in
+    let text = c.in-Ok-card_text.text.items in
     let sound : g.R.Source.has_failed c.read_all.new.reader ≡ true → ⊥ = λ e. let is = c.in-Ok.ensures.failed.1 e in cc in
     replied (IsCardBy (Some part)) (g.R.Source.unread c.args.reader.now) (g.R.Source.has_failed c.read_all.new.reader)
     (g.W.Sink.has_failed c.tell.new.writer)
     (g.W.Sink.written c.args.writer.now) (g.W.Sink.written c.tell.new.writer) c.tell.result input _ sound c.in-Ok.ensures.whole
-    (inl (card_listed part input _ c.in-Ok.ensures.within (subst (IsListed part input) (sym c.as_bytes.ensures.value)
+    (inl (card_listed part input _ c.in-Ok.ensures.within (subst (IsListed part input) (sym c.deref-in-Ok-card_text.ensures.value)
     (subst (λ (bytes : List ℕ). IsListed part bytes text) c.deref.ensures.value c.in-Ok-card_text.ensures))))
     c.tell.ensures
 

@@ -1,4 +1,4 @@
-use Rattle.std.proofs.Common.{◌≡◌, ◌⊎◌, ◌↔◌, true, inl, List, ℕ, refl, ap, subst, sym, string_bytes, Err}
+use Rattle.std.proofs.Common.{◌≡◌, ◌⊎◌, ◌↔◌, true, inl, List, ℕ, refl, ap, subst, sym, Err}
 use Rattle.tacho_time.specs.declared.whole.ReadFault.TheVariants as read
 use Rattle.tacho_card.specs.declared.fault.CardFault.TheVariants as card
 use Rattle.tacho_desk.specs.declared.fault.Fault.{Fault}
@@ -25,7 +25,7 @@ returns-in-Ok-dump_text g c =
     let sound : g.R.Source.has_failed c.read_all.new.reader ≡ true → ⊥ = λ e. let is = c.in-Ok.ensures.failed.1 e in cc in
     replied IsDump (g.R.Source.unread c.args.reader.now) (g.R.Source.has_failed c.read_all.new.reader) (g.W.Sink.has_failed c.tell.new.writer)
     (g.W.Sink.written c.args.writer.now) (g.W.Sink.written c.tell.new.writer) c.tell.result input _ sound c.in-Ok.ensures.whole
-    (inl (dumped input _ c.in-Ok.ensures.within (subst (IsDumped input) (sym c.as_bytes.ensures.value) (subst (λ (bytes : List ℕ). IsDumped bytes (string_bytes c.in-Ok-dump_text.text)) c.deref.ensures.value c.in-Ok-dump_text.ensures))))
+    (inl (dumped input _ c.in-Ok.ensures.within (subst (IsDumped input) (sym c.deref-in-Ok-dump_text.ensures.value) (subst (λ (bytes : List ℕ). IsDumped bytes c.in-Ok-dump_text.text.items) c.deref.ensures.value c.in-Ok-dump_text.ensures))))
     c.tell.ensures
 
 pub returns : goal.returns

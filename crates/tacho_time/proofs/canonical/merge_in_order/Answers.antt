@@ -4,7 +4,7 @@ use Rattle.std.proofs.lemmas.List.Sorted.{IsNonDecreasingBy-from_sort_by_key}
 use Rattle.tacho_time.specs.declared.span.Span.{Span}
 use Rattle.tacho_time.specs.Spans.{StartsFrom}
 use Rattle.tacho_time.proofs.CanonicalLemmas.{sorted_full, sorted_same, moved_result}
-use Rattle.tacho_time.proofs.canonical.canonical_spans.Goals as goal
+use Rattle.tacho_time.proofs.canonical.merge_in_order.Goals as goal
 
 pub merge_ordered-requires : goal.merge_ordered-requires
 merge_ordered-requires c =

@@ -1,8 +1,0 @@
-use Rattle.std.proofs.Common.{◌≡◌, take, string_bytes}
-use Rattle.std.specs.List.{flat_map}
-use Rattle.tacho_time.specs.Text.{span_line}
-use Rattle.tacho_cli.proofs.commands.span_lines.Given as goal
-
--- the lines so far are those of the spans so far
-abbrev pub invariant-loop-span : goal.invariant-loop-span
-invariant-loop-span l = string_bytes l.text ≡ flat_map span_line (take l.span-index l.spans)
