@@ -1,6 +1,6 @@
 //! What `tacho serve` does of three requests, in plain Rust over std and stock SQLite: a driver asks for his breaches, and the office for
-//! the sheet of a month, or it hands in a card file. The statements and their transactions are the program's, so that a sheet reads
-//! twice what the driver holds. What isn't one of the three, or is refused, gets 400 and no text.
+//! the sheet of a month, or it hands in a card file. The statements and their transactions are the program's, save that a sheet reads
+//! once what the driver holds. What isn't one of the three, or is refused, gets 400 and no text.
 #![allow(dead_code)]
 use std::env;
 use std::io::{self, BufRead, BufReader, Read, Write};
@@ -82,11 +82,15 @@ fn add(archive: &mut Database, statement: &'static str, driver: u32, spans: &[Sp
 
 // What is asked for
 
-fn report(archive: &mut Database, driver: u32) -> Option<Report> {
-    let (base, spans) = archive.within("ROLLBACK", |archive| held_by(archive, driver))?;
-    let examined = |Span { start, past, mark }| examine::Span { start, past, activity: ACTIVITIES[usize::from(mark.0)], is_crew: mark.1 };
-    let spans: Vec<_> = spans.into_iter().map(examined).collect();
-    Some(examine::examine(&spans, DAY * base))
+fn report_of(base: u32, spans: &[Span]) -> Report {
+    let examined = |span: &Span| examine::Span {
+        start: span.start,
+        past: span.past,
+        activity: ACTIVITIES[usize::from(span.mark.0)],
+        is_crew: span.mark.1,
+    };
+    let spans: Vec<_> = spans.iter().map(examined).collect();
+    examine::examine(&spans, DAY * base)
 }
 
 fn minute_text(minute: u32) -> String {
@@ -106,7 +110,8 @@ fn horizon_line(report: &Report) -> String {
 }
 
 fn breaches(archive: &mut Database, driver: u32) -> Option<String> {
-    let report = report(archive, driver)?;
+    let (base, spans) = archive.within("ROLLBACK", |archive| held_by(archive, driver))?;
+    let report = report_of(base, &spans);
     Some(report.breaches.iter().map(breach_line).collect::<String>() + &horizon_line(&report))
 }
 
@@ -142,8 +147,8 @@ fn amount_columns(amounts: &[u32; 6]) -> String {
 fn sheet(archive: &mut Database, driver: u32, month: &str) -> Option<String> {
     let (first, days) = days_of(month)?;
     let (_, name, _) = archive.within("ROLLBACK", |archive| driver_with(archive, driver))?;
-    let (_, spans) = archive.within("ROLLBACK", |archive| held_by(archive, driver))?;
-    let report = report(archive, driver)?;
+    let (base, spans) = archive.within("ROLLBACK", |archive| held_by(archive, driver))?;
+    let report = report_of(base, &spans);
     let mut text = format!("DRIVER {driver} {name}\nMONTH {month}\nDATE       DAY   REST  AVAIL   WORK  DRIVE   CREW   NONE\n");
     let mut total = [0; 6];
     for (day, amounts) in (first..).zip(amounts_of(&spans, first, days)) {

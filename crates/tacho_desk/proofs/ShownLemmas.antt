@@ -1,28 +1,18 @@
 -- The texts of a driver, by what was read of him.
-use Rattle.std.proofs.Common.{◌≡◌, ℕ, ◌*◌, List, Option, Some, None, Result, Ok, sym, subst}
+use Rattle.std.proofs.Common.{◌≡◌, ℕ, ◌*◌, List, Option, Some, None, Ok, subst}
 use Rattle.std.specs.Prelude.{IfSome}
-use Rattle.tacho_time.specs.declared.span.Mark.{Mark}
 use Rattle.tacho_time.specs.declared.span.Span.{Span}
-use Rattle.tacho_line.specs.Line.{mark_at, AgreeWithin}
+use Rattle.tacho_line.specs.Line.{AgreeWithin}
 use Rattle.tacho_rules.specs.Report.{IsReport}
 use Rattle.tacho_rules.specs.declared.report.Report.{Report}
 use Rattle.tacho_state.specs.Reported.{IsHeldWithin, IsReportOf}
-use Rattle.tacho_state.specs.State.{Driver, State, driver_of, held_mark, held_spans}
-use Rattle.tacho_state.specs.Steps.{lined, named, reported, told_of}
-use Rattle.tacho_state.specs.declared.fault.StoreFault.{StoreFault}
+use Rattle.tacho_state.specs.State.{Driver, State, driver_of, held_spans}
+use Rattle.tacho_state.specs.Steps.{named, reported, told_of}
 use Rattle.tacho_sheet.specs.Reports.{AgreeIn, AreBounds, IsGapText, IsMonthSheet, IsSpanCsv}
 use Rattle.tacho_sheet.proofs.MarkLemmas.{gap_text_same, month_sheet_same, span_csv_same}
 use Rattle.tacho_desk.specs.Doing.{IsTextOf}
 use Rattle.tacho_desk.specs.Tasks.{OfReport}
 use Rattle.tacho_desk.specs.Told.{Long}
-
--- a line that is told of a driver has the marks that he holds
-abbrev told_marks : (ℕ → Option Mark) → Result (ℕ → Option Mark) StoreFault
-told_marks marks = Ok marks
-
--- his line has the marks that he holds
-same_marks : (d : Driver) (line : List Span) → told_marks (held_mark d) ≡ told_marks (mark_at line) → mark_at line ≡ mark_at (held_spans d)
-same_marks d line e = let same : mark_at (held_spans d) ≡ mark_at line = cc in sym same
 
 -- lines that agree between the bounds of a month agree in it
 agree_in : (month start past : ℕ) (a b : List Span) → AreBounds month start past → AgreeWithin start past a b → AgreeIn month a b
@@ -51,26 +41,27 @@ module _ (month start past : ℕ) (bounds : AreBounds month start past) where
       → IsGapText line month text → IsTextOf (λ d. IsGapText (held_spans d) month) (driver_of n s) (Ok (Long text))
   gaps_shown n s line text = month_shown (λ line. IsGapText line month) (λ a b. gap_text_same a b month) (driver_of n s) line text
 
--- the sheet of his name, of the line and of the report is the driver's
-sheet_of : (n month : ℕ) (o : Option Driver) (name : List ℕ) (line : List Span) (report : Report) (text : List ℕ)
-    → told_of (λ d. Ok d.name) o ≡ Ok name → told_of (λ d. Ok (held_mark d)) o ≡ Ok (mark_at line)
-    → IfSome o (λ d. IsReport (held_spans d) (1440 * d.base) report.horizon report.breaches.items report.debts.items)
-    → IsMonthSheet n name line report.breaches.items report.horizon month text
-    → IsTextOf (λ d. OfReport (λ breaches debts horizon. IsMonthSheet n d.name (held_spans d) breaches horizon month) d) o (Ok (Long text))
-sheet_of n month None name line report text named lined r is = cc
-sheet_of n month (Some d) name line report text named lined r is =
-    let his : name ≡ d.name = cc in (
-      report.horizon,
-      report.breaches.items,
-      report.debts.items,
-      r,
-      month_sheet_same n d.name line (held_spans d) report.breaches.items report.horizon month text (same_marks d line lined)
-          (subst (λ (name : List ℕ). IsMonthSheet n name line report.breaches.items report.horizon month text) his is),
-    )
+  -- the sheet of his name, of the line and of the report is the driver's
+  sheet_of : (n : ℕ) (o : Option Driver) (name : List ℕ) (line : List Span) (report : Report) (text : List ℕ)
+      → told_of (λ d. Ok d.name) o ≡ Ok name → IfSome o (λ d. AgreeWithin start past line (held_spans d))
+      → IfSome o (λ d. IsReport (held_spans d) (1440 * d.base) report.horizon report.breaches.items report.debts.items)
+      → IsMonthSheet n name line report.breaches.items report.horizon month text
+      → IsTextOf (λ d. OfReport (λ breaches debts horizon. IsMonthSheet n d.name (held_spans d) breaches horizon month) d) o (Ok (Long text))
+  sheet_of n None name line report text named within r is = cc
+  sheet_of n (Some d) name line report text named within r is =
+      let his : name ≡ d.name = cc in (
+        report.horizon,
+        report.breaches.items,
+        report.debts.items,
+        r,
+        month_sheet_same n d.name line (held_spans d) report.breaches.items report.horizon month text
+            (agree_in month start past line (held_spans d) bounds within)
+            (subst (λ (name : List ℕ). IsMonthSheet n name line report.breaches.items report.horizon month text) his is),
+      )
 
--- the sheet of the driver with a number
-pub sheet_shown : (n month : ℕ) (s : State) (name : List ℕ) (line : List Span) (report : Report) (text : List ℕ)
-    → named n s ≡ Ok name → lined n s ≡ Ok (mark_at line) → IsReportOf n s report
-    → IsMonthSheet n name line report.breaches.items report.horizon month text
-    → IsTextOf (λ d. OfReport (λ breaches debts horizon. IsMonthSheet n d.name (held_spans d) breaches horizon month) d) (driver_of n s) (Ok (Long text))
-sheet_shown n month s name line report text = sheet_of n month (driver_of n s) name line report text
+  -- the sheet of the driver with a number
+  pub sheet_shown : (n : ℕ) (s : State) (name : List ℕ) (line : List Span) (report : Report) (text : List ℕ)
+      → named n s ≡ Ok name → IsHeldWithin n start past s line → IsReportOf n s report
+      → IsMonthSheet n name line report.breaches.items report.horizon month text
+      → IsTextOf (λ d. OfReport (λ breaches debts horizon. IsMonthSheet n d.name (held_spans d) breaches horizon month) d) (driver_of n s) (Ok (Long text))
+  sheet_shown n s name line report text = sheet_of n (driver_of n s) name line report text

@@ -72,8 +72,9 @@ fn gaps<K: Keeper>(alloc: Global, keeper: &mut K, driver: u32, month: Month) -> 
 fn sheet<K: Keeper>(alloc: Global, keeper: &mut K, driver: u32, month: Month) -> Result<Text, Fault>
     ensures { Serves K.stands K.is_clean K.is_live K.leaves keeper.old keeper.new false (answer_of result) (ShowsMonth of_month.Sheet month driver) }
 {
+    let (start, past) = month_range(month);
     let name = keeper.name(alloc, driver)?;
-    let line = keeper.line(alloc, driver)?;
+    let line = keeper.line_within(alloc, driver, start, past)?;
     let report = keeper.report(alloc, driver)?;
     let text = month_sheet(alloc, driver, &name, &line, &report, month)?;
     Ok(Text::Long(text))

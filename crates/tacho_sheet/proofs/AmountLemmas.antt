@@ -26,7 +26,8 @@ count_split p m (suc a) b =
     let h : count_from p (m + 1) (a + b) ≡ count_from p (m + 1) a + count_from p ((m + 1) + a) b = count_split p (m + 1) a b in
     rw (e, f) (omega arith)
 
-count_same : (p q : ℕ → Bool) (m n : ℕ) → ((i : ℕ) → m ≤ i → i < m + n → p i ≡ q i) → count_from p m n ≡ count_from q m n
+-- what passes the same tests is counted alike
+pub count_same : (p q : ℕ → Bool) (m n : ℕ) → ((i : ℕ) → m ≤ i → i < m + n → p i ≡ q i) → count_from p m n ≡ count_from q m n
 count_same p q m zero h = refl
 count_same p q m (suc n) h =
     let e : count_from p (m + 1) n ≡ count_from q (m + 1) n = count_same p q (m + 1) n (λ i a b. h i (omega arith) (omega arith)) in

@@ -1,5 +1,5 @@
 -- The texts of a line depend on the marks that it gives the minutes, and on nothing else.
-use Rattle.std.proofs.Common.{◌≡◌, ℕ, zero, suc, ◌+◌, ◌*◌, ◌++◌, ◌%◌, List, Option, codes, decimal, flat_map, refl, sym, ap, ◌∙◌}
+use Rattle.std.proofs.Common.{◌≡◌, ℕ, zero, suc, ◌+◌, ◌*◌, ◌<◌, ◌≤◌, ◌++◌, ◌%◌, Bool, List, [], ◌∷◌, Option, codes, decimal, flat_map, refl, sym, ap, ◌∙◌, arith}
 use Rattle.tacho_time.specs.declared.span.Mark.{Mark}
 use Rattle.tacho_time.specs.declared.span.Span.{Span}
 use Rattle.tacho_time.specs.Spans.{IsCanonicalOf}
@@ -8,7 +8,8 @@ use Rattle.tacho_line.specs.declared.gap.Gap.{Gap}
 use Rattle.tacho_line.specs.declared.horizon.Horizon.{Horizon}
 use Rattle.tacho_line.specs.Line.{mark_at, AgreeWithin, AreGaps, HoldsWithin}
 use Rattle.tacho_hours.specs.declared.breach.Breach.{Breach}
-use Rattle.tacho_sheet.specs.Reports.{amount_text, amounts_text, breach_line, breaches_within, columns, count_from, day_line, day_lines, horizon_line, right, weekday_name, AgreeIn, IsGapText, IsMonthSheet, IsSpanCsv}
+use Rattle.tacho_sheet.proofs.AmountLemmas.{count_same}
+use Rattle.tacho_sheet.specs.Reports.{amount_text, amounts_text, breach_line, breaches_within, columns, day_line, day_lines, horizon_line, right, minutes_of, weekday_name, AgreeIn, IsGapText, IsMonthSheet, IsSpanCsv}
 
 -- ---- gaps, and spans as CSV
 
@@ -54,20 +55,29 @@ span_csv_same a b month text e h = record {
 
 -- ---- the sheet of a month
 
-amounts_same : (a b : List Span) (m n : ℕ) → mark_at a ≡ mark_at b → amounts_text a m n ≡ amounts_text b m n
-amounts_same a b m n e =
-    ap (λ (f : ℕ → Option Mark). flat_map (λ column. right (amount_text (count_from (λ k. column (f k)) m n))) columns) e
+columns_same : (a b : List Span) (m n : ℕ) (tests : List (Option Mark → Bool)) → AgreeWithin m (m + n) a b
+    → flat_map (λ column. right (amount_text (minutes_of a m n column))) tests
+    ≡ flat_map (λ column. right (amount_text (minutes_of b m n column))) tests
+columns_same a b m n [] e = refl
+columns_same a b m n (test ∷ tests) e =
+    let same : minutes_of a m n test ≡ minutes_of b m n test =
+    count_same (λ k. test (mark_at a k)) (λ k. test (mark_at b k)) m n (λ k from to. ap test (e k (from, to))) in
+    ap (λ (t : ℕ). right (amount_text t) ++ flat_map (λ column. right (amount_text (minutes_of a m n column))) tests) same
+    ∙ ap (λ (t : List ℕ). right (amount_text (minutes_of b m n test)) ++ t) (columns_same a b m n tests e)
 
-day_same : (a b : List Span) (day : ℕ) → mark_at a ≡ mark_at b → day_line a day ≡ day_line b day
+amounts_same : (a b : List Span) (m n : ℕ) → AgreeWithin m (m + n) a b → amounts_text a m n ≡ amounts_text b m n
+amounts_same a b m n e = columns_same a b m n columns e
+
+day_same : (a b : List Span) (day : ℕ) → AgreeWithin (1440 * day) (1440 * day + 1440) a b → day_line a day ≡ day_line b day
 day_same a b day e =
     ap (λ (t : List ℕ). day_text day ++ (codes " " ++ (weekday_name ((day + 3) % 7) ++ (t ++ codes "\n"))))
     (amounts_same a b (1440 * day) 1440 e)
 
-days_same : (a b : List Span) (day n : ℕ) → mark_at a ≡ mark_at b → day_lines a day n ≡ day_lines b day n
+days_same : (a b : List Span) (day n : ℕ) → AgreeWithin (1440 * day) (1440 * (day + n)) a b → day_lines a day n ≡ day_lines b day n
 days_same a b day zero e = refl
 days_same a b day (suc n) e =
-    ap (λ (t : List ℕ). t ++ day_lines a (day + 1) n) (day_same a b day e)
-    ∙ ap (λ (t : List ℕ). day_line b day ++ t) (days_same a b (day + 1) n e)
+    ap (λ (t : List ℕ). t ++ day_lines a (day + 1) n) (day_same a b day (λ m w. let x = w.0 in let y = w.1 in e m (omega arith, omega arith)))
+    ∙ ap (λ (t : List ℕ). day_line b day ++ t) (days_same a b (day + 1) n (λ m w. let x = w.0 in let y = w.1 in e m (omega arith, omega arith)))
 
 -- a sheet of equal days and equal sums
 abbrev sheet_text : ℕ → List ℕ → List Breach → Horizon → ℕ → ℕ → ℕ → List ℕ → List ℕ → List ℕ
@@ -78,15 +88,18 @@ sheet_text number name breaches horizon month start past days sums =
     ++ (flat_map breach_line (breaches_within start past breaches) ++ horizon_line horizon)))))))))))
 
 pub month_sheet_same : (number : ℕ) (name : List ℕ) (a b : List Span) (breaches : List Breach) (horizon : Horizon)
-    (month : ℕ) (text : List ℕ) → mark_at a ≡ mark_at b → IsMonthSheet number name a breaches horizon month text
+    (month : ℕ) (text : List ℕ) → AgreeIn month a b → IsMonthSheet number name a breaches horizon month text
     → IsMonthSheet number name b breaches horizon month text
 month_sheet_same number name a b breaches horizon month text e h =
+    let within : AgreeWithin (1440 * h.day) (1440 * (h.day + h.days)) a b = e (1440 * h.day) (1440 * (h.day + h.days)) h.bounds in
+    let total : AgreeWithin (1440 * h.day) (1440 * h.day + 1440 * h.days) a b =
+    λ m w. let x = w.0 in let y = w.1 in within m (omega arith, omega arith) in
     let sheet : List ℕ → List ℕ → List ℕ = sheet_text number name breaches horizon month (1440 * h.day) (1440 * (h.day + h.days)) in
     record {
       day = h.day;
       days = h.days;
       bounds = h.bounds;
       is = h.is
-          ∙ ap (λ (t : List ℕ). sheet t (amounts_text a (1440 * h.day) (1440 * h.days))) (days_same a b h.day h.days e)
-          ∙ ap (λ (t : List ℕ). sheet (day_lines b h.day h.days) t) (amounts_same a b (1440 * h.day) (1440 * h.days) e);
+          ∙ ap (λ (t : List ℕ). sheet t (amounts_text a (1440 * h.day) (1440 * h.days))) (days_same a b h.day h.days within)
+          ∙ ap (λ (t : List ℕ). sheet (day_lines b h.day h.days) t) (amounts_same a b (1440 * h.day) (1440 * h.days) total);
     }

@@ -4,7 +4,6 @@
 ghost use Rattle.std.specs.Prelude.{◌≡◌, ℕ, List};
 ghost use Rattle.tacho_time.specs.declared.span.Span.{Span as Stretch};
 ghost use Rattle.tacho_line.specs.declared.horizon.Horizon.{Horizon as HorizonValue};
-ghost use Rattle.tacho_line.specs.Line.{mark_at};
 ghost use Rattle.tacho_hours.specs.declared.breach.Breach.{Breach as BreachValue};
 ghost use Rattle.tacho_sheet.specs.Reports.{AgreeIn, IsGapText, IsMonthSheet, IsSpanCsv};
 
@@ -23,10 +22,10 @@ pub fn span_csv_is_by_marks()
         → AgreeIn month a b → IsSpanCsv a month text → IsSpanCsv b month text }
 {}
 
-/// Two lines that give each minute the same mark have the same sheets.
+/// Two lines that give each minute of a month the same mark have the same sheets of it.
 pub fn month_sheet_is_by_marks()
     ensures { (number : ℕ) (name : List ℕ) (a b : List Stretch) (breaches : List BreachValue) (horizon : HorizonValue)
-        (month : ℕ) (text : List ℕ) → mark_at a ≡ mark_at b → IsMonthSheet number name a breaches horizon month text
+        (month : ℕ) (text : List ℕ) → AgreeIn month a b → IsMonthSheet number name a breaches horizon month text
         → IsMonthSheet number name b breaches horizon month text }
 {}
 
