@@ -1,6 +1,6 @@
 -- What a rest pays of open debts is its turn (specs/Paying, pay_all).
 use Rattle.std.proofs.Common.{◌≡◌, ℕ, zero, suc, ◌+◌, ◌-◌, ◌<◌, ◌≤◌, inl, inr, Bool, true, false, Option, None, Some}
-use Rattle.std.proofs.Common.{List, [], ◌∷◌, ◌++◌, refl, sym, subst, ◌∙◌, arith, min, nat_le, if◌then◌else◌, ◌&&◌}
+use Rattle.std.proofs.Common.{List, [], ◌∷◌, ◌++◌, refl, sym, ap, subst, ◌∙◌, arith, min, nat_le, if◌then◌else◌, ◌&&◌}
 use Rattle.std.specs.Option.{option_map_or}
 use Rattle.std.specs.List.{Contains}
 use Rattle.std.proofs.lemmas.Bool.Decides.{nat_tests}
@@ -13,8 +13,18 @@ use Rattle.tacho_hours.specs.Line.{Line}
 use Rattle.tacho_hours.specs.Debts.{minutes_before, share, paid_from, IsMainRest, Keeps, CanPay}
 use Rattle.tacho_hours.specs.ByRuns.{CanTake, AfterRun, IsDone, AreDone}
 use Rattle.tacho_hours.specs.MainRests.{IsKept}
-use Rattle.tacho_rests.specs.Paying.{takes, pay_all}
+use Rattle.tacho_rests.specs.Paying.{takes, pay_all, turn, turns, is_main}
 use Rattle.tacho_rests.proofs.TurnsLemmas.{kept_least}
+
+same_branches : (b : Bool) (debts : List Debt) → (if b then debts else debts) ≡ debts
+same_branches true debts = refl
+same_branches false debts = refl
+
+-- the turns of rests pay nothing where there is no debt
+pub turns_none : (end : ℕ) (main : Option Run) (rests : List Run) → turns end main None rests [] ≡ []
+turns_none end main [] = refl
+turns_none end main (rest ∷ rests) =
+    ap (turns end main None rests) (same_branches (is_main main rest) []) ∙ turns_none end main rests
 
 -- a debt that a rest may pay: its main rest is before, and the rest hasn't had its turn
 pub record IsOpen (line : Line) (horizon : ℕ) (rest : Run) (debt : Debt) : Type 0 where

@@ -100,7 +100,8 @@ fn turn(debts: &Debts, rest: Run, end: u32, main: Option<Run>, owed: &Option<Deb
     after
 }
 
-/// The debts after the turns of the rests of a week.
+/// The debts after the turns of the rests of a week: none, where there were none and the week owes nothing.
+#[tactic(auto, using(crate::proofs::PayingLemmas::turns_none))]
 pub fn turns(
     debts: &Debts,
     rests: &[Run],
@@ -111,6 +112,9 @@ pub fn turns(
     requires { All (λ rest. rest.start ≤ latest) rests.now }
     ensures { debts_in result ≡ turns_of end main owed.now rests.now (debts_in debts.now) }
 {
+    if debts.as_slice().is_empty() && owed.is_none() {
+        return *debts;
+    }
     let mut after = *debts;
     for rest in rests {
         after = turn(&after, *rest, end, main, owed);
