@@ -1,21 +1,13 @@
-//! Worked cases of the crates from `tacho_time` to `tacho_cli` and `tacho_http`, as tests: all of them are proved once for these,
-//! where tests in each crate would have it proved twice.
+//! Worked cases of the crates from `tacho_time` to `tacho_sheet`, as tests: all of them are proved once for these, where tests in
+//! each crate would have it proved twice.
 #![tactic(auto)]
 
-#[cfg(test)]
-mod commands;
-#[cfg(test)]
-mod connections;
-#[cfg(test)]
-mod desk;
 #[cfg(test)]
 mod devices;
 #[cfg(test)]
 mod drivers;
 #[cfg(test)]
 mod examinations;
-#[cfg(test)]
-mod faulty;
 #[cfg(test)]
 mod files;
 #[cfg(test)]
@@ -26,10 +18,6 @@ mod lines;
 mod passes;
 #[cfg(test)]
 mod reports;
-#[cfg(test)]
-mod requests;
-#[cfg(test)]
-mod routes;
 #[cfg(test)]
 mod same;
 #[cfg(test)]

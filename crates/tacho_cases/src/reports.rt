@@ -5,7 +5,7 @@ use tacho_hours::{Breach, Debt, Kind};
 use tacho_line::{Cause, Horizon, Line, LineFault};
 use tacho_rules::Report;
 use tacho_sheet::{breach_text, gap_text, month_sheet, owed_text, span_csv};
-use tacho_time::{Activity, Mark, Minute, Month, Span, Week};
+use tacho_time::{Activity, Mark, Minute, Month, Span, Week, span_lines};
 
 // `checks/failing_sheet.py` runs each test with each of its allocations refused in turn. So a test hands on want of memory by
 // `?`, and asserts everything else.
@@ -105,6 +105,23 @@ fn end() -> Horizon {
         minute: at(4, 1020),
         cause: Cause::Unknown,
     }
+}
+
+#[test]
+fn spans_have_lines(rt: HostRuntime) -> Result<(), Fail> {
+    let spans = [
+        span(4, 0, 480, Activity::Rest, false),
+        span(4, 480, 510, Activity::Work, true),
+        span(4, 510, 1020, Activity::Drive, false),
+        span(31, 1380, 1440, Activity::Available, true),
+        // They needn't be in order.
+        span(4, 1020, 1021, Activity::Rest, true),
+    ];
+    let text = span_lines(rt.alloc(), &spans)?;
+    let wanted =
+        b"2024-03-04 00:00 2024-03-04 08:00 rest single\n2024-03-04 08:00 2024-03-04 08:30 work crew\n2024-03-04 08:30 2024-03-04 17:00 drive single\n2024-03-31 23:00 2024-04-01 00:00 available crew\n2024-03-04 17:00 2024-03-04 17:01 rest crew\n";
+    assert_same(&rt, text.as_slice(), wanted.as_slice());
+    Ok(())
 }
 
 #[test]

@@ -11,10 +11,10 @@ use tacho_shelf::Shelf;
 use tacho_time::{Device, Sink, Source};
 
 /// A job, its input, its text, and its text when it is done once more.
-type Case = (Job<'static>, &'static [u8], &'static str, &'static str);
+pub(crate) type Case = (Job<'static>, &'static [u8], &'static str, &'static str);
 
 /// Jobs that read, one after the other.
-static CASES: [Case; 3] = [
+pub(crate) static CASES: [Case; 3] = [
     (
         Job::AtDesk {
             archive: "a.db",
@@ -51,7 +51,7 @@ static CASES: [Case; 3] = [
 ];
 
 /// What a job at the desk answers.
-fn performed<R: Source, W: Sink>(
+pub(crate) fn performed<R: Source, W: Sink>(
     alloc: Global,
     shelf: &mut Shelf,
     job: Job<'_>,
@@ -68,7 +68,7 @@ fn performed<R: Source, W: Sink>(
 }
 
 /// What a job with this input writes, and its status, where no device fails.
-fn answer(
+pub(crate) fn answer(
     alloc: Global,
     shelf: &mut Shelf,
     job: Job<'_>,
@@ -80,7 +80,7 @@ fn answer(
 }
 
 /// An archive at which the first so many of the cases were done.
-fn archive_after(alloc: Global, count: usize) -> Result<Shelf, Fail> {
+pub(crate) fn archive_after(alloc: Global, count: usize) -> Result<Shelf, Fail> {
     let mut shelf = Shelf::new(alloc);
     for (job, input, _, _) in CASES.iter().take(count) {
         answer(alloc, &mut shelf, *job, *input)?;

@@ -6,7 +6,6 @@ use std::process::Abort;
 use std::test::Fail;
 use tacho_http::{IoFault, answer};
 use tacho_shelf::Shelf;
-use tacho_state::Keeper;
 use tacho_time::Device;
 
 /// The office's key.
@@ -625,152 +624,6 @@ static ORDER: [Asked; 54] = [
     ),
 ];
 
-/// A head that is followed by nothing, and then the status of the reply, and its text.
-type Headed = (&'static [u8], &'static str, &'static str);
-
-/// Heads, and what is no head.
-static HEADS: [Headed; 20] = [
-    // Fields of other names, a key without a blank before it, and both versions.
-    (
-        b"GET /drivers/17/owed HTTP/1.1\r\nhost: tacho\r\nx-key:office-key-1\r\nx-keys: anna-key-1\r\n\r\n",
-        "200 OK",
-        "EXAMINED TO 2024-03-04 17:00 unknown\n",
-    ),
-    (
-        b"GET /drivers/17/owed HTTP/1.0\r\nX-KEY: office-key-1\r\n\r\n",
-        "200 OK",
-        "EXAMINED TO 2024-03-04 17:00 unknown\n",
-    ),
-    (
-        b"GET /drivers/17/owed HTTP/2.0\r\nx-key: office-key-1\r\n\r\n",
-        "400 Bad Request",
-        "bad request\n",
-    ),
-    // Keys: one, and the whole of it.
-    (
-        b"GET /drivers/17/owed HTTP/1.1\r\nX-Key: office-key-1\r\nx-key: office-key-1\r\n\r\n",
-        "403 Forbidden",
-        "forbidden\n",
-    ),
-    (
-        b"GET /drivers/17/owed HTTP/1.1\r\nx-key: office-key-1\r\nx-key: anna-key-1\r\n\r\n",
-        "403 Forbidden",
-        "forbidden\n",
-    ),
-    (
-        b"GET /drivers/17/owed HTTP/1.1\r\nx-key: office-key-\r\n\r\n",
-        "403 Forbidden",
-        "forbidden\n",
-    ),
-    (
-        b"GET /drivers/17/owed HTTP/1.1\r\nx-key: office-key-11\r\n\r\n",
-        "403 Forbidden",
-        "forbidden\n",
-    ),
-    (
-        b"GET /drivers/17/owed HTTP/1.1\r\nx-key: Office-key-1\r\n\r\n",
-        "403 Forbidden",
-        "forbidden\n",
-    ),
-    (
-        b"GET /drivers/17/owed HTTP/1.1\r\nx-key:\r\n\r\n",
-        "403 Forbidden",
-        "forbidden\n",
-    ),
-    (
-        b"GET /drivers/17/owed HTTP/1.1\r\nkey: office-key-1\r\n\r\n",
-        "403 Forbidden",
-        "forbidden\n",
-    ),
-    // A key comes before the path, and a head before the key.
-    (
-        b"GET /nothing HTTP/1.1\r\nx-key: bert-key-1\r\n\r\n",
-        "403 Forbidden",
-        "forbidden\n",
-    ),
-    (
-        b"GET /nothing HTTP/1.1\r\n\r\n",
-        "403 Forbidden",
-        "forbidden\n",
-    ),
-    (
-        b"GET  /nothing HTTP/1.1\r\n\r\n",
-        "400 Bad Request",
-        "bad request\n",
-    ),
-    (
-        b"GET /nothing HTTP/1.1\r\nx-key : office-key-1\r\n\r\n",
-        "400 Bad Request",
-        "bad request\n",
-    ),
-    (
-        b"GET /nothing HTTP/1.1\r\nx-key: office-key-1\r\n folded\r\n\r\n",
-        "400 Bad Request",
-        "bad request\n",
-    ),
-    (
-        b"GET /nothing HTTP/1.1\r\nx-key: office\x01key-1\r\n\r\n",
-        "400 Bad Request",
-        "bad request\n",
-    ),
-    // Targets that are UTF-8, and that aren't.
-    (
-        b"GET /\xc3\xa9 HTTP/1.1\r\nx-key: office-key-1\r\n\r\n",
-        "404 Not Found",
-        "not found\n",
-    ),
-    (
-        b"GET /drivers/\xc3\xa9/owed HTTP/1.1\r\nx-key: office-key-1\r\n\r\n",
-        "400 Bad Request",
-        "N1 bad number\n",
-    ),
-    (
-        b"GET /drivers/\xc3/owed HTTP/1.1\r\nx-key: office-key-1\r\n\r\n",
-        "400 Bad Request",
-        "bad request\n",
-    ),
-    (
-        b"GET /\xff HTTP/1.1\r\n\r\n",
-        "400 Bad Request",
-        "bad request\n",
-    ),
-];
-
-/// What comes behind a field that fills a head to so many bytes; then the status of the reply, and its text.
-static FILLED: [(usize, &str, &str, &str); 6] = [
-    (
-        8_192,
-        "\r\n\r\n",
-        "200 OK",
-        "EXAMINED TO 2024-03-04 17:00 unknown\n",
-    ),
-    (
-        8_193,
-        "\r\n\r\n",
-        "431 Request Header Fields Too Large",
-        "head too large\n",
-    ),
-    (8_191, "", "400 Bad Request", "bad request\n"),
-    (
-        8_192,
-        "",
-        "431 Request Header Fields Too Large",
-        "head too large\n",
-    ),
-    (
-        8_193,
-        "",
-        "431 Request Header Fields Too Large",
-        "head too large\n",
-    ),
-    (
-        20_000,
-        "",
-        "431 Request Header Fields Too Large",
-        "head too large\n",
-    ),
-];
-
 /// Ends the test where a row's reply isn't the one that is wanted.
 pub(crate) fn same(rt: &impl Abort, row: &str, place: usize, reply: &[u8], wanted: &[u8]) {
     let text = str::from_utf8(reply).unwrap_or("bytes");
@@ -806,7 +659,7 @@ pub(crate) fn ask(alloc: Global, shelf: &mut Shelf, request: &[u8]) -> Result<Ve
 }
 
 /// A reply that has a text.
-fn reply_with(alloc: Global, status: &str, text: &str) -> Result<String, AllocError> {
+pub(crate) fn reply_with(alloc: Global, status: &str, text: &str) -> Result<String, AllocError> {
     let length = text.len();
     format!(in alloc;
         "HTTP/1.1 {status}\r\ncontent-type: text/plain; charset=utf-8\r\ncontent-length: {length}\r\nconnection: close\r\n\r\n{text}"
@@ -825,22 +678,6 @@ pub(crate) fn archive_after(alloc: Global, count: usize) -> Result<Shelf, IoFaul
 /// An archive with driver 17, a card file of his, and an entry.
 pub(crate) fn archive(alloc: Global) -> Result<Shelf, IoFault> {
     archive_after(alloc, BEGUN)
-}
-
-/// The entries and the timeline of driver 17, if an archive has him.
-fn told(alloc: Global, shelf: &mut Shelf) -> Result<String, Fail> {
-    let mut text = String::new(alloc);
-    let Ok(entries) = shelf.entries(alloc, 17) else {
-        return Ok(text);
-    };
-    for entry in entries.iter() {
-        writeln!(text, "{entry:?}")?;
-    }
-    let line = shelf.line(alloc, 17)?;
-    for span in line.spans() {
-        writeln!(text, "{span:?}")?;
-    }
-    Ok(text)
 }
 
 #[test]
@@ -876,40 +713,6 @@ fn the_first_check_that_fails_answers(rt: HostRuntime) -> Result<(), Fail> {
 }
 
 #[test]
-fn bodies_have_a_limit(rt: HostRuntime) -> Result<(), Fail> {
-    let alloc = rt.alloc();
-    // The first block of a card file, and then empty ones, of five bytes each.
-    for (length, sent, status, text) in [
-        (
-            262_144,
-            262_144,
-            "422 Unprocessable Entity",
-            "C1 truncated block at 262142\n",
-        ),
-        (
-            262_144,
-            262_145,
-            "422 Unprocessable Entity",
-            "C1 truncated block at 262142\n",
-        ),
-        (262_144, 262_143, "400 Bad Request", "bad request\n"),
-        (262_145, 262_145, "413 Payload Too Large", "too large\n"),
-    ] {
-        let head = format!(in alloc;
-            "POST /cards/both HTTP/1.1\r\nx-key: office-key-1\r\ncontent-length: {length}\r\n\r\n"
-        )?;
-        let mut body = Vec::from_slice(alloc, b"\x05\x20\x00\x00\x11\x0dD123456789012300")?;
-        body.resize(sent, 0)?;
-        let mut request = Vec::from_slice(alloc, head.as_bytes())?;
-        request.extend_from_slice(&body)?;
-        let reply = ask(alloc, &mut archive(alloc)?, &request)?;
-        let wanted = reply_with(alloc, status, text)?;
-        same(&rt, "body", sent, &reply, wanted.as_bytes());
-    }
-    Ok(())
-}
-
-#[test]
 fn the_key_of_the_office_comes_first(rt: HostRuntime) -> Result<(), Fail> {
     let alloc = rt.alloc();
     let mut shelf = archive(alloc)?;
@@ -926,151 +729,6 @@ fn the_key_of_the_office_comes_first(rt: HostRuntime) -> Result<(), Fail> {
         let reply = ask_by(alloc, &mut shelf, b"anna-key-1", request.as_bytes())?;
         let wanted = reply_with(alloc, status, text)?;
         same(&rt, path, 0, &reply, wanted.as_bytes());
-    }
-    Ok(())
-}
-
-/// A head with one field that is filled with letters, until the head has so many bytes with what comes behind them.
-fn filled(alloc: Global, length: usize, behind: &str) -> Result<String, AllocError> {
-    let mut head = String::from_str(
-        alloc,
-        "GET /me/owed HTTP/1.1\r\nx-key: anna-key-1\r\nletters: ",
-    )?;
-    let letters = length
-        .saturating_sub(head.len())
-        .saturating_sub(behind.len());
-    for _ in 0..letters {
-        head.push('a')?;
-    }
-    head.push_str(behind)?;
-    Ok(head)
-}
-
-/// A head with so many fields beside the key.
-fn with_fields(alloc: Global, count: usize) -> Result<String, AllocError> {
-    let mut head = String::from_str(alloc, "GET /me/owed HTTP/1.1\r\nx-key: anna-key-1\r\n")?;
-    for _ in 0..count {
-        head.push_str("letters: a\r\n")?;
-    }
-    head.push_str("\r\n")?;
-    Ok(head)
-}
-
-#[test]
-fn heads_have_limits(rt: HostRuntime) -> Result<(), Fail> {
-    let alloc = rt.alloc();
-    let mut shelf = archive(alloc)?;
-    for (place, (head, status, text)) in HEADS.iter().enumerate() {
-        let wanted = reply_with(alloc, status, text)?;
-        let reply = ask(alloc, &mut shelf, head)?;
-        same(&rt, "head", place, &reply, wanted.as_bytes());
-    }
-    // Cut after each of its bytes, a head is none.
-    let head = b"GET /me/breaches HTTP/1.1\r\nx-key: anna-key-1\r\n\r\n".as_slice();
-    let wanted = reply_with(alloc, "400 Bad Request", "bad request\n")?;
-    for length in 0..head.len() {
-        let reply = ask(alloc, &mut shelf, &head[..length])?;
-        same(&rt, "head cut at", length, &reply, wanted.as_bytes());
-    }
-    for (length, behind, status, text) in FILLED.iter() {
-        let wanted = reply_with(alloc, status, text)?;
-        let head = filled(alloc, *length, behind)?;
-        let reply = ask(alloc, &mut shelf, head.as_bytes())?;
-        same(&rt, "head of bytes", *length, &reply, wanted.as_bytes());
-    }
-    for (count, status, text) in [
-        (31, "200 OK", "EXAMINED TO 2024-03-04 17:00 unknown\n"),
-        (
-            32,
-            "431 Request Header Fields Too Large",
-            "head too large\n",
-        ),
-        (
-            100,
-            "431 Request Header Fields Too Large",
-            "head too large\n",
-        ),
-    ] {
-        let wanted = reply_with(alloc, status, text)?;
-        let head = with_fields(alloc, count)?;
-        let reply = ask(alloc, &mut shelf, head.as_bytes())?;
-        same(
-            &rt,
-            "fields beside the key",
-            count,
-            &reply,
-            wanted.as_bytes(),
-        );
-    }
-    Ok(())
-}
-
-#[test]
-fn a_failed_reader_changes_nothing(rt: HostRuntime) -> Result<(), Fail> {
-    let alloc = rt.alloc();
-    for (place, (request, wanted, _)) in CASES.iter().enumerate() {
-        // Each seven bytes take a call, and no call is made behind them.
-        let needed = request.len().div_ceil(7);
-        for calls in 0..needed + 2 {
-            let mut shelf = archive_after(alloc, place)?;
-            let before = told(alloc, &mut shelf)?;
-            let mut reader = Faulty::new(alloc, *request, 7, calls);
-            let mut writer = Device::new(Vec::new(alloc));
-            let result = answer(alloc, &mut shelf, OFFICE, &mut reader, &mut writer);
-            let written = writer.into_inner();
-            if calls >= needed {
-                holds(&rt, "calls", calls, result.is_ok());
-                same(&rt, "calls", calls, &written, wanted);
-                continue;
-            }
-            let has_failed = matches!(result, Err(IoFault::Read));
-            holds(&rt, "failing call", calls, has_failed && written.is_empty());
-            let after = told(alloc, &mut shelf)?;
-            same(
-                &rt,
-                "failing call",
-                calls,
-                after.as_bytes(),
-                before.as_bytes(),
-            );
-            // The request can be made again.
-            let reply = ask(alloc, &mut shelf, request)?;
-            same(&rt, "failing call", calls, &reply, wanted);
-        }
-    }
-    Ok(())
-}
-
-#[test]
-fn a_failed_writer_has_a_beginning(rt: HostRuntime) -> Result<(), Fail> {
-    let alloc = rt.alloc();
-    for (place, (request, wanted, again)) in CASES.iter().enumerate() {
-        // Each call takes five bytes, or fewer at the ends of the reply's head and of its body.
-        let most = wanted.len().div_ceil(5) + 1;
-        for calls in 0..most + 1 {
-            let mut shelf = archive_after(alloc, place)?;
-            let mut writer = Faulty::new(alloc, b"", 5, calls);
-            let result = answer(
-                alloc,
-                &mut shelf,
-                OFFICE,
-                &mut Device::new(*request),
-                &mut writer,
-            );
-            let is_whole = writer.written.len() == wanted.len();
-            holds(&rt, "calls", calls, wanted.starts_with(&writer.written));
-            holds(
-                &rt,
-                "calls",
-                calls,
-                is_whole || matches!(result, Err(IoFault::Write)),
-            );
-            holds(&rt, "calls", calls, result.is_ok() == is_whole);
-            holds(&rt, "calls", calls, calls < most || is_whole);
-            // The request has acted.
-            let reply = ask(alloc, &mut shelf, request)?;
-            same(&rt, "calls", calls, &reply, again);
-        }
     }
     Ok(())
 }
