@@ -12,6 +12,8 @@ mod same;
 #[cfg(test)]
 mod step;
 #[cfg(test)]
+mod stop_tests;
+#[cfg(test)]
 mod stored_tests;
 #[cfg(test)]
 mod table_tests;

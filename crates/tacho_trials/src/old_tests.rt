@@ -15,7 +15,7 @@ use tacho_store::Archive;
 use tacho_time::Activity;
 
 /// What makes an archive of schema 1: its tables, and Anna, with a weekend's rest that was entered and withdrawn.
-const OLD: [&str; 9] = [
+pub(crate) const OLD: [&str; 9] = [
     "CREATE TABLE meta (id INTEGER PRIMARY KEY, version INTEGER NOT NULL) STRICT",
     "CREATE TABLE drivers (driver INTEGER PRIMARY KEY, holder BLOB NOT NULL UNIQUE, secret TEXT NOT NULL UNIQUE, base INTEGER NOT NULL, name TEXT NOT NULL, downloads INTEGER NOT NULL, entries INTEGER NOT NULL) STRICT",
     "CREATE TABLE downloads (driver INTEGER NOT NULL REFERENCES drivers(driver), number INTEGER NOT NULL, part INTEGER NOT NULL, file BLOB NOT NULL, PRIMARY KEY (driver, number)) STRICT",
@@ -28,7 +28,7 @@ const OLD: [&str; 9] = [
 ];
 
 /// That entry.
-const WEEKEND: Step = Step::Lists(
+pub(crate) const WEEKEND: Step = Step::Lists(
     17,
     &[(1, 7_200, 10_080, Activity::Rest, Standing::Withdrawn)],
 );

@@ -27,18 +27,18 @@ const BERT: &str = "05200000110d44313233343536373839303132343030";
 pub(crate) const FIRST: &str = "0504000028";
 
 /// That of the second one.
-const SECOND: &str = "0504020028";
+pub(crate) const SECOND: &str = "0504020028";
 
 /// Activity data from Monday 00:00 to Tuesday 08:00.
 pub(crate) const DAY: &str =
     "000000140000001465e50f0000010000000011e019fe23fc0014001065e6608000020000000011e0";
 
 /// Activity data of the same time, which are others from Monday 08:00 on, and all Tuesday.
-const OTHER_DAY: &str =
+pub(crate) const OTHER_DAY: &str =
     "000000140000001465e50f0000010000000011ea1a0823f20014001065e6608000020000080011e0";
 
 /// A block of activity data of Monday's morning alone, to 08:30.
-const MORNING: &str = "0504000016000000000000001265e50f0000010000000011e019fe";
+pub(crate) const MORNING: &str = "0504000016000000000000001265e50f0000010000000011e019fe";
 
 /// A block of Monday's first five hours alone.
 const NIGHT: &str = "0504000014000000000000001065e50f00000100000000012c";

@@ -112,6 +112,15 @@ pub(crate) enum Step {
     Lacks(u32, u32, Code),
 }
 
+/// How an archive has answered a step.
+#[derive(Clone, Copy, Debug, PartialEq, Eq)]
+pub(crate) enum Taken {
+    /// As was wanted.
+    Answered,
+    /// S12: its store has failed.
+    Stopped,
+}
+
 /// Takes steps of a row, and asserts the answer to each.
 pub(crate) fn take<K: Keeper>(
     rt: &impl Abort,
@@ -121,47 +130,52 @@ pub(crate) fn take<K: Keeper>(
     steps: &[Step],
 ) -> Result<(), Fail> {
     for &step in steps {
-        take_one(rt, alloc, keeper, row, step)?;
+        let taken = take_one(rt, alloc, keeper, row, step)?;
+        assert!(rt; taken == Taken::Answered, "{row}: S12 of {step:?}");
     }
     Ok(())
 }
 
-/// Takes one step, and asserts its answer.
-fn take_one<K: Keeper>(
+/// Takes one step, and asserts its answer, unless that is S12 of a command.
+pub(crate) fn take_one<K: Keeper>(
     rt: &impl Abort,
     alloc: Global,
     keeper: &mut K,
     row: &str,
     step: Step,
-) -> Result<(), Fail> {
+) -> Result<Taken, Fail> {
     let place = format!(in alloc; "{row}: {step:?}")?;
     let place = place.as_str();
     match step {
         Step::Register(number, holder, key, day, wanted) => {
             let driver = driver(alloc, number, holder, key, day)?;
-            assert_done(rt, place, keeper.register(&driver), wanted);
+            let answer = keeper.register(&driver);
+            return Ok(judged(rt, place, answer, wanted.map_err(refusal_of)));
         }
         Step::Adds(caller, part, blocks, driver, number) => {
             let answer = keeper.import(alloc, caller, part, &file(alloc, blocks)?);
-            assert_imported(rt, place, answer, Ok(Imported::Added { driver, number }));
+            return Ok(judged(rt, place, answer, Ok(Imported::Added { driver, number })));
         }
         Step::Repeats(caller, part, blocks, driver) => {
             let answer = keeper.import(alloc, caller, part, &file(alloc, blocks)?);
-            assert_imported(rt, place, answer, Ok(Imported::Repeated { driver }));
+            return Ok(judged(rt, place, answer, Ok(Imported::Repeated { driver })));
         }
         Step::Refuses(caller, part, blocks, code) => {
             let answer = keeper.import(alloc, caller, part, &file(alloc, blocks)?);
-            assert_imported(rt, place, answer, Err(refusal_of(code)));
+            return Ok(judged(rt, place, answer, Err(refusal_of(code))));
         }
         Step::Enter(driver, text, wanted) => {
             let lines = read_entries(alloc, text.as_bytes())?;
-            assert_entered(rt, place, keeper.enter(alloc, driver, &lines), wanted);
+            let answer = keeper.enter(alloc, driver, &lines);
+            return Ok(judged(rt, place, answer, entered(wanted)));
         }
         Step::Withdraw(driver, number, wanted) => {
-            assert_done(rt, place, keeper.withdraw(alloc, driver, number), wanted);
+            let answer = keeper.withdraw(alloc, driver, number);
+            return Ok(judged(rt, place, answer, wanted.map_err(refusal_of)));
         }
         Step::Rebase(driver, day, wanted) => {
-            assert_done(rt, place, keeper.rebase(driver, day_of(day)), wanted);
+            let answer = keeper.rebase(driver, day_of(day));
+            return Ok(judged(rt, place, answer, wanted.map_err(refusal_of)));
         }
         Step::IsOf(key, wanted) => {
             assert!(rt; keeper.who(key)? == wanted, "{place}");
@@ -205,41 +219,29 @@ fn take_one<K: Keeper>(
             assert_refused(rt, place, found.err(), code);
         }
     }
-    Ok(())
+    Ok(Taken::Answered)
 }
 
-/// A command that tells nothing was done, or refused by a code.
-fn assert_done(
+/// Whether a command was answered as is wanted, or by S12. Any other answer ends the test.
+fn judged<T: PartialEq + Drop>(
     rt: &impl Abort,
     place: &str,
-    answer: Result<(), StoreFault>,
-    wanted: Result<(), Code>,
-) {
-    assert!(rt; answer == wanted.map_err(refusal_of), "{place}");
-}
-
-/// An import did what was wanted.
-fn assert_imported(
-    rt: &impl Abort,
-    place: &str,
-    answer: Result<Imported, StoreFault>,
-    wanted: Result<Imported, StoreFault>,
-) {
+    answer: Result<T, StoreFault>,
+    wanted: Result<T, StoreFault>,
+) -> Taken {
+    if matches!(answer, Err(StoreFault::Store)) {
+        return Taken::Stopped;
+    }
     assert!(rt; answer == wanted, "{place}");
+    Taken::Answered
 }
 
-/// Hours were entered with these numbers, or refused by a code.
-fn assert_entered(
-    rt: &impl Abort,
-    place: &str,
-    answer: Result<Entered, StoreFault>,
-    wanted: Result<(u32, u32), Code>,
-) {
-    let wanted = match wanted {
+/// What a batch of hours has to be answered, by the number of the first and how many there are.
+fn entered(wanted: Result<(u32, u32), Code>) -> Result<Entered, StoreFault> {
+    match wanted {
         Ok((first, count)) => Ok(Entered { first, count }),
         Err(code) => Err(refusal_of(code)),
-    };
-    assert!(rt; answer == wanted, "{place}");
+    }
 }
 
 /// A timeline is that of pieces.

@@ -44,7 +44,7 @@ pub(crate) fn migrated<S: Alter + Drop>(conn: Connection<S>) -> Result<Archive<S
 }
 
 /// An archive that is made in a store.
-fn created<S: Alter + Drop>(conn: Connection<S>) -> Result<Archive<S>, StoreFault>
+pub(crate) fn created<S: Alter + Drop>(conn: Connection<S>) -> Result<Archive<S>, StoreFault>
     requires { conn.in_transaction ≡ false }
 {
     match Archive::create(conn) {
