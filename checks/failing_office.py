@@ -16,6 +16,7 @@ import sqlite3
 import sys
 import tempfile
 
+import compare_office
 import counting
 import migrating_archive
 import old_archive
@@ -37,6 +38,7 @@ CONTRADICT = (["enter", "17"], b"start,past,activity\n2024-03-04 17:00,2024-03-0
 WITH_DAY = [ANNA, (["import", "both"], DAY)]
 WITH_HOURS = [*WITH_DAY, ENTER]
 OF_SCHEMA_1 = None
+NO_FILE = ()
 
 # What an archive was given before, and the command.
 CASES = {
@@ -63,8 +65,9 @@ CASES = {
     "a bad month": (WITH_HOURS, (["sheet", "17", "2024-13"], b"")),
 }
 
-# Those of a disk that stops, and for how many calls it does so.
-STOPPED = ["a first driver", "a first download", "signed hours", "a withdrawal", "another base", "a migration", "an old archive"]
+# Those of a disk that stops, and for how many calls it does so; and the making of an archive.
+NEW = {"a new archive": (NO_FILE, (["init"], b""))}
+STOPPED = [*NEW, "a first driver", "a first download", "signed hours", "a withdrawal", "another base", "a migration", "an old archive"]
 STOPS = {"the disk stopped at": None, "the disk failed": 1}
 
 
@@ -75,14 +78,13 @@ class Office:
         self.program = program
         self.path = os.path.join(folder, "archive.db")
         self.make(commands)
-        with open(self.path, "rb") as file:
-            self.bytes = file.read()
+        self.bytes = compare_office.content(self.path)
 
     def make(self, commands):
         """Makes the file."""
         if commands is OF_SCHEMA_1:
             old_archive.make(self.path, old_archive.example_rows())
-        else:
+        elif commands is not NO_FILE:
             for command in [(["init"], b""), *commands]:
                 self.answer(command)
 
@@ -97,14 +99,16 @@ class Office:
 
     def restore(self):
         """Makes the file what it was, without a log."""
-        if os.path.exists(self.path + "-wal"):
-            os.remove(self.path + "-wal")
-        with open(self.path, "wb") as file:
-            file.write(self.bytes)
+        for name in [self.path, self.path + "-wal"]:
+            with contextlib.suppress(FileNotFoundError):
+                os.remove(name)
+        if self.bytes is not None:
+            compare_office.write(self.path, self.bytes)
 
     def tables(self, path=None):
-        """All that SQLite finds in the archive, or in another one."""
-        with contextlib.closing(sqlite3.connect(path or self.path)) as connection:
+        """All that SQLite finds in the archive, or in another one. A file whose making has only begun is none."""
+        path = path or self.path
+        with contextlib.closing(sqlite3.connect(":memory:" if migrating_archive.is_begun(path) else path)) as connection:
             return list(connection.iterdump())
 
     def left(self, folder):
@@ -130,12 +134,12 @@ def numbers_of(office, compiler, command):
 def of_stops(program, compiler, case, kind):
     """The comparisons of a case on a disk that stops at each of its calls in turn, for good or for that call, up to the first run that
     makes fewer."""
-    before, command = CASES[case]
+    before, command = {**CASES, **NEW}[case]
     with tempfile.TemporaryDirectory() as folder:
         office = Office(program, folder, before)
         wanted = undisturbed(office, command)
         office.restore()
-        as_before = office.tables()
+        as_before = office.left(folder)
         stopper = programs.built(compiler, folder, "stop_disk")
         for number in itertools.count(1):
             office.restore()

@@ -10,6 +10,7 @@ behind it may stand how many lists of commands and of requests there are, as `--
 The last line is 'N passed, M failed'."""
 import argparse
 import copy
+import functools
 import multiprocessing
 import os
 import random
@@ -27,7 +28,6 @@ import compare_server
 import counting
 import migrating_archive
 import office_lines
-import old_archive
 import random_commands
 import random_requests
 import slow_office
@@ -35,14 +35,16 @@ import slow_reader
 import slow_server
 from compare_office import STORE_FAILED, name_of
 
-ROUNDS = 5
+ROUNDS = 6
 PROCESSES = 2
 REQUESTS = 30  # of a list
-MOST_REQUESTS = 8  # of a server that is ended
+MOST_REQUESTS = 5  # of a server that is ended
 MAKINGS = 4  # archives of a list that are made, the last of which is used
-READINGS_LEFT = 0.3  # of a list of commands, and of one of requests
-CHANGING = ["register", "import", "own", "enter", "withdraw", "base"]
-HOURS = 300  # of a long batch
+OTHERS_LEFT = 0.2  # of a list: of the readings, and of the commands that change nothing
+CHANGED = re.compile(rb"registered|added|entered [0-9]|withdrawn|base ")
+CHANGING = ["init", "register", "import", "enter", "withdraw", "base"]
+HOURS = 60  # of a long batch, at the most
+LATER = 0.002  # seconds at the most behind a change of the files
 KILLED = -signal.SIGKILL
 CREATED = (b"created\n", 0, b"")
 NO_DRIVERS = (b"", 0, b"")
@@ -59,8 +61,9 @@ def copy_of(office):
     return made
 
 
+@functools.lru_cache(maxsize=8)
 def rows_of(office):
-    """What SQLite has to find in the file of an archive that stands for a slow office, or for none."""
+    """What SQLite has to find in the file of an archive that stands for a slow office, which isn't changed behind that, or for none."""
     if office is None:
         return compare_archive.rows_of({**compare_archive.sound([], {}), "card_spans": [], "held": []})
     return compare_archive.rows_of(compare_archive.wanted_tables(office.archive, False))
@@ -93,33 +96,47 @@ class Desk(compare_office.Desk):
             count = migrating_archive.watch(running, path, sys.maxsize)
         return time.monotonic() - start, count
 
+    def wait(self, running, seconds, count):
+        """Waits for a random moment of a running program, at times a little longer than up to a change of its files."""
+        migrating_archive.wait(running, self.path, self.chance, seconds, count)
+        time.sleep(self.chance.choice([0, self.chance.uniform(0, LATER)]))
+
     def ended(self, words, given):
         """What a command prints that is ended at a random moment, and its status."""
         seconds, count = self.measured(words, given)
         with self.started(self.path, words, given) as running:
-            migrating_archive.wait(running, self.path, self.chance, seconds, count)
+            self.wait(running, seconds, count)
             migrating_archive.end(running)
         return compare_office.content(os.path.join(self.aside, "output")), running.returncode
 
     def served(self, path, requests, key, watching):
         """The replies to requests by the program as a server, as far as they come, and how it ends; and what is told by a function that
-        watches it meanwhile."""
-        told = []
+        watches it meanwhile, and hears when the first connection begins."""
+        told, begun = [], threading.Event()
         with compare_server.Serving(self.program, path, key, len(requests)) as serving:
-            watcher = threading.Thread(target=lambda: told.append(watching(serving.process)))
+            watcher = threading.Thread(target=lambda: told.append(watching(serving.process, begun)))
             watcher.start()
-            replies = replies_of(serving, requests)
+            replies = replies_of(serving, requests, begun)
+            if len(replies) < len(requests):
+                serving.process.kill()
             watcher.join()
             return replies, serving.end(), told[0]
 
     def ended_serving(self, requests, key):
-        """The replies by a server that is ended at a random moment, and how it ends."""
-        copied, start = migrating_archive.copied(self.path, self.aside), time.monotonic()
-        *_, count = self.served(copied, requests, key, lambda process: migrating_archive.watch(process, copied, sys.maxsize))
-        seconds = time.monotonic() - start
+        """The replies by a server that is ended at a random moment, mostly once its first connection has begun, and how it ends."""
+        copied = migrating_archive.copied(self.path, self.aside)
 
-        def end(process):
-            migrating_archive.wait(process, self.path, self.chance, seconds, count)
+        def measure(process, begun):
+            wait_for(begun, process)
+            start = time.monotonic()
+            return migrating_archive.watch(process, copied, sys.maxsize), time.monotonic() - start
+
+        *_, (count, seconds) = self.served(copied, requests, key, measure)
+
+        def end(process, begun):
+            if self.chance.random() < 0.8:
+                wait_for(begun, process)
+            self.wait(process, seconds, count)
             process.kill()
 
         replies, told, _ = self.served(self.path, requests, key, end)
@@ -128,11 +145,11 @@ class Desk(compare_office.Desk):
     # What they leave
 
     def found(self):
-        """What SQLite finds in a copy of the file and its log. One page without its first byte, which is written last, is no file yet."""
+        """What SQLite finds in a copy of the file and its log. A file whose making has only begun is none, as it is to the program."""
         copied = migrating_archive.copied(self.path, self.aside)
-        whole = compare_office.content(copied) or b""
-        is_begun = len(whole) <= old_archive.PAGE and whole.startswith(b"\0")
-        return rows_of(None) if is_begun else compare_archive.rows_of(compare_archive.tables(copied))
+        if migrating_archive.is_begun(copied):
+            return rows_of(None)
+        return compare_archive.rows_of(compare_archive.tables(copied))
 
     def left(self, name, word, before, after, is_answered, is_killed):
         """The comparison of what an end has left of a command with the tables before it, where it hasn't answered, and with those behind
@@ -181,6 +198,7 @@ class Desk(compare_office.Desk):
             yield f"{name}, end {place}: what is printed", told, right_of(told, first)
             yield self.left(f"{name}, end {place}", words[0], before, after, is_whole(told, first), told[1] == KILLED)
         yield self.of_state(name)
+        self.office = copy_of(self.office)
         yield f"{name} once more", *self.both(words, given)
         yield f"{name} once more: tables", self.found(), rows_of(self.office)
 
@@ -207,6 +225,7 @@ class Desk(compare_office.Desk):
 
     def of_once_more(self, name, request, key):
         """The comparisons of a request that is sent to a server of its own."""
+        self.office = copy_of(self.office)
         wanted = slow_server.Server(self.office, key).reply(request)
         with compare_server.Serving(self.program, self.path, key, 1) as serving:
             yield f"{name}: {request[:40]} once more", serving.ask([request], False), wanted
@@ -226,12 +245,20 @@ def right_of(told, wanted):
     return told if status == KILLED and wanted[0].startswith(text) else wanted
 
 
-def replies_of(serving, requests):
-    """The replies to requests over connections of their own, up to the first that isn't whole, and to the end of the server."""
+def wait_for(begun, process):
+    """Waits until something has begun, or a process has ended."""
+    while not begun.wait(0.001) and process.poll() is None:
+        pass
+
+
+def replies_of(serving, requests, begun):
+    """The replies to requests over connections of their own, up to the first that isn't whole, and to the end of the server. It says when
+    the first connection begins."""
     replies = []
     for request in requests:
         try:
             with serving.connection() as connection:
+                begun.set()
                 compare_server.sent(connection, [request])
                 replies.append(compare_server.received(connection))
         except OSError:
@@ -249,7 +276,7 @@ def replies_of(serving, requests):
 def long_batch(chance, number):
     """The entry of many hours of a driver, from any day of 2010 or 2011 on."""
     start = 1440 * slow_office.day_number(slow_office.date_of(2010, 1, 1)) + 15 * chance.randrange(70_000)
-    starts = [start + 15 * place for place in range(chance.randrange(HOURS))]
+    starts = [start + 15 * place for place in range(chance.randrange(1, HOURS + 1))]
     return ["enter", str(number)], random_commands.hours_csv([(a, a + 15, chance.choice(slow_reader.ACTIVITIES)) for a in starts])
 
 
@@ -260,26 +287,30 @@ def enlarged(chance, words, given):
     return words, given
 
 
+def is_kept(chance, told):
+    """Whether a command is kept in a list that has told this: one that changes the archive is, and some of the others."""
+    return bool(CHANGED.match(told)) or chance.random() < OTHERS_LEFT
+
+
 def lines_of(seed, chance):
-    """Command lines of a seed, and long batches between them; some of the readings are left out."""
+    """Command lines of a seed, and long batches between them."""
     lines = [enlarged(chance, *line) for line in office_lines.Lines(seed).lines()]
-    lines = [line for line in lines if line[0][0] in CHANGING or chance.random() < READINGS_LEFT]
     for _ in range(3):
         lines.insert(chance.randrange(3, len(lines)), long_batch(chance, chance.choice(random_commands.NUMBERS)))
-    return lines
+    office = slow_office.Office()
+    return [line for line in lines if is_kept(chance, office.answer(*line)[0])]
 
 
 def requests_of(seed, chance):
-    """Requests of a seed, most of which change the archive, and the office's key."""
+    """Requests of a seed, long batches among them, and the office's key."""
     made = random_requests.Requests(seed)
     lines, requests = [*made.registrations(), made.weeks()], []
     while len(requests) < REQUESTS:
         line = lines.pop(0) if lines else enlarged(chance, *made.line())
-        if chance.random() < 0.1:
-            line = long_batch(chance, made.number())
-        if line[0][0] in CHANGING or chance.random() < READINGS_LEFT:
-            requests.append(made.parts(*line).bytes())
-            made.server.replies(requests[-1])
+        line = long_batch(chance, made.number()) if chance.random() < 0.1 else line
+        request = made.parts(*line).bytes()
+        if is_kept(chance, made.server.reply(request).partition(b"\r\n\r\n")[2]):
+            requests.append(request)
     return requests, made.office_key
 
 
@@ -326,7 +357,7 @@ def comparisons(program, rounds, first):
             kinds |= left
         pool.close()
         pool.join()
-    both = [word for word in ["init", *CHANGING, "serve"] if {(word, "before"), (word, "after")} <= kinds]
+    both = [word for word in [*CHANGING, "serve"] if {(word, "before"), (word, "after")} <= kinds]
     yield "whether ends have left a command undone and done", any(word != "serve" for word in both), True
     yield "whether ends have left a request undone and done", "serve" in both, True
 

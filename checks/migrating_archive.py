@@ -379,6 +379,12 @@ def copied(path, folder):
     return copy
 
 
+def is_begun(path):
+    """Whether the making of a file has begun and no more: it has one page at the most, and not its first byte, which is written last."""
+    whole = compare_office.content(path)
+    return whole is not None and len(whole) <= old_archive.PAGE and whole[:1] in (b"", b"\0")
+
+
 def left(desk, folder):
     """What an end has left, by SQLite over a copy of the file and its log: the old archive, or the new one, or what it is."""
     found = compare_archive.rows_of(compare_archive.rows_at(copied(desk.path, folder)))
