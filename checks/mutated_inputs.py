@@ -92,7 +92,8 @@ class Activity:
 
     def other_word(self, record):
         """The place of one of a record's words, and another one: of another minute, or with another mark, or both."""
-        place = record + 12 + 2 * self.chance.randrange(max(1, (self.number(record + 2) - 12) // 2) % 100)
+        words = (self.number(record + 2) - 12) // 2
+        place = record + 12 + 2 * self.chance.randrange(min(max(words, 1), 100))
         mark, minute = divmod(self.number(place), 2048)
         minutes = [minute, minute, (minute + 1) % 2048, self.number(place - 2) % 2048, 0, 1439, 1440, 2047]
         return place, struct.pack(">H", self.chance.choice([mark, self.chance.randrange(32)]) * 2048 + self.chance.choice(minutes))
