@@ -140,8 +140,8 @@ fn tell_examined(rt: &(impl Env + Alloc + Print), alloc: Global, way: Way) -> io
     match years::examined(alloc, way, number(rt, 2), number(rt, 3), number(rt, 4)) {
         Ok(count) => {
             println!(rt;
-                "{} spans, {} breaches, {} debts",
-                count.spans, count.breaches, count.debts
+                "{} spans, {} breaches, {} debts, sum {}",
+                count.spans, count.breaches, count.debts, count.sum
             )
         }
         Err(fault) => println!(rt; "{fault}"),

@@ -1,9 +1,10 @@
 use crate::add;
 use crate::passes::examine_plainly;
 use std::alloc::{AllocError, Global};
+use tacho_hours::{Breach, Debt, Kind};
 use tacho_line::{Line, LineFault};
 use tacho_rules::limits::{FIRST_BASE, LATEST};
-use tacho_rules::{can_be_examined, examine};
+use tacho_rules::{Report, can_be_examined, examine};
 use tacho_time::{Activity, Mark, Minute, Span};
 
 /// The minutes of a shift.
@@ -18,12 +19,71 @@ pub(crate) enum Way {
     Passes,
 }
 
-/// What was found in a line, in all the times that it was examined.
+/// What was found in a line, in all the times that it was examined; `sum` is made of each number of each report, in order.
 #[derive(Drop)]
 pub(crate) struct Count {
     pub(crate) spans: usize,
     pub(crate) breaches: usize,
     pub(crate) debts: usize,
+    pub(crate) sum: u64,
+}
+
+/// The number of a kind, from that of B1, which is 0, on.
+fn number_of(kind: Kind) -> u32 {
+    match kind {
+        Kind::B1 => 0,
+        Kind::B2 => 1,
+        Kind::B3 => 2,
+        Kind::B4 => 3,
+        Kind::B5 => 4,
+        Kind::B6 => 5,
+        Kind::B7 => 6,
+        Kind::B8 => 7,
+        Kind::B9 => 8,
+        Kind::B10 => 9,
+    }
+}
+
+impl Count {
+    /// Takes a number into the sum.
+    fn take(&mut self, number: u32) {
+        self.sum = self
+            .sum
+            .wrapping_mul(1_000_003)
+            .wrapping_add(u64::from(number));
+    }
+
+    /// Takes a breach into the sum.
+    fn take_breach(&mut self, breach: &Breach) {
+        self.take(number_of(breach.kind));
+        self.take(breach.moment.number());
+        self.take(breach.since.number());
+        self.take(breach.amount);
+    }
+
+    /// Takes a debt into the sum.
+    fn take_debt(&mut self, debt: &Debt) {
+        let payer = match debt.paid_by {
+            Some(minute) => minute.number(),
+            None => 0,
+        };
+        self.take(debt.week.number());
+        self.take(debt.amount);
+        self.take(debt.deadline.number());
+        self.take(payer);
+    }
+
+    /// Adds what a report has.
+    fn add(&mut self, report: &Report) {
+        self.breaches = self.breaches.wrapping_add(report.breaches.len());
+        self.debts = self.debts.wrapping_add(report.debts.len());
+        for breach in &report.breaches {
+            self.take_breach(breach);
+        }
+        for debt in &report.debts {
+            self.take_debt(debt);
+        }
+    }
 }
 
 /// So many minutes after the start.
@@ -127,6 +187,7 @@ pub(crate) fn examined(
         spans: line.spans().len(),
         breaches: 0,
         debts: 0,
+        sum: 0,
     };
     if can_be_examined(&line, base) {
         for _ in 0..times {
@@ -134,8 +195,7 @@ pub(crate) fn examined(
                 Way::Scan => examine(alloc, &line, base)?,
                 Way::Passes => examine_plainly(alloc, &line, base)?,
             };
-            count.breaches = count.breaches.wrapping_add(report.breaches.len());
-            count.debts = count.debts.wrapping_add(report.debts.len());
+            count.add(&report);
         }
     }
     Ok(count)
