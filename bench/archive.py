@@ -1,11 +1,15 @@
-"""Measures an archive beside stock SQLite, which makes the same rows of the same tables (stock.py).
+"""Measures an archive beside two programs over stock SQLite, which make the same rows of the same tables by the same statements: plain
+Rust, which reads cards and hours too (plain/commands.rs), and Python, which is given the rows (stock.py).
 
-Each of the two is a running program that is told commands, a line each, as tacho_script takes them. The processor time that it has
+Each of the three is a running program that is told commands, a line each, as tacho_script takes them. The processor time that it has
 had is asked of the system before a command and after its answer, so that neither the opening of an archive nor what filled it
-counts; what a command takes that is refused at its first word is taken out. Each time is the least of some rounds. Before the first
-measure a program registers a driver, imports a card of one day, and enters and withdraws hours, so that it has met each statement.
-At the end both files have to have the same tables."""
+counts; what a command takes that is refused at its first word is taken out. Each time is the least of some rounds, and each ratio the
+median of the rounds' ratios. Before the first measure a program registers a driver, imports a card of one day, and enters and
+withdraws hours, so that it has met each statement. Behind each round all files have to have the same tables. The instructions of
+imports and withdrawals are those of a program that has done them less those of one that hasn't; both end before they close their
+file."""
 import datetime
+import functools
 import json
 import os
 import shutil
@@ -16,6 +20,8 @@ import time
 from statistics import median
 
 import cards
+from compiling import plain
+from measuring import CALLGRIND, Instructions, Rounds, collected, instruction_heads, less, only, tell_instructions
 
 ROUNDS = 12
 SPARE, OLD, NEW = 999_999, 1, range(100, 110)  # the drivers of the one day, of ten years, and who are registered anew
@@ -40,9 +46,9 @@ STOCK = [sys.executable, os.path.join(cards.TOP, "bench", "stock.py")]
 class Program:
     """A running program, which answers each command by a line."""
 
-    def __init__(self, words):
+    def __init__(self, words, **pipes):
         self.words = words
-        self.running = subprocess.Popen(words, stdin=subprocess.PIPE, stdout=subprocess.PIPE, text=True)
+        self.running = subprocess.Popen(words, stdin=subprocess.PIPE, stdout=subprocess.PIPE, text=True, **pipes)
         self.clock = ~self.running.pid << 3 | 2  # the clock of its processor time, as clock_getcpuclockid(3) names it
         self.wants(DONE)
         self.start = time.clock_gettime_ns(self.clock) / 1e6  # what it took to be ready, in milliseconds
@@ -156,12 +162,12 @@ def entering(driver, first, count, path):
     return reading(f"enter - {driver}", path, f"entered {first} to {first + count - 1}\n")
 
 
-def entering_many(files, count):
-    """So many entries of a day each, after the days of the cards."""
+def entering_many(files, driver, first, last, day):
+    """The commands that enter the entries of these numbers, each of the day of its number behind another day."""
     commands = []
-    for first in range(1, count + 1, BATCH):
-        days = min(BATCH, count + 1 - first)
-        commands += entering(OLD, first, days, files.sheet(files.past + first - 1, days))
+    for number in range(first, last + 1, BATCH):
+        count = min(BATCH, last + 1 - number)
+        commands += entering(driver, number, count, files.sheet(day + number, count))
     return commands
 
 
@@ -178,8 +184,14 @@ def filling(files):
     drivers = []
     for driver in range(1, DRIVERS + 1):
         drivers += registering(driver, files.a_driver(driver)) + importing(driver, 1, files.a_year(driver))
-    entries = [entering_many(files, count) for count in ENTRIES]
+    entries = [entering_many(files, OLD, 1, count, files.past - 1) for count in ENTRIES]
     return dict(zip(ARCHIVES, [[], years, drivers, alone + entries[0], *(years + entered for entered in entries)]))
+
+
+def warming(files):
+    """What has a program meet each statement."""
+    done = registering(SPARE, files.a_driver(SPARE)) + importing(SPARE, 1, files.a_day(SPARE))
+    return done + entering(SPARE, 1, 1, files.sheet(files.past, 1)) + withdrawing(SPARE, 1)
 
 
 def measuring(files):
@@ -215,7 +227,7 @@ def make_files(sides, fills, folder):
 
 def copied(folder, side, name):
     """A copy of a side's file, without a log."""
-    path = path_of(folder, side, "copy")
+    path = path_of(folder, side, f"copy of {name}")
     shutil.copyfile(path_of(folder, side, name), path)
     if os.path.exists(path + "-wal"):
         os.remove(path + "-wal")
@@ -240,11 +252,6 @@ def times_of(program, warm, works):
     return {"start": program.start, **{work: median(map(program.time_of_last, times)) for work, times in works.items()}}
 
 
-def least(found, times):
-    """The lesser of each two times."""
-    return {work: min(taken, found.get(work, taken)) for work, taken in times.items()}
-
-
 def content(path):
     """The tables of a file and their rows."""
     connection = sqlite3.connect(path)
@@ -254,64 +261,86 @@ def content(path):
     return tables, rows
 
 
-def compare(folder, name):
-    """The sides' files have to have the same tables."""
-    ours, theirs = (content(path_of(folder, side, "copy")) for side in ("tacho", "stock"))
-    if ours != theirs:
-        sys.exit(f"the two archives have other tables: {name}")
+def compare(folder, sides):
+    """The sides' files of each archive have to have the same tables."""
+    for name in ARCHIVES:
+        ours, *others = (content(path_of(folder, side, f"copy of {name}")) for side in sides)
+        if any(ours != theirs for theirs in others):
+            sys.exit(f"the archives have other tables: {name}")
 
 
 def measured(sides, place, folder, fills, works, warm):
-    """The least time of each work in each archive, by side."""
-    found = {side: {name: {} for name in ARCHIVES} for side in sides}
-    for _ in range(ROUNDS):
-        for name in ARCHIVES:
-            for side, words in sides.items():
-                path = copied(folder, side, name) if place == "file" else None
-                program = begun(words, place, fills[name], path)
-                found[side][name] = least(found[side][name], times_of(program, warm, works[name]))
-                program.end()
-            if place == "file":
-                compare(folder, name)
-    return found
+    """What each work took, by archive and side."""
+    def turn(name, side):
+        path = copied(folder, side, name) if place == "file" else None
+        program = begun(sides[side], place, fills[name], path)
+        taken = times_of(program, warm, works[name])
+        program.end()
+        return taken
+    turns = {(name, side): functools.partial(turn, name, side) for name in ARCHIVES for side in sides}
+    return Rounds(turns, ROUNDS, lambda: compare(folder, sides) if place == "file" else None)
 
 
-def settings(folder):
-    """The settings of stock SQLite."""
-    program = Program([*STOCK, "archive", copied(folder, "stock", "empty")])
+def instructions_behind(words, path, commands):
+    """The instructions of a program that has done commands. It is ended before it closes its archive."""
+    program = Program([*CALLGRIND, *words, "archive", path], stderr=subprocess.PIPE)
+    for command in commands:
+        program.time_of(*command)
+    program.running.terminate()
+    return collected(program.running.communicate()[1])
+
+
+def counted(sides, folder, name, works, warm):
+    """The instructions of the product and of plain Rust before an archive's last work, and with it."""
+    *before, last = ([command for commands in work for command in commands] for work in works.values())
+    before = [*warm, *(command for commands in before for command in commands)]
+
+    def side_of(side):
+        behind = lambda commands: instructions_behind(sides[side], copied(folder, side, name), commands)
+        return lambda: {"before": behind(before), "with": behind(before + last)}
+    return Instructions({side: side_of(side) for side in ("tacho", "plain")})
+
+
+def settings(folder, side, words):
+    """The settings of a side's SQLite."""
+    program = Program([*words, "archive", copied(folder, side, "empty")])
     program.tell("settings")
     told = program.answer().split("\n")[0]
     program.end()
     return told
 
 
-def tell(place, found):
+def tell(place, sides, works, times, counts):
     """Prints the times of a place, with the growth from the archive that ARCHIVES names beside each."""
     for work in ("register", "import", "enter", "withdraw"):
-        sides = [found[side].items() for side in ("tacho", "stock")]
-        times = [{name: done[work] - done["nothing"] for name, done in side if work in done} for side in sides]
-        for name in times[0]:
-            ours, theirs = (side[name] for side in times)
-            grown = " ".join(f"{side[name] / side[ARCHIVES[name]]:7.2f}" for side in times)
-            print(f"{place:7} {work:9} {name:25} {ours:8.3f} {theirs:8.3f} {ours / theirs:6.2f} {grown}")
+        cost = less(work, "nothing")
+        for name in (name for name in ARCHIVES if work in works[name]):
+            taken = " ".join(f"{times.least((name, side), cost):8.3f}" for side in sides)
+            ratios = " ".join(f"{times.ratio((name, 'tacho'), (name, side), cost):6.2f}" for side in ("plain", "stock"))
+            grown = " ".join(f"{times.ratio((name, side), (ARCHIVES[name], side), cost):7.2f}" for side in sides)
+            done = [*works[name]]
+            instructions = counts[name].columns(less("with", "before", len(works[name][work]))) if counts and work == done[-1] else ""
+            print(f"{place:7} {work:9} {name:25} {taken} {ratios} {grown}{instructions}", flush=True)
 
 
 def archives(folder, program):
     """Measures the program with archives, and stock SQLite."""
-    sides, files = {"tacho": [program], "stock": STOCK}, Files(folder)
-    fills, works = filling(files), measuring(files)
-    warm = registering(SPARE, files.a_driver(SPARE)) + importing(SPARE, 1, files.a_day(SPARE))
-    warm += entering(SPARE, 1, 1, files.sheet(files.past, 1)) + withdrawing(SPARE, 1)
+    sides, files = {"tacho": [program], "plain": [plain(folder, "commands")], "stock": STOCK}, Files(folder)
+    fills, works, warm = filling(files), measuring(files), warming(files)
     make_files(sides, fills, folder)
-    print(f"an archive: processor time in ms, the least of {ROUNDS} rounds, and its growth")
+    print(f"an archive: processor time in ms, the least of {ROUNDS} rounds, ratios to plain Rust and to Python, and growth")
     print(f"an import is of a year, {len(files.year_rows)} spans, by the office; ten years of that driver, or a year of fifty others")
     print("enter is of one entry of eight hours, and withdraw of it, for a driver with other entries, and ten years or no cards")
     print("the growth is from the empty archive on, from no cards on to 10 entries with ten years, and from these on to more")
-    print("a file of the archive's SQLite, with sums of its pages: journal_mode wal, synchronous 2, one process, cache of 2000 pages, log of 1000 frames")
-    print(f"a file of stock SQLite {sqlite3.sqlite_version}, by Python: {settings(folder)}")
-    print(f"{'':43} {'tacho':>8} {'stock':>8} {'ratio':>6} {'tacho':>7} {'stock':>7}")
-    for place in ("memory", "file"):
-        found = measured(sides, place, folder, fills, works, warm)
-        tell(place, found)
-    starts = "; ".join(f"{found['tacho'][name]['start']:.0f} ({name})" for name in ARCHIVES)
+    print("a file of the archive's SQLite, with sums of its pages: journal_mode wal, synchronous 2, one process, cache of 2000 pages,")
+    print("log of 1000 frames")
+    for side, name in {"plain": "Rust", "stock": "Python"}.items():
+        print(f"a file of stock SQLite {sqlite3.sqlite_version}, by {name}: {settings(folder, side, sides[side])}")
+    tell_instructions("of imports and withdrawals over a file millions")
+    taken, grown = (" ".join(f"{side:>{width}}" for side in sides) for width in (8, 7))
+    print(f"{'':43} {taken} {'/plain':>6} {'/stock':>6} {grown}{instruction_heads()}")
+    tell("memory", sides, works, measured(sides, "memory", folder, fills, works, warm), None)
+    times = measured(sides, "file", folder, fills, works, warm)
+    tell("file", sides, works, times, {name: counted(sides, folder, name, works[name], warm) for name in ARCHIVES})
+    starts = "; ".join(f"{times.least((name, 'tacho'), only('start')):.0f} ({name})" for name in ARCHIVES)
     print(f"the opening of a file, which is aside, takes tacho so many ms: {starts}")

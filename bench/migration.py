@@ -5,14 +5,14 @@ An archive has drivers with so many entries each, one behind the other, of a qua
 its pages. The program is a process of its own for each migration. What its start and the opening take is measured by `drivers`, which is
 refused there when the archive is open (S13), and taken out. Stock SQLite is a running program that has the archive open; of it the time
 of the command counts. Both take their log into the file. Each time is the least of some rounds, in which the two take turns, each at a
-new copy. At the end both files have to have the same tables."""
+new copy, and each ratio is the median of the rounds' ratios. Behind each round both files have to have the same tables."""
 import os
 import shutil
 import sys
 
 import cards
 from archive import DONE, STOCK, Program, content
-from office import processor_time, told
+from measuring import Rounds, less, only, processor_time, told
 from stock import BASE
 
 import old_archive
@@ -49,9 +49,9 @@ def ours(program, path):
     """What the program's opening takes, and a migration with it."""
     made = copied(path, "tacho")
     opening, whole = processor_time([program, "drivers", made]), processor_time([program, "migrate", made])
-    if told([program, "migrate", made]) != b"migrated\n":
+    if told([program, "migrate", made])[0] != b"migrated\n":
         sys.exit(f"{made} wasn't carried over")
-    return opening, whole
+    return {"opening": opening, "whole": whole}
 
 
 def theirs(path):
@@ -59,16 +59,18 @@ def theirs(path):
     running = Program([*STOCK, "archive", copied(path, "stock")])
     taken = running.time_of("migrate -", "migrated\n" + DONE)
     running.end()
-    return taken
+    return {"opening": 0, "whole": taken}
+
+
+def compare(path):
+    """The two files have to have the same tables."""
+    if content(f"{path}-tacho") != content(f"{path}-stock"):
+        sys.exit(f"the two archives have other tables: {path}")
 
 
 def times_of(program, path):
-    """The least times at an archive: of the opening, of the migration behind it, and of stock SQLite's."""
-    rounds = [(*ours(program, path), theirs(path)) for _ in range(ROUNDS)]
-    if content(f"{path}-tacho") != content(f"{path}-stock"):
-        sys.exit(f"the two archives have other tables: {path}")
-    opening, whole, stock = map(min, zip(*rounds))
-    return opening, whole - opening, stock
+    """The times of both at an archive."""
+    return Rounds({"tacho": lambda: ours(program, path), "stock": lambda: theirs(path)}, ROUNDS, lambda: compare(path))
 
 
 def migrations(folder, program):
@@ -80,7 +82,8 @@ def migrations(folder, program):
         path = os.path.join(folder, f"{drivers}-{entries}.db")
         old_archive.make(path, rows_of(drivers, entries))
         size = os.path.getsize(path) / 1e6
-        opening, *both = found[drivers, entries] = times_of(program, path)
-        grown = " ".join(f"{now / before:7.2f}" for now, before in zip(both, found[ARCHIVES[drivers, entries]][1:]))
-        times = f"{opening:8.1f} {both[0]:8.1f} {both[1]:8.1f} {both[0] / both[1]:6.2f} {grown}"
-        print(f"{drivers:8} {entries:8} {size:10.1f} {times}", flush=True)
+        times, cost = times_of(program, path), less("whole", "opening")
+        both = found[drivers, entries] = [times.least(side, cost) for side in ("tacho", "stock")]
+        grown = " ".join(f"{now / before:7.2f}" for now, before in zip(both, found[ARCHIVES[drivers, entries]]))
+        taken = f"{times.least('tacho', only('opening')):8.1f} {both[0]:8.1f} {both[1]:8.1f} {times.ratio('tacho', 'stock', cost):6.2f}"
+        print(f"{drivers:8} {entries:8} {size:10.1f} {taken} {grown}", flush=True)

@@ -5,26 +5,17 @@ the opening of the archive take is measured by the program with a number that is
 are measured behind an opening: tacho_script does each of them on an archive that it has opened, and has to print what the program
 prints. Each time is the least of some rounds, in which the commands take turns."""
 import datetime
+import functools
 import os
-import resource
-import subprocess
-import sys
 
 import cards
 from archive import DONE, Program
+from measuring import Rounds, only, processor_time, told
 
 ROUNDS, OPENINGS = 40, 3
 ARCHIVES = [(1, 1), (1, 10), (10, 1), (10, 10), (50, 1), (50, 10)]  # drivers, and years of each
 DRIVER = 1  # the one who is asked for
 DAY = 1440
-
-
-def told(words, given=b""):
-    """What the program prints. It has to have done its work, or to have refused it."""
-    run = subprocess.run(words, input=given, capture_output=True)
-    if run.returncode not in (0, 1):
-        sys.exit(f"{words} ended with status {run.returncode}")
-    return run.stdout
 
 
 def date_of(day):
@@ -67,14 +58,6 @@ def fill(script, folder, path, drivers, years):
     return day
 
 
-def processor_time(words):
-    """The processor time of a run, in milliseconds."""
-    before = resource.getrusage(resource.RUSAGE_CHILDREN)
-    told(words)
-    after = resource.getrusage(resource.RUSAGE_CHILDREN)
-    return 1000 * (after.ru_utime + after.ru_stime - before.ru_utime - before.ru_stime)
-
-
 def times_of(program, script, path, month):
     """What the opening takes, and each command behind it."""
     commands = {
@@ -84,14 +67,13 @@ def times_of(program, script, path, month):
         "breaches": ["breaches", path, str(DRIVER)],
         "owed": ["owed", path, str(DRIVER)],
     }
-    wanted = {name: told([program, *words]).decode() + DONE for name, words in commands.items()}
+    wanted = {name: told([program, *words])[0].decode() + DONE for name, words in commands.items()}
     opening = min(processor_time([program, "breaches", path, "0"]) for _ in range(OPENINGS))
-    running, least = Program([script, "archive", path]), {}
-    for _ in range(ROUNDS):
-        for name, words in commands.items():
-            least[name] = min(least.get(name, 1e9), running.time_of(" ".join(words), wanted[name]))
+    running = Program([script, "archive", path])
+    turn = lambda name: {"time": running.time_of(" ".join(commands[name]), wanted[name])}
+    times = Rounds({name: functools.partial(turn, name) for name in commands}, ROUNDS)
     running.end()
-    return opening, least
+    return opening, {name: times.least(name, only("time")) for name in commands}
 
 
 def offices(folder, program, script):

@@ -5,8 +5,8 @@ An archive has one driver with card files of one year or of ten, and entered res
 from his base on is examined. The base lies at the start of what he holds or, with ten years, one year before its end.
 tacho_script makes the archive and opens it, in one process, and behind the opening it makes the report from rows
 (`breaches`), by the line from the base on (`examined`), and by the line of all that the driver holds (`examined` with
-`whole`), in turns; all have to print the same. Each time is the least of some rounds, and what a command takes that is
-refused at its first word is taken out.
+`whole`), in turns; all have to print the same. Each time is the least of some rounds, each ratio the median of theirs,
+and what a command takes that is refused at its first word is taken out.
 
 The peak of memory is that of a process which opens the archive and does one command, as the system tells it of the
 process: that of the program alone, where ru_maxrss would count Python, from which the process comes, too. The one of a
@@ -20,6 +20,7 @@ import sys
 
 import cards
 from archive import DONE, NOTHING, Program
+from measuring import Rounds, less
 from office import DRIVER, date_of, fill
 from server import fill_gaps
 
@@ -53,26 +54,22 @@ def based(script, path, made, day):
     return made
 
 
-def answer_of(script, path, command):
+def answer_of(running, command):
     """What a command prints, which has to be done."""
-    running = Program([script, "archive", path])
     running.tell(command)
     answer = running.answer()
-    running.end()
     if not answer.endswith(DONE):
         sys.exit(f"{command} answered {answer!r}")
     return answer
 
 
 def times_of(script, path, commands, wanted):
-    """The least time of each command behind an opening."""
-    running, least = Program([script, "archive", path]), {}
-    for _ in range(ROUNDS):
-        for name, command in {**commands, "nothing": NOTHING[0]}.items():
-            answer = NOTHING[1] if name == "nothing" else wanted
-            least[name] = min(least.get(name, 1e9), running.time_of(command, answer))
+    """The times of each command behind an opening."""
+    running = Program([script, "archive", path])
+    turn = lambda command: {"nothing": running.time_of(*NOTHING), "report": running.time_of(command, wanted)}
+    times = Rounds({name: functools.partial(turn, command) for name, command in commands.items()}, ROUNDS)
     running.end()
-    return {name: least[name] - least["nothing"] for name in commands}
+    return times
 
 
 def kilobytes(running, word):
@@ -107,13 +104,15 @@ def tell_times(script, archives, asked):
     print("by the line from the base on, by the line of all that is held; and how that from rows grows from a year")
     names = f"{'rows':>8} {'line':>8} {'whole':>8} {'/line':>6} {'/whole':>6} {'growth':>6}"
     print(f"{'archive':20} {'breaches':>8} {names}")
-    first = None
+    first, cost = None, less("report", "nothing")
     for name, path in archives.items():
         commands, wanted = asked[name]
-        rows, line, whole = times_of(script, path, commands, wanted).values()
-        first = first or rows
-        times = f"{rows:8.3f} {line:8.3f} {whole:8.3f} {rows / line:6.2f} {rows / whole:6.2f} {rows / first:6.2f}"
-        print(f"{name:20} {wanted.count(NEWLINE) - 2:8} {times}", flush=True)
+        times = times_of(script, path, commands, wanted)
+        taken = [times.least(way, cost) for way in WAYS]
+        first = first or taken[0]
+        columns = " ".join(f"{time:8.3f}" for time in taken)
+        ratios = " ".join(f"{times.ratio('rows', way, cost):6.2f}" for way in ("line", "whole"))
+        print(f"{name:20} {wanted.count(NEWLINE) - 2:8} {columns} {ratios} {taken[0] / first:6.2f}", flush=True)
 
 
 def tell_peaks(script, archives, asked):
@@ -138,7 +137,9 @@ def reports(folder, script):
     asked = {}
     for name, (path, day) in archives.items():
         commands = {way: words.format(driver=DRIVER, day=day) for way, words in WAYS.items()}
-        asked[name] = commands, answer_of(script, path, commands["rows"])
+        running = Program([script, "archive", path])
+        asked[name] = commands, answer_of(running, commands["rows"])
+        running.end()
     paths = {name: path for name, (path, _) in archives.items()}
     tell_times(script, paths, asked)
     tell_peaks(script, paths, asked)

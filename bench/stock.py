@@ -6,26 +6,13 @@ that an archive keeps of it, so that no card and no text is read here and nothin
 that has the file and no archive is no command; by it the rows are learnt."""
 import functools
 import json
+import os
 import sqlite3
 import sys
 
 BASE = 10_959
-TABLES = [
-    "CREATE TABLE meta (id INTEGER PRIMARY KEY, version INTEGER NOT NULL) STRICT",
-    "CREATE TABLE drivers (driver INTEGER PRIMARY KEY, holder BLOB NOT NULL UNIQUE, secret TEXT NOT NULL UNIQUE,"
-    " base INTEGER NOT NULL, name TEXT NOT NULL, downloads INTEGER NOT NULL, entries INTEGER NOT NULL) STRICT",
-    "CREATE TABLE downloads (driver INTEGER NOT NULL REFERENCES drivers(driver), number INTEGER NOT NULL,"
-    " part INTEGER NOT NULL, file BLOB NOT NULL, PRIMARY KEY (driver, number)) STRICT",
-    "CREATE TABLE card_spans (driver INTEGER NOT NULL REFERENCES drivers(driver), start INTEGER NOT NULL,"
-    " past INTEGER NOT NULL, mark INTEGER NOT NULL, PRIMARY KEY (driver, start)) STRICT",
-    "CREATE TABLE entry_rows (driver INTEGER NOT NULL REFERENCES drivers(driver), number INTEGER NOT NULL,"
-    " start INTEGER NOT NULL, past INTEGER NOT NULL, mark INTEGER NOT NULL,"
-    " withdrawn INTEGER NOT NULL CHECK (withdrawn IN (0, 1)), author TEXT NOT NULL, note TEXT NOT NULL,"
-    " PRIMARY KEY (driver, number)) STRICT",
-    "CREATE TABLE held (driver INTEGER NOT NULL REFERENCES drivers(driver), start INTEGER NOT NULL,"
-    " past INTEGER NOT NULL, mark INTEGER NOT NULL, PRIMARY KEY (driver, start)) STRICT",
-    "INSERT INTO meta (id, version) VALUES (1, 2)",
-]
+with open(os.path.join(os.path.dirname(os.path.abspath(__file__)), "tables.sql"), encoding="utf-8") as file:
+    TABLES = [" ".join(text.split()) for text in file.read().split(";") if text.strip()]
 # What carries an archive of schema 1 over.
 CARRY = [
     *[text for text in TABLES if " entry_rows " in text],
@@ -34,7 +21,7 @@ CARRY = [
     "DELETE FROM entries",
     "UPDATE meta SET version = 2 WHERE id = 1",
 ]
-DRIVER = "SELECT holder, base, downloads, entries FROM drivers WHERE driver = ?1"
+DRIVER = "SELECT driver, holder, base, name, downloads, entries FROM drivers WHERE driver = ?1"
 BEFORE = "SELECT start, past, mark FROM {} WHERE driver = ?1 AND start < ?2 ORDER BY start DESC LIMIT 1"
 BEGUN = "SELECT start, past, mark FROM {} WHERE driver = ?1 AND ?2 <= start AND start < ?3 ORDER BY start"
 KEPT_NEAR = (
@@ -126,7 +113,7 @@ def import_card(connection, given, _):
     """Adds a download and its spans."""
     connection.execute("BEGIN")
     (driver,) = first(connection, "SELECT driver FROM drivers WHERE holder = ?1", given.holder)
-    number = first(connection, DRIVER, driver)[2] + 1
+    number = first(connection, DRIVER, driver)[4] + 1
     if any([rows_near(connection, table, *given.range(driver)) for table in ("card_spans", "held")]):
         raise ValueError("spans near those of the card are there")
     connection.execute("UPDATE drivers SET downloads = ?2 WHERE driver = ?1", (driver, number))
@@ -141,7 +128,7 @@ def enter(connection, given, word):
     """Adds entries and their spans."""
     driver = int(word)
     connection.execute("BEGIN")
-    number = first(connection, DRIVER, driver)[3] + 1
+    number = first(connection, DRIVER, driver)[5] + 1
     if rows_near(connection, "held", *given.range(driver)):
         raise ValueError("spans near the hours are there")
     last = number - 1 + len(given.spans)

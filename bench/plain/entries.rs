@@ -16,20 +16,20 @@ const TIME: usize = "2024-03-04 00:00".len();
 const ROW: usize = 2 * TIME + 2;
 
 #[derive(Clone, Copy, PartialEq, Eq)]
-enum Activity {
+pub enum Activity {
     Rest,
     Available,
     Work,
     Drive,
 }
 
-struct Line {
-    start: u32,
-    past: u32,
-    activity: Activity,
+pub struct Line {
+    pub start: u32,
+    pub past: u32,
+    pub activity: Activity,
 }
 
-enum Fault {
+pub enum Fault {
     Head,
     Fields,
     Time,
@@ -196,7 +196,7 @@ fn next_record(text: &[u8], place: usize) -> usize {
 }
 
 /// The lines of a text, or its first fault and the row.
-fn lines_of(text: &[u8]) -> Result<Vec<Line>, (Fault, u64)> {
+pub fn lines_of(text: &[u8]) -> Result<Vec<Line>, (Fault, u64)> {
     let text = text.strip_prefix(MARK).unwrap_or(text);
     let mut record = Record::default();
     let head = next_record(text, 0);

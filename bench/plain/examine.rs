@@ -48,8 +48,6 @@ pub enum Kind {
     B10,
 }
 
-/// A breach, whose amount nothing here reads.
-#[allow(dead_code)]
 pub struct Breach {
     pub kind: Kind,
     pub moment: u32,
@@ -57,11 +55,11 @@ pub struct Breach {
     pub amount: u32,
 }
 
-struct Debt {
-    week: u32,
-    amount: u32,
-    deadline: u32,
-    paid_by: Option<u32>,
+pub struct Debt {
+    pub week: u32,
+    pub amount: u32,
+    pub deadline: u32,
+    pub paid_by: Option<u32>,
 }
 
 /// Why the examination of a line stops.
@@ -70,13 +68,11 @@ pub enum Cause {
     Crew,
 }
 
-/// All that is found, of which only counts are printed.
-#[allow(dead_code)]
 pub struct Report {
     pub horizon: u32,
     pub cause: Cause,
     pub breaches: Vec<Breach>,
-    debts: Vec<Debt>,
+    pub debts: Vec<Debt>,
 }
 
 fn week_of(minute: u32) -> u32 {
@@ -530,6 +526,33 @@ fn line_of(days: u32, pieces: u32) -> Result<Vec<Span>, usize> {
     Ok(spans)
 }
 
+/// What was found in a line, in all the times that it was examined; `sum` is made of each number of each report, in order.
+#[derive(Default)]
+struct Found {
+    breaches: usize,
+    debts: usize,
+    sum: u64,
+}
+
+impl Found {
+    fn take(&mut self, numbers: [u32; 4]) {
+        for number in numbers {
+            self.sum = self.sum.wrapping_mul(1_000_003).wrapping_add(u64::from(number));
+        }
+    }
+
+    fn add(&mut self, report: &Report) {
+        self.breaches += report.breaches.len();
+        self.debts += report.debts.len();
+        for breach in &report.breaches {
+            self.take([breach.kind as u32, breach.moment, breach.since, breach.amount]);
+        }
+        for debt in &report.debts {
+            self.take([debt.week, debt.amount, debt.deadline, debt.paid_by.unwrap_or(0)]);
+        }
+    }
+}
+
 fn main() {
     let words: Vec<u32> = std::env::args().skip(2).map(|word| word.parse().unwrap()).collect();
     let (days, pieces, times) = (words[0], words[1], words[2]);
@@ -537,11 +560,10 @@ fn main() {
         Ok(line) => line,
         Err(place) => return println!("the span at {place} is empty"),
     };
-    let (mut breaches, mut debts) = (0, 0);
+    let mut found = Found::default();
     for _ in 0..times {
-        let report = black_box(examine(black_box(&line), START));
-        breaches += report.breaches.len();
-        debts += report.debts.len();
+        found.add(&black_box(examine(black_box(&line), START)));
     }
-    println!("{} spans, {breaches} breaches, {debts} debts", line.len());
+    let Found { breaches, debts, sum } = black_box(found);
+    println!("{} spans, {breaches} breaches, {debts} debts, sum {sum}", line.len());
 }

@@ -14,7 +14,7 @@ fn hour(number: u32) -> Span {
 }
 
 /// The canonical list of spans in any order, or the least minute with two marks.
-fn canonical(spans: &[Span]) -> Result<Vec<Span>, u32> {
+pub fn canonical(spans: &[Span]) -> Result<Vec<Span>, u32> {
     let mut sorted: Vec<Span> = spans.iter().copied().filter(|s| s.start < s.past).collect();
     sorted.sort_unstable_by_key(|s| s.start);
     let mut runs: Vec<Span> = Vec::new();

@@ -6,6 +6,7 @@ use std::env;
 use std::io::{self, BufRead, BufReader, Read, Write};
 use std::net::{TcpListener, TcpStream};
 
+mod archive;
 #[path = "dump.rs"]
 mod dump;
 #[path = "entries.rs"]
@@ -16,27 +17,12 @@ mod examine;
 mod line;
 mod sqlite;
 
+use archive::{driver_by_key, driver_with, import, span_of};
 use examine::{Activity, Breach, Cause, Report};
 use line::Span;
-use sqlite::{Database, Row, Value::*};
+use sqlite::{Database, Value::*};
 
-const BY_KEY: &str = "SELECT driver FROM drivers WHERE secret = ?1";
-const BY_HOLDER: &str = "SELECT driver FROM drivers WHERE holder = ?1";
-const DRIVER: &str = "SELECT holder, base, name, downloads, entries FROM drivers WHERE driver = ?1";
 const HELD: &str = "SELECT start, past, mark FROM held WHERE driver = ?1 ORDER BY start";
-const COUNT: &str = "UPDATE drivers SET downloads = ?2 WHERE driver = ?1";
-const KEEP: &str = "INSERT INTO downloads (driver, number, part, file) VALUES (?1, ?2, ?3, ?4)";
-const HELD_NEAR: [&str; 2] = [
-    "SELECT start, past, mark FROM held WHERE driver = ?1 AND start < ?2 ORDER BY start DESC LIMIT 1",
-    "SELECT start, past, mark FROM held WHERE driver = ?1 AND ?2 <= start AND start < ?3 ORDER BY start",
-];
-const CARDS_NEAR: [&str; 2] = [
-    "SELECT start, past, mark FROM card_spans WHERE driver = ?1 AND start < ?2 ORDER BY start DESC LIMIT 1",
-    "SELECT start, past, mark FROM card_spans WHERE driver = ?1 AND ?2 <= start AND start < ?3 ORDER BY start",
-];
-const ADD_HELD: &str = "INSERT INTO held (driver, start, past, mark) VALUES (?1, ?2, ?3, ?4)";
-const ADD_CARD: &str = "INSERT INTO card_spans (driver, start, past, mark) VALUES (?1, ?2, ?3, ?4)";
-
 const BODY_LIMIT: usize = 262_144;
 const DAY: u32 = 1440;
 const ACTIVITIES: [Activity; 4] = [Activity::Rest, Activity::Work, Activity::Work, Activity::Drive];
@@ -49,35 +35,10 @@ const RULES: [&str; 10] = [
 
 // What is stored
 
-/// The base, the name and the count of downloads of a driver.
-fn driver_with(archive: &mut Database, number: u32) -> Option<(u32, String, u32)> {
-    archive.rows(DRIVER, &[Number(number)], |row| (row.number(1), row.text(2), row.number(3)))?.pop()
-}
-
-fn span_of(row: Row) -> Span {
-    let mark = row.number(2) as u8;
-    Span { start: row.number(0), past: row.number(1), mark: (mark % 4, mark >= 4) }
-}
-
 /// The base of a driver, and what he holds.
 fn held_by(archive: &mut Database, driver: u32) -> Option<(u32, Vec<Span>)> {
-    let (base, ..) = driver_with(archive, driver)?;
+    let base = driver_with(archive, driver)?.base;
     Some((base, archive.rows(HELD, &[Number(driver)], span_of)?))
-}
-
-/// The spans of a table near a range.
-fn near(archive: &mut Database, statements: [&'static str; 2], driver: u32, start: u32, past: u32) -> Option<Vec<Span>> {
-    let before = archive.rows(statements[0], &[Number(driver), Number(start)], span_of)?.pop();
-    let begin = before.filter(|span| start < span.past).map_or(start, |span| span.start);
-    archive.rows(statements[1], &[Number(driver), Number(begin), Number(past)], span_of)
-}
-
-fn add(archive: &mut Database, statement: &'static str, driver: u32, spans: &[Span]) -> Option<()> {
-    for Span { start, past, mark: (activity, is_crew) } in spans {
-        let mark = u32::from(*activity) + 4 * u32::from(*is_crew);
-        archive.run(statement, &[Number(driver), Number(*start), Number(*past), Number(mark)])?;
-    }
-    Some(())
 }
 
 // What is asked for
@@ -146,7 +107,7 @@ fn amount_columns(amounts: &[u32; 6]) -> String {
 
 fn sheet(archive: &mut Database, driver: u32, month: &str) -> Option<String> {
     let (first, days) = days_of(month)?;
-    let (_, name, _) = archive.within("ROLLBACK", |archive| driver_with(archive, driver))?;
+    let name = archive.within("ROLLBACK", |archive| driver_with(archive, driver))?.name;
     let (base, spans) = archive.within("ROLLBACK", |archive| held_by(archive, driver))?;
     let report = report_of(base, &spans);
     let mut text = format!("DRIVER {driver} {name}\nMONTH {month}\nDATE       DAY   REST  AVAIL   WORK  DRIVE   CREW   NONE\n");
@@ -160,46 +121,6 @@ fn sheet(archive: &mut Database, driver: u32, month: &str) -> Option<String> {
     let within = DAY * first..DAY * (first + days);
     text.extend(report.breaches.iter().filter(|breach| within.contains(&breach.moment)).map(breach_line));
     Some(text + &horizon_line(&report))
-}
-
-/// The holder that a card file names, and the spans of its activity data.
-fn card_of(mut file: &[u8]) -> Option<(&[u8], Vec<Span>)> {
-    let (mut holder, mut spans) = (None, Vec::new());
-    while !file.is_empty() {
-        let (head, rest) = file.split_at_checked(5)?;
-        let (value, rest) = rest.split_at_checked(usize::from(head[3]) * 256 + usize::from(head[4]))?;
-        match head[..3] {
-            [0x05, 0x20, 0 | 2] if holder.is_none_or(|holder| value.starts_with(holder)) => holder = value.get(..15),
-            [0x05, 0x20, 0 | 2] => return None,
-            [0x05, 0x04, 0 | 2] => spans.extend(dump::spans_of(value).ok()?),
-            _ => (),
-        }
-        file = rest;
-    }
-    dump::put_in_order(&mut spans).ok()?;
-    let spans = spans.iter().map(|span| Span { start: span.start, past: span.past, mark: (span.mark / 2, span.mark % 2 == 1) });
-    Some((holder?, spans.collect()))
-}
-
-fn import(archive: &mut Database, file: &[u8]) -> Option<(&'static str, String)> {
-    let (holder, spans) = card_of(file)?;
-    let (start, past) = spans.first().zip(spans.last()).map_or((0, 0), |(first, last)| (first.start, last.past));
-    archive.within("COMMIT", |archive| {
-        let driver = archive.rows(BY_HOLDER, &[Bytes(holder)], |row| row.number(0))?.pop()?;
-        let number = driver_with(archive, driver)?.2 + 1;
-        let cards = near(archive, CARDS_NEAR, driver, start, past)?;
-        let helds = near(archive, HELD_NEAR, driver, start, past)?;
-        let new_cards = line::gains(&cards, &spans).ok()?;
-        if new_cards.is_empty() {
-            return Some(("200 OK", format!("repeated driver {driver}\n")));
-        }
-        let new_helds = line::gains(&helds, &spans).ok()?;
-        archive.run(COUNT, &[Number(driver), Number(number)])?;
-        archive.run(KEEP, &[Number(driver), Number(number), Number(0), Bytes(file)])?;
-        add(archive, ADD_CARD, driver, &new_cards)?;
-        add(archive, ADD_HELD, driver, &new_helds)?;
-        Some(("201 Created", format!("added driver {driver} number {number}\n")))
-    })
 }
 
 // Requests and replies
@@ -229,11 +150,14 @@ fn told_of(archive: &mut Database, office_key: &str, first_line: &str, key: &str
     if key == office_key {
         return match words[..] {
             ["GET", "", "drivers", driver, "sheet", month, ..] => Some(("200 OK", sheet(archive, driver.parse().ok()?, month)?)),
-            ["POST", "", "cards", "both", ..] => import(archive, body),
+            ["POST", "", "cards", "both", ..] => {
+                let (is_new, text) = import(archive, body)?;
+                Some((if is_new { "201 Created" } else { "200 OK" }, text))
+            }
             _ => None,
         };
     }
-    let driver = archive.within("ROLLBACK", |archive| archive.rows(BY_KEY, &[Text(key)], |row| row.number(0)))?.pop()?;
+    let driver = archive.within("ROLLBACK", |archive| driver_by_key(archive, key))?;
     match words[..] {
         ["GET", "", "me", "breaches", ..] => Some(("200 OK", breaches(archive, driver)?)),
         _ => None,

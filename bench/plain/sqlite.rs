@@ -1,4 +1,4 @@
-//! As much of SQLite's C interface as a plain server needs, with the settings of the program. Each statement is prepared once.
+//! As much of SQLite's C interface as the plain programs need, with the settings of the program. Each statement is prepared once.
 use std::collections::HashMap;
 use std::ffi::{c_char, c_int, c_void, CString};
 use std::ptr::{null, null_mut};
@@ -16,6 +16,8 @@ extern "C" {
     fn sqlite3_bind_blob(statement: Handle, place: c_int, value: *const u8, bytes: c_int, freed: *const c_void) -> c_int;
     fn sqlite3_step(statement: Handle) -> c_int;
     fn sqlite3_reset(statement: Handle) -> c_int;
+    fn sqlite3_finalize(statement: Handle) -> c_int;
+    fn sqlite3_close(database: Handle) -> c_int;
     fn sqlite3_column_int64(statement: Handle, column: c_int) -> i64;
     fn sqlite3_column_blob(statement: Handle, column: c_int) -> *const u8;
     fn sqlite3_column_bytes(statement: Handle, column: c_int) -> c_int;
@@ -55,10 +57,25 @@ pub struct Database {
 
 impl Database {
     pub fn open(path: &str) -> Database {
-        let (path, settings, mut handle) = (CString::new(path).unwrap(), CString::new(SETTINGS).unwrap(), null_mut());
+        let (path, mut handle) = (CString::new(path).unwrap(), null_mut());
         assert_eq!(unsafe { sqlite3_open(path.as_ptr(), &mut handle) }, 0, "{path:?} can't be opened");
-        assert_eq!(unsafe { sqlite3_exec(handle, settings.as_ptr(), null(), null(), null()) }, 0, "{path:?} takes no settings");
-        Database { handle, statements: HashMap::new() }
+        let database = Database { handle, statements: HashMap::new() };
+        database.run_all(SETTINGS);
+        database
+    }
+
+    /// Closes the file, into which the log is taken.
+    pub fn close(self) {
+        for statement in self.statements.into_values() {
+            unsafe { sqlite3_finalize(statement) };
+        }
+        assert_eq!(unsafe { sqlite3_close(self.handle) }, 0, "an archive can't be closed");
+    }
+
+    /// Runs statements once.
+    pub fn run_all(&self, statements: &str) {
+        let text = CString::new(statements).unwrap();
+        assert_eq!(unsafe { sqlite3_exec(self.handle, text.as_ptr(), null(), null(), null()) }, 0, "{statements} fails");
     }
 
     fn statement(&mut self, sql: &'static str) -> Handle {
