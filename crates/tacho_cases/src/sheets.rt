@@ -180,170 +180,176 @@ fn a_head_alone_is_an_empty_batch(rt: HostRuntime) -> Result<(), Fail> {
     Ok(())
 }
 
+/// Texts of entries with another head.
+const WRONG_HEADS: &[&str] = &[
+    "",
+    "\n\r\n\r",
+    "\u{feff}",
+    "start,past\n",
+    "start,past,Activity\n",
+    "start,past,activity,\n",
+    "start;past;activity\n",
+    "past,start,activity\n",
+    // The second byte order mark is part of the first field.
+    "\u{feff}\u{feff}start,past,activity\n",
+    // A quote that is never closed takes all the rest into its field.
+    "start,past,\"activity\n2024-03-04 00:00,2024-03-04 12:00,rest\n",
+];
+
+/// Rows of three columns, and the first fault that they have.
+const FAULTY_ROWS: &[(&str, SheetFault)] = &[
+    (
+        "2024-03-04 00:00,2024-03-04 12:00,rest,work\n",
+        SheetFault::Fields(2),
+    ),
+    ("2024-03-04 00:00,2024-03-04 12:00\n", SheetFault::Fields(2)),
+    // A line with a blank isn't blank.
+    (" \n", SheetFault::Fields(2)),
+    ("2024-03-04,2024-03-04 12:00,rest\n", SheetFault::Time(2)),
+    (
+        "2024-03-04 00:00,2024-02-30 12:00,crew\n",
+        SheetFault::Time(2),
+    ),
+    // A comma and a line's end within quotes are the field's.
+    (
+        "\"2024-03-04 00:00,x\",2024-03-04 12:00,rest\n",
+        SheetFault::Time(2),
+    ),
+    (
+        "2024-03-04 00:00,\"2024-03-04 12:00\r\n\",rest\n",
+        SheetFault::Time(2),
+    ),
+    (
+        "2024-03-04 00:00,2024-03-04 12:00,\"re\nst\"\n",
+        SheetFault::Activity(2),
+    ),
+    // Two quotes within quotes are one.
+    (
+        "2024-03-04 00:00,2024-03-04 12:00,\"re\"\"st\"\n",
+        SheetFault::Activity(2),
+    ),
+    // A quote that is never closed takes the line's end into its field.
+    (
+        "2024-03-04 00:00,2024-03-04 12:00,\"rest\n",
+        SheetFault::Activity(2),
+    ),
+    (
+        "2024-03-04 00:00,2024-03-04 00:00,rest\n",
+        SheetFault::Order(2),
+    ),
+    // A time that can't be read comes before the order, also where the start is before the past of the row before.
+    (
+        "2024-03-04 00:00,2024-03-04 12:00,rest\n2024-03-04 11:59,noon,rest\n",
+        SheetFault::Time(3),
+    ),
+    // A start one minute before the past of the row before; a word that is left out comes behind that.
+    (
+        "2024-03-04 00:00,2024-03-04 12:00,rest\n2024-03-04 11:59,2024-03-04 12:01,crew\n",
+        SheetFault::Order(3),
+    ),
+    // The blank line isn't counted.
+    (
+        "\n2024-03-04 00:00,2024-03-04 12:00,rest\n2024-03-04 12:00,2024-03-04 12:01,lunch\n",
+        SheetFault::Activity(3),
+    ),
+    (
+        "2024-03-04 00:00,2024-03-04 12:00,Rest\n",
+        SheetFault::Activity(2),
+    ),
+    (
+        "2024-03-04 00:00,2024-03-04 12:00, rest\n",
+        SheetFault::Activity(2),
+    ),
+    (
+        "2024-01-01 00:00,2026-01-01 00:00,ferry\n",
+        SheetFault::LeftOut(2, LeftOut::Ferry),
+    ),
+    (
+        "2024-03-04 00:00,2024-03-04 12:00,crew\n",
+        SheetFault::LeftOut(2, LeftOut::Crew),
+    ),
+    (
+        "2024-03-04 00:00,2024-03-04 12:00,out\n",
+        SheetFault::LeftOut(2, LeftOut::Out),
+    ),
+    (
+        "2024-03-04 00:00,2024-03-04 12:00,derogation\n",
+        SheetFault::LeftOut(2, LeftOut::Derogation),
+    ),
+    (
+        "2024-01-01 00:00,2025-01-01 00:01,rest\n",
+        SheetFault::TooLong(2),
+    ),
+];
+
 #[test]
 fn the_first_fault_is_told(rt: HostRuntime) -> Result<(), Fail> {
     let alloc = rt.alloc();
-    let heads = [
-        "",
-        "\n\r\n\r",
-        "\u{feff}",
-        "start,past\n",
-        "start,past,Activity\n",
-        "start,past,activity,\n",
-        "start;past;activity\n",
-        "past,start,activity\n",
-        // The second byte order mark is part of the first field.
-        "\u{feff}\u{feff}start,past,activity\n",
-        // A quote that is never closed takes all the rest into its field.
-        "start,past,\"activity\n2024-03-04 00:00,2024-03-04 12:00,rest\n",
-    ];
-    for text in heads {
+    for &text in WRONG_HEADS {
         assert!(rt;
             fault_of(alloc, text)? == Some(SheetFault::Head),
             "of {text}"
         );
     }
-    let rows = [
-        (
-            "2024-03-04 00:00,2024-03-04 12:00,rest,work\n",
-            SheetFault::Fields(2),
-        ),
-        ("2024-03-04 00:00,2024-03-04 12:00\n", SheetFault::Fields(2)),
-        // A line with a blank isn't blank.
-        (" \n", SheetFault::Fields(2)),
-        ("2024-03-04,2024-03-04 12:00,rest\n", SheetFault::Time(2)),
-        (
-            "2024-03-04 00:00,2024-02-30 12:00,crew\n",
-            SheetFault::Time(2),
-        ),
-        // A comma and a line's end within quotes are the field's.
-        (
-            "\"2024-03-04 00:00,x\",2024-03-04 12:00,rest\n",
-            SheetFault::Time(2),
-        ),
-        (
-            "2024-03-04 00:00,\"2024-03-04 12:00\r\n\",rest\n",
-            SheetFault::Time(2),
-        ),
-        (
-            "2024-03-04 00:00,2024-03-04 12:00,\"re\nst\"\n",
-            SheetFault::Activity(2),
-        ),
-        // Two quotes within quotes are one.
-        (
-            "2024-03-04 00:00,2024-03-04 12:00,\"re\"\"st\"\n",
-            SheetFault::Activity(2),
-        ),
-        // A quote that is never closed takes the line's end into its field.
-        (
-            "2024-03-04 00:00,2024-03-04 12:00,\"rest\n",
-            SheetFault::Activity(2),
-        ),
-        (
-            "2024-03-04 00:00,2024-03-04 00:00,rest\n",
-            SheetFault::Order(2),
-        ),
-        // A time that can't be read comes before the order, also where the start is before the past of the row before.
-        (
-            "2024-03-04 00:00,2024-03-04 12:00,rest\n2024-03-04 11:59,noon,rest\n",
-            SheetFault::Time(3),
-        ),
-        // A start one minute before the past of the row before; a word that is left out comes behind that.
-        (
-            "2024-03-04 00:00,2024-03-04 12:00,rest\n2024-03-04 11:59,2024-03-04 12:01,crew\n",
-            SheetFault::Order(3),
-        ),
-        // The blank line isn't counted.
-        (
-            "\n2024-03-04 00:00,2024-03-04 12:00,rest\n2024-03-04 12:00,2024-03-04 12:01,lunch\n",
-            SheetFault::Activity(3),
-        ),
-        (
-            "2024-03-04 00:00,2024-03-04 12:00,Rest\n",
-            SheetFault::Activity(2),
-        ),
-        (
-            "2024-03-04 00:00,2024-03-04 12:00, rest\n",
-            SheetFault::Activity(2),
-        ),
-        (
-            "2024-01-01 00:00,2026-01-01 00:00,ferry\n",
-            SheetFault::LeftOut(2, LeftOut::Ferry),
-        ),
-        (
-            "2024-03-04 00:00,2024-03-04 12:00,crew\n",
-            SheetFault::LeftOut(2, LeftOut::Crew),
-        ),
-        (
-            "2024-03-04 00:00,2024-03-04 12:00,out\n",
-            SheetFault::LeftOut(2, LeftOut::Out),
-        ),
-        (
-            "2024-03-04 00:00,2024-03-04 12:00,derogation\n",
-            SheetFault::LeftOut(2, LeftOut::Derogation),
-        ),
-        (
-            "2024-01-01 00:00,2025-01-01 00:01,rest\n",
-            SheetFault::TooLong(2),
-        ),
-    ];
-    for (row, fault) in rows {
+    for &(row, fault) in FAULTY_ROWS {
         let text = format!(in alloc; "start,past,activity\n{row}")?;
         assert!(rt; fault_of(alloc, &text)? == Some(fault), "of {row}");
     }
     Ok(())
 }
 
+/// Rows of five columns, and the first fault that they have.
+const FAULTY_ROWS_WITH_NOTES: &[(&str, SheetFault)] = &[
+    (
+        "2024-03-04 00:00,2024-03-04 12:00,rest\n",
+        SheetFault::Fields(2),
+    ),
+    (
+        "2024-03-04 00:00,2024-03-04 12:00,rest,Eva\n",
+        SheetFault::Fields(2),
+    ),
+    (
+        "2024-01-01 00:00,2025-01-01 00:01,rest,,\n",
+        SheetFault::TooLong(2),
+    ),
+    (
+        "2024-03-04 00:00,2024-03-04 12:00,lunch,,\n",
+        SheetFault::Activity(2),
+    ),
+    (
+        "2024-03-04 00:00,2024-03-04 12:00,rest,,\"a,b\"\n",
+        SheetFault::Text(2, Column::Author),
+    ),
+    (
+        "2024-03-04 00:00,2024-03-04 12:00,rest,\"Lund, Eva\",\n",
+        SheetFault::Text(2, Column::Author),
+    ),
+    (
+        "2024-03-04 00:00,2024-03-04 12:00,rest,Eva,\"a,b\"\n",
+        SheetFault::Text(2, Column::Note),
+    ),
+    (
+        "2024-03-04 00:00,2024-03-04 12:00,rest,Eva,\"a \"\"b\"\"\"\n",
+        SheetFault::Text(2, Column::Note),
+    ),
+    (
+        "2024-03-04 00:00,2024-03-04 12:00,rest,Eva,a\tb\n",
+        SheetFault::Text(2, Column::Note),
+    ),
+    (
+        "2024-03-04 00:00,2024-03-04 12:00,rest,Eva,a\u{7f}b\n",
+        SheetFault::Text(2, Column::Note),
+    ),
+    (
+        "2024-03-04 00:00,2024-03-04 12:00,rest,Eva,\n2024-03-04 12:00,2024-03-04 13:00,rest,,\n",
+        SheetFault::Text(3, Column::Author),
+    ),
+];
+
 #[test]
 fn the_first_fault_of_five_columns_is_told(rt: HostRuntime) -> Result<(), Fail> {
     let alloc = rt.alloc();
-    let rows = [
-        (
-            "2024-03-04 00:00,2024-03-04 12:00,rest\n",
-            SheetFault::Fields(2),
-        ),
-        (
-            "2024-03-04 00:00,2024-03-04 12:00,rest,Eva\n",
-            SheetFault::Fields(2),
-        ),
-        (
-            "2024-01-01 00:00,2025-01-01 00:01,rest,,\n",
-            SheetFault::TooLong(2),
-        ),
-        (
-            "2024-03-04 00:00,2024-03-04 12:00,lunch,,\n",
-            SheetFault::Activity(2),
-        ),
-        (
-            "2024-03-04 00:00,2024-03-04 12:00,rest,,\"a,b\"\n",
-            SheetFault::Text(2, Column::Author),
-        ),
-        (
-            "2024-03-04 00:00,2024-03-04 12:00,rest,\"Lund, Eva\",\n",
-            SheetFault::Text(2, Column::Author),
-        ),
-        (
-            "2024-03-04 00:00,2024-03-04 12:00,rest,Eva,\"a,b\"\n",
-            SheetFault::Text(2, Column::Note),
-        ),
-        (
-            "2024-03-04 00:00,2024-03-04 12:00,rest,Eva,\"a \"\"b\"\"\"\n",
-            SheetFault::Text(2, Column::Note),
-        ),
-        (
-            "2024-03-04 00:00,2024-03-04 12:00,rest,Eva,a\tb\n",
-            SheetFault::Text(2, Column::Note),
-        ),
-        (
-            "2024-03-04 00:00,2024-03-04 12:00,rest,Eva,a\u{7f}b\n",
-            SheetFault::Text(2, Column::Note),
-        ),
-        (
-            "2024-03-04 00:00,2024-03-04 12:00,rest,Eva,\n2024-03-04 12:00,2024-03-04 13:00,rest,,\n",
-            SheetFault::Text(3, Column::Author),
-        ),
-    ];
-    for (row, fault) in rows {
+    for &(row, fault) in FAULTY_ROWS_WITH_NOTES {
         let text = format!(in alloc; "start,past,activity,author,note\n{row}")?;
         assert!(rt; fault_of(alloc, &text)? == Some(fault), "of {row}");
     }
@@ -401,74 +407,107 @@ fn a_driver_is_read(rt: HostRuntime) -> Result<(), Fail> {
     Ok(())
 }
 
+/// Rows of drivers with a bad column, or with several, and the leftmost of these: a number, the holder's digits, a key, a base and a
+/// name.
+const BAD_COLUMNS: &[(&str, Column)] = &[
+    (
+        "017,010203040506070809000102030405,anna,Monday,",
+        Column::Driver,
+    ),
+    (
+        "1000000,010203040506070809000102030405,anna-key-1,2024-03-04,Anna",
+        Column::Driver,
+    ),
+    (
+        "17,0102030405060708090001020304AF,anna,Monday,",
+        Column::Holder,
+    ),
+    (
+        "17,01020304050607080900010203040,anna,Monday,",
+        Column::Holder,
+    ),
+    (
+        "17,010203040506070809000102030405,anna,Monday,",
+        Column::Key,
+    ),
+    (
+        "17,010203040506070809000102030405,anna-key-1,Monday,",
+        Column::Base,
+    ),
+    (
+        "17,010203040506070809000102030405,anna-key-1,2024-03-04,",
+        Column::Name,
+    ),
+    // Of each two of them the left one.
+    ("017,,anna-key-1,2024-03-04,Anna", Column::Driver),
+    (
+        "017,0d4431303030303030303037303031,anna,2024-03-04,Anna",
+        Column::Driver,
+    ),
+    (
+        "017,0d4431303030303030303037303031,anna-key-1,Monday,Anna",
+        Column::Driver,
+    ),
+    (
+        "017,0d4431303030303030303037303031,anna-key-1,2024-03-04,",
+        Column::Driver,
+    ),
+    ("17,,anna,2024-03-04,Anna", Column::Holder),
+    ("17,,anna-key-1,Monday,Anna", Column::Holder),
+    ("17,,anna-key-1,2024-03-04,", Column::Holder),
+    (
+        "17,0d4431303030303030303037303031,anna,Monday,Anna",
+        Column::Key,
+    ),
+    (
+        "17,0d4431303030303030303037303031,anna,2024-03-04,",
+        Column::Key,
+    ),
+    (
+        "17,0d4431303030303030303037303031,anna-key-1,Monday,",
+        Column::Base,
+    ),
+    // A holder in capitals, and one of fourteen bytes.
+    (
+        "17,0D4431303030303030303037303031,anna,2024-03-04,Anna",
+        Column::Holder,
+    ),
+    (
+        "17,0D4431303030303030303037303031,anna-key-1,Monday,Anna",
+        Column::Holder,
+    ),
+    (
+        "17,0D4431303030303030303037303031,anna-key-1,2024-03-04,",
+        Column::Holder,
+    ),
+    (
+        "17,0d44313030303030303030373030,anna,2024-03-04,Anna",
+        Column::Holder,
+    ),
+    (
+        "17,0d44313030303030303030373030,anna-key-1,Monday,Anna",
+        Column::Holder,
+    ),
+    (
+        "17,0d44313030303030303030373030,anna-key-1,2024-03-04,",
+        Column::Holder,
+    ),
+];
+
 #[test]
 fn the_leftmost_bad_column_is_told(rt: HostRuntime) -> Result<(), Fail> {
     let alloc = rt.alloc();
-    let holder = "010203040506070809000102030405";
-    let rows = [
-        (
-            "017",
-            holder,
-            "anna",
-            "Monday",
-            "",
-            SheetFault::Column(Column::Driver),
-        ),
-        (
-            "1000000",
-            holder,
-            "anna-key-1",
-            "2024-03-04",
-            "Anna",
-            SheetFault::Column(Column::Driver),
-        ),
-        (
-            "17",
-            "0102030405060708090001020304AF",
-            "anna",
-            "Monday",
-            "",
-            SheetFault::Column(Column::Holder),
-        ),
-        (
-            "17",
-            "01020304050607080900010203040",
-            "anna",
-            "Monday",
-            "",
-            SheetFault::Column(Column::Holder),
-        ),
-        (
-            "17",
-            holder,
-            "anna",
-            "Monday",
-            "",
-            SheetFault::Column(Column::Key),
-        ),
-        (
-            "17",
-            holder,
-            "anna-key-1",
-            "Monday",
-            "",
-            SheetFault::Column(Column::Base),
-        ),
-        (
-            "17",
-            holder,
-            "anna-key-1",
-            "2024-03-04",
-            "",
-            SheetFault::Column(Column::Name),
-        ),
-    ];
-    for (number, holder, key, base, name, fault) in rows {
-        let text = format!(in alloc;
-            "driver,holder,key,base,name\n{number},{holder},{key},{base},{name}\n"
-        )?;
+    for &(row, column) in BAD_COLUMNS {
+        let text = format!(in alloc; "driver,holder,key,base,name\n{row}\n")?;
+        let fault = SheetFault::Column(column);
         assert_same(&rt, driver_fault_of(alloc, &text)?, Some(fault));
     }
+    Ok(())
+}
+
+#[test]
+fn the_first_fault_of_a_text_of_drivers_is_told(rt: HostRuntime) -> Result<(), Fail> {
+    let alloc = rt.alloc();
     let texts = [
         ("", SheetFault::Head),
         ("driver,holder,key,base\n", SheetFault::Head),
@@ -485,43 +524,6 @@ fn the_leftmost_bad_column_is_told(rt: HostRuntime) -> Result<(), Fail> {
     ];
     for (text, fault) in texts {
         assert!(rt; driver_fault_of(alloc, text)? == Some(fault), "of {text}");
-    }
-    Ok(())
-}
-
-#[test]
-fn of_two_bad_columns_the_left_one_is_told(rt: HostRuntime) -> Result<(), Fail> {
-    let alloc = rt.alloc();
-    let holder = "0d4431303030303030303037303031";
-    let capitals = "0D4431303030303030303037303031";
-    // Of fourteen bytes.
-    let short = "0d44313030303030303030373030";
-    let key = "anna-key-1";
-    let day = "2024-03-04";
-    let rows = [
-        ("017", "", key, day, "Anna", Column::Driver),
-        ("017", holder, "anna", day, "Anna", Column::Driver),
-        ("017", holder, key, "Monday", "Anna", Column::Driver),
-        ("017", holder, key, day, "", Column::Driver),
-        ("17", "", "anna", day, "Anna", Column::Holder),
-        ("17", "", key, "Monday", "Anna", Column::Holder),
-        ("17", "", key, day, "", Column::Holder),
-        ("17", holder, "anna", "Monday", "Anna", Column::Key),
-        ("17", holder, "anna", day, "", Column::Key),
-        ("17", holder, key, "Monday", "", Column::Base),
-        ("17", capitals, "anna", day, "Anna", Column::Holder),
-        ("17", capitals, key, "Monday", "Anna", Column::Holder),
-        ("17", capitals, key, day, "", Column::Holder),
-        ("17", short, "anna", day, "Anna", Column::Holder),
-        ("17", short, key, "Monday", "Anna", Column::Holder),
-        ("17", short, key, day, "", Column::Holder),
-    ];
-    for (number, holder, key, base, name, column) in rows {
-        let text = format!(in alloc;
-            "driver,holder,key,base,name\n{number},{holder},{key},{base},{name}\n"
-        )?;
-        let fault = SheetFault::Column(column);
-        assert_same(&rt, driver_fault_of(alloc, &text)?, Some(fault));
     }
     Ok(())
 }
@@ -646,14 +648,66 @@ fn card_lines() -> [(CardFault, &'static str); 16] {
     ]
 }
 
+/// The faults of a time, and their lines.
+const TIME_LINES: &[(TimeFault, &str)] = &[
+    (TimeFault::Shape, "Z1 not of the shape\n"),
+    (TimeFault::NoSuchDate, "Z2 no such date\n"),
+    (TimeFault::OutOfRange, "Z3 out of range\n"),
+];
+
+/// The faults of a text of CSV, and their lines.
+const SHEET_LINES: &[(SheetFault, &str)] = &[
+    (SheetFault::Head, "E1 wrong head\n"),
+    (SheetFault::Fields(2), "E2 wrong fields in row 2\n"),
+    (SheetFault::Time(3), "E3 bad time in row 3\n"),
+    (SheetFault::Order(10), "E4 wrong order in row 10\n"),
+    (
+        SheetFault::LeftOut(2, LeftOut::Crew),
+        "E5 left out in row 2: crew\n",
+    ),
+    (
+        SheetFault::LeftOut(2, LeftOut::Ferry),
+        "E5 left out in row 2: ferry\n",
+    ),
+    (
+        SheetFault::LeftOut(2, LeftOut::Out),
+        "E5 left out in row 2: out\n",
+    ),
+    (
+        SheetFault::LeftOut(2, LeftOut::Derogation),
+        "E5 left out in row 2: derogation\n",
+    ),
+    (
+        SheetFault::Activity(100),
+        "E6 no such activity in row 100\n",
+    ),
+    (SheetFault::TooLong(2), "E7 too long in row 2\n"),
+    (SheetFault::Csv, "E8 csv refused\n"),
+    (
+        SheetFault::Column(Column::Driver),
+        "E9 bad value for driver\n",
+    ),
+    (
+        SheetFault::Column(Column::Holder),
+        "E9 bad value for holder\n",
+    ),
+    (SheetFault::Column(Column::Key), "E9 bad value for key\n"),
+    (SheetFault::Column(Column::Base), "E9 bad value for base\n"),
+    (SheetFault::Column(Column::Name), "E9 bad value for name\n"),
+    (
+        SheetFault::Text(2, Column::Author),
+        "E10 bad author in row 2\n",
+    ),
+    (
+        SheetFault::Text(12, Column::Note),
+        "E10 bad note in row 12\n",
+    ),
+    (SheetFault::Memory, "M1 no memory\n"),
+];
+
 #[test]
 fn faults_have_lines(rt: HostRuntime) {
-    let times = [
-        (TimeFault::Shape, "Z1 not of the shape\n"),
-        (TimeFault::NoSuchDate, "Z2 no such date\n"),
-        (TimeFault::OutOfRange, "Z3 out of range\n"),
-    ];
-    for (fault, line) in times {
+    for &(fault, line) in TIME_LINES {
         assert!(rt; has_line(Fault::Time(fault), line), "of {line}");
     }
     for (fault, line) in card_lines() {
@@ -681,55 +735,7 @@ fn faults_have_lines(rt: HostRuntime) {
     for (fault, line) in refusals {
         assert!(rt; has_line(Fault::Store(fault), line), "of {line}");
     }
-    let sheets = [
-        (SheetFault::Head, "E1 wrong head\n"),
-        (SheetFault::Fields(2), "E2 wrong fields in row 2\n"),
-        (SheetFault::Time(3), "E3 bad time in row 3\n"),
-        (SheetFault::Order(10), "E4 wrong order in row 10\n"),
-        (
-            SheetFault::LeftOut(2, LeftOut::Crew),
-            "E5 left out in row 2: crew\n",
-        ),
-        (
-            SheetFault::LeftOut(2, LeftOut::Ferry),
-            "E5 left out in row 2: ferry\n",
-        ),
-        (
-            SheetFault::LeftOut(2, LeftOut::Out),
-            "E5 left out in row 2: out\n",
-        ),
-        (
-            SheetFault::LeftOut(2, LeftOut::Derogation),
-            "E5 left out in row 2: derogation\n",
-        ),
-        (
-            SheetFault::Activity(100),
-            "E6 no such activity in row 100\n",
-        ),
-        (SheetFault::TooLong(2), "E7 too long in row 2\n"),
-        (SheetFault::Csv, "E8 csv refused\n"),
-        (
-            SheetFault::Column(Column::Driver),
-            "E9 bad value for driver\n",
-        ),
-        (
-            SheetFault::Column(Column::Holder),
-            "E9 bad value for holder\n",
-        ),
-        (SheetFault::Column(Column::Key), "E9 bad value for key\n"),
-        (SheetFault::Column(Column::Base), "E9 bad value for base\n"),
-        (SheetFault::Column(Column::Name), "E9 bad value for name\n"),
-        (
-            SheetFault::Text(2, Column::Author),
-            "E10 bad author in row 2\n",
-        ),
-        (
-            SheetFault::Text(12, Column::Note),
-            "E10 bad note in row 12\n",
-        ),
-        (SheetFault::Memory, "M1 no memory\n"),
-    ];
-    for (fault, line) in sheets {
+    for &(fault, line) in SHEET_LINES {
         assert!(rt; has_line(Fault::Sheet(fault), line), "of {line}");
     }
     let others = [
