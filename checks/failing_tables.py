@@ -1,7 +1,7 @@
 #!/usr/bin/env python3
 """Runs each test of the archive's tables with each of its allocations refused in turn, and looks for an answer that changes.
 
-The words are the program of the tests that cross crates and the compiler of C. A test whose allocation is refused has to pass, or to end by the
+The words are the program of the tests of tables and the compiler of C. A test whose allocation is refused has to pass, or to end by the
 fault of a call, and never by an answer that it didn't want. The last line is 'N passed, M failed'."""
 import re
 import subprocess
@@ -11,7 +11,7 @@ import counting
 import programs
 
 FAULTS = ["error: Memory", "error: Store"]
-MODULES = ["table_tests"]
+MODULES = ["tables"]
 
 
 def tests(program, modules):

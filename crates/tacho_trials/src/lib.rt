@@ -1,21 +1,13 @@
-//! Tests of archives: what each answers that keeps what `Keeper` promises, and what a command line does at one.
+//! Tests of command lines at archives: at those in memory, at those of schema 1 that are carried over, and at those on disks that stop.
 #![tactic(auto)]
 
 #[cfg(test)]
-mod office_tests;
+mod commands;
 #[cfg(test)]
-mod old_tests;
+mod disks;
+#[cfg(test)]
+mod migrations;
 #[cfg(test)]
 mod rows;
 #[cfg(test)]
-mod same;
-#[cfg(test)]
-mod step;
-#[cfg(test)]
-mod stop_tests;
-#[cfg(test)]
-mod stored_tests;
-#[cfg(test)]
-mod table_tests;
-#[cfg(test)]
-mod tests;
+mod stops;

@@ -2,11 +2,11 @@
 
 ghost use Rattle.std.specs.Prelude.{◌≤◌};
 
+use crate::archives::adopted;
 use crate::rows::{ANNA, DAY, FIRST, REGISTER_ANNA};
 use crate::same::assert_same;
 use crate::step::{file, take};
-use crate::tests::adopted;
-use sqlite::MemStore;
+use sqlite::{Alter, MemStore};
 use std::alloc::Global;
 use std::process::Abort;
 use std::test::Fail;
@@ -53,14 +53,14 @@ fn span(start: u32, past: u32, activity: Activity, crew: bool) -> Span
     }
 }
 
-/// An archive of one driver, with these rows of what his downloads give and of what he holds.
-fn archive_of(
+/// An archive that is given a driver, and these rows of what his downloads give and of what he holds.
+fn filled<S: Alter + Drop>(
     rt: &impl Abort,
     alloc: Global,
+    mut archive: Archive<S>,
     cards: &[StoredSpan],
     helds: &[StoredSpan],
-) -> Result<Archive<MemStore>, Fail> {
-    let mut archive = open_memory(alloc)?;
+) -> Result<Archive<S>, Fail> {
     take(rt, alloc, &mut archive, "stored rows", &[REGISTER_ANNA])?;
     let mut conn = archive.close();
     let mut tx = conn.transaction();
@@ -68,6 +68,16 @@ fn archive_of(
     spans::insert_all(&mut tx, SpanTable::Held, 17, helds)?;
     tx.commit()?;
     Ok(adopted(conn)?)
+}
+
+/// The same of one in memory.
+fn archive_of(
+    rt: &impl Abort,
+    alloc: Global,
+    cards: &[StoredSpan],
+    helds: &[StoredSpan],
+) -> Result<Archive<MemStore>, Fail> {
+    filled(rt, alloc, open_memory(alloc)?, cards, helds)
 }
 
 #[test]

@@ -22,7 +22,7 @@ pub(crate) type Blocks = &'static [&'static str];
 pub(crate) type Pieces = &'static [(u16, u16, Activity)];
 
 /// Whether an entry gives its hours.
-#[derive(Clone, Copy, Debug)]
+#[derive(Clone, Copy)]
 pub(crate) enum Standing {
     /// It does.
     Kept,
@@ -37,7 +37,7 @@ pub(crate) type Listed = &'static [(u32, u16, u16, Activity, Standing)];
 pub(crate) type Breaches = &'static [(Kind, u16)];
 
 /// Why an archive refuses, by its code. Minutes are counted from Monday 00:00.
-#[derive(Clone, Copy, Debug)]
+#[derive(Clone, Copy)]
 pub(crate) enum Code {
     /// The driver's number is taken.
     S1,
@@ -72,7 +72,7 @@ pub(crate) enum Code {
 }
 
 /// What an archive is told or asked, and what it has to answer.
-#[derive(Clone, Copy, Debug)]
+#[derive(Clone, Copy)]
 pub(crate) enum Step {
     /// A driver is registered: his number, his card's holder, his key, and how many days after Monday he is examined from.
     Register(u32, [u8; 15], &'static str, u8, Result<(), Code>),
@@ -112,15 +112,6 @@ pub(crate) enum Step {
     Lacks(u32, u32, Code),
 }
 
-/// How an archive has answered a step.
-#[derive(Clone, Copy, Debug, PartialEq, Eq)]
-pub(crate) enum Taken {
-    /// As was wanted.
-    Answered,
-    /// S12: its store has failed.
-    Stopped,
-}
-
 /// Takes steps of a row, and asserts the answer to each.
 pub(crate) fn take<K: Keeper>(
     rt: &impl Abort,
@@ -129,54 +120,66 @@ pub(crate) fn take<K: Keeper>(
     row: &str,
     steps: &[Step],
 ) -> Result<(), Fail> {
-    for &step in steps {
-        let taken = take_one(rt, alloc, keeper, row, step)?;
-        assert!(rt; taken == Taken::Answered, "{row}: S12 of {step:?}");
+    for (number, &step) in steps.iter().enumerate() {
+        let place = format!(in alloc; "{row}, step {number}")?;
+        take_one(rt, alloc, keeper, &place, step)?;
     }
     Ok(())
 }
 
-/// Takes one step, and asserts its answer, unless that is S12 of a command.
-pub(crate) fn take_one<K: Keeper>(
+/// Takes one step, and asserts its answer.
+fn take_one<K: Keeper>(
     rt: &impl Abort,
     alloc: Global,
     keeper: &mut K,
-    row: &str,
+    place: &str,
     step: Step,
-) -> Result<Taken, Fail> {
-    let place = format!(in alloc; "{row}: {step:?}")?;
-    let place = place.as_str();
+) -> Result<(), Fail> {
     match step {
         Step::Register(number, holder, key, day, wanted) => {
             let driver = driver(alloc, number, holder, key, day)?;
             let answer = keeper.register(&driver);
-            return Ok(judged(rt, place, answer, wanted.map_err(refusal_of)));
+            assert_answered(rt, place, answer, wanted.map_err(refusal_of));
         }
         Step::Adds(caller, part, blocks, driver, number) => {
             let answer = keeper.import(alloc, caller, part, &file(alloc, blocks)?);
-            return Ok(judged(rt, place, answer, Ok(Imported::Added { driver, number })));
+            assert_answered(rt, place, answer, Ok(Imported::Added { driver, number }));
         }
         Step::Repeats(caller, part, blocks, driver) => {
             let answer = keeper.import(alloc, caller, part, &file(alloc, blocks)?);
-            return Ok(judged(rt, place, answer, Ok(Imported::Repeated { driver })));
+            assert_answered(rt, place, answer, Ok(Imported::Repeated { driver }));
         }
         Step::Refuses(caller, part, blocks, code) => {
             let answer = keeper.import(alloc, caller, part, &file(alloc, blocks)?);
-            return Ok(judged(rt, place, answer, Err(refusal_of(code))));
+            assert_answered(rt, place, answer, Err(refusal_of(code)));
         }
         Step::Enter(driver, text, wanted) => {
             let lines = read_entries(alloc, text.as_bytes())?;
             let answer = keeper.enter(alloc, driver, &lines);
-            return Ok(judged(rt, place, answer, entered(wanted)));
+            assert_answered(rt, place, answer, entered(wanted));
         }
         Step::Withdraw(driver, number, wanted) => {
             let answer = keeper.withdraw(alloc, driver, number);
-            return Ok(judged(rt, place, answer, wanted.map_err(refusal_of)));
+            assert_answered(rt, place, answer, wanted.map_err(refusal_of));
         }
         Step::Rebase(driver, day, wanted) => {
             let answer = keeper.rebase(driver, day_of(day));
-            return Ok(judged(rt, place, answer, wanted.map_err(refusal_of)));
+            assert_answered(rt, place, answer, wanted.map_err(refusal_of));
         }
+        reading => take_reading(rt, alloc, keeper, place, reading)?,
+    }
+    Ok(())
+}
+
+/// Takes a step that reads, and asserts what is read.
+fn take_reading<K: Keeper>(
+    rt: &impl Abort,
+    alloc: Global,
+    keeper: &mut K,
+    place: &str,
+    step: Step,
+) -> Result<(), Fail> {
+    match step {
         Step::IsOf(key, wanted) => {
             assert!(rt; keeper.who(key)? == wanted, "{place}");
         }
@@ -202,6 +205,20 @@ pub(crate) fn take_one<K: Keeper>(
             let report = keeper.report(alloc, driver)?;
             assert_reported(rt, alloc, place, &report, until, breaches)?;
         }
+        reading => take_refused(rt, alloc, keeper, place, reading)?,
+    }
+    Ok(())
+}
+
+/// Takes a step that reads, and asserts that it is refused.
+fn take_refused<K: Keeper>(
+    rt: &impl Abort,
+    alloc: Global,
+    keeper: &mut K,
+    place: &str,
+    step: Step,
+) -> Result<(), Fail> {
+    match step {
         Step::HasNoName(driver, code) => {
             assert_refused(rt, place, keeper.name(alloc, driver).err(), code);
         }
@@ -218,22 +235,19 @@ pub(crate) fn take_one<K: Keeper>(
             let found = keeper.download(alloc, driver, number);
             assert_refused(rt, place, found.err(), code);
         }
+        _ => Err("a step that is taken already")?,
     }
-    Ok(Taken::Answered)
+    Ok(())
 }
 
-/// Whether a command was answered as is wanted, or by S12. Any other answer ends the test.
-fn judged<T: PartialEq + Drop>(
+/// A command was answered as is wanted.
+fn assert_answered<T: PartialEq + Drop>(
     rt: &impl Abort,
     place: &str,
     answer: Result<T, StoreFault>,
     wanted: Result<T, StoreFault>,
-) -> Taken {
-    if matches!(answer, Err(StoreFault::Store)) {
-        return Taken::Stopped;
-    }
+) {
     assert!(rt; answer == wanted, "{place}");
-    Taken::Answered
 }
 
 /// What a batch of hours has to be answered, by the number of the first and how many there are.
