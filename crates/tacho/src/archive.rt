@@ -1,12 +1,16 @@
-//! The file of an archive.
+//! The file of an archive, and what is done there.
+//!
+//! What works on an archive is generic over its store, and takes and gives back the connection by value. Only `open` and `at_file`
+//! name the file's store: there each call of what is generic over a store is proved anew, which takes 15 to 50 times as long.
 
-ghost use Rattle.std.specs.Prelude.{◌≡◌, IfOk, false, true};
-ghost use Rattle.tacho_cli.specs.Words.{at_desk};
+ghost use Rattle.std.specs.Prelude.{◌≡◌, ◌≢◌, None, false, true};
+ghost use Rattle.tacho_cli.specs.Words.{archive_of, at_desk};
 
-use sqlite::{Connection, Error, ErrorCode, File, FileStore};
+use sqlite::{Alter, Connection, Error, ErrorCode, File, FileStore};
 use std::fs;
 use std::os::unix::fs::OpenOptionsExt;
 use tacho_cli::Job;
+use tacho_serve::{ServeFault, serve};
 use tacho_state::StoreFault;
 use tacho_store::Archive;
 use tacho_time::Device;
@@ -14,46 +18,146 @@ use tacho_time::Device;
 /// A connection to a file.
 type FileConnection = Connection<FileStore<File>>;
 
-/// An archive in a file.
-pub type FileArchive = Archive<FileStore<File>>;
-
 /// The mode of a new file: its owner reads and writes it, and nobody else, as the keys of drivers stand in it.
 const OWNER_ALONE: u32 = 0o600;
 
-/// Tells a line, and answers the program's status: the one that is given, or 3 where the line can't be written.
-fn tell(rt: &impl Print, line: &str, status: u8) -> u8 {
-    match print!(rt; "{line}") {
-        Ok(()) => status,
+/// How a job ends: the line that is printed once the file is closed, or nothing where the job has printed all, and the status.
+#[derive(Clone, Copy)]
+struct Ending {
+    line: &'static str,
+    status: u8,
+}
+
+/// An ending with nothing more to print.
+fn with_status(status: u8) -> Ending {
+    Ending { line: "", status }
+}
+
+/// An ending without a fault.
+fn done(line: &'static str) -> Ending {
+    Ending { line, status: 0 }
+}
+
+/// The ending of a job at an archive that is old, whose store failed, or for which there was no memory.
+fn refused(fault: StoreFault) -> Ending {
+    match fault {
+        StoreFault::OldSchema => Ending {
+            line: "S13 old archive\n",
+            status: 1,
+        },
+        StoreFault::Memory => Ending {
+            line: "M1 no memory\n",
+            status: 3,
+        },
+        _ => Ending {
+            line: "S12 store failed\n",
+            status: 3,
+        },
+    }
+}
+
+/// Prints the line of an ending, and answers its status, or 3 where the line can't be written.
+fn tell(rt: &impl Print, ending: Ending) -> u8 {
+    if ending.line.is_empty() {
+        return ending.status;
+    }
+    match print!(rt; "{}", ending.line) {
+        Ok(()) => ending.status,
         Err(_) => 3,
     }
 }
 
-/// Tells that the archive is old, that the store failed, or that there was no memory, and answers the program's status.
-pub fn refuse(rt: &impl Print, fault: StoreFault) -> u8 {
-    match fault {
-        StoreFault::OldSchema => tell(rt, "S13 old archive\n", 1),
-        StoreFault::Memory => tell(rt, "M1 no memory\n", 3),
-        _ => tell(rt, "S12 store failed\n", 3),
+/// `tacho init`: makes an archive of no drivers.
+fn create<S: Alter + Drop>(conn: Connection<S>) -> (Ending, Connection<S>)
+    requires { conn.in_transaction ≡ false }
+{
+    match Archive::create(conn) {
+        Ok(archive) => (done("created\n"), archive.close()),
+        Err(refusal) => (refused(refusal.0), refusal.1),
     }
 }
 
-/// Opens a file. One that is new gets sums of its pages, by which a later open finds what has changed in it.
-fn open(rt: &HostRuntime, path: &str) -> Result<FileConnection, StoreFault> {
-    match Connection::open_with_sums(rt, path) {
-        Ok(conn) => Ok(conn),
-        Err(Error::SqliteFailure(ErrorCode::OutOfMemory)) => Err(StoreFault::Memory),
-        Err(_) => Err(StoreFault::Store),
+/// `tacho migrate`: carries an archive of schema 1 over to schema 2.
+fn migrate<S: Alter + Drop>(conn: Connection<S>) -> (Ending, Connection<S>)
+    requires { conn.in_transaction ≡ false }
+{
+    match Archive::migrate(conn) {
+        Ok(archive) => (done("migrated\n"), archive.close()),
+        Err(refusal) => (refused(refusal.0), refusal.1),
     }
 }
 
-/// Closes a connection that becomes no archive, and tells why. That it is closed on each path spares proofs that it is dropped.
-fn given_up(conn: FileConnection, fault: StoreFault) -> StoreFault {
-    let _ = conn.close();
-    fault
+/// Does a job at an archive that is there, with standard input and output.
+fn perform<S: Alter + Drop>(
+    rt: &HostRuntime,
+    conn: Connection<S>,
+    job: Job<'_>,
+) -> (Ending, Connection<S>)
+    requires desk { at_desk job ≡ true }
+    requires autocommit { conn.in_transaction ≡ false }
+{
+    let mut archive = match Archive::adopt(conn) {
+        Ok(archive) => archive,
+        Err(refusal) => return (refused(refusal.0), refusal.1),
+    };
+    let mut reader = Device::new(rt.stdin());
+    let mut writer = Device::new(rt.stdout());
+    let status = tacho_cli::perform(rt.alloc(), job, &mut archive, &mut reader, &mut writer);
+    (with_status(status), archive.close())
+}
+
+/// `tacho serve`: answers `count` connections on a port of 127.0.0.1 at an archive that is there.
+fn answer<S: Alter + Drop>(
+    rt: &HostRuntime,
+    conn: Connection<S>,
+    key: &str,
+    port: u16,
+    count: u32,
+) -> (Ending, Connection<S>)
+    requires { conn.in_transaction ≡ false }
+{
+    let mut archive = match Archive::adopt(conn) {
+        Ok(archive) => archive,
+        Err(refusal) => return (refused(refusal.0), refusal.1),
+    };
+    let ending = match serve(rt, &mut archive, key, port, count) {
+        Ok(()) => with_status(0),
+        Err(ServeFault::Device) => Ending {
+            line: "X2 device failed\n",
+            status: 3,
+        },
+        Err(ServeFault::Store) => refused(StoreFault::Store),
+    };
+    (ending, archive.close())
+}
+
+/// Does a job at the archive of a connection.
+fn at_connection<S: Alter + Drop>(
+    rt: &HostRuntime,
+    conn: Connection<S>,
+    job: Job<'_>,
+) -> (Ending, Connection<S>)
+    requires { archive_of job ≢ None }
+{
+    if !conn.is_autocommit() {
+        return (refused(StoreFault::Store), conn);
+    }
+    match job {
+        Job::Init { .. } => create(conn),
+        Job::Migrate { .. } => migrate(conn),
+        Job::AtDesk { .. } => perform(rt, conn, job),
+        Job::Serve {
+            key,
+            port,
+            count,
+            ..
+        } => answer(rt, conn, key, port, count),
+        Job::Dump | Job::Holder | Job::Card { .. } => unreachable!(),
+    }
 }
 
 /// Makes an empty file with that mode, where none is there: the store takes it as new, and gives its log the same mode. Where it can't be
-/// made, the store tells why.
+/// made, the store says why.
 fn make_own(rt: &HostRuntime, path: &str) {
     let mut options = fs::File::options();
     let _ = options
@@ -63,90 +167,32 @@ fn make_own(rt: &HostRuntime, path: &str) {
         .open(rt, path);
 }
 
-/// Makes an archive of no drivers in a file.
-fn create(rt: &HostRuntime, path: &str) -> Result<FileArchive, StoreFault> {
-    make_own(rt, path);
-    let conn = open(rt, path)?;
-    if !conn.is_autocommit() {
-        return Err(given_up(conn, StoreFault::Store));
-    }
-    match Archive::create(conn) {
-        Ok(archive) => Ok(archive),
-        Err(refused) => Err(given_up(refused.1, refused.0)),
-    }
-}
-
-/// A connection to a file that is there, outside a transaction.
-fn found(rt: &HostRuntime, path: &str) -> Result<FileConnection, StoreFault>
-    ensures { IfOk result (λ conn. conn.in_transaction ≡ false) }
-{
-    let Ok(true) = fs::exists(rt, path) else {
+/// Opens a job's file: a new one where the job makes an archive, else one that is there. A new one gets sums of its pages, by which a later
+/// open finds what has changed in it.
+fn open(rt: &HostRuntime, path: &str, job: Job<'_>) -> Result<FileConnection, StoreFault> {
+    if matches!(job, Job::Init { .. }) {
+        make_own(rt, path);
+    } else if !matches!(fs::exists(rt, path), Ok(true)) {
         return Err(StoreFault::Store);
-    };
-    let conn = open(rt, path)?;
-    if !conn.is_autocommit() {
-        return Err(given_up(conn, StoreFault::Store));
     }
-    Ok(conn)
-}
-
-/// Opens the archive of a file that is there.
-pub fn adopt(rt: &HostRuntime, path: &str) -> Result<FileArchive, StoreFault> {
-    match Archive::adopt(found(rt, path)?) {
-        Ok(archive) => Ok(archive),
-        Err(refused) => Err(given_up(refused.1, refused.0)),
+    match Connection::open_with_sums(rt, path) {
+        Ok(conn) => Ok(conn),
+        Err(Error::SqliteFailure(ErrorCode::OutOfMemory)) => Err(StoreFault::Memory),
+        Err(_) => Err(StoreFault::Store),
     }
 }
 
-/// Opens the archive of a file that is there, carried over where it is of schema 1.
-fn carried(rt: &HostRuntime, path: &str) -> Result<FileArchive, StoreFault> {
-    match Archive::migrate(found(rt, path)?) {
-        Ok(archive) => Ok(archive),
-        Err(refused) => Err(given_up(refused.1, refused.0)),
-    }
-}
-
-/// `tacho init`: makes an archive of no drivers in a file that isn't there, and answers the program's status.
-pub fn init(rt: &HostRuntime, path: &str) -> u8 {
-    match create(rt, path) {
-        Ok(archive) => {
-            close(archive);
-            tell(rt, "created\n", 0)
-        }
-        Err(fault) => refuse(rt, fault),
-    }
-}
-
-/// `tacho migrate`: carries the archive of a file that is there over to schema 2, and answers the program's status.
-pub fn migrate(rt: &HostRuntime, path: &str) -> u8 {
-    match carried(rt, path) {
-        Ok(archive) => {
-            close(archive);
-            tell(rt, "migrated\n", 0)
-        }
-        Err(fault) => refuse(rt, fault),
-    }
-}
-
-/// Does a job at the archive of its file, and answers the program's status.
-pub fn perform(rt: &HostRuntime, job: Job<'_>) -> u8
-    requires { at_desk job ≡ true }
+/// Does a job at the archive of a file, and answers the program's status. What was done is kept, also where the file's log can't be taken
+/// into it when it is closed: the next open does so.
+pub fn at_file(rt: &HostRuntime, path: &str, job: Job<'_>) -> u8
+    requires { archive_of job ≢ None }
 {
-    let Some(path) = job.archive() else {
-        return refuse(rt, StoreFault::Store);
-    };
-    let mut archive = match adopt(rt, path) {
-        Ok(archive) => archive,
-        Err(fault) => return refuse(rt, fault),
-    };
-    let mut reader = Device::new(rt.stdin());
-    let mut writer = Device::new(rt.stdout());
-    let status = tacho_cli::perform(rt.alloc(), job, &mut archive, &mut reader, &mut writer);
-    close(archive);
-    status
-}
-
-/// Closes an archive's file. What was done is kept, also where its log can't be taken into the file now: the next open does so.
-pub fn close(archive: FileArchive) {
-    let _ = archive.close().close();
+    match open(rt, path, job) {
+        Ok(conn) => {
+            let (ending, conn) = at_connection(rt, conn, job);
+            let _ = conn.close();
+            tell(rt, ending)
+        }
+        Err(fault) => tell(rt, refused(fault)),
+    }
 }

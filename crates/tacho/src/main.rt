@@ -2,14 +2,13 @@
 #![tactic(auto)]
 
 mod archive;
-mod serve;
-mod timed;
 
 use std::env;
 use std::io::{self, ErrorKind};
 use std::process::ExitCode;
 use std::rt::Env;
 use tacho_cli::{Job, Usage};
+use tacho_state::is_key;
 use tacho_time::Device;
 
 /// The words of the command line, the program's name the first of them.
@@ -29,33 +28,28 @@ fn usage(rt: &impl Eprint, text: &str) -> ExitCode {
     ExitCode::from(2)
 }
 
+/// Tells that the office's key hasn't the form of one, and answers the program's status.
+fn no_key(rt: &impl Print) -> u8 {
+    match print!(rt; "E9 bad value for key\n") {
+        Ok(()) => 1,
+        Err(_) => 3,
+    }
+}
+
 /// Does a job, and answers the program's status.
 fn run(rt: &HostRuntime, job: Job<'_>) -> u8 {
     let alloc = rt.alloc();
-    if job.at_desk() {
-        return archive::perform(rt, job);
-    }
-    if let Job::Init { archive } = job {
-        return archive::init(rt, archive);
-    }
-    if let Job::Migrate { archive } = job {
-        return archive::migrate(rt, archive);
-    }
-    if let Job::Serve {
-        archive,
-        key,
-        port,
-        count,
-    } = job
-    {
-        return serve::serve(rt, archive, key, port, count);
-    }
     let mut reader = Device::new(rt.stdin());
     let mut writer = Device::new(rt.stdout());
     match job {
+        Job::Dump => tacho_cli::dump(alloc, &mut reader, &mut writer),
         Job::Holder => tacho_cli::holder(alloc, &mut reader, &mut writer),
         Job::Card { part } => tacho_cli::card(alloc, part, &mut reader, &mut writer),
-        _ => tacho_cli::dump(alloc, &mut reader, &mut writer),
+        Job::Serve { key, .. } if !is_key(key) => no_key(rt),
+        Job::Init { archive }
+        | Job::Migrate { archive }
+        | Job::AtDesk { archive, .. }
+        | Job::Serve { archive, .. } => archive::at_file(rt, archive, job),
     }
 }
 

@@ -1,19 +1,19 @@
-//! Requests over HTTP on loopback.
+//! A port, and its connections one after the other.
 
-use crate::archive::{self, FileArchive};
 use crate::timed::Timed;
 use std::io::{self, ErrorKind};
 use std::net::{Ipv4Addr, Shutdown, TcpListener, TcpStream};
 use std::thread;
 use std::time::Duration;
 use tacho_http::answer_all;
-use tacho_state::{Keeper, StoreFault, is_key};
+use tacho_state::{Keeper, StoreFault};
 use tacho_time::Device;
+use thiserror::Error;
 
-/// How many seconds a connection may take, from when it is taken to the last byte of its reply: others wait behind it.
+/// How many seconds a connection may take, from when it is taken to the last byte of its reply: others wait for it.
 const PATIENCE: u64 = 30;
 
-/// How many seconds more the server takes what comes behind a reply.
+/// How many seconds more the server takes what comes after a request that it has answered.
 const LINGER: u64 = 2;
 
 /// How often in a row the server tries to take a connection while files or memory are short, and how many milliseconds it waits after each
@@ -22,7 +22,7 @@ const TRIES: u32 = 300;
 
 const PAUSE: u64 = 100;
 
-/// How often the server asks an archive whose store has failed, with that pause behind each question, before it ends: a second in all.
+/// How often the server asks an archive whose store has failed, with that pause after each question, before it ends: a second in all.
 const QUESTIONS: u32 = 10;
 
 /// The system's numbers of what can keep it from giving a connection for a while: memory, all files that are open and those of the program,
@@ -37,58 +37,46 @@ const ECONNABORTED: i32 = 103;
 
 const ENOBUFS: i32 = 105;
 
-/// `tacho serve`: answers so many connections on a port of 127.0.0.1, one after the other, at the archive of a file, and answers the
-/// program's status. It looks at the key first, then opens the archive, and then takes the port.
-pub fn serve(rt: &HostRuntime, path: &str, key: &str, port: u16, count: u32) -> u8 {
-    if !is_key(key) {
-        return no_key(rt);
-    }
-    let mut archive = match archive::adopt(rt, path) {
-        Ok(archive) => archive,
-        Err(fault) => return archive::refuse(rt, fault),
-    };
-    let status = listen(rt, &mut archive, key, port, count);
-    archive::close(archive);
-    status
+/// Why a server ended before it had answered all its connections.
+#[derive(Clone, Copy, Debug, PartialEq, Eq, Error)]
+pub enum ServeFault {
+    /// The port can't be had, or no connection can be taken any more.
+    #[error("the port failed")]
+    Device,
+    /// The archive's store has failed, and was shut: nothing can be answered until it is opened anew.
+    #[error("the archive's store failed")]
+    Store,
 }
 
-/// Tells that the key has not the form of one.
-fn no_key(rt: &HostRuntime) -> u8 {
-    match print!(rt; "E9 bad value for key\n") {
-        Ok(()) => 1,
-        Err(_) => 3,
-    }
-}
-
-/// Tells that the port can't be had, or that no more connections come.
-fn no_port(rt: &HostRuntime) -> u8 {
-    let _ = print!(rt; "X2 device failed\n");
-    3
-}
-
-/// Answers so many connections. A fault of one ends it and nothing else; but where the archive's store has failed and was shut, nothing
-/// could be answered until it is opened anew, and so the server ends.
-fn listen(rt: &HostRuntime, archive: &mut FileArchive, key: &str, port: u16, count: u32) -> u8 {
+/// Answers `count` connections on a port of 127.0.0.1, one after the other. A fault of one connection ends it and nothing else. Each has 30
+/// seconds.
+pub fn serve<K: Keeper>(
+    rt: &HostRuntime,
+    keeper: &mut K,
+    key: &str,
+    port: u16,
+    count: u32,
+) -> Result<(), ServeFault> {
     let Ok(listener) = TcpListener::bind(rt, (Ipv4Addr::LOCALHOST, port)) else {
-        return no_port(rt);
+        return Err(ServeFault::Device);
     };
     for _ in 0..count {
         let Ok(stream) = accept(rt, &listener) else {
-            return no_port(rt);
+            return Err(ServeFault::Device);
         };
-        let _ = answer_one(rt, archive, key, &stream);
-        if has_failed(rt, archive, key) {
-            return archive::refuse(rt, StoreFault::Store);
+        let _ = answer_one(rt, keeper, key, &stream);
+        if has_failed(rt, keeper, key) {
+            return Err(ServeFault::Store);
         }
     }
-    0
+    Ok(())
 }
 
-/// Whether the archive's store fails at each of some questions, as one that was shut does. One that had no memory for a moment answers a
-/// later one.
-fn has_failed(rt: &HostRuntime, archive: &mut FileArchive, key: &str) -> bool {
+/// True if ten questions in a row fail, as they do once the store is shut. A store that was out of memory for a moment answers a later
+/// one.
+fn has_failed<K: Keeper>(rt: &HostRuntime, keeper: &mut K, key: &str) -> bool {
     for _ in 0..QUESTIONS {
-        if !matches!(archive.who(key.as_bytes()), Err(StoreFault::Store)) {
+        if !matches!(keeper.who(key.as_bytes()), Err(StoreFault::Store)) {
             return false;
         }
         thread::sleep(rt, Duration::from_millis(PAUSE));
@@ -117,16 +105,16 @@ fn may_pass(error: &io::Error) -> bool {
 }
 
 /// Answers one connection, in the time that it may take.
-fn answer_one(
+fn answer_one<K: Keeper>(
     rt: &HostRuntime,
-    archive: &mut FileArchive,
+    keeper: &mut K,
     key: &str,
     stream: &TcpStream,
 ) -> io::Result<()> {
     stream.set_nodelay(true)?;
     let timed = Timed::new(rt, stream, Duration::from_secs(PATIENCE))?;
     let mut connections = [(Device::new(timed), Device::new(timed))];
-    if answer_all(rt.alloc(), archive, key.as_bytes(), &mut connections) > 0 {
+    if answer_all(rt.alloc(), keeper, key.as_bytes(), &mut connections) > 0 {
         end(rt, stream)?;
     }
     Ok(())

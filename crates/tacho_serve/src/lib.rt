@@ -1,0 +1,7 @@
+//! Answers requests over HTTP on a port of 127.0.0.1, one connection after the other, at whatever keeps a state.
+#![tactic(auto)]
+
+mod serving;
+mod timed;
+
+pub use serving::{ServeFault, serve};
