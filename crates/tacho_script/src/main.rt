@@ -14,7 +14,7 @@
 //! be measured beside each other; with `whole` behind it, all that he holds.
 #![tactic(auto)]
 
-use sqlite::{Connection, File, FileStore};
+use sqlite::{Alter, Connection};
 use std::alloc::{AllocError, Global};
 use std::io::{self, BufRead, BufReader, Write};
 use std::{env, fs};
@@ -151,15 +151,19 @@ fn obey_all<K: Keeper>(rt: &HostRuntime, keeper: &mut K) -> io::Result<()> {
     Ok(())
 }
 
-/// The archive of a file: the one that is there, or a new one where there are no tables.
-fn archive_at(rt: &HostRuntime, path: &str) -> Option<Archive<FileStore<File>>> {
-    let conn = match Connection::open_with_sums(rt, path) {
-        Ok(conn) => conn,
-        Err(_) => return None,
-    };
+/// Does the commands at an archive.
+fn obey_kept<S: Alter + Drop>(rt: &HostRuntime, mut archive: Archive<S>) -> io::Result<()> {
+    obey_all(rt, &mut archive)
+}
+
+/// Does the commands at the archive of a connection: the one that is there, or a new one where there are no tables. Nothing is done where
+/// neither can be had.
+fn obey_in<S: Alter + Drop>(
+    rt: &HostRuntime,
+    conn: Connection<S>,
+) -> (Option<io::Result<()>>, Connection<S>) {
     if !conn.is_autocommit() {
-        let _ = conn.close();
-        return None;
+        return (None, conn);
     }
     let taken = if opening::has_tables(&conn) {
         Archive::adopt(conn)
@@ -167,23 +171,26 @@ fn archive_at(rt: &HostRuntime, path: &str) -> Option<Archive<FileStore<File>>> 
         Archive::create(conn)
     };
     match taken {
-        Ok(archive) => Some(archive),
-        Err(refused) => {
-            let _ = refused.1.close();
-            None
+        Ok(mut archive) => {
+            let done = obey_all(rt, &mut archive);
+            (Some(done), archive.close())
         }
+        Err(refused) => (None, refused.1),
     }
 }
 
 /// Does the commands at the archive of a file, which is closed then.
 fn obey_at(rt: &HostRuntime, path: &str) -> io::Result<()> {
-    let Some(mut archive) = archive_at(rt, path) else {
-        return println!(rt; "status 3");
+    let conn = match Connection::open_with_sums(rt, path) {
+        Ok(conn) => conn,
+        Err(_) => return println!(rt; "status 3"),
     };
-    let done = obey_all(rt, &mut archive);
-    match archive.close().close() {
-        Ok(()) => done,
-        Err(_) => println!(rt; "not closed"),
+    let (done, conn) = obey_in(rt, conn);
+    let closed = conn.close();
+    match done {
+        None => println!(rt; "status 3"),
+        Some(done) if closed.is_ok() => done,
+        Some(_) => println!(rt; "not closed"),
     }
 }
 
@@ -196,7 +203,7 @@ fn main(rt: HostRuntime) -> io::Result<()> {
         (Some("archive"), Some(path)) => obey_at(&rt, path),
         (Some("shelf"), None) => obey_all(&rt, &mut Shelf::new(rt.alloc())),
         (Some("memory"), None) => match open_memory(rt.alloc()) {
-            Ok(mut archive) => obey_all(&rt, &mut archive),
+            Ok(archive) => obey_kept(&rt, archive),
             Err(_) => println!(rt; "status 3"),
         },
         _ => println!(rt; "status 2"),
