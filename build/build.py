@@ -1,12 +1,14 @@
 #!/usr/bin/env python3
 """Builds the program `tacho`: proves the crates that it stands on by the lines of crates.txt, those that don't wait for one another
-side by side, and then the program's own, which is compiled with them. It says how far it is on standard error. The status is 0
+side by side, and then the program's own, which is compiled with them. It reports its progress on standard error. The status is 0
 where the program was built, 3 where it could not be; a signal ends it and all that it has started.
 
-`rt` lets nobody else work in the folders of a crate and of those below it. So each crate is worked on in a place of its own, which
-has links to what was built of those below it, and its `out` comes back from there."""
+Libraries hold their statements and not their proofs, as the gate builds them, so that a crate above loads no proof of one below. `rt`
+has no command that builds them so; this script calls the prover as `rt` does. A crate is built again where its files have changed, or
+those of a crate below it, or where the kit is another one."""
 import fcntl
-import glob
+import hashlib
+import math
 import os
 import re
 import shutil
@@ -19,16 +21,30 @@ import time
 TOP = os.path.dirname(os.path.dirname(os.path.realpath(__file__)))
 PROGRAM = "tacho"
 
-# How the folders begin in which crates are worked on. One of a run that was killed is removed by the next.
-PLACES = ".building-"
+# What a crate is built from.
+PARTS = ("src", "specs", "proofs")
 
 # What one process of a proof takes, with room to spare.
 MEMORY_OF_A_JOB = 3 << 29
 
-# A proof is divided among so many processes at the most.
+# A proof is divided among at most this many processes.
 MOST_JOBS = 4
 
-# After so many seconds without another line it says what it is at.
+# Seconds of processor time that each crate took in one process, by which the longest chain of crates is found. A wrong number changes the
+# order of the work and nothing else.
+SECONDS = {
+    "tacho_time": 105, "tacho_card": 103, "tacho_line": 98, "tacho_hours": 32, "tacho_pass": 40, "tacho_driving": 42, "tacho_days": 51,
+    "tacho_choice": 24, "tacho_rests": 75, "tacho_rules": 45, "tacho_state": 75, "tacho_sheet": 222, "tacho_desk": 96, "tacho_tables": 187,
+    "tacho_reading": 245, "tacho_store": 400, "tacho_message": 78, "tacho_http": 92, "tacho_serve": 42, "tacho_cli": 125, "tacho": 340,
+}
+
+# What a crate without a line there counts.
+USUAL_SECONDS = 100
+
+# How much a crate gives way to each that goes before it, as `nice` counts.
+GIVES_WAY = 5
+
+# After this many seconds without another line it reports what it is working on.
 SILENCE = 30
 
 
@@ -72,7 +88,7 @@ def lines_of_crates():
 
 
 def needed(below, name, found=None):
-    """A crate and those of the repository that it stands on, each behind the crates below it."""
+    """A crate and those of the repository that it stands on, each after the crates below it."""
     found = [] if found is None else found
     for library in below[name]:
         if library in below and library not in found:
@@ -82,21 +98,22 @@ def needed(below, name, found=None):
     return found
 
 
-def size_of(name):
-    """How many bytes of code, definitions and proofs a crate has."""
-    size = 0
-    for part in ("src", "specs", "proofs"):
-        for folder, _, files in os.walk(os.path.join(TOP, "crates", name, part)):
-            size += sum(os.path.getsize(os.path.join(folder, file)) for file in files)
-    return size
+def folder_of(name):
+    return os.path.join(TOP, "crates", name)
+
+
+def files_of(name):
+    """The files that a crate is built from, in order."""
+    return sorted(os.path.join(folder, file) for part in PARTS
+                  for folder, _, files in os.walk(os.path.join(folder_of(name), part)) for file in files)
 
 
 def weights(below, crates):
-    """How much work a crate and the longest chain of crates that wait for it are, by their bytes."""
+    """The work of a crate with the longest chain of crates that wait for it, in seconds."""
     weight = {}
     for name in reversed(crates):
-        behind = [weight[other] for other in crates if name in below[other]]
-        weight[name] = size_of(name) + max(behind, default=0)
+        above = [weight[other] for other in crates if name in below[other]]
+        weight[name] = SECONDS.get(name, USUAL_SECONDS) + max(above, default=0)
     return weight
 
 
@@ -114,7 +131,7 @@ def room():
 def try_to_write(crates):
     """Stops at the first folder that can't be written, before any proof."""
     for name in crates:
-        out = os.path.join(TOP, "crates", name, "out")
+        out = os.path.join(folder_of(name), "out")
         folder = out if os.path.isdir(out) else os.path.dirname(out)
         try:
             tempfile.TemporaryFile(dir=folder).close()
@@ -122,65 +139,120 @@ def try_to_write(crates):
             raise Stop(f"{folder} can't be written ({error.strerror}), and the program is built there") from error
 
 
-def link(one, other):
+def sums(below, crates, kit):
+    """For each crate a sum of all that it is built from: the kit, its line and its files, and the sums of the crates below it."""
+    found = {}
+    for name in crates:
+        whole = hashlib.sha256(repr((kit, below[name], [found[other] for other in below[name] if other in found])).encode())
+        for path in files_of(name):
+            with open(path, "rb") as file:
+                whole.update(repr((os.path.relpath(path, folder_of(name)), file.read())).encode())
+        found[name] = whole.hexdigest()
+    return found
+
+
+class Kit:
+    """The prover and its libraries."""
+
+    def __init__(self):
+        if shutil.which("rt") is None:
+            raise Stop("the command rt, which says where the kit is, isn't on the path")
+        page = subprocess.run(["rt", "doc"], stdin=subprocess.DEVNULL, capture_output=True, text=True, check=False).stdout.strip()
+        self.folder = os.path.dirname(page)
+        try:
+            with open(os.path.join(self.folder, "KIT-ID"), encoding="utf-8") as file:
+                self.name = file.read()
+        except OSError as error:
+            raise Stop(f"the kit of the command rt can't be read ({error.strerror})") from error
+
+    def path(self, *parts):
+        return os.path.join(self.folder, *parts)
+
+    def words(self, name, below):
+        """What the prover is told of a crate: its root, the libraries that it uses, and where theirs are."""
+        words = ["--crate-name", name, "src/main.rt" if name == PROGRAM else "src/lib.rt"]
+        for library in ["std", *below[name]]:
+            place = library_of(library) if library in below else self.path("rlibs", f"{library}.rlib")
+            words += ["--extern", f"{library}={place}"]
+        for place in [self.path("rlibs"), *(os.path.dirname(library_of(other)) for other in needed(below, name)[:-1])]:
+            words += ["-L", f"dependency={place}"]
+        return [*words, "--antt-project", self.path("rattle", "logic", "antt-project.json"), "--logic-built", self.path("logic_built")]
+
+
+def library_of(name):
+    """Where a crate's library is built, apart from those that `rt` builds in that crate."""
+    return os.path.join(folder_of(name), "out", "statements", f"{name}.rlib")
+
+
+def kept_sum(name):
+    """Where the sum stands that a crate was built from last."""
+    return os.path.join(folder_of(name), "out", "statements", "sum")
+
+
+def is_built(name, wanted):
+    """Whether a crate's library is built from what has this sum."""
     try:
-        os.link(one, other)
+        with open(kept_sum(name), encoding="utf-8") as file:
+            return file.read() == wanted
     except OSError:
-        shutil.copy2(one, other)
+        return False
 
 
-def copy_of_crate(name, place, with_library):
-    """Links in a place to a crate's files, and to its library where that is built."""
-    here, there = (os.path.join(top, "crates", name) for top in (TOP, place))
-    shutil.copytree(here, there, copy_function=link, ignore=shutil.ignore_patterns("out", "must-fail"))
-    if with_library:
-        shutil.copytree(os.path.join(here, "out", "rlib"), os.path.join(there, "out", "rlib"), copy_function=link)
+def note(name, made_from):
+    """Notes what a crate's library was built from."""
+    with open(kept_sum(name), "w", encoding="utf-8") as file:
+        file.write(made_from)
+
+
+def take_from_gate():
+    """Takes the libraries that `rt ci` has built, whole and from these sources, as if they were built here."""
+    kit = Kit()
+    below = lines_of_crates()
+    wanted = sums(below, needed(below, PROGRAM), kit.name)
+    for name in wanted:
+        made = os.path.join(folder_of(name), "out", "rlib", f"{name}.rlib")
+        if name != PROGRAM and os.path.isdir(made) and not is_built(name, wanted[name]):
+            shutil.rmtree(os.path.dirname(library_of(name)), ignore_errors=True)
+            shutil.copytree(made, library_of(name), copy_function=os.link)
+            note(name, wanted[name])
 
 
 class Work:
-    """A crate that is proved, or the program that is built, in a place of its own."""
+    """A crate that is proved, or the program that is built, at its place."""
 
-    def __init__(self, name, below, places, jobs):
+    def __init__(self, name, kit, below, wanted, jobs, before):
+        """Begins with a crate, in some processes. It gives way to those crates at work that go before it, so that these have what they can
+        use and it has what they leave."""
         self.name = name
-        self.jobs = jobs
+        self.wanted = wanted
         self.began = time.monotonic()
-        self.place = os.path.join(places, name)
-        self.folder = os.path.join(self.place, "crates", name)
-        self.log = os.path.join(places, f"{name}.log")
-        self.lay_out(below)
-        verb = ["run", "--jobs", str(jobs), "--", "dump"] if name == PROGRAM else ["lib", "--jobs", str(jobs)]
-        with open(self.log, "wb") as log, open(os.path.join(TOP, "crates", PROGRAM, "stdin"), "rb") as value:
-            # `rt run` runs what it has built, here on the input that lies beside it.
-            self.process = subprocess.Popen(
-                ["rt", *verb], cwd=self.folder, stdin=value, stdout=log, stderr=log, start_new_session=True,
-                env={**os.environ, "TMPDIR": places})
-
-    def lay_out(self, below):
-        """Makes the place: the crate, those below it, and a crates.txt of these. What was kept of the crate goes with it."""
-        crates = needed(below, self.name)
-        for name in crates:
-            copy_of_crate(name, self.place, name != self.name)
-        if os.path.isdir(os.path.join(TOP, "crates", self.name, "out", "incremental")):
-            shutil.copytree(os.path.join(TOP, "crates", self.name, "out", "incremental"),
-                            os.path.join(self.folder, "out", "incremental"))
-        with open(os.path.join(self.place, "crates.txt"), "w", encoding="utf-8") as file:
-            file.writelines(f"{name}: {' '.join(below[name])}\n" for name in crates)
-        shutil.copy(os.path.join(TOP, "HANDLES"), self.place)
+        os.makedirs(os.path.dirname(library_of(name)), exist_ok=True)
+        if os.path.exists(kept_sum(name)):
+            os.remove(kept_sum(name))
+        self.log = os.path.join(folder_of(name), "out", "statements", "log")
+        words = ["nice", "-n", str(min(GIVES_WAY * before, 19)), kit.path("bin", "rattle"), "build", *kit.words(name, below)]
+        words += ["--jobs", str(jobs)]
+        if name == PROGRAM:
+            words += ["--incremental", "out/incremental", "--toolchain", kit.path("toolchain"), "--backend", "llvm", "-o", "out/tacho.o"]
+        else:
+            words += ["--statements", "-o", library_of(name)]
+        with open(self.log, "wb") as log:
+            # A group of its own, so that a signal ends all of it; and not a session, among which the system would share the processors
+            # first.
+            self.process = subprocess.Popen(words, cwd=folder_of(name), stdin=subprocess.DEVNULL, stdout=log, stderr=log,
+                                            preexec_fn=os.setpgrp)
 
     def ended(self):
         return self.process.poll() is not None
 
     def finish(self):
-        """Brings back what was built; or stops where it failed, with the end of what it printed."""
+        """Notes what the crate was built from; or stops where that failed, with the end of what was printed."""
         if self.process.returncode != 0:
             with open(self.log, encoding="utf-8", errors="replace") as log:
                 print("".join(log.readlines()[-20:]), end="", file=sys.stderr)
             raise Stop(f"crates/{self.name} could not be built, for the reason above")
-        out = os.path.join(TOP, "crates", self.name, "out")
-        if os.path.exists(out):
-            os.rename(out, os.path.join(self.place, "before"))
-        os.rename(os.path.join(self.folder, "out"), out)
-        shutil.rmtree(self.place)
+        if self.name != PROGRAM:
+            note(self.name, self.wanted)
 
     def kill(self):
         try:
@@ -190,33 +262,45 @@ class Work:
         self.process.wait()
 
 
+def link(kit):
+    """Links the program."""
+    words = [kit.path("bin", "rattle-link"), "--target", "x86_64-unknown-linux-gnu", "--toolchain", kit.path("toolchain"),
+             "-o", "out/tacho", "out/tacho.o", kit.path("c", "libos_c.a"), kit.path("c", "liblibc_c.a")]
+    run = subprocess.run(words, cwd=folder_of(PROGRAM), stdin=subprocess.DEVNULL, stdout=sys.stderr, check=False)
+    if run.returncode != 0:
+        raise Stop("the program could not be linked, for the reason above")
+
+
 def tell(done, crates, at_work):
-    """Says how far it is."""
+    """Reports how far it is."""
     what = ", ".join(f"{work.name} ({spoken(time.monotonic() - work.began)} so far)" for work in at_work)
     say(f"{len(done)} of {len(crates)} crates proved, now {what}")
 
 
-def begin(ready, at_work, below, places):
-    """Begins with crates that wait for nobody, while there are processors for them: each gets as many as there are for it."""
-    free = room() - sum(work.jobs for work in at_work)
-    begun = ready[:max(free, 0 if at_work else 1)]
-    for number, name in enumerate(begun):
-        jobs = max(1, min(MOST_JOBS, free // (len(begun) - number)))
-        at_work.append(Work(name, below, places, jobs))
-        free -= jobs
-    return begun
+def jobs_among(crates):
+    """In how many processes a crate is proved where so many can be worked on. Each further process makes the work a quarter more. So there
+    is one where there are as many crates as processors; where there are fewer, one more than its share, for when others end."""
+    processes = room()
+    return 1 if crates >= processes else min(MOST_JOBS, math.ceil(processes / crates) + 1)
 
 
-def build(below, crates, places, at_work):
-    """Works on the crates, as many at a time as there is room for: first those with the most work behind them."""
+def build(kit, below, crates, at_work):
+    """Works on the crates, as many at a time as there are processors: first those with the longest chain of crates after them."""
     weight = weights(below, crates)
-    waiting = sorted(crates, key=lambda name: -weight[name])
-    done = set()
+    wanted = sums(below, crates, kit.name)
+    done = {name for name in crates if name != PROGRAM and is_built(name, wanted[name])}
+    waiting = sorted((name for name in crates if name not in done), key=lambda name: -weight[name])
     spoke = time.monotonic()
     while waiting or at_work:
         ready = [name for name in waiting if all(other in done or other not in crates for other in below[name])]
-        begun = begin(ready, at_work, below, places)
-        waiting = [name for name in waiting if name not in begun]
+        begun = False
+        while ready and len(at_work) < room():
+            jobs = jobs_among(len(at_work) + len(ready))
+            name = ready.pop(0)
+            waiting.remove(name)
+            before = sum(weight[work.name] > weight[name] for work in at_work)
+            at_work.append(Work(name, kit, below, wanted[name], jobs, before))
+            begun = True
         ended = [work for work in at_work if work.ended()]
         for work in ended:
             at_work.remove(work)
@@ -228,11 +312,12 @@ def build(below, crates, places, at_work):
         if not ended:
             time.sleep(0.2)
         stop_on_signal()
+    link(kit)
 
 
 def locked(crates):
     """Keeps other commands out of the crates' folders, as `rt` itself does, until the files are closed."""
-    folders = [os.open(os.path.join(TOP, "crates", name), os.O_RDONLY) for name in sorted(crates)]
+    folders = [os.open(folder_of(name), os.O_RDONLY) for name in sorted(crates)]
     for number, folder in enumerate(folders):
         said = False
         while True:
@@ -251,23 +336,18 @@ def locked(crates):
 def run():
     if not os.path.exists(os.path.join(TOP, "crates.txt")):
         raise Stop(f"crates.txt isn't beside the script, in {TOP}")
-    if shutil.which("rt") is None:
-        raise Stop("the command rt, which builds the program, isn't on the path")
+    kit = Kit()
     below = lines_of_crates()
     crates = needed(below, PROGRAM)
     try_to_write(crates)
     folders = locked(crates)
-    for left in glob.glob(os.path.join(TOP, PLACES + "*")):
-        shutil.rmtree(left)
-    places = tempfile.mkdtemp(prefix=PLACES, dir=TOP)
     at_work = []
     began = time.monotonic()
     try:
-        build(below, crates, places, at_work)
+        build(kit, below, crates, at_work)
     finally:
         for work in at_work:
             work.kill()
-        shutil.rmtree(places, ignore_errors=True)
         for folder in folders:
             os.close(folder)
     say(f"built in {spoken(time.monotonic() - began)}")

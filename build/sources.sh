@@ -22,6 +22,6 @@ crates() {
 sum_of_sources() {
     # shellcheck disable=SC2046
     set -- $(crates)
-    { echo crates.txt && find "$@" \( -name out -o -name must-fail \) -prune -o -type f -print; } |
+    { echo crates.txt && find "$@" \( -name out -o -name must-fail -o -name slips \) -prune -o -type f -print; } |
         LC_ALL=C sort | tr '\n' '\0' | xargs -0 sha256sum | sha256sum
 }
