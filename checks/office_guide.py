@@ -1,9 +1,10 @@
 #!/usr/bin/env python3
 """Types what docs/OFFICE.md says is to be typed, block by block in a temporary folder, and compares what it prints, and what it says
 in words, with what that page promises. A block is a run of indented lines. The blocks of the service have `systemctl` and its
-like pretended, and their folders below the temporary one: the service's command is the one of examples/tacho.service.
+like pretended, and their folders below the temporary one: the service's command is the one of examples/tacho.service. What
+README.md shows of the tour is compared with examples/tour.expected, and the edit that it names with the code.
 
-The word is the program. The last line is 'N passed, M failed'."""
+The argument is the program. The last line is 'N passed, M failed'."""
 import contextlib
 import os
 import re
@@ -18,7 +19,7 @@ import time
 
 import counting
 import old_archive
-from office_rows import ANNA, DAY, HOLDER, OTHER_DAY
+from office_rows import ANNA, CREW_DAY, DAY, HOLDER, OTHER_DAY
 from random_commands import hours_csv
 
 TOP = os.path.dirname(os.path.dirname(os.path.abspath(__file__)))
@@ -92,7 +93,7 @@ except OSError:
     sys.exit(7)
 with open(output, "wb") if output else open(1, "wb", closefd=False) as file:
     file.write(given)
-print(shown.replace("%{http_code}", str(reply.status)), end="")
+print(shown.replace("%{http_code}", str(reply.status)).replace("\\\\n", "\\n"), end="")
 """
 
 
@@ -199,6 +200,32 @@ def mode(path):
     return os.stat(path).st_mode & 0o777
 
 
+def driver_like_anna(number, key, digit):
+    """The CSV of another driver with Anna's base: the number, the key, and the last digit of the holder."""
+    return ANNA.replace(b"17,", b"%d," % number).replace(b"anna-key-1", key).replace(HOLDER.encode(), (HOLDER[:-1] + digit).encode())
+
+
+@contextlib.contextmanager
+def undone(office):
+    """What is done to the archive meanwhile is undone."""
+    for name in ("archive.db", "archive.db-wal"):
+        shutil.copy(office.path(name), office.path(name.replace("archive", "before")))
+    yield
+    for name in ("archive.db", "archive.db-wal"):
+        shutil.move(office.path(name.replace("archive", "before")), office.path(name))
+
+
+@contextlib.contextmanager
+def elsewhere(office, name):
+    """What is done meanwhile is done in another folder."""
+    folder = office.folder
+    office.folder = os.path.join(office.root, name)
+    os.makedirs(office.folder)
+    os.symlink(office.program, office.path("tacho"))
+    yield
+    office.folder = folder
+
+
 def beginnings(office):
     """An archive, a driver, his first file, and his base."""
     yield office.typed("umask 077\nmkdir archive", "created\n")
@@ -222,30 +249,44 @@ def beginnings(office):
     yield "the list of drivers", office.told("drivers"), f"17 {HOLDER} 2024-03-04 1 0 Anna Berg\n"
 
 
+# A folder of files: the endings that the page has, in small letters and in capitals, and others.
+DOWNLOADS = {
+    "a.ddd": DAY, "b.DDD": OTHER_DAY, "c.C1B": DAY, "d.c1b": DAY, "e.TGD": DAY, "f.tgd": DAY, "g.ESM": DAY, "h.esm": DAY,
+    "i.txt": b"", "j.ddd.bak": b"",
+}
+FOLDER_LOOP = "refused=0\nfor file in downloads/"
+
+
+def folder_text(names):
+    """What is printed of the files with these names, each of which is repeated, but for that of the other day."""
+    lines = {name: "S6 contradiction at 2024-03-04 08:00" if DOWNLOADS[name] == OTHER_DAY else "repeated driver 17" for name in names}
+    refused = sum(line.startswith("S6") for line in lines.values())
+    return "".join(f"downloads/{name}: {line}\n" for name, line in lines.items()) + f"{refused} refused\n", int(refused > 0)
+
+
 def weeks(office):
     """A folder of files, the gaps, and what is entered into them."""
-    office.write("downloads/a.ddd", DAY)
-    office.write("downloads/b.DDD", OTHER_DAY)
-    office.write("downloads/c.txt", b"")
-    folder = "downloads/a.ddd: repeated driver 17\ndownloads/b.DDD: S6 contradiction at 2024-03-04 08:00\n1 refused\n"
-    yield office.typed("refused=0\nfor file in downloads/*.[dD][dD][dD]; do\n    printf", folder, 1)
+    for name, given in DOWNLOADS.items():
+        office.write(f"downloads/{name}", given)
+    loop = next(block for block in office.left if block.startswith(FOLDER_LOOP))
+    yield office.typed(FOLDER_LOOP, *folder_text(list(DOWNLOADS)[:8]))
+    yield "which files are kept", office.told("drivers") + office.told("file", "17", "2"), \
+        f"17 {HOLDER} 2024-03-04 1 0 Anna Berg\nS10 unknown download\n"
+    with elsewhere(office, "empty"):
+        yield "a folder without files", office.type(loop), ("0 refused\n", 0)
     yield office.typed("./tacho gaps archive.db 17 2024-03\n", office.told("gaps", "17", "2024-03") + office.told("breaches", "17"))
-    yield office.typed("./tacho gaps archive.db 17 2024-03 > gaps.txt", "")
-    yield "the gaps of the page", office.read("gaps.txt"), office.block("2024-03-01 00:00 2024-03-04 00:00\n")
-    yield "the rows of the page", office.read("hours.csv"), office.block("start,past,activity\n2024-03-01")
+    yield from crews(office)
+    yield from forms(office)
     twins = office.block('1 2024-03-09 00:00 2024-03-11 00:00 rest kept "office" ""\n2 2024-03-09')
     free = "start,past,activity\n2024-03-09 00:00,2024-03-11 00:00,rest\n"
-    shutil.copy(office.path("archive.db"), office.path("before.db"))
-    shutil.copy(office.path("archive.db-wal"), office.path("before.db-wal"))
-    for number in (1, 2):
-        yield f"twin {number}", office.told("enter", "17", given=free.encode()), f"entered {number} to {number}\n"
-    yield "the twins of the page", office.told("entries", "17"), twins
-    work = free.replace("rest", "work").encode()
-    yield "a twin withdrawn", office.told("withdraw", "17", "1") + office.told("enter", "17", given=work), \
-        "withdrawn 1\nS6 contradiction at 2024-03-09 00:00\n"
-    yield "both withdrawn", office.told("withdraw", "17", "2") + office.told("enter", "17", given=work), "withdrawn 2\nentered 3 to 3\n"
-    for name in ("archive.db", "archive.db-wal"):
-        shutil.move(office.path(name.replace("archive", "before")), office.path(name))
+    with undone(office):
+        for number in (1, 2):
+            yield f"twin {number}", office.told("enter", "17", given=free.encode()), f"entered {number} to {number}\n"
+        yield "the twins of the page", office.told("entries", "17"), twins
+        work = free.replace("rest", "work").encode()
+        yield "a twin withdrawn", office.told("withdraw", "17", "1") + office.told("enter", "17", given=work), \
+            "withdrawn 1\nS6 contradiction at 2024-03-09 00:00\n"
+        yield "both withdrawn", office.told("withdraw", "17", "2") + office.told("enter", "17", given=work), "withdrawn 2\nentered 3 to 3\n"
     office.write("hours.csv", office.block("start,past,activity\n2024-03-09"))
     yield office.typed("./tacho enter archive.db 17 < hours.csv", "entered 1 to 2\n")
     office.write("signed.csv", office.block("start,past,activity,author,note"))
@@ -255,13 +296,77 @@ def weeks(office):
     yield office.typed("./tacho entries archive.db 17\n./tacho withdraw", f"{listed}withdrawn 2\nentered 5 to 5\n")
 
 
-# What the first column of the table of spreadsheets says, as rows behind the head.
+def crews(office):
+    """A day with a second driver: no entry fills it, and with a later base the earlier breaches leave the reports."""
+    with elsewhere(office, "crew"):
+        told = office.told("init") + office.told("register", given=ANNA.replace(b"2024-03-04", b"2024-02-26"))
+        hours = b"start,past,activity\n2024-02-26 00:00,2024-02-26 06:00,rest\n2024-02-26 06:00,2024-02-26 10:31,drive\n" \
+            b"2024-02-26 10:31,2024-03-04 00:00,rest\n"
+        told += office.told("enter", "17", given=hours) + office.told("import", "both", given=CREW_DAY)
+        yield "a week, and a day with a second driver", told, "created\nregistered 17\nentered 1 to 3\nadded driver 17 number 1\n"
+        breach = "B1 Art 7 at 2024-02-26 10:30 since 2024-02-26 06:00 amount 1\n"
+        earlier = breach + "EXAMINED TO 2024-03-04 08:30 crew\n"
+        yield "how far it is examined", office.told("breaches", "17"), earlier
+        for activity in ("drive", "work", "available", "rest"):
+            row = f"start,past,activity\n2024-03-04 08:30,2024-03-04 17:00,{activity}\n".encode()
+            yield f"{activity} by hand", office.told("enter", "17", given=row), "S6 contradiction at 2024-03-04 08:30\n"
+        yield "the same of the page", page().count("`S6 contradiction at 2024-03-04 08:30`"), 1
+        yield "the sheet before", breach in office.told("sheet", "17", "2024-02"), True
+        yield office.typed("./tacho breaches archive.db 17 > anna-breaches", "base 2024-03-11\n")
+        kept = [office.read(f"anna-{what}-before-2024-03-11.txt") for what in ("breaches", "owed")]
+        yield "the reports that are kept", kept, [earlier, earlier.removeprefix(breach)]
+        yield "the report from a later base", office.told("breaches", "17"), "EXAMINED TO 2024-03-11 00:00 unknown\n"
+        yield "the sheet from a later base", breach in office.told("sheet", "17", "2024-02"), False
+        yield "the old base again", office.told("base", "17", "2024-02-26") + office.told("breaches", "17"), f"base 2024-02-26\n{earlier}"
+
+
+# Gaps of March and April 2024, and the rows that are made of them.
+FORMS = {
+    "no gap": ("", ""),
+    "the open gap alone": ("2024-04-26 15:00 2024-05-01 00:00\n", ""),
+    "an open gap of two months": ("2024-03-26 15:00 2024-04-01 00:00\n2024-04-01 00:00 2024-05-01 00:00\n", ""),
+    "no open gap": ("2024-04-26 15:00 2024-04-27 00:00\n", "2024-04-26 15:00,2024-04-27 00:00,rest\n"),
+    "a gap that ends with a month": (
+        "2024-03-26 15:00 2024-04-01 00:00\n2024-04-01 00:01 2024-04-02 00:00\n",
+        "2024-03-26 15:00,2024-04-01 00:00,rest\n2024-04-01 00:01,2024-04-02 00:00,rest\n",
+    ),
+    "a gap that begins with a month": (
+        "2024-03-26 15:00 2024-03-31 23:59\n2024-04-01 00:00 2024-04-02 00:00\n",
+        "2024-03-26 15:00,2024-03-31 23:59,rest\n2024-04-01 00:00,2024-04-02 00:00,rest\n",
+    ),
+    "a gap of three months": (
+        "2024-02-26 15:00 2024-03-01 00:00\n2024-03-01 00:00 2024-04-01 00:00\n2024-04-01 00:00 2024-04-02 00:00\n",
+        "2024-02-26 15:00,2024-04-02 00:00,rest\n",
+    ),
+}
+
+
+def forms(office):
+    """The gaps of two months as rows, with one that crosses the end of the first; and of other gaps."""
+    typed = "for month in 2024-03 2024-04; do"
+    form = next(block for block in office.left if block.startswith(typed))
+    held = b"start,past,activity\n2024-03-05 08:00,2024-03-29 16:00,rest\n2024-04-02 06:00,2024-04-26 15:00,rest\n"
+    with undone(office):
+        yield "what is held around the gaps", office.told("enter", "17", given=held), "entered 1 to 2\n"
+        yield office.typed(typed, "")
+        yield "the gaps of the page", office.read("gaps.txt"), office.block("2024-03-01 00:00 2024-03-04 00:00\n")
+        rows = office.block("start,past,activity\n2024-03-01")
+        yield "the rows of the page", office.read("hours.csv"), rows
+        told = office.told("enter", "17", given=rows.encode()) + office.told("breaches", "17").splitlines(keepends=True)[-1]
+        yield "the rows, entered", told, "entered 3 to 5\nEXAMINED TO 2024-04-26 15:00 unknown\n"
+    for name, (gaps, rows) in FORMS.items():
+        office.write("gaps.txt", gaps)
+        office.run(form[form.index("awk"):])
+        yield f"the rows of {name}", office.read("hours.csv"), f"start,past,activity\n{rows}"
+
+
+# What the first column of the table of spreadsheets says, as rows after the head.
 SPREADSHEETS = {
     "semicolons between the fields": b"start;past;activity\n2024-03-11 06:00;2024-03-11 14:00;work\n",
     "UTF-16 ('Unicode text')": "start,past,activity\n2024-03-11 06:00,2024-03-11 14:00,work\n".encode("utf-16"),
     "a head in capitals, with blanks or with a fourth column": b"Start,Past,Activity\n2024-03-11 06:00,2024-03-11 14:00,work\n",
     "`6:00` instead of `06:00`": b"start,past,activity\n2024-03-11 6:00,2024-03-11 14:00,work\n",
-    "seconds: `06:00:00`": b"start,past,activity\n2024-03-11 06:00:00,2024-03-11 14:00:00,work\n",
+    "seconds, as date cells are exported: `2024-03-11 06:00:00`": b"start,past,activity\n2024-03-11 06:00:00,2024-03-11 14:00:00,work\n",
     "`09/03/2024 06:00`, or a day in any other order": b"start,past,activity\n11/03/2024 06:00,11/03/2024 14:00,work\n",
     "`24:00`": b"start,past,activity\n2024-03-11 06:00,2024-03-11 24:00,work\n",
     "an empty row at the end, saved as `,,`": b"start,past,activity\n2024-03-11 06:00,2024-03-11 14:00,work\n,,\n",
@@ -270,6 +375,10 @@ SPREADSHEETS = {
     "a row whose author is empty": b"start,past,activity,author,note\n2024-03-11 06:00,2024-03-11 14:00,work,,ill\n",
     "a note with a comma or a quote in it, saved as `\"ill, at home\"`":
         b'start,past,activity,author,note\n2024-03-11 06:00,2024-03-11 14:00,rest,Eva Lund,"ill, at home"\n',
+    "Latin-1 ('ANSI', 'Western European'), with a letter beyond a to z in an author, as `Jörg`":
+        "start,past,activity,author,note\n2024-03-11 06:00,2024-03-11 14:00,work,Jörg,\n".encode("latin-1"),
+    "the same in a note, as `Besuch in Gävle`":
+        "start,past,activity,author,note\n2024-03-11 06:00,2024-03-11 14:00,work,Eva Lund,Besuch in Gävle\n".encode("latin-1"),
 }
 
 # What does no harm, and a second form of some of them.
@@ -282,20 +391,23 @@ HARMLESS = {
 
 
 def spreadsheets(office):
-    """Each row of the table of what spreadsheets do."""
+    """Each row of the table of what spreadsheets do, and each of its commands, on a file that was saved so."""
     table = page().partition("### Out of a spreadsheet")[2].partition("\n\n")[2].partition("\n\n")[0]
     rows = [row.split(" | ") for row in ROW.findall(table)][1:]
     yield "the rows of the table", [row[0] for row in rows], list(SPREADSHEETS)
-    for did, line, *_ in rows:
+    for did, line, _ in rows:
         yield f"a spreadsheet with {did}", office.told("enter", "17", given=SPREADSHEETS.get(did, b"")), line.strip("`") + "\n"
-    semicolons = SPREADSHEETS["semicolons between the fields"].replace(b"-11", b"-13")
-    mended = subprocess.run(["sed", "s/;/,/g"], input=semicolons, capture_output=True).stdout
-    yield "semicolons, mended", office.told("enter", "17", given=mended), "entered 6 to 6\n"
-    wide = SPREADSHEETS["UTF-16 ('Unicode text')"].decode("utf-16").replace("-11", "-14").encode("utf-16")
-    mended = subprocess.run(["iconv", "-f", "utf-16", "-t", "utf-8"], input=wide, capture_output=True).stdout
-    yield "UTF-16, mended", office.told("enter", "17", given=mended), "entered 7 to 7\n"
-    for number, (name, given) in enumerate(HARMLESS.items(), 8):
+    commands = [(did, command) for did, _, remedy in rows for command in re.findall("`((?:sed|iconv) [^`]*)`", remedy)]
+    yield "which rows have a command", [did.split(" ")[0] for did, _ in commands], ["semicolons", "UTF-16", "seconds,", "Latin-1"]
+    for number, (did, command) in enumerate(commands, 6):
+        office.write("saved.csv", SPREADSHEETS[did])
+        office.run(command)
+        yield f"{did}, mended", office.told("enter", "17", given=office.read("hours.csv").encode()), f"entered {number} to {number}\n"
+    yield "an author in Latin-1, mended", '"Jörg"' in office.told("entries", "17"), True
+    for number, (name, given) in enumerate(HARMLESS.items(), 6 + len(commands)):
         yield name, office.told("enter", "17", given=given), f"entered {number} to {number}\n"
+    name = ANNA.replace(b"17,", b"16,").replace(b"Anna", "Jörg".encode("latin-1"))
+    yield "a driver's name in Latin-1", office.told("register", given=name), "E9 bad value for name\n"
 
 
 def months(office):
@@ -304,8 +416,7 @@ def months(office):
     yield "the sheet", office.read("anna-2024-03.txt"), office.told("sheet", "17", "2024-03")
     yield "the spans", office.read("anna-2024-03.csv"), office.told("spans", "17", "2024-03")
     shown = office.block("2024-03-04 Mon")
-    driver = ANNA.replace(b"17,", b"19,").replace(b"anna-key-1", b"carl-key-1").replace(HOLDER.encode(), HOLDER[:-1].encode() + b"9")
-    yield "a driver of long days", office.told("register", given=driver), "registered 19\n"
+    yield "a driver of long days", office.told("register", given=driver_like_anna(19, b"carl-key-1", "9")), "registered 19\n"
     day = [(0, 360, "rest"), (360, 1050, "drive"), (1050, 1440, "rest")]
     rows = [(1440 * number + start, 1440 * number + past, what) for number in range(19_787, 19_814) for start, past, what in day][:-1]
     yield "his hours", office.told("enter", "19", given=hours_csv(rows)), f"entered 1 to {len(rows)}\n"
@@ -313,14 +424,51 @@ def months(office):
     front, _, back = shown.partition("..\n")
     yield "the sheet of the page", "".join([*sheet[6:9], *sheet[-2:]]), front + back
     yield "what is told of his days", [line for line in sheet if re.match("B[0-9]", line)], []
-    newer = driver.replace(b"19,", b"18,").replace(b"carl-key-1", b"anna-key-2").replace(HOLDER[:-1].encode() + b"9", HOLDER[:-1].encode() + b"8")
-    yield "a driver with a new holder", office.told("register", given=newer), "registered 18\n"
+    yield "a driver with a new holder", office.told("register", given=driver_like_anna(18, b"anna-key-2", "8")), "registered 18\n"
     yield office.typed("./tacho spans archive.db 17 2024-03 > march.csv", f"entered 1 to {len(office.told('spans', '17', '2024-03').splitlines()) - 1}\n")
     yield "what he holds", office.told("spans", "18", "2024-03"), office.told("spans", "17", "2024-03")
     yield office.typed("./tacho base archive.db 17 2024-03-11", "base 2024-03-11\n")
     yield office.typed("./tacho file archive.db 17 1", "")
     with open(office.path("anna-1.ddd"), "rb") as file:
         yield "the file as it came", file.read(), DAY
+
+
+# What the page and docs/RULES.md say of a rest that is too short by ten minutes, and of leave: what was done, from Monday, 4 March
+# 2024, with rest between. Times are days of March and hours of the day; the 32nd is 1 April.
+SHORT_REST = [
+    (4, 6, 10, "drive"), (4, 10.75, 14.75, "drive"),
+    (4, 23 + 35 / 60, 27 + 35 / 60, "drive"), (5, 4 + 20 / 60, 8 + 20 / 60, "drive"),
+]
+LEAVE = [
+    (4, 0, 10, "work"), *[(day, 6, 16, "work") for day in (5, 6, 7, 8)],
+    (10, 15, 24, "work"), (11, 10, 20, "work"), *[(day, 6, 16, "work") for day in (12, 13, 14)], (15, 6, 12, "work"),
+    (30, 4, 14, "work"), *[(day, 6, 16, "work") for day in (31, 32, 33, 34)], (35, 6, 18, "work"), (40, 10, 20, "work"),
+]
+
+
+def report_of(office, number, key, digit, done, last):
+    """The breaches of a new driver who has done this, up to the end of a day of March."""
+    base = 19_786 * 1440
+    rows, place = [], base
+    for day, start, past, activity in done:
+        start, past = (base + 1440 * (day - 4) + round(60 * hour) for hour in (start, past))
+        rows += [(place, start, "rest")] if place < start else []
+        rows.append((start, past, activity))
+        place = past
+    rows.append((place, base + 1440 * (last - 3), "rest"))
+    told = office.told("register", given=driver_like_anna(number, key, digit)) + office.told("enter", str(number), given=hours_csv(rows))
+    yield f"the hours of driver {number}", told, f"registered {number}\nentered 1 to {len(rows)}\n"
+    return office.told("breaches", str(number)).splitlines(keepends=True)[:-1]
+
+
+def readings(office):
+    """Lines that an officer may not write: of a rest that is a few minutes short, and around leave."""
+    told = yield from report_of(office, 20, b"dora-key-1", "7", SHORT_REST, 6)
+    yield "a rest of 8 hours 50", "".join(told), office.block("B2 Art 8(2) at 2024-03-04 21:00")
+    told = yield from report_of(office, 21, b"emil-key-1", "6", LEAVE, 41)
+    yield "rests of 47, 352 and 112 hours", told, ["B9 Art 8(6) at 2024-04-08 00:00 since 2024-03-25 00:00 amount 0\n"]
+    told = yield from report_of(office, 22, b"finn-key-1", "5", [(4, 6, 31, "work"), (5, 16, 17, "work")], 6)
+    yield "a rest that begins after 25 hours", told, ["B2 Art 8(2) at 2024-03-04 21:00 since 2024-03-04 06:00 amount 600\n"]
 
 
 def backups(office):
@@ -350,17 +498,13 @@ def backups(office):
 
 def updates(office):
     """An archive of schema 1, which is carried over."""
-    folder = office.folder
-    office.folder = os.path.join(office.root, "old")
-    os.makedirs(office.folder)
-    os.symlink(office.program, office.path("tacho"))
-    old_archive.make(office.path("archive.db"), old_archive.example_rows())
-    yield "an old archive", [office.told("entries", "17"), office.told("serve", KEY, str(office.port), "1")], 2 * ["S13 old archive\n"]
-    yield office.typed("./tacho migrate archive.db", "migrated\n")
-    yield "its entries then", office.told("entries", "18"), \
-        '1 2024-03-05 06:00 2024-03-05 14:00 work kept "office" ""\n2 2024-03-05 14:00 2024-03-06 06:00 rest withdrawn "office" ""\n'
-    yield "a migration once more", office.told("migrate"), "migrated\n"
-    office.folder = folder
+    with elsewhere(office, "old"):
+        old_archive.make(office.path("archive.db"), old_archive.example_rows())
+        yield "an old archive", [office.told("entries", "17"), office.told("serve", KEY, str(office.port), "1")], 2 * ["S13 old archive\n"]
+        yield office.typed("./tacho migrate archive.db", "migrated\n")
+        yield "its entries then", office.told("entries", "18"), \
+            '1 2024-03-05 06:00 2024-03-05 14:00 work kept "office" ""\n2 2024-03-05 14:00 2024-03-06 06:00 rest withdrawn "office" ""\n'
+        yield "a migration once more", office.told("migrate"), "migrated\n"
 
 
 def services(office):
@@ -380,13 +524,17 @@ def services(office):
         text = file.read()
     yield "the office's key", (re.fullmatch("TACHO_KEY=[a-zA-Z0-9]{32}\n", text) is not None, mode(key)), (True, 0o600)
     yield office.typed("install -m 644 examples/tacho.service", "")
+    sign = next(block for block in office.left if block.startswith("curl -s -o /dev/null"))
+    yield office.typed("curl -s -o /dev/null", "403\n")
     yield "a command while it serves", office.type("/usr/local/bin/tacho entries /var/lib/tacho/archive.db 17"), ("S12 store failed\n", 3)
     yield office.typed("(umask 077; sed", "repeated driver 17\n")
-    folder = "downloads/a.ddd: repeated driver 17\ndownloads/b.DDD: S6 contradiction at 2024-03-04 08:00\n1 refused\n"
-    yield office.typed("refused=0\nfor file in downloads/*.[dD][dD][dD]; do\n    code", folder, 1)
-    os.remove(office.path("downloads/b.DDD"))
-    yield "the same with no refusal", office.type(
-        next(block for block in blocks_of(page()) if "code=$(curl" in block)), ("downloads/a.ddd: repeated driver 17\n0 refused\n", 0)
+    names = list(DOWNLOADS)[:8]
+    loop = next(block for block in office.left if block.startswith(FOLDER_LOOP))
+    yield office.typed(FOLDER_LOOP, *folder_text(names))
+    for name in ("b.DDD", "g.ESM", "h.esm"):
+        os.remove(office.path(f"downloads/{name}"))
+        names.remove(name)
+    yield "the same with no refusal", office.type(loop), folder_text(names)
     asked = "curl -sS -H @office.head http://127.0.0.1:8017/drivers/17/entries"
     before = office.type(asked)
     shutil.rmtree(office.path("backup"))
@@ -403,6 +551,7 @@ def services(office):
     if all(map(shutil.which, ("nginx", "openssl", "curl"))):
         yield from proxied(office)
     office.type("systemctl stop tacho")
+    yield "the sign of life while it is down", office.type(sign)[1], 7
     yield from served_by_hand(office)
 
 
@@ -441,7 +590,8 @@ http {{
 
 
 def proxied(office):
-    """The proxy of examples/nginx.conf, where nginx is installed: drivers' paths go through, and the office's don't."""
+    """The proxy of examples/nginx.conf, where nginx is installed: drivers' paths go through, and the office's don't; and what it
+    answers by itself. The service is down at the end."""
     root, port = office.root, free_port()
     with open(os.path.join(EXAMPLES, "nginx.conf"), encoding="utf-8") as file:
         text = office.here(file.read()).replace("listen 443", f"listen 127.0.0.1:{port}")
@@ -460,6 +610,23 @@ def proxied(office):
             yield f"{path} by the proxy", told if wanted else told[-3:], wanted or "404"
         given = [*ask, "--data-binary", f"@{office.path('anna.ddd')}", f"https://127.0.0.1:{port}/me/cards/both"]
         yield "a file by the proxy", subprocess.run(given, capture_output=True).stdout, b"repeated driver 17\n200"
+
+        def status(*options):
+            run = subprocess.run(["curl", "-sk", "-o", "/dev/null", "-w", "%{http_code}", *options], capture_output=True)
+            return run.stdout.decode()
+
+        owed = f"https://127.0.0.1:{port}/me/owed"
+        office.write("large.ddd", bytes(262_145))
+        yield "without a key by the proxy", status(owed), "403"
+        yield "a file that is too large", status("--data-binary", f"@{office.path('large.ddd')}", owed.replace("owed", "cards/both")), "413"
+        told = [status("-H", "x-key: anna-key-1", owed) for _ in range(60)]
+        yield "who asks too often", (told[0], sorted({*told})), ("200", ["200", "429"])
+        office.type("systemctl stop tacho")
+        told = "429"
+        while told == "429":
+            time.sleep(0.5)
+            told = status(owed)
+        yield "the proxy while the service is down", told, "502"
     finally:
         proxy.terminate()
         proxy.wait()
@@ -488,11 +655,31 @@ def served_by_hand(office):
     yield block.strip(), (server.communicate(timeout=20)[0], server.returncode, told), (b"", 0, 2 * [office.told("owed", "17")])
 
 
+def front(_):
+    """What README.md shows of the tour, run by run of lines with nothing left out, and the edit that it names."""
+    with open(os.path.join(TOP, "README.md"), encoding="utf-8") as file:
+        text = file.read()
+    with open(os.path.join(EXAMPLES, "tour.expected"), encoding="utf-8") as file:
+        expected = file.read()
+    shown = next(block for block in blocks_of(text) if block.startswith("$ tacho import"))
+    place = 0
+    for run in shown.split("..\n"):
+        found = expected.find(run, place)
+        yield f"what README.md shows: {run.splitlines()[0]}", found >= 0, True
+        place = found + len(run)
+    crate = os.path.join(TOP, "crates", re.search(r"^    rt must-fail (\w+)$", text, re.MULTILINE)[1])
+    name = re.search(r"/(\w+\.edit)`", text)[1]
+    with open(os.path.join(crate, "must-fail", name), encoding="utf-8") as file:
+        edit = dict(line.split(": ", 1) for line in file.read().splitlines())
+    with open(os.path.join(crate, edit["file"]), encoding="utf-8") as file:
+        yield f"the line of {name}", file.read().count(edit["old"]), 1
+
+
 def comparisons(program):
     with tempfile.TemporaryDirectory() as folder:
         office = Office(program, folder)
         try:
-            for part in (beginnings, weeks, spreadsheets, months, backups, updates, services):
+            for part in (front, beginnings, weeks, spreadsheets, months, readings, backups, updates, services):
                 yield from part(office)
         finally:
             office.end()
