@@ -233,7 +233,7 @@ class Work:
         words = ["nice", "-n", str(min(GIVES_WAY * before, 19)), kit.path("bin", "rattle"), "build", *kit.words(name, below)]
         words += ["--jobs", str(jobs)]
         if name == PROGRAM:
-            words += ["--incremental", "out/incremental", "--toolchain", kit.path("toolchain"), "--backend", "llvm", "-o", "out/tacho.o"]
+            words += ["--toolchain", kit.path("toolchain"), "--backend", "llvm", "-o", "out/tacho.o"]
         else:
             words += ["--statements", "-o", library_of(name)]
         with open(self.log, "wb") as log:

@@ -7,8 +7,8 @@ A slip's lines are `refused: FN`, the function as a check prints it, below its c
 constant, is planted alone.
 
 Each function is proved by its own body and the contracts of what it calls. So the slips of a crate that stand in different functions are
-planted together, and the prover says of each function whether it is proved: a crate takes a few tries, and not one a slip. A function that
-isn't proved only because it calls one that isn't doesn't count as refused.
+planted together, and the prover says of each function whether it is proved: a crate takes a few tries, and not one a slip. Only these functions
+and those that they call are proved. A function that isn't proved only because it calls one that isn't doesn't count as refused.
 
 The libraries below have to be built (`./tacho` or `./test`). Names of crates are arguments; without them all are tried that the program
 stands on. What passed is kept in the user's cache by a sum of all that was read, as `rt ci` keeps what it proved; `--anew` tries all.
@@ -148,6 +148,8 @@ def answers_of(kit, crate, below, group, kept):
     with tempfile.TemporaryDirectory() as folder:
         crate.planted(group, folder)
         words = [kit.path("bin", "rattle"), "check", *kit.words(crate.name, below), "--jobs", "1", "--incremental", kept]
+        if None not in group:
+            words += [word for name in group for word in ("--only", name)]
         run = subprocess.run(words, cwd=folder, stdin=subprocess.DEVNULL, stdout=subprocess.PIPE, stderr=subprocess.STDOUT, text=True,
                              errors="replace", check=False)
     found = unproved(run.stdout, crate.name)
