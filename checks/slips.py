@@ -22,6 +22,7 @@ import shutil
 import subprocess
 import sys
 import tempfile
+import threading
 
 TOP = os.path.dirname(os.path.dirname(os.path.abspath(__file__)))
 sys.path.insert(0, os.path.join(TOP, "build"))
@@ -37,6 +38,10 @@ FUNCTION = re.compile(r"\s*(?:pub(?:\([a-z]+\))? )?(?:const )?fn (\w+)")
 # What the prover says of a function that it didn't prove. Where it is only that a callee isn't proved, it says no more.
 UNPROVED = re.compile(r"fn (\w+)::(\S+?): (not proved|no proof|could not tell)(.*)")
 ONLY_CALLS = re.compile(r": it calls ")
+
+
+# Set when no further group is to be tried, as after a signal: what was begun ends first.
+ending = threading.Event()
 
 
 class Slip:
@@ -148,8 +153,7 @@ def answers_of(kit, crate, below, group, kept):
     with tempfile.TemporaryDirectory() as folder:
         crate.planted(group, folder)
         words = [kit.path("bin", "rattle"), "check", *kit.words(crate.name, below), "--jobs", "1", "--incremental", kept]
-        if None not in group:
-            words += [word for name in group for word in ("--only", name)]
+        words += [word for slip in group.values() for word in ("--only", slip.refused)]
         run = subprocess.run(words, cwd=folder, stdin=subprocess.DEVNULL, stdout=subprocess.PIPE, stderr=subprocess.STDOUT, text=True,
                              errors="replace", check=False)
     found = unproved(run.stdout, crate.name)
@@ -178,6 +182,8 @@ def try_crate(kit, crate, below, whole, anew):
     answers = []
     with tempfile.TemporaryDirectory() as kept:
         for group in crate.groups:
+            if ending.is_set():
+                break
             name = sum_of(whole, crate, group)
             if not anew and os.path.exists(os.path.join(KEPT, name)):
                 answers += [(slip.name, "refused", "refused") for slip in group.values()]
@@ -203,9 +209,13 @@ def comparisons(names, anew):
             raise build.Stop(f"the library of {name} isn't built from these sources: run ./tacho first")
     # The longest first.
     crates.sort(key=lambda crate: -sum(map(os.path.getsize, build.files_of(crate.name))))
-    with concurrent.futures.ThreadPoolExecutor(build.room()) as pool:
+    pool = concurrent.futures.ThreadPoolExecutor(build.room())
+    try:
         for answers in pool.map(lambda crate: try_crate(kit, crate, below, wholes[crate.name], anew), crates):
             yield from answers
+    finally:
+        ending.set()
+        pool.shutdown(cancel_futures=True)
 
 
 def main(words):
