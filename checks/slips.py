@@ -10,8 +10,8 @@ Each function is proved by its own body and the contracts of what it calls. So t
 planted together, and the prover says of each function whether it is proved: a crate takes a few tries, and not one a slip. Only these functions
 and those that they call are proved. A function that isn't proved only because it calls one that isn't doesn't count as refused.
 
-The libraries below have to be built (`./tacho` or `./test`). Names of crates are arguments; without them all are tried that the program
-stands on. What passed is kept in the user's cache by a sum of all that was read, as `rt ci` keeps what it proved; `--anew` tries all.
+The libraries below have to be built (`./tacho` or `./test`). Names of crates are arguments; without them all are tried but those that
+tests alone run. What passed is kept in the user's cache by a sum of all that was read, as `rt ci` keeps what it proved; `--anew` tries all.
 The last line is 'N passed, M failed'."""
 import concurrent.futures
 import glob
@@ -31,6 +31,9 @@ import build  # noqa: E402
 import counting  # noqa: E402
 
 KEPT = os.path.join(os.environ.get("XDG_CACHE_HOME") or os.path.expanduser("~/.cache"), "mansulip-slips")
+
+# The crates that tests alone run: their slips are tried by hand.
+BY_HAND = ("tacho_plain", "tacho_shelf")
 
 # The first line of a function.
 FUNCTION = re.compile(r"\s*(?:pub(?:\([a-z]+\))? )?(?:const )?fn (\w+)")
@@ -198,7 +201,8 @@ def try_crate(kit, crate, below, whole, anew):
 def comparisons(names, anew):
     kit = build.Kit()
     below = build.lines_of_crates()
-    wanted = names or [name for name in build.needed(below, build.PROGRAM) if os.path.isdir(os.path.join(build.folder_of(name), "slips"))]
+    with_slips = [name for name in below if os.path.isdir(os.path.join(build.folder_of(name), "slips"))]
+    wanted = names or [name for name in with_slips if name not in BY_HAND]
     crates = [Crate(name, below) for name in wanted]
     lower = []
     for crate in crates:
