@@ -10,8 +10,8 @@ Each function is proved by its own body and the contracts of what it calls. So t
 planted together, and the prover says of each function whether it is proved: a crate takes a few tries, and not one a slip. Only these functions
 and those that they call are proved. A function that isn't proved only because it calls one that isn't doesn't count as refused.
 
-The libraries below have to be built (`./tacho` or `./test`). Names of crates are arguments; without them all are tried but those that
-tests alone run. What passed is kept in the user's cache by a sum of all that was read, as `rt ci` keeps what it proved; `--anew` tries all.
+The libraries below have to be built (`./tacho` or `./test`). Names of crates are arguments; without them all are tried but `tacho_plain`.
+What passed is kept in the user's cache by a sum of all that was read, as `rt ci` keeps what it proved; `--anew` tries all.
 The last line is 'N passed, M failed'."""
 import concurrent.futures
 import glob
@@ -32,8 +32,8 @@ import counting  # noqa: E402
 
 KEPT = os.path.join(os.environ.get("XDG_CACHE_HOME") or os.path.expanduser("~/.cache"), "mansulip-slips")
 
-# The crates that tests alone run: their slips are tried by hand.
-BY_HAND = ("tacho_plain", "tacho_shelf")
+# The crate whose slips are tried by hand: tests alone run it, and it takes the longest.
+BY_HAND = ("tacho_plain",)
 
 # The first line of a function.
 FUNCTION = re.compile(r"\s*(?:pub(?:\([a-z]+\))? )?(?:const )?fn (\w+)")
