@@ -14,6 +14,7 @@ The libraries below have to be built (`./tacho` or `./test`). Names of crates ar
 What passed is kept in the user's cache by a sum of all that was read, as `rt ci` keeps what it proved; `--anew` tries all.
 The last line is 'N passed, M failed'."""
 import concurrent.futures
+import contextlib
 import glob
 import hashlib
 import os
@@ -175,9 +176,11 @@ def sum_of(whole, crate, group):
 
 
 def keep(name):
-    os.makedirs(KEPT, exist_ok=True)
-    with open(os.path.join(KEPT, name), "w", encoding="utf-8"):
-        pass
+    """Notes that a group has passed. Where nothing can be written, the next run tries it again."""
+    with contextlib.suppress(OSError):
+        os.makedirs(KEPT, exist_ok=True)
+        with open(os.path.join(KEPT, name), "w", encoding="utf-8"):
+            pass
 
 
 def try_crate(kit, crate, below, whole, anew):
