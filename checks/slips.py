@@ -7,8 +7,8 @@ A slip's lines are `refused: FN`, the function as a check prints it, below its c
 constant, is planted alone.
 
 Each function is proved by its own body and the contracts of what it calls. So the slips of a crate that stand in different functions are
-planted together, and the prover says of each function whether it is proved: a crate takes a few tries, and not one a slip. Only these functions
-and those that they call are proved. A function that isn't proved only because it calls one that isn't doesn't count as refused.
+planted together, and the prover says of each function whether it is proved: a crate takes a few tries, and not one a slip. Only these
+functions and those that they call are proved. A function that isn't proved only because it calls one that isn't doesn't count as refused.
 
 The libraries below have to be built (`./tacho` or `./test`). Names of crates are arguments; without them all are tried but `tacho_plain`.
 What passed is kept in the user's cache by a sum of all that was read, as `rt ci` keeps what it proved; `--anew` tries all.
@@ -211,8 +211,8 @@ def comparisons(names, anew):
     for crate in crates:
         build.needed(below, crate.name, lower)
     wholes = build.sums(below, lower, kit.name)
-    for name in lower:
-        if name not in wanted and not build.is_built(name, wholes[name]):
+    for name in dict.fromkeys(other for crate in crates for other in build.needed(below, crate.name)[:-1]):
+        if not build.is_built(name, wholes[name]):
             raise build.Stop(f"the library of {name} isn't built from these sources: run ./tacho first")
     # The longest first.
     crates.sort(key=lambda crate: -sum(map(os.path.getsize, build.files_of(crate.name))))
