@@ -11,7 +11,7 @@ use Rattle.tacho_stretches.specs.Start.{IsStart, IsNextStart}
 -- ---- one span, and those after it
 
 -- what isn't held isn't single
-none_single : (o : Option Mark) → o ≡ None → IsSingle o → ⊥
+pub none_single : (o : Option Mark) → o ≡ None → IsSingle o → ⊥
 none_single None e single = single
 none_single (Some mark) e single = cc
 
@@ -38,7 +38,7 @@ split s ss after m h is = go (lt_or_le m s.start) (lt_or_le m s.past) where
   )
 
 -- a start of one span lies in it
-within : (s : Span) (after m : ℕ) → s.start < s.past → IsStart (s ∷ []) after m → (s.start ≤ m) × (m < s.past)
+pub within : (s : Span) (after m : ℕ) → s.start < s.past → IsStart (s ∷ []) after m → (s.start ≤ m) × (m < s.past)
 within s after m full is = go (lt_or_le m s.start) (lt_or_le m s.past) where
   go : (m < s.start) ⊎ (s.start ≤ m) → (m < s.past) ⊎ (s.past ≤ m) → (s.start ≤ m) × (m < s.past)
   go (inl l) q = absurd (none_single (mark_at (s ∷ []) m)

@@ -47,3 +47,9 @@ pub fn later_rows_change_no_stretch()
         → ((m : ℕ) → base ≤ m → m ≤ s.horizon.minute → mark_at line m ≡ mark_at other m)
         → GoesOnLike front s others }
 {}
+
+/// What lies before the base doesn't count, nor how the line's spans are cut: lines that agree from the base on have the same stretches.
+pub fn stretches_by_marks()
+    ensures { (line other : List Span) (base : ℕ) (stretches : List Judged) → AreStretches line base stretches
+        → ((m : ℕ) → base ≤ m → mark_at line m ≡ mark_at other m) → AreStretches other base stretches }
+{}

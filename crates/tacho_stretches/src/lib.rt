@@ -3,8 +3,13 @@
 #![tactic(auto)]
 
 mod end;
+mod examination;
 pub mod laws;
+mod pass;
+mod range;
 mod start;
 mod stretch;
 
+pub use pass::StretchPass;
+pub use range::range_of;
 pub use stretch::{Stretch, stretches};

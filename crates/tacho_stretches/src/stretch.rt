@@ -52,14 +52,14 @@ pub fn stretches(alloc: Global, line: &Line, base: Minute) -> Result<Vec<Stretch
 }
 
 /// The horizon of a report.
-fn horizon_of(report: &Report) -> Minute
+pub(crate) fn horizon_of(report: &Report) -> Minute
     ensures { result ≡ report.now.horizon.minute }
 {
     report.horizon.minute
 }
 
 /// Where the range ends that isn't examined after a horizon, if there is one.
-fn unseen_after(end: Minute, horizon: Minute, next: &Option<Minute>) -> Option<Minute>
+pub(crate) fn unseen_after(end: Minute, horizon: Minute, next: &Option<Minute>) -> Option<Minute>
     ensures { result ≡ unseen_to end horizon next.now }
 {
     match next {

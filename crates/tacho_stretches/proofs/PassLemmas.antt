@@ -1,0 +1,443 @@
+-- What a pass over spans stands for (specs/Pass).
+use Rattle.std.proofs.Common.{◌≡◌, ℕ, zero, suc, ◌+◌, ◌<◌, ◌≤◌, ◌⊎◌, inl, inr, Bool, true, false, cond, List, [], ◌∷◌, ◌++◌, map, Option, None, Some, Result, Ok, Err, IfOk, refl, sym, ap, subst, ◌∙◌, arith}
+use Rattle.std.specs.Option.{option_map_or}
+use Rattle.std.specs.List.{All}
+use Rattle.std.proofs.Math.Path.{fun_ext}
+use Rattle.std.proofs.lemmas.Bool.{cases_lt}
+use Rattle.std.proofs.lemmas.Bool.Decides.{nat_tests}
+use Rattle.std.proofs.lemmas.List.{append_assoc, map-append}
+use Rattle.std.proofs.lemmas.List.Elements.{All-append, All-cons, All-nil}
+use Rattle.tacho_time.specs.declared.span.Activity.TheVariants.{Rest}
+use Rattle.tacho_time.specs.declared.span.Mark.{Mark}
+use Rattle.tacho_time.specs.declared.span.Span.{Span}
+use Rattle.tacho_time.specs.Spans.{Gives}
+use Rattle.tacho_line.specs.declared.horizon.Cause.TheVariants.{Crew}
+use Rattle.tacho_line.specs.declared.horizon.Horizon.{Horizon}
+use Rattle.tacho_line.specs.Line.{covers, mark_at, Holds, IsSingle, IsCause, IsHorizon}
+use Rattle.tacho_line.proofs.LineLemmas.{first_holds, rest_holds, none_before, canonical_from}
+use Rattle.tacho_line.proofs.MergeLemmas.{append_gives}
+use Rattle.tacho_hours.specs.Line.{line_of, Joined, IsBase, IsExamined}
+use Rattle.tacho_hours.proofs.RunsLemmas.{line_before, line_within, line_past, joined_le}
+use Rattle.tacho_hours.proofs.DrivingLemmas.{line_behind}
+use Rattle.tacho_rules.specs.declared.report.Report.{Report}
+use Rattle.tacho_rules.specs.Report.{examined, IsReport}
+use Rattle.tacho_rules.specs.Scan.{AreFindings, IsScanOf}
+use Rattle.tacho_stretches.specs.declared.examination.Examination.{Examination}
+use Rattle.tacho_stretches.specs.declared.examination.Examined.{Examined}
+use Rattle.tacho_stretches.specs.declared.pass.Place.{Place}
+use Rattle.tacho_stretches.specs.declared.pass.Place.TheVariants.{Examining, Seeking}
+use Rattle.tacho_stretches.specs.declared.pass.StretchPass.{StretchPass}
+use Rattle.tacho_stretches.specs.declared.stretch.Stretch.{Stretch}
+use Rattle.tacho_stretches.specs.Start.{IsStart, IsNextStart, IsHeld, IsEndOfHeld}
+use Rattle.tacho_stretches.specs.Stretches.{Judged, judged, first_monday, unseen_to, IsStretch, AreAll, AreStretches}
+use Rattle.tacho_stretches.specs.Pass.{EndsBy, IsNext, AgreeBefore, IsExaminationOf, IsReportOf, IsExaminedOf, IsPlaceOf, monday_of, AreDone, CanTake, IsPassOf}
+use Rattle.tacho_stretches.proofs.NearLemmas.{near_report, near_next}
+use Rattle.tacho_stretches.proofs.StartLemmas.{within, none_single}
+
+-- ---- spans, and what comes after them
+
+-- what is held stays
+held_first : (xs ys : List Span) (m : ℕ) (k : Mark) → mark_at xs m ≡ Some k → mark_at (xs ++ ys) m ≡ Some k
+held_first [] ys m k e = absurd (let wrong = e in cc)
+held_first (s ∷ xs) ys m k e = go (covers s m) e (held_first xs ys m k) where
+  go : (b : Bool) → cond b (Some s.mark) (mark_at xs m) ≡ Some k → (mark_at xs m ≡ Some k → mark_at (xs ++ ys) m ≡ Some k)
+      → cond b (Some s.mark) (mark_at (xs ++ ys) m) ≡ Some k
+  go true e more = e
+  go false e more = more e
+
+-- and what isn't is as the others have it
+held_after : (xs ys : List Span) (m : ℕ) → mark_at xs m ≡ None → mark_at (xs ++ ys) m ≡ mark_at ys m
+held_after [] ys m e = refl
+held_after (s ∷ xs) ys m e = go (covers s m) e (held_after xs ys m) where
+  go : (b : Bool) → cond b (Some s.mark) (mark_at xs m) ≡ None → (mark_at xs m ≡ None → mark_at (xs ++ ys) m ≡ mark_at ys m)
+      → cond b (Some s.mark) (mark_at (xs ++ ys) m) ≡ mark_at ys m
+  go true e more = absurd (let wrong = e in cc)
+  go false e more = more e
+
+-- of a span that gives a minute which isn't held yet, it is held then
+given_then : (spans : List Span) (s : Span) (m : ℕ) → mark_at spans m ≡ None → s.start ≤ m → m < s.past
+    → mark_at (spans ++ s ∷ []) m ≡ Some s.mark
+given_then spans s m none l r = held_after spans (s ∷ []) m none ∙ first_holds s [] m l r
+
+module _ (spans : List Span) (past : ℕ) (s : Span) (next : IsNext spans past s) where
+  -- before the next span nothing changes
+  before_next : AgreeBefore s.start spans (spans ++ s ∷ [])
+  before_next m lt = go (mark_at spans m) refl where
+    go : (o : Option Mark) → mark_at spans m ≡ o → mark_at spans m ≡ mark_at (spans ++ s ∷ []) m
+    go None e = e ∙ sym (held_after spans (s ∷ []) m e ∙ none_before s.start (s ∷ []) m (canonical_from s [] (next.some, tt, tt)) lt)
+    go (Some k) e = e ∙ sym (held_first spans (s ∷ []) m k e)
+
+  -- from its start on it is what it gives
+  from_next : (m : ℕ) → s.start ≤ m → mark_at (spans ++ s ∷ []) m ≡ mark_at (s ∷ []) m
+  from_next m l = held_after spans (s ∷ []) m (next.ended m (let f = next.from in omega (arith, f, l)))
+
+  -- nothing is held from its past on
+  pub ended_next : EndsBy (spans ++ s ∷ []) s.past
+  ended_next m l = from_next m (let some = next.some in omega (arith, some, l)) ∙ rest_holds s [] m l
+
+  -- and the minute before is
+  pub last_next : (m : ℕ) × (s.past ≡ m + 1) × IsHeld (spans ++ s ∷ []) m
+  last_next = go s.past refl where
+    go : (p : ℕ) → s.past ≡ p → (m : ℕ) × (s.past ≡ m + 1) × IsHeld (spans ++ s ∷ []) m
+    go zero e = absurd (let some = next.some in omega (arith, some, e))
+    go (suc m) e =
+        let some = next.some in (
+          m,
+          omega (arith, e),
+          (s.mark, from_next m (omega (arith, some, e)) ∙ first_holds s [] m (omega (arith, some, e)) (omega (arith, e))),
+        )
+
+  -- a line that goes on as all say goes on as those before say
+  agree_next : (line : List Span) → AgreeBefore s.past (spans ++ s ∷ []) line → AgreeBefore past spans line
+  agree_next line agree m lt =
+      let from = next.from in
+      let some = next.some in
+      before_next m (omega (arith, from, lt)) ∙ agree m (omega (arith, from, some, lt))
+
+  -- ---- Mondays
+
+  -- a start is one of those before, or in the span
+  start_split : (after m : ℕ) → IsStart (spans ++ s ∷ []) after m → IsStart spans after m ⊎ IsStart (s ∷ []) after m
+  start_split after m is = elim (cases_lt m s.start) [
+    | inl lt ↦ inl (record { later = is.later; monday = is.monday; single = subst IsSingle (sym (before_next m lt)) is.single })
+    | inr ge ↦ inr (record { later = is.later; monday = is.monday; single = subst IsSingle (from_next m ge) is.single })
+  ]
+
+  -- there is none in either, or the one of the span is next
+  pub none_next : (after : ℕ) → IsNextStart spans after None → IsNextStart (s ∷ []) after None
+      → IsNextStart (spans ++ s ∷ []) after None
+  none_next after none not m is = elim (start_split after m is) [
+    | inl start ↦ none m start
+    | inr start ↦ not m start
+  ]
+
+  start_next : (after start : ℕ) → IsNextStart spans after None → IsNextStart (s ∷ []) after (Some start)
+      → IsNextStart (spans ++ s ∷ []) after (Some start)
+  start_next after start none is = (
+    record {
+      later = is.0.later;
+      monday = is.0.monday;
+      single = subst IsSingle (sym (from_next start (within s after start next.some is.0).0)) is.0.single;
+    },
+    λ m other. elim (start_split after m other) [
+      | inl before ↦ absurd (none m before)
+      | inr here ↦ is.1 m here
+    ],
+  )
+
+-- where nothing is held, nothing starts
+none_after : (spans : List Span) (past after : ℕ) → EndsBy spans past → past ≤ after → IsNextStart spans after None
+none_after spans past after ended le m is =
+    none_single (mark_at spans m) (ended m (let l = is.later in omega (arith, l, le))) is.single
+
+-- ---- an examination
+
+-- spans that follow one another, and one more
+joined_next : (xs : List Span) (s : Span) (from mid : ℕ) → Joined xs from mid → s.start ≡ mid → mid < s.past
+    → Joined (xs ++ s ∷ []) from s.past
+joined_next [] s from mid h e some = (e ∙ sym h, omega (arith, h, some), refl)
+joined_next (x ∷ xs) s from mid h e some = (h.0, h.1, joined_next xs s x.past mid h.2 e some)
+
+-- it stands for nothing at first
+pub none_examined : (e : Examination) → IsBase e.monday → e.minute ≡ e.monday → IsScanOf e.scan e.found e.monday []
+    → (spans : List Span) → IsExaminationOf e spans
+none_examined e monday at scanned spans = record {
+  is_base = monday;
+  parts = [];
+  joined = sym at;
+  single = All-nil (λ (x : Span). x.mark.crew ≡ false);
+  held = λ m k g. absurd g;
+  scanned = scanned;
+}
+
+-- it stands as it stood, whatever comes after
+pub still : (e : Examination) (spans more : List Span) → IsExaminationOf e spans → IsExaminationOf e (spans ++ more)
+still e spans more is = record {
+  is_base = is.is_base;
+  parts = is.parts;
+  joined = is.joined;
+  single = is.single;
+  held = λ m k g. held_first spans more m k (is.held m k g);
+  scanned = is.scanned;
+}
+
+-- it goes on with the rest of a span
+pub gone_on : (e new : Examination) (spans : List Span) (s part : Span) → IsExaminationOf e spans → EndsBy spans e.minute
+    → s.start ≤ e.minute → e.minute < s.past → s.mark.crew ≡ false → new.monday ≡ e.monday → new.minute ≡ s.past
+    → part.start ≡ e.minute → part.past ≡ s.past → part.mark ≡ s.mark
+    → ((base : ℕ) (parts : List Span) → IsScanOf e.scan e.found base parts → IsScanOf new.scan new.found base (parts ++ part ∷ []))
+    → IsExaminationOf new (spans ++ s ∷ [])
+gone_on e new spans s part is ended from some single monday minute start past mark fed = record {
+  is_base = rw monday is.is_base;
+  parts = is.parts ++ part ∷ [];
+  joined =
+      rw (monday, minute) (subst (λ (p : ℕ). Joined (is.parts ++ part ∷ []) e.monday p) past
+      (joined_next is.parts part e.monday e.minute is.joined start (omega (arith, past, some))));
+  single =
+      All-append (λ (x : Span). x.mark.crew ≡ false) is.parts (part ∷ []) is.single
+      (All-cons (λ (x : Span). x.mark.crew ≡ false) part [] (ap (λ (k : Mark). k.crew) mark ∙ single)
+      (All-nil (λ (x : Span). x.mark.crew ≡ false)));
+  held = λ m k g. held m k (append_gives is.parts (part ∷ []) m k g);
+  scanned = rw monday (fed e.monday is.parts is.scanned);
+} where
+  held : (m : ℕ) (k : Mark) → Gives is.parts m k ⊎ Gives (part ∷ []) m k → Holds (spans ++ s ∷ []) m k
+  held m k (inl g) = held_first spans (s ∷ []) m k (is.held m k g)
+  held m k (inr (inl c)) =
+      let l = c.0.0 in
+      let r = c.0.1 in
+      given_then spans s m (ended m (omega (arith, start, l))) (omega (arith, from, start, l)) (omega (arith, past, r))
+      ∙ ap (λ (x : Mark). Some x) (sym mark ∙ c.1)
+  held m k (inr (inr g)) = absurd g
+
+-- spans that follow one another have each minute from the first to the last
+covered : (spans : List Span) (from past m : ℕ) → Joined spans from past → from ≤ m → m < past
+    → All (λ s. s.mark.crew ≡ false) spans
+    → (k : Mark) × Gives spans m k × (k.crew ≡ false)
+covered [] from past m j above below single = absurd (omega (arith, j, above, below))
+covered (s ∷ spans) from past m j above below single = elim (cases_lt m s.past) [
+  | inl lt ↦ let e : s.start ≡ from = j.0 in (s.mark, inl ((omega (arith, e, above), lt), refl), single 0 s (omega arith))
+  | inr ge ↦
+      let more = covered spans s.past past m j.2 ge below (λ k d within. single (suc k) d (omega arith)) in
+      (more.0, inr more.1, more.2)
+]
+
+-- and no minute before
+given_from : (spans : List Span) (from past m : ℕ) (k : Mark) → Joined spans from past → Gives spans m k → from ≤ m
+given_from [] from past m k j g = absurd g
+given_from (s ∷ spans) from past m k j (inl c) =
+    let e : s.start ≡ from = j.0 in let l : s.start ≤ m = c.0.0 in omega (arith, e, l)
+given_from (s ∷ spans) from past m k j (inr g) =
+    let l : s.past ≤ m = given_from spans s.past past m k j.2 g in let f : from < s.past = j.1 in omega (arith, l, f)
+
+-- their line has the activity that they give
+line_given : (spans : List Span) (from past m : ℕ) (k : Mark) → Joined spans from past → Gives spans m k
+    → line_of spans m ≡ k.activity
+line_given [] from past m k j g = absurd g
+line_given (s ∷ spans) from past m k j (inl c) = line_within s spans m c.0.0 c.0.1 ∙ ap (λ (x : Mark). x.activity) c.1
+line_given (s ∷ spans) from past m k j (inr g) =
+    line_past s spans m (given_from spans s.past past m k j.2 g) ∙ line_given spans s.past past m k j.2 g
+
+-- at its end
+module _ (spans : List Span) (e : Examination) (is : IsExaminationOf e spans) where
+  -- its minute is the horizon
+  horizon_is : (h : Horizon) → h.minute ≡ e.minute → IsCause (mark_at spans e.minute) h.cause → IsHorizon spans e.monday h
+  horizon_is h same cause = record {
+    from = (let le = joined_le is.parts e.monday e.minute is.joined in omega (arith, same, le));
+    single = λ m w.
+        let r = w.1 in
+        let c = covered is.parts e.monday e.minute m is.joined w.0 (omega (arith, same, r)) is.single in
+        subst IsSingle (sym (is.held m c.0 c.1)) c.2;
+    cause = subst (λ (m : ℕ). IsCause (mark_at spans m) h.cause) (sym same) cause;
+  }
+
+  -- the line of what its scan was fed is the examined one
+  as_examined : (m : ℕ) → line_of is.parts m ≡ examined spans e.monday e.minute m
+  as_examined m = elim (cases_lt m e.monday) [
+    | inl before ↦
+        let f : line_of is.parts m ≡ Rest = line_before is.parts e.monday e.minute m is.joined before in
+        grind (arith, nat_tests, f)
+    | inr above ↦ elim (cases_lt m e.minute) [
+      | inl below ↦
+          let c = covered is.parts e.monday e.minute m is.joined above below is.single in
+          let k = c.0 in
+          let f : line_of is.parts m ≡ k.activity = line_given is.parts e.monday e.minute m k is.joined c.1 in
+          let g : option_map_or (λ (x : Mark). x.activity) (mark_at spans m) Rest ≡ k.activity =
+          ap (λ (o : Option Mark). option_map_or (λ (x : Mark). x.activity) o Rest) (is.held m k c.1) in
+          grind (arith, nat_tests, f, g)
+      | inr behind ↦
+          let f : line_of is.parts m ≡ Rest = line_behind is.parts e.monday e.minute m is.joined behind in
+          grind (arith, nat_tests, f)
+    ]
+  ]
+
+  -- so what the scan finds is the report
+  pub report_found : (report : Report) (h : Horizon) → e.minute ≤ 68374080 → h.minute ≡ e.minute
+      → IsCause (mark_at spans e.minute) h.cause → report.horizon ≡ h
+      → ((base : ℕ) (parts : List Span) → IsScanOf e.scan e.found base parts → IsExamined parts base e.minute
+      → AreFindings (line_of parts) base e.minute report.breaches.items report.debts.items)
+      → IsReport spans e.monday report.horizon report.breaches.items report.debts.items
+  report_found report h early at cause same finds =
+      let are = subst (λ l. AreFindings l e.monday e.minute report.breaches.items report.debts.items) (fun_ext as_examined)
+      (finds e.monday is.parts is.scanned
+      (record { base_is = is.is_base; joined = is.joined; single = is.single; within = early })) in
+      let are' = subst (λ (m : ℕ). AreFindings (examined spans e.monday m) e.monday m report.breaches.items report.debts.items)
+      (sym at ∙ ap (λ (x : Horizon). x.minute) (sym same)) are in
+      record {
+        is_horizon = subst (λ (x : Horizon). IsHorizon spans e.monday x) (sym same) (horizon_is h at cause);
+        runs = are'.runs;
+        breaks = are'.breaks;
+        are_runs = are'.are_runs;
+        are_breaks = are'.are_breaks;
+        are_debts = are'.are_debts;
+        exactly = are'.exactly;
+      }
+
+-- ---- where a pass stands after one more span
+
+module _ (spans : List Span) (past : ℕ) (s : Span) (next : IsNext spans past s) where
+  -- the examination stopped, at a minute that the span gives as crew, or after which it comes
+  pub stopped : (e : Examination) (x : Examined) → past ≤ e.minute → e.minute < s.past → x.report.horizon.minute ≡ e.minute
+      → IsReportOf x (spans ++ s ∷ []) → IsExaminedOf x (spans ++ s ∷ []) spans s.past
+  stopped e x le before at report = record {
+    report = report;
+    before = omega (arith, at, before);
+    none = none_after spans past x.report.horizon.minute next.ended (omega (arith, at, le));
+  }
+
+  pub gap_there : (m : ℕ) → past ≤ m → m < s.start → mark_at (spans ++ s ∷ []) m ≡ None
+  gap_there m le lt = sym (before_next spans past s next m lt) ∙ next.ended m le
+
+  pub crew_there : (m : ℕ) → s.start ≤ m → m < s.past → s.mark.crew ≡ true → IsCause (mark_at (spans ++ s ∷ []) m) Crew
+  crew_there m l r crew =
+      subst (λ (o : Option Mark). IsCause o Crew) (sym (from_next spans past s next m l ∙ first_holds s [] m l r)) crew
+
+  -- a report stays
+  pub report_stays : (x : Examined) → IsExaminedOf x spans spans past → IsExaminedOf x (spans ++ s ∷ []) spans s.past
+  report_stays x is =
+      let b = is.before in
+      let f = next.from in
+      let some = next.some in
+      record {
+        report = near_report spans (spans ++ s ∷ []) x.monday x.report.horizon x.report.breaches.items x.report.debts.items
+            (λ m l r. before_next spans past s next m (omega (arith, r, b, f))) is.report;
+        before = omega (arith, b, f, some);
+        none = is.none;
+      }
+
+  -- so do the stretches that are done
+  pub done_stays : (base monday : ℕ) (done : List Judged) → AreDone spans past base done monday
+      → AreDone (spans ++ s ∷ []) s.past base done monday
+  done_stays base monday done so = record {
+    from = so.from;
+    first = so.first;
+    all = λ line end rest agree. so.all line end rest (agree_next spans past s next line agree);
+  }
+
+  -- and where the span has the next Monday, there is one more
+  pub done_more : (base start : ℕ) (done : List Judged) (x : Examined) (j : Judged)
+      → AreDone spans past base done x.monday → IsExaminedOf x (spans ++ s ∷ []) spans s.past
+      → IsNextStart (s ∷ []) x.report.horizon.minute (Some start)
+      → j ≡ judged (record { monday = x.monday; report = x.report; unseen = Some start })
+      → AreDone (spans ++ s ∷ []) s.past base (done ++ j ∷ []) start
+  done_more base start done x j so is begins says =
+      let all = start_next spans past s next x.report.horizon.minute start is.none begins in
+      let w = within s x.report.horizon.minute start next.some begins.0 in
+      let last : start < s.past = w.1 in
+      let b = is.before in
+      let later = begins.0.later in
+      let at = is.report.is_horizon.from in
+      let from = so.from in
+      let monday : j.monday ≡ x.monday = ap (λ (y : Judged). y.monday) says in
+      record {
+        from = omega (arith, from, at, later);
+        first = λ rest e.
+            subst (λ (xs : List Judged). first_monday xs ≡ Some base) (sym (append_assoc done (j ∷ []) rest))
+            (so.first (j ∷ rest) (ap (λ (m : ℕ). Some m) monday));
+        all = λ line end rest agree e more.
+            subst (λ (xs : List Judged). AreAll line end xs) (sym (append_assoc done (j ∷ []) rest))
+            (so.all line end (j ∷ rest) (agree_next spans past s next line agree) (ap (λ (m : ℕ). Some m) monday) (
+              subst (λ (y : Judged). IsStretch line end y (first_monday rest)) (sym says) (record {
+                report = near_report (spans ++ s ∷ []) line x.monday x.report.horizon x.report.breaches.items x.report.debts.items
+                    (λ m l r. agree m (omega (arith, r, b))) is.report;
+                followed = subst (λ (o : Option ℕ). IsNextStart line x.report.horizon.minute o) (sym e)
+                    (near_next (spans ++ s ∷ []) line 0 x.report.horizon.minute start start
+                    (λ m l r. agree m (omega (arith, r, last))) (omega arith) (omega arith) all);
+                rest = subst (λ (o : Option ℕ). Some start ≡ unseen_to end x.report.horizon.minute o) (sym e) refl;
+              }),
+              more,
+            ));
+      }
+
+-- ---- a Monday in the span
+
+-- the minute of a start in a span is in it, and the span is no crew's
+pub start_there : (s : Span) (after m : ℕ) → s.start < s.past → IsStart (s ∷ []) after m
+    → (s.start ≤ m) × (m < s.past) × (s.mark.crew ≡ false)
+start_there s after m some is =
+    let w = within s after m some is in
+    (w.0, w.1, subst IsSingle (first_holds s [] m w.0 w.1) is.single)
+
+-- ---- a pass that takes a span
+
+-- it goes on in an examination
+pub pass_examining : (p : StretchPass) (s : Span) (place : Place) (e : Examination) → place ≡ Examining e → CanTake p s
+    → monday_of place ≡ monday_of p.place
+    → ((past : ℕ) (spans : List Span) → IsNext spans past s → IsPlaceOf p.place spans spans past
+    → IsPlaceOf place (spans ++ s ∷ []) spans s.past)
+    → (base : ℕ) (spans : List Span) → IsPassOf p base spans
+    → IsPassOf (record p { place = Examining e; past = s.past }) base (spans ++ s ∷ [])
+pass_examining p s place e same can monday taken base spans is =
+    let next : IsNext spans p.past s = record { ended = is.ended; from = can.from; some = can.some } in
+    record {
+      ended = ended_next spans p.past s next;
+      last = inr (last_next spans p.past s next);
+      done =
+          subst (λ (m : ℕ). AreDone (spans ++ s ∷ []) s.past base (map judged p.done.items) m) (sym monday ∙ ap monday_of same)
+          (done_stays spans p.past s next base (monday_of p.place) (map judged p.done.items) is.done);
+      stands = subst (λ (q : Place). IsPlaceOf q (spans ++ s ∷ []) spans s.past) same (taken p.past spans next is.stands);
+    }
+
+-- or after the horizon of one, where the next Monday is sought
+pub pass_seeking : {E : Type 0} (result : Result StretchPass E) (p : StretchPass) (s : Span) (place : Place) (x : Examined)
+    → place ≡ Seeking x → CanTake p s → monday_of place ≡ monday_of p.place
+    → ((past : ℕ) (spans : List Span) → IsNext spans past s → IsPlaceOf p.place spans spans past
+    → IsPlaceOf place (spans ++ s ∷ []) spans s.past)
+    → IfOk result (λ pass. (base past : ℕ) (spans : List Span) → IsNext spans past s
+    → AreDone spans past base (map judged p.done.items) x.monday
+    → IsPlaceOf (Seeking x) (spans ++ s ∷ []) spans s.past → IsPassOf pass base (spans ++ s ∷ []))
+    → IfOk result (λ pass. (base : ℕ) (spans : List Span) → IsPassOf p base spans → IsPassOf pass base (spans ++ s ∷ []))
+pass_seeking (Ok pass) p s place x same can monday taken h = λ base spans is.
+    (let next : IsNext spans p.past s = record { ended = is.ended; from = can.from; some = can.some } in
+    h base p.past spans next
+    (subst (λ (m : ℕ). AreDone spans p.past base (map judged p.done.items) m) (sym monday ∙ ap monday_of same) is.done)
+    (subst (λ (q : Place). IsPlaceOf q (spans ++ s ∷ []) spans s.past) same (taken p.past spans next is.stands)))
+pass_seeking (Err fault) p s place x same can monday taken h = tt
+
+-- ---- at the end
+
+-- the minute where an examination stands isn't held, if nothing is from there on
+pub ended_report : {E : Type 0} (result : Result Examined E) (e : Examination)
+    → IfOk result (λ x. (spans : List Span) → IsExaminationOf e spans → mark_at spans e.minute ≡ None → IsReportOf x spans)
+    → IfOk result (λ x. (past : ℕ) (spans : List Span) → (past ≤ e.minute) × IsExaminationOf e spans → EndsBy spans past
+    → IsReportOf x spans)
+ended_report (Ok x) e h = λ past spans is ended. h spans is.1 (ended e.minute is.0)
+ended_report (Err fault) e h = tt
+
+-- where what is held ends, and what isn't examined after the last horizon
+ends_there : (spans : List Span) (base past horizon : ℕ) → EndsBy spans past
+    → (past ≤ base) ⊎ ((m : ℕ) × (past ≡ m + 1) × IsHeld spans m) → base ≤ horizon
+    → (end : ℕ) × IsEndOfHeld spans base end × (unseen_to past horizon None ≡ unseen_to end horizon None)
+ends_there spans base past horizon ended last from = elim (cases_lt base past) [
+  | inl lt ↦ (past, record { from = omega (arith, lt); after = λ m l is. gone m (ended m l) is; last = held last lt }, refl)
+  | inr ge ↦ (
+    base,
+    record { from = omega arith; after = λ m l is. gone m (ended m (omega (arith, l, ge))) is; last = inl refl },
+    grind (arith, nat_tests),
+  )
+] where
+  gone : (m : ℕ) → mark_at spans m ≡ None → IsHeld spans m → ⊥
+  gone m e is = let both = sym e ∙ is.1 in cc
+
+  held : (past ≤ base) ⊎ ((m : ℕ) × (past ≡ m + 1) × IsHeld spans m) → base < past
+      → (past ≡ base) ⊎ ((m : ℕ) × (past ≡ m + 1) × IsHeld spans m)
+  held (inl le) lt = absurd (omega (arith, le, lt))
+  held (inr is) lt = inr is
+
+-- the stretches that are done, and a last one, are all
+pub all_stretches : (spans : List Span) (base past : ℕ) (done new : List Stretch) (s : Stretch) → EndsBy spans past
+    → (past ≤ base) ⊎ ((m : ℕ) × (past ≡ m + 1) × IsHeld spans m) → AreDone spans past base (map judged done) s.monday
+    → IsReport spans s.monday s.report.horizon s.report.breaches.items s.report.debts.items
+    → IsNextStart spans s.report.horizon.minute None → s.unseen ≡ unseen_to past s.report.horizon.minute None
+    → new ≡ done ++ s ∷ [] → AreStretches spans base (map judged new)
+all_stretches spans base past done new s ended last so report none unseen pushed =
+    let from = so.from in
+    let at = report.is_horizon.from in
+    let e = ends_there spans base past s.report.horizon.minute ended last (omega (arith, from, at)) in
+    let same : map judged new ≡ map judged done ++ judged s ∷ [] = ap (map judged) pushed ∙ map-append judged done (s ∷ []) in
+    subst (λ (xs : List Judged). AreStretches spans base xs) (sym same) (record {
+      first = so.first (judged s ∷ []) refl;
+      end = e.0;
+      is_end = e.1;
+      all = so.all spans e.0 (judged s ∷ []) (λ m lt. refl) refl
+          (record { report = report; followed = none; rest = unseen ∙ e.2 }, tt);
+    })

@@ -1,0 +1,86 @@
+-- Private to tacho_stretches: What a pass stands for, by the spans that it has taken.
+use Rattle.std.specs.Prelude.{◌≡◌, ℕ, ◌+◌, ◌<◌, ◌≤◌, ◌⊎◌, All, false, map, List, ◌++◌, None, Some}
+use Rattle.tacho_time.specs.declared.span.Mark.{Mark}
+use Rattle.tacho_time.specs.declared.span.Span.{Span}
+use Rattle.tacho_time.specs.Spans.{Gives}
+use Rattle.tacho_line.specs.Line.{mark_at, Holds}
+use Rattle.tacho_hours.specs.Limits.{latest}
+use Rattle.tacho_hours.specs.Line.{Joined, IsBase}
+use Rattle.tacho_rules.specs.Report.{IsReport}
+use Rattle.tacho_rules.specs.Scan.{IsScanOf}
+use Rattle.tacho_stretches.specs.declared.examination.Examination.{Examination}
+use Rattle.tacho_stretches.specs.declared.examination.Examined.{Examined}
+use Rattle.tacho_stretches.specs.declared.pass.Place.{Place}
+use Rattle.tacho_stretches.specs.declared.pass.Place.TheVariants.{Examining, Seeking}
+use Rattle.tacho_stretches.specs.declared.pass.StretchPass.{StretchPass}
+use Rattle.tacho_stretches.specs.Start.{IsNextStart, IsHeld}
+use Rattle.tacho_stretches.specs.Stretches.{Judged, judged, first_monday, AreAll}
+
+-- ---- spans
+
+-- no minute from the past on is held
+abbrev pub EndsBy : List Span → ℕ → Type 0
+EndsBy spans past = (m : ℕ) → past ≤ m → mark_at spans m ≡ None
+
+-- a span comes next after spans that end by the past
+pub record IsNext (spans : List Span) (past : ℕ) (s : Span) : Type 0 where
+  pub ended : EndsBy spans past
+  pub from : past ≤ s.start
+  pub some : s.start < s.past
+
+-- two lines hold the same before the past
+abbrev pub AgreeBefore : ℕ → List Span → List Span → Type 0
+AgreeBefore past spans line = (m : ℕ) → m < past → mark_at spans m ≡ mark_at line m
+
+-- ---- an examination
+
+-- its scan was fed what the spans hold from its Monday to its minute, no part of it as crew
+pub record IsExaminationOf (e : Examination) (spans : List Span) : Type 0 where
+  pub is_base : IsBase e.monday
+  pub parts : List Span
+  pub joined : Joined parts e.monday e.minute
+  pub single : All (λ s. s.mark.crew ≡ false) parts
+  pub held : (m : ℕ) (mark : Mark) → Gives parts m mark → Holds spans m mark
+  pub scanned : IsScanOf e.scan e.found e.monday parts
+
+-- it has the report of the spans from its Monday on
+abbrev pub IsReportOf : Examined → List Span → Type 0
+IsReportOf e spans = IsReport spans e.monday e.report.horizon e.report.breaches.items e.report.debts.items
+
+-- its horizon is before the past of the spans, and no Monday after it can start a stretch, of those that were sought
+pub record IsExaminedOf (e : Examined) (spans sought : List Span) (past : ℕ) : Type 0 where
+  pub report : IsReportOf e spans
+  pub before : e.report.horizon.minute < past
+  pub none : IsNextStart sought e.report.horizon.minute None
+
+-- ---- a pass
+
+-- where it stands after spans that end by the past
+abbrev pub IsPlaceOf : Place → List Span → List Span → ℕ → Type 0
+IsPlaceOf (Examining e) spans sought past = (past ≤ e.minute) × IsExaminationOf e spans
+IsPlaceOf (Seeking e) spans sought past = IsExaminedOf e spans sought past
+
+-- the Monday of the examination there
+abbrev pub monday_of : Place → ℕ
+monday_of (Examining e) = e.monday
+monday_of (Seeking e) = e.monday
+
+-- these are the stretches from the base to before a Monday, of each line that holds what the spans hold before the past
+pub record AreDone (spans : List Span) (past base : ℕ) (done : List Judged) (monday : ℕ) : Type 0 where
+  pub from : base ≤ monday
+  pub first : (rest : List Judged) → first_monday rest ≡ Some monday → first_monday (done ++ rest) ≡ Some base
+  pub all : (line : List Span) (end : ℕ) (rest : List Judged) → AgreeBefore past spans line → first_monday rest ≡ Some monday
+      → AreAll line end rest → AreAll line end (done ++ rest)
+
+-- a span can be taken next
+pub record CanTake (p : StretchPass) (s : Span) : Type 0 where
+  pub from : p.past ≤ s.start
+  pub some : s.start < s.past
+  pub within : s.past ≤ latest
+
+-- it has taken these spans, from the base on
+pub record IsPassOf (p : StretchPass) (base : ℕ) (spans : List Span) : Type 0 where
+  pub ended : EndsBy spans p.past
+  pub last : (p.past ≤ base) ⊎ ((m : ℕ) × (p.past ≡ m + 1) × IsHeld spans m)
+  pub done : AreDone spans p.past base (map judged p.done.items) (monday_of p.place)
+  pub stands : IsPlaceOf p.place spans spans p.past

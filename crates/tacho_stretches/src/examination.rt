@@ -1,0 +1,103 @@
+ghost use Rattle.std.specs.Prelude.{◌≤◌};
+ghost use Rattle.tacho_hours.specs.Limits.{first_base, latest};
+ghost use Rattle.tacho_rules.specs.Scan.{IsAt};
+
+use std::alloc::{AllocError, Global};
+use tacho_line::{Cause, Horizon};
+use tacho_pass::Found;
+use tacho_rules::{Report, Scan};
+use tacho_time::{Minute, Span};
+
+/// An examination from a Monday on, before its horizon.
+#[derive(Drop)]
+pub(crate) struct Examination {
+    /// The first minute of its Monday.
+    pub monday: Minute,
+    /// The minute up to which it has examined.
+    pub minute: Minute,
+    scan: Scan,
+    found: Found,
+    ghost at: { IsAt scan minute },
+    ghost from: { first_base ≤ minute },
+    ghost early: { minute ≤ latest },
+}
+
+/// An examination that came to its horizon.
+#[derive(Drop)]
+pub(crate) struct Examined {
+    /// The first minute of its Monday.
+    pub monday: Minute,
+    /// What the rules say from there to the horizon.
+    pub report: Report,
+    ghost from: { first_base ≤ report.horizon.minute },
+    ghost early: { report.horizon.minute ≤ latest },
+}
+
+impl Examination {
+    ghost use Rattle.std.specs.Prelude.{◌≡◌, ◌≤◌, ◌<◌, ◌++◌, ◌∷◌, [], List, false, IfOk};
+    ghost use Rattle.tacho_time.specs.declared.span.Span.{Span as SpanValue};
+    ghost use Rattle.tacho_line.specs.Line.{mark_at, IsCause};
+    ghost use Rattle.tacho_hours.specs.Line.{IsBase};
+    ghost use Rattle.tacho_hours.specs.Limits.{latest};
+    ghost use Rattle.tacho_stretches.specs.Pass.{EndsBy, IsExaminationOf, IsReportOf};
+
+    /// An examination from a Monday on that has examined no minute yet.
+    pub(crate) fn new(alloc: Global, monday: Minute) -> Examination
+        requires monday { IsBase monday }
+        requires early { monday ≤ latest }
+        ensures monday { result.monday ≡ monday }
+        ensures minute { result.minute ≡ monday }
+        ensures none { (spans : List SpanValue) → IsExaminationOf result spans }
+    {
+        Examination {
+            monday,
+            minute: monday,
+            scan: Scan::new(monday),
+            found: Found::empty(alloc),
+        }
+    }
+
+    /// Examines the rest of a span, from the minute where it stands. The span gives that minute, without a second driver.
+    pub(crate) fn go_on(self, span: &Span) -> Result<Examination, AllocError>
+        requires rest { self.minute < span.now.past }
+        requires within { span.now.past ≤ latest }
+        ensures monday { IfOk result (λ examination. examination.monday ≡ self.monday) }
+        ensures minute { IfOk result (λ examination. examination.minute ≡ span.now.past) }
+        ensures taken { IfOk result (λ examination. (spans : List SpanValue) → IsExaminationOf self spans
+            → EndsBy spans self.minute → span.now.start ≤ self.minute → span.now.mark.crew ≡ false
+            → IsExaminationOf examination (spans ++ span.now ∷ [])) }
+    {
+        let mut scan = self.scan;
+        let mut found = self.found;
+        let rest = Span {
+            start: self.minute,
+            past: span.past,
+            mark: span.mark,
+        };
+        scan.feed(rest, &mut found)?;
+        Ok(Examination {
+            monday: self.monday,
+            minute: span.past,
+            scan,
+            found,
+        })
+    }
+
+    /// Ends where it stands, for this cause.
+    pub(crate) fn end(self, cause: Cause) -> Result<Examined, AllocError>
+        ensures monday { IfOk result (λ examined. examined.monday ≡ self.monday) }
+        ensures minute { IfOk result (λ examined. examined.report.horizon.minute ≡ self.minute) }
+        ensures report { IfOk result (λ examined. (spans : List SpanValue) → IsExaminationOf self spans
+            → IsCause (mark_at spans self.minute) cause → IsReportOf examined spans) }
+    {
+        let horizon = Horizon {
+            minute: self.minute,
+            cause,
+        };
+        let report = self.scan.finish(horizon, self.found)?;
+        Ok(Examined {
+            monday: self.monday,
+            report,
+        })
+    }
+}
