@@ -9,4 +9,10 @@ pub mod StayingDaysLemmas
 pub mod StayingWeeksLemmas
 pub mod StayingChoiceLemmas
 pub mod StayingReportLemmas
+pub mod FiniteLemmas
+pub mod RunsExistLemmas
+pub mod HoursExistLemmas
+pub mod DebtsExistLemmas
+pub mod ChoicesExistLemmas
+pub mod ReportExistLemmas
 pub mod PageFacts

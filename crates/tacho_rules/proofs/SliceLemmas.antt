@@ -68,7 +68,7 @@ single_from (s ∷ spans) c single (suc k) d within =
     single_from spans c.2 (λ m mark g. single m mark (inr g)) k d (omega arith)
 
 -- a held minute is before the end of a span
-before_end : (held : List Span) (last m : ℕ)
+pub before_end : (held : List Span) (last m : ℕ)
     → All (λ (s : Span). s.past ≤ last) held → IsSingle (mark_at held m) → m < last
 before_end [] last m ended single = absurd single
 before_end (s ∷ held) last m ended single = elim (cases_lt m s.past) [

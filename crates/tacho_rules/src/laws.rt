@@ -9,6 +9,7 @@ ghost use Rattle.tacho_hours.specs.declared.breach.Breach.{Breach as BreachValue
 ghost use Rattle.tacho_hours.specs.declared.breach.Kind.TheVariants.{B10};
 ghost use Rattle.tacho_hours.specs.declared.debt.Debt.{Debt as DebtValue};
 ghost use Rattle.tacho_hours.specs.Limits.{latest};
+ghost use Rattle.tacho_hours.specs.Line.{IsBase};
 ghost use Rattle.tacho_hours.specs.Order.{Agree};
 ghost use Rattle.tacho_rules.specs.Report.{IsReport, examined};
 
@@ -22,6 +23,13 @@ pub fn one_report()
         (debts owed : List DebtValue)
         → IsReport held base horizon found debts → IsReport held base other others owed
         → (horizon ≡ other) × (found ≡ others) × (debts ≡ owed) }
+{}
+
+/// What is held has a report from each base.
+pub fn each_line_has_a_report()
+    ensures { (held : List Stretch) (base : ℕ) → All (λ span. span.past ≤ latest) held → IsBase base → base ≤ latest
+        → (horizon : HorizonValue) × (found : List BreachValue) × (debts : List DebtValue)
+        × IsReport held base horizon found debts }
 {}
 
 /// A report is told by the mark of each minute: other spans that hold the same marks have it too.
