@@ -37,7 +37,7 @@ no_later line base e f is is' = go is.last where
   ]
 
 -- there is one end of what is held
-one_end : (line : List Span) (base e f : ℕ) → IsEndOfHeld line base e → IsEndOfHeld line base f → e ≡ f
+pub one_end : (line : List Span) (base e f : ℕ) → IsEndOfHeld line base e → IsEndOfHeld line base f → e ≡ f
 one_end line base e f is is' =
     let a = no_later line base e f is is' in
     let b = no_later line base f e is' is in

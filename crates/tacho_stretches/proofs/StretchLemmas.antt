@@ -15,7 +15,7 @@ use Rattle.tacho_stretches.specs.Start.{IsStart, IsNextStart, IsEndOfHeld}
 use Rattle.tacho_stretches.specs.Stretches.{Judged, judged, first_monday, unseen_to, IsStretch, AreAll, AreStretches}
 
 -- a single minute is before the end of a span
-before_end : (held : List Span) (last m : ℕ) → All (λ (s : Span). s.past ≤ last) held → IsSingle (mark_at held m) → m < last
+pub before_end : (held : List Span) (last m : ℕ) → All (λ (s : Span). s.past ≤ last) held → IsSingle (mark_at held m) → m < last
 before_end [] last m ended single = absurd single
 before_end (s ∷ held) last m ended single = elim (cases_lt m s.past) [
   | inl lt ↦ let e : s.past ≤ last = ended 0 s (omega arith) in omega arith

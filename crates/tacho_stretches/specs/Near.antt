@@ -1,4 +1,4 @@
--- Private to tacho_stretches: What lines that agree up to a horizon have in common.
+-- Trusted: What lines that agree up to a horizon have in common.
 use Rattle.std.specs.Prelude.{◌≡◌, List, ◌∷◌, ◌++◌}
 use Rattle.tacho_stretches.specs.Stretches.{Judged}
 

@@ -1,4 +1,4 @@
--- Private to tacho_stretches: The minutes that stretches examine, and those that they don't.
+-- Trusted: The minutes that stretches examine, and those that they don't.
 use Rattle.std.specs.Prelude.{◌≡◌, ℕ, ◌≤◌, ◌&&◌, nat_le, nat_lt, count_by, List, [], ◌∷◌, ◌++◌, Bool, true, false, Option, None, Some}
 use Rattle.tacho_stretches.specs.Stretches.{Judged}
 

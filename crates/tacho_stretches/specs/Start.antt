@@ -1,4 +1,4 @@
--- Private to tacho_stretches: Where the examination of a timeline can begin anew, and where what is held ends.
+-- Trusted: Where the examination of a timeline can begin anew, and where what is held ends.
 use Rattle.std.specs.Prelude.{◌≡◌, ℕ, ◌+◌, ◌<◌, ◌≤◌, ◌⊎◌, List, Option, None, Some}
 use Rattle.tacho_time.specs.declared.span.Mark.{Mark}
 use Rattle.tacho_time.specs.declared.span.Span.{Span}

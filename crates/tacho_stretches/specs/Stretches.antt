@@ -1,4 +1,4 @@
--- Private to tacho_stretches: The stretches of a timeline: the report from the base, and after each horizon the report from the
+-- Trusted: The stretches of a timeline: the report from the base, and after each horizon the report from the
 -- next Monday whose first minute is held without a second driver.
 use Rattle.std.specs.Prelude.{◌≡◌, ℕ, nat_lt, List, [], ◌∷◌, Option, None, Some, if◌then◌else◌}
 use Rattle.tacho_time.specs.declared.span.Span.{Span}

@@ -1,8 +1,10 @@
 //! Laws about stretches. A law is a function without a body: what it ensures is proved, and holds for all that it names.
 
-ghost use Rattle.std.specs.Prelude.{◌≡◌, ◌<◌, ◌≤◌, ℕ, List, ◌∷◌, ◌++◌};
+ghost use Rattle.std.specs.Prelude.{◌≡◌, ◌<◌, ◌≤◌, ℕ, List, ◌∷◌, ◌++◌, All};
 ghost use Rattle.tacho_time.specs.declared.span.Span.{Span};
 ghost use Rattle.tacho_line.specs.Line.{IsWithin, mark_at};
+ghost use Rattle.tacho_hours.specs.Limits.{latest};
+ghost use Rattle.tacho_hours.specs.Line.{IsBase};
 ghost use Rattle.tacho_rules.specs.Report.{IsReport};
 ghost use Rattle.tacho_stretches.specs.Start.{IsEndOfHeld};
 ghost use Rattle.tacho_stretches.specs.Stretches.{Judged, AreStretches};
@@ -13,6 +15,12 @@ ghost use Rattle.tacho_stretches.specs.Ranges.{parts, FollowOn, times_in};
 pub fn one_list_of_stretches()
     ensures { (line : List Span) (base : ℕ) (stretches others : List Judged)
         → AreStretches line base stretches → AreStretches line base others → stretches ≡ others }
+{}
+
+/// A line has a list of stretches from each base.
+pub fn each_line_has_stretches()
+    ensures { (line : List Span) (base : ℕ) → All (λ span. span.past ≤ latest) line → IsBase base → base ≤ latest
+        → (stretches : List Judged) × AreStretches line base stretches }
 {}
 
 /// The first stretch is the report from the base on.
