@@ -19,4 +19,5 @@ mod SummaryLemmas
 mod ReportLemmas
 pub mod LineWithinLemmas
 mod TakenLemmas
+mod StretchingLemmas
 mod BegunLemmas

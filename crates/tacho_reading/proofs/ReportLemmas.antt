@@ -260,7 +260,7 @@ module _ (held : List Span) (base : ℕ) (h : Horizon) (taken others : List Span
 -- ---- the driver's rows
 
 -- from the base on his rows that end behind it give what all his rows give
-behind_gives : (n base m : ℕ) (k : Mark) (rows : List SpanRow) → base ≤ m
+pub behind_gives : (n base m : ℕ) (k : Mark) (rows : List SpanRow) → base ≤ m
     → Gives (map row_span (filter (is_behind n base) rows)) m k ↔ Gives (spans_of n rows) m k
 behind_gives n base m k [] le = (λ g. g, λ g. g)
 behind_gives n base m k (r ∷ rows) le = go (r.driver == n) (nat_lt base r.past) refl

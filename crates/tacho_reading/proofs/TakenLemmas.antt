@@ -157,11 +157,11 @@ HasGivenNext g old new spans = (sql : List ℕ) (params : Row) (given : List Row
 
 module _ {S : Type 0} (g : Ghosts S) (old : Held S) where
   -- no row was given yet
-  given_none : HasGivenNext g old old []
+  pub given_none : HasGivenNext g old old []
   given_none sql params given it = ([], tt, subst (HasGiven g sql params old) (sym (append-nil given)) it)
 
   -- one more
-  given_more : (mid new : Held S) (spans : List StoredSpan) (s : StoredSpan) → HasGivenNext g old mid spans
+  pub given_more : (mid new : Held S) (spans : List StoredSpan) (s : StoredSpan) → HasGivenNext g old mid spans
       → GivesNext g mid new (Some s)
       → HasGivenNext g old new (spans ++ s ∷ [])
   given_more mid new spans s h (row, tells, moves) sql params given it =
@@ -357,7 +357,7 @@ tail_is : {A : Type 0} {x y : A} {xs ys : List A} → x ∷ xs ≡ y ∷ ys → 
 tail_is e = cc
 
 -- a row that shows a span tells it
-told_row : (r : Row) (s : StoredSpan) (x : SpanRow) → Tells r s → r ≡ span_shown x → s ≡ span_of x
+pub told_row : (r : Row) (s : StoredSpan) (x : SpanRow) → Tells r s → r ≡ span_shown x → s ≡ span_of x
 told_row r s x t e =
     let start = same_number s.start x.start (sym t.start ∙ ap (λ (z : Row). column z 0) e) in
     let past = same_number s.past x.past (sym t.past ∙ ap (λ (z : Row). column z 1) e) in
@@ -369,7 +369,7 @@ told_row r s x t e =
       same_number a b e = cc
 
 -- rows that tell spans, and others, are those of driver's rows
-told_split : (rows tail : List Row) (spans : List StoredSpan) (shown : List SpanRow) → AreTold rows spans
+pub told_split : (rows tail : List Row) (spans : List StoredSpan) (shown : List SpanRow) → AreTold rows spans
     → rows ++ tail ≡ map span_shown shown
     → (taken : List SpanRow) × (others : List SpanRow) × (shown ≡ taken ++ others) × (spans ≡ map span_of taken) ×
     (tail ≡ map span_shown others)

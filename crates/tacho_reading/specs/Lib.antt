@@ -6,3 +6,4 @@ pub mod Apart
 pub mod Taken
 pub mod Begun
 pub mod Calls
+pub mod Stretching

@@ -9,5 +9,6 @@ pub mod laws;
 pub mod near;
 pub mod reading;
 pub mod spans;
+mod stretching;
 
 pub use feeding::feed_rows;

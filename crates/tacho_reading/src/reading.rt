@@ -6,7 +6,8 @@ ghost use Rattle.tacho_hours.specs.Limits.{latest};
 ghost use Rattle.tacho_hours.specs.Line.{IsBase};
 ghost use Rattle.tacho_state.specs.State.{State};
 ghost use Rattle.tacho_state.specs.Steps.{owner, named, lined, listed, downloaded, reported};
-ghost use Rattle.tacho_state.specs.Reported.{IsHeldWithin, IsReportOf};
+ghost use Rattle.tacho_state.specs.Reported.{AreStretchesOf, IsHeldWithin, IsReportOf};
+ghost use Rattle.tacho_stretches.specs.Stretches.{judged};
 ghost use Rattle.tacho_state.specs.Summaries.{AreSummaries, told_summary};
 ghost use Rattle.tacho_state.specs.Acts.{Answers};
 ghost use Rattle.tacho_reading.specs.Calls.{Tells};
@@ -18,12 +19,14 @@ use crate::feeding::feed_held;
 use crate::finding::driver_with;
 use crate::near::{first_start, rows_near};
 use crate::spans::{line_of_stored, listed_entries, summaries_of};
+use crate::stretching::take_held;
 use sqlite::{Alter, Connection, Transaction};
 use std::alloc::Global;
 use tacho_line::Line;
 use tacho_pass::Found;
 use tacho_rules::{Report, Scan};
 use tacho_state::{DriverSummary, Entry, StoreFault, base_of};
+use tacho_stretches::{Stretch, StretchPass};
 use tacho_tables::{SpanTable, downloads, drivers, entries, held, opening, spans};
 use tacho_time::Minute;
 
@@ -308,4 +311,21 @@ pub fn report<S: Alter>(
     let mut found = Found::empty(alloc);
     let horizon = feed_held(conn, driver, start, base, &mut scan, &mut found)?;
     Ok(scan.finish(horizon, found)?)
+}
+
+/// The stretches of a driver from their base on: S4. Their rows are read one at a time, each once, from the base on.
+pub fn stretches<S: Alter>(
+    alloc: Global,
+    conn: &mut Connection<S>,
+    driver: u32,
+) -> Result<Vec<Stretch>, StoreFault>
+    requires { conn.old.in_transaction ≡ false }
+    ensures autocommit { conn.new.in_transaction ≡ false }
+    ensures reads { ReadsOn S.Store (λ _. tt) conn.old conn.new result (reported driver) }
+    ensures stretches { HasCleanDisk (state S.Store conn.new) → (s : State) → SeesWhileOpen (state S.Store conn.old) s
+        → IfOk result (λ found. AreStretchesOf driver s (map judged found.items)) }
+{
+    let Beginning { base, start } = begin(conn, driver)?;
+    let pass = take_held(conn, driver, start, StretchPass::new(alloc, base))?;
+    Ok(pass.finish()?)
 }

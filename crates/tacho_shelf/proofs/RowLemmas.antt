@@ -24,7 +24,8 @@ use Rattle.tacho_state.specs.Disjoint.{Keeps}
 use Rattle.tacho_state.specs.State.{Download, Entry, Driver, State, driver_of, Held, given_spans, entered_spans, held_spans, held_mark, download_from}
 use Rattle.tacho_state.specs.Steps.{told_of, lined, reported}
 use Rattle.tacho_state.specs.Acts.{Answers}
-use Rattle.tacho_state.specs.Reported.{IsHeldWithin, IsReportOf}
+use Rattle.tacho_state.specs.Reported.{AreStretchesOf, IsHeldWithin, IsReportOf}
+use Rattle.tacho_stretches.specs.Stretches.{AreStretches, Judged}
 use Rattle.tacho_rules.specs.declared.report.Report.{Report}
 use Rattle.tacho_rules.specs.Report.{IsReport}
 use Rattle.tacho_state.proofs.DisjointLemmas.{disjoint_canonical}
@@ -88,12 +89,17 @@ report_at n s d report e r =
     subst (λ (o : Option Driver). IfSome o (λ x. IsReport (held_spans x) (1440 * x.base) report.horizon report.breaches.items report.debts.items))
     (sym e) r
 
+-- and so are the stretches
+pub stretches_at : (n : ℕ) (s : State) (d : Driver) (found : List Judged) → driver_of n s ≡ Some d
+    → AreStretches (held_spans d) (1440 * d.base) found → AreStretchesOf n s found
+stretches_at n s d found e is = subst (λ (o : Option Driver). IfSome o (λ x. AreStretches (held_spans x) (1440 * x.base) found)) (sym e) is
+
 -- whoever is there is reported on, or the call gave up
-pub reported_at : (n : ℕ) (s : State) (d : Driver) (r : Result Report StoreFault) → driver_of n s ≡ Some d
+pub reported_at : {A : Type 0} (n : ℕ) (s : State) (d : Driver) (r : Result A StoreFault) → driver_of n s ≡ Some d
     → IfErr r (λ f. (f ≡ Memory) ⊎ (f ≡ Store)) → Answers (λ _. tt) r (reported n s)
 reported_at n s d (Ok report) e up = ap (told_of (λ d. Ok tt)) e
-reported_at n s d (Err f) e (inl is) = subst (λ (g : StoreFault). Answers {A = Report} (λ _. tt) (Err g) (reported n s)) (sym is) tt
-reported_at n s d (Err f) e (inr is) = subst (λ (g : StoreFault). Answers {A = Report} (λ _. tt) (Err g) (reported n s)) (sym is) tt
+reported_at {A = A} n s d (Err f) e (inl is) = subst (λ (g : StoreFault). Answers {A = A} (λ _. tt) (Err g) (reported n s)) (sym is) tt
+reported_at {A = A} n s d (Err f) e (inr is) = subst (λ (g : StoreFault). Answers {A = A} (λ _. tt) (Err g) (reported n s)) (sym is) tt
 
 -- what gives no minute two marks has no first such minute
 pub no_conflict : (P : ℕ → Mark → Type 0) (fault : SpanFault) → ((m : ℕ) → ¬ (Conflicts P m)) → IsFirstFault P fault → fault ≡ SpanMemory

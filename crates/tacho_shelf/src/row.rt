@@ -14,8 +14,9 @@ use tacho_line::{Line, LineFault};
 use tacho_rules::Report;
 use tacho_state::{
     Driver, DriverSummary, Entered, Entry, EntryLine, Imported, StoreFault, first_number, line_of,
-    report_of,
+    report_of, stretches_of,
 };
+use tacho_stretches::Stretch;
 use tacho_time::{Day, Span, SpanFault};
 
 /// A card file that was accepted, and what it gives.
@@ -72,11 +73,12 @@ impl Model for Row {
 }
 
 impl Row {
-    ghost use Rattle.std.specs.Prelude.{◌≡◌, ◌⊎◌, ◌*◌, ◌<◌, ℕ, List, ◌++◌, length, All, None, Ok, Err, bytes_eq, string_bytes, IfOk, IfErr, OnOk, OnSome, OnErr, MatchResult};
+    ghost use Rattle.std.specs.Prelude.{◌≡◌, ◌⊎◌, ◌*◌, ◌<◌, ℕ, List, ◌++◌, length, All, None, Ok, Err, bytes_eq, string_bytes, IfOk, IfErr, OnOk, OnSome, OnErr, MatchResult, map};
     ghost use Rattle.std.specs.Option.{option_copied};
     ghost use Rattle.tacho_time.specs.Spans.{Gives, IsCanonical, IsCanonicalOf, Conflicts};
     ghost use Rattle.tacho_line.specs.Line.{first_empty};
     ghost use Rattle.tacho_rules.specs.Report.{IsReport};
+    ghost use Rattle.tacho_stretches.specs.Stretches.{AreStretches, judged};
     ghost use Rattle.tacho_state.specs.Batch.{IsEntryLine, batch_of};
     ghost use Rattle.tacho_state.specs.Least.{least_conflict, is_within};
     ghost use Rattle.tacho_state.specs.State.{Given, Held, AreFull, given_spans, held_spans, download_from, with_batch};
@@ -154,6 +156,17 @@ impl Row {
             return Err(StoreFault::Memory);
         };
         report_of(alloc, &line, self.base.number())
+    }
+
+    /// The stretches of what they hold, from their base on.
+    pub(crate) fn stretches(&self, alloc: Global) -> Result<Vec<Stretch>, StoreFault>
+        ensures stretches { IfOk result (λ found. AreStretches (held_spans self.now) (1440 * self.now.base) (map judged found.items)) }
+        ensures fault { IfErr result (λ fault. OrMemory StoreFault.Memory fault (fault ≡ StoreFault.Store)) }
+    {
+        let Ok(line) = self.line(alloc) else {
+            return Err(StoreFault::Memory);
+        };
+        stretches_of(alloc, &line, self.base.number())
     }
 
     /// A copy of his name.

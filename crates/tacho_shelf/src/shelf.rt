@@ -6,7 +6,8 @@ ghost use Rattle.tacho_state.specs.State.{driver_of, holding};
 ghost use Rattle.tacho_state.specs.Content.{FileTells, part_number};
 ghost use Rattle.tacho_state.specs.Batch.{IsBatch, batch_of};
 ghost use Rattle.tacho_state.specs.Steps.{Content, registered, imported, entered, withdrawn, rebased, refused, owner, named, lined, listed, downloaded, reported};
-ghost use Rattle.tacho_state.specs.Reported.{IsHeldWithin, IsReportOf};
+ghost use Rattle.tacho_state.specs.Reported.{AreStretchesOf, IsHeldWithin, IsReportOf};
+ghost use Rattle.tacho_stretches.specs.Stretches.{judged};
 ghost use Rattle.tacho_state.specs.Summaries.{AreSummaries, told_summary};
 ghost use Rattle.tacho_state.specs.Acts.{Answers, caller_number};
 ghost use Rattle.tacho_shelf.specs.Shelf.{Turns, IsOwnerAt, known, known_by, owner_of, new_driver};
@@ -21,6 +22,7 @@ use tacho_rules::Report;
 use tacho_state::{
     Caller, Driver, DriverSummary, Entered, Entry, EntryLine, Imported, Keeper, StoreFault,
 };
+use tacho_stretches::Stretch;
 use tacho_time::{Day, Minute};
 
 /// An archive in memory. No two of its drivers have one number.
@@ -246,6 +248,17 @@ impl Shelf {
         self.drivers[place].report(alloc)
     }
 
+    /// The stretches of a driver from their base on: S4.
+    fn stretches_of(&self, alloc: Global, driver: u32) -> Result<Vec<Stretch>, StoreFault>
+        ensures answer { Answers (λ _. tt) result (reported driver self.now) }
+        ensures stretches { IfOk result (λ found. AreStretchesOf driver self.now (map judged found.items)) }
+    {
+        let Some(place) = place_of(&self.drivers, driver) else {
+            return Err(StoreFault::UnknownDriver);
+        };
+        self.drivers[place].stretches(alloc)
+    }
+
     /// The place of the driver whose card it is: of him who has the holder, or of the caller, if he
     /// has it: S4, S5.
     fn owner(&self, caller: Caller, holder: &[u8]) -> Result<usize, StoreFault>
@@ -392,5 +405,9 @@ impl Keeper for Shelf {
 
     fn report(&mut self, alloc: Global, driver: u32) -> Result<Report, StoreFault> {
         self.report_of(alloc, driver)
+    }
+
+    fn stretches(&mut self, alloc: Global, driver: u32) -> Result<Vec<Stretch>, StoreFault> {
+        self.stretches_of(alloc, driver)
     }
 }

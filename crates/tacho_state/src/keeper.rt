@@ -3,7 +3,8 @@ ghost use Rattle.tacho_line.specs.Line.{mark_at};
 ghost use Rattle.tacho_card.specs.declared.fault.CardFault.{CardFault};
 ghost use Rattle.tacho_state.specs.State.{State};
 ghost use Rattle.tacho_state.specs.Steps.{Content, registered, imported, entered, withdrawn, rebased, owner, named, lined, listed, downloaded, reported};
-ghost use Rattle.tacho_state.specs.Reported.{IsHeldWithin, IsReportOf};
+ghost use Rattle.tacho_state.specs.Reported.{AreStretchesOf, IsHeldWithin, IsReportOf};
+ghost use Rattle.tacho_stretches.specs.Stretches.{judged};
 ghost use Rattle.tacho_state.specs.Batch.{IsBatch, batch_of};
 ghost use Rattle.tacho_state.specs.Registration.{IsReadDay};
 ghost use Rattle.tacho_state.specs.Content.{FileTells, part_number};
@@ -22,6 +23,7 @@ use std::alloc::Global;
 use tacho_card::Part;
 use tacho_line::Line;
 use tacho_rules::Report;
+use tacho_stretches::Stretch;
 use tacho_time::{Day, Minute};
 
 /// An archive, however it is kept. Each call is a step of its state (`Acts`) or reads it (`Reads`).
@@ -136,4 +138,11 @@ pub trait Keeper {
     fn report(&mut self, alloc: Global, driver: u32) -> Result<Report, StoreFault>
         ensures reads { Reads stands is_clean is_live leaves is_same (λ _. tt) self.old self.new result (reported driver) }
         ensures report { is_clean self.new → (s : State) → stands self.old s → IfOk result (IsReportOf driver s) };
+
+    /// The stretches of the timeline of a driver: what the rules say of it from their base on, and after each horizon from the
+    /// next Monday whose first minute is held without a second driver: S4.
+    fn stretches(&mut self, alloc: Global, driver: u32) -> Result<Vec<Stretch>, StoreFault>
+        ensures reads { Reads stands is_clean is_live leaves is_same (λ _. tt) self.old self.new result (reported driver) }
+        ensures stretches { is_clean self.new → (s : State) → stands self.old s
+            → IfOk result (λ stretches. AreStretchesOf driver s (map judged stretches.items)) };
 }

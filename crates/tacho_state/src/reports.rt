@@ -1,8 +1,9 @@
-ghost use Rattle.std.specs.Prelude.{◌≡◌, ◌⊎◌, ◌*◌, ◌<◌, ◌≤◌, false, IfOk, IfErr, IfSome, IsNone};
+ghost use Rattle.std.specs.Prelude.{◌≡◌, ◌⊎◌, ◌*◌, ◌<◌, ◌≤◌, false, IfOk, IfErr, IfSome, IsNone, map};
 ghost use Rattle.tacho_time.specs.OrMemory.{OrMemory};
 ghost use Rattle.tacho_hours.specs.Line.{IsBase};
 ghost use Rattle.tacho_hours.specs.Limits.{latest};
 ghost use Rattle.tacho_rules.specs.Report.{IsReport};
+ghost use Rattle.tacho_stretches.specs.Stretches.{AreStretches, judged};
 ghost use Rattle.tacho_state.specs.Steps.{is_monday};
 ghost use Rattle.tacho_state.specs.Reported.{IsNoBase, IsOutOfLimits};
 
@@ -10,6 +11,7 @@ use crate::fault::StoreFault;
 use std::alloc::Global;
 use tacho_line::Line;
 use tacho_rules::{Report, can_be_examined, examine};
+use tacho_stretches::{Stretch, stretches};
 use tacho_time::Minute;
 
 /// The first minute of a day, where it is a Monday from 2000-01-03 to the end of 2099.
@@ -36,4 +38,18 @@ pub fn report_of(alloc: Global, line: &Line, base: u32) -> Result<Report, StoreF
         return Err(StoreFault::Store);
     }
     Ok(examine(alloc, line, first)?)
+}
+
+/// The stretches of a line from the first minute of a day on. S12 as for `report_of`.
+pub fn stretches_of(alloc: Global, line: &Line, base: u32) -> Result<Vec<Stretch>, StoreFault>
+    ensures stretches { IfOk result (λ found. AreStretches line.now (1440 * base) (map judged found.items)) }
+    ensures fault { IfErr result (λ fault. OrMemory StoreFault.Memory fault ((fault ≡ StoreFault.Store) × IsOutOfLimits line.now base)) }
+{
+    let Some(first) = base_of(base) else {
+        return Err(StoreFault::Store);
+    };
+    if !can_be_examined(line, first) {
+        return Err(StoreFault::Store);
+    }
+    Ok(stretches(alloc, line, first)?)
 }

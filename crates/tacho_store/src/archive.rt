@@ -16,11 +16,14 @@ use std::alloc::Global;
 use tacho_card::Part;
 use tacho_line::Line;
 use tacho_reading::fault::store_fault;
-use tacho_reading::reading::{download, drivers, entries, line, line_within, name, report, who};
+use tacho_reading::reading::{
+    download, drivers, entries, line, line_within, name, report, stretches, who,
+};
 use tacho_rules::Report;
 use tacho_state::{
     Caller, Driver, DriverSummary, Entered, Entry, EntryLine, Imported, Keeper, StoreFault,
 };
+use tacho_stretches::Stretch;
 use tacho_tables::{making, opening};
 use tacho_time::{Day, Minute};
 
@@ -289,6 +292,10 @@ impl<S: Alter> Keeper for Archive<S> {
 
     fn report(&mut self, alloc: Global, driver: u32) -> Result<Report, StoreFault> {
         report(alloc, &mut self.conn, driver)
+    }
+
+    fn stretches(&mut self, alloc: Global, driver: u32) -> Result<Vec<Stretch>, StoreFault> {
+        stretches(alloc, &mut self.conn, driver)
     }
 }
 

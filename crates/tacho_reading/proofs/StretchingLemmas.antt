@@ -1,0 +1,172 @@
+-- What a pass over stretches takes of a driver's rows, and what it finds of them.
+use Rattle.std.proofs.Common.{◌≡◌, ◌∙◌, ◌↔◌, inl, inr, ℕ, ◌*◌, ◌<◌, ◌≤◌, Bool, true, false, cond, List, [], ◌∷◌, ◌++◌, map, filter, Option, None, Some, pos, Result, Ok, Err, IfOk, refl, sym, ap, subst, append-nil, append_assoc}
+use Rattle.std.specs.Prelude.{IfSome}
+use Rattle.std.specs.List.Sorted.{IsPermutation}
+use Rattle.std.proofs.lemmas.List.{map-append}
+use Rattle.std.proofs.lemmas.List.Sorted.{IsPermutation-sym, IsPermutation-map}
+use Rattle.sqlite.specs.Given.{HasGiven}
+use Rattle.sqlite.specs.Held.{Held, state}
+use Rattle.sqlite.specs.declared.types.Value.TheVariants.{Int}
+use Rattle.sqlite.specs.Effect.{Database}
+use Rattle.sqlite.specs.State.{HasCleanDisk, IsUnchanged}
+use Rattle.sqlite.specs.Store.{Ghosts}
+use Rattle.sqlite.specs.Tree.{Trees}
+use Rattle.sqlite_trees.proofs.ListLemmas.{map-map}
+use Rattle.tacho_time.specs.declared.span.Mark.{Mark}
+use Rattle.tacho_time.specs.declared.span.Span.{Span}
+use Rattle.tacho_time.specs.Spans.{Gives}
+use Rattle.std.proofs.Common.{arith}
+use Rattle.std.proofs.lemmas.Bool.Decides.{nat_tests}
+use Rattle.tacho_line.specs.Line.{covers, mark_at}
+use Rattle.tacho_line.proofs.LineLemmas.{held_given}
+use Rattle.tacho_stretches.specs.Pass.{IsPassOf}
+use Rattle.tacho_stretches.specs.Stretches.{Judged, AreStretches}
+use Rattle.tacho_stretches.specs.declared.pass.StretchPass.{StretchPass}
+use Rattle.tacho_stretches.proofs.MarkLemmas.{by_marks}
+use Rattle.tacho_state.specs.State.{Driver, State, held_spans}
+use Rattle.tacho_state.specs.Reported.{AreStretchesOf}
+use Rattle.tacho_state.specs.declared.fault.StoreFault.{StoreFault}
+use Rattle.tacho_state.proofs.MapLemmas.{held_map}
+use Rattle.tacho_tables.specs.declared.rows.StoredSpan.{StoredSpan}
+use Rattle.tacho_tables.specs.Next.{GivesNext, onward_text}
+use Rattle.tacho_tables.specs.Rows.{AreRowsOf, SpanRow, span_columns}
+use Rattle.tacho_tables.specs.Tables.{Tables, HasTables, IsArchive, span_of, span_shown}
+use Rattle.tacho_tables.proofs.NextLemmas.{shown_onward}
+use Rattle.tacho_reading.specs.declared.reading.Beginning.{Beginning}
+use Rattle.tacho_reading.specs.Begun.{is_behind, IsBegun}
+use Rattle.tacho_reading.specs.Standing.{StandsFor, row_span, stored_span, spans_of}
+use Rattle.tacho_reading.specs.Stretching.{HasTakenOn, HasTakenRows, HasTakenHeld}
+use Rattle.tacho_reading.proofs.NearRowLemmas.{permuted_gives, held_kept}
+use Rattle.tacho_reading.proofs.ReportLemmas.{behind_gives}
+use Rattle.tacho_reading.proofs.TakenLemmas.{HasGivenNext, IsSteady, given_none, given_more, steady_self, steady_then, told_split}
+
+-- ---- the loop
+
+-- nothing was taken yet
+taken_on_none : (pass : StretchPass) → HasTakenOn pass pass []
+taken_on_none pass = record { fed = λ base before is. subst (IsPassOf pass base) (sym (append-nil before)) is }
+
+-- spans, and then others
+taken_on_then : (was mid pass : StretchPass) (xs ys : List Span) → HasTakenOn was mid xs → HasTakenOn mid pass ys
+    → HasTakenOn was pass (xs ++ ys)
+taken_on_then was mid pass xs ys h k = record {
+  fed = λ base before is. subst (IsPassOf pass base) (append_assoc before xs ys) (k.fed base (before ++ xs) (h.fed base before is));
+}
+
+-- the rows so far were taken
+pub record IsTaking {S : Type 0} (g : Ghosts S) (old now : Held S) (was pass : StretchPass) : Type 0 where
+  pub spans : List StoredSpan
+  pub taken : HasTakenOn was pass (map stored_span spans)
+  pub given : HasCleanDisk (state g now) → IsSteady (state g old) (state g now) × HasGivenNext g old now spans
+
+pub taking_none : {S : Type 0} (g : Ghosts S) (old : Held S) (pass : StretchPass) → IsTaking g old old pass pass
+taking_none g old pass = record {
+  spans = [];
+  taken = taken_on_none pass;
+  given = λ clean. (steady_self (state g old), given_none g old);
+}
+
+module _ {S : Type 0} (g : Ghosts S) (old mid new : Held S) (was pass : StretchPass) (h : IsTaking g old mid was pass)
+    (early : HasCleanDisk (state g new) → HasCleanDisk (state g mid))
+    (same : HasCleanDisk (state g new) → IsUnchanged (state g mid) (state g new)) where
+  -- the connection is steady
+  pub taking_steady : HasCleanDisk (state g new) → IsSteady (state g old) (state g new)
+  taking_steady clean = steady_then (state g old) (state g mid) (state g new) (h.given (early clean)).0 (same clean)
+
+  -- one more
+  pub taking_more : (row : StoredSpan) (next : StretchPass) → (HasCleanDisk (state g new) → GivesNext g mid new (Some row))
+      → HasTakenOn pass next (stored_span row ∷ []) → IsTaking g old new was next
+  taking_more row next gives took = record {
+    spans = h.spans ++ row ∷ [];
+    taken = subst (HasTakenOn was next) (sym (map-append stored_span h.spans (row ∷ [])))
+        (taken_on_then was pass next (map stored_span h.spans) (stored_span row ∷ []) h.taken took);
+    given = λ clean. (taking_steady clean, given_more g old mid new h.spans row (h.given (early clean)).1 (gives clean));
+  }
+
+  -- no more rows
+  pub taking_ended : GivesNext g mid new None → HasCleanDisk (state g new) → HasTakenRows g old new was pass
+  taking_ended moves clean = record {
+    spans = h.spans;
+    taken = h.taken;
+    ended = λ sql params given it.
+        let before = (h.given (early clean)).1 sql params given it in
+        (before.0, before.1, mid, (h.given (early clean)).0.now_is, moves sql params (given ++ before.0) before.2);
+  }
+
+-- ---- a driver's rows
+
+module _ {S : Type 0} (g : Ghosts S) (driver start : ℕ) (all : List SpanRow) (old new : Held S) (was : StretchPass)
+    (archive : IsArchive (state g old).now) (stands : AreRowsOf span_columns ((state g old).now.trees 10) all)
+    (given : HasGiven g onward_text (Int (pos driver) ∷ Int (pos start) ∷ []) old []) where
+  -- a pass that took the rows of the query took the driver's
+  took_held : (pass : StretchPass) → HasTakenRows g old new was pass → HasTakenHeld driver start all was pass
+  took_held pass t =
+      let it = t.ended onward_text (Int (pos driver) ∷ Int (pos start) ∷ []) [] given in
+      let whole = shown_onward driver start all (state g it.2) (state g new) it.0
+      (subst IsArchive (sym it.3) archive) it.4
+      (subst (λ (d : Database). AreRowsOf span_columns (d.trees 10) all) (sym it.3) stands) in
+      let split = told_split it.0 [] t.spans whole.0 it.1 (append-nil it.0 ∙ whole.1) in
+      let same : split.0 ≡ whole.0 = none_left split.0 split.1 whole.0 split.2 split.4 in
+      record {
+        onward = whole.0;
+        are_onward = whole.2;
+        taken = subst (HasTakenOn was pass)
+            (ap (map stored_span) split.3 ∙ map-map stored_span span_of split.0 ∙ ap (map row_span) same) t.taken;
+      } where
+        none_left : (taken others shown : List SpanRow) → shown ≡ taken ++ others → [] ≡ map span_shown others → taken ≡ shown
+        none_left taken [] shown e none = sym (e ∙ append-nil taken)
+        none_left taken (x ∷ others) shown e none = absurd (let wrong = none in cc)
+
+  -- where it did
+  pub took_all : (r : Result StretchPass StoreFault) → IfOk r (HasTakenRows g old new was) → IfOk r (HasTakenHeld driver start all was)
+  took_all (Ok pass) t = took_held pass t
+  took_all (Err e) t = tt
+
+-- ---- the stretches of what a driver holds
+
+-- a span of a line that gives a minute a mark, gives it one
+given_some : (line : List Span) (m : ℕ) (k : Mark) → Gives line m k → (j : Mark) × (mark_at line m ≡ Some j)
+given_some [] m k g = absurd g
+given_some (s ∷ line) m k g = go (covers s m) refl g (given_some line m k) where
+  go : (b : Bool) → covers s m ≡ b → Gives (s ∷ line) m k → (Gives line m k → (j : Mark) × (mark_at line m ≡ Some j))
+      → (j : Mark) × (cond b (Some s.mark) (mark_at line m) ≡ Some j)
+  go true e g more = (s.mark, refl)
+  go false e (inl c) more =
+      let a = s.start in let b = s.past in let above : a ≤ m = c.0.0 in let below : m < b = c.0.1 in
+      absurd (let wrong : covers s m ≡ true = grind (arith, nat_tests) in let no = sym e ∙ wrong in cc)
+  go false e (inr g) more = more g
+
+-- a line that gives each minute what another one holds has its marks
+marks_are : (line other : List Span) (m : ℕ) → ((k : Mark) → Gives line m k ↔ (mark_at other m ≡ Some k)) → mark_at line m ≡ mark_at other m
+marks_are line other m same = go (mark_at line m) refl (mark_at other m) refl where
+  go : (a : Option Mark) → mark_at line m ≡ a → (b : Option Mark) → mark_at other m ≡ b → mark_at line m ≡ mark_at other m
+  go (Some k) e b f = e ∙ sym ((same k).0 (held_given line m k e))
+  go None e None f = e ∙ sym f
+  go None e (Some k) f = absurd (let some = given_some line m k ((same k).1 f) in let wrong = sym e ∙ some.1 in cc)
+
+-- what a pass found of the driver's rows are the stretches of what they hold
+pub stretches_told : (db : Trees) (n : ℕ) (s : State) (b : Beginning) (was pass : StretchPass) (found : List Judged)
+    → StandsFor db s → IsBegun db n s b → IsPassOf was b.base []
+    → ((t : Tables) → HasTables db t → HasTakenHeld n b.start t.held was pass)
+    → ((base : ℕ) (spans : List Span) → IsPassOf pass base spans → AreStretches spans base found)
+    → AreStretchesOf n s found
+unfolding StandsFor
+stretches_told db n s b was pass found (t, stand, of) begun none takes finds =
+    let d = begun.driver in
+    let f = takes t stand in
+    let keeps = held_kept t s n d of begun.is in
+    let rows : IsPermutation (map row_span (filter (is_behind n b.base) t.held)) (map row_span f.onward) =
+    IsPermutation-map row_span (filter (is_behind n b.base) t.held) f.onward
+    (subst (λ (xs : List SpanRow). IsPermutation xs f.onward) (begun.rows t stand of) f.are_onward.same) in
+    let gives : (m : ℕ) (k : Mark) → b.base ≤ m → Gives (map row_span f.onward) m k ↔ (mark_at (held_spans d) m ≡ Some k) =
+    λ m k le. (
+      λ g. (held_map d (spans_of n t.held) m k keeps).0 ((keeps.same m k).0 ((behind_gives n b.base m k t.held le).0
+          (permuted_gives _ _ m k (IsPermutation-sym _ _ rows) g))),
+      λ e. permuted_gives _ _ m k rows ((behind_gives n b.base m k t.held le).1
+          ((keeps.same m k).1 ((held_map d (spans_of n t.held) m k keeps).1 e))),
+    ) in
+    let is : AreStretches (held_spans d) b.base found =
+    by_marks (map row_span f.onward) (held_spans d) b.base found (finds b.base (map row_span f.onward) (f.taken.fed b.base [] none))
+    (λ m le. marks_are (map row_span f.onward) (held_spans d) m (λ k. gives m k le)) in
+    subst (λ (o : Option Driver). IfSome o (λ d. AreStretches (held_spans d) (1440 * d.base) found)) (sym begun.is)
+    (subst (λ (base : ℕ). AreStretches (held_spans d) base found) begun.base is)
