@@ -15,7 +15,7 @@ use Rattle.tacho_sheet.specs.Amounts.{AreAmounts, AreFrom, part, whole}
 
 -- ---- counts
 
-count_split : (p : ℕ → Bool) (m a b : ℕ) → count_from p m (a + b) ≡ count_from p m a + count_from p (m + a) b
+pub count_split : (p : ℕ → Bool) (m a b : ℕ) → count_from p m (a + b) ≡ count_from p m a + count_from p (m + a) b
 count_split p m zero b =
     let e : zero + b ≡ b = omega arith in
     let f : m + zero ≡ m = omega arith in
@@ -34,7 +34,7 @@ count_same p q m (suc n) h =
     let f : p m ≡ q m = h m (omega arith) (omega arith) in
     rw (e, f) refl
 
-count_const : (b : Bool) (m n : ℕ) → count_from (λ i. b) m n ≡ part b n
+pub count_const : (b : Bool) (m n : ℕ) → count_from (λ i. b) m n ≡ part b n
 count_const true m zero = refl
 count_const true m (suc n) = let e : count_from (λ i. true) (m + 1) n ≡ n = count_const true (m + 1) n in omega arith
 count_const false m zero = refl
@@ -47,7 +47,7 @@ bit_le : (b : Bool) → (if b then 1 else 0) ≤ 1
 bit_le true = omega arith
 bit_le false = omega arith
 
-count_le : (p : ℕ → Bool) (m n : ℕ) → count_from p m n ≤ n
+pub count_le : (p : ℕ → Bool) (m n : ℕ) → count_from p m n ≤ n
 count_le p m zero = omega arith
 count_le p m (suc n) = let e : count_from p (m + 1) n ≤ n = count_le p (m + 1) n in let f = bit_le (p m) in omega arith
 

@@ -9,4 +9,9 @@ pub mod AmountLemmas
 pub mod SheetLemmas
 pub mod MarkLemmas
 pub mod OneLemmas
+pub mod FormLemmas
+pub mod MonthLemmas
+pub mod ColumnLemmas
+pub mod FilledLemmas
+pub mod FilledTextLemmas
 mod PageFacts

@@ -1,5 +1,5 @@
 -- The texts of a line depend on the marks that it gives the minutes, and on nothing else.
-use Rattle.std.proofs.Common.{◌≡◌, ℕ, zero, suc, ◌+◌, ◌*◌, ◌<◌, ◌≤◌, ◌++◌, ◌%◌, Bool, List, [], ◌∷◌, Option, codes, decimal, flat_map, refl, sym, ap, ◌∙◌, arith}
+use Rattle.std.proofs.Common.{◌≡◌, ℕ, zero, suc, ◌+◌, ◌-◌, ◌*◌, ◌++◌, ◌%◌, Bool, List, [], ◌∷◌, Option, codes, decimal, flat_map, map, refl, sym, ap, ◌∙◌, arith}
 use Rattle.tacho_time.specs.declared.span.Mark.{Mark}
 use Rattle.tacho_time.specs.declared.span.Span.{Span}
 use Rattle.tacho_time.specs.Spans.{IsCanonicalOf}
@@ -8,8 +8,11 @@ use Rattle.tacho_line.specs.declared.gap.Gap.{Gap}
 use Rattle.tacho_line.specs.declared.horizon.Horizon.{Horizon}
 use Rattle.tacho_line.specs.Line.{mark_at, AgreeWithin, AreGaps, HoldsWithin}
 use Rattle.tacho_hours.specs.declared.breach.Breach.{Breach}
+use Rattle.tacho_stretches.specs.Stretches.{Judged}
 use Rattle.tacho_sheet.proofs.AmountLemmas.{count_same}
-use Rattle.tacho_sheet.specs.Reports.{amount_text, amounts_text, breach_line, breaches_within, columns, day_line, day_lines, horizon_line, right, minutes_of, weekday_name, AgreeIn, IsGapText, IsMonthSheet, IsSpanCsv}
+use Rattle.tacho_sheet.specs.Reports.{amount_text, amounts_text, breach_line, breaches_within, columns, count_from, day_line, day_lines, horizon_line, right, minutes_of, weekday_name, AgreeIn, IsGapText, IsMonthSheet, IsSpanCsv}
+use Rattle.tacho_sheet.specs.Months.{breaches_of, count_of, is_examined, kinds, overview_row, IsOverviewRow}
+use Rattle.tacho_sheet.specs.Form.{IsForm}
 
 -- ---- gaps, and spans as CSV
 
@@ -103,3 +106,40 @@ month_sheet_same number name a b breaches horizon month text e h =
           ∙ ap (λ (t : List ℕ). sheet t (amounts_text a (1440 * h.day) (1440 * h.days))) (days_same a b h.day h.days within)
           ∙ ap (λ (t : List ℕ). sheet (day_lines b h.day h.days) t) (amounts_same a b (1440 * h.day) (1440 * h.days) total);
     }
+
+-- ---- the overview of a month, and the form for gaps
+
+counts_same : (a b : List Span) (m n : ℕ) (tests : List (Option Mark → Bool)) → AgreeWithin m (m + n) a b
+    → map (minutes_of a m n) tests ≡ map (minutes_of b m n) tests
+counts_same a b m n [] e = refl
+counts_same a b m n (test ∷ tests) e =
+    let same : minutes_of a m n test ≡ minutes_of b m n test =
+    count_same (λ k. test (mark_at a k)) (λ k. test (mark_at b k)) m n (λ k from to. ap test (e k (from, to))) in
+    ap (λ (t : ℕ). t ∷ map (minutes_of a m n) tests) same
+    ∙ ap (λ (t : List ℕ). minutes_of b m n test ∷ t) (counts_same a b m n tests e)
+
+pub overview_same : (number : ℕ) (name : List ℕ) (a b : List Span) (stretches : List Judged) (month : ℕ) (text : List ℕ)
+    → AgreeIn month a b → IsOverviewRow number name a stretches month text → IsOverviewRow number name b stretches month text
+overview_same number name a b stretches month text e h =
+    let n : ℕ = h.past - h.start in
+    let agree : AgreeWithin h.start h.past a b = e h.start h.past h.bounds in
+    let within : AgreeWithin h.start (h.start + n) a b =
+    λ m w. let x = w.0 in let y = w.1 in agree m (x, omega (arith, x, y)) in
+    let rest : List ℕ =
+    count_from (is_examined stretches) h.start n ∷ map (count_of (breaches_of h.start h.past stretches)) kinds in
+    record {
+      start = h.start;
+      past = h.past;
+      bounds = h.bounds;
+      is = h.is ∙ ap (λ (t : List ℕ). overview_row number name (t ++ rest)) (counts_same a b h.start n columns within);
+    }
+
+pub form_same : (a b : List Span) (base end : ℕ) (text : List ℕ) → AgreeWithin base end a b
+    → IsForm a base end text → IsForm b base end text
+form_same a b base end text e h = record {
+  gaps = h.gaps;
+  lacking = gaps_same a b base end h.gaps e h.lacking;
+  rows = h.rows;
+  are_rows = h.are_rows;
+  is = h.is;
+}

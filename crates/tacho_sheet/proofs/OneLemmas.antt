@@ -1,5 +1,5 @@
--- A month has one text of each kind.
-use Rattle.std.proofs.Common.{◌≡◌, ◌∙◌, ◌*◌, ◌+◌, ℕ, List, ap, arith, sym, subst, flat_map}
+-- A month has one text of each kind, and a line one form for gaps.
+use Rattle.std.proofs.Common.{◌≡◌, ◌∙◌, ◌*◌, ◌+◌, ℕ, List, ap, arith, sym, subst, codes, flat_map, ◌++◌}
 use Rattle.tacho_time.specs.Spans.{GiveSame, IsCanonical, IsCanonicalOf}
 use Rattle.tacho_time.specs.declared.span.Mark.{Mark}
 use Rattle.tacho_time.specs.declared.span.Span.{Span}
@@ -8,6 +8,10 @@ use Rattle.tacho_line.specs.declared.gap.Gap.{Gap}
 use Rattle.tacho_line.specs.declared.horizon.Horizon.{Horizon}
 use Rattle.tacho_hours.specs.declared.breach.Breach.{Breach}
 use Rattle.tacho_sheet.specs.Reports.{AreBounds, IsGapText, IsMonthSheet, IsSpanCsv, csv_text, gap_line, sheet_text}
+use Rattle.tacho_stretches.specs.Stretches.{Judged}
+use Rattle.tacho_sheet.specs.Months.{breaches_of, incident_row, numbers_of, overview_row, AreIncidentRows, IsOverviewRow}
+use Rattle.tacho_sheet.specs.Form.{form_row, AreRows, IsForm}
+use Rattle.tacho_sheet.proofs.FormLemmas.{one_rows}
 
 same_bounds : (month start past first end : ℕ) → AreBounds month start past → AreBounds month first end → (first ≡ start) × (end ≡ past)
 same_bounds month start past first end a b = ((let x = a.first in let y = b.first in cc), (let x = a.end in let y = b.end in cc))
@@ -42,3 +46,25 @@ one_sheet number name line breaches horizon month a b x y =
     let same = same_day x.day y.day x.days y.days bounds.0 bounds.1 in
     x.is ∙ (ap (λ (days : ℕ). sheet_text number name line breaches horizon month x.day days) same.1
     ∙ (ap (λ (day : ℕ). sheet_text number name line breaches horizon month day y.days) same.0 ∙ sym y.is))
+
+pub one_overview : (number : ℕ) (name : List ℕ) (line : List Span) (stretches : List Judged) (month : ℕ) (a b : List ℕ)
+    → IsOverviewRow number name line stretches month a → IsOverviewRow number name line stretches month b → a ≡ b
+one_overview number name line stretches month a b x y =
+    let same = same_bounds month x.start x.past y.start y.past x.bounds y.bounds in
+    x.is ∙ (ap (λ (past : ℕ). overview_row number name (numbers_of line stretches x.start past)) (sym same.1)
+    ∙ (ap (λ (start : ℕ). overview_row number name (numbers_of line stretches start y.past)) (sym same.0) ∙ sym y.is))
+
+pub one_incidents : (number : ℕ) (name : List ℕ) (stretches : List Judged) (month : ℕ) (a b : List ℕ)
+    → AreIncidentRows number name stretches month a → AreIncidentRows number name stretches month b → a ≡ b
+one_incidents number name stretches month a b x y =
+    let same = same_bounds month x.start x.past y.start y.past x.bounds y.bounds in
+    x.is ∙ (ap (λ (past : ℕ). flat_map (incident_row number name) (breaches_of x.start past stretches)) (sym same.1)
+    ∙ (ap (λ (start : ℕ). flat_map (incident_row number name) (breaches_of start y.past stretches)) (sym same.0) ∙ sym y.is))
+
+pub one_form : ((line : List Span) (start past : ℕ) (gaps others : List Gap) → AreGaps line start past gaps
+    → AreGaps line start past others → gaps ≡ others)
+    → (line : List Span) (base end : ℕ) (a b : List ℕ) → IsForm line base end a → IsForm line base end b → a ≡ b
+one_form one line base end a b x y =
+    let gaps : x.gaps ≡ y.gaps = one line base end x.gaps y.gaps x.lacking y.lacking in
+    let rows : x.rows ≡ y.rows = one_rows y.gaps x.rows y.rows (subst (λ (g : List Gap). AreRows g x.rows) gaps x.are_rows) y.are_rows in
+    x.is ∙ (ap (λ (r : List Gap). codes "start,past,activity,author,note\n" ++ flat_map form_row r) rows ∙ sym y.is)

@@ -1,22 +1,32 @@
 -- Lines that are written one after the other.
-use Rattle.std.proofs.Common.{◌≡◌, ◌<◌, ◌+◌, ◌++◌, ◌∷◌, ◌∙◌, ℕ, List, [], length, get_or, take, refl, sym, ap, append_assoc, arith, Result, Ok, Err, OnOk, Bool, true, false, if◌then◌else◌}
+use Rattle.std.proofs.Common.{◌≡◌, ◌<◌, ◌+◌, ◌++◌, ◌∷◌, ◌∙◌, ℕ, List, [], length, get_or, take, refl, sym, ap, append_assoc, arith, Result, Ok, Err, OnOk, Bool, true, false, if◌then◌else◌, map}
 use Rattle.std.specs.Result.{is_ok}
 use Rattle.std.proofs.lemmas.Grind.{flat_map-append, common_steps}
 use Rattle.std.proofs.lemmas.List.{append-nil}
 use Rattle.std.proofs.lemmas.List.Elements.{filter_more}
+use Rattle.std.proofs.lemmas.List.Folds.{flat_map-map}
 use Rattle.std.specs.List.{filter, flat_map}
 
-take_more : {X : Type 0} (xs : List X) (i : ℕ) (d : X) → i < length xs → take (i + 1) xs ≡ take i xs ++ get_or xs i d ∷ []
+pub take_more : {X : Type 0} (xs : List X) (i : ℕ) (d : X) → i < length xs → take (i + 1) xs ≡ take i xs ++ get_or xs i d ∷ []
 take_more xs i d h = grind (arith, common_steps)
 
 -- what was written, and a line more
-pub one_more_line : {X : Type 0} (f : X → List ℕ) (xs : List X) (i : ℕ) (d : X) (before after : List ℕ) → i < length xs
+pub one_more_line : {X A : Type 0} (f : X → List A) (xs : List X) (i : ℕ) (d : X) (before after : List A) → i < length xs
     → before ≡ flat_map f (take i xs) → after ≡ before ++ f (get_or xs i d) → after ≡ flat_map f (take (i + 1) xs)
-one_more_line f xs i d before after h e g =
-    g ∙ ap (λ (t : List ℕ). t ++ f (get_or xs i d)) e
-    ∙ ap (λ (t : List ℕ). flat_map f (take i xs) ++ t) (sym (append-nil (f (get_or xs i d))))
+one_more_line {A = A} f xs i d before after h e g =
+    g ∙ ap (λ (t : List A). t ++ f (get_or xs i d)) e
+    ∙ ap (λ (t : List A). flat_map f (take i xs) ++ t) (sym (append-nil (f (get_or xs i d))))
     ∙ sym (flat_map-append f (take i xs) (get_or xs i d ∷ []))
     ∙ sym (ap (λ t. flat_map f t) (take_more xs i d h))
+
+-- the same of what the things are told as
+pub one_more_told : {X Y A : Type 0} (f : Y → List A) (told : X → Y) (xs : List X) (i : ℕ) (x : X) (before after : List A) → i < length xs
+    → x ≡ get_or xs i x → before ≡ flat_map f (map told (take i xs)) → after ≡ before ++ f (told x)
+    → after ≡ flat_map f (map told (take (i + 1) xs))
+one_more_told f told xs i x before after h is e g =
+    one_more_line (λ y. f (told y)) xs i x before after h (e ∙ flat_map-map f told (take i xs))
+    (g ∙ ap (λ y. before ++ f (told y)) is)
+    ∙ sym (flat_map-map f told (take (i + 1) xs))
 
 -- the same behind a head
 pub one_more_row : {X : Type 0} (f : X → List ℕ) (xs : List X) (i : ℕ) (d : X) (head before after : List ℕ) → i < length xs
@@ -44,3 +54,13 @@ pub none_more_kept : {X : Type 0} (f : X → List ℕ) (p : X → Bool) (xs : Li
 none_more_kept f p xs i d t before after h k e g =
     let front = filter p (take i xs) in
     simp (g, e, filter_more p xs i d h, k, append-nil front) refl
+
+-- those that pass a test, and one more
+pub one_more_of : {X : Type 0} (p : X → Bool) (xs : List X) (i : ℕ) (d : X) (t before after : List X) → i < length xs
+    → p (get_or xs i d) ≡ true → before ≡ t ++ filter p (take i xs) → after ≡ before ++ get_or xs i d ∷ [] → after ≡ t ++ filter p (take (i + 1) xs)
+one_more_of p xs i d t before after h k e g = simp (g, e, filter_more p xs i d h, k, append_assoc) refl
+
+-- and none for one that doesn't
+pub none_more_of : {X : Type 0} (p : X → Bool) (xs : List X) (i : ℕ) (d : X) (t before after : List X) → i < length xs
+    → p (get_or xs i d) ≡ false → before ≡ t ++ filter p (take i xs) → after ≡ before → after ≡ t ++ filter p (take (i + 1) xs)
+none_more_of p xs i d t before after h k e g = simp (g, e, filter_more p xs i d h, k, append-nil (filter p (take i xs))) refl

@@ -1,5 +1,5 @@
 -- Private to tacho_sheet: The six amounts of some minutes, as they are counted and as they are written.
-use Rattle.std.specs.Prelude.{◌≡◌, ℕ, ◌+◌, ◌<◌, ◌≤◌, Bool, true, false, List, [], ◌∷◌, ◌++◌, ◌%◌, codes, decimal}
+use Rattle.std.specs.Prelude.{◌≡◌, ℕ, ◌+◌, ◌<◌, ◌≤◌, Bool, true, false, List, [], ◌∷◌, ◌++◌, ◌%◌, codes, decimal, flat_map}
 use Rattle.tacho_time.specs.declared.span.Activity.TheVariants.{Rest, Available, Work, Drive}
 use Rattle.tacho_time.specs.declared.span.Span.{Span}
 use Rattle.tacho_time.specs.Text.{day_text, month_text}
@@ -44,3 +44,11 @@ abbrev pub head_text : ℕ → List ℕ → ℕ → List ℕ
 head_text number name month =
     codes "DRIVER " ++ (decimal number ++ (codes " " ++ (name ++ (codes "\nMONTH " ++ (month_text month
     ++ codes "\nDATE       DAY   REST  AVAIL   WORK  DRIVE   CREW   NONE\n")))))
+
+-- the six, in the order of the columns
+abbrev pub amounts_in : Amounts → List ℕ
+amounts_in a = a.rest ∷ a.available ∷ a.work ∷ a.drive ∷ a.crew ∷ a.lacking ∷ []
+
+-- numbers, each after a comma
+abbrev pub cells : List ℕ → List ℕ
+cells numbers = flat_map (λ n. codes "," ++ decimal n) numbers

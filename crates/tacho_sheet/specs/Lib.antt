@@ -8,3 +8,6 @@ pub mod Driver
 pub mod Reports
 pub mod Done
 pub mod Amounts
+pub mod Stretches
+pub mod Months
+pub mod Form

@@ -109,6 +109,19 @@ pub(crate) fn amounts_of_day(alloc: Global, line: &Line, day: Day) -> Result<Amo
     let first = MINUTES_OF_DAY * day.number();
     let start = Minute::new(first);
     let past = Minute::new(first + MINUTES_OF_DAY);
+    amounts_of_range(alloc, line, start, past)
+}
+
+/// The amounts of the minutes from a start to before a past.
+pub(crate) fn amounts_of_range(
+    alloc: Global,
+    line: &Line,
+    start: Minute,
+    past: Minute,
+) -> Result<Amounts, AllocError>
+    requires { start ≤ past }
+    ensures { IfOk result (AreAmounts line.now start (past - start)) }
+{
     let spans = line.slice(alloc, start, past)?;
     Ok(amounts_of(&spans, start, past))
 }

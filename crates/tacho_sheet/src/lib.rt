@@ -6,12 +6,15 @@ mod done;
 mod driver;
 mod entries;
 mod fault;
+mod form;
 pub mod laws;
 mod lines;
+mod months;
 mod number;
 mod reports;
 mod rows;
 mod sheet;
+mod stretches;
 mod text;
 mod words;
 
@@ -19,8 +22,11 @@ pub use done::{DoneLine, base_line, entered_line, imported_line, registered_line
 pub use driver::{read_driver, read_holder};
 pub use entries::read_entries;
 pub use fault::{Fault, LeftOut, SheetFault};
+pub use form::form_text;
 pub use lines::{FaultLine, fault_line, push_bytes};
+pub use months::{incident_head, overview_head, push_incidents, push_overview};
 pub use number::read_number;
 pub use reports::{breach_text, gap_text, owed_text, span_csv};
 pub use sheet::month_sheet;
+pub use stretches::{debt_text, stretch_text};
 pub use text::{driver_text, entry_text};

@@ -189,7 +189,7 @@ fn push_breaches(
 }
 
 /// Whether a minute lies from a start to before a past.
-fn is_within(minute: Minute, start: Minute, past: Minute) -> bool
+pub(crate) fn is_within(minute: Minute, start: Minute, past: Minute) -> bool
     ensures { result ≡ (nat_le start minute && nat_lt minute past) }
 {
     start <= minute && minute < past
