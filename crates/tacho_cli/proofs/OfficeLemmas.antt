@@ -49,6 +49,7 @@ sound_without (task.Reading n text) input e = tt
 sound_without (task.MonthReading n m text) input e = tt
 sound_without (task.File n number) input e = tt
 sound_without task.Drivers input e = tt
+sound_without (task.MonthOfAll m text) input e = tt
 
 -- what is wanted, by its words, and by whether the reader failed
 module _ (w : Want) (driver word : List ℕ) (unread : Option (List ℕ)) (failed : Bool) where

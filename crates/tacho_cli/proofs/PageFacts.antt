@@ -11,6 +11,7 @@ use Rattle.tacho_sheet.specs.declared.fault.Fault.TheVariants as told
 use Rattle.tacho_sheet.specs.declared.fault.LeftOut.TheVariants as left_out
 use Rattle.tacho_sheet.specs.declared.fault.SheetFault.TheVariants as sheet
 use Rattle.tacho_desk.specs.declared.fault.Fault.TheVariants as fault
+use Rattle.tacho_desk.specs.declared.want.MonthOfAll.TheVariants as all
 use Rattle.tacho_desk.specs.declared.want.MonthReading.TheVariants as month
 use Rattle.tacho_desk.specs.declared.want.Reading.TheVariants as reading
 use Rattle.tacho_desk.specs.declared.want.Want.TheVariants as want
@@ -76,6 +77,21 @@ file = refl
 drivers : act_named (codes "drivers") the_table ≡ Some (act.AtDesk want.Drivers)
 drivers = refl
 
+stretches : act_named (codes "stretches") the_table ≡ Some (act.AtDesk (want.Reading reading.Stretches))
+stretches = refl
+
+debts : act_named (codes "debts") the_table ≡ Some (act.AtDesk (want.Reading reading.Debts))
+debts = refl
+
+overview : act_named (codes "overview") the_table ≡ Some (act.AtDesk (want.MonthOfAll all.Overview))
+overview = refl
+
+incidents : act_named (codes "incidents") the_table ≡ Some (act.AtDesk (want.MonthOfAll all.Incidents))
+incidents = refl
+
+form : act_named (codes "form") the_table ≡ Some (act.AtDesk (want.Reading reading.Form))
+form = refl
+
 serve : act_named (codes "serve") the_table ≡ Some act.Serve
 serve = refl
 
@@ -92,7 +108,9 @@ all_given : map given the_table
     ∷ codes "import archive part" ∷ codes "enter archive driver" ∷ codes "withdraw archive driver number" ∷ codes "base archive driver date"
     ∷ codes "spans archive driver month" ∷ codes "gaps archive driver month" ∷ codes "sheet archive driver month"
     ∷ codes "breaches archive driver" ∷ codes "owed archive driver" ∷ codes "entries archive driver"
-    ∷ codes "file archive driver number" ∷ codes "drivers archive" ∷ codes "serve archive key port count" ∷ []
+    ∷ codes "file archive driver number" ∷ codes "drivers archive" ∷ codes "stretches archive driver" ∷ codes "debts archive driver"
+    ∷ codes "overview archive month" ∷ codes "incidents archive month" ∷ codes "form archive driver"
+    ∷ codes "serve archive key port count" ∷ []
 all_given = refl
 
 -- a word that may be there

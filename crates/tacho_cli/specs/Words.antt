@@ -7,6 +7,7 @@ use Rattle.clap.specs.declared.error.kind.ErrorKind.TheVariants.{OutOfMemory}
 use Rattle.tacho_cli.specs.declared.words.Usage.{Usage}
 use Rattle.tacho_cli.specs.declared.words.Usage.TheVariants as usage
 use Rattle.tacho_desk.specs.Wants.{takes_input}
+use Rattle.tacho_desk.specs.declared.want.MonthOfAll.TheVariants as all
 use Rattle.tacho_desk.specs.declared.want.MonthReading.TheVariants as month
 use Rattle.tacho_desk.specs.declared.want.Reading.TheVariants as reading
 use Rattle.tacho_desk.specs.declared.want.Want.{Want}
@@ -60,6 +61,11 @@ the_table =
     ∷ (codes "entries", codes "archive" ∷ codes "driver" ∷ [], act.AtDesk (want.Reading reading.Entries))
     ∷ (codes "file", codes "archive" ∷ codes "driver" ∷ codes "number" ∷ [], act.AtDesk want.File)
     ∷ (codes "drivers", codes "archive" ∷ [], act.AtDesk want.Drivers)
+    ∷ (codes "stretches", codes "archive" ∷ codes "driver" ∷ [], act.AtDesk (want.Reading reading.Stretches))
+    ∷ (codes "debts", codes "archive" ∷ codes "driver" ∷ [], act.AtDesk (want.Reading reading.Debts))
+    ∷ (codes "overview", codes "archive" ∷ codes "month" ∷ [], act.AtDesk (want.MonthOfAll all.Overview))
+    ∷ (codes "incidents", codes "archive" ∷ codes "month" ∷ [], act.AtDesk (want.MonthOfAll all.Incidents))
+    ∷ (codes "form", codes "archive" ∷ codes "driver" ∷ [], act.AtDesk (want.Reading reading.Form))
     ∷ (codes "serve", codes "archive" ∷ codes "key" ∷ codes "port" ∷ codes "count" ∷ [], act.Serve)
     ∷ []
 
@@ -95,6 +101,7 @@ abbrev pub has_driver : Want → Bool
 has_driver want.Register = false
 has_driver want.Import = false
 has_driver want.Drivers = false
+has_driver (want.MonthOfAll text) = false
 has_driver other = true
 
 -- the name of the other word
@@ -104,6 +111,7 @@ word_id want.Withdraw = Some (codes "number")
 word_id want.File = Some (codes "number")
 word_id want.Base = Some (codes "date")
 word_id (want.MonthReading text) = Some (codes "month")
+word_id (want.MonthOfAll text) = Some (codes "month")
 word_id other = None
 
 -- the word with this name is this text, or there is none and the text is empty

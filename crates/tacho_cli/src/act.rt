@@ -26,7 +26,10 @@ pub(crate) enum Act {
 pub(crate) fn names_driver(want: Want) -> bool
     ensures { result ≡ has_driver want }
 {
-    !matches!(want, Want::Register | Want::Import | Want::Drivers)
+    !matches!(
+        want,
+        Want::Register | Want::Import | Want::Drivers | Want::MonthOfAll(_)
+    )
 }
 
 /// The name of the other word, if there is one.
@@ -37,7 +40,7 @@ pub(crate) fn word_of(want: Want) -> Option<&'static str>
         Want::Import => Some("part"),
         Want::Withdraw | Want::File => Some("number"),
         Want::Base => Some("date"),
-        Want::MonthReading(_) => Some("month"),
+        Want::MonthReading(_) | Want::MonthOfAll(_) => Some("month"),
         Want::Register | Want::Enter | Want::Reading(_) | Want::Drivers => None,
     }
 }

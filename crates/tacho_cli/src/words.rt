@@ -9,7 +9,7 @@ use crate::job::Job;
 use clap::error::ErrorKind;
 use clap::{Arg, ArgMatches, Command, Error};
 use std::alloc::{AllocError, Global};
-use tacho_desk::{MonthReading, Reading, Want};
+use tacho_desk::{MonthOfAll, MonthReading, Reading, Want};
 use tacho_sheet::read_number;
 
 /// Why a command line asks for nothing.
@@ -40,7 +40,7 @@ impl From<AllocError> for Usage {
 type Row = (&'static str, &'static str, &'static [&'static str], Act);
 
 /// The subcommands.
-static TABLE: [Row; 19] = [
+static TABLE: [Row; 24] = [
     (
         "dump",
         "Prints the spans of the value of an EF Driver_Activity_Data (0504), a line each: tacho dump < FILE",
@@ -148,6 +148,36 @@ static TABLE: [Row; 19] = [
         "Prints the drivers, a line each: number, holder, base, how many card files and entries, and name",
         &["archive"],
         Act::AtDesk(Want::Drivers),
+    ),
+    (
+        "stretches",
+        "Prints the breaches from the base on, and anew from the next held Monday after each end; and what isn't examined",
+        &["archive", "driver"],
+        Act::AtDesk(Want::Reading(Reading::Stretches)),
+    ),
+    (
+        "debts",
+        "Prints the weekly rests that are owed, by the same stretches",
+        &["archive", "driver"],
+        Act::AtDesk(Want::Reading(Reading::Debts)),
+    ),
+    (
+        "overview",
+        "Prints a month of all drivers as CSV: what each holds, how much of it is examined, and how many breaches of each rule",
+        &["archive", "month"],
+        Act::AtDesk(Want::MonthOfAll(MonthOfAll::Overview)),
+    ),
+    (
+        "incidents",
+        "Prints the breaches of a month of all drivers as CSV",
+        &["archive", "month"],
+        Act::AtDesk(Want::MonthOfAll(MonthOfAll::Incidents)),
+    ),
+    (
+        "form",
+        "Prints CSV of the minutes that a driver doesn't hold, to be filled in and entered",
+        &["archive", "driver"],
+        Act::AtDesk(Want::Reading(Reading::Form)),
     ),
     (
         "serve",

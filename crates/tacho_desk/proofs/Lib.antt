@@ -2,5 +2,6 @@ mod StepLemmas
 pub mod MeantLemmas
 mod ServeLemmas
 mod ShownLemmas
+mod AllLemmas
 mod OwnLemmas
 mod PageFacts

@@ -8,6 +8,8 @@ use Rattle.tacho_hours.specs.declared.breach.Breach.{Breach}
 use Rattle.tacho_hours.specs.declared.debt.Debt.{Debt}
 use Rattle.tacho_time.specs.declared.span.Span.{Span}
 use Rattle.tacho_rules.specs.Report.{IsReport}
+use Rattle.tacho_stretches.specs.Stretches.{AreStretches, Judged}
+use Rattle.tacho_stretches.proofs.LawLemmas.{one_end}
 use Rattle.tacho_state.specs.Batch.{batch_of}
 use Rattle.tacho_state.specs.Content.{FileTells, part_number}
 use Rattle.tacho_state.specs.Least.{is_within, least_conflict}
@@ -18,14 +20,18 @@ use Rattle.tacho_state.specs.Steps.{Content, Own, Turn, downloaded, entered, imp
 use Rattle.tacho_state.specs.declared.caller.Caller.TheVariants as caller
 use Rattle.tacho_state.specs.declared.fault.StoreFault.{StoreFault}
 use Rattle.tacho_sheet.specs.Entries.{Lines}
+use Rattle.tacho_sheet.specs.Form.{IsForm}
+use Rattle.tacho_sheet.specs.Stretches.{debt_text, stretch_text}
 use Rattle.tacho_sheet.specs.Reports.{IsGapText, IsMonthSheet, IsSpanCsv, breach_text, owed_text}
 use Rattle.tacho_sheet.specs.declared.fault.SheetFault.{SheetFault}
 use Rattle.tacho_desk.specs.Doing.{Doing, IsText, IsTextOf, Lists, Shows, Steps, in_words}
 use Rattle.tacho_desk.specs.Own.{OneAnswer, OthersStay, RefusalsStay, SameAnswers}
-use Rattle.tacho_desk.specs.Tasks.{EntersRead, Imports, OfReport, RegistersRead, ShowsFile, ShowsMonth, ShowsReading, entered_told, imported_told}
+use Rattle.tacho_desk.specs.Tasks.{EntersRead, Imports, IsFormOf, OfReport, OfStretches, RegistersRead, ShowsFile, ShowsMonth, ShowsMonthOfAll, ShowsReading, entered_told, imported_told}
 use Rattle.tacho_desk.specs.Told.{Added, Answer, File, Line, Long, Told}
 use Rattle.tacho_desk.specs.declared.fault.Fault.{Fault}
 use Rattle.tacho_desk.specs.declared.task.Task.TheVariants as task
+use Rattle.tacho_desk.specs.declared.want.MonthOfAll.{MonthOfAll}
+use Rattle.tacho_desk.specs.declared.want.MonthOfAll.TheVariants as all
 use Rattle.tacho_desk.specs.declared.want.MonthReading.{MonthReading}
 use Rattle.tacho_desk.specs.declared.want.MonthReading.TheVariants as month
 use Rattle.tacho_desk.specs.declared.want.Reading.{Reading}
@@ -59,12 +65,21 @@ reading_stays : (text : Reading) (n : ℕ) (s : State) (answer : Answer) (after 
 reading_stays reading.Breaches n s answer after h = h.1
 reading_stays reading.Owed n s answer after h = h.1
 reading_stays reading.Entries n s answer after h = h.1
+reading_stays reading.Stretches n s answer after h = h.1
+reading_stays reading.Debts n s answer after h = h.1
+reading_stays reading.Form n s answer after h = h.1
 
 -- nor does one of a month
 month_stays : (text : MonthReading) (month n : ℕ) (s : State) (answer : Answer) (after : State) → ShowsMonth text month n s answer after → after ≡ s
 month_stays month.Spans m n s answer after h = h.1
 month_stays month.Gaps m n s answer after h = h.1
 month_stays month.Sheet m n s answer after h = h.1
+
+-- nor does one of a month of all drivers
+all_stays : (text : MonthOfAll) (month : ℕ) (s : State) (answer : Answer) (after : State) → ShowsMonthOfAll text month s answer after
+    → after ≡ s
+all_stays all.Overview m s answer after h = h.1
+all_stays all.Incidents m s answer after h = h.1
 
 -- no refusal changes anything
 pub refusals : RefusalsStay
@@ -78,6 +93,7 @@ refusals (task.Reading n text) input s f after h = reading_stays text n s (Err f
 refusals (task.MonthReading n month text) input s f after h = month_stays text month n s (Err f) after h
 refusals (task.File n number) input s f after h = h.1
 refusals task.Drivers input s f after h = h.1
+refusals (task.MonthOfAll month text) input s f after h = all_stays text month s (Err f) after h
 
 -- ---- rows
 
@@ -211,6 +227,9 @@ reading_same : (text : Reading) (n : ℕ) (s other : State) → driver_of n s �
 reading_same reading.Breaches n s other e answer after h = shows_same _ n s other e answer after h
 reading_same reading.Owed n s other e answer after h = shows_same _ n s other e answer after h
 reading_same reading.Entries n s other e answer after h = lists_same _ _ n s other e answer after h
+reading_same reading.Stretches n s other e answer after h = shows_same _ n s other e answer after h
+reading_same reading.Debts n s other e answer after h = shows_same _ n s other e answer after h
+reading_same reading.Form n s other e answer after h = shows_same _ n s other e answer after h
 
 -- the same of his month
 month_same : (text : MonthReading) (month n : ℕ) (s other : State) → driver_of n s ≡ driver_of n other → (answer : Answer) (after : State)
@@ -235,6 +254,7 @@ same_answers n (task.Enter m) his input s other e answer after h = absurd his
 same_answers n (task.Withdraw m number) his input s other e answer after h = absurd his
 same_answers n (task.Base m day) his input s other e answer after h = absurd his
 same_answers n task.Drivers his input s other e answer after h = absurd his
+same_answers n (task.MonthOfAll month text) his input s other e answer after h = absurd his
 
 -- and changes nobody else's
 pub others_stay : OthersStay
@@ -250,6 +270,7 @@ others_stay n (task.Enter k) his input s answer after h m other = absurd his
 others_stay n (task.Withdraw k number) his input s answer after h m other = absurd his
 others_stay n (task.Base k day) his input s answer after h m other = absurd his
 others_stay n task.Drivers his input s answer after h m other = absurd his
+others_stay n (task.MonthOfAll month text) his input s answer after h m other = absurd his
 
 -- ---- one answer
 
@@ -289,7 +310,10 @@ module _ (one_content : (p : Part) (bytes : List ℕ) (a b : Result Content Card
     (one_gaps : (line : List Span) (month : ℕ) (a b : List ℕ) → IsGapText line month a → IsGapText line month b → a ≡ b)
     (one_spans : (line : List Span) (month : ℕ) (a b : List ℕ) → IsSpanCsv line month a → IsSpanCsv line month b → a ≡ b)
     (one_sheet : (number : ℕ) (name : List ℕ) (line : List Span) (breaches : List Breach) (horizon : Horizon) (month : ℕ) (a b : List ℕ)
-    → IsMonthSheet number name line breaches horizon month a → IsMonthSheet number name line breaches horizon month b → a ≡ b) where
+    → IsMonthSheet number name line breaches horizon month a → IsMonthSheet number name line breaches horizon month b → a ≡ b)
+    (one_stretches : (line : List Span) (base : ℕ) (stretches others : List Judged) → AreStretches line base stretches
+    → AreStretches line base others → stretches ≡ others)
+    (one_form : (line : List Span) (base end : ℕ) (a b : List ℕ) → IsForm line base end a → IsForm line base end b → a ≡ b) where
   -- a text of a report is one where the report is
   one_of_report : (Is : Driver → List Breach → List Debt → Horizon → List ℕ → Type 0)
       → ((d : Driver) (breaches : List Breach) (debts : List Debt) (horizon : Horizon) (a b : List ℕ) → Is d breaches debts horizon a → Is d breaches debts horizon b → a ≡ b)
@@ -301,6 +325,19 @@ module _ (one_content : (p : Part) (bytes : List ℕ) (a b : Result Content Card
       (subst (λ (breaches : List Breach). Is d breaches k.2 h.0 b) (sym same.1)
       (subst (λ (horizon : Horizon). Is d k.1 k.2 horizon b) (sym same.0) k.4)))
 
+  -- a text of stretches is one where they are
+  one_of_stretches : (Is : List Judged → List ℕ → Type 0)
+      → ((stretches : List Judged) (a b : List ℕ) → Is stretches a → Is stretches b → a ≡ b) → IsOne (OfStretches Is)
+  one_of_stretches Is one d a b h k =
+      let same = one_stretches (held_spans d) (1440 * d.base) k.0 h.0 k.1 h.1 in
+      one h.0 a b h.2 (subst (λ (stretches : List Judged). Is stretches b) same k.2)
+
+  -- there is one form, up to the one end of what is held
+  one_form_of : IsOne IsFormOf
+  one_form_of d a b h k =
+      let end : k.0 ≡ h.0 = one_end (held_spans d) (1440 * d.base) k.0 h.0 k.1 h.1 in
+      one_form (held_spans d) (1440 * d.base) h.0 a b h.2 (subst (λ (end : ℕ). IsForm (held_spans d) (1440 * d.base) end b) end k.2)
+
   -- his texts are one
   one_reading : (text : Reading) (n : ℕ) (s : State) (a b : Answer) (after left : State)
       → ShowsReading text n s a after → ShowsReading text n s b left → (a ≡ b) × (after ≡ left)
@@ -309,6 +346,13 @@ module _ (one_content : (p : Part) (bytes : List ℕ) (a b : Result Content Card
   one_reading reading.Owed n s a b after left h k =
       one_shown _ (one_of_report (λ d breaches debts horizon text. text ≡ owed_text debts horizon) (λ d breaches debts horizon x y i j. i ∙ sym j)) n s a b after left h k
   one_reading reading.Entries n s a b after left h k = one_listed _ s (listed n s) a b after left h k
+  one_reading reading.Stretches n s a b after left h k =
+      one_shown _ (one_of_stretches (λ stretches text. text ≡ stretch_text stretches) (λ stretches x y i j. i ∙ sym j))
+      n s a b after left h k
+  one_reading reading.Debts n s a b after left h k =
+      one_shown _ (one_of_stretches (λ stretches text. text ≡ debt_text stretches) (λ stretches x y i j. i ∙ sym j))
+      n s a b after left h k
+  one_reading reading.Form n s a b after left h k = one_shown IsFormOf one_form_of n s a b after left h k
 
   -- the texts of his month are one
   one_month : (text : MonthReading) (month n : ℕ) (s : State) (a b : Answer) (after left : State)
@@ -335,3 +379,4 @@ module _ (one_content : (p : Part) (bytes : List ℕ) (a b : Result Content Card
   one_answer n (task.Withdraw m number) his input s a b after left h k = absurd his
   one_answer n (task.Base m day) his input s a b after left h k = absurd his
   one_answer n task.Drivers his input s a b after left h k = absurd his
+  one_answer n (task.MonthOfAll month text) his input s a b after left h k = absurd his

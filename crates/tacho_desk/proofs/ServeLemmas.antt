@@ -58,7 +58,7 @@ refusal store.OldSchema = inr (inl tt)
 refusal store.Full = inr (inl tt)
 
 -- a refusal of the archive is the step's, or a giving up
-refusal_of : {A B : Type 0} (view : A → B) (f : StoreFault) (told : Result B StoreFault) → Answers view (Err f) told
+pub refusal_of : {A B : Type 0} (view : A → B) (f : StoreFault) (told : Result B StoreFault) → Answers view (Err f) told
     → (told ≡ Err f) ⊎ IsGivenUp (store_fault f)
 refusal_of view store.Memory told h = inr tt
 refusal_of view store.Store told h = inr tt

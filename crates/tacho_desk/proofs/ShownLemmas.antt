@@ -5,17 +5,20 @@ use Rattle.tacho_time.specs.declared.span.Span.{Span}
 use Rattle.tacho_line.specs.Line.{AgreeWithin}
 use Rattle.tacho_rules.specs.Report.{IsReport}
 use Rattle.tacho_rules.specs.declared.report.Report.{Report}
-use Rattle.tacho_state.specs.Reported.{IsHeldWithin, IsReportOf}
+use Rattle.tacho_stretches.specs.Start.{IsEndOfHeld}
+use Rattle.tacho_stretches.specs.Stretches.{AreStretches, Judged}
+use Rattle.tacho_state.specs.Reported.{AreStretchesOf, IsHeldWithin, IsReportOf}
 use Rattle.tacho_state.specs.State.{Driver, State, driver_of, held_spans}
 use Rattle.tacho_state.specs.Steps.{named, reported, told_of}
+use Rattle.tacho_sheet.specs.Form.{IsForm}
 use Rattle.tacho_sheet.specs.Reports.{AgreeIn, AreBounds, IsGapText, IsMonthSheet, IsSpanCsv}
-use Rattle.tacho_sheet.proofs.MarkLemmas.{gap_text_same, month_sheet_same, span_csv_same}
+use Rattle.tacho_sheet.proofs.MarkLemmas.{form_same, gap_text_same, month_sheet_same, span_csv_same}
 use Rattle.tacho_desk.specs.Doing.{IsTextOf}
-use Rattle.tacho_desk.specs.Tasks.{OfReport}
+use Rattle.tacho_desk.specs.Tasks.{IsFormOf, OfReport, OfStretches}
 use Rattle.tacho_desk.specs.Told.{Long}
 
 -- lines that agree between the bounds of a month agree in it
-agree_in : (month start past : ℕ) (a b : List Span) → AreBounds month start past → AgreeWithin start past a b → AgreeIn month a b
+pub agree_in : (month start past : ℕ) (a b : List Span) → AreBounds month start past → AgreeWithin start past a b → AgreeIn month a b
 agree_in month start past a b bounds e first end others =
     let same_start : start ≡ first = let x = bounds.first in let y = others.first in cc in
     let same_end : past ≡ end = let x = bounds.end in let y = others.end in cc in
@@ -65,3 +68,41 @@ module _ (month start past : ℕ) (bounds : AreBounds month start past) where
       → IsMonthSheet n name line report.breaches.items report.horizon month text
       → IsTextOf (λ d. OfReport (λ breaches debts horizon. IsMonthSheet n d.name (held_spans d) breaches horizon month) d) (driver_of n s) (Ok (Long text))
   sheet_shown n s name line report text = sheet_of n (driver_of n s) name line report text
+
+-- ---- stretches
+
+-- a text of the stretches of a driver
+of_stretches : (Is : List Judged → List ℕ → Type 0) (o : Option Driver) (stretches : List Judged) (text : List ℕ)
+    → told_of {A = Unit {0}} (λ d. Ok tt) o ≡ Ok tt → IfSome o (λ d. AreStretches (held_spans d) (1440 * d.base) stretches)
+    → Is stretches text → IsTextOf (OfStretches Is) o (Ok (Long text))
+of_stretches Is None stretches text there are is = cc
+of_stretches Is (Some d) stretches text there are is = (stretches, are, is)
+
+pub stretches_shown : (Is : List Judged → List ℕ → Type 0) (n : ℕ) (s : State) (stretches : List Judged) (text : List ℕ)
+    → reported n s ≡ Ok tt → AreStretchesOf n s stretches → Is stretches text → IsTextOf (OfStretches Is) (driver_of n s) (Ok (Long text))
+stretches_shown Is n s stretches text = of_stretches Is (driver_of n s) stretches text
+
+-- what stretches say of the range that they speak of
+abbrev pub AreEnds : List Judged → ℕ → ℕ → Type 0
+AreEnds stretches start past =
+    (line : List Span) (base end : ℕ) → AreStretches line base stretches → IsEndOfHeld line base end → (start ≡ base) × (past ≡ end)
+
+-- the form of a driver
+form_of : (o : Option Driver) (stretches : List Judged) (start past : ℕ) (line : List Span) (text : List ℕ)
+    → told_of {A = Unit {0}} (λ d. Ok tt) o ≡ Ok tt → IfSome o (λ d. AreStretches (held_spans d) (1440 * d.base) stretches)
+    → AreEnds stretches start past → IfSome o (λ d. AgreeWithin start past line (held_spans d)) → IsForm line start past text
+    → IsTextOf IsFormOf o (Ok (Long text))
+form_of None stretches start past line text there are ends within is = cc
+form_of (Some d) stretches start past line text there are ends within is =
+    let both = ends (held_spans d) (1440 * d.base) are.end are are.is_end in
+    let his = form_same line (held_spans d) start past text within is in (
+      are.end,
+      are.is_end,
+      subst (λ (end : ℕ). IsForm (held_spans d) (1440 * d.base) end text) both.1
+          (subst (λ (base : ℕ). IsForm (held_spans d) base past text) both.0 his),
+    )
+
+pub form_shown : (n : ℕ) (s : State) (stretches : List Judged) (start past : ℕ) (line : List Span) (text : List ℕ) → reported n s ≡ Ok tt
+    → AreStretchesOf n s stretches → AreEnds stretches start past → IsHeldWithin n start past s line → IsForm line start past text
+    → IsTextOf IsFormOf (driver_of n s) (Ok (Long text))
+form_shown n s stretches start past line text = form_of (driver_of n s) stretches start past line text

@@ -1,16 +1,18 @@
 -- Trusted: What each task tells of an archive, and the state after it.
-use Rattle.std.specs.Prelude.{◌≡◌, ◌⊎◌, ℕ, ◌*◌, ◌==◌, List, Result, Ok, Err, codes, flat_map, if◌then◌else◌, length}
+use Rattle.std.specs.Prelude.{◌≡◌, ◌⊎◌, ℕ, ◌*◌, ◌==◌, List, [], ◌∷◌, ◌++◌, Some, Result, Ok, Err, codes, flat_map, if◌then◌else◌, length}
 use Rattle.tacho_line.specs.declared.horizon.Horizon.{Horizon}
 use Rattle.tacho_card.specs.declared.fault.CardFault.{CardFault}
 use Rattle.tacho_card.specs.declared.file.Part.{Part}
 use Rattle.tacho_hours.specs.declared.breach.Breach.{Breach}
 use Rattle.tacho_hours.specs.declared.debt.Debt.{Debt}
 use Rattle.tacho_rules.specs.Report.{IsReport}
+use Rattle.tacho_stretches.specs.Start.{IsEndOfHeld}
+use Rattle.tacho_stretches.specs.Stretches.{Judged, AreStretches}
 use Rattle.tacho_state.specs.Acts.{caller_number}
 use Rattle.tacho_state.specs.Batch.{batch_of}
 use Rattle.tacho_state.specs.Content.{FileTells, part_number}
 use Rattle.tacho_state.specs.Registration.{Registration}
-use Rattle.tacho_state.specs.State.{Driver, State, held_spans}
+use Rattle.tacho_state.specs.State.{Driver, State, driver_of, held_spans}
 use Rattle.tacho_state.specs.Steps.{Content, registered, imported, entered, withdrawn, rebased, listed, downloaded}
 use Rattle.tacho_state.specs.Summaries.{AreSummaries, Summary}
 use Rattle.tacho_state.specs.declared.caller.Caller.{Caller}
@@ -23,6 +25,9 @@ use Rattle.tacho_sheet.specs.declared.fault.SheetFault.TheVariants as sheet
 use Rattle.tacho_sheet.specs.Done.{base_line, entered_text, imported_text, number_line}
 use Rattle.tacho_sheet.specs.Driver.{IsDriverRead}
 use Rattle.tacho_sheet.specs.Entries.{IsRead, Lines}
+use Rattle.tacho_sheet.specs.Form.{IsForm}
+use Rattle.tacho_sheet.specs.Months.{overview_head, IsOverviewRow, incident_head, AreIncidentRows}
+use Rattle.tacho_sheet.specs.Stretches.{stretch_text, debt_text}
 use Rattle.tacho_sheet.specs.Reports.{breach_text, owed_text, IsGapText, IsMonthSheet, IsSpanCsv}
 use Rattle.tacho_sheet.specs.Text.{entry_line, summary_line}
 use Rattle.tacho_desk.specs.Doing.{Doing, IsText, Lists, Refuses, Shows, Steps}
@@ -31,6 +36,8 @@ use Rattle.tacho_desk.specs.Told.{Told, Added, Line, Long, File}
 use Rattle.tacho_desk.specs.declared.fault.Fault.{Fault}
 use Rattle.tacho_desk.specs.declared.task.Task.{Task}
 use Rattle.tacho_desk.specs.declared.task.Task.TheVariants as task
+use Rattle.tacho_desk.specs.declared.want.MonthOfAll.{MonthOfAll}
+use Rattle.tacho_desk.specs.declared.want.MonthOfAll.TheVariants as all
 use Rattle.tacho_desk.specs.declared.want.MonthReading.{MonthReading}
 use Rattle.tacho_desk.specs.declared.want.MonthReading.TheVariants as month
 use Rattle.tacho_desk.specs.declared.want.Reading.{Reading}
@@ -89,11 +96,22 @@ OfReport Is d text =
     (horizon : Horizon) × (breaches : List Breach) × (debts : List Debt) × IsReport (held_spans d) (1440 * d.base) horizon breaches debts
     × Is breaches debts horizon text
 
+-- a text of the stretches of what the driver holds, from the base on
+abbrev pub OfStretches : (List Judged → List ℕ → Type 0) → Driver → List ℕ → Type 0
+OfStretches Is d text = (stretches : List Judged) × AreStretches (held_spans d) (1440 * d.base) stretches × Is stretches text
+
+-- the form for the minutes from the base to the end of what is held that the driver doesn't hold
+abbrev pub IsFormOf : Driver → List ℕ → Type 0
+IsFormOf d text = (end : ℕ) × IsEndOfHeld (held_spans d) (1440 * d.base) end × IsForm (held_spans d) (1440 * d.base) end text
+
 -- a text of a driver
 abbrev pub ShowsReading : Reading → ℕ → State → Doing
 ShowsReading reading.Breaches n s = Shows (OfReport (λ breaches debts horizon text. text ≡ breach_text breaches horizon)) n s
 ShowsReading reading.Owed n s = Shows (OfReport (λ breaches debts horizon text. text ≡ owed_text debts horizon)) n s
 ShowsReading reading.Entries n s = Lists (λ entries. Long (flat_map entry_line entries)) s (listed n s)
+ShowsReading reading.Stretches n s = Shows (OfStretches (λ stretches text. text ≡ stretch_text stretches)) n s
+ShowsReading reading.Debts n s = Shows (OfStretches (λ stretches text. text ≡ debt_text stretches)) n s
+ShowsReading reading.Form n s = Shows IsFormOf n s
 
 -- a text of his month
 abbrev pub ShowsMonth : MonthReading → ℕ → ℕ → State → Doing
@@ -109,6 +127,26 @@ abbrev pub ShowsDrivers : State → Doing
 ShowsDrivers s answer after =
     IsText (λ text. (summaries : List Summary) × AreSummaries s summaries × (text ≡ flat_map summary_line summaries)) answer × (after ≡ s)
 
+-- a text of each driver that is listed, one after the other
+abbrev pub AreOfEach : (Summary → Driver → List ℕ → Type 0) → State → List Summary → List ℕ → Type 0
+AreOfEach Is s [] text = text ≡ []
+AreOfEach Is s (x ∷ listed) text =
+    (d : Driver) × (driver_of x.number s ≡ Some d)
+    × (front : List ℕ) × (back : List ℕ) × (text ≡ front ++ back) × Is x d front × AreOfEach Is s listed back
+
+-- a head, and a text of each driver of the state, the lower number first
+abbrev pub IsOfAll : List ℕ → (Summary → Driver → List ℕ → Type 0) → State → List ℕ → Type 0
+IsOfAll head Is s text =
+    (summaries : List Summary) × AreSummaries s summaries × (rows : List ℕ) × (text ≡ head ++ rows) × AreOfEach Is s summaries rows
+
+-- a text of a month of all drivers
+abbrev pub ShowsMonthOfAll : MonthOfAll → ℕ → State → Doing
+ShowsMonthOfAll all.Overview m s answer after =
+    IsText (IsOfAll overview_head (λ x d. OfStretches (λ stretches. IsOverviewRow x.number x.name (held_spans d) stretches m) d) s) answer
+    × (after ≡ s)
+ShowsMonthOfAll all.Incidents m s answer after =
+    IsText (IsOfAll incident_head (λ x d. OfStretches (λ stretches. AreIncidentRows x.number x.name stretches m) d) s) answer × (after ≡ s)
+
 -- ---- tasks
 
 -- what is wanted by a task
@@ -122,6 +160,7 @@ want_of (task.Reading n text) = want.Reading text
 want_of (task.MonthReading n m text) = want.MonthReading text
 want_of (task.File n number) = want.File
 want_of task.Drivers = want.Drivers
+want_of (task.MonthOfAll m text) = want.MonthOfAll text
 
 -- what a task tells over its input, and the state after it
 abbrev pub Does : Task → List ℕ → State → Doing
@@ -134,6 +173,7 @@ Does (task.Reading n text) input s = ShowsReading text n s
 Does (task.MonthReading n m text) input s = ShowsMonth text m n s
 Does (task.File n number) input s = ShowsFile n number s
 Does task.Drivers input s = ShowsDrivers s
+Does (task.MonthOfAll m text) input s = ShowsMonthOfAll text m s
 
 -- ---- inputs
 

@@ -4,8 +4,9 @@
 ghost use Rattle.tacho_desk.specs.Own.{OneAnswer, OthersStay, RefusalsStay, SameAnswers};
 
 use tacho_rules::laws::one_report;
-use tacho_sheet::laws::{one_sheet_of_a_month, one_text_of_a_month};
+use tacho_sheet::laws::{one_form, one_sheet_of_a_month, one_text_of_a_month};
 use tacho_state::laws::one_content;
+use tacho_stretches::laws::one_list_of_stretches;
 
 /// A refusal changes nothing.
 pub fn refusals_change_nothing()
@@ -26,4 +27,6 @@ pub fn own_tasks_have_one_answer()
     one_report();
     one_text_of_a_month();
     one_sheet_of_a_month();
+    one_list_of_stretches();
+    one_form();
 }

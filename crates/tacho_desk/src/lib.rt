@@ -2,6 +2,7 @@
 //! tells over its input, or its fault.
 #![tactic(auto)]
 
+mod all;
 mod base;
 mod commands;
 mod fault;
@@ -16,5 +17,5 @@ pub use base::BaseDay;
 pub use fault::Fault;
 pub use task::{Task, carry_out};
 pub use text::Text;
-pub use want::{MonthReading, Reading, Want};
+pub use want::{MonthOfAll, MonthReading, Reading, Want};
 pub use words::{part_of, task_of};

@@ -12,9 +12,11 @@ use crate::text::Text;
 use crate::want::{MonthReading, Reading};
 use std::alloc::Global;
 use tacho_sheet::{
-    breach_text, driver_text, entry_text, gap_text, month_sheet, owed_text, span_csv,
+    breach_text, debt_text, driver_text, entry_text, form_text, gap_text, month_sheet, owed_text,
+    span_csv, stretch_text,
 };
 use tacho_state::Keeper;
+use tacho_stretches::range_of;
 use tacho_time::{Month, month_range};
 
 /// A text of a driver.
@@ -30,6 +32,9 @@ pub(crate) fn show<K: Keeper>(
         Reading::Breaches => breaches(alloc, keeper, driver),
         Reading::Owed => owed(alloc, keeper, driver),
         Reading::Entries => entries(alloc, keeper, driver),
+        Reading::Stretches => stretches(alloc, keeper, driver),
+        Reading::Debts => debts(alloc, keeper, driver),
+        Reading::Form => form(alloc, keeper, driver),
     }
 }
 
@@ -102,6 +107,32 @@ fn entries<K: Keeper>(alloc: Global, keeper: &mut K, driver: u32) -> Result<Text
 {
     let entries = keeper.entries(alloc, driver)?;
     Ok(Text::Long(entry_text(alloc, &entries)?))
+}
+
+/// The breaches of a driver by stretches, and what isn't examined.
+fn stretches<K: Keeper>(alloc: Global, keeper: &mut K, driver: u32) -> Result<Text, Fault>
+    ensures { Serves K.stands K.is_clean K.is_live K.leaves keeper.old keeper.new false (answer_of result) (ShowsReading reading.Stretches driver) }
+{
+    let stretches = keeper.stretches(alloc, driver)?;
+    Ok(Text::Long(stretch_text(alloc, &stretches)?))
+}
+
+/// The weekly rests that a driver is owed, by stretches.
+fn debts<K: Keeper>(alloc: Global, keeper: &mut K, driver: u32) -> Result<Text, Fault>
+    ensures { Serves K.stands K.is_clean K.is_live K.leaves keeper.old keeper.new false (answer_of result) (ShowsReading reading.Debts driver) }
+{
+    let stretches = keeper.stretches(alloc, driver)?;
+    Ok(Text::Long(debt_text(alloc, &stretches)?))
+}
+
+/// The form for the minutes that a driver doesn't hold.
+fn form<K: Keeper>(alloc: Global, keeper: &mut K, driver: u32) -> Result<Text, Fault>
+    ensures { Serves K.stands K.is_clean K.is_live K.leaves keeper.old keeper.new false (answer_of result) (ShowsReading reading.Form driver) }
+{
+    let stretches = keeper.stretches(alloc, driver)?;
+    let (base, end) = range_of(&stretches);
+    let line = keeper.line_within(alloc, driver, base, end)?;
+    Ok(Text::Long(form_text(alloc, &line, base, end)?))
 }
 
 /// A card file that was kept.

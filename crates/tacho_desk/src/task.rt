@@ -6,8 +6,8 @@ ghost use Rattle.tacho_desk.specs.Wants.{is_command};
 use crate::base::BaseDay;
 use crate::fault::Fault;
 use crate::text::Text;
-use crate::want::{MonthReading, Reading};
-use crate::{commands, readings};
+use crate::want::{MonthOfAll, MonthReading, Reading};
+use crate::{all, commands, readings};
 use std::alloc::Global;
 use tacho_card::Part;
 use tacho_state::{Caller, Keeper};
@@ -48,6 +48,11 @@ pub enum Task {
         month: Month,
         reading: MonthReading,
     },
+    /// A text of a month of all drivers.
+    MonthOfAll {
+        month: Month,
+        reading: MonthOfAll,
+    },
     /// A card file that was kept.
     File {
         driver: u32,
@@ -81,6 +86,7 @@ pub fn carry_out<K: Keeper>(
             month,
             reading,
         } => readings::show_month(alloc, keeper, driver, month, reading),
+        Task::MonthOfAll { month, reading } => all::show_month(alloc, keeper, month, reading),
         Task::File { driver, number } => readings::file(alloc, keeper, driver, number),
         Task::Drivers => readings::drivers(alloc, keeper),
     }

@@ -15,6 +15,8 @@ pub enum Want {
     Reading(Reading),
     /// A text of a driver's month.
     MonthReading(MonthReading),
+    /// A text of a month of all drivers.
+    MonthOfAll(MonthOfAll),
     /// A card file that was kept.
     File,
     /// The list of all drivers.
@@ -30,6 +32,12 @@ pub enum Reading {
     Owed,
     /// The hours that were entered by hand.
     Entries,
+    /// The breaches of each stretch, and what isn't examined.
+    Stretches,
+    /// The weekly rests that are owed by each stretch, and what isn't examined.
+    Debts,
+    /// CSV of the minutes that aren't held, to be filled in and entered.
+    Form,
 }
 
 /// A text that is read of a driver's month.
@@ -41,6 +49,15 @@ pub enum MonthReading {
     Gaps,
     /// The sheet of the month.
     Sheet,
+}
+
+/// A text that is read of a month of all drivers, as CSV.
+#[derive(Clone, Copy, Debug, PartialEq, Eq)]
+pub enum MonthOfAll {
+    /// A row for each driver: what they hold, what is examined of it, and how many breaches of each rule.
+    Overview,
+    /// A row for each breach.
+    Incidents,
 }
 
 impl Want {

@@ -147,6 +147,7 @@ task_is_his want.Enter n driver word t own is = cc
 task_is_his want.Withdraw n driver word t own is = cc
 task_is_his want.Base n driver word t own is = cc
 task_is_his want.Drivers n driver word t own is = cc
+task_is_his (want.MonthOfAll text) n driver word t own is = cc
 
 -- he asks for one task
 number_once : (text : List ℕ) (make : ℕ → Task) (a b : Wanted) → ByNumber most_number text (λ k w. w ≡ Ok (make k)) a → ByNumber most_number text (λ k w. w ≡ Ok (make k)) b → a ≡ b
@@ -182,6 +183,7 @@ task_once want.Enter n driver word a b own x y = cc
 task_once want.Withdraw n driver word a b own x y = cc
 task_once want.Base n driver word a b own x y = cc
 task_once want.Drivers n driver word a b own x y = cc
+task_once (want.MonthOfAll text) n driver word a b own x y = cc
 
 -- a request with a driver's key is his
 own_request : (office key : List ℕ) (h : RequestHead) (rest : List ℕ) (n : ℕ) (s : State) (reply : Reply) (after : State) → key_of h ≡ Some key → bytes_eq key office ≡ false

@@ -1,0 +1,30 @@
+use Rattle.std.proofs.Common.{inl, refl, subst, map, List}
+use Rattle.tacho_stretches.specs.declared.stretch.Stretch.{Stretch}
+use Rattle.tacho_stretches.specs.Stretches.{judged}
+use Rattle.tacho_desk.proofs.ShownLemmas.{AreEnds, form_shown}
+use Rattle.tacho_desk.proofs.readings.form.Goals as goal
+
+pub returns : goal.returns
+returns g c =
+    record {
+      clean = λ clean. c.stretches.ensures.reads.clean (c.line_within.ensures.reads.clean clean);
+      live = λ clean. c.in_ok-line.ensures.reads.live clean;
+      kept = λ is. cc;
+      done = λ clean s stands.
+          let clean_line = c.line_within.ensures.reads.clean clean in
+          let here = c.stretches.ensures.reads.state clean_line s stands in (
+            s,
+            c.line_within.ensures.reads.state clean s here,
+            (
+              form_shown c.args.driver s (map judged c.in_ok-stretches.stretches.items) _ _ c.in_ok-line.line _
+                  (c.in_ok-stretches.ensures.reads.answer clean_line s stands) (c.in_ok-stretches.ensures.stretches clean_line s stands)
+                  (subst (λ (xs : List Stretch). AreEnds (map judged xs) c.range_of-base.result.0 c.range_of-base.result.1)
+                  c.deref.ensures.value c.range_of-base.ensures)
+                  (c.in_ok-line.ensures.within clean s here) c.in_ok-form_text.ensures,
+              refl,
+            ),
+          );
+      crash = λ clean s past stands left.
+          let clean_line = c.line_within.ensures.reads.clean clean in
+          inl (c.line_within.ensures.reads.crash clean past (c.stretches.ensures.reads.crash clean_line past left));
+    }

@@ -1,0 +1,68 @@
+//! The texts that are read of a month of all drivers.
+
+ghost use Rattle.std.specs.Prelude.{false};
+ghost use Rattle.tacho_desk.specs.Doing.{Serves};
+ghost use Rattle.tacho_desk.specs.Tasks.{ShowsMonthOfAll};
+ghost use Rattle.tacho_desk.specs.Told.{answer_of};
+ghost use Rattle.tacho_desk.specs.declared.want.MonthOfAll.TheVariants as all;
+
+use crate::fault::Fault;
+use crate::text::Text;
+use crate::want::MonthOfAll;
+use std::alloc::Global;
+use tacho_sheet::{incident_head, overview_head, push_incidents, push_overview};
+use tacho_state::Keeper;
+use tacho_time::{Month, month_range};
+
+/// A text of a month of all drivers.
+pub(crate) fn show_month<K: Keeper>(
+    alloc: Global,
+    keeper: &mut K,
+    month: Month,
+    reading: MonthOfAll,
+) -> Result<Text, Fault>
+    ensures { Serves K.stands K.is_clean K.is_live K.leaves keeper.old keeper.new false (answer_of result) (ShowsMonthOfAll reading month) }
+{
+    match reading {
+        MonthOfAll::Overview => overview(alloc, keeper, month),
+        MonthOfAll::Incidents => incidents(alloc, keeper, month),
+    }
+}
+
+/// A row for each driver: what they hold in a month, what is examined of it, and how many breaches of each rule.
+fn overview<K: Keeper>(alloc: Global, keeper: &mut K, month: Month) -> Result<Text, Fault>
+    ensures { Serves K.stands K.is_clean K.is_live K.leaves keeper.old keeper.new false (answer_of result)
+        (ShowsMonthOfAll all.Overview month) }
+{
+    let (start, past) = month_range(month);
+    let drivers = keeper.drivers(alloc)?;
+    let mut text = overview_head(alloc)?;
+    for driver in &drivers {
+        let line = keeper.line_within(alloc, driver.number, start, past)?;
+        let stretches = keeper.stretches(alloc, driver.number)?;
+        push_overview(
+            alloc,
+            &mut text,
+            driver.number,
+            &driver.name,
+            &line,
+            &stretches,
+            month,
+        )?;
+    }
+    Ok(Text::Long(text))
+}
+
+/// A row for each breach of a month, driver by driver.
+fn incidents<K: Keeper>(alloc: Global, keeper: &mut K, month: Month) -> Result<Text, Fault>
+    ensures { Serves K.stands K.is_clean K.is_live K.leaves keeper.old keeper.new false (answer_of result)
+        (ShowsMonthOfAll all.Incidents month) }
+{
+    let drivers = keeper.drivers(alloc)?;
+    let mut text = incident_head(alloc)?;
+    for driver in &drivers {
+        let stretches = keeper.stretches(alloc, driver.number)?;
+        push_incidents(&mut text, driver.number, &driver.name, &stretches, month)?;
+    }
+    Ok(Text::Long(text))
+}
