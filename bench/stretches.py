@@ -1,0 +1,60 @@
+"""Measures stretches beside reports, and a month of all drivers beside a report of each, on archives in files.
+
+One archive has a driver with card files of ten years, whose gaps are filled by entered rest, so that the report goes to their end. Another
+has the same files and their gaps: its stretches end at each. A third has fifty drivers with a year each, and their gaps. tacho_script opens
+an archive and does the commands in turns. What a command takes that is refused at its first word is taken out. Each time is the least of some
+rounds, each ratio the median of theirs."""
+import functools
+import os
+
+from archive import NOTHING, Program
+from measuring import Rounds, less
+from office import DRIVER, date_of, fill
+from report import answer_of, make
+
+ROUNDS = 40
+YEARS, DRIVERS = 10, 50
+
+
+def times_of(script, works):
+    """The times of commands, each at its archive behind an opening."""
+    running = {path: Program([script, "archive", path]) for path, _ in works.values()}
+    wanted = {name: answer_of(running[path], command) for name, (path, command) in works.items()}
+
+    def turn(name):
+        path, command = works[name]
+        return {"nothing": running[path].time_of(*NOTHING), "work": running[path].time_of(command, wanted[name])}
+
+    times = Rounds({name: functools.partial(turn, name) for name in works}, ROUNDS)
+    for program in running.values():
+        program.end()
+    return times, {name: text.count("FROM ") for name, text in wanted.items()}
+
+
+def tell(times, found, first):
+    """Prints the times, and their ratios to the first."""
+    cost = less("work", "nothing")
+    for name, stretches in found.items():
+        print(f"{name:40} {stretches:9} {times.least(name, cost):8.3f} {times.ratio(name, first, cost):6.2f}", flush=True)
+
+
+def stretches(folder, script):
+    filled, gaps, many = make(script, folder, YEARS), os.path.join(folder, "gaps.db"), os.path.join(folder, "many.db")
+    fill(script, folder, gaps, DRIVER, YEARS)
+    month = date_of(fill(script, folder, many, DRIVERS, 1))[:7]
+    print(f"stretches of a driver behind the opening: processor time in ms, the least of {ROUNDS} rounds, and the ratio to the first line")
+    print(f"{'':40} {'stretches':>9} {'ms':>8} {'ratio':>6}")
+    works = {
+        f"breaches, {YEARS} years without a gap": (filled, f"breaches - {DRIVER}"),
+        f"stretches, {YEARS} years without a gap": (filled, f"stretches - {DRIVER}"),
+        f"stretches, {YEARS} years with gaps": (gaps, f"stretches - {DRIVER}"),
+        f"form, {YEARS} years with gaps": (gaps, f"form - {DRIVER}"),
+    }
+    tell(*times_of(script, works), next(iter(works)))
+    print(f"a month of {DRIVERS} drivers with a year each, likewise; the first line is of one driver")
+    works = {
+        "stretches of one driver": (many, f"stretches - {DRIVER}"),
+        f"overview of {DRIVERS} drivers": (many, f"overview - {month}"),
+        f"incidents of {DRIVERS} drivers": (many, f"incidents - {month}"),
+    }
+    tell(*times_of(script, works), next(iter(works)))
