@@ -41,6 +41,11 @@ READINGS = [
     "entries 17",
     "file 17 1",
     "drivers",
+    "stretches 17",
+    "debts 17",
+    "overview 2024-03",
+    "incidents 2024-03",
+    "form 17",
 ]
 COMMANDS = ["register", "import both", "enter 17", "withdraw 17 1", "base 17 2024-03-11", *READINGS]
 OPENING = ["migrate", *COMMANDS]
@@ -87,6 +92,16 @@ NO_COMMANDS = [
     ["file", "PATH", "17", "1", "1"],
     ["drivers"],
     ["drivers", "PATH", "17"],
+    ["stretches", "PATH"],
+    ["stretches", "PATH", "17", "2024-03"],
+    ["debts", "PATH"],
+    ["debts", "PATH", "17", "2024-03"],
+    ["overview", "PATH"],
+    ["overview", "PATH", "2024-03", "17"],
+    ["incidents", "PATH"],
+    ["incidents", "PATH", "2024-03", "17"],
+    ["form", "PATH"],
+    ["form", "PATH", "17", "2024-03"],
     ["card"],
     ["card", "both", "17"],
     ["breaches", "PATH", "--all", "17"],

@@ -35,6 +35,7 @@ SIGNED = (["enter", "17"], hours(*SIGNED_ROWS, head=SIGNED_HEAD))
 CONTRADICT = (["enter", "17"], hours("2024-03-04 17:00,2024-03-04 17:40,drive", "2024-03-04 17:40,2024-03-04 19:20,work"))
 WITH_DAY = [REGISTER, (["import", "both"], DAY)]
 WITH_HOURS = [*WITH_DAY, ENTER]
+GAP = (["enter", "17"], hours("2024-03-11 00:00,2024-03-11 07:00,rest", "2024-03-11 07:00,2024-03-11 12:00,drive"))
 REFUSED = (["entries", "0"], b"")  # a command that is refused when its words are read
 
 # What an archive has before, and the command.
@@ -57,6 +58,11 @@ CASES = {
     "entries": ([*WITH_HOURS, SIGNED], (["entries", "17"], b"")),
     "a file": (WITH_DAY, (["file", "17", "1"], b"")),
     "drivers": ([*WITH_HOURS, OTHER], (["drivers"], b"")),
+    "stretches": ([*WITH_HOURS, GAP], (["stretches", "17"], b"")),
+    "debts": ([*WITH_HOURS, GAP], (["debts", "17"], b"")),
+    "an overview": ([*WITH_HOURS, GAP, OTHER], (["overview", "2024-03"], b"")),
+    "incidents": ([*WITH_HOURS, GAP, OTHER], (["incidents", "2024-03"], b"")),
+    "a form": ([*WITH_HOURS, GAP], (["form", "17"], b"")),
 }
 
 

@@ -37,6 +37,8 @@ SIGNED = (["enter", "17"], b"start,past,activity,author,note\n" + SIGNED_ROWS)
 CONTRADICT = (["enter", "17"], b"start,past,activity\n2024-03-04 17:00,2024-03-04 18:00,rest\n2024-03-04 16:00,2024-03-04 17:30,work\n")
 WITH_DAY = [ANNA, (["import", "both"], DAY)]
 WITH_HOURS = [*WITH_DAY, ENTER]
+GAP = (["enter", "17"], b"start,past,activity\n2024-03-11 00:00,2024-03-11 07:00,rest\n2024-03-11 07:00,2024-03-11 12:00,drive\n")
+WITH_GAP = [*WITH_HOURS, GAP]
 OF_SCHEMA_1 = None
 NO_FILE = ()
 
@@ -62,6 +64,11 @@ CASES = {
     "entries": ([*WITH_HOURS, SIGNED], (["entries", "17"], b"")),
     "a file": (WITH_HOURS, (["file", "17", "1"], b"")),
     "drivers": ([*WITH_HOURS, OTHER], (["drivers"], b"")),
+    "stretches": (WITH_GAP, (["stretches", "17"], b"")),
+    "debts": (WITH_GAP, (["debts", "17"], b"")),
+    "an overview": ([*WITH_GAP, OTHER], (["overview", "2024-03"], b"")),
+    "incidents": ([*WITH_GAP, OTHER], (["incidents", "2024-03"], b"")),
+    "a form": (WITH_GAP, (["form", "17"], b"")),
     "a bad month": (WITH_HOURS, (["sheet", "17", "2024-13"], b"")),
 }
 

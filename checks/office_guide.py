@@ -274,7 +274,13 @@ def weeks(office):
         f"17 {HOLDER} 2024-03-04 1 0 Anna Berg\nS10 unknown download\n"
     with elsewhere(office, "empty"):
         yield "a folder without files", office.type(loop), ("0 refused\n", 0)
-    yield office.typed("./tacho gaps archive.db 17 2024-03\n", office.told("gaps", "17", "2024-03") + office.told("breaches", "17"))
+    yield office.typed("./tacho form archive.db 17 > form.csv\n", "")
+    yield "the form", office.read("form.csv"), "start,past,activity,author,note\n2024-03-04 17:00,2024-03-05 00:00,,,\n"
+    yield office.typed("./tacho overview archive.db 2024-03", "")
+    yield "the overview", office.read("overview-2024-03.csv"), office.told("overview", "2024-03")
+    yield "a driver's row", office.read("overview-2024-03.csv").splitlines()[1], "17,Anna Berg,960,0,30,510,0,43140,1020,1" + 9 * ",0"
+    yield "the incidents", office.read("incidents-2024-03.csv"), office.told("incidents", "2024-03")
+    yield office.typed("./tacho stretches archive.db 17\n", office.told("stretches", "17"))
     yield from crews(office)
     yield from forms(office)
     twins = office.block('1 2024-03-09 00:00 2024-03-11 00:00 rest kept "office" ""\n2 2024-03-09')
@@ -297,67 +303,35 @@ def weeks(office):
 
 
 def crews(office):
-    """A day with a second driver: no entry fills it, and with a later base the earlier breaches leave the reports."""
+    """A day with a second driver: no entry fills it, and the examination begins anew at the next Monday."""
     with elsewhere(office, "crew"):
         told = office.told("init") + office.told("register", given=ANNA.replace(b"2024-03-04", b"2024-02-26"))
         hours = b"start,past,activity\n2024-02-26 00:00,2024-02-26 06:00,rest\n2024-02-26 06:00,2024-02-26 10:31,drive\n" \
-            b"2024-02-26 10:31,2024-03-04 00:00,rest\n"
+            b"2024-02-26 10:31,2024-03-04 00:00,rest\n2024-03-11 00:00,2024-03-12 00:00,rest\n"
         told += office.told("enter", "17", given=hours) + office.told("import", "both", given=CREW_DAY)
-        yield "a week, and a day with a second driver", told, "created\nregistered 17\nentered 1 to 3\nadded driver 17 number 1\n"
-        breach = "B1 Art 7 at 2024-02-26 10:30 since 2024-02-26 06:00 amount 1\n"
-        earlier = breach + "EXAMINED TO 2024-03-04 08:30 crew\n"
-        yield "how far it is examined", office.told("breaches", "17"), earlier
+        yield "a week, and a day with a second driver", told, "created\nregistered 17\nentered 1 to 4\nadded driver 17 number 1\n"
         for activity in ("drive", "work", "available", "rest"):
             row = f"start,past,activity\n2024-03-04 08:30,2024-03-04 17:00,{activity}\n".encode()
             yield f"{activity} by hand", office.told("enter", "17", given=row), "S6 contradiction at 2024-03-04 08:30\n"
         yield "the same of the page", page().count("`S6 contradiction at 2024-03-04 08:30`"), 1
-        yield "the sheet before", breach in office.told("sheet", "17", "2024-02"), True
-        yield office.typed("./tacho breaches archive.db 17 > anna-breaches", "base 2024-03-11\n")
-        kept = [office.read(f"anna-{what}-before-2024-03-11.txt") for what in ("breaches", "owed")]
-        yield "the reports that are kept", kept, [earlier, earlier.removeprefix(breach)]
-        yield "the report from a later base", office.told("breaches", "17"), "EXAMINED TO 2024-03-11 00:00 unknown\n"
-        yield "the sheet from a later base", breach in office.told("sheet", "17", "2024-02"), False
-        yield "the old base again", office.told("base", "17", "2024-02-26") + office.told("breaches", "17"), f"base 2024-02-26\n{earlier}"
-
-
-# Gaps of March and April 2024, and the rows that are made of them.
-FORMS = {
-    "no gap": ("", ""),
-    "the open gap alone": ("2024-04-26 15:00 2024-05-01 00:00\n", ""),
-    "an open gap of two months": ("2024-03-26 15:00 2024-04-01 00:00\n2024-04-01 00:00 2024-05-01 00:00\n", ""),
-    "no open gap": ("2024-04-26 15:00 2024-04-27 00:00\n", "2024-04-26 15:00,2024-04-27 00:00,rest\n"),
-    "a gap that ends with a month": (
-        "2024-03-26 15:00 2024-04-01 00:00\n2024-04-01 00:01 2024-04-02 00:00\n",
-        "2024-03-26 15:00,2024-04-01 00:00,rest\n2024-04-01 00:01,2024-04-02 00:00,rest\n",
-    ),
-    "a gap that begins with a month": (
-        "2024-03-26 15:00 2024-03-31 23:59\n2024-04-01 00:00 2024-04-02 00:00\n",
-        "2024-03-26 15:00,2024-03-31 23:59,rest\n2024-04-01 00:00,2024-04-02 00:00,rest\n",
-    ),
-    "a gap of three months": (
-        "2024-02-26 15:00 2024-03-01 00:00\n2024-03-01 00:00 2024-04-01 00:00\n2024-04-01 00:00 2024-04-02 00:00\n",
-        "2024-02-26 15:00,2024-04-02 00:00,rest\n",
-    ),
-}
+        yield "the stretches of the page", office.told("stretches", "17"), office.block("FROM 2024-02-26")
+        yield "the base that isn't moved", office.told("drivers"), f"17 {HOLDER} 2024-02-26 1 4 Anna Berg\n"
 
 
 def forms(office):
-    """The gaps of two months as rows, with one that crosses the end of the first; and of other gaps."""
-    typed = "for month in 2024-03 2024-04; do"
-    form = next(block for block in office.left if block.startswith(typed))
+    """The form for the gaps of some weeks, filled in and entered."""
     held = b"start,past,activity\n2024-03-05 08:00,2024-03-29 16:00,rest\n2024-04-02 06:00,2024-04-26 15:00,rest\n"
     with undone(office):
         yield "what is held around the gaps", office.told("enter", "17", given=held), "entered 1 to 2\n"
-        yield office.typed(typed, "")
-        yield "the gaps of the page", office.read("gaps.txt"), office.block("2024-03-01 00:00 2024-03-04 00:00\n")
-        rows = office.block("start,past,activity\n2024-03-01")
-        yield "the rows of the page", office.read("hours.csv"), rows
-        told = office.told("enter", "17", given=rows.encode()) + office.told("breaches", "17").splitlines(keepends=True)[-1]
-        yield "the rows, entered", told, "entered 3 to 5\nEXAMINED TO 2024-04-26 15:00 unknown\n"
-    for name, (gaps, rows) in FORMS.items():
-        office.write("gaps.txt", gaps)
-        office.run(form[form.index("awk"):])
-        yield f"the rows of {name}", office.read("hours.csv"), f"start,past,activity\n{rows}"
+        yield "the form of the page", office.told("form", "17"), office.block("start,past,activity,author,note\n2024-03-04 17:00")
+        yield office.typed("./tacho form archive.db 17 > form.csv\nsed", "")
+        entered = "entered 3 to 4\n"
+        yield office.typed("./tacho enter archive.db 17 < hours.csv\n", entered)
+        told = office.told("form", "17") + office.told("breaches", "17").splitlines(keepends=True)[-1]
+        yield "no gap is left", told, "start,past,activity,author,note\nEXAMINED TO 2024-04-26 15:00 unknown\n"
+        for given, line in ((",,,", "E6 no such activity in row 2\n"), (",rest,,", "E10 bad author in row 2\n")):
+            form = f"start,past,activity,author,note\n2024-04-26 15:00,2024-04-27 00:00{given}\n".encode()
+            yield f"a row that ends in {given}", office.told("enter", "17", given=form), line
 
 
 # What the first column of the table of spreadsheets says, as rows after the head.
@@ -412,7 +386,7 @@ def spreadsheets(office):
 
 def months(office):
     """A month's sheet; the month of which nothing was examined; and hours that go to another driver."""
-    yield office.typed("./tacho sheet archive.db 17 2024-03", office.told("owed", "17"))
+    yield office.typed("./tacho sheet archive.db 17 2024-03", office.told("debts", "17"))
     yield "the sheet", office.read("anna-2024-03.txt"), office.told("sheet", "17", "2024-03")
     yield "the spans", office.read("anna-2024-03.csv"), office.told("spans", "17", "2024-03")
     shown = office.block("2024-03-04 Mon")

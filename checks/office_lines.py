@@ -9,6 +9,7 @@ from random_commands import date_text, rows_csv, rows_of
 LINES = 30
 FIRST_DAY = 10_957  # 2000-01-01, the first day of a month that is read
 READINGS = ["spans", "gaps", "sheet", "sheet", "breaches", "breaches", "owed", "owed", "entries", "entries", "file", "drivers", "migrate"]
+READINGS += ["stretches", "stretches", "debts", "overview", "incidents", "form"]
 BAD_DRIVERS = ["017", "0", "1000000", "", "+17", "1e3", "\u0661\u0667"]
 BAD_NUMBERS = ["0", "01", "1000001", "x", "99999999999999999999"]
 BAD_MONTHS = ["2024-13", "2024-00", "2024-3", "1999-12", "2100-01", "0000-01", "2024-03-04", "2024/03"]
@@ -27,6 +28,8 @@ BAD = {
     "file": [BAD_DRIVERS, BAD_NUMBERS],
     "drivers": [],
     "migrate": [],
+    "overview": [BAD_MONTHS],
+    "incidents": [BAD_MONTHS],
 }
 
 
@@ -84,6 +87,8 @@ class Lines(random_commands.Commands):
         driver = self.drivers.get(number)
         if word in ("drivers", "migrate"):
             return [word], b""
+        if word in ("overview", "incidents"):
+            return [word, self.month(driver)], b""
         if word in ("spans", "gaps", "sheet"):
             return [word, str(number), self.month(driver)], b""
         if word == "file":

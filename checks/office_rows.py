@@ -111,6 +111,13 @@ GAPS = "2024-03-01 00:00 2024-03-04 00:00\n2024-03-04 17:00 2024-03-05 00:00\n20
 
 ADDED = done("import both", "added driver 17 number 1\n", DAY)
 
+OVERVIEW_HEAD = "driver,name,rest,available,work,drive,crew,none,examined,B1,B2,B3,B4,B5,B6,B7,B8,B9,B10\n"
+INCIDENT_HEAD = "driver,name,kind,article,moment,since,amount\n"
+TWO_MONDAYS = HOURS_HEAD + b"2024-03-04 00:00,2024-03-04 08:00,rest\n" + DRIVEN.removeprefix(HOURS_HEAD)
+TWO_MONDAYS += b"2024-03-11 00:00,2024-03-11 07:00,rest\n2024-03-11 07:00,2024-03-11 11:00,drive\n"
+UNSEEN = "NOT EXAMINED 2024-03-04 17:00 2024-03-11 00:00\n"
+SECOND = "FROM 2024-03-11\nEXAMINED TO 2024-03-11 11:00 unknown\n"
+
 ROWS = {
     "a day": [
         ADDED,
@@ -280,6 +287,32 @@ ROWS = {
         done("withdraw 17 1", "withdrawn 1\n"),
         done("breaches 17", BREACH + EXAMINED),
         done("sheet 17 2024-04", APRIL),
+    ],
+    "two Mondays": [
+        done("stretches 17", f"FROM 2024-03-04\n{UNEXAMINED}"),
+        done("form 17", SIGNED_HEAD),
+        done("enter 17", "entered 1 to 5\n", TWO_MONDAYS),
+        done("stretches 17", f"FROM 2024-03-04\n{BREACH}{EXAMINED}{UNSEEN}{SECOND}"),
+        done("debts 17", f"FROM 2024-03-04\n{EXAMINED}{UNSEEN}{SECOND}"),
+        done("overview 2024-03", f"{OVERVIEW_HEAD}17,Anna Berg,900,0,30,750,0,42960,1680,1,0,0,0,0,0,0,0,0,0\n"),
+        done("incidents 2024-03", f"{INCIDENT_HEAD}17,Anna Berg,B1,Art 7,2024-03-04 13:00,2024-03-04 08:30,240\n"),
+        done("form 17", SIGNED_HEAD + b"2024-03-04 17:00,2024-03-11 00:00,,,\n"),
+        done("overview 2024-02", f"{OVERVIEW_HEAD}17,Anna Berg,0,0,0,0,0,41760,0,0,0,0,0,0,0,0,0,0,0\n"),
+        done("incidents 2024-02", INCIDENT_HEAD),
+        refused("enter 17", "E6 no such activity in row 2", SIGNED_HEAD + b"2024-03-04 17:00,2024-03-11 00:00,,,\n"),
+        refused("enter 17", "E10 bad author in row 2", SIGNED_HEAD + b"2024-03-04 17:00,2024-03-11 00:00,rest,,\n"),
+        done("enter 17", "entered 6 to 6\n", SIGNED_HEAD + b"2024-03-04 17:00,2024-03-11 00:00,rest,Eva Lund,\n"),
+        done("form 17", SIGNED_HEAD),
+        done("stretches 17", f"FROM 2024-03-04\n{BREACH}EXAMINED TO 2024-03-11 11:00 unknown\n"),
+        refused("stretches 017", "N1 bad number"),
+        refused("debts 1000000", "N1 bad number"),
+        refused("form 0", "N1 bad number"),
+        refused("stretches 18", "S4 unknown driver"),
+        refused("debts 18", "S4 unknown driver"),
+        refused("form 18", "S4 unknown driver"),
+        refused("overview 2024-3", "Z1 not of the shape"),
+        refused("overview 2024-13", "Z2 no such date"),
+        refused("incidents 1999-12", "Z3 out of range"),
     ],
 }
 

@@ -15,6 +15,9 @@ import slow_rules
 from slow_archive import Refusal
 
 INPUT_LIMIT = 262_144
+LONGEST = 527_040
+OVERVIEW_HEAD = "driver,name,rest,available,work,drive,crew,none,examined,B1,B2,B3,B4,B5,B6,B7,B8,B9,B10\n"
+INCIDENT_HEAD = "driver,name,kind,article,moment,since,amount\n"
 LAST_DRIVER = 999_999
 LAST_NUMBER = 1_000_000
 EPOCH = datetime.date(1970, 1, 1)
@@ -213,6 +216,94 @@ def report_of(held, base):
     return report_of_runs(tuple(tuple(run) for run in slow_reader.runs(held.items())), 1440 * base)
 
 
+# Stretches
+
+
+class Stretch:
+    """An examination from a Monday on, and where what isn't examined after it ends, if there is anything."""
+
+    def __init__(self, monday, report, unseen):
+        self.monday = monday
+        self.horizon, self.cause, self.breaches, self.debts = report
+        self.unseen = unseen
+
+    def text(self, report):
+        """Its lines, with these of its report."""
+        parts = [f"FROM {slow_reader.minute_text(self.monday)[:10]}\n", report]
+        if self.unseen is not None:
+            parts.append(f"NOT EXAMINED {slow_reader.minute_text(self.horizon)} {slow_reader.minute_text(self.unseen)}\n")
+        return "".join(parts)
+
+
+def is_start(held, minute):
+    """The first minute of a Monday that is held without a second driver."""
+    return (minute - 1440 * 4) % 10080 == 0 and minute in held and held[minute][1] == "single"
+
+
+def end_of_held(held, base):
+    """The minute after the last that is held from a minute on, or that minute."""
+    return max((minute + 1 for minute in held if minute >= base), default=base)
+
+
+def stretches_of(held, base):
+    """The stretches of what is held, from a day on."""
+    runs = tuple(tuple(run) for run in slow_reader.runs(held.items()))
+    starts = [minute for minute in held if is_start(held, minute)]
+    end = end_of_held(held, 1440 * base)
+    found, monday = [], 1440 * base
+    while monday is not None:
+        report = report_of_runs(runs, monday)
+        horizon = report[0]
+        monday_after = min((minute for minute in starts if minute > horizon), default=None)
+        unseen = monday_after if monday_after is not None else end if horizon < end else None
+        found.append(Stretch(monday, report, unseen))
+        monday = monday_after
+    return found
+
+
+def stretches_text(stretches):
+    """The stretches with their breaches."""
+    return "".join(stretch.text(breaches_text(stretch.horizon, stretch.cause, stretch.breaches)) for stretch in stretches)
+
+
+def debts_text(stretches):
+    """The stretches with their debts."""
+    return "".join(stretch.text(owed_text(stretch.horizon, stretch.cause, stretch.debts)) for stretch in stretches)
+
+
+def breaches_in(stretches, minutes):
+    """The breaches of all stretches with their moment among some minutes."""
+    return [breach for stretch in stretches for breach in stretch.breaches if breach[1] in minutes]
+
+
+def overview_row(driver, minutes):
+    """What a driver holds of a month, what is examined of it, and how many breaches of each rule."""
+    held = driver.held()
+    stretches = stretches_of(held, driver.base)
+    columns = [column_of(held.get(minute)) for minute in minutes]
+    amounts = [columns.count(column) for column in [*slow_reader.ACTIVITIES, "crew", "none"]]
+    examined = sum(any(stretch.monday <= minute < stretch.horizon for stretch in stretches) for minute in minutes)
+    kinds = [breach[0] for breach in breaches_in(stretches, minutes)]
+    numbers = [driver.number, driver.name.decode(), *amounts, examined, *(kinds.count(kind) for kind in ARTICLES)]
+    return ",".join(map(str, numbers)) + "\n"
+
+
+def incident_rows(driver, minutes):
+    """The breaches of a driver in a month."""
+    found = breaches_in(stretches_of(driver.held(), driver.base), minutes)
+    return "".join(
+        f"{driver.number},{driver.name.decode()},B{kind},{ARTICLES[kind]},{slow_reader.minute_text(moment)},{slow_reader.minute_text(since)},"
+        f"{amount}\n" for kind, moment, since, amount in found)
+
+
+def form_text(held, base):
+    """What isn't held from a minute to the end of what is held, in rows of 366 days at the most."""
+    runs = slow_reader.runs((minute, "") for minute in range(base, end_of_held(held, base)) if minute not in held)
+    rows = [(start, min(start + LONGEST, past)) for first, past, _ in runs for start in range(first, past, LONGEST)]
+    lines = [f"{slow_reader.minute_text(start)},{slow_reader.minute_text(past)},,,\n" for start, past in rows]
+    return "".join(["start,past,activity,author,note\n", *lines])
+
+
 # The office
 
 
@@ -253,6 +344,11 @@ class Office:
             "entries": lambda: self.entries(*others),
             "file": lambda: self.file(*others),
             "drivers": self.drivers,
+            "stretches": lambda: self.stretches(*others),
+            "debts": lambda: self.debts(*others),
+            "overview": lambda: self.overview(*others),
+            "incidents": lambda: self.incidents(*others),
+            "form": lambda: self.form(*others),
             "migrate": lambda: "migrated\n",
         }
         try:
@@ -355,3 +451,28 @@ class Office:
             for _, driver in sorted(self.archive.drivers.items())
         ]
         return "".join(lines)
+
+    def stretches(self, number):
+        """The breaches of a driver by stretches."""
+        driver = self.driver(number)
+        return stretches_text(stretches_of(driver.held(), driver.base))
+
+    def debts(self, number):
+        """What a driver is owed, by stretches."""
+        driver = self.driver(number)
+        return debts_text(stretches_of(driver.held(), driver.base))
+
+    def overview(self, month):
+        """A row of a month for each driver: Z1, Z2, Z3."""
+        minutes = month_minutes(month_of(month))
+        return OVERVIEW_HEAD + "".join(overview_row(driver, minutes) for _, driver in sorted(self.archive.drivers.items()))
+
+    def incidents(self, month):
+        """A row for each breach of a month: Z1, Z2, Z3."""
+        minutes = month_minutes(month_of(month))
+        return INCIDENT_HEAD + "".join(incident_rows(driver, minutes) for _, driver in sorted(self.archive.drivers.items()))
+
+    def form(self, number):
+        """The form for what a driver doesn't hold."""
+        driver = self.driver(number)
+        return form_text(driver.held(), 1440 * driver.base)

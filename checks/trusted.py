@@ -23,12 +23,14 @@ DOCUMENT = os.path.join(TOP, "docs", "TRUSTED.md")
 
 # The crates by whose public contracts the product is known, each with those of its modules that count, or None for all.
 # The crates that stand between aren't here: what theirs say is used in proofs of these, and the prover has checked it.
-# Of tacho_rules the scan stands between too: the program's reports are told by IsReport, however they are made.
+# Of tacho_rules the scan stands between too: the program's reports are told by IsReport, however they are made. So it is of the pass of
+# tacho_stretches.
 ENTRIES = {
     "tacho_time": None,
     "tacho_card": None,
     "tacho_line": None,
     "tacho_rules": ("examination", "laws", "report"),
+    "tacho_stretches": ("laws", "range", "stretch"),
     "tacho_state": None,
     "tacho_sheet": None,
     "tacho_desk": None,
@@ -45,7 +47,7 @@ Order = collections.namedtuple("Order", "reader question roots left steps")
 LAWYER = Order(
     "A lawyer",
     "which rules are checked, and of which minutes? docs/RULES.md has them in prose, with the Articles",
-    ("tacho_rules::",),
+    ("tacho_rules::", "tacho_stretches::"),
     (),
     (
         ("what a report is", "tacho_rules: Report"),
@@ -56,6 +58,7 @@ LAWYER = Order(
         ("duty days, weeks, and weekly rests that are owed", "tacho_hours: Days Weeks Debts"),
         ("the week in which a weekly rest is counted, and where no choice of weeks serves", "tacho_hours: Choice Anew"),
         ("the breaches B1 to B10, each once, all of them and in order", "tacho_hours: Breaches Exactly Order"),
+        ("where an examination begins anew, and what isn't examined", "tacho_stretches: Start Stretches Ranges Near"),
     ),
 )
 
@@ -63,7 +66,7 @@ DATABASE = Order(
     "A database person",
     "what do the tables stand for, and what does a stop leave? docs/TABLES.md has the tables in prose",
     ("tacho_store::", "tacho_state::keeper::", "tacho_state::laws::a_run_of_calls"),
-    ("tacho_time", "tacho_card", "tacho_line", "tacho_hours", "tacho_rules"),
+    ("tacho_time", "tacho_card", "tacho_line", "tacho_hours", "tacho_rules", "tacho_stretches"),
     (
         ("the tables, and their rows as values of types", "tacho_tables: Schema Rows Tables Making"),
         ("an archive's state, and which state the tables stand for", "tacho_state: State; tacho_reading: Standing"),
@@ -92,7 +95,8 @@ AUDITOR = Order(
          "tacho_card: CardFile DriverActivity Chain DailyRecord ActivityChangeInfo Reading Faults"),
         LAWYER,
         ("texts that come in and go out",
-         "tacho_time: Text Reading Calendar; tacho_sheet: Rows Words Entries Driver Number Text Reports Done Lines"),
+         "tacho_time: Text Reading Calendar; tacho_sheet: Rows Words Entries Driver Number Text Reports Done Lines"
+         " Stretches Months Form"),
         ("the program's words, and what it does without an archive and at one",
          "tacho_cli: Words Office Command Dump Card Holder Fault"),
         ("the rest: streams, want of memory, and words of spans and lines",

@@ -1,0 +1,225 @@
+#!/usr/bin/env python3
+"""Compares the readings of stretches, of a month of all drivers and of the form for gaps with expected outputs and with the slow office.
+
+The folders of checks/readings have commands, their input files, and what the readings print after them, computed by a program that shares no
+code with this repository. Then come random archives of two drivers: weeks with gaps and crew at any place, often at a Monday's first minute
+or beside it; bases before, within and after what is held; and the last minutes of 2099. Each form is filled in and entered: then no gap is
+left. The words are the program and `tacho_script`. The last line is 'N passed, M failed'."""
+import multiprocessing
+import os
+import random
+import subprocess
+import sys
+import tempfile
+
+import compare_archive
+import counting
+import random_cards
+import slow_office
+import slow_reader
+from random_commands import KEYS, NAMES, date_text, driver_csv
+
+SEEDS = 80
+PROCESSES = 2
+FOLDER = os.path.join(os.path.dirname(os.path.abspath(__file__)), "readings")
+DAY, WEEK = 1440, 10_080
+LAST_DAY = 47_481  # 2099-12-31
+NUMBERS = [900, 17]
+
+# Weeks of a driver: how many days the driver works, and the lengths of what is done on each.
+LENGTHS = [15, 30, 44, 45, 60, 120, 240, 269, 270, 271, 285]
+NIGHTS = [480, 539, 540, 599, 660, 661, 1440, 2699, 2700]
+
+
+# Expected outputs
+
+
+def steps_of(case):
+    """The commands of a folder: their words, their input, and what they answer."""
+    with open(os.path.join(FOLDER, case, "steps"), encoding="utf-8") as file:
+        for line in file.read().splitlines():
+            command, arrow, told = line.partition(" -> ")
+            if arrow:
+                words, _, name = command.partition(" < ")
+                yield words.split(" "), content(os.path.join(FOLDER, case, name)) if name else b"", told
+
+
+def content(path):
+    """The bytes of a file."""
+    with open(path, "rb") as file:
+        return file.read()
+
+
+def of_case(program, case):
+    """The comparisons of a folder: its steps, and its readings."""
+    with tempfile.TemporaryDirectory() as folder:
+        path = os.path.join(folder, "archive.db")
+
+        def told(words, given=b""):
+            run = subprocess.run([program, words[0], path, *words[1:]], input=given, capture_output=True)
+            return run.stdout, run.stderr
+
+        yield f"{case}: a new archive", told(["init"]), (b"created\n", b"")
+        for words, given, answer in steps_of(case):
+            yield f"{case}: {' '.join(words)}", told(words, given), (f"{answer}\n".encode(), b"")
+        expected = os.path.join(FOLDER, case, "expected")
+        for name in sorted(os.listdir(expected)):
+            words = name.split("-", 1)
+            yield f"{case}: {name}", told(words), (content(os.path.join(expected, name)), b"")
+
+
+# Random archives
+
+
+class Weeks:
+    """Some weeks of a driver, from a seed: the mark of each minute that the card knows."""
+
+    def __init__(self, chance, last):
+        self.chance = chance
+        self.count = chance.choice([1, 2, 3, 5])
+        monday = chance.choice([19_786, 19_814, last - 7 * self.count, 10_959])
+        self.first = monday - (monday - 4) % 7
+        self.past = min(self.first + 7 * self.count, LAST_DAY + 1)
+        self.marks = {}
+        self.work()
+        for _ in range(chance.choice([0, 1, 2, 3, 6, 9])):
+            self.change()
+
+    def work(self):
+        """Days of work and rest."""
+        minute = DAY * self.first
+        while minute < DAY * self.past:
+            for activity, minutes in [("rest", self.chance.choice(NIGHTS)), *self.shift()]:
+                for place in range(minute, min(minute + minutes, DAY * self.past)):
+                    self.marks[place] = activity, "single"
+                minute += minutes
+
+    def shift(self):
+        """A day's work."""
+        for _ in range(self.chance.choice([1, 2, 3])):
+            yield self.chance.choice(["drive", "drive", "work", "available"]), self.chance.choice(LENGTHS)
+            yield self.chance.choice(["rest", "rest", "work"]), self.chance.choice([15, 30, 45])
+
+    def change(self):
+        """A gap or crew, often from a Monday's first minute on or to it."""
+        week = DAY * (self.first + 7 * self.chance.randrange(self.count + 1))
+        minutes = self.chance.choice([1, 2, 60, DAY, DAY, WEEK - 1, WEEK, WEEK + 1, 2 * WEEK])
+        near = week + self.chance.choice([-1, 0, 0, 0, 1, self.chance.randrange(-WEEK, WEEK)])
+        start = self.chance.choice([near, near, near - minutes])
+        activity = self.chance.choice(["rest", "drive", None, None, None])
+        for place in range(start, start + minutes):
+            if place in self.marks:
+                del self.marks[place]
+                if activity is not None:
+                    self.marks[place] = activity, "crew"
+
+    def word(self, minute):
+        """What the card says from a minute on."""
+        if minute not in self.marks:
+            return random_cards.word(1, 0, 0, minute % DAY)
+        activity, manning = self.marks[minute]
+        return random_cards.word(0, manning == "crew", slow_reader.ACTIVITIES.index(activity), minute % DAY)
+
+    def file(self, holder):
+        """The card file."""
+        records = []
+        for day in range(self.first, self.past):
+            minutes = [m for m in range(DAY * day, DAY * day + DAY) if m == DAY * day or self.marks.get(m) != self.marks.get(m - 1)]
+            records.append(random_cards.record(day, [self.word(minute) for minute in minutes]))
+        blocks = [(random_cards.IDENTIFICATION, holder + b"00"), (random_cards.ACTIVITY, random_cards.activity_data(records, 0, 20))]
+        return b"".join(random_cards.block(identifier, 0, value) for identifier, value in blocks)
+
+    def base(self):
+        """A base before what is held, at its first week, within it, or after it."""
+        return max(10_959, min(self.first + 7 * self.chance.choice([-1, 0, 0, 0, 0, 1, 2, self.count]), LAST_DAY - 2 - (LAST_DAY - 2 - 4) % 7))
+
+    def months(self):
+        """The months of its first and its last day, and the next."""
+        days = {min(day, LAST_DAY) for day in (self.first, self.past - 1, self.past + 31)}
+        return sorted({date_text(day)[:7] for day in days})
+
+
+def filled(form):
+    """A form with an activity and an author in each row."""
+    head, *rows = form.decode().splitlines(keepends=True)
+    return "".join([head, *(row.replace(",,,", ",rest,Eva Lund,") for row in rows)]).encode()
+
+
+def commands_of(seed):
+    """The commands of a seed: two drivers and their files, the readings, the filled forms, and the readings once more."""
+    chance = random.Random(f"readings {seed}")
+    office = slow_office.Office()
+    commands = []
+
+    def add(*command):
+        commands.append((list(command[0]), command[1]))
+        return office.answer(*commands[-1])[0]
+
+    months = set()
+    for place, number in enumerate(NUMBERS):
+        weeks = Weeks(chance, LAST_DAY + 1)
+        months.update(weeks.months())
+        holder = random_cards.HOLDERS[place]
+        add(["register"], driver_csv(number, holder, KEYS[place], weeks.base(), NAMES[place]))
+        if chance.random() < 0.95:
+            add(["import", "both"], weeks.file(holder))
+
+    def read():
+        forms = []
+        for number in map(str, NUMBERS):
+            add(["stretches", number], b"")
+            add(["debts", number], b"")
+            forms.append((number, add(["form", number], b"")))
+        for month in sorted(months):
+            add(["overview", month], b"")
+            add(["incidents", month], b"")
+        return forms
+
+    for number, form in read():
+        add(["enter", number], filled(form))
+    read()
+    return commands
+
+
+def of_seed(program, seed):
+    """The comparisons of a seed's commands, of an archive in a file and in memory."""
+    yield from compare_archive.of_commands(program, f"seed {seed}", commands_of(seed))
+
+
+def of_forms(seed):
+    """The comparisons of a seed's forms, which lack nothing once they were entered: as the slow office answers."""
+    office = slow_office.Office()
+    commands = commands_of(seed)
+    forms = []
+    for words, given in commands:
+        told, status = office.answer(words, given)
+        if words[0] == "form":
+            forms.append(told)
+        if words[0] == "enter":
+            yield f"seed {seed}: a form is entered", status, 0
+    for number, form in zip(NUMBERS, forms[len(NUMBERS):]):
+        yield f"seed {seed}: no gap of driver {number} is left", form, b"start,past,activity,author,note\n"
+
+
+# All
+
+
+def of_question(question):
+    """The comparisons of a question: a function and what it is given."""
+    function, *given = question
+    return list(function(*given))
+
+
+def comparisons(program, script):
+    program, script = os.path.abspath(program), os.path.abspath(script)
+    questions = [(of_case, program, case) for case in sorted(os.listdir(FOLDER))]
+    questions += [(of_seed, script, seed) for seed in range(SEEDS)] + [(of_forms, seed) for seed in range(SEEDS // 4)]
+    with multiprocessing.Pool(PROCESSES) as pool:
+        for found in pool.imap(of_question, questions):
+            yield from found
+        pool.close()
+        pool.join()
+
+
+if __name__ == "__main__":
+    sys.exit(counting.count(comparisons(*sys.argv[1:])))
