@@ -32,10 +32,7 @@ fn take(row: &StoredSpan, pass: StretchPass) -> Result<StretchPass, StoreFault>
 }
 
 /// Takes the spans of the rows that are left of a query on start, past and mark.
-fn take_rows<S: Alter>(
-    rows: &mut Rows<'_, S>,
-    pass: StretchPass,
-) -> Result<StretchPass, StoreFault>
+fn take_rows<S: Alter>(rows: &mut Rows<'_, S>, pass: StretchPass) -> Result<StretchPass, StoreFault>
     ensures reads { ReadsRows S.Store result rows.old.conn rows.new.conn }
     ensures refused { IfErr result IsGivenUp }
     ensures took { HasCleanDisk (state S.Store rows.new.conn.now)
