@@ -1,11 +1,11 @@
 #!/usr/bin/env python3
-"""Runs each test of the readers of CSV, of the texts and of the scan with each of its allocations refused in turn, and looks for
-an answer in place of want of memory. Of tests that ask for no memory it looks that they ask for none.
+"""Runs each test of the readers of CSV, of the texts, of the scan and of the stretches with each of its allocations refused in turn, and
+looks for an answer in place of want of memory. Of tests that ask for no memory it looks that they ask for none.
 
 The words are the program of the worked cases and the compiler of C. A test whose allocation is refused has to end by want of memory,
 which is `Memory` of a reader and `AllocError` of a text.
 
-The four tests that hold spans in a line may pass instead. What is collected there into a list, as the spans of a slice, asks for
+The tests that hold spans in a line may pass instead. What is collected there into a list, as the spans of a slice, asks for
 the room of all that may come, and where that is refused asks at once for the room of one more: only a refusal of both is
 want of memory. So where such a test passes, it is run once more with the next allocation refused as well, and then has to
 end by want of memory. The last line is 'N passed, M failed'."""
@@ -16,19 +16,27 @@ import failing_tables
 import programs
 
 FAULTS = ["error: Memory", "error: AllocError"]
-MODULES = ["sheets", "reports", "scans"]
+MODULES = ["sheets", "reports", "readings", "scans", "stretches"]
 WITHOUT_MEMORY = [  # ask for none
     "scans::a_year_of_office_hours_asks_for_no_memory",
     "sheets::numbers_are_read",
     "sheets::commands_that_were_done_have_lines",
     "sheets::faults_have_lines",
     "sheets::refused_cards_have_the_lines_of_their_faults",
+    "stretches::no_stretches_speak_of_no_minutes",
+    "stretches::spans_come_in_order",
 ]
 COLLECTING = [
+    "readings::a_form_is_printed",
+    "readings::an_overview_is_cut_at_the_ends_of_the_month",
+    "readings::an_overview_is_printed",
     "reports::a_day_with_every_mark_is_printed",
     "reports::a_month_is_printed",
     "reports::gaps_of_a_month_are_printed",
     "reports::spans_of_a_month_are_printed",
+    "stretches::a_debt_is_of_its_stretch",
+    "stretches::lines_have_their_stretches",
+    "stretches::the_last_stretch_ends_with_2099",
 ]
 
 

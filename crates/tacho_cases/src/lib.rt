@@ -17,6 +17,8 @@ mod lines;
 #[cfg(test)]
 mod passes;
 #[cfg(test)]
+mod readings;
+#[cfg(test)]
 mod reports;
 #[cfg(test)]
 mod same;
@@ -24,6 +26,8 @@ mod same;
 mod scans;
 #[cfg(test)]
 mod sheets;
+#[cfg(test)]
+mod stretches;
 #[cfg(test)]
 mod time;
 #[cfg(test)]

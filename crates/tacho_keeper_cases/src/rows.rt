@@ -2,12 +2,12 @@
 
 use crate::step::Standing::{Kept, Withdrawn};
 use crate::step::Step::{
-    Adds, Enter, Has, HasName, HasNoEntries, HasNoLine, HasNoName, HasNoReport, Holds, IsOf, Lacks,
-    Lists, Rebase, Refuses, Register, Repeats, Reports, Withdraw,
+    Adds, Enter, Has, HasName, HasNoEntries, HasNoLine, HasNoName, HasNoReport, HasNoStretches,
+    Holds, IsOf, Lacks, Lists, Rebase, Refuses, Register, Repeats, Reports, Stretches, Withdraw,
 };
 use crate::step::{Code, Listed, Pieces, Step};
 use tacho_card::Part;
-use tacho_rules::Kind;
+use tacho_rules::{Cause, Kind};
 use tacho_state::Caller;
 use tacho_time::Activity;
 
@@ -48,6 +48,12 @@ const TUESDAY: &str = "0504000016000000000000001265e6608000020000000011e019fe";
 
 /// A block of Saturday's first ten hours alone.
 const SATURDAY: &str = "0504000016000000000000001265eba68000010000600071e06258";
+
+/// A block of Monday's first five hours alone, a week later: driving with a second driver.
+const CREW_ON_MONDAY: &str = "0504000014000000000000001065ee4980000100005800012c";
+
+/// A block of Thursday to 20:00: rest, and from 06:00 on driving and work with a second driver.
+const CREW_ON_THURSDAY: &str = "0504000018000000000000001465e903800001000000005968538404b0";
 
 /// A block of activity data without records.
 const EMPTY: &str = "050400001000000000000000000000000000000000";
@@ -714,8 +720,285 @@ const A_WITHDRAWAL_CHANGES_THE_REPORT: &[Step] = &[
     Reports(17, 840, &[]),
 ];
 
+/// Who isn't registered has no stretches (S4); and where nothing is held, the one stretch ends where it begins.
+const STRETCHES_OF_NOTHING: &[Step] = &[
+    HasNoStretches(17, Code::S4),
+    REGISTER_ANNA,
+    Stretches(17, &[(0, 0, Cause::Unknown, None, 0)]),
+    HasNoStretches(18, Code::S4),
+    HasNoStretches(0, Code::S4),
+    HasNoStretches(4_294_967_295, Code::S4),
+    Rebase(17, 7, Ok(())),
+    Stretches(17, &[(10_080, 10_080, Cause::Unknown, None, 0)]),
+];
+
+/// What is held before the base doesn't count: from another one, the 271 minutes of driving have no break.
+const STRETCHES_ARE_FROM_THE_BASE: &[Step] = &[
+    REGISTER_ANNA,
+    Enter(
+        17,
+        "start,past,activity\n\
+        2024-03-04 00:00,2024-03-04 06:00,rest\n\
+        2024-03-04 06:00,2024-03-04 10:31,drive\n",
+        Ok((1, 2)),
+    ),
+    Stretches(17, &[(0, 631, Cause::Unknown, None, 1)]),
+    Rebase(17, 7, Ok(())),
+    Stretches(17, &[(10_080, 10_080, Cause::Unknown, None, 0)]),
+    Rebase(17, 0, Ok(())),
+    Stretches(17, &[(0, 631, Cause::Unknown, None, 1)]),
+];
+
+/// After a gap a stretch begins at the next Monday, and before there is one, all that is held is unseen.
+const A_STRETCH_BEGINS_AFTER_A_GAP: &[Step] = &[
+    REGISTER_ANNA,
+    REGISTER_BERT,
+    Adds(Caller::Office, Part::Both, &[ANNA, FIRST, DAY], 17, 1),
+    Stretches(17, &[(0, 1020, Cause::Unknown, Some(1920), 1)]),
+    Enter(
+        17,
+        "start,past,activity\n\
+        2024-03-11 00:00,2024-03-11 07:00,rest\n\
+        2024-03-11 07:00,2024-03-11 11:00,drive\n",
+        Ok((1, 2)),
+    ),
+    Stretches(
+        17,
+        &[
+            (0, 1020, Cause::Unknown, Some(10_080), 1),
+            (10_080, 10_740, Cause::Unknown, None, 0),
+        ],
+    ),
+    Stretches(18, &[(10_080, 10_080, Cause::Unknown, None, 0)]),
+    Rebase(17, 7, Ok(())),
+    Stretches(17, &[(10_080, 10_740, Cause::Unknown, None, 0)]),
+];
+
+/// A gap ends a minute before a Monday, at its first minute, and a minute after it, where no stretch begins.
+const GAPS_END_NEAR_A_MONDAY: &[Step] = &[
+    REGISTER_ANNA,
+    Enter(
+        17,
+        "start,past,activity\n2024-03-04 00:00,2024-03-04 12:00,rest\n",
+        Ok((1, 1)),
+    ),
+    Enter(
+        17,
+        "start,past,activity\n2024-03-10 23:59,2024-03-11 12:00,rest\n",
+        Ok((2, 1)),
+    ),
+    Stretches(
+        17,
+        &[
+            (0, 720, Cause::Unknown, Some(10_080), 0),
+            (10_080, 10_800, Cause::Unknown, None, 0),
+        ],
+    ),
+    Withdraw(17, 2, Ok(())),
+    Stretches(17, &[(0, 720, Cause::Unknown, None, 0)]),
+    Enter(
+        17,
+        "start,past,activity\n2024-03-11 00:00,2024-03-11 12:00,rest\n",
+        Ok((3, 1)),
+    ),
+    Stretches(
+        17,
+        &[
+            (0, 720, Cause::Unknown, Some(10_080), 0),
+            (10_080, 10_800, Cause::Unknown, None, 0),
+        ],
+    ),
+    Withdraw(17, 3, Ok(())),
+    Enter(
+        17,
+        "start,past,activity\n2024-03-11 00:01,2024-03-11 12:00,rest\n",
+        Ok((4, 1)),
+    ),
+    Stretches(17, &[(0, 720, Cause::Unknown, Some(10_800), 0)]),
+    // A Monday's first minute alone is a stretch.
+    Enter(
+        17,
+        "start,past,activity\n2024-03-18 00:00,2024-03-18 00:01,work\n",
+        Ok((5, 1)),
+    ),
+    Stretches(
+        17,
+        &[
+            (0, 720, Cause::Unknown, Some(20_160), 0),
+            (20_160, 20_161, Cause::Unknown, None, 0),
+        ],
+    ),
+];
+
+/// A stretch ends at a Monday whose first minute isn't held, and the next one begins a week later.
+const A_HORIZON_IS_AT_A_MONDAY: &[Step] = &[
+    REGISTER_ANNA,
+    Enter(
+        17,
+        "start,past,activity\n\
+        2024-03-04 00:00,2024-03-04 06:00,rest\n\
+        2024-03-04 06:00,2024-03-04 10:31,drive\n\
+        2024-03-04 10:31,2024-03-11 00:00,rest\n\
+        2024-03-11 00:01,2024-03-18 06:00,rest\n\
+        2024-03-18 06:00,2024-03-18 10:31,drive\n",
+        Ok((1, 5)),
+    ),
+    Stretches(
+        17,
+        &[
+            (0, 10_080, Cause::Unknown, Some(20_160), 1),
+            (20_160, 20_791, Cause::Unknown, None, 1),
+        ],
+    ),
+];
+
+/// A span has the next Monday in its middle: of 691 minutes of driving 331 are on that day.
+const A_MONDAY_IS_WITHIN_WORK: &[Step] = &[
+    REGISTER_ANNA,
+    Enter(
+        17,
+        "start,past,activity\n\
+        2024-03-04 00:00,2024-03-04 12:00,rest\n\
+        2024-03-10 18:00,2024-03-11 03:00,drive\n\
+        2024-03-11 03:00,2024-03-11 04:00,work\n\
+        2024-03-11 04:00,2024-03-11 06:31,drive\n\
+        2024-03-11 06:31,2024-03-12 00:00,rest\n",
+        Ok((1, 5)),
+    ),
+    Stretches(
+        17,
+        &[
+            (0, 720, Cause::Unknown, Some(10_080), 0),
+            (10_080, 11_520, Cause::Unknown, None, 1),
+        ],
+    ),
+];
+
+/// The base isn't held, and a later Monday is.
+const A_BASE_IS_NOT_HELD: &[Step] = &[
+    REGISTER_ANNA,
+    Enter(
+        17,
+        "start,past,activity\n\
+        2024-03-05 00:00,2024-03-12 00:00,rest\n\
+        2024-03-12 06:00,2024-03-12 11:00,drive\n",
+        Ok((1, 2)),
+    ),
+    Stretches(
+        17,
+        &[
+            (0, 0, Cause::Unknown, Some(10_080), 0),
+            (10_080, 11_520, Cause::Unknown, Some(12_180), 0),
+        ],
+    ),
+];
+
+/// No stretch begins at a Monday whose first minute is held as crew, and crew behind the last one is unseen.
+const A_MONDAY_IS_HELD_AS_CREW: &[Step] = &[
+    REGISTER_ANNA,
+    Enter(
+        17,
+        "start,past,activity\n2024-03-04 00:00,2024-03-05 00:00,rest\n",
+        Ok((1, 1)),
+    ),
+    Adds(Caller::Office, Part::Both, &[ANNA, CREW_ON_MONDAY], 17, 1),
+    Stretches(17, &[(0, 1440, Cause::Unknown, Some(10_380), 0)]),
+    Enter(
+        17,
+        "start,past,activity\n\
+        2024-03-18 00:00,2024-03-18 05:00,rest\n\
+        2024-03-18 05:00,2024-03-18 09:31,drive\n",
+        Ok((2, 2)),
+    ),
+    Stretches(
+        17,
+        &[
+            (0, 1440, Cause::Unknown, Some(20_160), 0),
+            (20_160, 20_731, Cause::Unknown, None, 1),
+        ],
+    ),
+    Withdraw(17, 2, Ok(())),
+    Withdraw(17, 3, Ok(())),
+    Enter(
+        17,
+        "start,past,activity\n2024-03-05 00:00,2024-03-11 00:00,rest\n",
+        Ok((4, 1)),
+    ),
+    Stretches(17, &[(0, 10_080, Cause::Crew, Some(10_380), 0)]),
+    // A base that is held as crew.
+    Rebase(17, 7, Ok(())),
+    Stretches(17, &[(10_080, 10_080, Cause::Crew, Some(10_380), 0)]),
+];
+
+/// A second driver ends a stretch, and the next one begins at a later Monday.
+const CREW_ENDS_A_STRETCH: &[Step] = &[
+    REGISTER_ANNA,
+    Enter(
+        17,
+        "start,past,activity\n2024-03-04 00:00,2024-03-07 00:00,rest\n",
+        Ok((1, 1)),
+    ),
+    Adds(Caller::Office, Part::Both, &[ANNA, CREW_ON_THURSDAY], 17, 1),
+    Stretches(17, &[(0, 4680, Cause::Crew, Some(5520), 0)]),
+    Enter(
+        17,
+        "start,past,activity\n\
+        2024-03-11 00:00,2024-03-11 06:00,rest\n\
+        2024-03-11 06:00,2024-03-11 12:00,drive\n",
+        Ok((2, 2)),
+    ),
+    Stretches(
+        17,
+        &[
+            (0, 4680, Cause::Crew, Some(10_080), 0),
+            (10_080, 10_800, Cause::Unknown, None, 1),
+        ],
+    ),
+];
+
+/// Stretches are of what is held now: a week of rest between two days is withdrawn, then the first day, then the driving.
+const A_WITHDRAWAL_CHANGES_THE_STRETCHES: &[Step] = &[
+    REGISTER_ANNA,
+    Enter(
+        17,
+        "start,past,activity\n\
+        2024-03-04 00:00,2024-03-05 00:00,rest\n\
+        2024-03-05 00:00,2024-03-11 00:00,rest\n\
+        2024-03-11 00:00,2024-03-11 07:00,rest\n\
+        2024-03-11 07:00,2024-03-11 11:31,drive\n",
+        Ok((1, 4)),
+    ),
+    Stretches(17, &[(0, 10_771, Cause::Unknown, None, 1)]),
+    Withdraw(17, 2, Ok(())),
+    Stretches(
+        17,
+        &[
+            (0, 1440, Cause::Unknown, Some(10_080), 0),
+            (10_080, 10_771, Cause::Unknown, None, 1),
+        ],
+    ),
+    Withdraw(17, 1, Ok(())),
+    Stretches(
+        17,
+        &[
+            (0, 0, Cause::Unknown, Some(10_080), 0),
+            (10_080, 10_771, Cause::Unknown, None, 1),
+        ],
+    ),
+    Withdraw(17, 4, Ok(())),
+    Stretches(
+        17,
+        &[
+            (0, 0, Cause::Unknown, Some(10_080), 0),
+            (10_080, 10_500, Cause::Unknown, None, 0),
+        ],
+    ),
+    Withdraw(17, 3, Ok(())),
+    Stretches(17, &[(0, 0, Cause::Unknown, None, 0)]),
+];
+
 /// Each row, with its name.
-pub(crate) const ROWS: [(&str, &[Step]); 29] = [
+pub(crate) const ROWS: [(&str, &[Step]); 39] = [
     ("a day is added", A_DAY_IS_ADDED),
     ("empty data are repeated", EMPTY_DATA_ARE_REPEATED),
     (
@@ -783,5 +1066,18 @@ pub(crate) const ROWS: [(&str, &[Step]); 29] = [
     (
         "a withdrawal changes the report",
         A_WITHDRAWAL_CHANGES_THE_REPORT,
+    ),
+    ("stretches of nothing", STRETCHES_OF_NOTHING),
+    ("stretches are from the base", STRETCHES_ARE_FROM_THE_BASE),
+    ("a stretch begins after a gap", A_STRETCH_BEGINS_AFTER_A_GAP),
+    ("gaps end near a Monday", GAPS_END_NEAR_A_MONDAY),
+    ("a horizon is at a Monday", A_HORIZON_IS_AT_A_MONDAY),
+    ("a Monday is within work", A_MONDAY_IS_WITHIN_WORK),
+    ("a base is not held", A_BASE_IS_NOT_HELD),
+    ("a Monday is held as crew", A_MONDAY_IS_HELD_AS_CREW),
+    ("crew ends a stretch", CREW_ENDS_A_STRETCH),
+    (
+        "a withdrawal changes the stretches",
+        A_WITHDRAWAL_CHANGES_THE_STRETCHES,
     ),
 ];

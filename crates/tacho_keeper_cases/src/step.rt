@@ -10,6 +10,7 @@ use tacho_line::Line;
 use tacho_rules::{Cause, Horizon, Kind, Report};
 use tacho_sheet::read_entries;
 use tacho_state::{Caller, Driver, Entered, Entry, Imported, Keeper, StoreFault};
+use tacho_stretches::Stretch;
 use tacho_time::{Activity, Day, Mark, Minute, Span};
 
 /// Monday 2024-03-04, from which the days of steps are counted.
@@ -35,6 +36,10 @@ pub(crate) type Listed = &'static [(u32, u16, u16, Activity, Standing)];
 
 /// Breaches of the rules: the kind and the moment of each, a minute counted from Monday 00:00.
 pub(crate) type Breaches = &'static [(Kind, u16)];
+
+/// A stretch: its Monday, its horizon and why it is there, where what isn't examined after it ends, and how many breaches it has.
+/// Minutes are counted from Monday 00:00.
+pub(crate) type Judged = (u16, u16, Cause, Option<u16>, usize);
 
 /// Why an archive refuses, by its code. Minutes are counted from Monday 00:00.
 #[derive(Clone, Copy)]
@@ -100,6 +105,8 @@ pub(crate) enum Step {
     Has(u32, u32, Blocks),
     /// A driver is examined up to this minute, counted from Monday 00:00 and not held, and has exactly these breaches, and no debts.
     Reports(u32, u16, Breaches),
+    /// A driver has exactly these stretches.
+    Stretches(u32, &'static [Judged]),
     /// Of a driver no name is read.
     HasNoName(u32, Code),
     /// Of a driver no timeline is read.
@@ -108,6 +115,8 @@ pub(crate) enum Step {
     HasNoEntries(u32, Code),
     /// Of a driver there is no report.
     HasNoReport(u32, Code),
+    /// Of a driver there are no stretches.
+    HasNoStretches(u32, Code),
     /// Of a driver no download with this number is read.
     Lacks(u32, u32, Code),
 }
@@ -205,6 +214,9 @@ fn take_reading<K: Keeper>(
             let report = keeper.report(alloc, driver)?;
             assert_reported(rt, alloc, place, &report, until, breaches)?;
         }
+        Step::Stretches(driver, judged) => {
+            assert_judged(rt, place, &keeper.stretches(alloc, driver)?, judged);
+        }
         reading => take_refused(rt, alloc, keeper, place, reading)?,
     }
     Ok(())
@@ -230,6 +242,9 @@ fn take_refused<K: Keeper>(
         }
         Step::HasNoReport(driver, code) => {
             assert_refused(rt, place, keeper.report(alloc, driver).err(), code);
+        }
+        Step::HasNoStretches(driver, code) => {
+            assert_refused(rt, place, keeper.stretches(alloc, driver).err(), code);
         }
         Step::Lacks(driver, number, code) => {
             let found = keeper.download(alloc, driver, number);
@@ -325,6 +340,27 @@ fn assert_reported(
     assert!(rt; found.as_slice() == wanted.as_slice(), "{place}");
     assert!(rt; report.debts.is_empty(), "{place}");
     Ok(())
+}
+
+/// Stretches are those of a list.
+fn assert_judged(rt: &impl Abort, place: &str, found: &[Stretch], judged: &[Judged]) {
+    assert!(rt; found.len() == judged.len(), "{place}");
+    for (stretch, wanted) in found.iter().zip(judged) {
+        assert!(rt; is_judged(stretch, *wanted), "{place}");
+    }
+}
+
+/// A stretch is one of a list.
+fn is_judged(stretch: &Stretch, wanted: Judged) -> bool {
+    let (monday, until, cause, unseen, breaches) = wanted;
+    let horizon = Horizon {
+        minute: minute_of(until),
+        cause,
+    };
+    stretch.monday == minute_of(monday)
+        && stretch.report.horizon == horizon
+        && stretch.report.breaches.len() == breaches
+        && stretch.unseen == unseen.map(minute_of)
 }
 
 /// The kinds and the moments of breaches.

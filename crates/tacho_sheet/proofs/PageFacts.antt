@@ -12,6 +12,7 @@ use Rattle.tacho_line.specs.declared.horizon.Horizon.{Horizon}
 use Rattle.tacho_hours.specs.declared.breach.Breach.{Breach}
 use Rattle.tacho_hours.specs.declared.debt.Debt.{Debt}
 use Rattle.tacho_hours.specs.declared.breach.Kind.TheVariants.{B1, B2, B3, B4, B5, B6, B7, B8, B9, B10}
+use Rattle.tacho_stretches.specs.Stretches.{Judged}
 use Rattle.tacho_state.specs.declared.driver.Column.TheVariants as column
 use Rattle.tacho_state.specs.declared.entry.Entry.{Entry}
 use Rattle.tacho_state.specs.declared.fault.StoreFault.TheVariants as store
@@ -24,6 +25,9 @@ use Rattle.tacho_sheet.specs.Done.{number_line, imported_text, entered_text, bas
 use Rattle.tacho_sheet.specs.Lines.{fault_line, no_memory_line}
 use Rattle.tacho_sheet.specs.Reports.{kind_name, breach_line, horizon_line, debt_line, gap_line, csv_text}
 use Rattle.tacho_sheet.specs.Reports.{weekday_name, day_line, day_lines, sheet_text}
+use Rattle.tacho_sheet.specs.Stretches.{stretch_text, debt_text}
+use Rattle.tacho_sheet.specs.Months.{article, count_of, incident_head, incident_row, is_examined, kind_code, kinds, overview_head, overview_row}
+use Rattle.tacho_sheet.specs.Form.{form_row}
 use Rattle.tacho_sheet.specs.Text.{entry_line, summary_line}
 
 -- ---- faults of times
@@ -422,3 +426,57 @@ whole : sheet_text 17 (codes "Anna Berg") held (too_long_at_the_wheel ∷ []) it
     ++ codes "B1 Art 7 at 2024-03-04 13:00 since 2024-03-04 08:30 amount 240\n" ++ codes "EXAMINED TO 2024-03-04 17:00 unknown\n"
 unfolding civil year_after month_after digits
 whole = refl
+
+-- ---- stretches
+
+-- those from 4 and from 11 March
+abbrev stretches : List Judged
+stretches =
+    record { monday = 28491840; horizon = its_horizon; breaches = too_long_at_the_wheel ∷ []; debts = []; unseen = Some 28501920 }
+    ∷ record { monday = 28501920; horizon = record { minute = 28502580; cause = Unknown }; breaches = []; debts = []; unseen = None }
+    ∷ []
+
+stretched : stretch_text stretches ≡ codes "FROM 2024-03-04\n"
+    ++ codes "B1 Art 7 at 2024-03-04 13:00 since 2024-03-04 08:30 amount 240\n" ++ codes "EXAMINED TO 2024-03-04 17:00 unknown\n"
+    ++ codes "NOT EXAMINED 2024-03-04 17:00 2024-03-11 00:00\n" ++ codes "FROM 2024-03-11\n" ++ codes "EXAMINED TO 2024-03-11 11:00 unknown\n"
+unfolding civil year_after month_after digits
+stretched = refl
+
+owed_by_stretches : debt_text stretches ≡ codes "FROM 2024-03-04\n" ++ codes "EXAMINED TO 2024-03-04 17:00 unknown\n"
+    ++ codes "NOT EXAMINED 2024-03-04 17:00 2024-03-11 00:00\n" ++ codes "FROM 2024-03-11\n" ++ codes "EXAMINED TO 2024-03-11 11:00 unknown\n"
+unfolding civil year_after month_after digits
+owed_by_stretches = refl
+
+-- ---- a month of all drivers
+
+overview : overview_head ++ overview_row 17 (codes "Anna Berg")
+    (900 ∷ 0 ∷ 30 ∷ 750 ∷ 0 ∷ 42960 ∷ 1680 ∷ map (count_of (too_long_at_the_wheel ∷ [])) kinds)
+    ≡ codes "driver,name,rest,available,work,drive,crew,none,examined,B1,B2,B3,B4,B5,B6,B7,B8,B9,B10\n"
+    ++ codes "17,Anna Berg,900,0,30,750,0,42960,1680,1,0,0,0,0,0,0,0,0,0\n"
+unfolding digits
+overview = refl
+
+-- the minutes at the ends of the two stretches, and those beside them
+examined : map (is_examined stretches) (28491839 ∷ 28491840 ∷ 28492859 ∷ 28492860 ∷ 28501919 ∷ 28501920 ∷ 28502579 ∷ 28502580 ∷ [])
+    ≡ false ∷ true ∷ true ∷ false ∷ false ∷ true ∷ true ∷ false ∷ []
+examined = refl
+
+incidents : incident_head ++ incident_row 17 (codes "Anna Berg") too_long_at_the_wheel
+    ≡ codes "driver,name,kind,article,moment,since,amount\n" ++ codes "17,Anna Berg,B1,Art 7,2024-03-04 13:00,2024-03-04 08:30,240\n"
+unfolding civil year_after month_after digits
+incidents = refl
+
+-- the kinds and their Articles, each in a column of its own
+codes_of_kinds : map kind_code kinds ≡ codes "B1" ∷ codes "B2" ∷ codes "B3" ∷ codes "B4" ∷ codes "B5" ∷ codes "B6" ∷ codes "B7"
+    ∷ codes "B8" ∷ codes "B9" ∷ codes "B10" ∷ []
+codes_of_kinds = refl
+
+articles : map article kinds ≡ codes "Art 7" ∷ codes "Art 8(2)" ∷ codes "Art 8(4)" ∷ codes "Art 6(1)" ∷ codes "Art 6(1)" ∷ codes "Art 6(2)"
+    ∷ codes "Art 6(3)" ∷ codes "Art 8(6)" ∷ codes "Art 8(6)" ∷ codes "Art 8(6b)" ∷ []
+articles = refl
+
+-- ---- the form
+
+form : form_row (record { start = 28492860; past = 28501920 }) ≡ codes "2024-03-04 17:00,2024-03-11 00:00,,,\n"
+unfolding civil year_after month_after
+form = refl

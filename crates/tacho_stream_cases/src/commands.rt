@@ -4,7 +4,7 @@ use std::alloc::{AllocError, Global};
 use std::process::Abort;
 use std::test::Fail;
 use tacho_cli::{Job, Usage, card, dump, holder, parse};
-use tacho_desk::{MonthReading, Reading, Want};
+use tacho_desk::{MonthOfAll, MonthReading, Reading, Want};
 use tacho_time::{Device, Source};
 
 /// Two days: rest, work and drive on 4 March 2024, and rest on the 5th, whose last word is still open.
@@ -368,7 +368,7 @@ fn writers_fail_at_each_call(rt: HostRuntime) -> Result<(), Fail> {
 }
 
 /// Words, and the job that they name.
-static JOBS: [(&[&str], Job<'static>); 20] = [
+static JOBS: [(&[&str], Job<'static>); 25] = [
     (&["tacho", "dump"], Job::Dump),
     (&["tacho", "holder"], Job::Holder),
     (&["tacho", "card", "first"], Job::Card { part: "first" }),
@@ -495,6 +495,51 @@ static JOBS: [(&[&str], Job<'static>); 20] = [
         },
     ),
     (
+        &["tacho", "stretches", "a.db", "17"],
+        Job::AtDesk {
+            archive: "a.db",
+            want: Want::Reading(Reading::Stretches),
+            driver: "17",
+            word: "",
+        },
+    ),
+    (
+        &["tacho", "debts", "a.db", "17"],
+        Job::AtDesk {
+            archive: "a.db",
+            want: Want::Reading(Reading::Debts),
+            driver: "17",
+            word: "",
+        },
+    ),
+    (
+        &["tacho", "form", "a.db", "17"],
+        Job::AtDesk {
+            archive: "a.db",
+            want: Want::Reading(Reading::Form),
+            driver: "17",
+            word: "",
+        },
+    ),
+    (
+        &["tacho", "overview", "a.db", "2024-03"],
+        Job::AtDesk {
+            archive: "a.db",
+            want: Want::MonthOfAll(MonthOfAll::Overview),
+            driver: "",
+            word: "2024-03",
+        },
+    ),
+    (
+        &["tacho", "incidents", "a.db", "2024-03"],
+        Job::AtDesk {
+            archive: "a.db",
+            want: Want::MonthOfAll(MonthOfAll::Incidents),
+            driver: "",
+            word: "2024-03",
+        },
+    ),
+    (
         &["tacho", "serve", "a.db", "office-key-1", "1", "1000000"],
         Job::Serve {
             archive: "a.db",
@@ -577,26 +622,31 @@ Keeps the driving and rest times that driver cards tell
 Usage: tacho <COMMAND>
 
 Commands:
-  dump      Prints the spans of the value of an EF Driver_Activity_Data (0504), a line each: tacho dump < FILE
-  holder    Prints the holder of a whole card download file in hexadecimal digits: tacho holder < FILE
-  card      Prints the spans of a whole card download file, a line each: tacho card PART < FILE, of which PART is both, first or second
-  init      Makes an archive of no drivers in a file that isn't there
-  migrate   Carries an archive of an older version over to this one, once; copy its file before
-  register  Adds a driver: tacho register ARCHIVE < CSV with the head driver,holder,key,base,name
-  import    Keeps a card download file of a driver: tacho import ARCHIVE PART < FILE, of which PART is both, first or second
-  enter     Enters hours of a driver by hand: tacho enter ARCHIVE DRIVER < CSV with the head start,past,activity or start,past,activity,author,note
-  withdraw  Withdraws an entry, which stays listed
-  base      Sets the Monday from which a driver is examined: DATE is YYYY-MM-DD
-  spans     Prints what a driver holds in a month as CSV: MONTH is YYYY-MM
-  gaps      Prints the minutes of a month that a driver doesn't hold
-  sheet     Prints the sheet of a driver's month
-  breaches  Prints the breaches of the rules on driving and rest hours
-  owed      Prints the weekly rests that are owed
-  entries   Prints the hours that were entered by hand
-  file      Prints a card download file that was kept
-  drivers   Prints the drivers, a line each: number, holder, base, how many card files and entries, and name
-  serve     Answers COUNT connections on PORT of 127.0.0.1, a request each: the office's by its KEY, drivers' by their own
-  help      Print this message or the help of the given subcommand(s)
+  dump       Prints the spans of the value of an EF Driver_Activity_Data (0504), a line each: tacho dump < FILE
+  holder     Prints the holder of a whole card download file in hexadecimal digits: tacho holder < FILE
+  card       Prints the spans of a whole card download file, a line each: tacho card PART < FILE, of which PART is both, first or second
+  init       Makes an archive of no drivers in a file that isn't there
+  migrate    Carries an archive of an older version over to this one, once; copy its file before
+  register   Adds a driver: tacho register ARCHIVE < CSV with the head driver,holder,key,base,name
+  import     Keeps a card download file of a driver: tacho import ARCHIVE PART < FILE, of which PART is both, first or second
+  enter      Enters hours of a driver by hand: tacho enter ARCHIVE DRIVER < CSV with the head start,past,activity or start,past,activity,author,note
+  withdraw   Withdraws an entry, which stays listed
+  base       Sets the Monday from which a driver is examined: DATE is YYYY-MM-DD
+  spans      Prints what a driver holds in a month as CSV: MONTH is YYYY-MM
+  gaps       Prints the minutes of a month that a driver doesn't hold
+  sheet      Prints the sheet of a driver's month
+  breaches   Prints the breaches of the rules on driving and rest hours
+  owed       Prints the weekly rests that are owed
+  entries    Prints the hours that were entered by hand
+  file       Prints a card download file that was kept
+  drivers    Prints the drivers, a line each: number, holder, base, how many card files and entries, and name
+  stretches  Prints the breaches from the base on, and anew from the next held Monday after each end; and what isn't examined
+  debts      Prints the weekly rests that are owed, by the same stretches
+  overview   Prints a month of all drivers as CSV: what each holds, how much of it is examined, and how many breaches of each rule
+  incidents  Prints the breaches of a month of all drivers as CSV
+  form       Prints CSV of the minutes that a driver doesn't hold, to be filled in and entered
+  serve      Answers COUNT connections on PORT of 127.0.0.1, a request each: the office's by its KEY, drivers' by their own
+  help       Print this message or the help of the given subcommand(s)
 
 Options:
   -h, --help  Print help
@@ -634,9 +684,47 @@ Options:
   -h, --help  Print help
 ";
 
+const HELP_OF_OVERVIEW: &str = "\
+Prints a month of all drivers as CSV: what each holds, how much of it is examined, and how many breaches of each rule
+
+Usage: tacho overview <archive> <month>
+
+Arguments:
+  <archive>  The path of the archive's file
+  <month>    A month, as 2024-03
+
+Options:
+  -h, --help  Print help
+";
+
+const NO_MONTH: &str = "\
+error: the following required arguments were not provided:
+  <month>
+
+Usage: tacho overview <archive> <month>
+
+For more information, try '--help'.
+";
+
+const A_DRIVER_MORE: &str = "\
+error: unexpected argument '2024-03' found
+
+Usage: tacho incidents <archive> <month>
+
+For more information, try '--help'.
+";
+
+const A_MONTH_MORE: &str = "\
+error: unexpected argument '2024-03' found
+
+Usage: tacho stretches <archive> <driver>
+
+For more information, try '--help'.
+";
+
 const NO_COMMAND: &str = "\
 error: 'tacho' requires a subcommand but one was not provided
-  [subcommands: dump, holder, card, init, migrate, register, import, enter, withdraw, base, spans, gaps, sheet, breaches, owed, entries, file, drivers, serve, help]
+  [subcommands: dump, holder, card, init, migrate, register, import, enter, withdraw, base, spans, gaps, sheet, breaches, owed, entries, file, drivers, stretches, debts, overview, incidents, form, serve, help]
 
 Usage: tacho <COMMAND>
 
@@ -687,5 +775,21 @@ fn other_words_tell_how_they_are_used(rt: HostRuntime) -> Result<(), Fail> {
     assert_same(&rt, other_command.as_str(), OTHER_COMMAND);
     let one_word_more = told(&rt, alloc, &["tacho", "dump", "more"])?;
     assert_same(&rt, one_word_more.as_str(), ONE_WORD_MORE);
+    Ok(())
+}
+
+#[test]
+fn readings_of_all_drivers_have_a_month_alone(rt: HostRuntime) -> Result<(), Fail> {
+    let alloc = rt.alloc();
+    let help = told(&rt, alloc, &["tacho", "overview", "--help"])?;
+    assert_same(&rt, help.as_str(), HELP_OF_OVERVIEW);
+    let no_month = told(&rt, alloc, &["tacho", "overview", "a.db"])?;
+    assert_same(&rt, no_month.as_str(), NO_MONTH);
+    let words = ["tacho", "incidents", "a.db", "17", "2024-03"];
+    let a_driver_more = told(&rt, alloc, &words)?;
+    assert_same(&rt, a_driver_more.as_str(), A_DRIVER_MORE);
+    let words = ["tacho", "stretches", "a.db", "17", "2024-03"];
+    let a_month_more = told(&rt, alloc, &words)?;
+    assert_same(&rt, a_month_more.as_str(), A_MONTH_MORE);
     Ok(())
 }

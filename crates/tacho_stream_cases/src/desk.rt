@@ -6,7 +6,7 @@ use crate::faulty::Faulty;
 use std::alloc::Global;
 use std::test::Fail;
 use tacho_cli::{Job, perform};
-use tacho_desk::{MonthReading, Reading, Want};
+use tacho_desk::{MonthOfAll, MonthReading, Reading, Want};
 use tacho_shelf::Shelf;
 use tacho_time::{Device, Sink, Source};
 
@@ -89,7 +89,7 @@ pub(crate) fn archive_after(alloc: Global, count: usize) -> Result<Shelf, Fail> 
 }
 
 /// Jobs that have no input.
-static WITHOUT_INPUT: [Job<'static>; 10] = [
+static WITHOUT_INPUT: [Job<'static>; 15] = [
     Job::AtDesk {
         archive: "a.db",
         want: Want::Base,
@@ -149,6 +149,36 @@ static WITHOUT_INPUT: [Job<'static>; 10] = [
         want: Want::Drivers,
         driver: "",
         word: "",
+    },
+    Job::AtDesk {
+        archive: "a.db",
+        want: Want::Reading(Reading::Stretches),
+        driver: "17",
+        word: "",
+    },
+    Job::AtDesk {
+        archive: "a.db",
+        want: Want::Reading(Reading::Debts),
+        driver: "17",
+        word: "",
+    },
+    Job::AtDesk {
+        archive: "a.db",
+        want: Want::Reading(Reading::Form),
+        driver: "17",
+        word: "",
+    },
+    Job::AtDesk {
+        archive: "a.db",
+        want: Want::MonthOfAll(MonthOfAll::Overview),
+        driver: "",
+        word: "2024-03",
+    },
+    Job::AtDesk {
+        archive: "a.db",
+        want: Want::MonthOfAll(MonthOfAll::Incidents),
+        driver: "",
+        word: "2024-03",
     },
 ];
 

@@ -12,6 +12,8 @@ mod faulty;
 #[cfg(test)]
 mod heads;
 #[cfg(test)]
+mod readings;
+#[cfg(test)]
 mod requests;
 #[cfg(test)]
 mod routes;

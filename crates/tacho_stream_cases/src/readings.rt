@@ -1,0 +1,343 @@
+//! The texts of stretches, of a month of all drivers, and the form for gaps, as commands over an archive.
+
+use crate::desk::{answer, performed};
+use crate::faulty::Faulty;
+use std::alloc::Global;
+use std::process::Abort;
+use std::test::Fail;
+use tacho_cli::Job;
+use tacho_desk::{MonthOfAll, MonthReading, Reading, Want};
+use tacho_shelf::Shelf;
+use tacho_time::Device;
+
+/// What is wanted, the driver's number and the other word, and the text and the status that are answered.
+type Asked = (Want, &'static str, &'static str, &'static str, u8);
+
+const STRETCHES: Want = Want::Reading(Reading::Stretches);
+
+const DEBTS: Want = Want::Reading(Reading::Debts);
+
+const FORM: Want = Want::Reading(Reading::Form);
+
+const OVERVIEW: Want = Want::MonthOfAll(MonthOfAll::Overview);
+
+const INCIDENTS: Want = Want::MonthOfAll(MonthOfAll::Incidents);
+
+/// What is asked of an archive without drivers.
+static OF_NOBODY: [Asked; 7] = [
+    (
+        OVERVIEW,
+        "",
+        "2024-03",
+        "driver,name,rest,available,work,drive,crew,none,examined,B1,B2,B3,B4,B5,B6,B7,B8,B9,B10\n",
+        0,
+    ),
+    (
+        INCIDENTS,
+        "",
+        "2024-03",
+        "driver,name,kind,article,moment,since,amount\n",
+        0,
+    ),
+    (STRETCHES, "17", "", "S4 unknown driver\n", 1),
+    (DEBTS, "17", "", "S4 unknown driver\n", 1),
+    (FORM, "17", "", "S4 unknown driver\n", 1),
+    (STRETCHES, "999999", "", "S4 unknown driver\n", 1),
+    (FORM, "1", "", "S4 unknown driver\n", 1),
+];
+
+/// What is asked in words that are wrong, of whatever archive. The driver comes before the month.
+static IN_WRONG_WORDS: [Asked; 21] = [
+    (STRETCHES, "0", "", "N1 bad number\n", 1),
+    (STRETCHES, "017", "", "N1 bad number\n", 1),
+    (STRETCHES, "1000000", "", "N1 bad number\n", 1),
+    (STRETCHES, "", "", "N1 bad number\n", 1),
+    (DEBTS, "-17", "", "N1 bad number\n", 1),
+    (DEBTS, "17 ", "", "N1 bad number\n", 1),
+    (FORM, "anna", "", "N1 bad number\n", 1),
+    (FORM, "2024-03", "", "N1 bad number\n", 1),
+    (OVERVIEW, "", "", "Z1 not of the shape\n", 1),
+    (OVERVIEW, "", "2024-3", "Z1 not of the shape\n", 1),
+    (OVERVIEW, "", "2024-03-04", "Z1 not of the shape\n", 1),
+    (OVERVIEW, "", "2024-13", "Z2 no such date\n", 1),
+    (OVERVIEW, "", "2024-00", "Z2 no such date\n", 1),
+    (OVERVIEW, "", "2100-01", "Z3 out of range\n", 1),
+    (INCIDENTS, "", "17", "Z1 not of the shape\n", 1),
+    (INCIDENTS, "", "march", "Z1 not of the shape\n", 1),
+    (INCIDENTS, "", "2024-13", "Z2 no such date\n", 1),
+    (INCIDENTS, "", "1999-12", "Z3 out of range\n", 1),
+    (INCIDENTS, "", "2100-01", "Z3 out of range\n", 1),
+    (
+        Want::MonthReading(MonthReading::Sheet),
+        "017",
+        "2024-13",
+        "N1 bad number\n",
+        1,
+    ),
+    (
+        Want::MonthReading(MonthReading::Sheet),
+        "17",
+        "2024-13",
+        "Z2 no such date\n",
+        1,
+    ),
+];
+
+/// What is asked of an archive with two drivers, of whom one holds hours of two Mondays and the other none.
+static OF_TWO: [Asked; 11] = [
+    (
+        STRETCHES,
+        "17",
+        "",
+        "\
+FROM 2024-03-04
+B1 Art 7 at 2024-03-04 13:00 since 2024-03-04 08:30 amount 240
+EXAMINED TO 2024-03-04 17:00 unknown
+NOT EXAMINED 2024-03-04 17:00 2024-03-11 00:00
+FROM 2024-03-11
+EXAMINED TO 2024-03-11 11:00 unknown
+",
+        0,
+    ),
+    (
+        DEBTS,
+        "17",
+        "",
+        "\
+FROM 2024-03-04
+EXAMINED TO 2024-03-04 17:00 unknown
+NOT EXAMINED 2024-03-04 17:00 2024-03-11 00:00
+FROM 2024-03-11
+EXAMINED TO 2024-03-11 11:00 unknown
+",
+        0,
+    ),
+    (
+        FORM,
+        "17",
+        "",
+        "\
+start,past,activity,author,note
+2024-03-04 17:00,2024-03-11 00:00,,,
+",
+        0,
+    ),
+    (
+        STRETCHES,
+        "5",
+        "",
+        "\
+FROM 2024-03-11
+EXAMINED TO 2024-03-11 00:00 unknown
+",
+        0,
+    ),
+    (
+        DEBTS,
+        "5",
+        "",
+        "\
+FROM 2024-03-11
+EXAMINED TO 2024-03-11 00:00 unknown
+",
+        0,
+    ),
+    (FORM, "5", "", "start,past,activity,author,note\n", 0),
+    (STRETCHES, "6", "", "S4 unknown driver\n", 1),
+    // The lower number first, which came last.
+    (
+        OVERVIEW,
+        "",
+        "2024-03",
+        "\
+driver,name,rest,available,work,drive,crew,none,examined,B1,B2,B3,B4,B5,B6,B7,B8,B9,B10
+5,Ben Olsen,0,0,0,0,0,44640,0,0,0,0,0,0,0,0,0,0,0
+17,Anna Berg,900,0,30,750,0,42960,1680,1,0,0,0,0,0,0,0,0,0
+",
+        0,
+    ),
+    (
+        INCIDENTS,
+        "",
+        "2024-03",
+        "\
+driver,name,kind,article,moment,since,amount
+17,Anna Berg,B1,Art 7,2024-03-04 13:00,2024-03-04 08:30,240
+",
+        0,
+    ),
+    (
+        OVERVIEW,
+        "",
+        "2024-02",
+        "\
+driver,name,rest,available,work,drive,crew,none,examined,B1,B2,B3,B4,B5,B6,B7,B8,B9,B10
+5,Ben Olsen,0,0,0,0,0,41760,0,0,0,0,0,0,0,0,0,0,0
+17,Anna Berg,0,0,0,0,0,41760,0,0,0,0,0,0,0,0,0,0,0
+",
+        0,
+    ),
+    (
+        INCIDENTS,
+        "",
+        "2024-04",
+        "driver,name,kind,article,moment,since,amount\n",
+        0,
+    ),
+];
+
+/// Two drivers, the later number first.
+static DRIVERS: [&[u8]; 2] = [
+    b"driver,holder,key,base,name\n17,0d4431323334353637383930313233,anna-key-1,2024-03-04,Anna Berg\n",
+    b"driver,holder,key,base,name\n5,0d4431323334353637383930313234,ben-key-12,2024-03-11,Ben Olsen\n",
+];
+
+/// Hours of two Mondays.
+const HOURS: &[u8] = b"start,past,activity\n\
+    2024-03-04 00:00,2024-03-04 08:00,rest\n\
+    2024-03-04 08:00,2024-03-04 08:30,work\n\
+    2024-03-04 08:30,2024-03-04 17:00,drive\n\
+    2024-03-11 00:00,2024-03-11 07:00,rest\n\
+    2024-03-11 07:00,2024-03-11 11:00,drive\n";
+
+/// The job of what is wanted.
+fn job_of(want: Want, driver: &'static str, word: &'static str) -> Job<'static> {
+    Job::AtDesk {
+        archive: "a.db",
+        want,
+        driver,
+        word,
+    }
+}
+
+/// An archive with the two drivers and the hours.
+fn archive_of_two(alloc: Global) -> Result<Shelf, Fail> {
+    let mut shelf = Shelf::new(alloc);
+    for driver in DRIVERS {
+        answer(alloc, &mut shelf, job_of(Want::Register, "", ""), driver)?;
+    }
+    answer(alloc, &mut shelf, job_of(Want::Enter, "17", ""), HOURS)?;
+    Ok(shelf)
+}
+
+/// What is asked of an archive is answered.
+fn assert_answered(
+    rt: &impl Abort,
+    alloc: Global,
+    shelf: &mut Shelf,
+    asked: Asked,
+) -> Result<(), Fail> {
+    let (want, driver, word, text, wanted) = asked;
+    let (written, status) = answer(alloc, shelf, job_of(want, driver, word), b"")?;
+    assert!(rt;
+        written.as_slice() == text.as_bytes(),
+        "{want:?} of {driver} and {word}"
+    );
+    assert!(rt; status == wanted, "{want:?} of {driver} and {word}");
+    Ok(())
+}
+
+#[test]
+fn of_no_drivers_heads_are_told(rt: HostRuntime) -> Result<(), Fail> {
+    let mut shelf = Shelf::new(rt.alloc());
+    for asked in OF_NOBODY {
+        assert_answered(&rt, rt.alloc(), &mut shelf, asked)?;
+    }
+    Ok(())
+}
+
+#[test]
+fn wrong_words_are_told_before_the_archive_is_asked(rt: HostRuntime) -> Result<(), Fail> {
+    let mut empty = Shelf::new(rt.alloc());
+    let mut shelf = archive_of_two(rt.alloc())?;
+    for asked in IN_WRONG_WORDS {
+        assert_answered(&rt, rt.alloc(), &mut empty, asked)?;
+        assert_answered(&rt, rt.alloc(), &mut shelf, asked)?;
+    }
+    Ok(())
+}
+
+#[test]
+fn readings_of_two_drivers_are_told(rt: HostRuntime) -> Result<(), Fail> {
+    let mut shelf = archive_of_two(rt.alloc())?;
+    for asked in OF_TWO {
+        assert_answered(&rt, rt.alloc(), &mut shelf, asked)?;
+    }
+    Ok(())
+}
+
+/// What is asked is written up to where a writer fails, which takes seven bytes a call.
+fn assert_cut(rt: &impl Abort, alloc: Global, shelf: &mut Shelf, asked: Asked) -> Result<(), Fail> {
+    let (want, driver, word, text, wanted) = asked;
+    let needed = text.len().div_ceil(7);
+    for calls in 0..needed.saturating_add(2) {
+        let mut writer = Faulty::new(alloc, b"", 7, calls);
+        let job = job_of(want, driver, word);
+        let status = performed(
+            alloc,
+            shelf,
+            job,
+            &mut Device::new(b"".as_slice()),
+            &mut writer,
+        )?;
+        let front = text
+            .as_bytes()
+            .iter()
+            .take(calls.saturating_mul(7))
+            .copied();
+        assert!(rt;
+            front.eq(writer.written.iter().copied()),
+            "{want:?} of {calls} calls"
+        );
+        assert!(rt;
+            status == if calls < needed { 3 } else { wanted },
+            "{want:?} of {calls} calls"
+        );
+    }
+    Ok(())
+}
+
+#[test]
+fn writers_fail_at_each_call(rt: HostRuntime) -> Result<(), Fail> {
+    let mut shelf = archive_of_two(rt.alloc())?;
+    for asked in OF_TWO {
+        assert_cut(&rt, rt.alloc(), &mut shelf, asked)?;
+    }
+    Ok(())
+}
+
+/// What is entered of the form of driver 17 without an activity, without an author, and filled in.
+static FILLED: [(&[u8], &str, u8); 3] = [
+    (
+        b"start,past,activity,author,note\n2024-03-04 17:00,2024-03-11 00:00,,,\n",
+        "E6 no such activity in row 2\n",
+        1,
+    ),
+    (
+        b"start,past,activity,author,note\n2024-03-04 17:00,2024-03-11 00:00,rest,,\n",
+        "E10 bad author in row 2\n",
+        1,
+    ),
+    (
+        b"start,past,activity,author,note\n2024-03-04 17:00,2024-03-11 00:00,rest,Eva Lund,\n",
+        "entered 6 to 6\n",
+        0,
+    ),
+];
+
+#[test]
+fn a_form_is_filled_in(rt: HostRuntime) -> Result<(), Fail> {
+    let alloc = rt.alloc();
+    let mut shelf = archive_of_two(alloc)?;
+    for (text, told, wanted) in FILLED {
+        let (written, status) = answer(alloc, &mut shelf, job_of(Want::Enter, "17", ""), text)?;
+        assert!(rt; written.as_slice() == told.as_bytes(), "{told}");
+        assert!(rt; status == wanted, "{told}");
+    }
+    // No gap is left, and one stretch.
+    let head = "start,past,activity,author,note\n";
+    assert_answered(&rt, alloc, &mut shelf, (FORM, "17", "", head, 0))?;
+    let whole = "FROM 2024-03-04\nEXAMINED TO 2024-03-11 11:00 unknown\n";
+    assert_answered(&rt, alloc, &mut shelf, (DEBTS, "17", "", whole, 0))?;
+    Ok(())
+}
