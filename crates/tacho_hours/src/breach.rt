@@ -19,7 +19,8 @@ pub enum Kind {
     B7,
     /// Article 8(6): a weekly rest that starts later than six days after the last.
     B8,
-    /// Article 8(6): two weeks without two weekly rests, one of them regular.
+    /// Articles 8(6) and 8(9): a week up to which no choice of one week for each weekly rest gives each two neighbouring weeks two weekly
+    /// rests, one of them regular.
     B9,
     /// Article 8(6b): a reduction of a weekly rest that isn't compensated in time.
     B10,

@@ -11,3 +11,4 @@ mod response;
 
 pub use connections::answer_all;
 pub use exchange::{IoFault, Served, answer};
+pub use tacho_message::Status;

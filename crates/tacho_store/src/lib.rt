@@ -12,6 +12,7 @@ mod registration;
 mod withdrawal;
 
 pub use archive::{Archive, open_memory};
+pub use tacho_reading::feed_rows;
 pub use tacho_state::{
     Caller, Column, Driver, Entered, Entry, EntryLine, Imported, Keeper, StoreFault, first_number,
     is_key, is_name,
