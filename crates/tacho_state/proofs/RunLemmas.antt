@@ -1,20 +1,51 @@
--- A run of calls, and what a stop behind it leaves.
+-- A run of calls, and what a crash after it leaves.
 use Rattle.std.proofs.Common.{◌≡◌, ℕ, List, [], ◌∷◌, ◌++◌, Result, Ok, Err, refl, sym, subst}
 use Rattle.tacho_state.specs.declared.fault.StoreFault.{StoreFault}
 use Rattle.tacho_state.specs.declared.fault.StoreFault.TheVariants.{Memory, Store, Card}
 use Rattle.tacho_state.specs.State.{State}
 use Rattle.tacho_state.specs.Steps.{Turn}
-use Rattle.tacho_state.specs.Acts.{Acts, IsAnswered, left}
-use Rattle.tacho_state.specs.Runs.{Call, untold, state_after, AreAnswered, IsCall, IsRun}
+use Rattle.tacho_state.specs.Acts.{Acts, Reads, IsAnswered, IsOfNoFile, left}
+use Rattle.tacho_state.specs.Runs.{Call, untold, state_after, IsSettled, AreAnswered, IsCall, IsRun}
+
+-- what didn't give up was asked, where it isn't of a file
+answered : (fault : StoreFault) → IsOfNoFile {A = Unit {0}} (Err fault) → IsSettled (Err fault) → IsAnswered {A = Unit {0}} (Err fault)
+answered (Card fault) other settled = absurd other
+answered fault other settled = settled
 
 module _ {K : Type 0} {stands : K → State → Type 0} {is_clean is_live : K → Type 0} {leaves : K → List State → Type 0}
     {is_same : K → K → Type 0} {is_same_of : ℕ → K → K → Type 0} where
-  -- a call that acts is one of a run
-  pub acts_call : {A B : Type 0} {view : A → B} {old new : K} (r : Result A StoreFault) (step : State → Turn B)
-      → Acts stands is_clean is_live leaves is_same is_same_of view old new r step
+  -- a command is a call of a run
+  pub command_is_call : {A B : Type 0} {view : A → B} {old new : K} (r : Result A StoreFault) (step : State → Turn B)
+      → Acts stands is_clean is_live leaves is_same is_same_of view old new r step → IsOfNoFile r
       → IsCall stands is_clean leaves old new (record { answer = untold r; after = λ s. (step s).after })
-  acts_call (Ok x) step h = record { clean = h.clean; state = h.state; kept = h.kept; refused = h.refused; crash = h.crash }
-  acts_call (Err fault) step h = record { clean = h.clean; state = h.state; kept = h.kept; refused = h.refused; crash = h.crash }
+  command_is_call (Ok x) step h other =
+      record { clean = h.clean; state = h.state; kept = λ clean s st settled l. h.kept clean s st; crash = h.crash }
+  command_is_call (Err fault) step h other = record {
+    clean = h.clean;
+    state = h.state;
+    kept = λ clean s st settled l. h.refused clean (answered fault other settled) (s ∷ []) l;
+    crash = h.crash;
+  }
+
+module _ {K : Type 0} {stands : K → State → Type 0} {is_clean is_live : K → Type 0} {leaves : K → List State → Type 0}
+    {is_same : K → K → Type 0} where
+  -- a reading is a call of a run
+  pub reading_is_call : {A B : Type 0} {view : A → B} {old new : K} (r : Result A StoreFault) (told : State → Result B StoreFault)
+      → Reads stands is_clean is_live leaves is_same view old new r told
+      → ((s : State) (states : List State) (k : K) → leaves k states → leaves k (s ∷ states))
+      → IsCall stands is_clean leaves old new (record { answer = untold r; after = λ s. s })
+  reading_is_call (Ok x) told h more = record {
+    clean = h.clean;
+    state = h.state;
+    kept = λ clean s st settled l. h.crash clean (s ∷ []) l;
+    crash = λ clean s past st l. more s past _ (h.crash clean past l);
+  }
+  reading_is_call (Err fault) told h more = record {
+    clean = h.clean;
+    state = h.state;
+    kept = λ clean s st settled l. h.crash clean (s ∷ []) l;
+    crash = λ clean s past st l. more s past _ (h.crash clean past l);
+  }
 
 module _ {K : Type 0} (stands : K → State → Type 0) (is_clean : K → Type 0) (leaves : K → List State → Type 0) where
   pub run_clean : (calls : List Call) (old new : K) → IsRun stands is_clean leaves calls old new → is_clean new → is_clean old
@@ -28,23 +59,16 @@ module _ {K : Type 0} (stands : K → State → Type 0) (is_clean : K → Type 0
   run_stands (c ∷ calls) old new (mid, call, rest) clean s st =
       run_stands calls mid new rest clean _ (call.state (run_clean calls mid new rest clean) s st)
 
-  -- behind a call that answered a stop leaves the state that it left alone
-  answered_leaves : (answer : Result (Unit {0}) StoreFault) (after : State → State) (old new : K)
-      → IsCall stands is_clean leaves old new (record { answer = answer; after = after }) → is_clean new → IsAnswered answer
-      → (s : State) → stands old s → leaves old (s ∷ []) → leaves new (left answer s (after s) ∷ [])
-  answered_leaves (Ok x) after old new call clean answered s st l = call.kept clean s st
-  answered_leaves (Err fault) after old new call clean answered s st l = call.refused clean answered (s ∷ []) l
-
-  -- and so behind calls that all did
+  -- after calls that all answered a crash leaves the state that they lead to
   pub run_leaves : (calls : List Call) (old new : K) → IsRun stands is_clean leaves calls old new → is_clean new → AreAnswered calls
       → (s : State) → stands old s → leaves old (s ∷ []) → leaves new (state_after calls s ∷ [])
   run_leaves [] old new run clean answered s st l = subst (λ k. leaves k (s ∷ [])) (sym run) l
   run_leaves (c ∷ calls) old new (mid, call, rest) clean (first, others) s st l =
       let clean_mid = run_clean calls mid new rest clean in
       run_leaves calls mid new rest clean others _ (call.state clean_mid s st)
-      (answered_leaves c.answer c.after old mid call clean_mid first s st l)
+      (call.kept clean_mid s st first l)
 
-  -- behind one more that may have given up a stop leaves that state, or the one that its step leaves
+  -- after one more that may have given up a crash leaves that state, or the one that its step leaves
   pub run_stopped : (calls : List Call) (last : Call) (old new : K) → IsRun stands is_clean leaves (calls ++ last ∷ []) old new → is_clean new
       → AreAnswered calls → (s : State) → stands old s → leaves old (s ∷ [])
       → leaves new (last.after (state_after calls s) ∷ state_after calls s ∷ [])
@@ -53,4 +77,4 @@ module _ {K : Type 0} (stands : K → State → Type 0) (is_clean : K → Type 0
   run_stopped (c ∷ calls) last old new (mid, call, rest) clean (first, others) s st l =
       let clean_mid = run_clean (calls ++ last ∷ []) mid new rest clean in
       run_stopped calls last mid new rest clean others _ (call.state clean_mid s st)
-      (answered_leaves c.answer c.after old mid call clean_mid first s st l)
+      (call.kept clean_mid s st first l)

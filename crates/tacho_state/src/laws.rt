@@ -6,16 +6,18 @@ ghost use Rattle.tacho_time.specs.Spans.{Gives, IsCanonicalOf, Conflicts, IsFirs
 ghost use Rattle.tacho_time.specs.declared.span.Mark.{Mark};
 ghost use Rattle.tacho_time.specs.declared.span.Span.{Span};
 ghost use Rattle.tacho_line.specs.Line.{IsWithin, Together, AreGains};
-ghost use Rattle.tacho_state.specs.declared.fault.StoreFault.TheVariants.{Contradiction, Full};
+ghost use Rattle.tacho_state.specs.declared.fault.StoreFault.{StoreFault as StoreFaultValue};
+ghost use Rattle.tacho_state.specs.declared.fault.StoreFault.TheVariants.{Card, Contradiction, Full};
 ghost use Rattle.tacho_state.specs.Disjoint.{Keeps, near, replaced, AreInRange, AllWithin, With, IsNew};
 ghost use Rattle.tacho_state.specs.Least.{least_conflict, is_within};
 ghost use Rattle.tacho_state.specs.State.{Driver, Entry, State, Given, Held, held_mark, driver_of, entered_spans, entry_from, marked_from, put, with_marked, with_download, with_batch};
 ghost use Rattle.tacho_card.specs.declared.fault.CardFault.{CardFault};
 ghost use Rattle.tacho_card.specs.declared.file.Part.{Part as PartValue};
 ghost use Rattle.tacho_state.specs.Content.{FileTells};
-ghost use Rattle.tacho_state.specs.Steps.{Content, most, import_own, enter_own, withdrawn};
+ghost use Rattle.tacho_state.specs.Steps.{Content, Turn, most, import_own, enter_own, withdrawn};
+ghost use Rattle.tacho_state.specs.Acts.{Acts, Reads, IsOfNoFile};
 ghost use Rattle.tacho_state.specs.declared.imported.Imported.TheVariants.{Added, Repeated};
-ghost use Rattle.tacho_state.specs.Runs.{Call, IsRun, AreAnswered, state_after};
+ghost use Rattle.tacho_state.specs.Runs.{Call, IsCall, IsRun, AreAnswered, state_after, untold};
 
 use crate::keeper::Keeper;
 
@@ -117,9 +119,29 @@ pub fn one_content()
     ensures one { (part : PartValue) (bytes : List ℕ) (a b : Result Content CardFault) → FileTells part bytes a → FileTells part bytes b → a ≡ b }
 {}
 
-/// Calls of an archive, one after the other. Where all of them answered, refusals among them, what is kept stands for the
-/// state that they lead to, and a stop leaves that state. Where one more gave up, a stop leaves that state or the one that
-/// its step leads to: so every call that answered Ok is there.
+/// A command is a call of a run, with its step, unless its file has a fault.
+pub fn commands_are_calls<K: Keeper, A, B>()
+    ensures { (view : A → B) (old new : K) (result : Result A StoreFaultValue) (step : State → Turn B)
+        → Acts K.stands K.is_clean K.is_live K.leaves K.is_same K.is_same_of view old new result step → IsOfNoFile result
+        → IsCall K.stands K.is_clean K.leaves old new (record { answer = untold result; after = λ s. (step s).after }) }
+{}
+
+/// A reading is a call of a run, and leaves the state that it finds.
+pub fn readings_are_calls<K: Keeper, A, B>()
+    ensures { (view : A → B) (old new : K) (result : Result A StoreFaultValue) (told : State → Result B StoreFaultValue)
+        → Reads K.stands K.is_clean K.is_live K.leaves K.is_same view old new result told
+        → IsCall K.stands K.is_clean K.leaves old new (record { answer = untold result; after = λ s. s }) }
+{}
+
+/// An import of a file with a fault is a call of a run, and leaves the state that it finds.
+pub fn refused_files_are_calls<K: Keeper>()
+    ensures { (old new : K) (fault : CardFault) → new ≡ old
+        → IsCall K.stands K.is_clean K.leaves old new (record { answer = Err (Card fault); after = λ s. s }) }
+{}
+
+/// Calls of an archive, one after the other: commands, readings, and imports of files with a fault. Where none of them gave up, refusals among
+/// them, what is kept stands for the state that they lead to, and a crash leaves that state. Where one more gave up, a crash leaves that state or
+/// the one that its step leads to: so every call that answered Ok is there.
 pub fn a_run_of_calls<K: Keeper>()
     ensures stands { (calls : List Call) (old new : K) (s : State) → IsRun K.stands K.is_clean K.leaves calls old new → K.is_clean new
         → K.stands old s → K.stands new (state_after calls s) }

@@ -1,5 +1,5 @@
 -- What a stop leaves is found again.
-use Rattle.std.proofs.Common.{◌≡◌, List, [], ◌∷◌, IsTrue, inl, inr, sym, subst}
+use Rattle.std.proofs.Common.{◌≡◌, ◌⊎◌, List, [], ◌∷◌, IsTrue, inl, inr, sym, subst}
 use Rattle.sqlite.specs.Effect.{Database}
 use Rattle.sqlite.specs.State.{State as Sqlite, IsLive, HasCleanDisk, Survives}
 use Rattle.sqlite.specs.Tree.{Trees}
@@ -31,6 +31,12 @@ pub found_again : (K : Type 0) (stands : K → State → Type 0) (is_live : K �
     → IsAdopted stands is_live leaves found archive → IsOfOne (stands archive) states
 found_again K stands is_live leaves left found archive states leave may it =
     one_weaker _ (stands archive) it.held states (leave found.now.trees may)
+
+-- of two states the one is, or the other
+pub one_of_two : (fact : State → Type 0) (a b : State) → IsOfOne fact (a ∷ b ∷ []) → fact a ⊎ fact b
+one_of_two fact a b (inl is) = inl is
+one_of_two fact a b (inr (inl is)) = inr is
+one_of_two fact a b (inr (inr none)) = absurd none
 
 -- where a stop is known only of a clean disk, it is known of any
 pub crash_by : (old new : Sqlite) (P : Trees → Type 0) → Survives old new (λ _. Unit {0}) → (HasCleanDisk new → Survives old new P)

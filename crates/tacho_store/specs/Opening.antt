@@ -112,20 +112,23 @@ module _ {K : Type 0} (stands : K → State → Type 0) (is_live : K → Type 0)
     pub live : is_live archive
     pub left : leaves archive ([] ∷ [])
 
-  -- the archive that a store had, of schema 2
+  -- the archive that a store had, of schema 2; until it is changed a crash leaves it as it was
   pub record IsAdopted (old : Sqlite) (archive : K) : Type 0 where
     pub was_open : IsTrue old.is_open
     pub held : (s : State) → StandsFor old.now.trees s → stands archive s
     pub live : is_live archive
     pub left : (states : List State) → LeavesOneOf old states → leaves archive states
+    pub rests : (s : State) → StandsFor old.now.trees s → leaves archive (s ∷ [])
     pub found : ¬ IsBlank old
     pub version : IsVersioned old.now → (version : ℕ) → IsVersion version old.now.trees → version ≡ 2
 
-  -- the archive that a store had: of schema 1, whose entries are the office's now, or of schema 2, as it was
+  -- the archive that a store had: of schema 1, whose entries are the office's now, or of schema 2, as it was; until it is changed a crash
+  -- leaves it so
   pub record IsMigrated (old : Sqlite) (archive : K) : Type 0 where
     pub carried : (s : OldState) → StoodFor old.now.trees s → stands archive (with_office s)
     pub held : (s : State) → StandsFor old.now.trees s → stands archive s
     pub live : is_live archive
     pub kept : (s : OldState) → StoodFor old.now.trees s → leaves archive (with_office s ∷ [])
     pub left : (s : State) → StandsFor old.now.trees s → (states : List State) → LeavesOneOf old states → leaves archive states
+    pub rests : (s : State) → StandsFor old.now.trees s → leaves archive (s ∷ [])
     pub found : ¬ IsBlank old

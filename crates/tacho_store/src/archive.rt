@@ -163,7 +163,10 @@ impl<S: Alter> Archive<S> {
     {
         let _sound = conn.schema();
         match check(&mut conn) {
-            Ok(()) => Ok(Archive { conn }),
+            Ok(()) => {
+                let _settled = conn.is_autocommit();
+                Ok(Archive { conn })
+            }
             Err(fault) => Err((fault, conn)),
         }
     }

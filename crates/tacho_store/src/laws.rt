@@ -1,7 +1,7 @@
 //! Laws about what the archive's tables stand for after a command. A law is a function without a body: what it ensures
 //! is proved, and holds for all that it names.
 
-ghost use Rattle.std.specs.Prelude.{◌≡◌, ℕ, ◌+◌, ◌==◌, ◌++◌, List, [], ◌∷◌, None, Some, Ok, filter, length, map};
+ghost use Rattle.std.specs.Prelude.{◌≡◌, ◌⊎◌, ℕ, ◌+◌, ◌==◌, ◌++◌, List, [], ◌∷◌, None, Some, Ok, filter, length, map};
 ghost use Rattle.std.specs.List.{AllByRecursion};
 ghost use Rattle.sqlite.specs.Held.{state};
 ghost use Rattle.tacho_time.specs.Spans.{Gives, IsCanonicalOf};
@@ -11,12 +11,13 @@ ghost use Rattle.tacho_card.specs.declared.file.Part.{Part as PartValue};
 ghost use Rattle.tacho_state.specs.Content.{FileTells, part_number};
 ghost use Rattle.tacho_state.specs.Disjoint.{AreInRange, near, outside};
 ghost use Rattle.tacho_state.specs.State.{Driver, Entry, State, AreFull, driver_of, keyed, holding, entry_from, entered_spans, put, with_base, with_download, with_batch, with_marked};
+ghost use Rattle.tacho_state.specs.Runs.{Call, IsRun, AreAnswered, state_after};
 ghost use Rattle.tacho_state.specs.Steps.{Content};
 ghost use Rattle.tacho_tables.specs.declared.rows.StoredSpan.{StoredSpan as StoredValue};
 ghost use Rattle.tacho_tables.specs.Tables.{Tables, OldTables, carried, no_rows, with_withdrawn};
 ghost use Rattle.tacho_tables.specs.Rows.{OldEntryRow};
 ghost use Rattle.tacho_reading.specs.Kept.{IsOfOne, LeavesOneOf};
-ghost use Rattle.tacho_reading.specs.Standing.{TablesStandFor, spans_of, driver_columns, stored_span, IsReadNear, IsKeptNear};
+ghost use Rattle.tacho_reading.specs.Standing.{StandsFor, TablesStandFor, spans_of, driver_columns, stored_span, IsReadNear, IsKeptNear};
 ghost use Rattle.tacho_store.specs.Old.{OldDriver, OldState, old_entry_rows, with_office};
 ghost use Rattle.tacho_store.specs.Opening.{IsAdopted};
 ghost use Rattle.tacho_store.specs.After.{with_driver, with_rebased, with_imported, with_entered, with_renewed};
@@ -37,6 +38,33 @@ pub fn a_stop_is_found_again<S: Alter>(
         → IsAdopted ⟦<Archive<S> as Keeper>⟧.stands ⟦<Archive<S> as Keeper>⟧.is_live
         ⟦<Archive<S> as Keeper>⟧.leaves (state S.Store found.now) archive.now
         → IsOfOne (⟦<Archive<S> as Keeper>⟧.stands archive.now) states }
+{}
+
+/// Calls of an archive that was adopted, a crash at any moment of the last of them, and what is adopted where the crash left its trees: it stands for
+/// the state that the calls before the last lead to, or the one that the last one's step leaves. None of the calls before the last gave up. So each
+/// command that answered Ok is found again, and a command that gave up is found whole or not at all. `left` is the connection of the last
+/// archive, as `close` hands it back.
+pub fn a_crash_is_found_again<S: Alter>(
+    first: &Connection<S>,
+    opened: &Archive<S>,
+    last: &Archive<S>,
+    left: &Connection<S>,
+    found: &Connection<S>,
+    archive: &Archive<S>,
+)
+    ensures { (s : State) (calls : List Call) (call : Call)
+        → StandsFor (state S.Store first.now).now.trees s
+        → IsAdopted ⟦<Archive<S> as Keeper>⟧.stands ⟦<Archive<S> as Keeper>⟧.is_live
+        ⟦<Archive<S> as Keeper>⟧.leaves (state S.Store first.now) opened.now
+        → IsRun ⟦<Archive<S> as Keeper>⟧.stands ⟦<Archive<S> as Keeper>⟧.is_clean ⟦<Archive<S> as Keeper>⟧.leaves
+        (calls ++ call ∷ []) opened.now last.now
+        → ⟦<Archive<S> as Keeper>⟧.is_clean last.now → AreAnswered calls
+        → ((states : List State) → ⟦<Archive<S> as Keeper>⟧.leaves last.now states → LeavesOneOf (state S.Store left.now) states)
+        → (state S.Store left.now).may_leave (state S.Store found.now).now.trees
+        → IsAdopted ⟦<Archive<S> as Keeper>⟧.stands ⟦<Archive<S> as Keeper>⟧.is_live
+        ⟦<Archive<S> as Keeper>⟧.leaves (state S.Store found.now) archive.now
+        → ⟦<Archive<S> as Keeper>⟧.stands archive.now (call.after (state_after calls s))
+        ⊎ ⟦<Archive<S> as Keeper>⟧.stands archive.now (state_after calls s) }
 {}
 
 /// Empty tables stand for the state with no drivers.

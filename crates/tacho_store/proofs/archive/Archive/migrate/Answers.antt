@@ -47,6 +47,7 @@ module _ (old : Sqlite) (live : IsLive old) where
     live = it.live;
     kept = λ s stood. absurd (not_of_one it.was_open it.version s stood);
     left = λ s stands. it.left;
+    rests = it.rests;
     found = it.found;
   }
 
@@ -120,6 +121,7 @@ returns-in-Ok-carry-clause-migrated g c clean =
       live = it.live clean;
       kept = λ s stood. left_after old live mid new alone was it clean s stood;
       left = λ s stands. absurd (first_old old live mid new alone was it clean s stands);
+      rests = λ s stands. absurd (first_old old live mid new alone was it clean s stands);
       found = first_found old live mid new alone was it clean;
     }
 
