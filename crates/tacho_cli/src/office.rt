@@ -1,4 +1,6 @@
-ghost use Rattle.std.specs.Prelude.{◌≡◌, false, true, MatchResult};
+ghost use Rattle.std.specs.Prelude.{◌≡◌, Err, false, true, MatchResult};
+ghost use Rattle.tacho_desk.specs.Words.{IsTask};
+ghost use Rattle.tacho_desk.specs.declared.fault.Fault.{Fault as FaultValue};
 ghost use Rattle.tacho_desk.specs.Told.{answer_of};
 ghost use Rattle.tacho_desk.specs.Wants.{takes_input as has_text};
 ghost use Rattle.tacho_cli.specs.Office.{HasNotRead, HasRead, OfDesk, Performed, Replied};
@@ -17,9 +19,9 @@ const INPUT_LIMIT: usize = 262_144;
 /// Does a job at an archive, as the office: reads its words from left to right, then its input where it has one (of at most
 /// 262,144 bytes), acts, and writes its text or the line of its fault. Answers the program's status: 0 done, 1 refused, 3 where
 /// memory, the store or a device failed. After a refusal, or where the reader failed, the archive is as before; where the
-/// writer failed the job has acted, and a beginning of its text is written. What a command tells is kept. A job without an input
-/// leaves the reader as it was, and so waits for nobody; and of words or an input with a fault the archive is asked nothing, so that
-/// the store's fault (S12) comes only behind them.
+/// writer failed the job has acted, and a beginning of its text is written. What a command tells is kept. A job without an input, or one
+/// whose arguments have a fault, leaves the reader as it was, and so waits for nobody. Where the arguments or the input have a fault, the archive
+/// isn't asked, so that the store's fault (S12) comes only after them.
 pub fn perform<K: Keeper, R: Source, W: Sink>(
     alloc: Global,
     job: Job<'_>,
@@ -35,6 +37,8 @@ pub fn perform<K: Keeper, R: Source, W: Sink>(
         (R.unread reader.old) (R.has_failed reader.new))
         (W.has_failed writer.new) (W.written writer.old) (W.written writer.new) result) }
     ensures alone { has_input job.entry ≡ false → reader.new ≡ reader.old }
+    ensures words { OfDesk job.entry (λ want driver word. (fault : FaultValue) → IsTask want Caller.Office driver word (Err fault)
+        → reader.new ≡ reader.old) }
 {
     let Job::AtDesk {
         want,
@@ -64,6 +68,7 @@ fn answer<K: Keeper, R: Source>(
     ensures performed { Performed K.stands K.is_clean K.is_live K.leaves keeper.old keeper.new want driver.now word.now
         (R.unread reader.old) (R.has_failed reader.new) (answer_of result) }
     ensures alone { has_text want ≡ false → reader.new ≡ reader.old }
+    ensures words { (fault : FaultValue) → IsTask want Caller.Office driver.now word.now (Err fault) → reader.new ≡ reader.old }
 {
     let task = task_of(want, Caller::Office, driver.as_bytes(), word.as_bytes())?;
     if !want.takes_input() {

@@ -1,12 +1,22 @@
 //! Laws about tasks. A law is a function that does nothing: what it ensures is proved, and holds for all that it names. Some call the laws
 //! on which they stand.
 
+ghost use Rattle.std.specs.Prelude.{◌≡◌, ℕ, List};
+ghost use Rattle.tacho_state.specs.declared.caller.Caller.{Caller};
 ghost use Rattle.tacho_desk.specs.Own.{OneAnswer, OthersStay, RefusalsStay, SameAnswers};
+ghost use Rattle.tacho_desk.specs.Words.{IsTask, Wanted};
+ghost use Rattle.tacho_desk.specs.declared.want.Want.{Want};
 
 use tacho_rules::laws::one_report;
 use tacho_sheet::laws::{one_form, one_sheet_of_a_month, one_text_of_a_month};
 use tacho_state::laws::one_content;
 use tacho_stretches::laws::one_list_of_stretches;
+
+/// Arguments make one task, or have one first fault.
+pub fn one_task()
+    ensures { (want : Want) (caller : Caller) (driver word : List ℕ) (a b : Wanted) → IsTask want caller driver word a
+        → IsTask want caller driver word b → a ≡ b }
+{}
 
 /// A refusal changes nothing.
 pub fn refusals_change_nothing()

@@ -11,6 +11,7 @@ use Rattle.tacho_message.specs.Fields.{values_under}
 use Rattle.tacho_message.specs.Head.{BeginsWith, IsUnfinished as HeadUnfinished, Refuses}
 use Rattle.tacho_message.specs.Request.{fields_of, key_of, only_of}
 use Rattle.tacho_message.specs.declared.head.HeadFault.{HeadFault}
+use Rattle.tacho_state.specs.declared.caller.Caller.{Caller}
 use Rattle.tacho_http.specs.Answer.{IsUnfinished}
 
 -- a head has no more fields than there are places for
@@ -40,9 +41,10 @@ pub refused : (limit room : ℕ) (input : List ℕ) (f : HeadFault) → Refuses 
 refused limit room input f r l m =
     subst (λ (n : ℕ). Refuses 8192 n input f) m (subst (λ (n : ℕ). Refuses n room input f) l r)
 
--- and what is unfinished is no whole request
-pub no_request : (limit : ℕ) (old new : Option (List ℕ)) → HeadUnfinished limit old new → limit ≡ 8192 → IsUnfinished old new
-no_request limit old new h l = record {
+-- and what is unfinished is no whole request, whoever asks
+pub no_request : (IsBy : List ℕ → Caller → Type 0) (limit : ℕ) (old new : Option (List ℕ)) → HeadUnfinished limit old new → limit ≡ 8192
+    → IsUnfinished IsBy old new
+no_request IsBy limit old new h l = record {
   given = h.given;
   came = h.came;
   part = inl (subst (λ (n : ℕ). length h.given < n) l h.short, h.none, h.more);

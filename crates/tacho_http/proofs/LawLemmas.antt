@@ -1,6 +1,5 @@
 -- Why a driver's request looks at his rows alone, and 503 leaves the state.
 use Rattle.std.proofs.Common.{◌≡◌, ◌≢◌, ◌∙◌, ℕ, Bool, true, false, List, Option, Some, None, Result, Ok, Err, arith, bytes_eq, inl, inr, refl, sym, ap, subst, take}
-use Rattle.std.proofs.lemmas.Fmt.{decimal_injective}
 use Rattle.httparse.specs.Grammar.{RequestHead}
 use Rattle.httparse.proofs.GrammarLemmas.{request_unique}
 use Rattle.tacho_time.specs.Reading.{month_at}
@@ -11,6 +10,7 @@ use Rattle.tacho_state.specs.Steps.{owner}
 use Rattle.tacho_state.specs.declared.caller.Caller.{Caller}
 use Rattle.tacho_state.specs.declared.caller.Caller.TheVariants as caller
 use Rattle.tacho_state.specs.declared.fault.StoreFault.{StoreFault}
+use Rattle.tacho_desk.proofs.WordLemmas.{task_once}
 use Rattle.tacho_desk.specs.Own.{IsHis, OneAnswer, OthersStay, RefusalsStay, SameAnswers}
 use Rattle.tacho_desk.specs.Tasks.{Does}
 use Rattle.tacho_desk.specs.Told.{Added, Answer, File, Line, Long, Told}
@@ -149,42 +149,6 @@ task_is_his want.Base n driver word t own is = cc
 task_is_his want.Drivers n driver word t own is = cc
 task_is_his (want.MonthOfAll text) n driver word t own is = cc
 
--- he asks for one task
-number_once : (text : List ℕ) (make : ℕ → Task) (a b : Wanted) → ByNumber most_number text (λ k w. w ≡ Ok (make k)) a → ByNumber most_number text (λ k w. w ≡ Ok (make k)) b → a ≡ b
-number_once text make a b (inl h) (inl k) = h.1 ∙ sym k.1
-number_once text make a b (inl h) (inr k) = absurd (h.0 k.0 k.1)
-number_once text make a b (inr h) (inl k) = absurd (k.0 h.0 h.1)
-number_once text make a b (inr h) (inr k) =
-    let x = h.1 in
-    let y = k.1 in
-    let i = x.greatest in
-    let j = y.greatest in
-    let same : h.0 ≡ k.0 = decimal_injective h.0 k.0 (omega arith) (omega arith) (sym x.written ∙ y.written) in
-    h.2 ∙ (ap (λ (n : ℕ). Ok (make n)) same ∙ sym k.2)
-
--- about the one who asks there is one
-about_once : (n : ℕ) (driver : List ℕ) (Is : ℕ → Wanted → Type 0) (a b : Wanted) → ((a b : Wanted) → Is n a → Is n b → a ≡ b)
-    → ByDriver (caller.Driver n) driver Is a → ByDriver (caller.Driver n) driver Is b → a ≡ b
-about_once n driver Is a b h (inl x) y = absurd x.0
-about_once n driver Is a b h (inr x) (inl y) = absurd y.0
-about_once n driver Is a b h (inr x) (inr y) =
-    h a b (subst (λ (m : ℕ). Is m a) x.1 x.2) (subst (λ (m : ℕ). Is m b) y.1 y.2)
-
--- one task by the same words
-task_once : (w : Want) (n : ℕ) (driver word : List ℕ) (a b : Wanted) → is_own w ≡ true → IsTask w (caller.Driver n) driver word a → IsTask w (caller.Driver n) driver word b → a ≡ b
-task_once want.Import n driver word a b own x y = x ∙ sym y
-task_once (want.Reading text) n driver word a b own x y = about_once n driver (λ m w. w ≡ Ok (task.Reading m text)) a b (λ a b i j. i ∙ sym j) x y
-task_once (want.MonthReading text) n driver word a b own x y =
-    about_once n driver (λ m w. w ≡ by_time (month_at word) (λ month. Ok (task.MonthReading m month text))) a b (λ a b i j. i ∙ sym j) x y
-task_once want.File n driver word a b own x y =
-    about_once n driver (λ m. ByNumber most_number word (λ k w. w ≡ Ok (task.File m k))) a b (number_once word (λ k. task.File n k)) x y
-task_once want.Register n driver word a b own x y = cc
-task_once want.Enter n driver word a b own x y = cc
-task_once want.Withdraw n driver word a b own x y = cc
-task_once want.Base n driver word a b own x y = cc
-task_once want.Drivers n driver word a b own x y = cc
-task_once (want.MonthOfAll text) n driver word a b own x y = cc
-
 -- a request with a driver's key is his
 own_request : (office key : List ℕ) (h : RequestHead) (rest : List ℕ) (n : ℕ) (s : State) (reply : Reply) (after : State) → key_of h ≡ Some key → bytes_eq key office ≡ false
     → owner key s ≡ Ok (Some n) → ByKeys office (key_of h) h rest s reply after → ByCaller (caller.Driver n) h rest s reply after
@@ -321,7 +285,7 @@ module _ (own_wants : OwnWants) (same_answers : SameAnswers) (others_stay : Othe
   run_once n s w own k rest p q after left (inl h) (inr g) = (let x = h.0 in let y = g.0 in absurd (omega arith))
   run_once n s w own k rest p q after left (inr h) (inl g) = (let x = h.0 in let y = g.0 in absurd (omega arith))
   run_once n s w own k rest p q after left (inr h) (inr g) =
-      let same = task_once w.want n w.driver w.word h.1.0 g.1.0 own h.1.1 g.1.1 in
+      let same = task_once w.want (caller.Driver n) w.driver w.word h.1.0 g.1.0 h.1.1 g.1.1 in
       wanted_once n s h.1.0 (λ t is. task_is_his w.want n w.driver w.word t own (subst (IsTask w.want (caller.Driver n) w.driver w.word) is h.1.1)) (take k rest) p q after left h.1.2
       (subst (λ (wanted : Wanted). DoesWanted wanted (take k rest) s q left) (sym same) g.1.2)
 

@@ -32,7 +32,7 @@ use Rattle.tacho_message.specs.declared.method.Method.{Method}
 use Rattle.tacho_message.specs.declared.method.Method.TheVariants as method
 use Rattle.tacho_message.specs.declared.reply.Status.{Status}
 use Rattle.tacho_message.specs.declared.reply.Status.TheVariants as status
-use Rattle.tacho_http.specs.Answer.{Answered, Answers, Exchanged, Given, Gives, IsBegun, IsPosted, IsUnfinished, IsWritten, LacksMore, Responds, Stopped, Stops, is_done}
+use Rattle.tacho_http.specs.Answer.{Answered, Answers, Asks, Exchanged, Given, Gives, IsBegun, IsPosted, IsUnfinished, IsWritten, LacksMore, MayAsk, Responds, Stopped, Stops, is_done}
 use Rattle.tacho_http.specs.Asked.{Wish, asker_of, granted, is_post, offered, same_asker, wish_at, wish_of}
 use Rattle.tacho_http.specs.Reply.{Reply, fixed, reply_of, reply_to}
 use Rattle.tacho_http.specs.Routes.{Named, named_at}
@@ -267,6 +267,32 @@ length_found h m text want takes fields r em et eh ef e =
     sym (e ∙ (ap (λ (x : Option Method). body_length x takes fields) (em ∙ ap method_of eh)
     ∙ (ap (λ (x : Bool). body_length (method_of h.method) x fields) et
     ∙ ap (λ (x : List (List ℕ × List ℕ)). body_length (method_of h.method) (takes_input want) x) ef)))
+
+-- who lacks a body by one description lacks it by another
+pub lacks_as : (IsBy IsOther : List ℕ → Caller → Type 0) (h : RequestHead) (behind : List ℕ) (old new : Option (List ℕ))
+    → ((key : List ℕ) (c : Caller) → IsBy key c → IsOther key c) → LacksMore IsBy h behind old new → LacksMore IsOther h behind old new
+lacks_as IsBy IsOther h behind old new f l = record {
+  given = l.given;
+  came = l.came;
+  lacks = record {
+    key = l.lacks.key;
+    has_key = l.lacks.has_key;
+    caller = l.lacks.caller;
+    is_by = f l.lacks.key l.lacks.caller l.lacks.is_by;
+    wish = l.lacks.wish;
+    wants = l.lacks.wants;
+    count = l.lacks.count;
+    body = l.lacks.body;
+    lacks = l.lacks.lacks;
+  };
+}
+
+-- by the key of this caller
+pub by_this : (IsOther : List ℕ → Caller → Type 0) (key : List ℕ) (c : Caller) (h : RequestHead) (behind : List ℕ) (old new : Option (List ℕ))
+    → IsOther key c → LacksMore (λ by who. (by ≡ key) × (who ≡ c)) h behind old new → LacksMore IsOther h behind old new
+by_this IsOther key c h behind old new is =
+    lacks_as _ IsOther h behind old new
+    (λ by who same. subst (λ (k : List ℕ). IsOther k who) (sym same.0) (subst (IsOther key) (sym same.1) is))
 
 -- ---- one function and its parts
 
@@ -532,6 +558,7 @@ module _ {K : Type 0} (stands : K → State → Type 0) (is_clean is_live : K �
     answers = λ c s st. (s, st, h s, λ is done. (let x = none in cc));
     crash = λ c s past st l. inl l;
     unfinished = λ e. cc;
+    known = λ c s st e. cc;
   }
 
   -- and that of a head, by what came of its input
@@ -542,8 +569,9 @@ module _ {K : Type 0} (stands : K → State → Type 0) (is_clean is_live : K �
       let i = some_left left in
       nothing_answered keeper unread left response (came ++ i.0) (consumed unread left came i.0 cut i.1) none (h i.0)
 
-  -- the reader failed, and no whole request had come
-  pub unread_head : (keeper : K) (unread left : Option (List ℕ)) (failed : Failed) → IsUnfinished unread left
+  -- the reader failed, and no whole request had come, whoever asks
+  pub unread_head : (keeper : K) (unread left : Option (List ℕ)) (failed : Failed)
+      → ((IsBy : List ℕ → Caller → Type 0) → IsUnfinished IsBy unread left)
       → Answered stands is_clean is_live leaves keeper keeper office unread left (Err failed)
   unread_head keeper unread left failed part =
       let i = some_left unread in record {
@@ -555,16 +583,18 @@ module _ {K : Type 0} (stands : K → State → Type 0) (is_clean is_live : K �
         live = λ c. tt;
         answers = λ c s st. st;
         crash = λ c s past st l. l;
-        unfinished = λ e. part;
+        unfinished = λ e. part _;
+        known = λ c s st e. part _;
       }
 
   -- a request with a key was answered by it
   pub keyed : (old new : K) (key came behind : List ℕ) (h : RequestHead) (unread mid left : Option (List ℕ)) (result : Result Response Failed)
       → key_of h ≡ Some key → Consumes unread mid came → ((more : List ℕ) → BeginsWith 8192 32 (came ++ more) h (behind ++ more))
       → Responds stands is_clean is_live leaves old new (is_post (method_of h.method)) mid result (λ left s. ByKey office key h (behind ++ left) s)
-      → (IsErr result → LacksMore h behind mid left)
+      → (IsErr result → LacksMore (MayAsk office) h behind mid left)
+      → (IsErr result → is_clean new → (s : State) → stands old s → LacksMore (Asks s office) h behind mid left)
       → Answered stands is_clean is_live leaves old new office unread left result
-  keyed old new key came behind h unread mid left result has cut begins r lacks = record {
+  keyed old new key came behind h unread mid left result has cut begins r lacks known = record {
     input = input;
     told = consumed unread mid came r.left cut r.told;
     command = is_post (method_of h.method);
@@ -573,7 +603,8 @@ module _ {K : Type 0} (stands : K → State → Type 0) (is_clean is_live : K �
     live = r.live;
     answers = λ c s st. answers s result (r.given c s st);
     crash = λ c s past st l. stopped_as (leaves new) past (ByKey office key h (behind ++ r.left) s) (Reacts office input s) result (reacts s) (r.crash c s past st l);
-    unfinished = λ e. unfinished (lacks e);
+    unfinished = λ e. unfinished _ (lacks e);
+    known = λ c s st e. unfinished _ (known e c s st);
   }
     where
       input : List ℕ
@@ -600,8 +631,8 @@ module _ {K : Type 0} (stands : K → State → Type 0) (is_clean is_live : K �
           let same = request_unique input h p.0 (behind ++ r.left) p.1 (begins r.left).reads p.2.reads in
           subst (λ (head : RequestHead). is_post (method_of head.method) ≡ true) (sym same.0) p.3
 
-      unfinished : LacksMore h behind mid left → IsUnfinished unread left
-      unfinished l = record {
+      unfinished : (IsBy : List ℕ → Caller → Type 0) → LacksMore IsBy h behind mid left → IsUnfinished IsBy unread left
+      unfinished IsBy l = record {
         given = came ++ l.given;
         came = consumed_more unread mid left came l.given cut l.came;
         part = inr (h, behind ++ l.given, begins l.given, l.lacks);
@@ -661,9 +692,15 @@ module _ {K : Type 0} {stands : K → State → Type 0} {is_clean is_live : K �
 
   -- what the reader had given then is no whole request
   pub left_unfinished : (result : Result Response Failed) → ((response : Response) → result ≡ Ok response → ⊥) → Answered stands is_clean is_live leaves old new office unread left result
-      → IsUnfinished unread left
+      → IsUnfinished (MayAsk office) unread left
   left_unfinished (Ok response) none a = absurd (none response refl)
   left_unfinished (Err failed) none a = a.unfinished refl
+
+  -- nor one by the keys that the archive knows
+  pub left_known : (result : Result Response Failed) → ((response : Response) → result ≡ Ok response → ⊥) → Answered stands is_clean is_live leaves old new office unread left result
+      → is_clean new → (s : State) → stands old s → IsUnfinished (Asks s office) unread left
+  left_known (Ok response) none a = absurd (none response refl)
+  left_known (Err failed) none a = λ c s st. a.known c s st refl
 
 -- a request without a key, or with more than one
 pub unkeyed : (s : State) (office input rest : List ℕ) (h : RequestHead) (reply : Reply) → BeginsWith 8192 32 input h rest → key_of h ≡ None → reply ≡ fixed status.Forbidden

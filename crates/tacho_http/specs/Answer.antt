@@ -1,5 +1,5 @@
 -- Trusted in part: What is left of a request that was answered.
-use Rattle.std.specs.Prelude.{◌≡◌, ◌<◌, ◌≤◌, ◌⊎◌, ◌++◌, ◌∷◌, Bool, true, false, ℕ, List, [], Option, Result, Ok, Err, IfOk, IfSome, IsErr, MatchResult, length, take}
+use Rattle.std.specs.Prelude.{◌≡◌, ◌<◌, ◌≤◌, ◌⊎◌, ◌++◌, ◌∷◌, Bool, true, false, ℕ, List, [], Option, Some, Result, Ok, Err, IfOk, IfSome, IsErr, MatchResult, bytes_eq, length, take}
 use Rattle.std.specs.Io.KnownBytes.{Appends, Consumes}
 use Rattle.httparse.specs.Grammar.{HasNoRequest, MayBecomeRequest, RequestHead}
 use Rattle.tacho_time.specs.declared.device.Failed.{Failed}
@@ -7,9 +7,12 @@ use Rattle.tacho_message.specs.Head.{BeginsWith}
 use Rattle.tacho_message.specs.Length.{method_of}
 use Rattle.tacho_message.specs.declared.reply.Status.{Status}
 use Rattle.tacho_message.specs.declared.reply.Status.TheVariants as status
+use Rattle.tacho_message.specs.Request.{key_of}
 use Rattle.tacho_state.specs.State.{State}
-use Rattle.tacho_desk.specs.declared.want.Want.{Want}
-use Rattle.tacho_http.specs.Asked.{is_post}
+use Rattle.tacho_state.specs.Steps.{owner}
+use Rattle.tacho_state.specs.declared.caller.Caller.{Caller}
+use Rattle.tacho_state.specs.declared.caller.Caller.TheVariants as caller
+use Rattle.tacho_http.specs.Asked.{Wish, asker_of, is_post, wish_of}
 use Rattle.tacho_http.specs.Reply.{Reply, bytes_of_reply, fixed, reply_of}
 use Rattle.tacho_http.specs.Serve.{Reacts, Reaction, body_of}
 use Rattle.tacho_http.specs.declared.exchange.IoFault.{IoFault}
@@ -59,27 +62,45 @@ pub record Responds {K : Type 0} (stands : K → State → Type 0) (is_clean is_
 
 -- ---- what the reader has given
 
--- behind the head there is less than a body that is to be read
-abbrev pub LacksBody : RequestHead → List ℕ → Type 0
-LacksBody h rest = (want : Want) × (n : ℕ) × (body_of h want ≡ Ok n) × (length rest < n)
+-- who asks with a key: the office with its own, a driver with another
+abbrev pub MayAsk : List ℕ → List ℕ → Caller → Type 0
+MayAsk office key caller.Office = bytes_eq key office ≡ true
+MayAsk office key (caller.Driver n) = bytes_eq key office ≡ false
+
+-- the same of an archive in this state: a driver with the key that is theirs
+abbrev pub Asks : State → List ℕ → List ℕ → Caller → Type 0
+Asks s office key caller.Office = bytes_eq key office ≡ true
+Asks s office key (caller.Driver n) = (bytes_eq key office ≡ false) × (owner key s ≡ Ok (Some n))
+
+-- what the head asks for has a body, and less than all of it has come; who asks is by the key
+pub record LacksBody (IsBy : List ℕ → Caller → Type 0) (h : RequestHead) (rest : List ℕ) : Type 0 where
+  pub key : List ℕ
+  pub has_key : key_of h ≡ Some key
+  pub caller : Caller
+  pub is_by : IsBy key caller
+  pub wish : Wish
+  pub wants : wish_of (asker_of caller) h.method h.target ≡ Ok wish
+  pub count : ℕ
+  pub body : body_of h wish.want ≡ Ok count
+  pub lacks : length rest < count
 
 -- it is no whole request: a head of at most 8,192 bytes that isn't whole, or one without all of its body
-abbrev pub IsPartOf : List ℕ → Type 0
-IsPartOf given =
+abbrev pub IsPartOf : (List ℕ → Caller → Type 0) → List ℕ → Type 0
+IsPartOf IsBy given =
     ((length given < 8192) × HasNoRequest given × MayBecomeRequest given)
-    ⊎ ((h : RequestHead) × (rest : List ℕ) × BeginsWith 8192 32 given h rest × LacksBody h rest)
+    ⊎ ((h : RequestHead) × (rest : List ℕ) × BeginsWith 8192 32 given h rest × LacksBody IsBy h rest)
 
 -- what the reader has given since is no whole request
-pub record IsUnfinished (old new : Option (List ℕ)) : Type 0 where
+pub record IsUnfinished (IsBy : List ℕ → Caller → Type 0) (old new : Option (List ℕ)) : Type 0 where
   pub given : List ℕ
   pub came : Consumes old new given
-  pub part : IsPartOf given
+  pub part : IsPartOf IsBy given
 
--- what it has given since isn't all of the body that a head behind which this came is to have
-pub record LacksMore (h : RequestHead) (behind : List ℕ) (old new : Option (List ℕ)) : Type 0 where
+-- what it has given since isn't all of the body that the request of a head is to have, of which this came with the head
+pub record LacksMore (IsBy : List ℕ → Caller → Type 0) (h : RequestHead) (behind : List ℕ) (old new : Option (List ℕ)) : Type 0 where
   pub given : List ℕ
   pub came : Consumes old new given
-  pub lacks : LacksBody h (behind ++ given)
+  pub lacks : LacksBody IsBy h (behind ++ given)
 
 -- ---- one request, one reply
 
@@ -106,7 +127,8 @@ pub record Answered {K : Type 0} (stands : K → State → Type 0) (is_clean is_
   pub answers : is_clean new → (s : State) → stands old s
       → MatchResult result (λ response. Answers (stands new) (leaves new) command office input s (reply_of response)) (λ failed. stands new s)
   pub crash : is_clean new → (s : State) (past : List State) → stands old s → leaves old past → Stopped (leaves new) past (Reacts office input s) result
-  pub unfinished : IsErr result → IsUnfinished unread left
+  pub unfinished : IsErr result → IsUnfinished (MayAsk office) unread left
+  pub known : is_clean new → (s : State) → stands old s → IsErr result → IsUnfinished (Asks s office) unread left
 
 -- all of a reply was written, or a beginning of it
 abbrev pub IsWritten : Option (List ℕ) → Option (List ℕ) → Reply → Type 0

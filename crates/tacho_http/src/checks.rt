@@ -1,13 +1,14 @@
 //! The checks of a request, in their order.
 
-ghost use Rattle.std.specs.Prelude.{◌≡◌, ◌↔◌, ◌++◌, All, false, length, map, true, IsErr};
+ghost use Rattle.std.specs.Prelude.{◌≡◌, ◌↔◌, ◌++◌, ℕ, All, List, Some, false, length, map, true, IsErr};
 ghost use Rattle.httparse.specs.Grammar.{RequestHead};
 ghost use Rattle.httparse.specs.Spans.{IsHeaderWithin, header_bytes};
 ghost use Rattle.tacho_message.specs.Body.{Lacks};
 ghost use Rattle.tacho_message.specs.Length.{method_of};
-ghost use Rattle.tacho_message.specs.Request.{IsRequest, fields_of};
+ghost use Rattle.tacho_message.specs.Request.{IsRequest, fields_of, key_of};
+ghost use Rattle.tacho_state.specs.State.{State};
 ghost use Rattle.tacho_desk.specs.Wants.{is_command};
-ghost use Rattle.tacho_http.specs.Answer.{LacksMore, Responds};
+ghost use Rattle.tacho_http.specs.Answer.{Asks, LacksMore, MayAsk, Responds};
 ghost use Rattle.tacho_http.specs.Asked.{is_post};
 ghost use Rattle.tacho_http.specs.Serve.{ByCaller, ByKey, Runs};
 
@@ -34,8 +35,11 @@ pub(crate) fn by_key<K: Keeper, R: Source>(
     ensures responds { (h : RequestHead) → IsRequest request.now h
         → Responds K.stands K.is_clean K.is_live K.leaves keeper.old keeper.new (is_post (method_of h.method)) (R.unread reader.old) result
         (λ left s. ByKey office_key.now key.now h (request.now.behind.now ++ left) s) }
-    ensures lacks { (h : RequestHead) → IsRequest request.now h → IsErr result
-        → LacksMore h request.now.behind.now (R.unread reader.old) (R.unread reader.new) }
+    ensures lacks { (h : RequestHead) → IsRequest request.now h → key_of h ≡ Some key.now → IsErr result
+        → LacksMore (MayAsk office_key.now) h request.now.behind.now (R.unread reader.old) (R.unread reader.new) }
+    ensures known { (h : RequestHead) → IsRequest request.now h → key_of h ≡ Some key.now → IsErr result
+        → K.is_clean keeper.new → (s : State) → K.stands keeper.old s
+        → LacksMore (Asks s office_key.now) h request.now.behind.now (R.unread reader.old) (R.unread reader.new) }
     ensures failed { IsErr result ↔ (R.has_failed reader.new ≡ true) }
 {
     if key == office_key {
@@ -61,8 +65,8 @@ fn by_caller<K: Keeper, R: Source>(
     ensures responds { (h : RequestHead) → IsRequest request.now h
         → Responds K.stands K.is_clean K.is_live K.leaves keeper.old keeper.new (is_post (method_of h.method)) (R.unread reader.old) result
         (λ left s. ByCaller caller h (request.now.behind.now ++ left) s) }
-    ensures lacks { (h : RequestHead) → IsRequest request.now h → IsErr result
-        → LacksMore h request.now.behind.now (R.unread reader.old) (R.unread reader.new) }
+    ensures lacks { (h : RequestHead) (key : List ℕ) → IsRequest request.now h → key_of h ≡ Some key → IsErr result
+        → LacksMore (λ by c. (by ≡ key) × (c ≡ caller)) h request.now.behind.now (R.unread reader.old) (R.unread reader.new) }
     ensures failed { IsErr result ↔ (R.has_failed reader.new ≡ true) }
 {
     let Ok(routes) = routes(alloc) else {

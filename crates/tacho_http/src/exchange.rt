@@ -1,7 +1,8 @@
 //! One request, one reply.
 
 ghost use Rattle.std.specs.Prelude.{◌≡◌, ◌↔◌, Err, false, true, length, IsErr, IsErrOf};
-ghost use Rattle.tacho_http.specs.Answer.{Answered, Exchanged, IsUnfinished};
+ghost use Rattle.tacho_state.specs.State.{State};
+ghost use Rattle.tacho_http.specs.Answer.{Answered, Asks, Exchanged, IsUnfinished, MayAsk};
 
 use crate::checks::by_key;
 use crate::response::{Response, fixed};
@@ -75,8 +76,8 @@ fn respond<K: Keeper, R: Source>(
     respond_in(alloc, keeper, office_key, reader, &mut buffer, &mut fields)
 }
 
-/// Answers one request at an archive: reads its head and its body and no more, acts, and writes one reply. A command that is replied
-/// to with 200 or 201 is kept.
+/// Answers one request at an archive: reads its head, and its body where it asks for something that has one, acts, and writes one reply. A command that
+/// is replied to with 200 or 201 is kept.
 pub fn answer<K: Keeper, R: Source, W: Sink>(
     alloc: Global,
     keeper: &mut K,
@@ -90,8 +91,11 @@ pub fn answer<K: Keeper, R: Source, W: Sink>(
     // The reply is one that the input may get, whole, or a beginning of it where the writer failed.
     ensures exchanged { Exchanged K.stands K.is_clean K.is_live K.leaves keeper.old keeper.new office_key.now (R.unread reader.old)
         (W.written writer.old) (W.written writer.new) result }
-    // Where the reader failed, it was asked for no more than the request lacked.
-    ensures unfinished { result ≡ Err IoFault.Read → IsUnfinished (R.unread reader.old) (R.unread reader.new) }
+    // Where the reader failed, it was asked for no more than the request lacked: its head, or the body of what it asks for.
+    ensures unfinished { result ≡ Err IoFault.Read → IsUnfinished (MayAsk office_key.now) (R.unread reader.old) (R.unread reader.new) }
+    // So the body of a request whose key is nobody's isn't asked for.
+    ensures known { K.is_clean keeper.new → (s : State) → K.stands keeper.old s → result ≡ Err IoFault.Read
+        → IsUnfinished (Asks s office_key.now) (R.unread reader.old) (R.unread reader.new) }
     ensures read { IsErrOf result IoFault.Read ↔ (R.has_failed reader.new ≡ true) }
     ensures write { IsErrOf result IoFault.Write ↔ (W.has_failed writer.new ≡ true) }
 {

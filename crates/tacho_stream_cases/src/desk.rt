@@ -195,6 +195,51 @@ fn jobs_without_an_input_ask_no_reader(rt: HostRuntime) -> Result<(), Fail> {
     Ok(())
 }
 
+/// Jobs that have an input, and whose arguments have a fault, with its line.
+static WRONG_ARGUMENTS: [(Job<'static>, &str); 3] = [
+    (
+        Job::AtDesk {
+            archive: "a.db",
+            want: Want::Import,
+            driver: "",
+            word: "whole",
+        },
+        "P1 bad part\n",
+    ),
+    (
+        Job::AtDesk {
+            archive: "a.db",
+            want: Want::Enter,
+            driver: "017",
+            word: "",
+        },
+        "N1 bad number\n",
+    ),
+    (
+        Job::AtDesk {
+            archive: "a.db",
+            want: Want::Enter,
+            driver: "1000000",
+            word: "",
+        },
+        "N1 bad number\n",
+    ),
+];
+
+#[test]
+fn jobs_with_wrong_arguments_ask_no_reader(rt: HostRuntime) -> Result<(), Fail> {
+    let mut shelf = archive_after(rt.alloc(), CASES.len())?;
+    for (job, line) in &WRONG_ARGUMENTS {
+        let mut reader = Faulty::new(rt.alloc(), b"", 7, 0);
+        let mut writer = Device::new(Vec::new(rt.alloc()));
+        let status = performed(rt.alloc(), &mut shelf, *job, &mut reader, &mut writer)?;
+        assert!(rt; status == 1, "{status} of {job:?}");
+        assert!(rt; writer.into_inner().as_slice() == line.as_bytes(), "{job:?}");
+        assert!(rt; !Source::failed(&reader), "{job:?}");
+    }
+    Ok(())
+}
+
 #[test]
 fn readers_fail_at_each_call(rt: HostRuntime) -> Result<(), Fail> {
     for (place, (job, input, text, _)) in CASES.iter().enumerate() {

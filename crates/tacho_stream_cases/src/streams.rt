@@ -5,7 +5,7 @@ ghost use Rattle.std.specs.Prelude.{◌≡◌, false};
 
 use crate::desk;
 use crate::faulty::{Faulty, Quirk, Stream};
-use crate::requests::{CASES, Case, OFFICE, archive_after, ask, holds, same};
+use crate::requests::{CASES, Case, OFFICE, archive, archive_after, ask, holds, reply_with, same};
 use std::alloc::Global;
 use std::process::Abort;
 use std::test::Fail;
@@ -145,6 +145,70 @@ fn a_failed_reader_changes_nothing(rt: HostRuntime) -> Result<(), Fail> {
         let result = act(&rt, alloc, place, case, needed, &mut reader, &mut writer)?;
         begins(&rt, place, needed, result, &writer.into_inner(), wanted);
         holds(&rt, "calls", needed, result.is_ok());
+    }
+    Ok(())
+}
+
+/// Requests whose heads are refused, each with a body: the request line, the key, the field of the body's length, and the status and the text of the
+/// reply.
+static REFUSED_HEADS: [(&str, &str, &str, &str, &str); 6] = [
+    (
+        "POST /drivers/17/withdraw/1",
+        "office-key-1",
+        "content-length: 1",
+        "400 Bad Request",
+        "bad request\n",
+    ),
+    (
+        "POST /drivers/17/entries",
+        "nobodys-key-1",
+        "content-length: 5",
+        "403 Forbidden",
+        "forbidden\n",
+    ),
+    (
+        "POST /drivers/17/entries",
+        "anna-key-1",
+        "content-length: 5",
+        "403 Forbidden",
+        "forbidden\n",
+    ),
+    (
+        "POST /nothing",
+        "office-key-1",
+        "content-length: 5",
+        "404 Not Found",
+        "not found\n",
+    ),
+    (
+        "PUT /drivers/17/entries",
+        "office-key-1",
+        "content-length: 5",
+        "405 Method Not Allowed",
+        "method not allowed\n",
+    ),
+    (
+        "POST /drivers/17/entries",
+        "office-key-1",
+        "content-length: 262145",
+        "413 Payload Too Large",
+        "too large\n",
+    ),
+];
+
+#[test]
+fn the_body_of_a_refused_head_is_not_asked_for(rt: HostRuntime) -> Result<(), Fail> {
+    let alloc = rt.alloc();
+    for (place, (line, key, length, status, text)) in REFUSED_HEADS.iter().enumerate() {
+        let head = format!(in alloc; "{line} HTTP/1.1\r\nx-key: {key}\r\n{length}\r\n\r\n")?;
+        // A byte a call; the first call after the head fails.
+        let mut reader = Faulty::new(alloc, head.as_bytes(), 1, head.len());
+        let mut writer = Device::new(Vec::new(alloc));
+        let mut shelf = archive(alloc)?;
+        let result = answer(alloc, &mut shelf, OFFICE, &mut reader, &mut writer);
+        holds(&rt, line, place, result.is_ok());
+        let wanted = reply_with(alloc, status, text)?;
+        same(&rt, line, place, &writer.into_inner(), wanted.as_bytes());
     }
     Ok(())
 }

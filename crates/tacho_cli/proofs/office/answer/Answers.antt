@@ -1,12 +1,23 @@
-use Rattle.std.proofs.Common.{◌∙◌, List, ℕ, Ok, Err, sym, subst}
+use Rattle.std.proofs.Common.{◌≡◌, ◌∙◌, List, ℕ, Ok, Err, sym, subst}
+use Rattle.tacho_state.specs.declared.caller.Caller.TheVariants as caller
 use Rattle.tacho_desk.specs.Doing.{AsksOnly, Serves}
 use Rattle.tacho_desk.specs.Tasks.{Does, IsFaulty, IsSound, want_of}
 use Rattle.tacho_desk.specs.Told.{Answer, answer_of}
 use Rattle.tacho_desk.specs.Wants.{is_command}
 use Rattle.tacho_cli.specs.Office.{Performed}
+use Rattle.tacho_desk.specs.Words.{IsTask}
+use Rattle.tacho_desk.specs.declared.fault.Fault.{Fault}
+use Rattle.tacho_desk.specs.declared.task.Task.{Task}
+use Rattle.tacho_desk.specs.declared.want.Want.{Want}
 use Rattle.tacho_desk.proofs.MeantLemmas.{faulty}
+use Rattle.tacho_desk.proofs.WordLemmas.{task_once}
 use Rattle.tacho_cli.proofs.OfficeLemmas.{of_bytes, over_input, refused_words, unread_input, without_input}
 use Rattle.tacho_cli.proofs.office.answer.Goals as goal
+
+-- arguments that make a task have no fault
+no_fault : (w : Want) (driver word : List ℕ) (t : Task) (f : Fault) → IsTask w caller.Office driver word (Ok t)
+    → IsTask w caller.Office driver word (Err f) → ⊥
+no_fault w driver word t f is wrong = absurd (let e = task_once w caller.Office driver word (Ok t) (Err f) is wrong in cc)
 
 pub returns-in_err-task-clause-performed : goal.returns-in_err-task-clause-performed
 returns-in_err-task-clause-performed g c =
@@ -71,3 +82,15 @@ returns-clause-performed g c =
     c.deref.ensures.value c.carry_out-2.ensures.serves)
     (subst (λ (bytes : List ℕ). AsksOnly keeper new (IsSound t bytes) (IsFaulty t bytes) answer)
     c.deref.ensures.value c.carry_out-2.ensures.asks)
+
+pub returns-in_err-input-clause-words : goal.returns-in_err-input-clause-words
+returns-in_err-input-clause-words g c f wrong =
+    absurd (no_fault c.args.want c.args.driver.now c.args.word.now c.in_ok-task.task f
+    (of_bytes c.args.want (Ok c.in_ok-task.task) c.as_bytes.result.now c.as_bytes-2.result.now c.args.driver.now c.args.word.now
+    c.as_bytes.ensures.value c.as_bytes-2.ensures.value c.in_ok-task.ensures.task) wrong)
+
+pub returns-clause-words : goal.returns-clause-words
+returns-clause-words g c f wrong =
+    absurd (no_fault c.args.want c.args.driver.now c.args.word.now c.in_ok-task.task f
+    (of_bytes c.args.want (Ok c.in_ok-task.task) c.as_bytes.result.now c.as_bytes-2.result.now c.args.driver.now c.args.word.now
+    c.as_bytes.ensures.value c.as_bytes-2.ensures.value c.in_ok-task.ensures.task) wrong)

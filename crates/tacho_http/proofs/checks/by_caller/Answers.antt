@@ -1,4 +1,4 @@
-use Rattle.std.proofs.Common.{◌++◌, Err, Ok, map}
+use Rattle.std.proofs.Common.{◌++◌, Err, Ok, map, refl}
 use Rattle.httparse.specs.Spans.{header_bytes}
 use Rattle.tacho_desk.specs.Wants.{is_command}
 use Rattle.tacho_message.specs.Length.{method_of}
@@ -50,3 +50,27 @@ returns-in-Ok-body_length_of-clause-responds g c h is =
     by_wish k.stands k.is_clean k.is_live k.leaves c.args.keeper.now c.run.new.keeper (is_command w.want) (g.R.Source.unread c.args.reader.now)
     c.run.result c.args.caller h r.behind.now w c.in-Ok-body_length_of.length
     (λ post. posts_are_commands (asker_of c.args.caller) h.method h.target w found post) found long c.run.ensures.responds
+
+pub returns-in-Ok-body_length_of-clause-lacks : goal.returns-in-Ok-body_length_of-clause-lacks
+returns-in-Ok-body_length_of-clause-lacks g c h key is has err =
+    let r = c.args.request.now in
+    let asked = c.in-Ok-asked_of.asked in
+    let w : Wish = record { want = asked.want; driver = asked.driver.now; word = asked.word.now } in
+    let l = c.run.ensures.lacks err in
+    record {
+      given = l.given;
+      came = l.came;
+      lacks = record {
+        key = key;
+        has_key = has;
+        caller = c.args.caller;
+        is_by = (refl, refl);
+        wish = w;
+        wants = wish_found_by c.args.caller h c.read-method.result r.method.now r.path.now c.asker_of.result _ (Ok w)
+            c.read-method.ensures c.asker_of.ensures c.find.ensures is.method is.path c.in-Ok-asked_of.ensures;
+        count = c.in-Ok-body_length_of.length;
+        body = length_found h c.read-method.result r.method.now w.want c.takes_input-takes.result (map (header_bytes r.buffer.now) r.fields.now)
+            (Ok c.in-Ok-body_length_of.length) c.read-method.ensures c.takes_input-takes.ensures is.method is.fields c.in-Ok-body_length_of.ensures;
+        lacks = l.short;
+      };
+    }

@@ -1,7 +1,7 @@
 use Rattle.std.proofs.Common.{◌≤◌, List, length, refl, subst, take, ℕ}
 use Rattle.std.specs.Io.KnownBytes.{Appends}
 use Rattle.tacho_message.specs.Reply.{reply_bytes}
-use Rattle.tacho_http.proofs.RespondLemmas.{exchanged_begun, exchanged_unread, exchanged_whole}
+use Rattle.tacho_http.proofs.RespondLemmas.{exchanged_begun, exchanged_unread, exchanged_whole, left_known}
 use Rattle.tacho_http.proofs.exchange.answer.Goals as goal
 
 pub returns-in-Ok-write_reply-clause-exchanged : goal.returns-in-Ok-write_reply-clause-exchanged
@@ -22,3 +22,7 @@ returns-clause-exchanged g c =
 pub returns-in_default-clause-exchanged : goal.returns-in_default-clause-exchanged
 returns-in_default-clause-exchanged g c =
     exchanged_unread (g.W.Sink.written c.args.writer.now) (g.W.Sink.written c.args.writer.now) c.respond.result c.in_default.not-Ok c.respond.ensures.answered refl
+
+pub returns-in_default-clause-known : goal.returns-in_default-clause-known
+returns-in_default-clause-known g c clean s stood is =
+    left_known (g.W.Sink.written c.args.writer.now) (g.W.Sink.written c.args.writer.now) c.respond.result c.in_default.not-Ok c.respond.ensures.answered clean s stood

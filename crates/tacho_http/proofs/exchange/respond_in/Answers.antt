@@ -33,7 +33,7 @@ pub returns-in-Err-Read-clause-answered : goal.returns-in-Err-Read-clause-answer
 returns-in-Err-Read-clause-answered g c =
     let k = g.K.Keeper in
     unread_head k.stands k.is_clean k.is_live k.leaves c.args.office_key.now c.args.keeper.now (g.R.Source.unread c.args.reader.now) (g.R.Source.unread c.read_head.new.reader) _
-    (no_request (length c.args.buffer.now) (g.R.Source.unread c.args.reader.now) (g.R.Source.unread c.read_head.new.reader)
+    (λ IsBy. no_request IsBy (length c.args.buffer.now) (g.R.Source.unread c.args.reader.now) (g.R.Source.unread c.read_head.new.reader)
     (c.in-Err-Read.ensures.unfinished (ap Err c.in-Err-Read.field-0-is)) c.requires.limit)
 
 pub returns-in-Some-clause-answered : goal.returns-in-Some-clause-answered
@@ -47,13 +47,13 @@ returns-in-Some-clause-answered g c =
     let is = c.request_of-request.ensures.request h d.1.1 in
     let short = short_came c.read_head.new.buffer c.in-Ok.head.filled (length c.args.buffer.now) c.read_head.auto.buffer c.requires.limit in
     let few = c.read_head.auto.fields ∙ c.requires.room in
+    let has = key_found (Some c.in-Some.key.now) (map (header_bytes r.buffer.now) r.fields.now) h c.in-Some.ensures is.fields in
     keyed k.stands k.is_clean k.is_live k.leaves c.args.office_key.now c.args.keeper.now c.by_key.new.keeper c.in-Some.key.now came r.behind.now h
     (g.R.Source.unread c.args.reader.now) (g.R.Source.unread c.read_head.new.reader) (g.R.Source.unread c.by_key.new.reader) c.by_key.result
-    (key_found (Some c.in-Some.key.now) (map (header_bytes r.buffer.now) r.fields.now) h c.in-Some.ensures is.fields)
-    c.in-Ok.ensures.read
+    has c.in-Ok.ensures.read
     (λ more. subst (λ (behind : List ℕ). BeginsWith 8192 32 (came ++ more) h (behind ++ more)) (sym c.request_of-request.ensures.behind)
     (begins_with (came ++ more) came more c.read_head.new.fields spans h short few refl d.0 d.1.1))
-    (c.by_key.ensures.responds h is) (c.by_key.ensures.lacks h is)
+    (c.by_key.ensures.responds h is) (c.by_key.ensures.lacks h is has) (c.by_key.ensures.known h is has)
 
 pub returns-in-None-clause-answered : goal.returns-in-None-clause-answered
 returns-in-None-clause-answered g c =
