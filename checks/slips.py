@@ -6,6 +6,9 @@ A slip's lines are `refused: FN`, the function as a check prints it, below its c
 `new: TEXT`, where the old text stands once in that file. It is planted in that function's own body. One that stands outside, as in a
 constant, is planted alone.
 
+What a type promises by a trait, as that it is `Copy`, no clause says: there the front end refuses a slip, before any proof. Such a slip
+has the error in place of a function, as `refused: error[unsatisfied-bound]`.
+
 Each function is proved by its own body and the contracts of what it calls. So the slips of a crate that stand in different functions are
 planted together, and the prover says of each function whether it is proved: a crate takes a few tries, and not one a slip. Only these
 functions and those that they call are proved. A function that isn't proved only because it calls one that isn't doesn't count as refused.
@@ -71,6 +74,10 @@ class Slip:
                     raise build.Stop(f"{path}: a line begins with none of refused:, file:, old: and new:")
         if self.refused is None or not self.pairs:
             raise build.Stop(f"{path}: it names no function, or changes nothing")
+
+    def is_compile_error(self):
+        """Whether the front end has to refuse it."""
+        return self.refused.startswith("error[")
 
     def place_in(self, text, old):
         """The place of a text that stands once."""
@@ -152,17 +159,23 @@ def unproved(output, crate):
     return found
 
 
+def errors_of(output):
+    """The errors of the front end."""
+    return set(re.findall(r": (error\[[\w-]+\]): ", output))
+
+
 def answers_of(kit, crate, below, group, kept):
     """What the prover says of a group, as comparisons: that each slip's function is refused, and by itself no other."""
     with tempfile.TemporaryDirectory() as folder:
         crate.planted(group, folder)
         words = [kit.path("bin", "rattle"), "check", *kit.words(crate.name, below), "--jobs", "1", "--incremental", kept]
-        words += [word for slip in group.values() for word in ("--only", slip.refused)]
+        words += [word for slip in group.values() if not slip.is_compile_error() for word in ("--only", slip.refused)]
         run = subprocess.run(words, cwd=folder, stdin=subprocess.DEVNULL, stdout=subprocess.PIPE, stderr=subprocess.STDOUT, text=True,
                              errors="replace", check=False)
     found = unproved(run.stdout, crate.name)
     for slip in group.values():
-        is_refused = run.returncode == 1 and found.get(slip.refused, False)
+        is_told = errors_of(run.stdout) == {slip.refused} if slip.is_compile_error() else found.get(slip.refused, False)
+        is_refused = run.returncode == 1 and is_told
         yield slip.name, "refused" if is_refused else f"status {run.returncode}: {run.stdout[-800:]}", "refused"
     if None not in group:
         others = [name for name, is_own in found.items() if is_own and name not in group]

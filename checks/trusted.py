@@ -40,6 +40,9 @@ ENTRIES = {
     "tacho_cli": None,
 }
 
+# Laws of these that are about what stands between: what each pass of a scan finds.
+BETWEEN = {f"tacho_rules::laws::{name}_as_defined" for name in ("breaks", "days", "week_sums", "week_rests")}
+
 # What to read in which order, each step with what it is about and its files, or all of another order. Of a public item
 # whose name begins with one of the roots everything has to stand in these files, or in crates that are left to others.
 Order = collections.namedtuple("Order", "reader question roots left steps")
@@ -633,8 +636,8 @@ OPENING = (
     " {entries}: {count} in all. It goes on to every definition that these cite, and that those cite in turn, with"
     " the types of signatures and of fields. What isn't reached so is private: the code could be written and"
     " proved by other definitions, and no public sentence would be another. A file is private to the crate in"
-    " which it stands, and those above it may use it too. The scan of `tacho_rules` stands between as well: a"
-    " report is told by `IsReport`, however it was made.",
+    " which it stands, and those above it may use it too. The scan of `tacho_rules`, its passes and the"
+    " laws about them stand between as well: a report is told by `IsReport`, however it was made.",
     "docs/PROVED.md names the clause or the definition of each public call.",
 )
 
@@ -671,7 +674,9 @@ def all_entries():
         if not there:
             faults.add(f"{crate}: nothing public has a contract")
         entries += there
-    return entries
+    for name in sorted(BETWEEN - {name for name, _ in entries}):
+        faults.add(f"no such law: {name}")
+    return [entry for entry in entries if entry[0] not in BETWEEN]
 
 
 def missing_names():

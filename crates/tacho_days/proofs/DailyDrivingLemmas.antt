@@ -31,7 +31,7 @@ use Rattle.tacho_pass.specs.Found.{listed}
 use Rattle.tacho_pass.specs.Kinds.{is_b4_or_b5}
 use Rattle.tacho_pass.proofs.HearingLemmas.{line_append, line_at_end, joined_append, line_after, rests_yes, rests_no}
 use Rattle.tacho_pass.proofs.CountLemmas.{counted_start, counted_with, over_kinds}
-use Rattle.tacho_days.specs.declared.duty_driving.DutyDriving.{DutyDriving}
+use Rattle.tacho_days.specs.declared.daily_driving.DutyDriving.{DutyDriving}
 use Rattle.tacho_days.specs.DutyDays.{day_to, IsLastOf}
 use Rattle.tacho_days.specs.DailyDriving.{week_at, duty_none, duty_with, ordinal_of, often_of, found_of, next_day}
 use Rattle.tacho_days.specs.DailyDriving.{duty_after, duty_found, duty_any, found_any, IsTally}

@@ -20,7 +20,7 @@ use Rattle.tacho_hours.specs.Order.{Apart}
 use Rattle.tacho_hours.proofs.ExactlyLemmas.{exactly_skip, exactly_add, so_many_as, so_many_only}
 use Rattle.tacho_hours.proofs.OrderLemmas.{same_breach}
 use Rattle.tacho_pass.specs.Found.{listed}
-use Rattle.tacho_days.specs.declared.resting_day.RestingDay.{RestingDay}
+use Rattle.tacho_days.specs.declared.daily_rest.RestingDay.{RestingDay}
 use Rattle.tacho_days.specs.DutyDays.{day_to, IsLastOf}
 use Rattle.tacho_days.specs.RestingDays.{reduced_of, often_breach, often_of}
 use Rattle.tacho_days.specs.DailyRests.{IsReducedSince, IsB3Seen}

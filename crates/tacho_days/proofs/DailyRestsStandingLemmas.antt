@@ -28,7 +28,7 @@ use Rattle.tacho_pass.specs.Found.{listed}
 use Rattle.tacho_pass.specs.Heard.{is_rest, start_after, run_before, Continues}
 use Rattle.tacho_pass.specs.Kinds.{is_b2_or_b3}
 use Rattle.tacho_pass.proofs.HearingLemmas.{line_append, line_at_end, joined_append, line_after, rests_yes, rests_no}
-use Rattle.tacho_days.specs.declared.resting_day.RestingDay.{RestingDay}
+use Rattle.tacho_days.specs.declared.daily_rest.RestingDay.{RestingDay}
 use Rattle.tacho_days.specs.DutyDays.{day_to, IsBeforeFirst}
 use Rattle.tacho_days.specs.RestingDays.{resting_none, portion_of, regular_of, reduced_of}
 use Rattle.tacho_days.specs.RestingDays.{short_breach, short_of, often_breach, often_of, rest_found}

@@ -1,12 +1,11 @@
 -- The two rules on days in one: the kinds of both, and what they find together (specs/Days).
-use Rattle.std.proofs.Common.{◌≡◌, ℕ, ◌⊎◌, ◌↔◌, inl, inr, List, refl, sym, ap, subst, ◌∙◌, Bool, true, false}
+use Rattle.std.proofs.Common.{◌≡◌, ℕ, ◌⊎◌, ◌↔◌, inl, inr, List, [], refl, sym, ap, subst, ◌∙◌, Bool, true, false}
 use Rattle.std.specs.Prelude.{IsTrue}
 use Rattle.std.specs.List.{All}
 use Rattle.tacho_time.specs.declared.span.Span.{Span}
 use Rattle.tacho_hours.specs.declared.breach.Kind.{Kind}
 use Rattle.tacho_hours.specs.declared.breach.Kind.TheVariants.{B2, B3, B4, B5}
 use Rattle.tacho_hours.specs.declared.breach.Breach.{Breach}
-use Rattle.tacho_hours.specs.declared.debt.Debt.{Debt}
 use Rattle.tacho_hours.specs.Line.{Line, line_of}
 use Rattle.tacho_hours.specs.Order.{Apart}
 use Rattle.tacho_hours.specs.SoFar.{AreCollected}
@@ -78,21 +77,13 @@ module _ (line : Line) where
         → AreCollected (λ b. IsDayBreach line b.kind b) own
     days_join kinds = joined (λ k b. IsDayBreach line k b) is_b2_to_b5 own kinds (λ b is. of_days b.kind b is) part
 
--- what both find, which is of no other kinds
-pub days_of_both : (own : List Breach) (owed debts : List Debt) (base horizon : ℕ) (spans : List Span)
-    → All (λ (b : Breach). IsTrue (is_b2_to_b5 b.kind)) own
-    → DailyRestsDefined (own_of is_b2_or_b3 own) owed base horizon spans
-    → DailyDrivingDefined (own_of is_b4_or_b5 own) debts base horizon spans
-    → DaysDefined own debts base horizon spans
-days_of_both own owed debts base horizon spans kinds rests driving = record {
-  none = driving.none;
-  breaches = days_join (line_of spans) own rests.breaches driving.breaches kinds;
+-- what both find of their kinds among all that is found
+pub days_defined : (new : List Breach) (base horizon : ℕ) (spans : List Span)
+    → DailyRestsDefined (own_of is_b2_or_b3 (own_of is_b2_to_b5 new)) [] base horizon spans
+    → DailyDrivingDefined (own_of is_b4_or_b5 (own_of is_b2_to_b5 new)) [] base horizon spans
+    → DaysDefined (own_of is_b2_to_b5 new) [] base horizon spans
+days_defined new base horizon spans rests driving = record {
+  none = refl;
+  breaches =
+      days_join (line_of spans) (own_of is_b2_to_b5 new) rests.breaches driving.breaches (own_kinds is_b2_to_b5 new);
 }
-
--- and so those of their kinds among all that is found
-pub days_defined : (new : List Breach) (owed debts : List Debt) (base horizon : ℕ) (spans : List Span)
-    → DailyRestsDefined (own_of is_b2_or_b3 (own_of is_b2_to_b5 new)) owed base horizon spans
-    → DailyDrivingDefined (own_of is_b4_or_b5 (own_of is_b2_to_b5 new)) debts base horizon spans
-    → DaysDefined (own_of is_b2_to_b5 new) debts base horizon spans
-days_defined new owed debts base horizon spans rests driving =
-    days_of_both (own_of is_b2_to_b5 new) owed debts base horizon spans (own_kinds is_b2_to_b5 new) rests driving

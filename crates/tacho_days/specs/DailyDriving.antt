@@ -1,6 +1,6 @@
 -- Private to tacho_days: Driving in duty days and the extended days of a week (Regulation (EC) 561/2006, Article 6(1)), span by
 -- span: what is kept of them, and what that stands for.
-use Rattle.std.specs.Prelude.{◌≡◌, ℕ, ◌+◌, ◌-◌, ◌/◌, ◌++◌, ◌≤◌, ◌⊎◌, nat_lt, nat_eq, Bool}
+use Rattle.std.specs.Prelude.{◌≡◌, ℕ, ◌+◌, ◌-◌, ◌/◌, ◌++◌, ◌≤◌, ◌⊎◌, ◌&&◌, nat_le, nat_lt, nat_eq, Bool}
 use Rattle.std.specs.Prelude.{if◌then◌else◌, Option, None, Some, List, Contains, []}
 use Rattle.tacho_time.specs.declared.span.Span.{Span}
 use Rattle.tacho_hours.specs.declared.run.Run.{Run}
@@ -18,7 +18,7 @@ use Rattle.tacho_hours.specs.Breaches.{IsExtended, IsB4, IsB5}
 use Rattle.tacho_pass.specs.Heard.{Continues}
 use Rattle.tacho_pass.specs.Found.{listed}
 use Rattle.tacho_pass.specs.Counts.{count_none, count_with, over_of, IsCounted}
-use Rattle.tacho_days.specs.declared.duty_driving.DutyDriving.{DutyDriving}
+use Rattle.tacho_days.specs.declared.daily_driving.DutyDriving.{DutyDriving}
 use Rattle.tacho_days.specs.DutyDays.{is_long, IsLastOf, IsBeforeFirst}
 
 -- Article 4(i): the week that a minute lies in, from that of 1970-01-05 on
@@ -28,6 +28,10 @@ week_at m = (m - first_week) / minutes_of_week
 -- before the first daily rest, with nothing driven
 abbrev pub duty_none : ℕ → DutyDriving
 duty_none from = record { from = from; nine = count_none; ten = count_none; week = 0; extended = 0 }
+
+-- each count is at most the number of a minute: so no sum overflows
+abbrev pub are_few : DutyDriving → ℕ → Bool
+are_few d place = nat_le d.nine.minutes place && nat_le d.ten.minutes place
 
 -- with the minutes from one up to another
 abbrev pub duty_with : Bool → ℕ → ℕ → DutyDriving → DutyDriving

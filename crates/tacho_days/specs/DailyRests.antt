@@ -14,7 +14,7 @@ use Rattle.tacho_hours.specs.Exactly.{AreSoMany}
 use Rattle.tacho_hours.specs.Breaches.{IsB2, IsB3}
 use Rattle.tacho_hours.specs.Limits.{first_part_of_daily_rest, daily_rest, weekly_rest}
 use Rattle.tacho_pass.specs.Heard.{Continues}
-use Rattle.tacho_days.specs.declared.resting_day.RestingDay.{RestingDay}
+use Rattle.tacho_days.specs.declared.daily_rest.RestingDay.{RestingDay}
 use Rattle.tacho_days.specs.DutyDays.{IsLastOf, IsBeforeFirst}
 
 -- behind a daily and a weekly rest

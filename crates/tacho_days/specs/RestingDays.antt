@@ -9,7 +9,7 @@ use Rattle.tacho_hours.specs.Runs.{minutes_of}
 use Rattle.tacho_hours.specs.Limits.{minutes_of_day, regular_daily_rest, first_part_of_daily_rest, daily_rest}
 use Rattle.tacho_hours.specs.Limits.{weekly_rest, reduced_daily_rests}
 use Rattle.tacho_pass.specs.Found.{listed}
-use Rattle.tacho_days.specs.declared.resting_day.RestingDay.{RestingDay}
+use Rattle.tacho_days.specs.declared.daily_rest.RestingDay.{RestingDay}
 use Rattle.tacho_days.specs.DutyDays.{is_long, day_to}
 
 -- before the first rest

@@ -1,34 +1,62 @@
-ghost use Rattle.std.specs.Prelude.{◌≡◌, true, false};
-ghost use Rattle.std.proofs.Common.{refl, sym};
-ghost use Rattle.tacho_hours.specs.declared.breach.Kind.TheVariants.{B1, B2, B3, B4, B5, B6, B7, B8, B9, B10};
+ghost use Rattle.std.specs.Prelude.{◌&&◌, false};
+ghost use Rattle.tacho_pass.specs.Kinds.{is_b2_to_b5};
+ghost use Rattle.tacho_days.specs.DayRules.{DaysStand};
+ghost use Rattle.tacho_days.specs.Days.{DaysDefined};
 
-use crate::duty_driving::DutyDriving;
-use crate::resting_day::RestingDay;
-use tacho_pass::{Apart, Both, Hearing};
-
-/// Daily rests go before driving in a day.
-#[derive(Clone, Copy)]
-pub struct RestsFirst {}
-
-impl Apart<RestingDay, DutyDriving> for RestsFirst {
-    ghost apart = { elim [
-      | B1 ↦ λ e. refl
-      | B2 ↦ λ e. sym e
-      | B3 ↦ λ e. sym e
-      | B4 ↦ λ e. refl
-      | B5 ↦ λ e. refl
-      | B6 ↦ λ e. refl
-      | B7 ↦ λ e. refl
-      | B8 ↦ λ e. refl
-      | B9 ↦ λ e. refl
-      | B10 ↦ λ e. refl
-    ] };
-
-    ghost no_debts = { refl };
-}
+use crate::daily_driving::DutyDriving;
+use crate::daily_rest::RestingDay;
+use std::alloc::AllocError;
+use tacho_hours::Run;
+use tacho_pass::{Found, Hearing, Judge};
+use tacho_time::{Minute, Span};
 
 /// Both rules on days.
-pub type DayRules = Both<RestingDay, DutyDriving, RestsFirst>;
+#[derive(Clone, Copy)]
+pub struct DayRules {
+    /// B2 and B3: daily rests (Articles 8(2) and 8(4)).
+    pub daily_rest: RestingDay,
+    /// B4 and B5: driving in a day (Article 6(1)).
+    pub daily_driving: DutyDriving,
+}
 
 /// The rules on days: daily rests, and driving in a day (Articles 6(1), 8(2) and 8(4) of Regulation (EC) 561/2006).
 pub type Days = Hearing<DayRules>;
+
+impl Judge for DayRules {
+    ghost own = { is_b2_to_b5 };
+
+    ghost owes = { false };
+
+    ghost fits = { λ d place. ⟦<RestingDay as Judge>⟧.fits d.daily_rest place
+        && ⟦<DutyDriving as Judge>⟧.fits d.daily_driving place };
+
+    ghost stands = { DaysStand };
+
+    ghost defined = { DaysDefined };
+
+    fn new(base: Minute) -> Self {
+        DayRules {
+            daily_rest: Judge::new(base),
+            daily_driving: Judge::new(base),
+        }
+    }
+
+    fn feed(
+        &mut self,
+        start: u32,
+        run: Option<Run>,
+        span: Span,
+        found: &mut Found,
+    ) -> Result<(), AllocError> {
+        let (run, span) = (&run, &span);
+        self.daily_rest.feed(start, *run, *span, found)?;
+        self.daily_driving.feed(start, *run, *span, found)?;
+        Ok(())
+    }
+
+    fn finish(self, start: u32, horizon: Minute, found: &mut Found) -> Result<(), AllocError> {
+        self.daily_rest.finish(start, horizon, found)?;
+        self.daily_driving.finish(start, horizon, found)?;
+        Ok(())
+    }
+}

@@ -21,7 +21,7 @@ use Rattle.tacho_pass.proofs.HearingLemmas.{line_append, line_at_end, joined_app
 use Rattle.tacho_pass.proofs.HearingLemmas.{heard_busy, heard_gap, by_span, line_runs, line_to}
 use Rattle.tacho_choice.specs.Weeks.{IsInWeeks}
 use Rattle.tacho_choice.proofs.SeenLemmas.{in_weeks}
-use Rattle.tacho_rests.specs.declared.choices.Choices.{Choices}
+use Rattle.tacho_rests.specs.declared.missing_rest.Choices.{Choices}
 use Rattle.tacho_rests.specs.Choices.{AreChoices}
 use Rattle.tacho_rests.specs.Lacking.{IsChoosing, LackingStands, LackingDefined}
 use Rattle.tacho_rests.proofs.ChoicesLemmas.{choices_keep}

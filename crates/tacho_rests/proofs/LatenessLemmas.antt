@@ -23,7 +23,7 @@ use Rattle.tacho_pass.specs.Heard.{is_rest, start_after, run_before, Continues, 
 use Rattle.tacho_pass.specs.Found.{listed}
 use Rattle.tacho_pass.proofs.HearingLemmas.{line_append, line_at_end, joined_append, rests_yes, rests_no, heard_rest}
 use Rattle.tacho_pass.proofs.HearingLemmas.{heard_busy, heard_gap, by_span, line_to}
-use Rattle.tacho_rests.specs.declared.late.Late.{Late}
+use Rattle.tacho_rests.specs.declared.late_rest.Late.{Late}
 use Rattle.tacho_rests.specs.Lateness.{late_of, late_run, end_after, IsLateSoFar, IsLateUpTo, LateStands, LateDefined}
 use Rattle.tacho_rests.proofs.LateRestLemmas.{late_keep, late_next, late_all}
 use Rattle.tacho_rests.proofs.HeardLemmas.{run_some, none_if}

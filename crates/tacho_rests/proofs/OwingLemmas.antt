@@ -18,7 +18,7 @@ use Rattle.tacho_hours.proofs.RunsLemmas.{run_of}
 use Rattle.tacho_pass.specs.Heard.{is_rest, start_after, run_before, Continues, IsNext, IsLineTo}
 use Rattle.tacho_pass.proofs.HearingLemmas.{line_append, line_at_end, joined_append, rests_yes, rests_no, heard_rest}
 use Rattle.tacho_pass.proofs.HearingLemmas.{heard_busy, heard_next, heard_gap, line_to, last_next}
-use Rattle.tacho_rests.specs.declared.ledger.Ledger.{Ledger}
+use Rattle.tacho_rests.specs.declared.compensation.Ledger.{Ledger}
 use Rattle.tacho_rests.specs.Few.{debts_in, rests_in}
 use Rattle.tacho_rests.specs.Turns.{OwesBefore, AreDebtsBefore, IsLedger, IsOwed}
 use Rattle.tacho_rests.specs.Owing.{IsOwing, OwingStands, OwingDefined}

@@ -12,7 +12,7 @@ use Rattle.tacho_hours.specs.Weeks.{week_start}
 use Rattle.tacho_hours.specs.SoFar.{AreCollected}
 use Rattle.tacho_hours.specs.Breaches.{IsLacking}
 use Rattle.tacho_pass.specs.Heard.{Continues, IsHeard, IsLineTo}
-use Rattle.tacho_rests.specs.declared.choices.Choices.{Choices}
+use Rattle.tacho_rests.specs.declared.missing_rest.Choices.{Choices}
 use Rattle.tacho_rests.specs.Choices.{AreChoices}
 
 -- of a line that goes on: the rest run that is open, and the weekly rests of those that have ended

@@ -13,7 +13,7 @@ use Rattle.tacho_hours.specs.Runs.{AreRestRuns, IsRestOf, minutes_of}
 use Rattle.tacho_hours.specs.SoFar.{AreCollected}
 use Rattle.tacho_hours.specs.Breaches.{IsB8, IsLate}
 use Rattle.tacho_pass.specs.Heard.{Continues, IsHeard}
-use Rattle.tacho_rests.specs.declared.late.Late.{Late}
+use Rattle.tacho_rests.specs.declared.late_rest.Late.{Late}
 
 -- Article 8(6): the breach of a weekly rest that starts later than six days after the end of the last one
 abbrev pub late_of : Option ℕ → Run → Option Breach

@@ -11,7 +11,7 @@ use Rattle.tacho_hours.specs.Debts.{AreDebts}
 use Rattle.tacho_hours.specs.SoFar.{AreCollected}
 use Rattle.tacho_hours.specs.Breaches.{IsOverdue}
 use Rattle.tacho_pass.specs.Heard.{Continues, IsHeard, IsLineTo}
-use Rattle.tacho_rests.specs.declared.ledger.Ledger.{Ledger}
+use Rattle.tacho_rests.specs.declared.compensation.Ledger.{Ledger}
 use Rattle.tacho_rests.specs.Few.{debts_in, rests_in}
 use Rattle.tacho_rests.specs.Turns.{IsLedger}
 

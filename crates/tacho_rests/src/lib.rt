@@ -3,18 +3,16 @@
 //! state of fixed size.
 #![tactic(auto)]
 
-mod choices;
+mod compensation;
 mod due_debts;
 mod few;
-mod lacking;
-mod late;
+mod late_rest;
 pub mod laws;
-mod ledger;
-mod owing;
+mod missing_rest;
 mod payment;
 mod week_rests;
 
-pub use choices::Choices;
-pub use late::Late;
-pub use ledger::Ledger;
-pub use week_rests::{LackingFirst, LateFirst, RestRules, WeekRests};
+pub use compensation::Ledger;
+pub use late_rest::Late;
+pub use missing_rest::Choices;
+pub use week_rests::{RestRules, WeekRests};

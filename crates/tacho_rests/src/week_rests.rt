@@ -1,56 +1,67 @@
-ghost use Rattle.std.specs.Prelude.{◌≡◌, true, false};
-ghost use Rattle.std.proofs.Common.{refl, sym};
-ghost use Rattle.tacho_hours.specs.declared.breach.Kind.TheVariants.{B1, B2, B3, B4, B5, B6, B7, B8, B9, B10};
+ghost use Rattle.std.specs.Prelude.{true};
+ghost use Rattle.tacho_pass.specs.Kinds.{is_b8_to_b10};
+ghost use Rattle.tacho_rests.specs.RestRules.{RestsStand};
+ghost use Rattle.tacho_rests.specs.WeekRests.{WeekRestsDefined};
 
-use crate::choices::Choices;
-use crate::late::Late;
-use crate::ledger::Ledger;
-use tacho_pass::{Apart, Both, Hearing};
+use crate::compensation::Ledger;
+use crate::late_rest::Late;
+use crate::missing_rest::Choices;
+use std::alloc::AllocError;
+use tacho_hours::Run;
+use tacho_pass::{Found, Hearing, Judge};
+use tacho_time::{Minute, Span};
 
-/// Late weekly rests go before debts: they have no debts, and no kind of breach in common with them.
+/// The three rules on weekly rests.
 #[derive(Clone, Copy)]
-pub struct LateFirst {}
-
-impl Apart<Late, Ledger> for LateFirst {
-    ghost apart = { elim [
-      | B1 ↦ λ e. refl
-      | B2 ↦ λ e. refl
-      | B3 ↦ λ e. refl
-      | B4 ↦ λ e. refl
-      | B5 ↦ λ e. refl
-      | B6 ↦ λ e. refl
-      | B7 ↦ λ e. refl
-      | B8 ↦ λ e. sym e
-      | B9 ↦ λ e. refl
-      | B10 ↦ λ e. refl
-    ] };
-
-    ghost no_debts = { refl };
+pub struct RestRules {
+    /// B8: weekly rests that start too late (Article 8(6)).
+    pub late_rest: Late,
+    /// B9: weeks that lack weekly rests (Articles 8(6) and 8(9)).
+    pub missing_rest: Choices,
+    /// B10 and the debts: reduced rests that nothing compensates (Article 8(6b)).
+    pub compensation: Ledger,
 }
-
-/// Weeks that lack weekly rests go before both, for the same reason.
-#[derive(Clone, Copy)]
-pub struct LackingFirst {}
-
-impl Apart<Choices, Both<Late, Ledger, LateFirst>> for LackingFirst {
-    ghost apart = { elim [
-      | B1 ↦ λ e. refl
-      | B2 ↦ λ e. refl
-      | B3 ↦ λ e. refl
-      | B4 ↦ λ e. refl
-      | B5 ↦ λ e. refl
-      | B6 ↦ λ e. refl
-      | B7 ↦ λ e. refl
-      | B8 ↦ λ e. refl
-      | B9 ↦ λ e. sym e
-      | B10 ↦ λ e. refl
-    ] };
-
-    ghost no_debts = { refl };
-}
-
-/// Weeks that lack weekly rests, late weekly rests, and debts, as one rule.
-pub type RestRules = Both<Choices, Both<Late, Ledger, LateFirst>, LackingFirst>;
 
 /// The rules on weekly rests (Articles 8(6), 8(6b) and 8(9) of Regulation (EC) 561/2006).
 pub type WeekRests = Hearing<RestRules>;
+
+impl Judge for RestRules {
+    ghost own = { is_b8_to_b10 };
+
+    ghost owes = { true };
+
+    ghost fits = { λ r place. true };
+
+    ghost stands = { RestsStand };
+
+    ghost defined = { WeekRestsDefined };
+
+    fn new(base: Minute) -> Self {
+        RestRules {
+            late_rest: Judge::new(base),
+            missing_rest: Judge::new(base),
+            compensation: Judge::new(base),
+        }
+    }
+
+    fn feed(
+        &mut self,
+        start: u32,
+        run: Option<Run>,
+        span: Span,
+        found: &mut Found,
+    ) -> Result<(), AllocError> {
+        let (run, span) = (&run, &span);
+        self.late_rest.feed(start, *run, *span, found)?;
+        self.missing_rest.feed(start, *run, *span, found)?;
+        self.compensation.feed(start, *run, *span, found)?;
+        Ok(())
+    }
+
+    fn finish(self, start: u32, horizon: Minute, found: &mut Found) -> Result<(), AllocError> {
+        self.late_rest.finish(start, horizon, found)?;
+        self.missing_rest.finish(start, horizon, found)?;
+        self.compensation.finish(start, horizon, found)?;
+        Ok(())
+    }
+}

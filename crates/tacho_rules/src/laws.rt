@@ -1,18 +1,25 @@
-//! Laws about reports. A law is a function without a body: what it ensures is proved, and holds for all that it names.
+//! Laws about reports and passes. A law is a function without a body: what it ensures is proved, and holds for all that it names.
 
-ghost use Rattle.std.specs.Prelude.{◌≡◌, ◌≢◌, ◌<◌, ◌≤◌, ℕ, List, [], All, Contains};
+ghost use Rattle.std.specs.Prelude.{◌≡◌, ◌≢◌, ◌<◌, ◌≤◌, ℕ, List, [], All, Contains, true, false};
 ghost use Rattle.tacho_time.specs.declared.span.Activity.TheVariants.{Rest};
 ghost use Rattle.tacho_time.specs.declared.span.Span.{Span as Stretch};
 ghost use Rattle.tacho_line.specs.declared.horizon.Horizon.{Horizon as HorizonValue};
 ghost use Rattle.tacho_line.specs.Line.{mark_at};
 ghost use Rattle.tacho_hours.specs.declared.breach.Breach.{Breach as BreachValue};
+ghost use Rattle.tacho_hours.specs.declared.breach.Kind.{Kind as KindValue};
 ghost use Rattle.tacho_hours.specs.declared.breach.Kind.TheVariants.{B10};
 ghost use Rattle.tacho_hours.specs.declared.debt.Debt.{Debt as DebtValue};
 ghost use Rattle.tacho_hours.specs.Limits.{latest};
 ghost use Rattle.tacho_hours.specs.Line.{IsBase};
 ghost use Rattle.tacho_hours.specs.Order.{Agree};
+ghost use Rattle.tacho_pass.specs.Kinds.{is_b1, is_b2_to_b5, is_b6_or_b7, is_b8_to_b10};
+ghost use Rattle.tacho_driving.specs.Periods.{BreaksDefined};
+ghost use Rattle.tacho_driving.specs.Sums.{WeekSumsDefined};
+ghost use Rattle.tacho_days.specs.Days.{DaysDefined};
+ghost use Rattle.tacho_rests.specs.WeekRests.{WeekRestsDefined};
 ghost use Rattle.tacho_rules.specs.Report.{IsReport, examined};
 
+use crate::{Breaks, Days, Pass, WeekRests, WeekSums};
 pub use tacho_choice::laws::choices_reach;
 pub use tacho_hours::laws::paid_by_runs;
 pub use tacho_rests::laws::examined_line_is_in_weeks;
@@ -59,4 +66,42 @@ pub fn breaches_stay()
         → horizon.minute ≤ later.minute → base ≤ latest → All (λ span. span.past ≤ latest) more
         → (breach : BreachValue) → Contains found breach → breach.kind ≢ B10
         → (same : BreachValue) × Contains others same × Agree breach same }
+{}
+
+/// `Breaks` finds driving without a break, B1 (Article 7 of Regulation (EC) 561/2006): each such breach once, and no
+/// other. It finds no debts.
+pub fn breaks_as_defined()
+    ensures own { (kind : KindValue) → ⟦<Breaks as Pass>⟧.own kind ≡ is_b1 kind }
+    ensures owes { ⟦<Breaks as Pass>⟧.owes ≡ false }
+    ensures defined { (own : List BreachValue) (owed : List DebtValue) (base horizon : ℕ) (spans : List Stretch)
+        → ⟦<Breaks as Pass>⟧.defined own owed base horizon spans → BreaksDefined own owed base horizon spans }
+{}
+
+/// `Days` finds daily rests that are too short, B2 (Article 8(2)), or reduced too often, B3 (Article 8(4)), and days with
+/// too much driving, B4, or extended too often in their week, B5 (Article 6(1)): each such breach once, and no other. It
+/// finds no debts.
+pub fn days_as_defined()
+    ensures own { (kind : KindValue) → ⟦<Days as Pass>⟧.own kind ≡ is_b2_to_b5 kind }
+    ensures owes { ⟦<Days as Pass>⟧.owes ≡ false }
+    ensures defined { (own : List BreachValue) (owed : List DebtValue) (base horizon : ℕ) (spans : List Stretch)
+        → ⟦<Days as Pass>⟧.defined own owed base horizon spans → DaysDefined own owed base horizon spans }
+{}
+
+/// `WeekSums` finds too much driving in a week, B6, and in two weeks, B7 (Articles 6(2) and 6(3)): each such breach once,
+/// and no other. It finds no debts.
+pub fn week_sums_as_defined()
+    ensures own { (kind : KindValue) → ⟦<WeekSums as Pass>⟧.own kind ≡ is_b6_or_b7 kind }
+    ensures owes { ⟦<WeekSums as Pass>⟧.owes ≡ false }
+    ensures defined { (own : List BreachValue) (owed : List DebtValue) (base horizon : ℕ) (spans : List Stretch)
+        → ⟦<WeekSums as Pass>⟧.defined own owed base horizon spans → WeekSumsDefined own owed base horizon spans }
+{}
+
+/// `WeekRests` finds weekly rests that start too late, B8 (Article 8(6)), weeks that lack weekly rests, B9 (Articles 8(6)
+/// and 8(9)), and reduced weekly rests that nothing compensates in time, B10 (Article 8(6b)): each such breach once, and
+/// no other. It finds every debt, the compensated ones too.
+pub fn week_rests_as_defined()
+    ensures own { (kind : KindValue) → ⟦<WeekRests as Pass>⟧.own kind ≡ is_b8_to_b10 kind }
+    ensures owes { ⟦<WeekRests as Pass>⟧.owes ≡ true }
+    ensures defined { (own : List BreachValue) (owed : List DebtValue) (base horizon : ℕ) (spans : List Stretch)
+        → ⟦<WeekRests as Pass>⟧.defined own owed base horizon spans → WeekRestsDefined own owed base horizon spans }
 {}

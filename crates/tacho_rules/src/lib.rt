@@ -9,11 +9,11 @@ mod scan;
 
 pub use examination::{can_be_examined, examine};
 pub use report::Report;
-pub use rules::{BreaksFirst, DayAndWeekRules, DaysFirst, Rules, SumsFirst, WeekRules};
+pub use rules::Rules;
 pub use scan::Scan;
 pub use tacho_days::Days;
 pub use tacho_driving::{Breaks, WeekSums};
 pub use tacho_hours::{Breach, Debt, Kind, limits};
 pub use tacho_line::{Cause, Horizon};
-pub use tacho_pass::{Found, Pass};
+pub use tacho_pass::{Found, Pass, Plain};
 pub use tacho_rests::WeekRests;

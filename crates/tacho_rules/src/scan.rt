@@ -15,7 +15,7 @@ use crate::rules::Rules;
 use std::alloc::AllocError;
 use tacho_hours::put_in_order;
 use tacho_line::{Horizon, cut};
-use tacho_pass::{Found, Hearing, Pass};
+use tacho_pass::{Found, Hearing, Pass, Plain};
 use tacho_time::{Minute, Span};
 
 /// All rules on driving and rest hours (Articles 6, 7 and 8 of Regulation (EC) 561/2006) over spans that come one at a
@@ -25,6 +25,8 @@ use tacho_time::{Minute, Span};
 pub struct Scan {
     hearing: Hearing<Rules>,
 }
+
+impl Plain for Scan {}
 
 impl Scan {
     /// A scan over no spans, from a base on, the first minute of a Monday.

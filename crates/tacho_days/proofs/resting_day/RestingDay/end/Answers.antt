@@ -1,8 +1,0 @@
-use Rattle.std.proofs.Common.{false}
-use Rattle.tacho_pass.specs.Kinds.{is_b2_or_b3}
-use Rattle.tacho_pass.proofs.AppendingLemmas.{appends_none}
-use Rattle.tacho_days.proofs.resting_day.RestingDay.end.Goals as goal
-
-pub returns-else-saturating_sub-ge-DAILY_REST-clause-appends :
-    goal.returns-else-saturating_sub-ge-DAILY_REST-clause-appends
-returns-else-saturating_sub-ge-DAILY_REST-clause-appends c = appends_none is_b2_or_b3 false c.args.found.now

@@ -1,0 +1,216 @@
+ghost use Rattle.std.specs.Prelude.{◌≡◌, ◌<◌, ◌≤◌, ◌+◌, ◌++◌, ◌&&◌, ⊤, ℕ, nat_le, IsTrue, false, OnOk, MatchOption};
+ghost use Rattle.tacho_hours.specs.Limits.{first_week, latest};
+ghost use Rattle.tacho_pass.specs.Found.{Appends, listed};
+ghost use Rattle.tacho_pass.specs.Kinds.{is_b4_or_b5};
+ghost use Rattle.tacho_days.specs.DutyDays.{is_long};
+ghost use Rattle.tacho_days.specs.DailyDriving.{DailyDrivingStands, DailyDrivingDefined};
+ghost use Rattle.tacho_days.specs.DailyDriving.{duty_none, are_few, duty_with, ordinal_of, often_of, next_day};
+ghost use Rattle.tacho_days.specs.DailyDriving.{duty_after, duty_found, duty_any, found_any};
+
+use std::alloc::AllocError;
+use tacho_hours::limits::{DAILY_REST, DRIVING_IN_DAY, DRIVING_IN_EXTENDED_DAY, EXTENDED_DAYS};
+use tacho_hours::{Breach, FAR, Kind, Run};
+use tacho_pass::{Count, Found, Judge, is_drive, put};
+use tacho_time::{Minute, Span, week_of};
+
+/// The driving of the duty day that is open, and the extended days of a week before it (Article 6(1) of Regulation
+/// (EC) 561/2006).
+#[derive(Clone, Copy)]
+pub struct DutyDriving {
+    /// Where the day starts.
+    pub from: Minute,
+    /// Its driving, with the first minute above nine hours.
+    pub nine: Count,
+    /// The same, with the first minute above ten.
+    pub ten: Count,
+    /// The week of the last extended day.
+    pub week: u32,
+    /// How many extended days that week has so far.
+    pub extended: u32,
+}
+
+impl DutyDriving {
+    /// Before the first daily rest, with nothing driven.
+    fn none(from: Minute) -> DutyDriving
+        ensures { result ≡ duty_none from }
+    {
+        DutyDriving {
+            from,
+            nine: Count::none(),
+            ten: Count::none(),
+            week: 0,
+            extended: 0,
+        }
+    }
+
+    /// Adds the minutes from one up to another, which are all driving or none.
+    fn add(&mut self, drives: bool, from: u32, to: u32)
+        requires few { IsTrue (are_few self.old from) }
+        requires some { from ≤ to }
+        requires early { to ≤ latest }
+        ensures with { self.new ≡ duty_with drives from to self.old }
+        ensures few { IsTrue (are_few self.new to) }
+    {
+        if drives {
+            self.nine.add(DRIVING_IN_DAY, from, to);
+            self.ten.add(DRIVING_IN_EXTENDED_DAY, from, to);
+        }
+    }
+
+    /// Which extended day of its week the day is, if it is one.
+    fn ordinal(self) -> u32
+        requires from { first_week ≤ self.from }
+        requires extended { self.extended ≤ latest }
+        ensures ordinal { result ≡ ordinal_of self }
+        ensures extended { result ≤ self.extended + 1 }
+    {
+        let before = if self.week == week_of(self.from).number() {
+            self.extended
+        } else {
+            0
+        };
+        before + 1
+    }
+
+    /// The breach of a third or later extended day of the week.
+    fn often(self) -> Option<Breach>
+        requires from { first_week ≤ self.from }
+        requires extended { self.extended ≤ latest }
+        ensures { listed result ≡ often_of self }
+    {
+        let DutyDriving { nine, from, .. } = self;
+        if self.ordinal() > EXTENDED_DAYS {
+            nine.over(Kind::B5, DRIVING_IN_DAY, from)
+        } else {
+            None
+        }
+    }
+
+    /// Behind the day, where the next one starts at a minute.
+    fn next(self, from: Minute) -> DutyDriving
+        requires from { first_week ≤ self.from }
+        requires extended { self.extended ≤ latest }
+        ensures next { result ≡ next_day from self }
+        ensures extended { result.extended ≤ self.extended + 1 }
+    {
+        let (week, extended) = if self.nine.minutes > DRIVING_IN_DAY {
+            (week_of(self.from).number(), self.ordinal())
+        } else {
+            (self.week, self.extended)
+        };
+        DutyDriving {
+            from,
+            nine: Count::none(),
+            ten: Count::none(),
+            week,
+            extended,
+        }
+    }
+
+    /// Puts the breaches of the day that a rest run ends to what is found.
+    fn end(&self, run: Run, found: &mut Found) -> Result<(), AllocError>
+        requires from { first_week ≤ self.now.from }
+        requires extended { self.now.extended ≤ latest }
+        ensures breaches { OnOk result (
+            found.new.breaches.items ≡ found.old.breaches.items ++ duty_found run self.now) }
+        ensures appends { Appends is_b4_or_b5 false found.old found.new }
+    {
+        if ends_day(run) {
+            put(
+                self.ten.over(Kind::B4, DRIVING_IN_EXTENDED_DAY, self.from),
+                found,
+            )?;
+            put(self.often(), found)?;
+        }
+        Ok(())
+    }
+
+    /// Behind a rest run, which may end the day.
+    fn turn(&mut self, run: Run)
+        requires from { first_week ≤ self.old.from }
+        requires extended { self.old.extended ≤ latest }
+        requires late { first_week ≤ run.past }
+        requires early { run.past ≤ latest }
+        ensures after { self.new ≡ duty_after run self.old }
+        ensures from { first_week ≤ self.new.from }
+        ensures extended { self.new.extended ≤ self.old.extended + 1 }
+        ensures few { (place : ℕ) → IsTrue (are_few self.old place) → IsTrue (are_few self.new place) }
+    {
+        if ends_day(run) {
+            *self = self.next(Minute::new(run.past));
+        }
+    }
+
+    /// Takes a span, which may end a rest run where it starts.
+    fn hear(
+        &mut self,
+        run: Option<Run>,
+        drives: bool,
+        from: u32,
+        to: u32,
+        found: &mut Found,
+    ) -> Result<(), AllocError>
+        requires day { first_week ≤ self.old.from }
+        requires few { IsTrue (are_few self.old from) }
+        requires extended { self.old.extended ≤ from }
+        requires run { MatchOption run ⊤ (λ run. run.past ≡ from) }
+        requires late { first_week ≤ from }
+        requires some { from < to }
+        requires early { to ≤ latest }
+        ensures after { OnOk result (self.new ≡ duty_with drives from to (duty_any run self.old)) }
+        ensures day { first_week ≤ self.new.from }
+        ensures few { IsTrue (are_few self.new to) }
+        ensures extended { self.new.extended ≤ to }
+        ensures breaches { OnOk result (
+            found.new.breaches.items ≡ found.old.breaches.items ++ found_any run self.old) }
+        ensures appends { Appends is_b4_or_b5 false found.old found.new }
+    {
+        if let Some(run) = run {
+            self.end(run, found)?;
+            self.turn(run);
+        }
+        self.add(drives, from, to);
+        Ok(())
+    }
+}
+
+impl Judge for DutyDriving {
+    ghost own = { is_b4_or_b5 };
+
+    ghost owes = { false };
+
+    ghost fits = { λ d place. nat_le first_week d.from
+        && (are_few d place && nat_le d.extended place) };
+
+    ghost stands = { λ d start place own owed base spans. DailyDrivingStands start place d own owed base spans };
+
+    ghost defined = { DailyDrivingDefined };
+
+    fn new(base: Minute) -> Self {
+        DutyDriving::none(base)
+    }
+
+    fn feed(
+        &mut self,
+        _start: u32,
+        run: Option<Run>,
+        span: Span,
+        found: &mut Found,
+    ) -> Result<(), AllocError> {
+        let drives = is_drive(span.mark.activity);
+        self.hear(run, drives, span.start.number(), span.past.number(), found)?;
+        Ok(())
+    }
+
+    fn finish(self, start: u32, _horizon: Minute, found: &mut Found) -> Result<(), AllocError> {
+        self.end(Run { start, past: FAR }, found)?;
+        Ok(())
+    }
+}
+
+/// Whether a rest run has nine hours or more, and so ends a duty day (Article 4(g)).
+fn ends_day(run: Run) -> bool
+    ensures { result ≡ is_long run }
+{
+    run.past.saturating_sub(run.start) >= DAILY_REST
+}

@@ -1,0 +1,141 @@
+ghost use Rattle.std.specs.Prelude.{◌≡◌, ◌≤◌, ◌++◌, ℕ, IsTrue, false, OnOk};
+ghost use Rattle.tacho_hours.specs.Weeks.{week_start};
+ghost use Rattle.tacho_pass.specs.Found.{Appends};
+ghost use Rattle.tacho_pass.specs.Kinds.{is_b1};
+ghost use Rattle.tacho_driving.specs.Periods.{BreaksStand, BreaksDefined};
+ghost use Rattle.tacho_driving.specs.Periods.{period_none, are_few, completes as completes_it, after_run, found_at, after_any};
+ghost use Rattle.tacho_driving.specs.Periods.{found_any, period_with};
+
+use std::alloc::AllocError;
+use tacho_hours::limits::{
+    DRIVING_BEFORE_BREAK, FIRST_PART_OF_BREAK, LAST_PART_OF_BREAK, WHOLE_BREAK,
+};
+use tacho_hours::{FAR, Kind, Run};
+use tacho_pass::{Count, Found, Hearing, Judge, is_drive, put};
+use tacho_time::{Minute, Span};
+
+/// The driving since the last complete break.
+#[derive(Clone, Copy)]
+pub struct Period {
+    /// There was a first part of a break.
+    pub short: bool,
+    /// Its driving, with the first minute above four and a half hours (Article 7).
+    pub over: Count,
+    /// The same, with the first driving minute.
+    pub since: Count,
+}
+
+/// Whether a run of so many minutes completes a break, after a first part or without one (Article 7).
+fn completes(minutes: u32, short: bool) -> bool
+    ensures { result ≡ completes_it minutes short }
+{
+    WHOLE_BREAK <= minutes || (LAST_PART_OF_BREAK <= minutes && short)
+}
+
+impl Period {
+    /// With nothing driven.
+    pub fn none() -> Period
+        ensures { result ≡ period_none }
+    {
+        Period {
+            short: false,
+            over: Count::none(),
+            since: Count::none(),
+        }
+    }
+
+    /// Adds the minutes from one up to another, which are all driving or none.
+    fn add(&mut self, drives: bool, from: u32, to: u32)
+        requires few { IsTrue (are_few self.old from) }
+        requires some { from ≤ to }
+        requires early { to ≤ week_start 6788 }
+        ensures with { self.new ≡ period_with drives from to self.old }
+        ensures few { IsTrue (are_few self.new to) }
+    {
+        if drives {
+            self.over.add(DRIVING_BEFORE_BREAK, from, to);
+            self.since.add(0, from, to);
+        }
+    }
+
+    /// Behind a rest run, which may end the period.
+    fn end(&mut self, run: Run, found: &mut Found) -> Result<(), AllocError>
+        ensures after { OnOk result (self.new ≡ after_run run self.old) }
+        ensures few { (place : ℕ) → IsTrue (are_few self.old place) → IsTrue (are_few self.new place) }
+        ensures breaches { OnOk result (found.new.breaches.items ≡ found.old.breaches.items ++ found_at run self.old) }
+        ensures appends { Appends is_b1 false found.old found.new }
+    {
+        let minutes = run.past.saturating_sub(run.start);
+        if completes(minutes, self.short) {
+            let breach = self
+                .over
+                .over(Kind::B1, DRIVING_BEFORE_BREAK, self.since.moment);
+            put(breach, found)?;
+            *self = Period::none();
+            return Ok(());
+        }
+        self.short = self.short || FIRST_PART_OF_BREAK <= minutes;
+        Ok(())
+    }
+
+    /// Takes a span, which may end a rest run where it starts.
+    fn hear(
+        &mut self,
+        run: Option<Run>,
+        drives: bool,
+        from: u32,
+        to: u32,
+        found: &mut Found,
+    ) -> Result<(), AllocError>
+        requires few { IsTrue (are_few self.old from) }
+        requires some { from ≤ to }
+        requires early { to ≤ week_start 6788 }
+        ensures after { OnOk result (self.new ≡ period_with drives from to (after_any run self.old)) }
+        ensures few { IsTrue (are_few self.new to) }
+        ensures breaches { OnOk result (found.new.breaches.items ≡ found.old.breaches.items ++ found_any run self.old) }
+        ensures appends { Appends is_b1 false found.old found.new }
+    {
+        if let Some(run) = run {
+            self.end(run, found)?;
+        }
+        self.add(drives, from, to);
+        Ok(())
+    }
+}
+
+/// The breaches of driving without a break (Article 7 of Regulation (EC) 561/2006).
+pub type Breaks = Hearing<Period>;
+
+impl Judge for Period {
+    ghost own = { is_b1 };
+
+    ghost owes = { false };
+
+    ghost fits = { are_few };
+
+    ghost stands = { λ p start place own owed base spans. BreaksStand start place p own owed base spans };
+
+    ghost defined = { BreaksDefined };
+
+    fn new(_base: Minute) -> Self {
+        Period::none()
+    }
+
+    fn feed(
+        &mut self,
+        _start: u32,
+        run: Option<Run>,
+        span: Span,
+        found: &mut Found,
+    ) -> Result<(), AllocError> {
+        let drives = is_drive(span.mark.activity);
+        self.hear(run, drives, span.start.number(), span.past.number(), found)?;
+        Ok(())
+    }
+
+    fn finish(self, start: u32, _horizon: Minute, found: &mut Found) -> Result<(), AllocError> {
+        let mut period = self;
+        period.end(Run { start, past: FAR }, found)?;
+        Ok(())
+    }
+}
