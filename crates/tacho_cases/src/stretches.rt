@@ -237,7 +237,7 @@ fn passed(alloc: Global, line: &Line, base: Minute, spans: &[Span]) -> Result<Ve
         if !pass.can_take(span) {
             return Err(Fail::new("a span that can't be taken"));
         }
-        pass = pass.feed(*span)?;
+        pass.feed(*span)?;
     }
     Ok(pass.finish()?)
 }
@@ -468,11 +468,12 @@ fn pass_after(alloc: Global, first: Span) -> Result<StretchPass, Fail> {
     if !can_be_examined(&Line::empty(alloc), base) {
         return Err(Fail::new("a base that can't be examined"));
     }
-    let pass = StretchPass::new(alloc, base);
+    let mut pass = StretchPass::new(alloc, base);
     if !pass.can_take(&first) {
         return Err(Fail::new("a span that can't be taken"));
     }
-    Ok(pass.feed(first)?)
+    pass.feed(first)?;
+    Ok(pass)
 }
 
 #[test]

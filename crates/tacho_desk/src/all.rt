@@ -38,8 +38,7 @@ fn overview<K: Keeper>(alloc: Global, keeper: &mut K, month: Month) -> Result<Te
     let drivers = keeper.drivers(alloc)?;
     let mut text = overview_head(alloc)?;
     for driver in &drivers {
-        let line = keeper.line_within(alloc, driver.number, start, past)?;
-        let stretches = keeper.stretches(alloc, driver.number)?;
+        let (line, stretches) = keeper.line_and_stretches(alloc, driver.number, start, past)?;
         push_overview(
             alloc,
             &mut text,

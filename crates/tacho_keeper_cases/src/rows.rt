@@ -2,8 +2,8 @@
 
 use crate::step::Standing::{Kept, Withdrawn};
 use crate::step::Step::{
-    Adds, Enter, Has, HasName, HasNoEntries, HasNoLine, HasNoName, HasNoReport, HasNoStretches,
-    Holds, IsOf, Lacks, Lists, Rebase, Refuses, Register, Repeats, Reports, Stretches, Withdraw,
+    Adds, Enter, Has, HasName, HasNoEntries, HasNoLine, HasNoName, HasNoRange, HasNoReport,
+    HasNoStretches, Holds, InRange, IsOf, Lacks, Lists, Rebase, Refuses, Register, Repeats, Reports, Stretches, Withdraw,
 };
 use crate::step::{Code, Listed, Pieces, Step};
 use tacho_card::Part;
@@ -997,8 +997,110 @@ const A_WITHDRAWAL_CHANGES_THE_STRETCHES: &[Step] = &[
     Stretches(17, &[(0, 0, Cause::Unknown, None, 0)]),
 ];
 
+/// What is held in a range is read with the stretches: after the base, around it and before it, also where the base lies in a row, and
+/// in a gap.
+const A_RANGE_IS_READ_WITH_THE_STRETCHES: &[Step] = &[
+    HasNoRange(17, (0, 10_080), Code::S4),
+    REGISTER_ANNA,
+    InRange(17, (0, 10_080), &[], &[(0, 0, Cause::Unknown, None, 0)]),
+    Enter(
+        17,
+        "start,past,activity\n\
+        2024-03-04 00:00,2024-03-05 00:00,rest\n\
+        2024-03-05 06:00,2024-03-05 10:31,drive\n\
+        2024-03-10 00:00,2024-03-18 00:00,rest\n\
+        2024-03-18 00:00,2024-03-18 04:31,drive\n",
+        Ok((1, 4)),
+    ),
+    InRange(
+        17,
+        (0, 10_080),
+        &[
+            (0, 1440, Activity::Rest),
+            (1800, 2071, Activity::Drive),
+            (8640, 10_080, Activity::Rest),
+        ],
+        &[
+            (0, 1440, Cause::Unknown, Some(10_080), 0),
+            (10_080, 20_431, Cause::Unknown, None, 1),
+        ],
+    ),
+    InRange(
+        17,
+        (12_000, 30_240),
+        &[
+            (12_000, 20_160, Activity::Rest),
+            (20_160, 20_431, Activity::Drive),
+        ],
+        &[
+            (0, 1440, Cause::Unknown, Some(10_080), 0),
+            (10_080, 20_431, Cause::Unknown, None, 1),
+        ],
+    ),
+    // A gap, and the minutes around it.
+    InRange(
+        17,
+        (1440, 1800),
+        &[],
+        &[
+            (0, 1440, Cause::Unknown, Some(10_080), 0),
+            (10_080, 20_431, Cause::Unknown, None, 1),
+        ],
+    ),
+    InRange(
+        17,
+        (1439, 1801),
+        &[(1439, 1440, Activity::Rest), (1800, 1801, Activity::Drive)],
+        &[
+            (0, 1440, Cause::Unknown, Some(10_080), 0),
+            (10_080, 20_431, Cause::Unknown, None, 1),
+        ],
+    ),
+    HasNoRange(18, (0, 10_080), Code::S4),
+    // The base lies in the rest.
+    Rebase(17, 7, Ok(())),
+    InRange(
+        17,
+        (0, 5000),
+        &[(0, 1440, Activity::Rest), (1800, 2071, Activity::Drive)],
+        &[(10_080, 20_431, Cause::Unknown, None, 1)],
+    ),
+    InRange(
+        17,
+        (2000, 15_000),
+        &[
+            (2000, 2071, Activity::Drive),
+            (8640, 15_000, Activity::Rest),
+        ],
+        &[(10_080, 20_431, Cause::Unknown, None, 1)],
+    ),
+    InRange(
+        17,
+        (20_160, 40_320),
+        &[(20_160, 20_431, Activity::Drive)],
+        &[(10_080, 20_431, Cause::Unknown, None, 1)],
+    ),
+    // The base lies after what is held.
+    Rebase(17, 28, Ok(())),
+    InRange(
+        17,
+        (15_000, 20_200),
+        &[
+            (15_000, 20_160, Activity::Rest),
+            (20_160, 20_200, Activity::Drive),
+        ],
+        &[(40_320, 40_320, Cause::Unknown, None, 0)],
+    ),
+    InRange(
+        17,
+        (40_320, 60_480),
+        &[],
+        &[(40_320, 40_320, Cause::Unknown, None, 0)],
+    ),
+];
+
 /// Each row, with its name.
-pub(crate) const ROWS: [(&str, &[Step]); 39] = [
+pub(crate) const ROWS: [(&str, &[Step]); 40] = [
     ("a day is added", A_DAY_IS_ADDED),
     ("empty data are repeated", EMPTY_DATA_ARE_REPEATED),
     (
@@ -1079,5 +1181,9 @@ pub(crate) const ROWS: [(&str, &[Step]); 39] = [
     (
         "a withdrawal changes the stretches",
         A_WITHDRAWAL_CHANGES_THE_STRETCHES,
+    ),
+    (
+        "a range is read with the stretches",
+        A_RANGE_IS_READ_WITH_THE_STRETCHES,
     ),
 ];

@@ -107,6 +107,9 @@ pub(crate) enum Step {
     Reports(u32, u16, Breaches),
     /// A driver has exactly these stretches.
     Stretches(u32, &'static [Judged]),
+    /// What a driver holds in a range is exactly these spans, and they have exactly these stretches. The range is from a minute to before
+    /// another one, counted from Monday 00:00.
+    InRange(u32, (u16, u16), Pieces, &'static [Judged]),
     /// Of a driver no name is read.
     HasNoName(u32, Code),
     /// Of a driver no timeline is read.
@@ -117,6 +120,8 @@ pub(crate) enum Step {
     HasNoReport(u32, Code),
     /// Of a driver there are no stretches.
     HasNoStretches(u32, Code),
+    /// Of a driver there is nothing in a range, and there are no stretches.
+    HasNoRange(u32, (u16, u16), Code),
     /// Of a driver no download with this number is read.
     Lacks(u32, u32, Code),
 }
@@ -217,6 +222,12 @@ fn take_reading<K: Keeper>(
         Step::Stretches(driver, judged) => {
             assert_judged(rt, place, &keeper.stretches(alloc, driver)?, judged);
         }
+        Step::InRange(driver, range, pieces, judged) => {
+            let (start, past) = range_of(range);
+            let (line, found) = keeper.line_and_stretches(alloc, driver, start, past)?;
+            assert_held_within(rt, alloc, place, &line, (start, past), pieces)?;
+            assert_judged(rt, place, &found, judged);
+        }
         reading => take_refused(rt, alloc, keeper, place, reading)?,
     }
     Ok(())
@@ -245,6 +256,11 @@ fn take_refused<K: Keeper>(
         }
         Step::HasNoStretches(driver, code) => {
             assert_refused(rt, place, keeper.stretches(alloc, driver).err(), code);
+        }
+        Step::HasNoRange(driver, range, code) => {
+            let (start, past) = range_of(range);
+            let found = keeper.line_and_stretches(alloc, driver, start, past);
+            assert_refused(rt, place, found.err(), code);
         }
         Step::Lacks(driver, number, code) => {
             let found = keeper.download(alloc, driver, number);
@@ -283,6 +299,21 @@ fn assert_held(
 ) -> Result<(), Fail> {
     let spans = spans_of(alloc, pieces)?;
     assert!(rt; line.spans() == spans.as_slice(), "{place}");
+    Ok(())
+}
+
+/// What a timeline holds from a minute to before another one is that of pieces.
+fn assert_held_within(
+    rt: &impl Abort,
+    alloc: Global,
+    place: &str,
+    line: &Line,
+    range: (Minute, Minute),
+    pieces: Pieces,
+) -> Result<(), Fail> {
+    let held = line.slice(alloc, range.0, range.1)?;
+    let spans = spans_of(alloc, pieces)?;
+    assert!(rt; held.as_slice() == spans.as_slice(), "{place}");
     Ok(())
 }
 
@@ -434,6 +465,11 @@ fn refusal_of(code: Code) -> StoreFault {
         Code::C6 => StoreFault::Card(CardFault::NoActivity),
         Code::C14(minute) => StoreFault::Card(CardFault::SelfContradiction(minute_of(minute))),
     }
+}
+
+/// The range from a minute that is so many after Monday 00:00 to before another one.
+fn range_of(range: (u16, u16)) -> (Minute, Minute) {
+    (minute_of(range.0), minute_of(range.1))
 }
 
 /// The minute that is so many after Monday 00:00.

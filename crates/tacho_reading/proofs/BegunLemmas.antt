@@ -1,6 +1,6 @@
--- Where a reading of a driver's rows begins for his report.
+-- Where a reading of a driver's rows begins.
 use Rattle.std.proofs.Common.{◌≡◌, ◌∙◌, ℕ, ◌+◌, ◌*◌, ◌<◌, ◌==◌, ◌&&◌, Bool, true, false, cond, List, [], filter, Option, Some, None, refl, sym, ap, subst, arith}
-use Rattle.std.specs.Prelude.{nat_lt, nat_le, MatchOption}
+use Rattle.std.specs.Prelude.{min, nat_lt, nat_le, MatchOption}
 use Rattle.std.proofs.lemmas.Bool.Decides.{nat_tests}
 use Rattle.sqlite.specs.Tree.{Trees}
 use Rattle.sqlite_rules.specs.Lists.{Has}
@@ -71,18 +71,19 @@ module _ (n base : ℕ) (rows : List SpanRow) (apart : AreApart (rows_of n rows)
         go x c true e = begins_behind b h x (has_kept (is_of n) rows x c e)
         go x c false e = refl
 
--- the reading begins where the first row does that ends behind the base
-pub is_begun : (db : Trees) (n : ℕ) (s : State) (d : Driver) (it : StoredDriver) (base start : ℕ)
+-- the reading begins where the first row does that ends after the base, or after a minute that is earlier
+pub is_begun : (db : Trees) (n : ℕ) (s : State) (d : Driver) (it : StoredDriver) (base from minute start : ℕ)
     (b : Option StoredSpan) → driver_of n s ≡ Some d → IsStored it d
-    → base ≡ 1440 * it.base → start ≡ near_from base (base + 1) b
-    → ((t : Tables) → HasTables db t → MatchOption b (filter (is_before n base) t.held ≡ [])
-    (λ s. (r : SpanRow) × IsLatest r (filter (is_before n base) t.held) × (s ≡ span_of r)))
-    → IsBegun db n s (record { base = base; start = start })
-is_begun db n s d it base start b is stored from first h = record {
+    → base ≡ 1440 * it.base → minute ≡ min base from → start ≡ near_from minute (minute + 1) b
+    → ((t : Tables) → HasTables db t → MatchOption b (filter (is_before n minute) t.held ≡ [])
+    (λ s. (r : SpanRow) × IsLatest r (filter (is_before n minute) t.held) × (s ≡ span_of r)))
+    → IsBegun db n from s (record { base = base; start = start })
+is_begun db n s d it base from minute start b is stored at least first h = record {
   driver = d;
   is = is;
-  base = from ∙ ap (λ (k : ℕ). 1440 * k) stored.base;
+  base = at ∙ ap (λ (k : ℕ). 1440 * k) stored.base;
   rows = λ t stand of.
-      subst (λ (k : ℕ). filter (is_onward n k) t.held ≡ filter (is_behind n base) t.held) (sym first)
-      (onward_behind n base t.held (held_apart t s n d of is) b (h t stand));
+      subst (λ (k : ℕ). filter (is_onward n k) t.held ≡ filter (is_behind n (min base from)) t.held) (sym first)
+      (subst (λ (k : ℕ). filter (is_onward n (near_from minute (minute + 1) b)) t.held ≡ filter (is_behind n k) t.held) least
+      (onward_behind n minute t.held (held_apart t s n d of is) b (h t stand)));
 }

@@ -16,7 +16,7 @@ use Rattle.tacho_state.proofs.MapLemmas.{held_map}
 use Rattle.tacho_tables.specs.declared.rows.StoredSpan.{StoredSpan}
 use Rattle.tacho_tables.specs.Rows.{SpanRow}
 use Rattle.tacho_tables.specs.Tables.{Tables, HasTables}
-use Rattle.tacho_reading.specs.Standing.{StandsFor, spans_of, stored_span, IsReadNear}
+use Rattle.tacho_reading.specs.Standing.{StandsFor, TablesStandFor, spans_of, stored_span, IsReadNear}
 use Rattle.tacho_reading.proofs.ApartLemmas.{held_apart}
 use Rattle.tacho_reading.proofs.NearRowLemmas.{held_kept, read_line}
 use Rattle.tacho_reading.proofs.TimelineLemmas.{gave_up, same_option}
@@ -26,17 +26,24 @@ use Rattle.tacho_reading.specs.Apart.{AreApart, rows_of}
 abbrev pub AreRead : (Tables → List SpanRow) → Trees → ℕ → ℕ → ℕ → List StoredSpan → Type 0
 AreRead get db n a b found = (t : Tables) → HasTables db t → AreApart (rows_of n (get t)) → IsReadNear (get t) n a b found
 
-agreed : (db : Trees) (s : State) (n : ℕ) (d : Driver) (a b : ℕ) (helds : List StoredSpan) (line : List Span) → StandsFor db s
-    → driver_of n s ≡ Some d → AreRead (λ t. t.held) db n a b helds → IsCanonicalOf (Gives (map stored_span helds)) line
+-- one list of rows
+pub agreed_of : (t : Tables) (s : State) (n : ℕ) (d : Driver) (a b : ℕ) (helds : List StoredSpan) (line : List Span) → TablesStandFor t s
+    → driver_of n s ≡ Some d → IsReadNear t.held n a b helds → IsCanonicalOf (Gives (map stored_span helds)) line
     → AgreeWithin a b line (held_spans d)
-unfolding StandsFor
-agreed db s n d a b helds line (t, stand, of) is read canonical m w =
+agreed_of t s n d a b helds line of is read canonical m w =
     let keeps = held_kept t s n d of is in
-    let near = read_line t.held n a b helds line (read t stand (held_apart t s n d of is)) canonical in
+    let near = read_line t.held n a b helds line read canonical in
     same_option _ _ (λ k. (
       λ e. (held_map d (spans_of n t.held) m k keeps).0 (line_kept a b (spans_of n t.held) line (Held d) m k keeps.same near e),
       λ e. kept_line a b (spans_of n t.held) line (Held d) m k keeps.same near w ((held_map d (spans_of n t.held) m k keeps).1 e),
     ))
+
+agreed : (db : Trees) (s : State) (n : ℕ) (d : Driver) (a b : ℕ) (helds : List StoredSpan) (line : List Span) → StandsFor db s
+    → driver_of n s ≡ Some d → AreRead (λ t. t.held) db n a b helds → IsCanonicalOf (Gives (map stored_span helds)) line
+    → AgreeWithin a b line (held_spans d)
+unfolding StandsFor
+agreed db s n d a b helds line (t, stand, of) is read =
+    agreed_of t s n d a b helds line of is (read t stand (held_apart t s n d of is))
 
 -- so it is one of what he holds in the range
 pub range_told : (db : Trees) (s : State) (n : ℕ) (d : Driver) (a b : ℕ) (helds : List StoredSpan) (r : Result (List Span) StoreFault)

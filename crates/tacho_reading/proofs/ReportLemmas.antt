@@ -1,6 +1,6 @@
 -- A driver's name and his report, by what is stored of him and by what a scan took of his rows.
 use Rattle.std.proofs.Common.{◌≡◌, ◌∙◌, ◌↔◌, inl, inr, ℕ, suc, ◌*◌, ◌<◌, ◌≤◌, ◌==◌, ◌&&◌, Bool, true, false, cond, List, [], ◌∷◌, ◌++◌, map, filter, Option, None, Some, Ok, refl, sym, ap, subst, arith, add-one}
-use Rattle.std.specs.Prelude.{IfSome, string_bytes, nat_lt, nat_le}
+use Rattle.std.specs.Prelude.{IfSome, min, string_bytes, nat_lt, nat_le}
 use Rattle.std.specs.Option.{option_map_or}
 use Rattle.std.specs.List.{All, AllByRecursion}
 use Rattle.std.specs.List.Sorted.{IsPermutation, IsSortedBy}
@@ -33,7 +33,7 @@ use Rattle.tacho_state.specs.Reported.{IsReportOf}
 use Rattle.tacho_state.proofs.MapLemmas.{held_map}
 use Rattle.tacho_tables.specs.declared.rows.StoredDriver.{StoredDriver}
 use Rattle.tacho_tables.specs.Rows.{SpanRow}
-use Rattle.tacho_tables.specs.Tables.{Tables, HasTables}
+use Rattle.tacho_tables.specs.Tables.{Tables, HasTables, is_onward}
 use Rattle.tacho_reading.specs.declared.reading.Beginning.{Beginning}
 use Rattle.tacho_reading.specs.Begun.{is_behind, IsBegun}
 use Rattle.tacho_reading.specs.Finding.{IsStored}
@@ -290,23 +290,26 @@ behind_gives n base m k (r ∷ rows) le = go (r.driver == n) (nat_lt base r.past
       go false b e more = more
 
 -- so what a scan found of them is his report
-pub report_told : (db : Trees) (n : ℕ) (s : State) (b : Beginning) (h : Horizon) (scan : Scan) (was : Found)
+pub report_told : (db : Trees) (n from : ℕ) (s : State) (b : Beginning) (h : Horizon) (scan : Scan) (was : Found)
     (fed : Scan) (found : Found) (report : Report)
-    → StandsFor db s → IsBegun db n s b → IsBase b.base → IsScanOf scan was b.base []
+    → StandsFor db s → IsBegun db n from s b → b.base ≤ from → IsBase b.base → IsScanOf scan was b.base []
     → ((t : Tables) → HasTables db t → AreFed n b.start b.base t.held scan was fed found h) → report.horizon ≡ h
     → ((base : ℕ) (spans : List Span) → IsScanOf fed found base spans → IsExamined spans base h.minute
     → AreFindings (line_of spans) base h.minute report.breaches.items report.debts.items)
     → IsReportOf n s report
 unfolding StandsFor
-report_told db n s b h scan was fed found report (t, stand, of) begun monday none feeds same finds =
+report_told db n from s b h scan was fed found report (t, stand, of) begun early monday none feeds same finds =
     let d = begun.driver in
+    let least : min b.base from ≡ b.base = omega (arith, early) in
+    let onward : filter (is_onward n b.start) t.held ≡ filter (is_behind n b.base) t.held =
+    subst (λ (k : ℕ). filter (is_onward n b.start) t.held ≡ filter (is_behind n k) t.held) least (begun.rows t stand of) in
     let f = feeds t stand in
     let keeps = held_kept t s n d of begun.is in
     let rows : IsPermutation (map row_span (filter (is_behind n b.base) t.held))
     (map row_span f.taken ++ map row_span f.others) =
     subst (IsPermutation (map row_span (filter (is_behind n b.base) t.held))) (map-append row_span f.taken f.others)
     (IsPermutation-map row_span (filter (is_behind n b.base) t.held) (f.taken ++ f.others)
-    (subst (λ (xs : List SpanRow). IsPermutation xs (f.taken ++ f.others)) (begun.rows t stand of) f.onward.same)) in
+    (subst (λ (xs : List SpanRow). IsPermutation xs (f.taken ++ f.others)) onward f.onward.same)) in
     let gives : (m : ℕ) (k : Mark) → b.base ≤ m → Gives (map row_span f.taken ++ map row_span f.others) m k ↔
     (mark_at (held_spans d) m ≡ Some k) =
     λ m k le. (

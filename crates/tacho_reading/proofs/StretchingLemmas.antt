@@ -1,8 +1,9 @@
--- What a pass over stretches takes of a driver's rows, and what it finds of them.
-use Rattle.std.proofs.Common.{◌≡◌, ◌∙◌, ◌↔◌, inl, inr, ℕ, ◌*◌, ◌<◌, ◌≤◌, Bool, true, false, cond, List, [], ◌∷◌, ◌++◌, map, filter, Option, None, Some, pos, Result, Ok, Err, IfOk, refl, sym, ap, subst, append-nil, append_assoc}
-use Rattle.std.specs.Prelude.{IfSome}
+-- What a pass over stretches takes of a driver's rows, what it finds of them, and what the rows give that were kept of a range.
+use Rattle.std.proofs.Common.{◌≡◌, ◌∙◌, ◌↔◌, inl, inr, ℕ, ◌*◌, ◌<◌, ◌≤◌, Bool, true, false, cond, List, [], ◌∷◌, ◌++◌, map, filter, Option, None, Some, pos, Result, Ok, Err, OnOk, refl, sym, ap, subst, append-nil, append_assoc}
+use Rattle.std.specs.Prelude.{◌==◌, ◌&&◌, IfSome, min, nat_lt}
 use Rattle.std.specs.List.Sorted.{IsPermutation}
 use Rattle.std.proofs.lemmas.List.{map-append}
+use Rattle.std.proofs.lemmas.List.Elements.{filter-append}
 use Rattle.std.proofs.lemmas.List.Sorted.{IsPermutation-sym, IsPermutation-map}
 use Rattle.sqlite.specs.Given.{HasGiven}
 use Rattle.sqlite.specs.Held.{Held, state}
@@ -11,31 +12,33 @@ use Rattle.sqlite.specs.Effect.{Database}
 use Rattle.sqlite.specs.State.{HasCleanDisk, IsUnchanged}
 use Rattle.sqlite.specs.Store.{Ghosts}
 use Rattle.sqlite.specs.Tree.{Trees}
-use Rattle.sqlite_trees.proofs.ListLemmas.{map-map}
+use Rattle.sqlite_keyed.proofs.ListLemmas.{IsPermutation-filter}
+use Rattle.sqlite_trees.proofs.ListLemmas.{filter-map, map-map}
 use Rattle.tacho_time.specs.declared.span.Mark.{Mark}
 use Rattle.tacho_time.specs.declared.span.Span.{Span}
-use Rattle.tacho_time.specs.Spans.{Gives}
+use Rattle.tacho_time.specs.Spans.{Gives, IsCanonicalOf}
 use Rattle.std.proofs.Common.{arith}
 use Rattle.std.proofs.lemmas.Bool.Decides.{nat_tests}
-use Rattle.tacho_line.specs.Line.{covers, mark_at}
+use Rattle.tacho_line.specs.Line.{AgreeWithin, covers, mark_at}
 use Rattle.tacho_line.proofs.LineLemmas.{held_given}
 use Rattle.tacho_stretches.specs.Pass.{IsPassOf}
 use Rattle.tacho_stretches.specs.Stretches.{Judged, AreStretches}
 use Rattle.tacho_stretches.specs.declared.pass.StretchPass.{StretchPass}
 use Rattle.tacho_stretches.proofs.MarkLemmas.{by_marks}
 use Rattle.tacho_state.specs.State.{Driver, State, held_spans}
-use Rattle.tacho_state.specs.Reported.{AreStretchesOf}
+use Rattle.tacho_state.specs.Reported.{AreStretchesOf, IsHeldWithin}
 use Rattle.tacho_state.specs.declared.fault.StoreFault.{StoreFault}
 use Rattle.tacho_state.proofs.MapLemmas.{held_map}
 use Rattle.tacho_tables.specs.declared.rows.StoredSpan.{StoredSpan}
 use Rattle.tacho_tables.specs.Next.{GivesNext, onward_text}
 use Rattle.tacho_tables.specs.Rows.{AreRowsOf, SpanRow, span_columns}
-use Rattle.tacho_tables.specs.Tables.{Tables, HasTables, IsArchive, span_of, span_shown}
+use Rattle.tacho_tables.specs.Tables.{Tables, HasTables, IsArchive, is_near, span_of, span_shown}
 use Rattle.tacho_tables.proofs.NextLemmas.{shown_onward}
 use Rattle.tacho_reading.specs.declared.reading.Beginning.{Beginning}
 use Rattle.tacho_reading.specs.Begun.{is_behind, IsBegun}
-use Rattle.tacho_reading.specs.Standing.{StandsFor, row_span, stored_span, spans_of}
-use Rattle.tacho_reading.specs.Stretching.{HasTakenOn, HasTakenRows, HasTakenHeld}
+use Rattle.tacho_reading.specs.Standing.{StandsFor, row_span, stored_span, spans_of, IsReadNear}
+use Rattle.tacho_reading.specs.Stretching.{HasTakenOn, HasTakenRows, HasTakenHeld, is_stored_near}
+use Rattle.tacho_reading.proofs.LineWithinLemmas.{agreed_of}
 use Rattle.tacho_reading.proofs.NearRowLemmas.{permuted_gives, held_kept}
 use Rattle.tacho_reading.proofs.ReportLemmas.{behind_gives}
 use Rattle.tacho_reading.proofs.TakenLemmas.{HasGivenNext, IsSteady, given_none, given_more, steady_self, steady_then, told_split}
@@ -53,20 +56,25 @@ taken_on_then was mid pass xs ys h k = record {
   fed = λ base before is. subst (IsPassOf pass base) (append_assoc before xs ys) (k.fed base (before ++ xs) (h.fed base before is));
 }
 
--- the rows so far were taken
-pub record IsTaking {S : Type 0} (g : Ghosts S) (old now : Held S) (was pass : StretchPass) : Type 0 where
+-- the rows so far were taken, and those near the range were kept
+pub record IsTaking {S : Type 0} (g : Ghosts S) (old now : Held S) (start past : ℕ) (was pass : StretchPass)
+    (before near : List StoredSpan) : Type 0 where
   pub spans : List StoredSpan
   pub taken : HasTakenOn was pass (map stored_span spans)
+  pub kept : near ≡ before ++ filter (is_stored_near start past) spans
   pub given : HasCleanDisk (state g now) → IsSteady (state g old) (state g now) × HasGivenNext g old now spans
 
-pub taking_none : {S : Type 0} (g : Ghosts S) (old : Held S) (pass : StretchPass) → IsTaking g old old pass pass
-taking_none g old pass = record {
+pub taking_none : {S : Type 0} (g : Ghosts S) (old : Held S) (start past : ℕ) (pass : StretchPass) (before : List StoredSpan)
+    → IsTaking g old old start past pass pass before before
+taking_none g old start past pass before = record {
   spans = [];
   taken = taken_on_none pass;
+  kept = sym (append-nil before);
   given = λ clean. (steady_self (state g old), given_none g old);
 }
 
-module _ {S : Type 0} (g : Ghosts S) (old mid new : Held S) (was pass : StretchPass) (h : IsTaking g old mid was pass)
+module _ {S : Type 0} (g : Ghosts S) (old mid new : Held S) (start past : ℕ) (was pass : StretchPass) (before near : List StoredSpan)
+    (h : IsTaking g old mid start past was pass before near)
     (early : HasCleanDisk (state g new) → HasCleanDisk (state g mid))
     (same : HasCleanDisk (state g new) → IsUnchanged (state g mid) (state g new)) where
   -- the connection is steady
@@ -74,53 +82,64 @@ module _ {S : Type 0} (g : Ghosts S) (old mid new : Held S) (was pass : StretchP
   taking_steady clean = steady_then (state g old) (state g mid) (state g new) (h.given (early clean)).0 (same clean)
 
   -- one more
-  pub taking_more : (row : StoredSpan) (next : StretchPass) → (HasCleanDisk (state g new) → GivesNext g mid new (Some row))
-      → HasTakenOn pass next (stored_span row ∷ []) → IsTaking g old new was next
-  taking_more row next gives took = record {
+  pub taking_more : (row : StoredSpan) (next : StretchPass) (after : List StoredSpan)
+      → (HasCleanDisk (state g new) → GivesNext g mid new (Some row)) → HasTakenOn pass next (stored_span row ∷ [])
+      → after ≡ near ++ filter (is_stored_near start past) (row ∷ []) → IsTaking g old new start past was next before after
+  taking_more row next after gives took keeps = record {
     spans = h.spans ++ row ∷ [];
     taken = subst (HasTakenOn was next) (sym (map-append stored_span h.spans (row ∷ [])))
         (taken_on_then was pass next (map stored_span h.spans) (stored_span row ∷ []) h.taken took);
+    kept =
+        keeps ∙ ap (λ (xs : List StoredSpan). xs ++ filter (is_stored_near start past) (row ∷ [])) h.kept
+        ∙ append_assoc before (filter (is_stored_near start past) h.spans) (filter (is_stored_near start past) (row ∷ []))
+        ∙ ap (λ (xs : List StoredSpan). before ++ xs) (sym (filter-append (is_stored_near start past) h.spans (row ∷ [])));
     given = λ clean. (taking_steady clean, given_more g old mid new h.spans row (h.given (early clean)).1 (gives clean));
   }
 
   -- no more rows
-  pub taking_ended : GivesNext g mid new None → HasCleanDisk (state g new) → HasTakenRows g old new was pass
+  pub taking_ended : GivesNext g mid new None → HasCleanDisk (state g new) → HasTakenRows g old new start past was pass before near
   taking_ended moves clean = record {
     spans = h.spans;
     taken = h.taken;
+    kept = h.kept;
     ended = λ sql params given it.
-        let before = (h.given (early clean)).1 sql params given it in
-        (before.0, before.1, mid, (h.given (early clean)).0.now_is, moves sql params (given ++ before.0) before.2);
+        let rows = (h.given (early clean)).1 sql params given it in
+        (rows.0, rows.1, mid, (h.given (early clean)).0.now_is, moves sql params (given ++ rows.0) rows.2);
   }
 
 -- ---- a driver's rows
 
-module _ {S : Type 0} (g : Ghosts S) (driver start : ℕ) (all : List SpanRow) (old new : Held S) (was : StretchPass)
+module _ {S : Type 0} (g : Ghosts S) (driver first start past : ℕ) (all : List SpanRow) (old new : Held S) (was : StretchPass)
+    (before : List StoredSpan)
     (archive : IsArchive (state g old).now) (stands : AreRowsOf span_columns ((state g old).now.trees 10) all)
-    (given : HasGiven g onward_text (Int (pos driver) ∷ Int (pos start) ∷ []) old []) where
+    (given : HasGiven g onward_text (Int (pos driver) ∷ Int (pos first) ∷ []) old []) where
   -- a pass that took the rows of the query took the driver's
-  took_held : (pass : StretchPass) → HasTakenRows g old new was pass → HasTakenHeld driver start all was pass
-  took_held pass t =
-      let it = t.ended onward_text (Int (pos driver) ∷ Int (pos start) ∷ []) [] given in
-      let whole = shown_onward driver start all (state g it.2) (state g new) it.0
+  took_held : (pass : StretchPass) (near : List StoredSpan) → HasTakenRows g old new start past was pass before near
+      → HasTakenHeld driver first start past all was pass before near
+  took_held pass near t =
+      let it = t.ended onward_text (Int (pos driver) ∷ Int (pos first) ∷ []) [] given in
+      let whole = shown_onward driver first all (state g it.2) (state g new) it.0
       (subst IsArchive (sym it.3) archive) it.4
       (subst (λ (d : Database). AreRowsOf span_columns (d.trees 10) all) (sym it.3) stands) in
       let split = told_split it.0 [] t.spans whole.0 it.1 (append-nil it.0 ∙ whole.1) in
       let same : split.0 ≡ whole.0 = none_left split.0 split.1 whole.0 split.2 split.4 in
+      let read : t.spans ≡ map span_of whole.0 = split.3 ∙ ap (map span_of) same in
       record {
         onward = whole.0;
         are_onward = whole.2;
-        taken = subst (HasTakenOn was pass)
-            (ap (map stored_span) split.3 ∙ map-map stored_span span_of split.0 ∙ ap (map row_span) same) t.taken;
+        taken = subst (HasTakenOn was pass) (ap (map stored_span) read ∙ map-map stored_span span_of whole.0) t.taken;
+        kept = t.kept ∙ ap (λ (xs : List StoredSpan). before ++ filter (is_stored_near start past) xs) read;
       } where
         none_left : (taken others shown : List SpanRow) → shown ≡ taken ++ others → [] ≡ map span_shown others → taken ≡ shown
         none_left taken [] shown e none = sym (e ∙ append-nil taken)
         none_left taken (x ∷ others) shown e none = absurd (let wrong = none in cc)
 
   -- where it did
-  pub took_all : (r : Result StretchPass StoreFault) → IfOk r (HasTakenRows g old new was) → IfOk r (HasTakenHeld driver start all was)
-  took_all (Ok pass) t = took_held pass t
-  took_all (Err e) t = tt
+  pub took_all : {U : Type 0} (r : Result U StoreFault) (pass : StretchPass) (near : List StoredSpan)
+      → OnOk r (HasTakenRows g old new start past was pass before near)
+      → OnOk r (HasTakenHeld driver first start past all was pass before near)
+  took_all (Ok u) pass near t = took_held pass near t
+  took_all (Err e) pass near t = tt
 
 -- ---- the stretches of what a driver holds
 
@@ -145,28 +164,91 @@ marks_are line other m same = go (mark_at line m) refl (mark_at other m) refl wh
   go None e (Some k) f = absurd (let some = given_some line m k ((same k).1 f) in let wrong = sym e ∙ some.1 in cc)
 
 -- what a pass found of the driver's rows are the stretches of what they hold
-pub stretches_told : (db : Trees) (n : ℕ) (s : State) (b : Beginning) (was pass : StretchPass) (found : List Judged)
-    → StandsFor db s → IsBegun db n s b → IsPassOf was b.base []
-    → ((t : Tables) → HasTables db t → HasTakenHeld n b.start t.held was pass)
+pub stretches_told : (db : Trees) (n start past : ℕ) (s : State) (b : Beginning) (was pass : StretchPass) (before near : List StoredSpan)
+    (found : List Judged) → StandsFor db s → IsBegun db n start s b → IsPassOf was b.base []
+    → ((t : Tables) → HasTables db t → HasTakenHeld n b.start start past t.held was pass before near)
     → ((base : ℕ) (spans : List Span) → IsPassOf pass base spans → AreStretches spans base found)
     → AreStretchesOf n s found
 unfolding StandsFor
-stretches_told db n s b was pass found (t, stand, of) begun none takes finds =
+stretches_told db n start past s b was pass before near found (t, stand, of) begun none takes finds =
     let d = begun.driver in
     let f = takes t stand in
     let keeps = held_kept t s n d of begun.is in
-    let rows : IsPermutation (map row_span (filter (is_behind n b.base) t.held)) (map row_span f.onward) =
-    IsPermutation-map row_span (filter (is_behind n b.base) t.held) f.onward
+    let from = min b.base start in
+    let rows : IsPermutation (map row_span (filter (is_behind n from) t.held)) (map row_span f.onward) =
+    IsPermutation-map row_span (filter (is_behind n from) t.held) f.onward
     (subst (λ (xs : List SpanRow). IsPermutation xs f.onward) (begun.rows t stand of) f.are_onward.same) in
-    let gives : (m : ℕ) (k : Mark) → b.base ≤ m → Gives (map row_span f.onward) m k ↔ (mark_at (held_spans d) m ≡ Some k) =
+    let gives : (m : ℕ) (k : Mark) → from ≤ m → Gives (map row_span f.onward) m k ↔ (mark_at (held_spans d) m ≡ Some k) =
     λ m k le. (
-      λ g. (held_map d (spans_of n t.held) m k keeps).0 ((keeps.same m k).0 ((behind_gives n b.base m k t.held le).0
+      λ g. (held_map d (spans_of n t.held) m k keeps).0 ((keeps.same m k).0 ((behind_gives n from m k t.held le).0
           (permuted_gives _ _ m k (IsPermutation-sym _ _ rows) g))),
-      λ e. permuted_gives _ _ m k rows ((behind_gives n b.base m k t.held le).1
+      λ e. permuted_gives _ _ m k rows ((behind_gives n from m k t.held le).1
           ((keeps.same m k).1 ((held_map d (spans_of n t.held) m k keeps).1 e))),
     ) in
     let is : AreStretches (held_spans d) b.base found =
     by_marks (map row_span f.onward) (held_spans d) b.base found (finds b.base (map row_span f.onward) (f.taken.fed b.base [] none))
-    (λ m le. marks_are (map row_span f.onward) (held_spans d) m (λ k. gives m k le)) in
+    (λ m le. marks_are (map row_span f.onward) (held_spans d) m (λ k. gives m k (omega (arith, le)))) in
     subst (λ (o : Option Driver). IfSome o (λ d. AreStretches (held_spans d) (1440 * d.base) found)) (sym begun.is)
     (subst (λ (base : ℕ). AreStretches (held_spans d) base found) begun.base is)
+
+-- ---- what a driver holds in a range
+
+-- of the driver's rows that end after a minute, where a range doesn't begin before it, those in the range are all of theirs
+near_after : (n first start past : ℕ) (rows : List SpanRow) → first ≤ start
+    → filter (λ (r : SpanRow). is_stored_near start past (span_of r)) (filter (is_behind n first) rows)
+    ≡ filter (is_near n start past) rows
+near_after n first start past [] le = refl
+near_after n first start past (r ∷ rows) le = go (r.driver == n) (nat_lt first r.past) early (near_after n first start past rows le) where
+  all : List SpanRow
+  all = filter (is_behind n first) rows
+
+  near : List SpanRow
+  near = filter (is_near n start past) rows
+
+  kept : List SpanRow → List SpanRow
+  kept xs = filter (λ (x : SpanRow). is_stored_near start past (span_of x)) xs
+
+  out : (b c : Bool) → c ≡ false → (b && c) ≡ false
+  out true c e = e
+  out false c e = refl
+
+  early : nat_lt first r.past ≡ false → is_stored_near start past (span_of r) ≡ false
+  early e =
+      let a = r.past in
+      let l : nat_lt start a ≡ false = grind (arith, nat_tests) in out (nat_lt r.start past) (nat_lt start r.past) l
+
+  go : (o l : Bool) → (l ≡ false → is_stored_near start past (span_of r) ≡ false) → kept all ≡ near
+      → kept (cond (o && l) (r ∷ all) all) ≡ cond (o && is_stored_near start past (span_of r)) (r ∷ near) near
+  go true true none more = ap (λ (xs : List SpanRow). cond (is_stored_near start past (span_of r)) (r ∷ xs) xs) more
+  go true false none more = more ∙ ap (λ (b : Bool). cond b (r ∷ near) near) (sym (none refl))
+  go false l none more = more
+
+-- so the rows that were kept are the driver's rows in the range
+near_read : (n first start past : ℕ) (rows onward : List SpanRow) → first ≤ start
+    → IsPermutation (filter (is_behind n first) rows) onward
+    → IsReadNear rows n start past (filter (is_stored_near start past) (map span_of onward))
+near_read n first start past rows onward le same =
+    let near : SpanRow → Bool = λ r. is_stored_near start past (span_of r) in
+    let kept : IsPermutation (filter (is_near n start past) rows) (filter near onward) =
+    subst (λ (xs : List SpanRow). IsPermutation xs (filter near onward)) (near_after n first start past rows le)
+    (IsPermutation-filter near (filter (is_behind n first) rows) onward same) in
+    subst (IsPermutation (map span_of (filter (is_near n start past) rows))) (sym (filter-map (is_stored_near start past) span_of onward))
+    (IsPermutation-map span_of (filter (is_near n start past) rows) (filter near onward) kept)
+
+-- and their line is what they hold there
+pub line_told : (db : Trees) (n start past : ℕ) (s : State) (b : Beginning) (was pass : StretchPass) (before near : List StoredSpan)
+    (line : List Span) → StandsFor db s → IsBegun db n start s b → before ≡ []
+    → ((t : Tables) → HasTables db t → HasTakenHeld n b.start start past t.held was pass before near)
+    → IsCanonicalOf (Gives (map stored_span near)) line → IsHeldWithin n start past s line
+unfolding StandsFor
+line_told db n start past s b was pass before near line (t, stand, of) begun none takes canonical =
+    let d = begun.driver in
+    let f = takes t stand in
+    let from = min b.base start in
+    let read : IsReadNear t.held n start past near =
+    subst (IsReadNear t.held n start past)
+    (sym (f.kept ∙ ap (λ (xs : List StoredSpan). xs ++ filter (is_stored_near start past) (map span_of f.onward)) none))
+    (near_read n from start past t.held f.onward (omega arith)
+    (subst (λ (xs : List SpanRow). IsPermutation xs f.onward) (begun.rows t stand of) f.are_onward.same)) in
+    subst (λ (o : Option Driver). IfSome o (λ d. AgreeWithin start past line (held_spans d))) (sym begun.is)
+    (agreed_of t s n d start past near line of begun.is read canonical)

@@ -1,5 +1,5 @@
 -- The line of all held rows of a driver is what he holds.
-use Rattle.std.proofs.Common.{◌≡◌, ◌⊎◌, inl, inr, ℕ, ◌==◌, ◌↔◌, Bool, true, false, cond, List, [], ◌∷◌, map, filter, Option, Some, None, Result, Ok, Err, IfOk, IfErr, refl, sym, ap, subst}
+use Rattle.std.proofs.Common.{◌≡◌, ◌∙◌, ◌⊎◌, inl, inr, ℕ, ◌==◌, ◌↔◌, Bool, true, false, cond, List, [], ◌∷◌, map, filter, Option, Some, None, Result, Ok, Err, IfOk, IfErr, IsErr, IsErrAnd, refl, sym, ap, subst}
 use Rattle.std.specs.List.Sorted.{IsPermutation}
 use Rattle.std.proofs.lemmas.List.Sorted.{IsPermutation-sym, IsPermutation-map}
 use Rattle.sqlite.specs.Tree.{Trees}
@@ -10,7 +10,7 @@ use Rattle.tacho_line.specs.Line.{mark_at}
 use Rattle.tacho_line.proofs.LineLemmas.{line_map}
 use Rattle.tacho_state.specs.State.{Driver, State, held_mark, driver_of}
 use Rattle.tacho_state.specs.Steps.{lined}
-use Rattle.tacho_state.specs.Acts.{Answers}
+use Rattle.tacho_state.specs.Acts.{Answers, IsAnswered}
 use Rattle.tacho_state.specs.declared.fault.StoreFault.{StoreFault}
 use Rattle.tacho_state.specs.declared.fault.StoreFault.TheVariants.{Memory, Store}
 use Rattle.tacho_state.proofs.MapLemmas.{held_map}
@@ -67,6 +67,18 @@ pub gave_up : {A B : Type 0} (view : A → B) (f : StoreFault) (told : Result B 
     → Answers view (Err f) told
 gave_up view f told (inl e) = subst (λ g. Answers view (Err g) told) (sym e) tt
 gave_up view f told (inr e) = subst (λ g. Answers view (Err g) told) (sym e) tt
+
+-- whoever hands the fault on gave up too, and so didn't answer
+pub gave_up_as : {A B : Type 0} (view : A → B) (f : StoreFault) (r : Result A StoreFault) (told : Result B StoreFault)
+    → (f ≡ Memory) ⊎ (f ≡ Store) → IsErr r × IsErrAnd r (λ found. found ≡ f) → Answers view r told
+gave_up_as view f (Ok x) told up e = let wrong = e.0 in cc
+gave_up_as view f (Err found) told up e = subst (λ g. Answers view (Err g) told) (sym e.1) (gave_up view f told up)
+
+pub not_answered : {A : Type 0} (f : StoreFault) (r : Result A StoreFault) → (f ≡ Memory) ⊎ (f ≡ Store)
+    → IsErr r × IsErrAnd r (λ found. found ≡ f) → ¬ IsAnswered r
+not_answered f (Ok x) up e is = let wrong = e.0 in cc
+not_answered {A = A} f (Err found) (inl up) e is = subst (λ g. IsAnswered {A = A} (Err g)) (e.1 ∙ up) is
+not_answered {A = A} f (Err found) (inr up) e is = subst (λ g. IsAnswered {A = A} (Err g)) (e.1 ∙ up) is
 
 -- the timeline is answered, or the call gave up
 pub line_answers : (n : ℕ) (s : State) (d : Driver) (r : Result (List Span) StoreFault) → driver_of n s ≡ Some d

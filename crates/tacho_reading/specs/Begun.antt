@@ -1,5 +1,5 @@
--- Private to tacho_reading: Where a reading of a driver's rows begins for his report.
-use Rattle.std.specs.Prelude.{◌≡◌, ℕ, ◌*◌, ◌==◌, ◌&&◌, nat_lt, Bool, filter, Some}
+-- Private to tacho_reading: Where a reading of a driver's rows begins.
+use Rattle.std.specs.Prelude.{◌≡◌, ℕ, ◌*◌, ◌==◌, ◌&&◌, min, nat_lt, Bool, filter, Some}
 use Rattle.sqlite.specs.Tree.{Trees}
 use Rattle.tacho_state.specs.State.{Driver, State, driver_of}
 use Rattle.tacho_tables.specs.Rows.{SpanRow}
@@ -11,10 +11,11 @@ use Rattle.tacho_reading.specs.Standing.{TablesStandFor}
 abbrev pub is_behind : ℕ → ℕ → SpanRow → Bool
 is_behind driver minute r = (r.driver == driver) && nat_lt minute r.past
 
--- the driver is examined from the base on, and his rows that begin from the start on are those that end behind the base
-pub record IsBegun (db : Trees) (n : ℕ) (s : State) (b : Beginning) : Type 0 where
+-- the driver is examined from the base on, and their rows that begin from the start on are those that end after the base, or after a
+-- minute that is earlier
+pub record IsBegun (db : Trees) (n from : ℕ) (s : State) (b : Beginning) : Type 0 where
   pub driver : Driver
   pub is : driver_of n s ≡ Some driver
   pub base : b.base ≡ 1440 * driver.base
   pub rows : (t : Tables) → HasTables db t → TablesStandFor t s → filter (is_onward n b.start) t.held ≡ filter
-      (is_behind n b.base) t.held
+      (is_behind n (min b.base from)) t.held

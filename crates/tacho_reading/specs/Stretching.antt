@@ -1,5 +1,5 @@
--- Private to tacho_reading: What a pass over stretches takes of a driver's rows, which come one at a time.
-use Rattle.std.specs.Prelude.{◌≡◌, ℕ, List, ◌++◌, map}
+-- Private to tacho_reading: What a pass over stretches takes of a driver's rows, which come one at a time, and which of them are kept.
+use Rattle.std.specs.Prelude.{◌≡◌, ℕ, List, ◌++◌, ◌&&◌, nat_lt, Bool, filter, map}
 use Rattle.sqlite.specs.Held.{Held, state}
 use Rattle.sqlite.specs.Given.{HasGiven}
 use Rattle.sqlite.specs.Order.{Row}
@@ -11,6 +11,7 @@ use Rattle.tacho_stretches.specs.Pass.{IsPassOf}
 use Rattle.tacho_tables.specs.declared.rows.StoredSpan.{StoredSpan}
 use Rattle.tacho_tables.specs.Next.{AreOnward}
 use Rattle.tacho_tables.specs.Rows.{SpanRow}
+use Rattle.tacho_tables.specs.Tables.{span_of}
 use Rattle.tacho_reading.specs.Standing.{row_span, stored_span}
 use Rattle.tacho_reading.specs.Taken.{AreTold}
 
@@ -18,16 +19,25 @@ use Rattle.tacho_reading.specs.Taken.{AreTold}
 pub record HasTakenOn (was pass : StretchPass) (spans : List Span) : Type 0 where
   pub fed : (base : ℕ) (before : List Span) → IsPassOf was base before → IsPassOf pass base (before ++ spans)
 
--- it took the spans of all rows that a query had left
-pub record HasTakenRows {S : Type 0} (g : Ghosts S) (old new : Held S) (was pass : StretchPass) : Type 0 where
+-- a stored row that has a minute in a range
+abbrev pub is_stored_near : ℕ → ℕ → StoredSpan → Bool
+is_stored_near start past s = nat_lt s.start past && nat_lt start s.past
+
+-- it took the spans of all rows that a query had left, and those that have a minute in a range were kept after the rows that were kept
+-- before
+pub record HasTakenRows {S : Type 0} (g : Ghosts S) (old new : Held S) (start past : ℕ) (was pass : StretchPass)
+    (before near : List StoredSpan) : Type 0 where
   pub spans : List StoredSpan
   pub taken : HasTakenOn was pass (map stored_span spans)
+  pub kept : near ≡ before ++ filter (is_stored_near start past) spans
   pub ended : (sql : List ℕ) (params : Row) (given : List Row) → HasGiven g sql params old given
       → (rows : List Row) × AreTold rows spans
       × (last : Held S) × ((state g last).now ≡ (state g old).now) × Shown sql params (state g last) (state g new) (given ++ rows)
 
--- it took the driver's rows that begin from a start on, in order
-pub record HasTakenHeld (driver start : ℕ) (rows : List SpanRow) (was pass : StretchPass) : Type 0 where
+-- it took the driver's rows that begin from a minute on, in order, and those that have a minute in a range were kept
+pub record HasTakenHeld (driver first start past : ℕ) (rows : List SpanRow) (was pass : StretchPass)
+    (before near : List StoredSpan) : Type 0 where
   pub onward : List SpanRow
-  pub are_onward : AreOnward driver start rows onward
+  pub are_onward : AreOnward driver first rows onward
   pub taken : HasTakenOn was pass (map row_span onward)
+  pub kept : near ≡ before ++ filter (is_stored_near start past) (map span_of onward)

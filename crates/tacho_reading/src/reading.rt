@@ -24,6 +24,7 @@ use sqlite::{Alter, Connection, Transaction};
 use std::alloc::Global;
 use tacho_line::Line;
 use tacho_pass::Found;
+use tacho_rules::limits::LATEST;
 use tacho_rules::{Report, Scan};
 use tacho_state::{DriverSummary, Entry, StoreFault, base_of};
 use tacho_stretches::{Stretch, StretchPass};
@@ -248,27 +249,31 @@ pub fn entries<S: Alter>(
     Ok(found)
 }
 
-/// Where a reading of a driver's rows begins for his report.
+/// Where a reading of a driver's rows begins.
 #[derive(Clone, Copy)]
 pub struct Beginning {
     /// The first minute that is examined.
     pub base: Minute,
-    /// Where the first of his rows begins that ends behind the base, or a minute up to there.
+    /// Where the first of the rows begins that are read, or a minute up to there.
     pub start: u32,
 }
 
-/// Where a reading for a driver's report begins, within a transaction: S4. S12 where his base is no Monday from
-/// 2000-01-03 to the end of 2099: no archive has such a base.
-fn begin_in<S: Alter>(tx: &mut Transaction<'_, S>, driver: u32) -> Result<Beginning, StoreFault>
+/// Where a reading of the rows begins that end after a driver's base, or after a minute that is earlier, within a transaction: S4. S12
+/// where the base is no Monday from 2000-01-03 to the end of 2099: no archive has such a base.
+fn begin_in<S: Alter>(
+    tx: &mut Transaction<'_, S>,
+    driver: u32,
+    from: Minute,
+) -> Result<Beginning, StoreFault>
     ensures base { IfOk result (λ begin. IsBase begin.base × (begin.base ≤ latest)) }
     ensures begun { Tells S.Store tx.old.conn tx.new.conn result
-        (λ db s. Answers (λ _. tt) result (reported driver s) × IfOk result (IsBegun db driver s)) }
+        (λ db s. Answers (λ _. tt) result (reported driver s) × IfOk result (IsBegun db driver from s)) }
 {
     let stored = driver_with(tx, driver)?;
     let Some(base) = base_of(stored.base) else {
         return Err(StoreFault::Store);
     };
-    let first = base.number();
+    let first = base.number().min(from.number());
     let before = spans::last_before(tx, SpanTable::Held, driver, first).map_err(store_fault)?;
     Ok(Beginning {
         base,
@@ -276,25 +281,28 @@ fn begin_in<S: Alter>(tx: &mut Transaction<'_, S>, driver: u32) -> Result<Beginn
     })
 }
 
-/// Where a reading for a driver's report begins: S4.
-fn begin<S: Alter>(conn: &mut Connection<S>, driver: u32) -> Result<Beginning, StoreFault>
+/// Where a reading of the rows begins that end after a driver's base, or after a minute that is earlier: S4.
+fn begin<S: Alter>(
+    conn: &mut Connection<S>,
+    driver: u32,
+    from: Minute,
+) -> Result<Beginning, StoreFault>
     requires { conn.old.in_transaction ≡ false }
     ensures autocommit { conn.new.in_transaction ≡ false }
     ensures base { IfOk result (λ begin. IsBase begin.base × (begin.base ≤ latest)) }
     ensures reads { ReadsOn S.Store (λ _. tt) conn.old conn.new result (reported driver) }
     ensures begun { HasCleanDisk (state S.Store conn.new) → (s : State) → SeesWhileOpen (state S.Store conn.old) s
-        → IfOk result (IsBegun (state S.Store conn.new).now.trees driver s) }
+        → IfOk result (IsBegun (state S.Store conn.new).now.trees driver from s) }
 {
     let _settled = conn.is_autocommit();
     let mut tx = conn.transaction();
-    let found = begin_in(&mut tx, driver)?;
+    let found = begin_in(&mut tx, driver, from)?;
     tx.rollback();
     opening::ask(conn).map_err(store_fault)?;
     Ok(found)
 }
 
-/// The report of a driver from his base on: S4. His rows are read one at a time, from the base on and up to the
-/// horizon.
+/// The report of a driver from their base on: S4. Their rows are read one at a time, from the base on and up to the horizon.
 pub fn report<S: Alter>(
     alloc: Global,
     conn: &mut Connection<S>,
@@ -306,7 +314,7 @@ pub fn report<S: Alter>(
     ensures report { HasCleanDisk (state S.Store conn.new) → (s : State) → SeesWhileOpen (state S.Store conn.old) s
         → IfOk result (IsReportOf driver s) }
 {
-    let Beginning { base, start } = begin(conn, driver)?;
+    let Beginning { base, start } = begin(conn, driver, Minute::new(LATEST))?;
     let mut scan = Scan::new(base);
     let mut found = Found::empty(alloc);
     let horizon = feed_held(conn, driver, start, base, &mut scan, &mut found)?;
@@ -325,7 +333,32 @@ pub fn stretches<S: Alter>(
     ensures stretches { HasCleanDisk (state S.Store conn.new) → (s : State) → SeesWhileOpen (state S.Store conn.old) s
         → IfOk result (λ found. AreStretchesOf driver s (map judged found.items)) }
 {
-    let Beginning { base, start } = begin(conn, driver)?;
-    let pass = take_held(conn, driver, start, StretchPass::new(alloc, base))?;
-    Ok(pass.finish()?)
+    let end = Minute::new(LATEST);
+    let (_, found) = line_and_stretches(alloc, conn, driver, end, end)?;
+    Ok(found)
+}
+
+/// What a driver holds in a range, and their stretches: S4. Their rows are read one at a time, each once, from the base on, or from the
+/// range on where that is earlier. Those that have a minute in the range are kept.
+pub fn line_and_stretches<S: Alter>(
+    alloc: Global,
+    conn: &mut Connection<S>,
+    driver: u32,
+    start: Minute,
+    past: Minute,
+) -> Result<(Line, Vec<Stretch>), StoreFault>
+    requires { conn.old.in_transaction ≡ false }
+    ensures autocommit { conn.new.in_transaction ≡ false }
+    ensures reads { ReadsOn S.Store (λ _. tt) conn.old conn.new result (reported driver) }
+    ensures within { HasCleanDisk (state S.Store conn.new) → (s : State) → SeesWhileOpen (state S.Store conn.old) s
+        → IfOk result (λ found. IsHeldWithin driver start past s found.0) }
+    ensures stretches { HasCleanDisk (state S.Store conn.new) → (s : State) → SeesWhileOpen (state S.Store conn.old) s
+        → IfOk result (λ found. AreStretchesOf driver s (map judged found.1.items)) }
+{
+    let Beginning { base, start: first } = begin(conn, driver, start)?;
+    let mut pass = StretchPass::new(alloc, base);
+    let mut near = Vec::new(alloc);
+    take_held(conn, driver, first, start, past, &mut pass, &mut near)?;
+    let line = line_of_stored(alloc, &near)?;
+    Ok((line, pass.finish()?))
 }

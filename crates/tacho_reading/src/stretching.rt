@@ -1,25 +1,27 @@
-//! A pass over stretches that is fed what a driver holds, one row at a time.
+//! A pass over stretches that is fed what a driver holds, one row at a time. The rows that have a minute in a range are kept beside it.
 
-ghost use Rattle.std.specs.Prelude.{◌≡◌, ◌∷◌, [], false, IfOk, IfErr};
+ghost use Rattle.std.specs.Prelude.{◌≡◌, ◌++◌, ◌∷◌, [], false, filter, OnOk, IfErr};
 ghost use Rattle.sqlite.specs.State.{HasCleanDisk};
 ghost use Rattle.sqlite.specs.Held.{state};
 ghost use Rattle.tacho_tables.specs.Tables.{Tables, HasTables, IsArchive};
 ghost use Rattle.tacho_reading.specs.Kept.{IsGivenUp};
 ghost use Rattle.tacho_reading.specs.Standing.{stored_span};
 ghost use Rattle.tacho_reading.specs.Taken.{ReadsRows, ReadsSettled};
-ghost use Rattle.tacho_reading.specs.Stretching.{HasTakenOn, HasTakenRows, HasTakenHeld};
+ghost use Rattle.tacho_reading.specs.Stretching.{HasTakenOn, HasTakenRows, HasTakenHeld, is_stored_near};
 
 use crate::fault::store_fault;
 use crate::spans::span_of;
 use sqlite::{Alter, Connection, Rows};
+use std::alloc::AllocError;
 use tacho_state::StoreFault;
 use tacho_stretches::StretchPass;
 use tacho_tables::{StoredSpan, held, next_span};
+use tacho_time::Minute;
 
 /// Takes the span of one row. A row that no archive writes, or that begins before the last one ended, is a fault of the
 /// store.
-fn take(row: &StoredSpan, pass: StretchPass) -> Result<StretchPass, StoreFault>
-    ensures took { IfOk result (λ next. HasTakenOn pass next (stored_span row.now ∷ [])) }
+fn take(row: &StoredSpan, pass: &mut StretchPass) -> Result<(), StoreFault>
+    ensures took { OnOk result (HasTakenOn pass.old pass.new (stored_span row.now ∷ [])) }
     ensures refused { IfErr result IsGivenUp }
 {
     let Some(span) = span_of(row) else {
@@ -28,45 +30,71 @@ fn take(row: &StoredSpan, pass: StretchPass) -> Result<StretchPass, StoreFault>
     if !pass.can_take(&span) {
         return Err(StoreFault::Store);
     }
-    Ok(pass.feed(span)?)
+    pass.feed(span)?;
+    Ok(())
 }
 
-/// Takes the spans of the rows that are left of a query on start, past and mark.
-fn take_rows<S: Alter>(rows: &mut Rows<'_, S>, pass: StretchPass) -> Result<StretchPass, StoreFault>
+/// Keeps a row that has a minute in a range.
+fn keep(
+    row: &StoredSpan,
+    start: Minute,
+    past: Minute,
+    near: &mut Vec<StoredSpan>,
+) -> Result<(), AllocError>
+    ensures { OnOk result (near.new.items ≡ near.old.items ++ filter (is_stored_near start past) (row.now ∷ [])) }
+{
+    if row.start < past.number() && start.number() < row.past {
+        near.push(*row)?;
+    }
+    Ok(())
+}
+
+/// Takes the spans of the rows that are left of a query on start, past and mark, and keeps the rows that have a minute in a range.
+fn take_rows<S: Alter>(
+    rows: &mut Rows<'_, S>,
+    start: Minute,
+    past: Minute,
+    pass: &mut StretchPass,
+    near: &mut Vec<StoredSpan>,
+) -> Result<(), StoreFault>
     ensures reads { ReadsRows S.Store result rows.old.conn rows.new.conn }
     ensures refused { IfErr result IsGivenUp }
     ensures took { HasCleanDisk (state S.Store rows.new.conn.now)
-        → IfOk result (HasTakenRows S.Store rows.old.conn.now rows.new.conn.now pass) }
+        → OnOk result (HasTakenRows S.Store rows.old.conn.now rows.new.conn.now start past pass.old pass.new near.old.items near.new.items) }
 {
-    let mut pass = pass;
     'rows: for _ in 0..u64::MAX {
         let next = next_span(rows).map_err(store_fault)?;
         let Some(row) = next else {
-            return Ok(pass);
+            return Ok(());
         };
-        pass = take(&row, pass)?;
+        take(&row, pass)?;
+        keep(&row, start, past, near)?;
     }
     Err(StoreFault::Store)
 }
 
-/// Takes what a driver holds, of the rows that begin from the start on. Each is read once.
+/// Takes what a driver holds, of the rows that begin from the first minute on, and keeps the rows that have a minute in the range. Each
+/// row is read once.
 pub fn take_held<S: Alter>(
     conn: &mut Connection<S>,
     driver: u32,
-    start: u32,
-    pass: StretchPass,
-) -> Result<StretchPass, StoreFault>
+    first: u32,
+    start: Minute,
+    past: Minute,
+    pass: &mut StretchPass,
+    near: &mut Vec<StoredSpan>,
+) -> Result<(), StoreFault>
     requires settled { conn.old.in_transaction ≡ false }
     ensures reads { ReadsSettled S.Store result conn.old conn.new }
     ensures refused { IfErr result IsGivenUp }
     ensures took { HasCleanDisk (state S.Store conn.new) → IsArchive (state S.Store conn.old).now
         → (t : Tables) → HasTables (state S.Store conn.old).now.trees t
-        → IfOk result (HasTakenHeld driver start t.held pass) }
+        → OnOk result (HasTakenHeld driver first start past t.held pass.old pass.new near.old.items near.new.items) }
 {
     let _settled = conn.is_autocommit();
-    let mut rows = match held::onward(conn, driver, start) {
+    let mut rows = match held::onward(conn, driver, first) {
         Ok(rows) => rows,
         Err(_) => return Err(StoreFault::Store),
     };
-    take_rows(&mut rows, pass)
+    take_rows(&mut rows, start, past, pass, near)
 }

@@ -129,6 +129,11 @@ pub line_within : (n start past : ℕ) (s : State) (r : Result (List Span) Store
 line_within n start past s (Ok line) told = within (driver_of n s) start past line told
 line_within n start past s (Err f) told = tt
 
+-- and so has a line of what a driver holds
+pub held_at : (n start past : ℕ) (s : State) (d : Driver) (line : List Span) → driver_of n s ≡ Some d → IsCanonicalOf (Held d) line
+    → IsHeldWithin n start past s line
+held_at n start past s d line e h = line_within n start past s (Ok line) (lined_at n s d line e h)
+
 -- and it is asked of the same drivers
 asked : (o : Option Driver) (r : Result (List Span) StoreFault) → Answers (λ line. mark_at line) r (told_of (λ d. Ok (held_mark d)) o)
     → Answers {B = Unit {0}} (λ line. tt) r (told_of (λ d. Ok tt) o)

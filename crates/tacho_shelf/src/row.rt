@@ -163,10 +163,24 @@ impl Row {
         ensures stretches { IfOk result (λ found. AreStretches (held_spans self.now) (1440 * self.now.base) (map judged found.items)) }
         ensures fault { IfErr result (λ fault. OrMemory StoreFault.Memory fault (fault ≡ StoreFault.Store)) }
     {
+        let (_, stretches) = self.line_and_stretches(alloc)?;
+        Ok(stretches)
+    }
+
+    /// The line of what they hold, and its stretches from their base on.
+    pub(crate) fn line_and_stretches(
+        &self,
+        alloc: Global,
+    ) -> Result<(Line, Vec<Stretch>), StoreFault>
+        ensures line { IfOk result (λ found. IsCanonicalOf (Held self.now) found.0) }
+        ensures stretches { IfOk result (λ found. AreStretches (held_spans self.now) (1440 * self.now.base) (map judged found.1.items)) }
+        ensures fault { IfErr result (λ fault. OrMemory StoreFault.Memory fault (fault ≡ StoreFault.Store)) }
+    {
         let Ok(line) = self.line(alloc) else {
             return Err(StoreFault::Memory);
         };
-        stretches_of(alloc, &line, self.base.number())
+        let stretches = stretches_of(alloc, &line, self.base.number())?;
+        Ok((line, stretches))
     }
 
     /// A copy of his name.

@@ -259,6 +259,24 @@ impl Shelf {
         self.drivers[place].stretches(alloc)
     }
 
+    /// What a driver holds in a range, as their whole timeline, and their stretches from their base on: S4.
+    fn line_and_stretches_of(
+        &self,
+        alloc: Global,
+        driver: u32,
+        start: Minute,
+        past: Minute,
+    ) -> Result<(Line, Vec<Stretch>), StoreFault>
+        ensures answer { Answers (λ _. tt) result (reported driver self.now) }
+        ensures within { IfOk result (λ found. IsHeldWithin driver start past self.now found.0) }
+        ensures stretches { IfOk result (λ found. AreStretchesOf driver self.now (map judged found.1.items)) }
+    {
+        let Some(place) = place_of(&self.drivers, driver) else {
+            return Err(StoreFault::UnknownDriver);
+        };
+        self.drivers[place].line_and_stretches(alloc)
+    }
+
     /// The place of the driver whose card it is: of him who has the holder, or of the caller, if he
     /// has it: S4, S5.
     fn owner(&self, caller: Caller, holder: &[u8]) -> Result<usize, StoreFault>
@@ -409,5 +427,15 @@ impl Keeper for Shelf {
 
     fn stretches(&mut self, alloc: Global, driver: u32) -> Result<Vec<Stretch>, StoreFault> {
         self.stretches_of(alloc, driver)
+    }
+
+    fn line_and_stretches(
+        &mut self,
+        alloc: Global,
+        driver: u32,
+        start: Minute,
+        past: Minute,
+    ) -> Result<(Line, Vec<Stretch>), StoreFault> {
+        self.line_and_stretches_of(alloc, driver, start, past)
     }
 }

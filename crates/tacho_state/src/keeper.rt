@@ -145,4 +145,18 @@ pub trait Keeper {
         ensures reads { Reads stands is_clean is_live leaves is_same (λ _. tt) self.old self.new result (reported driver) }
         ensures stretches { is_clean self.new → (s : State) → stands self.old s
             → IfOk result (λ stretches. AreStretchesOf driver s (map judged stretches.items)) };
+
+    /// What a driver holds in a range, as `line_within` gives it, and their stretches, of one reading: S4.
+    fn line_and_stretches(
+        &mut self,
+        alloc: Global,
+        driver: u32,
+        start: Minute,
+        past: Minute,
+    ) -> Result<(Line, Vec<Stretch>), StoreFault>
+        ensures reads { Reads stands is_clean is_live leaves is_same (λ _. tt) self.old self.new result (reported driver) }
+        ensures within { is_clean self.new → (s : State) → stands self.old s
+            → IfOk result (λ found. IsHeldWithin driver start past s found.0) }
+        ensures stretches { is_clean self.new → (s : State) → stands self.old s
+            → IfOk result (λ found. AreStretchesOf driver s (map judged found.1.items)) };
 }

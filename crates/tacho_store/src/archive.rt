@@ -17,7 +17,7 @@ use tacho_card::Part;
 use tacho_line::Line;
 use tacho_reading::fault::store_fault;
 use tacho_reading::reading::{
-    download, drivers, entries, line, line_within, name, report, stretches, who,
+    download, drivers, entries, line, line_and_stretches, line_within, name, report, stretches, who,
 };
 use tacho_rules::Report;
 use tacho_state::{
@@ -299,6 +299,16 @@ impl<S: Alter> Keeper for Archive<S> {
 
     fn stretches(&mut self, alloc: Global, driver: u32) -> Result<Vec<Stretch>, StoreFault> {
         stretches(alloc, &mut self.conn, driver)
+    }
+
+    fn line_and_stretches(
+        &mut self,
+        alloc: Global,
+        driver: u32,
+        start: Minute,
+        past: Minute,
+    ) -> Result<(Line, Vec<Stretch>), StoreFault> {
+        line_and_stretches(alloc, &mut self.conn, driver, start, past)
     }
 }
 

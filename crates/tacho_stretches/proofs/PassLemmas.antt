@@ -1,5 +1,5 @@
 -- What a pass over spans stands for (specs/Pass).
-use Rattle.std.proofs.Common.{◌≡◌, ℕ, zero, suc, ◌+◌, ◌<◌, ◌≤◌, ◌⊎◌, inl, inr, Bool, true, false, cond, List, [], ◌∷◌, ◌++◌, map, Option, None, Some, Result, Ok, Err, IfOk, refl, sym, ap, subst, ◌∙◌, arith}
+use Rattle.std.proofs.Common.{◌≡◌, ℕ, zero, suc, ◌+◌, ◌<◌, ◌≤◌, ◌⊎◌, inl, inr, Bool, true, false, cond, List, [], ◌∷◌, ◌++◌, map, Option, None, Some, Result, Ok, Err, IfOk, OnOk, refl, sym, ap, subst, ◌∙◌, arith}
 use Rattle.std.specs.Option.{option_map_or}
 use Rattle.std.specs.List.{All}
 use Rattle.std.proofs.Math.Path.{fun_ext}
@@ -24,8 +24,6 @@ use Rattle.tacho_rules.specs.Report.{examined, IsReport}
 use Rattle.tacho_rules.specs.Scan.{AreFindings, IsScanOf}
 use Rattle.tacho_stretches.specs.declared.examination.Examination.{Examination}
 use Rattle.tacho_stretches.specs.declared.examination.Examined.{Examined}
-use Rattle.tacho_stretches.specs.declared.pass.Place.{Place}
-use Rattle.tacho_stretches.specs.declared.pass.Place.TheVariants.{Examining, Seeking}
 use Rattle.tacho_stretches.specs.declared.pass.StretchPass.{StretchPass}
 use Rattle.tacho_stretches.specs.declared.stretch.Stretch.{Stretch}
 use Rattle.tacho_stretches.specs.Start.{IsStart, IsNextStart, IsHeld, IsEndOfHeld}
@@ -33,6 +31,7 @@ use Rattle.tacho_stretches.specs.Stretches.{Judged, judged, first_monday, unseen
 use Rattle.tacho_stretches.specs.Pass.{EndsBy, IsNext, AgreeBefore, IsExaminationOf, IsReportOf, IsExaminedOf, IsPlaceOf, monday_of, AreDone, CanTake, IsPassOf}
 use Rattle.tacho_stretches.proofs.NearLemmas.{near_report, near_next}
 use Rattle.tacho_stretches.proofs.StartLemmas.{within, none_single}
+use Rattle.tacho_stretches.proofs.StretchLemmas.{pushed}
 
 -- ---- spans, and what comes after them
 
@@ -359,39 +358,112 @@ start_there s after m some is =
 
 -- ---- a pass that takes a span
 
--- it goes on in an examination
-pub pass_examining : (p : StretchPass) (s : Span) (place : Place) (e : Examination) → place ≡ Examining e → CanTake p s
-    → monday_of place ≡ monday_of p.place
-    → ((past : ℕ) (spans : List Span) → IsNext spans past s → IsPlaceOf p.place spans spans past
-    → IsPlaceOf place (spans ++ s ∷ []) spans s.past)
-    → (base : ℕ) (spans : List Span) → IsPassOf p base spans
-    → IsPassOf (record p { place = Examining e; past = s.past }) base (spans ++ s ∷ [])
-pass_examining p s place e same can monday taken base spans is =
-    let next : IsNext spans p.past s = record { ended = is.ended; from = can.from; some = can.some } in
-    record {
-      ended = ended_next spans p.past s next;
-      last = inr (last_next spans p.past s next);
-      done =
-          subst (λ (m : ℕ). AreDone (spans ++ s ∷ []) s.past base (map judged p.done.items) m) (sym monday ∙ ap monday_of same)
-          (done_stays spans p.past s next base (monday_of p.place) (map judged p.done.items) is.done);
-      stands = subst (λ (q : Place). IsPlaceOf q (spans ++ s ∷ []) spans s.past) same (taken p.past spans next is.stands);
-    }
+-- it has taken the span, by what is done and where it stands
+stands_now : (new : StretchPass) (s : Span) (spans : List Span) (past : ℕ) → IsNext spans past s → new.past ≡ s.past → (base : ℕ)
+    → AreDone (spans ++ s ∷ []) s.past base (map judged new.done.items) (monday_of new.examination new.examined)
+    → IsPlaceOf new.examination new.examined (spans ++ s ∷ []) (spans ++ s ∷ []) s.past → IsPassOf new base (spans ++ s ∷ [])
+stands_now new s spans past next same base done place = record {
+  ended = subst (λ (m : ℕ). EndsBy (spans ++ s ∷ []) m) (sym same) (ended_next spans past s next);
+  last = inr (let l = last_next spans past s next in (l.0, same ∙ l.1, l.2));
+  done =
+      subst (λ (m : ℕ). AreDone (spans ++ s ∷ []) m base (map judged new.done.items) (monday_of new.examination new.examined)) (sym same)
+      done;
+  stands =
+      subst (λ (m : ℕ). IsPlaceOf new.examination new.examined (spans ++ s ∷ []) (spans ++ s ∷ []) m) (sym same) place;
+}
 
--- or after the horizon of one, where the next Monday is sought
-pub pass_seeking : {E : Type 0} (result : Result StretchPass E) (p : StretchPass) (s : Span) (place : Place) (x : Examined)
-    → place ≡ Seeking x → CanTake p s → monday_of place ≡ monday_of p.place
-    → ((past : ℕ) (spans : List Span) → IsNext spans past s → IsPlaceOf p.place spans spans past
-    → IsPlaceOf place (spans ++ s ∷ []) spans s.past)
-    → IfOk result (λ pass. (base past : ℕ) (spans : List Span) → IsNext spans past s
+-- a pass examines a span, as far as to a horizon
+module _ (p : StretchPass) (s : Span) (can : CanTake p s) (e : Examination) (was next : Option Examined) (same : was ≡ p.examined)
+    (monday : monday_of e next ≡ monday_of p.examination was)
+    (taken : (past : ℕ) (spans : List Span) → IsNext spans past s → IsPlaceOf p.examination was spans spans past
+    → IsPlaceOf e next (spans ++ s ∷ []) spans s.past) (base : ℕ) (spans : List Span) (is : IsPassOf p base spans) where
+  comes : IsNext spans p.past s
+  comes = record { ended = is.ended; from = can.from; some = can.some }
+
+  done_so : (o : Option Examined) → next ≡ o → AreDone spans p.past base (map judged p.done.items) (monday_of e o)
+  done_so o to =
+      subst (λ (m : ℕ). AreDone spans p.past base (map judged p.done.items) m)
+      (ap (λ (x : Option Examined). monday_of p.examination x) (sym same) ∙ sym monday ∙ ap (λ (x : Option Examined). monday_of e x) to)
+      is.done
+
+  place_so : (o : Option Examined) → next ≡ o → IsPlaceOf e o (spans ++ s ∷ []) spans s.past
+  place_so o to =
+      subst (λ (x : Option Examined). IsPlaceOf e x (spans ++ s ∷ []) spans s.past) to (taken p.past spans comes
+      (subst (λ (x : Option Examined). IsPlaceOf p.examination x spans spans p.past) (sym same) is.stands))
+
+-- it goes on in an examination
+pub pass_examining : (p new : StretchPass) (s : Span) (was next : Option Examined) → was ≡ p.examined → next ≡ None
+    → new.examined ≡ None → new.past ≡ s.past → new.done.items ≡ p.done.items → CanTake p s
+    → monday_of new.examination next ≡ monday_of p.examination was
+    → ((past : ℕ) (spans : List Span) → IsNext spans past s → IsPlaceOf p.examination was spans spans past
+    → IsPlaceOf new.examination next (spans ++ s ∷ []) spans s.past)
+    → (base : ℕ) (spans : List Span) → IsPassOf p base spans → IsPassOf new base (spans ++ s ∷ [])
+pass_examining p new s was next same ended none past done can monday taken base spans is =
+    let e = new.examination in
+    let n = comes p s can e was next same monday taken base spans is in
+    stands_now new s spans p.past n past base
+    (subst (λ (xs : List Stretch). AreDone (spans ++ s ∷ []) s.past base (map judged xs) (monday_of e new.examined)) (sym done)
+    (done_stays spans p.past s n base (monday_of e new.examined) (map judged p.done.items)
+    (done_so p s can e was next same monday taken base spans is new.examined (ended ∙ sym none))))
+    (subst (λ (o : Option Examined). IsPlaceOf e o (spans ++ s ∷ []) (spans ++ s ∷ []) s.past) (sym none)
+    (place_so p s can e was next same monday taken base spans is None ended))
+
+-- or comes to the horizon of one, where the next Monday is sought
+pub pass_seeking : {U E : Type 0} (result : Result U E) (p new : StretchPass) (s : Span) (e : Examination) (was next : Option Examined)
+    (x : Examined) → was ≡ p.examined → next ≡ Some x → CanTake p s → monday_of e next ≡ monday_of p.examination was
+    → ((past : ℕ) (spans : List Span) → IsNext spans past s → IsPlaceOf p.examination was spans spans past
+    → IsPlaceOf e next (spans ++ s ∷ []) spans s.past)
+    → OnOk result ((base past : ℕ) (spans : List Span) → IsNext spans past s
     → AreDone spans past base (map judged p.done.items) x.monday
-    → IsPlaceOf (Seeking x) (spans ++ s ∷ []) spans s.past → IsPassOf pass base (spans ++ s ∷ []))
-    → IfOk result (λ pass. (base : ℕ) (spans : List Span) → IsPassOf p base spans → IsPassOf pass base (spans ++ s ∷ []))
-pass_seeking (Ok pass) p s place x same can monday taken h = λ base spans is.
-    (let next : IsNext spans p.past s = record { ended = is.ended; from = can.from; some = can.some } in
-    h base p.past spans next
-    (subst (λ (m : ℕ). AreDone spans p.past base (map judged p.done.items) m) (sym monday ∙ ap monday_of same) is.done)
-    (subst (λ (q : Place). IsPlaceOf q (spans ++ s ∷ []) spans s.past) same (taken p.past spans next is.stands)))
-pass_seeking (Err fault) p s place x same can monday taken h = tt
+    → IsExaminedOf x (spans ++ s ∷ []) spans s.past → IsPassOf new base (spans ++ s ∷ []))
+    → OnOk result ((base : ℕ) (spans : List Span) → IsPassOf p base spans → IsPassOf new base (spans ++ s ∷ []))
+pass_seeking (Ok u) p new s e was next x same at can monday taken h = λ base spans is.
+    h base p.past spans (comes p s can e was next same monday taken base spans is)
+    (done_so p s can e was next same monday taken base spans is (Some x) at)
+    (place_so p s can e was next same monday taken base spans is (Some x) at)
+pass_seeking (Err fault) p new s e was next x same at can monday taken h = tt
+
+-- the span has no Monday for it
+pub sought_none : (new : StretchPass) (s : Span) (x : Examined) → new.past ≡ s.past → new.examined ≡ Some x
+    → IsNextStart (s ∷ []) x.report.horizon.minute None → (base past : ℕ) (spans : List Span) → IsNext spans past s
+    → AreDone spans past base (map judged new.done.items) x.monday → IsExaminedOf x (spans ++ s ∷ []) spans s.past
+    → IsPassOf new base (spans ++ s ∷ [])
+sought_none new s x same at not base past spans next so is =
+    stands_now new s spans past next same base
+    (subst (λ (o : Option Examined). AreDone (spans ++ s ∷ []) s.past base (map judged new.done.items) (monday_of new.examination o))
+    (sym at) (done_stays spans past s next base x.monday (map judged new.done.items) so))
+    (subst (λ (o : Option Examined). IsPlaceOf new.examination o (spans ++ s ∷ []) (spans ++ s ∷ []) s.past) (sym at) (record {
+      report = is.report;
+      before = is.before;
+      none = none_next spans past s next x.report.horizon.minute is.none not;
+    }))
+
+-- or it has one, and an examination begins there
+pub sought_some : (new : StretchPass) (s : Span) (x : Examined) (start : ℕ) (done : List Stretch) (first : Examination)
+    → new.past ≡ s.past → new.examined ≡ None
+    → new.done.items ≡ done ++ (record { monday = x.monday; report = x.report; unseen = Some start }) ∷ []
+    → IsNextStart (s ∷ []) x.report.horizon.minute (Some start) → first.monday ≡ start → first.minute ≡ start
+    → ((spans : List Span) → IsExaminationOf first spans)
+    → new.examination.monday ≡ first.monday → new.examination.minute ≡ s.past
+    → ((spans : List Span) → IsExaminationOf first spans → EndsBy spans first.minute → s.start ≤ first.minute
+    → s.mark.crew ≡ false → IsExaminationOf new.examination (spans ++ s ∷ []))
+    → (base past : ℕ) (spans : List Span) → IsNext spans past s → AreDone spans past base (map judged done) x.monday
+    → IsExaminedOf x (spans ++ s ∷ []) spans s.past → IsPassOf new base (spans ++ s ∷ [])
+sought_some new s x start done first same none push begins monday at nothing goes minute taken base past spans next so is =
+    let e = new.examination in
+    let one : Stretch = record { monday = x.monday; report = x.report; unseen = Some start } in
+    let there = start_there s x.report.horizon.minute start next.some begins.0 in
+    let from = next.from in
+    let above = there.0 in
+    stands_now new s spans past next same base
+    (subst (λ (o : Option Examined). AreDone (spans ++ s ∷ []) s.past base (map judged new.done.items) (monday_of e o)) (sym none)
+    (subst (λ (m : ℕ). AreDone (spans ++ s ∷ []) s.past base (map judged new.done.items) m) (sym (goes ∙ monday))
+    (subst (λ (xs : List Judged). AreDone (spans ++ s ∷ []) s.past base xs start) (sym (pushed done new.done.items one push))
+    (done_more spans past s next base start (map judged done) x (judged one) so is begins refl))))
+    (subst (λ (o : Option Examined). IsPlaceOf e o (spans ++ s ∷ []) (spans ++ s ∷ []) s.past) (sym none) (
+      omega (arith, minute),
+      taken spans (nothing spans) (λ m l. next.ended m (omega (arith, from, above, at, l))) (omega (arith, above, at)) there.2,
+    ))
 
 -- ---- at the end
 

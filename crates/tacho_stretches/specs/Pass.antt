@@ -1,5 +1,5 @@
 -- Private to tacho_stretches: What a pass stands for, by the spans that it has taken.
-use Rattle.std.specs.Prelude.{◌≡◌, ℕ, ◌+◌, ◌<◌, ◌≤◌, ◌⊎◌, All, false, map, List, ◌++◌, None, Some}
+use Rattle.std.specs.Prelude.{◌≡◌, ℕ, ◌+◌, ◌<◌, ◌≤◌, ◌⊎◌, All, false, map, List, ◌++◌, Option, None, Some}
 use Rattle.tacho_time.specs.declared.span.Mark.{Mark}
 use Rattle.tacho_time.specs.declared.span.Span.{Span}
 use Rattle.tacho_time.specs.Spans.{Gives}
@@ -10,8 +10,6 @@ use Rattle.tacho_rules.specs.Report.{IsReport}
 use Rattle.tacho_rules.specs.Scan.{IsScanOf}
 use Rattle.tacho_stretches.specs.declared.examination.Examination.{Examination}
 use Rattle.tacho_stretches.specs.declared.examination.Examined.{Examined}
-use Rattle.tacho_stretches.specs.declared.pass.Place.{Place}
-use Rattle.tacho_stretches.specs.declared.pass.Place.TheVariants.{Examining, Seeking}
 use Rattle.tacho_stretches.specs.declared.pass.StretchPass.{StretchPass}
 use Rattle.tacho_stretches.specs.Start.{IsNextStart, IsHeld}
 use Rattle.tacho_stretches.specs.Stretches.{Judged, judged, first_monday, AreAll}
@@ -55,15 +53,15 @@ pub record IsExaminedOf (e : Examined) (spans sought : List Span) (past : ℕ) :
 
 -- ---- a pass
 
--- where it stands after spans that end by the past
-abbrev pub IsPlaceOf : Place → List Span → List Span → ℕ → Type 0
-IsPlaceOf (Examining e) spans sought past = (past ≤ e.minute) × IsExaminationOf e spans
-IsPlaceOf (Seeking e) spans sought past = IsExaminedOf e spans sought past
+-- where it stands after spans that end by the past: in an examination, or at the horizon of one
+abbrev pub IsPlaceOf : Examination → Option Examined → List Span → List Span → ℕ → Type 0
+IsPlaceOf e None spans sought past = (past ≤ e.minute) × IsExaminationOf e spans
+IsPlaceOf e (Some x) spans sought past = IsExaminedOf x spans sought past
 
 -- the Monday of the examination there
-abbrev pub monday_of : Place → ℕ
-monday_of (Examining e) = e.monday
-monday_of (Seeking e) = e.monday
+abbrev pub monday_of : Examination → Option Examined → ℕ
+monday_of e None = e.monday
+monday_of e (Some x) = x.monday
 
 -- these are the stretches from the base to before a Monday, of each line that holds what the spans hold before the past
 pub record AreDone (spans : List Span) (past base : ℕ) (done : List Judged) (monday : ℕ) : Type 0 where
@@ -82,5 +80,5 @@ pub record CanTake (p : StretchPass) (s : Span) : Type 0 where
 pub record IsPassOf (p : StretchPass) (base : ℕ) (spans : List Span) : Type 0 where
   pub ended : EndsBy spans p.past
   pub last : (p.past ≤ base) ⊎ ((m : ℕ) × (p.past ≡ m + 1) × IsHeld spans m)
-  pub done : AreDone spans p.past base (map judged p.done.items) (monday_of p.place)
-  pub stands : IsPlaceOf p.place spans spans p.past
+  pub done : AreDone spans p.past base (map judged p.done.items) (monday_of p.examination p.examined)
+  pub stands : IsPlaceOf p.examination p.examined spans spans p.past

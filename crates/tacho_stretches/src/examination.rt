@@ -3,6 +3,7 @@ ghost use Rattle.tacho_hours.specs.Limits.{first_base, latest};
 ghost use Rattle.tacho_rules.specs.Scan.{IsAt};
 
 use std::alloc::{AllocError, Global};
+use std::mem;
 use tacho_line::{Cause, Horizon};
 use tacho_pass::Found;
 use tacho_rules::{Report, Scan};
@@ -34,7 +35,7 @@ pub(crate) struct Examined {
 }
 
 impl Examination {
-    ghost use Rattle.std.specs.Prelude.{◌≡◌, ◌≤◌, ◌<◌, ◌++◌, ◌∷◌, [], List, false, IfOk};
+    ghost use Rattle.std.specs.Prelude.{◌≡◌, ◌≤◌, ◌<◌, ◌++◌, ◌∷◌, [], List, false, IfOk, OnOk};
     ghost use Rattle.tacho_time.specs.declared.span.Span.{Span as SpanValue};
     ghost use Rattle.tacho_line.specs.Line.{mark_at, IsCause};
     ghost use Rattle.tacho_hours.specs.Line.{IsBase};
@@ -58,43 +59,38 @@ impl Examination {
     }
 
     /// Examines the rest of a span, from the minute where it stands. The span gives that minute, without a second driver.
-    pub(crate) fn go_on(self, span: &Span) -> Result<Examination, AllocError>
-        requires rest { self.minute < span.now.past }
+    pub(crate) fn go_on(&mut self, span: &Span) -> Result<(), AllocError>
+        requires rest { self.old.minute < span.now.past }
         requires within { span.now.past ≤ latest }
-        ensures monday { IfOk result (λ examination. examination.monday ≡ self.monday) }
-        ensures minute { IfOk result (λ examination. examination.minute ≡ span.now.past) }
-        ensures taken { IfOk result (λ examination. (spans : List SpanValue) → IsExaminationOf self spans
-            → EndsBy spans self.minute → span.now.start ≤ self.minute → span.now.mark.crew ≡ false
-            → IsExaminationOf examination (spans ++ span.now ∷ [])) }
+        ensures monday { self.new.monday ≡ self.old.monday }
+        ensures minute { self.new.minute ≡ span.now.past }
+        ensures taken { OnOk result ((spans : List SpanValue) → IsExaminationOf self.old spans
+            → EndsBy spans self.old.minute → span.now.start ≤ self.old.minute → span.now.mark.crew ≡ false
+            → IsExaminationOf self.new (spans ++ span.now ∷ [])) }
     {
-        let mut scan = self.scan;
-        let mut found = self.found;
         let rest = Span {
             start: self.minute,
             past: span.past,
             mark: span.mark,
         };
-        scan.feed(rest, &mut found)?;
-        Ok(Examination {
-            monday: self.monday,
-            minute: span.past,
-            scan,
-            found,
-        })
+        self.minute = span.past;
+        self.scan.feed(rest, &mut self.found)?;
+        Ok(())
     }
 
-    /// Ends where it stands, for this cause.
-    pub(crate) fn end(self, cause: Cause) -> Result<Examined, AllocError>
-        ensures monday { IfOk result (λ examined. examined.monday ≡ self.monday) }
-        ensures minute { IfOk result (λ examined. examined.report.horizon.minute ≡ self.minute) }
-        ensures report { IfOk result (λ examined. (spans : List SpanValue) → IsExaminationOf self spans
-            → IsCause (mark_at spans self.minute) cause → IsReportOf examined spans) }
+    /// Ends where it stands, for this cause. What it found is in the report then, and no longer in it.
+    pub(crate) fn end(&mut self, alloc: Global, cause: Cause) -> Result<Examined, AllocError>
+        ensures monday { IfOk result (λ examined. examined.monday ≡ self.old.monday) }
+        ensures minute { IfOk result (λ examined. examined.report.horizon.minute ≡ self.old.minute) }
+        ensures report { IfOk result (λ examined. (spans : List SpanValue) → IsExaminationOf self.old spans
+            → IsCause (mark_at spans self.old.minute) cause → IsReportOf examined spans) }
     {
         let horizon = Horizon {
             minute: self.minute,
             cause,
         };
-        let report = self.scan.finish(horizon, self.found)?;
+        let found = mem::replace(&mut self.found, Found::empty(alloc));
+        let report = self.scan.finish(horizon, found)?;
         Ok(Examined {
             monday: self.monday,
             report,

@@ -1,10 +1,10 @@
-ghost use Rattle.std.specs.Prelude.{◌≡◌, ◌<◌, ◌≤◌, ◌++◌, ◌∷◌, [], ℕ, List, None, map, IfOk, IsTrue};
+ghost use Rattle.std.specs.Prelude.{◌≡◌, ◌<◌, ◌≤◌, ◌++◌, ◌∷◌, [], ℕ, List, None, map, IfOk, OnOk, IsTrue};
 ghost use Rattle.tacho_time.specs.declared.span.Span.{Span as SpanValue};
 ghost use Rattle.tacho_hours.specs.Line.{IsBase};
 ghost use Rattle.tacho_hours.specs.Limits.{latest};
 ghost use Rattle.tacho_stretches.specs.Start.{IsNextStart};
 ghost use Rattle.tacho_stretches.specs.Stretches.{AreStretches, judged};
-ghost use Rattle.tacho_stretches.specs.Pass.{monday_of, EndsBy, IsNext, IsReportOf, IsPlaceOf, AreDone, CanTake, IsPassOf};
+ghost use Rattle.tacho_stretches.specs.Pass.{monday_of, EndsBy, IsNext, IsReportOf, IsExaminedOf, IsPlaceOf, AreDone, CanTake, IsPassOf};
 
 use crate::examination::{Examination, Examined};
 use crate::start::start_in;
@@ -14,64 +14,6 @@ use tacho_hours::limits::LATEST;
 use tacho_line::Cause;
 use tacho_time::{Minute, Span};
 
-/// Where a pass stands.
-#[derive(Drop)]
-enum Place {
-    /// In an examination.
-    Examining(Examination),
-    /// After the horizon of one, and before the next Monday.
-    Seeking(Examined),
-}
-
-impl Place {
-    /// Examines the next span, as far as to a horizon; after a horizon it stays.
-    fn take(self, span: &Span) -> Result<Place, AllocError>
-        requires within { span.now.past ≤ latest }
-        ensures monday { IfOk result (λ place. monday_of place ≡ monday_of self) }
-        ensures taken { IfOk result (λ place. (past : ℕ) (spans : List SpanValue) → IsNext spans past span.now
-            → IsPlaceOf self spans spans past → IsPlaceOf place (spans ++ span.now ∷ []) spans span.now.past) }
-    {
-        match self {
-            Place::Examining(examination) => examine_span(examination, span),
-            Place::Seeking(examined) => Ok(Place::Seeking(examined)),
-        }
-    }
-
-    /// Ends where no more spans come, which is at a horizon.
-    fn end(self) -> Result<Examined, AllocError>
-        ensures monday { IfOk result (λ examined. examined.monday ≡ monday_of self) }
-        ensures report { IfOk result (λ examined. (past : ℕ) (spans : List SpanValue)
-            → IsPlaceOf self spans spans past → EndsBy spans past → IsReportOf examined spans) }
-        ensures last { IfOk result (λ examined. (past : ℕ) (spans : List SpanValue)
-            → IsPlaceOf self spans spans past → EndsBy spans past → IsNextStart spans examined.report.horizon.minute None) }
-    {
-        match self {
-            Place::Examining(examination) => examination.end(Cause::Unknown),
-            Place::Seeking(examined) => Ok(examined),
-        }
-    }
-}
-
-/// Examines the next span: all of it, or none, since a horizon lies before it or at a minute that it gives as crew.
-fn examine_span(examination: Examination, span: &Span) -> Result<Place, AllocError>
-    requires within { span.now.past ≤ latest }
-    ensures monday { IfOk result (λ place. monday_of place ≡ examination.monday) }
-    ensures taken { IfOk result (λ place. (past : ℕ) (spans : List SpanValue) → IsNext spans past span.now
-        → IsPlaceOf (Place.Examining examination) spans spans past
-        → IsPlaceOf place (spans ++ span.now ∷ []) spans span.now.past) }
-{
-    if span.past <= examination.minute {
-        return Ok(Place::Examining(examination));
-    }
-    if examination.minute < span.start {
-        return Ok(Place::Seeking(examination.end(Cause::Unknown)?));
-    }
-    if span.mark.crew {
-        return Ok(Place::Seeking(examination.end(Cause::Crew)?));
-    }
-    Ok(Place::Examining(examination.go_on(span)?))
-}
-
 /// The stretches of spans that come one at a time, in the order of time. What it keeps is what it finds: stretches, with their breaches and
 /// debts. Minutes are UTC.
 #[derive(Drop)]
@@ -79,7 +21,9 @@ pub struct StretchPass {
     alloc: Global,
     /// The stretches that another one follows.
     done: Vec<Stretch>,
-    place: Place,
+    examination: Examination,
+    /// The examination at its horizon, once it came to it. Then the next Monday is sought.
+    examined: Option<Examined>,
     /// Where the last span ended.
     past: Minute,
 }
@@ -95,7 +39,8 @@ impl StretchPass {
         StretchPass {
             alloc,
             done: Vec::new(alloc),
-            place: Place::Examining(Examination::new(alloc, base)),
+            examination: Examination::new(alloc, base),
+            examined: None,
             past: Minute::new(0),
         }
     }
@@ -108,24 +53,45 @@ impl StretchPass {
         self.past <= span.start && span.start < span.past && span.past.number() <= LATEST
     }
 
-    /// Takes the next span. Fails only where it is out of memory.
-    pub fn feed(self, span: Span) -> Result<StretchPass, AllocError>
-        requires next { CanTake self span }
-        ensures fed { IfOk result (λ pass. (base : ℕ) (spans : List SpanValue) → IsPassOf self base spans
-            → IsPassOf pass base (spans ++ span ∷ [])) }
-        ensures next { IfOk result (λ pass. (s : SpanValue) → span.past ≤ s.start → s.start < s.past → s.past ≤ latest
-            → CanTake pass s) }
+    /// Takes the next span. Fails only where it is out of memory, and is of no use then.
+    pub fn feed(&mut self, span: Span) -> Result<(), AllocError>
+        requires next { CanTake self.old span }
+        ensures fed { OnOk result ((base : ℕ) (spans : List SpanValue) → IsPassOf self.old base spans
+            → IsPassOf self.new base (spans ++ span ∷ [])) }
+        ensures next { OnOk result ((s : SpanValue) → span.past ≤ s.start → s.start < s.past → s.past ≤ latest
+            → CanTake self.new s) }
     {
-        let place = self.place.take(&span)?;
-        match place {
-            Place::Seeking(examined) => seek(self.alloc, self.done, examined, &span),
-            Place::Examining(examination) => Ok(StretchPass {
-                alloc: self.alloc,
-                done: self.done,
-                place: Place::Examining(examination),
-                past: span.past,
-            }),
+        self.past = span.past;
+        let examined = self.examined.take();
+        match examine(self.alloc, &mut self.examination, examined, &span)? {
+            Some(examined) => self.seek(examined, &span),
+            None => Ok(()),
         }
+    }
+
+    /// Seeks the next Monday, after a horizon, in a span. Where the span has it, an examination begins there, with the rest of the span.
+    fn seek(&mut self, examined: Examined, span: &Span) -> Result<(), AllocError>
+        requires within { span.now.past ≤ latest }
+        requires past { self.old.past ≡ span.now.past }
+        requires none { self.old.examined ≡ None }
+        ensures past { self.new.past ≡ span.now.past }
+        ensures fed { OnOk result ((base past : ℕ) (spans : List SpanValue) → IsNext spans past span.now
+            → AreDone spans past base (map judged self.old.done.items) examined.monday
+            → IsExaminedOf examined (spans ++ span.now ∷ []) spans span.now.past
+            → IsPassOf self.new base (spans ++ span.now ∷ [])) }
+    {
+        let Some(start) = start_in(span, horizon_of(&examined.report)) else {
+            self.examined = Some(examined);
+            return Ok(());
+        };
+        self.done.push(Stretch {
+            monday: examined.monday,
+            report: examined.report,
+            unseen: Some(start),
+        })?;
+        self.examination = Examination::new(self.alloc, start);
+        self.examination.go_on(span)?;
+        Ok(())
     }
 
     /// The stretches of all spans that it took. Fails only where it is out of memory.
@@ -133,7 +99,7 @@ impl StretchPass {
         ensures stretches { IfOk result (λ stretches. (base : ℕ) (spans : List SpanValue) → IsPassOf self base spans
             → AreStretches spans base (map judged stretches.items)) }
     {
-        let examined = self.place.end()?;
+        let examined = end(self.alloc, self.examination, self.examined)?;
         let unseen = unseen_after(self.past, horizon_of(&examined.report), &None);
         let mut stretches = self.done;
         stretches.push(Stretch {
@@ -145,38 +111,66 @@ impl StretchPass {
     }
 }
 
-/// Seeks the next Monday, after a horizon, in a span. Where the span has it, an examination begins there, with the rest of the span.
-fn seek(
+/// Examines the next span, as far as to a horizon; after a horizon it stays.
+fn examine(
     alloc: Global,
-    done: Vec<Stretch>,
-    examined: Examined,
+    examination: &mut Examination,
+    examined: Option<Examined>,
     span: &Span,
-) -> Result<StretchPass, AllocError>
+) -> Result<Option<Examined>, AllocError>
     requires within { span.now.past ≤ latest }
-    ensures past { IfOk result (λ pass. pass.past ≡ span.now.past) }
-    ensures fed { IfOk result (λ pass. (base past : ℕ) (spans : List SpanValue) → IsNext spans past span.now
-        → AreDone spans past base (map judged done.items) examined.monday
-        → IsPlaceOf (Place.Seeking examined) (spans ++ span.now ∷ []) spans span.now.past
-        → IsPassOf pass base (spans ++ span.now ∷ [])) }
+    ensures monday { IfOk result (λ next. monday_of examination.new next ≡ monday_of examination.old examined) }
+    ensures taken { IfOk result (λ next. (past : ℕ) (spans : List SpanValue) → IsNext spans past span.now
+        → IsPlaceOf examination.old examined spans spans past
+        → IsPlaceOf examination.new next (spans ++ span.now ∷ []) spans span.now.past) }
 {
-    let Some(start) = start_in(span, horizon_of(&examined.report)) else {
-        return Ok(StretchPass {
-            alloc,
-            done,
-            place: Place::Seeking(examined),
-            past: span.past,
-        });
-    };
-    let mut done = done;
-    done.push(Stretch {
-        monday: examined.monday,
-        report: examined.report,
-        unseen: Some(start),
-    })?;
-    Ok(StretchPass {
-        alloc,
-        done,
-        place: Place::Examining(Examination::new(alloc, start).go_on(span)?),
-        past: span.past,
-    })
+    match examined {
+        Some(examined) => Ok(Some(examined)),
+        None => examine_span(alloc, examination, span),
+    }
+}
+
+/// Ends where no more spans come, which is at a horizon.
+fn end(
+    alloc: Global,
+    examination: Examination,
+    examined: Option<Examined>,
+) -> Result<Examined, AllocError>
+    ensures monday { IfOk result (λ last. last.monday ≡ monday_of examination examined) }
+    ensures report { IfOk result (λ last. (past : ℕ) (spans : List SpanValue)
+        → IsPlaceOf examination examined spans spans past → EndsBy spans past → IsReportOf last spans) }
+    ensures last { IfOk result (λ last. (past : ℕ) (spans : List SpanValue)
+        → IsPlaceOf examination examined spans spans past → EndsBy spans past
+        → IsNextStart spans last.report.horizon.minute None) }
+{
+    let mut examination = examination;
+    match examined {
+        Some(examined) => Ok(examined),
+        None => examination.end(alloc, Cause::Unknown),
+    }
+}
+
+/// Examines the next span: all of it, or none, since a horizon lies before it or at a minute that it gives as crew.
+fn examine_span(
+    alloc: Global,
+    examination: &mut Examination,
+    span: &Span,
+) -> Result<Option<Examined>, AllocError>
+    requires within { span.now.past ≤ latest }
+    ensures monday { IfOk result (λ examined. monday_of examination.new examined ≡ examination.old.monday) }
+    ensures taken { IfOk result (λ examined. (past : ℕ) (spans : List SpanValue) → IsNext spans past span.now
+        → IsPlaceOf examination.old None spans spans past
+        → IsPlaceOf examination.new examined (spans ++ span.now ∷ []) spans span.now.past) }
+{
+    if span.past <= examination.minute {
+        return Ok(None);
+    }
+    if examination.minute < span.start {
+        return Ok(Some(examination.end(alloc, Cause::Unknown)?));
+    }
+    if span.mark.crew {
+        return Ok(Some(examination.end(alloc, Cause::Crew)?));
+    }
+    examination.go_on(span)?;
+    Ok(None)
 }

@@ -37,7 +37,7 @@ pub returns-in_err-line : goal.returns-in_err-line
 returns-in_err-line g c =
     let k = g.K.Keeper in
     let old = c.args.keeper.now in
-    let new = c.line_within.new.self in
+    let new = c.line_and_stretches.new.self in
     let f = c.in_err-line.field-0.0 in
     let e = faulty c.from_residual-in_err-line.result (store_fault f) c.from_residual-in_err-line.ensures.1 in
     let does = ShowsMonthOfAll all.Overview c.args.month in
@@ -46,20 +46,6 @@ returns-in_err-line g c =
     c.deref-driver-items.result.now c.loop-driver.driver-index c.driver-item.result f does c.loop-driver-test.true c.driver-item.is
     c.loop-driver.invariant.read c.in_err-line.ensures.reads)
 
-pub returns-in_err-stretches : goal.returns-in_err-stretches
-returns-in_err-stretches g c =
-    let k = g.K.Keeper in
-    let old = c.args.keeper.now in
-    let drivers = c.deref-driver-items.result.now in
-    let f = c.in_err-stretches.field-0.0 in
-    let e = faulty c.from_residual-in_err-stretches.result (store_fault f) c.from_residual-in_err-stretches.ensures.1 in
-    let does = ShowsMonthOfAll all.Overview c.args.month in
-    subst (λ (answer : Answer). Serves k.stands k.is_clean k.is_live k.leaves old c.stretches.new.self false answer does) (sym e)
-    (not_read k.stands k.is_clean k.is_live k.leaves (λ _. tt) old c.line_within.new.self c.stretches.new.self
-    drivers c.loop-driver.driver-index c.driver-item.result f does c.loop-driver-test.true c.driver-item.is
-    (read_on k.stands k.is_clean k.is_live k.leaves (λ _. tt) old c.loop-driver.keeper c.line_within.new.self drivers c.in_ok-line.line _
-    c.loop-driver.invariant.read c.in_ok-line.ensures.reads) c.in_err-stretches.ensures.reads)
-
 pub returns-in_err-push_overview : goal.returns-in_err-push_overview
 returns-in_err-push_overview g c =
     let k = g.K.Keeper in
@@ -67,13 +53,11 @@ returns-in_err-push_overview g c =
     let drivers = c.deref-driver-items.result.now in
     let does = ShowsMonthOfAll all.Overview c.args.month in
     let old = c.args.keeper.now in
-    let lined =
-    read_on k.stands k.is_clean k.is_live k.leaves (λ _. tt) old c.loop-driver.keeper c.line_within.new.self drivers c.in_ok-line.line _
-    c.loop-driver.invariant.read c.in_ok-line.ensures.reads in
-    subst (λ (answer : Answer). Serves k.stands k.is_clean k.is_live k.leaves old c.stretches.new.self false answer does) (sym e)
-    (no_memory k.stands k.is_clean k.is_live k.leaves old c.stretches.new.self drivers does
-    (read_on k.stands k.is_clean k.is_live k.leaves (λ _. tt) old c.line_within.new.self c.stretches.new.self drivers
-    c.in_ok-stretches.stretches _ lined c.in_ok-stretches.ensures.reads))
+    let new = c.line_and_stretches.new.self in
+    subst (λ (answer : Answer). Serves k.stands k.is_clean k.is_live k.leaves old new false answer does) (sym e)
+    (no_memory k.stands k.is_clean k.is_live k.leaves old new drivers does
+    (read_on k.stands k.is_clean k.is_live k.leaves (λ _. tt) old c.loop-driver.keeper new drivers (c.in_ok-line.line, c.in_ok-line.stretches) _
+    c.loop-driver.invariant.read c.in_ok-line.ensures.reads))
 
 pub loop-driver-preserved : goal.loop-driver-preserved
 loop-driver-preserved g c =
@@ -86,23 +70,18 @@ loop-driver-preserved g c =
     let after_text = string_bytes c.push_overview.new.text in
     let range = c.month_range-start in
     let bounds : AreBounds c.args.month range.result.0 range.result.1 = record { first = range.ensures.start; end = range.ensures.past } in
-    let lined =
-    read_on k.stands k.is_clean k.is_live k.leaves (λ _. tt) old c.loop-driver.keeper c.line_within.new.self drivers c.in_ok-line.line _
-    c.loop-driver.invariant.read c.in_ok-line.ensures.reads in
     record {
-      read = read_on k.stands k.is_clean k.is_live k.leaves (λ _. tt) old c.line_within.new.self c.stretches.new.self drivers
-          c.in_ok-stretches.stretches _ lined c.in_ok-stretches.ensures.reads;
+      read = read_on k.stands k.is_clean k.is_live k.leaves (λ _. tt) old c.loop-driver.keeper c.line_and_stretches.new.self drivers
+          (c.in_ok-line.line, c.in_ok-line.stretches) _ c.loop-driver.invariant.read c.in_ok-line.ensures.reads;
       rows = λ clean s st.
-          let clean_line = c.stretches.ensures.reads.clean clean in
-          let before = c.line_within.ensures.reads.clean clean_line in
+          let before = c.line_and_stretches.ensures.reads.clean clean in
           let here = c.loop-driver.invariant.read.state before s st in
-          let there = c.line_within.ensures.reads.state clean_line s here in
           row_more overview_head (IsOverviewOf c.args.month) drivers i x before_text after_text s
           c.loop-driver-test.true c.driver-item.is (c.loop-driver.invariant.rows before s st)
-          (overview_of x.number s (string_bytes x.name) c.deref.result.now c.in_ok-line.line (map judged c.in_ok-stretches.stretches.items)
+          (overview_of x.number s (string_bytes x.name) c.deref.result.now c.in_ok-line.line (map judged c.in_ok-line.stretches.items)
           c.args.month range.result.0 range.result.1 before_text after_text bounds c.deref.ensures
-          (c.in_ok-line.ensures.reads.answer clean_line s here) (c.in_ok-line.ensures.within clean_line s here)
-          (c.in_ok-stretches.ensures.stretches clean s there)
+          (c.in_ok-line.ensures.reads.answer clean s here) (c.in_ok-line.ensures.within clean s here)
+          (c.in_ok-line.ensures.stretches clean s here)
           (subst (λ (xs : List Stretch). (base end : ℕ) → FollowOn (parts (map judged xs)) base end → (row : List ℕ)
           × (after_text ≡ before_text ++ row)
           × IsOverviewRow x.number c.deref.result.now c.in_ok-line.line (map judged xs) c.args.month row)

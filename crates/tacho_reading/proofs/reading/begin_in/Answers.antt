@@ -32,10 +32,11 @@ returns-clause-begun g c = record {
       let read = was_ok c.last_before.result c.in_ok-before.before _ c.in_ok-before.ensures.cases
       (c.last_before.ensures.found clean schema_1) in (
         somebody c.args.driver s d.0 d.1,
-        is_begun _ c.args.driver s d.0 c.in_ok-stored.stored c.in-Some.base c.first_start.result c.in_ok-before.before d.1
-            d.2
-            c.in-Some.ensures.some.0 (rw c.number-first.ensures.value at c.first_start.ensures)
-            (λ t stand. rw c.number-first.ensures.value at (read t (subst (λ (db : Database). HasTables db.trees t)
+        is_begun _ c.args.driver s d.0 c.in_ok-stored.stored c.in-Some.base c.args.from c.min-first.result c.first_start.result
+            c.in_ok-before.before d.1 d.2
+            c.in-Some.ensures.some.0 (rw (c.number.ensures.value, c.number-2.ensures.value) at c.min-first.ensures)
+            c.first_start.ensures
+            (λ t stand. (read t (subst (λ (db : Database). HasTables db.trees t)
             (sym same.0.now_is) stand))),
       );
 }

@@ -6,6 +6,6 @@ use Rattle.tacho_reading.proofs.stretching.take.Goals as goal
 pub returns-clause-took : goal.returns-clause-took
 returns-clause-took c = record {
   fed = λ base before is.
-      subst (λ (s : Span). IsPassOf c.in_ok-feed.field-0 base (before ++ s ∷ [])) c.in-Some.ensures.some
+      subst (λ (s : Span). IsPassOf c.feed.new.self base (before ++ s ∷ [])) c.in-Some.ensures.some
       (c.in_ok-feed.ensures.fed base before is);
 }

@@ -9,4 +9,4 @@ invariant-rows g l =
     let old = l.fn.rows.conn.now in
     let now = l.rows.conn.now in
     (l.rows.conn.ghost_name ≡ l.fn.rows.conn.ghost_name) × Survives (state g.S.Store old) (state g.S.Store now) (λ _. ⊥)
-    × (old.in_transaction ≡ false → now.in_transaction ≡ false) × IsTaking g.S.Store old now l.fn.pass l.pass
+    × (old.in_transaction ≡ false → now.in_transaction ≡ false) × IsTaking g.S.Store old now l.fn.start l.fn.past l.fn.pass l.pass l.fn.near.items l.near.items

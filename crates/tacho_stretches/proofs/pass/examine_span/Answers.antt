@@ -5,14 +5,14 @@ use Rattle.tacho_stretches.proofs.pass.examine_span.Goals as goal
 
 pub returns-then-le-clause-taken : goal.returns-then-le-clause-taken
 returns-then-le-clause-taken c =
-    let e = c.args.examination in
+    let e = c.args.examination.now in
     let s = c.args.span.now in
     let le : s.past ≤ e.minute = search rules in
     λ past spans next is. (le, still e spans (s ∷ []) is.1)
 
 pub returns-then-lt-clause-taken : goal.returns-then-lt-clause-taken
 returns-then-lt-clause-taken c =
-    let e = c.args.examination in
+    let e = c.args.examination.now in
     let s = c.args.span.now in
     let lt : e.minute < s.start = search rules in
     λ past spans next is.
@@ -22,7 +22,7 @@ returns-then-lt-clause-taken c =
 
 pub returns-then-span-clause-taken : goal.returns-then-span-clause-taken
 returns-then-span-clause-taken c =
-    let e = c.args.examination in
+    let e = c.args.examination.now in
     let s = c.args.span.now in
     let ge : s.start ≤ e.minute = search rules in
     let not = sym c.le.ensures ∙ c.if-le.false in
@@ -34,7 +34,7 @@ returns-then-span-clause-taken c =
 
 pub returns-clause-taken : goal.returns-clause-taken
 returns-clause-taken c =
-    let e = c.args.examination in
+    let e = c.args.examination.now in
     let s = c.args.span.now in
     let ge : s.start ≤ e.minute = search rules in
     let at = c.in_ok-go_on.ensures.minute in

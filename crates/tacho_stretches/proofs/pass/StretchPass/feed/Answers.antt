@@ -1,12 +1,14 @@
+use Rattle.std.proofs.Common.{refl}
 use Rattle.tacho_stretches.proofs.PassLemmas.{pass_examining, pass_seeking}
 use Rattle.tacho_stretches.proofs.pass.StretchPass.feed.Goals as goal
 
-pub returns-in-Seeking-clause-fed : goal.returns-in-Seeking-clause-fed
-returns-in-Seeking-clause-fed c =
-    pass_seeking c.seek.result c.args.self c.args.span c.in_ok-place.place c.in-Seeking.examined c.in-Seeking.is c.requires.next
-    c.in_ok-place.ensures.monday c.in_ok-place.ensures.taken c.seek.ensures.fed
+pub returns-in-Some-clause-fed : goal.returns-in-Some-clause-fed
+returns-in-Some-clause-fed c =
+    pass_seeking c.seek.result c.args.self.now c.seek.new.self c.args.span c.examine.new.examination c.take-examined.result
+    c.in_ok-examined.field-0 c.in-Some.examined c.take-examined.ensures.value c.in-Some.is c.requires.next c.in_ok-examined.ensures.monday
+    c.in_ok-examined.ensures.taken c.seek.ensures.fed
 
-pub returns-in-Examining-clause-fed : goal.returns-in-Examining-clause-fed
-returns-in-Examining-clause-fed c =
-    pass_examining c.args.self c.args.span c.in_ok-place.place c.in-Examining.examination c.in-Examining.is c.requires.next
-    c.in_ok-place.ensures.monday c.in_ok-place.ensures.taken
+pub returns-in-None-clause-fed : goal.returns-in-None-clause-fed
+returns-in-None-clause-fed c =
+    pass_examining c.args.self.now _ c.args.span c.take-examined.result c.in_ok-examined.field-0 c.take-examined.ensures.value c.in-None.is
+    c.take-examined.ensures.after refl refl c.requires.next c.in_ok-examined.ensures.monday c.in_ok-examined.ensures.taken
