@@ -3,9 +3,13 @@
 #![tactic(auto)]
 
 #[cfg(test)]
+mod daily_rows;
+#[cfg(test)]
 mod devices;
 #[cfg(test)]
 mod drivers;
+#[cfg(test)]
+mod each_pass;
 #[cfg(test)]
 mod examinations;
 #[cfg(test)]
@@ -16,6 +20,8 @@ mod hours;
 mod lines;
 #[cfg(test)]
 mod passes;
+#[cfg(test)]
+mod pieces;
 #[cfg(test)]
 mod readings;
 #[cfg(test)]

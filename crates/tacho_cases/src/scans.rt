@@ -1,5 +1,6 @@
-ghost use Rattle.std.specs.Prelude.{◌≡◌, ◌≤◌, ◌+◌, ◌*◌};
+ghost use Rattle.std.specs.Prelude.{◌≡◌, ◌≤◌, ◌+◌, ◌*◌, OnOk};
 ghost use Rattle.tacho_hours.specs.Line.{IsBase};
+ghost use Rattle.tacho_rules.specs.Scan.{IsAt};
 
 use crate::same::assert_same;
 use std::alloc::{AllocError, Global};
@@ -85,30 +86,73 @@ fn done_in(plan: Plan, number: u32) -> Activity {
     }
 }
 
-/// The report of so many hours, which a copy of the scan takes one by one.
-fn report_of(alloc: Global, base: u32, hours: u32, plan: Plan) -> Result<Report, AllocError>
+/// Feeds a scan the hours of a plan, from one hour behind the base to before another.
+fn feed_hours(
+    scan: &mut Scan,
+    found: &mut Found,
+    base: u32,
+    from: u32,
+    to: u32,
+    plan: Plan,
+) -> Result<(), AllocError>
+    requires at { IsAt scan.old (base + 60 * from) }
+    requires base { base ≤ 28491840 }
+    requires order { from ≤ to }
+    requires hours { to ≤ 8736 }
+    ensures at { OnOk result (IsAt scan.new (base + 60 * to)) }
+{
+    for number in from..to {
+        scan.feed(hour(base, number, done_in(plan, number)), found)?;
+    }
+    Ok(())
+}
+
+/// A copy of what was found.
+fn copy_of(alloc: Global, found: &Found) -> Result<Found, AllocError> {
+    Ok(Found {
+        breaches: Vec::from_slice(alloc, &found.breaches)?,
+        debts: Vec::from_slice(alloc, &found.debts)?,
+    })
+}
+
+/// The reports of so many hours, by a scan and by a copy of it that is made halfway: each goes on with its own `Found`.
+fn reports_of(
+    alloc: Global,
+    base: u32,
+    hours: u32,
+    plan: Plan,
+) -> Result<(Report, Report), AllocError>
     requires monday { IsBase base }
     requires base { base ≤ 28491840 }
     requires hours { hours ≤ 8736 }
 {
+    let half = hours / 2;
     let mut scan = Scan::new(Minute::new(base));
     let mut found = Found::empty(alloc);
-    for number in 0..hours {
-        let mut copy = scan;
-        copy.feed(hour(base, number, done_in(plan, number)), &mut found)?;
-        scan = copy;
-    }
+    feed_hours(&mut scan, &mut found, base, 0, half, plan)?;
+    let mut copy = scan;
+    let mut others = copy_of(alloc, &found)?;
+    feed_hours(&mut scan, &mut found, base, half, hours, plan)?;
+    feed_hours(&mut copy, &mut others, base, half, hours, plan)?;
     let horizon = Horizon {
         minute: Minute::new(base + 60 * hours),
         cause: Cause::Unknown,
     };
-    scan.finish(horizon, found)
+    Ok((scan.finish(horizon, found)?, copy.finish(horizon, others)?))
+}
+
+/// Whether both reports say the same.
+fn agree(report: &Report, other: &Report) -> bool {
+    report.horizon == other.horizon
+        && report.breaches.as_slice() == other.breaches.as_slice()
+        && report.debts.as_slice() == other.debts.as_slice()
 }
 
 /// A scan asks for memory only to tell of a breach or a debt (`checks/failing_sheet.py` looks that it asks for none here).
 #[test]
 fn a_year_of_office_hours_asks_for_no_memory(rt: HostRuntime) -> Result<(), Fail> {
-    let report = report_of(rt.alloc(), YEAR, 8736, Plan::Office)?;
+    let (report, other) = reports_of(rt.alloc(), YEAR, 8736, Plan::Office)?;
+    assert!(rt; agree(&report, &other));
     assert_same(&rt, report.breaches.len(), 0);
     assert_same(&rt, report.debts.len(), 0);
     Ok(())
@@ -116,7 +160,8 @@ fn a_year_of_office_hours_asks_for_no_memory(rt: HostRuntime) -> Result<(), Fail
 
 #[test]
 fn a_month_hour_by_hour(rt: HostRuntime) -> Result<(), Fail> {
-    let report = report_of(rt.alloc(), BASE, 672, Plan::Month)?;
+    let (report, other) = reports_of(rt.alloc(), BASE, 672, Plan::Month)?;
+    assert!(rt; agree(&report, &other));
     assert_same(&rt, report.breaches.len(), 0);
     // The first week's main rest is 15 hours short of 45. The rest from the 15th at 18:00 pays. The third week's is 19 hours
     // short, which the rest from the 26th at 12:00 pays.

@@ -1,7 +1,7 @@
 -- One week's step is exact for any things that have a first week and a last, where one at most crosses the end of each
 -- week: a choice is read one week earlier, or is made anew for the thing that crosses the end.
-use Rattle.std.proofs.Common.{◌≡◌, ◌≢◌, ℕ, ◌+◌, ◌-◌, ◌<◌, ◌≤◌, ◌⊎◌, inl, inr, refl, sym, subst, arith, Bool, true}
-use Rattle.std.proofs.Common.{false, cond, leb, ltb, Option, Some, None}
+use Rattle.std.proofs.Common.{◌≡◌, ◌≢◌, ℕ, ◌+◌, ◌-◌, ◌<◌, ◌≤◌, ◌⊎◌, inl, inr, refl, sym, ap, subst, ◌∙◌, arith}
+use Rattle.std.proofs.Common.{Bool, true, false, cond, leb, ltb, Option, Some, None}
 use Rattle.std.specs.Prelude.{◌↔◌, ◌&&◌, ◌||◌, not, is_some}
 use Rattle.std.proofs.lemmas.Bool.{cases_lt, cases_Bool, leb-true, ltb-true, lt-ltb, le-leb, both_ways, not-true}
 use Rattle.std.proofs.lemmas.Bool.{or_cases, and_from, and_parts, or_left, or_right, cond-true, cond-false}
@@ -11,6 +11,11 @@ use Rattle.tacho_choice.specs.declared.weekly_rests.WeeklyRests.{WeeklyRests}
 use Rattle.tacho_choice.specs.Step.{plus_where, counted_of, may, serves, IsNext, IsFirst}
 use Rattle.tacho_choice.specs.Counted.{AreCounted, IsOneOf}
 use Rattle.tacho_choice.proofs.CasesLemmas.{HasTwoOf, case_same, case_agree, case_where, serves_is, same_tests}
+
+-- a week by its parts
+abbrev week_by : Option Bool → Counted → Option Bool → Bool → WeeklyRests
+week_by entering inside starting through =
+    record { entering = entering; inside = inside; starting = starting; through = through }
 
 module _ (R : Type 0) (IsRest : R → Type 0) (first last : R → ℕ) (is_regular : R → Bool) (Whole : ℕ → Type 0) where
   abbrev pub IsChoice : (R → ℕ) → Type 0
@@ -84,6 +89,30 @@ module _ (R : Type 0) (IsRest : R → Type 0) (first last : R → ℕ) (is_regul
         let rf : first r ≡ w = e.1 in
         let sf : first s ≡ w = f.1 in
         alone w r s (e.0, omega arith, e.2) (f.0, omega arith, f.2)
+
+    -- whether the one rest of a kind is regular
+    edge_only : (E : R → Type 0) (a b : Option Bool) → ((r s : R) → E r → E s → r ≡ s) → IsOneOf is_regular E a
+        → IsOneOf is_regular E b → a ≡ b
+    edge_only E None None same is are = refl
+    edge_only E None (Some l) same none some = absurd (none some.0 some.1.0)
+    edge_only E (Some k) None same some none = absurd (none some.0 some.1.0)
+    edge_only E (Some k) (Some l) same is are =
+        ap Some (sym is.1.1 ∙ (ap is_regular (same is.0 are.0 is.1.0 are.1.0) ∙ are.1.1))
+
+    -- what a week is, once
+    pub week_only : (w : ℕ) (a b : WeeklyRests) → IsWeek w a → IsWeek w b → a ≡ b
+    week_only w a b is are =
+        let e : a.entering ≡ b.entering =
+        edge_only (Enters w) a.entering b.entering (enters_alone w) is.entering are.entering in
+        let f : a.inside ≡ b.inside = case_same R is_regular (Inside w) a.inside b.inside is.inside are.inside in
+        let g : a.starting ≡ b.starting =
+        edge_only (Starts w) a.starting b.starting (starts_alone w) is.starting are.starting in
+        let h : a.through ≡ b.through =
+        same_tests a.through b.through (λ t. are.through.1 (is.through.0 t)) (λ t. is.through.1 (are.through.0 t)) in
+        ap (λ (x : Option Bool). week_by x a.inside a.starting a.through) e
+        ∙ (ap (λ (x : Counted). week_by b.entering x a.starting a.through) f
+        ∙ (ap (λ (x : Option Bool). week_by b.entering b.inside x a.through) g
+        ∙ ap (λ (x : Bool). week_by b.entering b.inside b.starting x) h))
 
     -- a test of the one rest of a kind
     edge_test : (E T : R → Type 0) (edge : Option Bool) → IsOneOf is_regular E edge → ((r s : R) → E r → E s → r ≡ s)

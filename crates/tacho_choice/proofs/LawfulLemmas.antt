@@ -1,11 +1,14 @@
--- The law (specs/Laws).
-use Rattle.std.proofs.Common.{◌+◌}
+-- The laws (src/laws.rt).
+use Rattle.std.proofs.Common.{◌≡◌, ℕ, ◌+◌}
 use Rattle.tacho_hours.specs.declared.run.Run.{Run}
+use Rattle.tacho_hours.specs.Line.{Line}
 use Rattle.tacho_hours.specs.Weeks.{IsWhollyAtRest, IsWeeklyRest}
-use Rattle.tacho_choice.specs.Weeks.{first_of, last_of, is_regular}
+use Rattle.tacho_choice.specs.declared.weekly_rests.WeeklyRests.{WeeklyRests}
+use Rattle.tacho_choice.specs.Weeks.{first_of, last_of, is_regular, IsInWeeks, IsWeekOf}
 use Rattle.tacho_choice.specs.Laws.{ChoicesReach, ChoicesStart, ChoicesServe}
 use Rattle.tacho_choice.proofs.ChoicesLemmas as abstract
 use Rattle.tacho_choice.proofs.ConnectingLemmas.{order, alone, run_or_not, week_to, reach_to, reach_from, can_serve_is}
+use Rattle.tacho_choice.proofs.SeenLemmas.{seen_all}
 
 pub reach_law : ChoicesReach
 reach_law line first u old new asks outcome is from before after pair = (
@@ -39,3 +42,12 @@ serve_law line first u week is here = (
   λ x. (can_serve_is line is first u).1 (abstract.reach_serves Run (IsWeeklyRest line) first_of last_of is_regular
       (IsWhollyAtRest line) (order line is) (alone line is) first u x.0 (reach_to line is first u x.0 x.1)),
 )
+
+pub rests_there : (line : Line) (week : ℕ) → IsInWeeks line → (rests : WeeklyRests) × IsWeekOf line week rests
+rests_there line week is = let seen = seen_all line is week in (seen.0.rests, seen.1.rests)
+
+pub rests_only : (line : Line) (week : ℕ) (rests other : WeeklyRests) → IsInWeeks line → IsWeekOf line week rests
+    → IsWeekOf line week other → rests ≡ other
+rests_only line week rests other is here there =
+    abstract.week_only Run (IsWeeklyRest line) first_of last_of is_regular (IsWhollyAtRest line) (order line is)
+    (alone line is) week rests other (week_to line is week rests here) (week_to line is week other there)

@@ -1,17 +1,19 @@
 -- The rests of a week as they are seen one by one (specs/Weeks, IsWeekOfRests).
-use Rattle.std.proofs.Common.{◌≡◌, ℕ, ◌+◌, ◌<◌, ◌≤◌, ◌⊎◌, inl, inr, refl, subst, arith, Bool, true, false, List}
-use Rattle.std.proofs.Common.{◌&&◌, leb}
+use Rattle.std.proofs.Common.{◌≡◌, ℕ, ◌+◌, ◌<◌, ◌≤◌, ◌⊎◌, inl, inr, refl, sym, subst, arith, Bool, true, false}
+use Rattle.std.proofs.Common.{List, [], ◌∷◌, ◌&&◌, leb}
 use Rattle.std.specs.Prelude.{◌↔◌, not}
+use Rattle.std.specs.List.{AllPairs, Contains}
 use Rattle.std.proofs.lemmas.Bool.{both_ways, cases_lt, le-leb, leb-true, or_cases, or_left, or_right, and_parts}
 use Rattle.std.proofs.lemmas.Bool.{and_from}
 use Rattle.tacho_time.specs.declared.span.Activity.TheVariants.{Rest}
 use Rattle.tacho_hours.specs.declared.run.Run.{Run}
 use Rattle.tacho_hours.specs.declared.run.TheConstants.{FAR}
 use Rattle.tacho_hours.specs.Line.{Line}
-use Rattle.tacho_hours.specs.Limits.{first_week}
-use Rattle.tacho_hours.specs.Runs.{AreRestRuns}
+use Rattle.tacho_hours.specs.Limits.{first_week, weekly_rest}
+use Rattle.tacho_hours.specs.Runs.{AreRestRuns, Before, minutes_of}
 use Rattle.tacho_hours.specs.Weeks.{week_start, IsWhollyAtRest, IsWeeklyRest}
 use Rattle.tacho_hours.proofs.CoveringLemmas.{Covers, covered}
+use Rattle.tacho_hours.proofs.ExactlyLemmas.{contains_head, contains_tail, contains_cases, head_first, tail_order}
 use Rattle.tacho_choice.specs.declared.week.WeekOfRests.{WeekOfRests}
 use Rattle.tacho_choice.specs.declared.weekly_rests.WeeklyRests.{WeeklyRests}
 use Rattle.tacho_choice.specs.Weeks.{first_of, last_of, is_regular, AreRestsOfWeek, HasWeek, IsWeekOfRests, week_none}
@@ -88,6 +90,63 @@ seen_more S w week x fresh order h =
         ],
       );
     }
+
+-- a weekly rest among some runs
+IsLongOf : List Run → Run → Type 0
+IsLongOf runs rest = Contains runs rest × (weekly_rest ≤ minutes_of rest)
+
+-- of a list of runs, one after the other
+seen_of : (w : ℕ) (runs : List Run) → AllPairs Before runs → ((x : Run) → Contains runs x → x.start < x.past)
+    → (week : WeekOfRests) × IsWeekOfRests (IsLongOf runs) w week
+unfolding IsLongOf
+seen_of w [] order some = (week_none, seen_none (IsLongOf []) w (λ rest h. let k : h.0.0 < 0 = h.0.1 in omega arith))
+seen_of w (x ∷ runs) order some =
+    let later = seen_of w runs (tail_order Before x runs order) (λ y h. some y (contains_tail x runs y h)) in
+    let lasts : x.start < x.past = some x (contains_head x runs) in
+    elim (cases_lt (minutes_of x) weekly_rest) [
+      | inl short ↦ (
+        later.0,
+        seen_agree (IsLongOf runs) (IsLongOf (x ∷ runs)) w later.0
+            (λ rest from to. (
+              λ h. (contains_tail x runs rest h.0, h.1),
+              λ h. elim (contains_cases x runs rest h.0) [
+                | inl same ↦ absurd
+                    (let l : weekly_rest ≤ minutes_of x = subst (λ (y : Run). weekly_rest ≤ minutes_of y) (sym same) h.1 in omega arith)
+                | inr in' ↦ (in', h.1)
+              ],
+            ))
+            later.1,
+      )
+      | inr long ↦ (
+        week_with w x later.0,
+        seen_agree (λ rest. IsLongOf runs rest ⊎ (rest ≡ x)) (IsLongOf (x ∷ runs)) w (week_with w x later.0)
+            (λ rest from to. (
+              λ h. elim h [
+                | inl in' ↦ (contains_tail x runs rest in'.0, in'.1)
+                | inr same ↦ subst (IsLongOf (x ∷ runs)) (sym same) (contains_head x runs, long)
+              ],
+              λ h. elim (contains_cases x runs rest h.0) [ inl same ↦ inr (sym same) | inr in' ↦ inl (in', h.1) ],
+            ))
+            (seen_more (IsLongOf runs) w later.0 x
+            (λ h. let l : x.past < x.start = head_first Before x runs x order h.0 in omega arith) (omega arith) later.1),
+      )
+    ]
+
+-- of all weekly rests of a line
+pub seen_all : (line : Line) → IsInWeeks line → (w : ℕ)
+    → (week : WeekOfRests) × IsWeekOfRests (IsWeeklyRest line) w week
+unfolding IsLongOf
+seen_all line is w =
+    let are : AreRestRuns line is.runs = is.are in
+    let week = seen_of w is.runs are.in_order (λ x h. ((are.each x).0 h).some) in (
+      week.0,
+      seen_agree (IsLongOf is.runs) (IsWeeklyRest line) w week.0
+          (λ rest from to. (
+            λ h. record { rests = (are.each rest).0 h.0; enough = h.1 },
+            λ h. ((are.each rest).1 h.rests, h.enough),
+          ))
+          week.1,
+    )
 
 -- where all weekly rests of a line are seen, whether the week is wholly at rest
 pub seen_whole : (line : Line) (w : ℕ) (week : WeekOfRests) → week_start (w + 1) < FAR

@@ -3,7 +3,8 @@
 use crate::step::Standing::{Kept, Withdrawn};
 use crate::step::Step::{
     Adds, Enter, Has, HasName, HasNoEntries, HasNoLine, HasNoName, HasNoRange, HasNoReport,
-    HasNoStretches, Holds, InRange, IsOf, Lacks, Lists, Rebase, Refuses, Register, Repeats, Reports, Stretches, Withdraw,
+    HasNoStretches, Holds, InRange, IsOf, Lacks, Lists, Rebase, Refuses, Register, Repeats,
+    Reports, Stretches, Withdraw,
 };
 use crate::step::{Code, Listed, Pieces, Step};
 use tacho_card::Part;

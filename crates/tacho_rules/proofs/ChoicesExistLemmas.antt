@@ -1,37 +1,31 @@
 -- The breaches of weeks without their weekly rests that there are: whether a choice serves weeks is decided by what choices leave of
 -- each week.
-use Rattle.std.proofs.Common.{◌≡◌, ℕ, zero, suc, ◌+◌, ◌-◌, ◌<◌, ◌≤◌, ◌⊎◌, inl, inr, Bool, true, false, List, [], ◌∷◌}
+use Rattle.std.proofs.Common.{◌≡◌, ℕ, zero, suc, ◌+◌, ◌-◌, ◌<◌, ◌≤◌, ◌⊎◌, inl, inr, Bool, true, false}
 use Rattle.std.proofs.Common.{refl, sym, ap, subst, ◌∙◌, arith}
 use Rattle.std.specs.Prelude.{not, ◌&&◌, is_some}
-use Rattle.std.specs.List.{AllPairs, Contains}
-use Rattle.tacho_hours.specs.declared.run.Run.{Run}
 use Rattle.tacho_hours.specs.declared.breach.Kind.TheVariants.{B9}
 use Rattle.tacho_hours.specs.declared.breach.Breach.{Breach}
 use Rattle.tacho_hours.specs.Line.{Line}
-use Rattle.tacho_hours.specs.Exactly.{AreExactly}
-use Rattle.tacho_hours.specs.Runs.{Before}
 use Rattle.tacho_hours.specs.Weeks.{week_start, IsWeeklyRest}
 use Rattle.tacho_hours.specs.Choice.{CanServe}
 use Rattle.tacho_hours.specs.Anew.{EndedBy, FailsFrom, Fails}
 use Rattle.tacho_hours.specs.Anew.Fails.{at_first, anew}
 use Rattle.tacho_hours.specs.Breaches.{IsB9}
 use Rattle.tacho_hours.proofs.AnewLemmas.{ended_by}
-use Rattle.tacho_hours.proofs.ExactlyLemmas.{contains_head, contains_tail, contains_cases, head_first, tail_order}
 use Rattle.tacho_hours.proofs.LackingWeekLemmas.{serves_less}
 use Rattle.tacho_choice.specs.declared.counted.Counted.{Counted}
 use Rattle.tacho_choice.specs.declared.outcome.Outcome.{Outcome}
 use Rattle.tacho_choice.specs.declared.week.WeekOfRests.{WeekOfRests}
 use Rattle.tacho_choice.specs.declared.weekly_rests.WeeklyRests.{WeeklyRests}
 use Rattle.tacho_choice.specs.Step.{IsNext, IsFirst, may, counted_of, serves, place_of}
-use Rattle.tacho_choice.specs.Weeks.{IsInWeeks, IsWeekOfRests, CanReach, Asks, week_none, week_with}
+use Rattle.tacho_choice.specs.Weeks.{IsInWeeks, IsWeekOfRests, CanReach, Asks}
 use Rattle.tacho_choice.proofs.LawfulLemmas.{reach_law, start_law, serve_law}
 use Rattle.tacho_choice.proofs.OutcomesLemmas.{place_below, place_only, at_place}
-use Rattle.tacho_choice.proofs.SeenLemmas.{seen_none, seen_more, seen_agree, seen_whole, in_weeks, asks_is}
+use Rattle.tacho_choice.proofs.SeenLemmas.{seen_all, seen_whole, in_weeks, asks_is}
 use Rattle.tacho_rules.proofs.FiniteLemmas.{Decided, decide_both, decide_either, decide_not, decide_if, decide_as}
 use Rattle.tacho_rules.proofs.FiniteLemmas.{decide_lt, decide_le, decide_eq, decide_some, decide_all, IsFinite}
-use Rattle.tacho_rules.proofs.FiniteLemmas.{no_member, finite_one, finite_as, finite_of, finite_when, finite_below}
-use Rattle.tacho_rules.proofs.FiniteLemmas.{listed}
-use Rattle.tacho_rules.proofs.RunsExistLemmas.{IsQuiet, runs_order, rest_runs, finite_rests, decide_true}
+use Rattle.tacho_rules.proofs.FiniteLemmas.{finite_one, finite_as, finite_of, finite_when, finite_below}
+use Rattle.tacho_rules.proofs.RunsExistLemmas.{IsQuiet, rest_runs, decide_true}
 use Rattle.tacho_rules.proofs.HoursExistLemmas.{IsTold, finite_told, told_only}
 
 -- ---- outcomes
@@ -102,38 +96,9 @@ module _ (line : Line) (base horizon : ℕ) (quiet : IsQuiet line base horizon) 
       let runs = rest_runs line base horizon quiet in
       in_weeks line runs.0 runs.1 (λ m l. quiet.before m (let f = quiet.from in omega (arith, l, f)))
 
-  weekly_rests : (rests : List Run) × AreExactly (IsWeeklyRest line) Before rests
-  weekly_rests = listed (IsWeeklyRest line) Before
-      (λ a b p q. runs_order line base horizon quiet a b p.rests q.rests)
-      (λ a b c p q r e f. (let k = q.rests.some in omega (arith, e, f, k))) (finite_rests line base horizon quiet 1440)
-
-  week_list : (w : ℕ) (rests : List Run) → AllPairs Before rests → ((x : Run) → Contains rests x → x.start < x.past)
-      → (week : WeekOfRests) × IsWeekOfRests (λ rest. Contains rests rest) w week
-  week_list w [] order some = (week_none, seen_none (λ rest. Contains [] rest) w (λ rest h. no_member rest h))
-  week_list w (x ∷ rests) order some =
-      let later = week_list w rests (tail_order Before x rests order) (λ y h. some y (contains_tail x rests y h)) in
-      let lasts : x.start < x.past = some x (contains_head x rests) in
-      let fresh : Contains rests x → ⊥ =
-      λ h. (let l : x.past < x.start = head_first Before x rests x order h in omega (arith, l, lasts)) in (
-        week_with w x later.0,
-        seen_agree (λ rest. Contains rests rest ⊎ (rest ≡ x)) (λ rest. Contains (x ∷ rests) rest) w (week_with w x later.0)
-            (λ rest from to. (
-              λ h. elim h [
-                | inl in' ↦ contains_tail x rests rest in'
-                | inr same ↦ subst (λ (y : Run). Contains (x ∷ rests) y) (sym same) (contains_head x rests)
-              ],
-              λ h. elim (contains_cases x rests rest h) [ inl same ↦ inr (sym same) | inr in' ↦ inl in' ],
-            ))
-            (seen_more (λ rest. Contains rests rest) w later.0 x fresh (omega arith) later.1),
-      )
-
   -- a week, by its weekly rests
   week_of : (w : ℕ) → (week : WeekOfRests) × IsWeekOfRests (IsWeeklyRest line) w week
-  week_of w =
-      let rests = weekly_rests in
-      let are : AreExactly (IsWeeklyRest line) Before rests.0 = rests.1 in
-      let week = week_list w rests.0 are.in_order (λ x h. ((are.each x).0 h).rests.some) in
-      (week.0, seen_agree (λ rest. Contains rests.0 rest) (IsWeeklyRest line) w week.0 (λ rest from to. are.each rest) week.1)
+  week_of = seen_all line is_in_weeks
 
   asks_of : (v : ℕ) → v ≤ 7000 → Asks line v (not (week_of v).0.whole && not (week_of (v + 1)).0.whole)
   asks_of v early =

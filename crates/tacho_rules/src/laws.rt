@@ -20,7 +20,7 @@ ghost use Rattle.tacho_rests.specs.WeekRests.{WeekRestsDefined};
 ghost use Rattle.tacho_rules.specs.Report.{IsReport, examined};
 
 use crate::{Breaks, Days, Pass, WeekRests, WeekSums};
-pub use tacho_choice::laws::choices_reach;
+pub use tacho_choice::laws::{choices_reach, each_week_has_its_rests};
 pub use tacho_hours::laws::paid_by_runs;
 pub use tacho_rests::laws::examined_line_is_in_weeks;
 

@@ -234,7 +234,10 @@ fn jobs_with_wrong_arguments_ask_no_reader(rt: HostRuntime) -> Result<(), Fail> 
         let mut writer = Device::new(Vec::new(rt.alloc()));
         let status = performed(rt.alloc(), &mut shelf, *job, &mut reader, &mut writer)?;
         assert!(rt; status == 1, "{status} of {job:?}");
-        assert!(rt; writer.into_inner().as_slice() == line.as_bytes(), "{job:?}");
+        assert!(rt;
+            writer.into_inner().as_slice() == line.as_bytes(),
+            "{job:?}"
+        );
         assert!(rt; !Source::failed(&reader), "{job:?}");
     }
     Ok(())

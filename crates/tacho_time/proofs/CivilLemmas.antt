@@ -1,12 +1,14 @@
 -- The date with a day number.
-use Rattle.std.proofs.Common.{◌≡◌, ℕ, zero, suc, ◌+◌, ◌-◌, ◌*◌, ◌<◌, ◌≤◌, nat_lt, Bool, true, false, cond, ℤ, pos, ◌+ℤ◌, unsigned_abs, w16, to_z, of_z, FitsSigned, refl, sym, ap, ◌∙◌, subst, arith}
+use Rattle.std.proofs.Common.{◌≡◌, ℕ, zero, suc, ◌+◌, ◌-◌, ◌*◌, ◌<◌, ◌≤◌, ◌%◌, nat_lt, Bool, true, false, cond, ℤ, pos, ◌+ℤ◌, unsigned_abs, w16, to_z, of_z, FitsSigned, refl, sym, ap, ◌∙◌, subst, arith}
 use Rattle.std.proofs.lemmas.Bool.Decides.{nat_tests}
 use Rattle.std.proofs.lemmas.Int.{to_z-of_z}
 use Rattle.jiff.proofs.SpanFacts.{signed_arith}
-use Rattle.jiff_core.specs.Calendar.{days_in_year, days_in_month, days_of_months, day_count, days_from_civil, IsCivilDate}
+use Rattle.jiff_core.specs.Calendar.{days_in_year, days_in_month, days_of_months, day_count, days_from_civil, weekday_number, IsCivilDate}
 use Rattle.jiff_core.specs.declared.civil.date.Date.{Date}
-use Rattle.jiff_core.specs.Date.{epoch_day}
-use Rattle.jiff_core.proofs.CalendarLemmas.{day_count-epoch, days_from_civil-day_count, days_in_year_bounds, days_of_months-zero, days_of_months_more, days_of_months_all, day_count-day_of_year, day_count-next_year}
+use Rattle.jiff_core.specs.declared.civil.weekday.Weekday.{Weekday}
+use Rattle.jiff_core.specs.Date.{epoch_day, weekday_of}
+use Rattle.jiff_core.specs.Weekday.{monday_zero}
+use Rattle.jiff_core.proofs.CalendarLemmas.{day_count-epoch, days_from_civil-day_count, days_in_year_bounds, days_of_months-zero, days_of_months_more, days_of_months_all, day_count-day_of_year, day_count-next_year, weekday_number-parts}
 use Rattle.jiff_core.proofs.DateLemmas.{epoch_day_injective}
 use Rattle.tacho_time.specs.Calendar.{year_after, month_after, Civil, civil, HasNumber}
 
@@ -106,3 +108,10 @@ civil_parts n d h e =
 -- a date so many days after the first one of the calendar
 pub since_first : (n : ℕ) (z : ℤ) → z +ℤ pos 4371587 ≡ pos (n + 4371587) → z ≡ pos n
 since_first n z h = omega (arith, signed_arith)
+
+-- the weekday of a date with a number
+pub weekday_of_date : (date : Date) (n : ℕ) (given : Weekday) → epoch_day date ≡ pos n → monday_zero given ≡ (n + 3) % 7
+    → monday_zero given ≡ weekday_of date
+weekday_of_date date n given number is =
+    let parts : weekday_number (pos n) ≡ (n + 3) % 7 = omega (arith, signed_arith, weekday_number-parts (pos n)) in
+    is ∙ (sym parts ∙ ap weekday_number (sym number))

@@ -1,6 +1,10 @@
 //! Laws about time and spans. A law is a function without a body: what it ensures is proved, and holds for all that it names.
 
-ghost use Rattle.std.specs.Prelude.{◌≡◌, ◌⊎◌, ℕ, ◌<◌, ◌≤◌, ◌↔◌, List, Ok};
+ghost use Rattle.std.specs.Prelude.{◌≡◌, ◌⊎◌, ℕ, ◌+◌, ◌%◌, ◌<◌, ◌≤◌, ◌↔◌, pos, List, Ok};
+ghost use Rattle.jiff_core.specs.Date.{epoch_day, weekday_of};
+ghost use Rattle.jiff_core.specs.Weekday.{monday_zero};
+ghost use Rattle.jiff_core.specs.declared.civil.date.Date.{Date};
+ghost use Rattle.jiff_core.specs.declared.civil.weekday.Weekday.{Weekday};
 ghost use Rattle.tacho_time.specs.declared.span.Span.{Span};
 ghost use Rattle.tacho_time.specs.Calendar.{civil, HasNumber};
 ghost use Rattle.tacho_time.specs.Reading.{day_at, minute_at, month_at};
@@ -10,6 +14,12 @@ ghost use Rattle.tacho_time.specs.Text.{day_text, minute_text, month_text};
 /// The date that is written of a day is the one that the calendar has at that number.
 pub fn civil_dates()
     ensures { (n : ℕ) → n ≤ 47520 → HasNumber (civil n) n }
+{}
+
+/// The weekday that `weekday` gives for a day is that of the calendar's date with its number.
+pub fn weekday_of_dates()
+    ensures { (date : Date) (n : ℕ) (given : Weekday) → epoch_day date ≡ pos n → monday_zero given ≡ (n + 3) % 7
+        → monday_zero given ≡ weekday_of date }
 {}
 
 /// A day is read from its written form, and from no other text.

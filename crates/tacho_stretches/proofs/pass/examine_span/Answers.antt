@@ -24,7 +24,8 @@ pub returns-then-span-clause-taken : goal.returns-then-span-clause-taken
 returns-then-span-clause-taken c =
     let e = c.args.examination.now in
     let s = c.args.span.now in
-    let ge : s.start ≤ e.minute = search rules in
+    let not_before = sym c.lt.ensures ∙ c.if-lt.false in
+    let ge : s.start ≤ e.minute = grind (arith, nat_tests, not_before) in
     let not = sym c.le.ensures ∙ c.if-le.false in
     let lt : e.minute < s.past = grind (arith, nat_tests, not) in
     λ past spans next is.
@@ -36,7 +37,8 @@ pub returns-clause-taken : goal.returns-clause-taken
 returns-clause-taken c =
     let e = c.args.examination.now in
     let s = c.args.span.now in
-    let ge : s.start ≤ e.minute = search rules in
+    let not_before = sym c.lt.ensures ∙ c.if-lt.false in
+    let ge : s.start ≤ e.minute = grind (arith, nat_tests, not_before) in
     let at = c.in_ok-go_on.ensures.minute in
     λ past spans next is. (
       omega (arith, at),

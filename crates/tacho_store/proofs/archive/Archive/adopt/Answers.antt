@@ -11,7 +11,7 @@ returns-in-Ok-clause-adopted g c clean =
     let checked = c.in-Ok.ensures.checked in
     let live = checked.live clean in
     let held = shows_found (state g.S.Store c.args.conn) (state g.S.Store c.check.new.conn) c.schema-sound.ensures.live
-          (checked.alone.was_open clean) (checked.alone.same clean) in
+    (checked.alone.was_open clean) (checked.alone.same clean) in
     let same = c.is_autocommit-settled.ensures.settled (c.is_autocommit-settled.ensures.value ∙ ap not c.in-Ok.ensures.autocommit) live in
     record {
       was_open = checked.alone.was_open clean (checked.live clean);

@@ -1,0 +1,169 @@
+ghost use Rattle.std.specs.Prelude.{◌≤◌};
+
+use std::alloc::{AllocError, Global};
+use std::test::Fail;
+use tacho_line::{Line, LineFault};
+use tacho_rules::{Breach, Cause, Debt, Kind, Report, can_be_examined, examine};
+use tacho_time::{Activity, Mark, Minute, Span, Week, first_minute};
+
+/// 2024-03-04 00:00, a Monday's first minute.
+pub(crate) const BASE: u32 = 28_491_840;
+
+/// The week of that Monday.
+pub(crate) const WEEK: u32 = 2826;
+
+/// What is done on days of March 2024, from one minute of the day to another. April goes on with the 32nd.
+#[derive(Clone, Copy)]
+pub(crate) struct Piece {
+    first: u32,
+    last: u32,
+    from: u32,
+    to: u32,
+    activity: Activity,
+}
+
+/// A minute of a day of March 2024, from the 4th to the 60th.
+pub(crate) fn at(day: u32, minute: u32) -> Minute {
+    Minute::new(BASE + 1440 * (day.min(60).saturating_sub(4)) + minute.min(1440))
+}
+
+/// Work on some days.
+pub(crate) fn work(first: u32, last: u32, from: u32, to: u32) -> Piece {
+    Piece {
+        first,
+        last,
+        from,
+        to,
+        activity: Activity::Work,
+    }
+}
+
+/// Driving on some days.
+pub(crate) fn drive(first: u32, last: u32, from: u32, to: u32) -> Piece {
+    Piece {
+        first,
+        last,
+        from,
+        to,
+        activity: Activity::Drive,
+    }
+}
+
+/// The mark of a driver who is alone.
+pub(crate) fn alone(activity: Activity) -> Mark {
+    Mark {
+        activity,
+        crew: false,
+    }
+}
+
+/// A line with more spans.
+pub(crate) fn add(alloc: Global, line: &mut Line, spans: &[Span]) -> Result<(), LineFault> {
+    let gains = line.gains(alloc, spans)?;
+    if line.add(&gains).is_err() {
+        return Err(LineFault::Memory);
+    }
+    Ok(())
+}
+
+/// The spans of a piece, one for each of its days.
+fn spans_of(alloc: Global, piece: Piece) -> Result<Vec<Span>, AllocError> {
+    let mut spans = Vec::new(alloc);
+    for day in piece.first..piece.last.min(60) + 1 {
+        spans.push(Span {
+            start: at(day, piece.from),
+            past: at(day, piece.to),
+            mark: alone(piece.activity),
+        })?;
+    }
+    Ok(spans)
+}
+
+/// A line with rest where it holds nothing, from the base to a horizon.
+pub(crate) fn add_rest(alloc: Global, line: &mut Line, horizon: Minute) -> Result<(), LineFault> {
+    let gaps = line.gaps(alloc, Minute::new(BASE), horizon)?;
+    for gap in &gaps {
+        let rest = Span {
+            start: gap.start,
+            past: gap.past,
+            mark: alone(Activity::Rest),
+        };
+        add(alloc, line, &[rest])?;
+    }
+    Ok(())
+}
+
+/// The line of pieces, with rest between them, from the base to a horizon.
+pub(crate) fn line_of(alloc: Global, pieces: &[Piece], horizon: Minute) -> Result<Line, LineFault> {
+    let mut line = Line::empty(alloc);
+    for piece in pieces {
+        add(alloc, &mut line, &spans_of(alloc, *piece)?)?;
+    }
+    add_rest(alloc, &mut line, horizon)?;
+    Ok(line)
+}
+
+/// The report of a line from the base's week or the next.
+pub(crate) fn report_of(alloc: Global, line: &Line, week: u32) -> Result<Report, Fail>
+    requires { week ≤ 1 }
+{
+    let base = first_minute(Week::new(WEEK + week));
+    if !can_be_examined(line, base) {
+        return Err(Fail::new("a line that can't be examined"));
+    }
+    Ok(examine(alloc, line, base)?)
+}
+
+/// Whether the report of a line has a horizon that isn't held, these breaches and these debts.
+pub(crate) fn has_report(
+    alloc: Global,
+    line: &Line,
+    horizon: Minute,
+    breaches: &[Breach],
+    debts: &[Debt],
+) -> Result<bool, Fail> {
+    let report = report_of(alloc, line, 0)?;
+    Ok(
+        report.horizon.minute == horizon
+            && report.horizon.cause == Cause::Unknown
+            && report.breaches.as_slice() == breaches
+            && report.debts.as_slice() == debts,
+    )
+}
+
+/// Whether that is the report of pieces with rest between them.
+pub(crate) fn finds(
+    alloc: Global,
+    pieces: &[Piece],
+    horizon: Minute,
+    breaches: &[Breach],
+    debts: &[Debt],
+) -> Result<bool, Fail> {
+    has_report(
+        alloc,
+        &line_of(alloc, pieces, horizon)?,
+        horizon,
+        breaches,
+        debts,
+    )
+}
+
+/// A breach.
+pub(crate) fn breach(kind: Kind, moment: Minute, since: Minute, amount: u32) -> Breach {
+    Breach {
+        kind,
+        moment,
+        since,
+        amount,
+    }
+}
+
+/// The debt of the base's week.
+pub(crate) fn debt(amount: u32, paid_by: Option<Minute>) -> Debt {
+    Debt {
+        week: Week::new(WEEK),
+        amount,
+        deadline: at(32, 0),
+        paid_by,
+    }
+}
