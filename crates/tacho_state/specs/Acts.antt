@@ -1,4 +1,4 @@
--- Trusted in part: What a call of an archive does to it, in terms of states.
+-- Trusted: What a call of an archive does to it, in terms of states.
 use Rattle.std.specs.Prelude.{◌≡◌, ℕ, List, [], ◌∷◌, Option, None, Some, Result, Ok, Err, OnOk, OnErr}
 use Rattle.tacho_state.specs.declared.fault.StoreFault.{StoreFault}
 use Rattle.tacho_state.specs.declared.fault.StoreFault.TheVariants.{Memory, Store, Card}

@@ -1,4 +1,4 @@
--- Trusted in part: Calls of whatever keeps a state, one after the other, and what a crash after them leaves.
+-- Trusted: Calls of whatever keeps a state, one after the other, and what a crash after them leaves.
 use Rattle.std.specs.Prelude.{◌≡◌, List, [], ◌∷◌, Result, Ok, Err, OnOk}
 use Rattle.tacho_state.specs.declared.fault.StoreFault.{StoreFault}
 use Rattle.tacho_state.specs.declared.fault.StoreFault.TheVariants.{Card}
