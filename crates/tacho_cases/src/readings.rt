@@ -10,8 +10,8 @@ use tacho_sheet::{
 use tacho_stretches::Stretch;
 use tacho_time::{Activity, Mark, Minute, Month, Span, Week};
 
-// `checks/failing_sheet.py` runs each test with each of its allocations refused in turn. So a test hands on want of memory by
-// `?`, and asserts everything else.
+// `checks/failing_sheet.py` runs each test with each of its allocations refused in turn. So a test returns an error where it is out of
+// memory, by `?`, and asserts everything else.
 
 /// Friday, 1 March 2024, 00:00.
 const MARCH: u32 = 28_487_520;
@@ -181,7 +181,7 @@ fn stretches_are_printed(rt: HostRuntime) -> Result<(), Fail> {
 #[test]
 fn debts_of_stretches_are_printed(rt: HostRuntime) -> Result<(), Fail> {
     let alloc = rt.alloc();
-    // The horizon of the first comes a minute before the deadline, and the second's is far behind it.
+    // The first one's horizon is a minute before the deadline, and the second one's is long after it.
     let open = [debt(2826, 1260, at(32, 0), None)];
     // Of the second the horizon is the first deadline's minute.
     let others = [

@@ -9,8 +9,8 @@ use tacho_stretches::{Stretch, StretchPass, range_of, stretches};
 use tacho_time::Activity::{Drive, Rest, Work};
 use tacho_time::{Activity, Mark, Minute, Span, Week};
 
-// `checks/failing_sheet.py` runs each test with each of its allocations refused in turn. So a test hands on want of memory by
-// `?`, and asserts everything else.
+// `checks/failing_sheet.py` runs each test with each of its allocations refused in turn. So a test returns an error where it is out of
+// memory, by `?`, and asserts everything else.
 
 /// 2024-03-04 00:00, a Monday's first minute.
 const MONDAY: u32 = 28_491_840;
@@ -242,7 +242,7 @@ fn passed(alloc: Global, line: &Line, base: Minute, spans: &[Span]) -> Result<Ve
     Ok(pass.finish()?)
 }
 
-/// Adds a span, cut into pieces of so many minutes.
+/// Adds a span, cut into pieces of a number of minutes.
 fn push_cut(pieces: &mut Vec<Span>, whole: Span, every: u32) -> Result<(), AllocError> {
     let mut start = whole.start;
     for _ in 0..whole.past.number().saturating_sub(start.number()) {
@@ -256,7 +256,7 @@ fn push_cut(pieces: &mut Vec<Span>, whole: Span, every: u32) -> Result<(), Alloc
     Ok(())
 }
 
-/// The same spans, cut into pieces of so many minutes.
+/// The same spans, cut into pieces of a number of minutes.
 fn cut(alloc: Global, spans: &[Span], every: u32) -> Result<Vec<Span>, AllocError> {
     let mut pieces = Vec::new(alloc);
     for whole in spans {

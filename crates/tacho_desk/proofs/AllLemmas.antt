@@ -81,7 +81,7 @@ pub record IsRead {K : Type 0} (stands : K → State → Type 0) (is_clean is_li
   pub crash : is_clean new → (past : List State) → leaves old past → leaves new past
   pub listed : is_clean new → (s : State) → stands old s → AreSummaries s (map told_summary drivers)
 
--- the text so far: a head, and a text of each of so many drivers
+-- the text so far: a head, and a text of each of the first n drivers
 abbrev pub IsSoFar : List ℕ → (Summary → Driver → List ℕ → Type 0) → List DriverSummary → ℕ → List ℕ → State → Type 0
 IsSoFar head Is drivers count text s =
     (rows : List ℕ) × (text ≡ head ++ rows) × AreOfEach Is s (map told_summary (take count drivers)) rows
@@ -142,7 +142,7 @@ module _ {K : Type 0} (stands : K → State → Type 0) (is_clean is_live : K �
     listed = λ clean s st. read.listed (on.clean clean) s st;
   }
 
-  -- a reading of one who is there is refused for want of memory, or because the store failed
+  -- a reading of a driver who is there fails because it is out of memory, or because the store failed
   given_up : (f : StoreFault) (told : Result (Unit {0}) StoreFault) → told ≡ Ok tt → (told ≡ Err f) ⊎ IsGivenUp (store_fault f)
       → IsGivenUp (store_fault f)
   given_up f told there (inl is) = cc

@@ -11,3 +11,5 @@ mod same;
 mod step;
 #[cfg(test)]
 mod stored;
+#[cfg(test)]
+mod stretch_rows;

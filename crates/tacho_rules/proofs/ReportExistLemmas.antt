@@ -50,7 +50,7 @@ one_more held base m single here k above below = elim (cases_lt k m) [
   | inr l ↦ let e : m ≡ k = omega (arith, l, below) in subst (λ (x : ℕ). IsSingle (mark_at held x)) e here
 ]
 
--- it is at or behind a minute up to which all is single
+-- it is at or after a minute up to which all is single
 horizon_from : (n : ℕ) (held : List Span) (base last m : ℕ) → All (λ (s : Span). s.past ≤ last) held → base ≤ m → last < m + n
     → ((k : ℕ) → base ≤ k → k < m → IsSingle (mark_at held k)) → (h : Horizon) × IsHorizon held base h
 horizon_from zero held base last m ended from fuel single = elim (single_or (mark_at held m)) [

@@ -29,7 +29,7 @@ one_column (Some mark) = by_crew mark.crew mark.activity where
   by_crew false Work = refl
   by_crew false Drive = refl
 
--- the six columns of so many minutes add up to them
+-- the six columns of n minutes add up to n
 pub add_up : (line : List Span) (m n : ℕ) → sum (map (minutes_of line m n) columns) ≡ n
 add_up line m zero = refl
 add_up line m (suc n) =
@@ -40,7 +40,7 @@ add_up line m (suc n) =
     let d = bit (is_single Drive o) in let e = bit (is_crew o) in let f = bit (is_lacking o) in
     omega (arith, here, more)
 
--- where all of so many minutes pass a test, each does
+-- where all of n minutes pass a test, each does
 pub all_pass : (p : ℕ → Bool) (m n : ℕ) → count_from p m n ≡ n → (i : ℕ) → m ≤ i → i < m + n → p i ≡ true
 all_pass p m zero h i a b = absurd (omega (arith, a, b))
 all_pass p m (suc n) h i a b = go (p m) refl (λ rest later. all_pass p (m + 1) n rest i (omega (arith, later)) (omega (arith, b))) where
