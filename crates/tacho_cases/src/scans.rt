@@ -86,7 +86,7 @@ fn done_in(plan: Plan, number: u32) -> Activity {
     }
 }
 
-/// Feeds a scan the hours of a plan, from one hour behind the base to before another.
+/// Feeds a scan the hours of a plan, from one hour after the base to before another.
 fn feed_hours(
     scan: &mut Scan,
     found: &mut Found,
@@ -115,7 +115,8 @@ fn copy_of(alloc: Global, found: &Found) -> Result<Found, AllocError> {
     })
 }
 
-/// The reports of so many hours, by a scan and by a copy of it that is made halfway: each goes on with its own `Found`.
+/// The reports of so many hours, by a scan and by a copy of it that is made after three quarters: each goes on with its own
+/// `Found`.
 fn reports_of(
     alloc: Global,
     base: u32,
@@ -126,14 +127,14 @@ fn reports_of(
     requires base { base ≤ 28491840 }
     requires hours { hours ≤ 8736 }
 {
-    let half = hours / 2;
+    let copied = hours / 4 * 3;
     let mut scan = Scan::new(Minute::new(base));
     let mut found = Found::empty(alloc);
-    feed_hours(&mut scan, &mut found, base, 0, half, plan)?;
+    feed_hours(&mut scan, &mut found, base, 0, copied, plan)?;
     let mut copy = scan;
     let mut others = copy_of(alloc, &found)?;
-    feed_hours(&mut scan, &mut found, base, half, hours, plan)?;
-    feed_hours(&mut copy, &mut others, base, half, hours, plan)?;
+    feed_hours(&mut scan, &mut found, base, copied, hours, plan)?;
+    feed_hours(&mut copy, &mut others, base, copied, hours, plan)?;
     let horizon = Horizon {
         minute: Minute::new(base + 60 * hours),
         cause: Cause::Unknown,

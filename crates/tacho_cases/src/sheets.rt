@@ -407,6 +407,28 @@ fn a_driver_is_read(rt: HostRuntime) -> Result<(), Fail> {
     Ok(())
 }
 
+/// A driver's text of more than 256 bytes: each column is in quotes, key and name are as long as they may be, and there are blank lines.
+const LONG_DRIVER: &str =
+    "\u{feff}\r\n\"driver\",\"holder\",\"key\",\"base\",\"name\"\r\n\r\n\"999999\",\"010203040506070809000102030405\",\"anna-key-1-anna-key-1-anna-key-1-anna-key-1-anna-key-1-anna-key-\",\"2024-03-04\",\"Anna Berg Anna Berg Anna Berg Anna Berg Anna Berg Anna Berg Anna\"\r\n\r\n\r\n\r\n\r\n\r\n\r\n\r\n\r\n\r\n\r\n\r\n\r\n\r\n\r\n\r\n\r\n\r\n\r\n\r\n\r\n\r\n\r\n\r\n";
+
+#[test]
+fn a_long_text_of_a_driver_is_read(rt: HostRuntime) -> Result<(), Fail> {
+    assert!(rt; LONG_DRIVER.len() > 256);
+    let driver = read_driver(rt.alloc(), LONG_DRIVER.as_bytes())?;
+    assert_same(&rt, driver.number(), 999_999);
+    assert_same(
+        &rt,
+        driver.key(),
+        "anna-key-1-anna-key-1-anna-key-1-anna-key-1-anna-key-1-anna-key-",
+    );
+    assert_same(
+        &rt,
+        driver.name(),
+        "Anna Berg Anna Berg Anna Berg Anna Berg Anna Berg Anna Berg Anna",
+    );
+    Ok(())
+}
+
 /// Rows of drivers with a bad column, or with several, and the leftmost of these: a number, the holder's digits, a key, a base and a
 /// name.
 const BAD_COLUMNS: &[(&str, Column)] = &[
