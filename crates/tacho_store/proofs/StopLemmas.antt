@@ -33,10 +33,17 @@ found_again K stands is_live leaves left found archive states leave may it =
     one_weaker _ (stands archive) it.held states (leave found.now.trees may)
 
 -- of two states the one is, or the other
-pub one_of_two : (fact : State → Type 0) (a b : State) → IsOfOne fact (a ∷ b ∷ []) → fact a ⊎ fact b
+one_of_two : (fact : State → Type 0) (a b : State) → IsOfOne fact (a ∷ b ∷ []) → fact a ⊎ fact b
 one_of_two fact a b (inl is) = inl is
 one_of_two fact a b (inr (inl is)) = inr is
 one_of_two fact a b (inr (inr none)) = absurd none
+
+-- an archive that is adopted where a crash has left its trees stands for the one state or for the other
+pub found_of_two : (K : Type 0) (stands : K → State → Type 0) (is_live : K → Type 0) (leaves : K → List State → Type 0)
+    (left found : Sqlite) (archive : K) (a b : State) → LeavesOneOf left (a ∷ b ∷ []) → left.may_leave found.now.trees
+    → IsAdopted stands is_live leaves found archive → stands archive a ⊎ stands archive b
+found_of_two K stands is_live leaves left found archive a b leave may it =
+    one_of_two (stands archive) a b (found_again K stands is_live leaves left found archive (a ∷ b ∷ []) leave may it)
 
 -- where a stop is known only of a clean disk, it is known of any
 pub crash_by : (old new : Sqlite) (P : Trees → Type 0) → Survives old new (λ _. Unit {0}) → (HasCleanDisk new → Survives old new P)
