@@ -27,5 +27,6 @@ any_order_stands db t u same s = record {
   downloads = shuffled download_columns (db 4) t.downloads u.downloads same.downloads s.downloads;
   card_spans = shuffled span_columns (db 6) t.card_spans u.card_spans same.card_spans s.card_spans;
   entries = shuffled entry_columns (db (entry_tree s.layout)) t.entries u.entries same.entries s.entries;
+  old_entries = s.old_entries;
   held = shuffled span_columns (db 10) t.held u.held same.held s.held;
 }

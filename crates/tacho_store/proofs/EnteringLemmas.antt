@@ -125,19 +125,11 @@ line_entered n i line row is =
     let same : activity_number line.activity + 0 ≡ activity_number line.activity = omega arith in
     ap entered is ∙ ap (λ (k : ℕ). record (entry_row n i (entry_of line)) { mark = k }) same
 
--- there is a row for each line
-pub rows_counted : (n i : ℕ) (lines : List Hours) → length (entry_rows n i (batch_of lines)) ≡ length lines
-rows_counted n i [] = refl
-rows_counted n i (l ∷ ls) = ap suc (rows_counted n (i + 1) ls)
-
--- which is that of its entry, by the number that comes next
-pub row_there : (n i k : ℕ) (lines : List Hours) (none : EntryRow) (line : Hours) → k < length lines
-    → get_or (entry_rows n i (batch_of lines)) k none ≡ entry_row n (i + k) (entry_of (get_or lines k line))
-row_there n i k [] none line within = absurd (omega (arith, within))
-row_there n i zero (l ∷ ls) none line within = ap (λ (j : ℕ). entry_row n j (entry_of l)) (omega arith)
-row_there n i (suc k) (l ∷ ls) none line within =
-    row_there n (i + 1) k ls none line (omega (arith, within))
-    ∙ ap (λ (j : ℕ). entry_row n j (entry_of (get_or ls k line))) (omega arith)
+-- an element within a list is there whatever stands for one outside it
+pub any_default : {X : Type 0} (xs : List X) (i : ℕ) (d e : X) → i < length xs → get_or xs i d ≡ get_or xs i e
+any_default [] i d e within = absurd (omega (arith, within))
+any_default (x ∷ xs) zero d e within = refl
+any_default (x ∷ xs) (suc i) d e within = any_default xs i d e (omega (arith, within))
 
 -- ---- numbers
 

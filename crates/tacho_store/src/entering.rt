@@ -1,9 +1,10 @@
-ghost use Rattle.std.specs.Prelude.{◌≡◌, ◌+◌, ◌<◌, ◌^◌, ◌∷◌, ◌++◌, Some, length, map, false, IfOk, MatchResult};
+ghost use Rattle.std.specs.Prelude.{◌≡◌, ℕ, ◌+◌, ◌<◌, ◌^◌, ◌∷◌, ◌++◌, Some, length, map, false, IfOk, MatchResult};
+ghost use Rattle.tacho_state.specs.Acts.{IsOfNoFile};
 ghost use Rattle.tacho_state.specs.Batch.{IsBatch, entry_of, batch_of};
 ghost use Rattle.tacho_state.specs.Disjoint.{AreInRange};
 ghost use Rattle.tacho_state.specs.State.{Driver, driver_of, entry_span, entered_spans};
 ghost use Rattle.tacho_state.specs.Steps.{enter_own, entered};
-ghost use Rattle.tacho_tables.specs.Tables.{row_of};
+ghost use Rattle.tacho_tables.specs.Tables.{new_entry_row, row_of};
 ghost use Rattle.tacho_tables.specs.Calls.{Changes};
 ghost use Rattle.tacho_reading.specs.Calls.{Tells, Steps, StepsGiven};
 ghost use Rattle.tacho_reading.specs.Kept.{ActsOn};
@@ -19,10 +20,11 @@ use tacho_reading::finding::driver_with;
 use tacho_reading::near::rows_near;
 use tacho_reading::spans::{line_of_stored, stored, stored_row};
 use tacho_state::{Entered, EntryLine, StoreFault, first_number};
-use tacho_tables::{SpanTable, StoredSpan, TableFault, drivers, entries, spans};
+use tacho_tables::entries::NewEntry;
+use tacho_tables::{SpanTable, StoredSpan, TableFault, drivers, entries, opening, spans};
 use tacho_time::{Mark, Span};
 
-/// What a line gives: nobody drives with him.
+/// What a line gives: nobody drives with the driver.
 fn span_of_line(line: &EntryLine) -> Span
     ensures { result ≡ entry_span (entry_of line.now) }
 {
@@ -78,21 +80,19 @@ fn gains_near<S: Alter>(
     gains_of(alloc, &line, spans)
 }
 
-/// Adds the entry of a line to a driver's, by its number.
-fn insert_line<S: Alter>(
-    tx: &mut Transaction<'_, S>,
-    driver: u32,
-    number: u32,
-    line: &EntryLine,
-) -> Result<(), TableFault>
-    ensures { Changes S.Store tx.old.conn tx.new.conn result
-        (λ a. record a { entries = entry_row driver number (entry_of line.now) ∷ a.entries }) }
+/// The new entry of a line, by its number.
+fn new_entry(number: u32, line: &EntryLine) -> NewEntry<'_>
+    ensures { (driver : ℕ) → new_entry_row driver result ≡ entry_row driver number (entry_of line.now) }
 {
-    let span = stored_row(&span_of_line(line));
-    entries::insert(tx, driver, number, &span, line.author(), line.note())
+    NewEntry {
+        number,
+        span: stored_row(&span_of_line(line)),
+        author: line.author(),
+        note: line.note(),
+    }
 }
 
-/// Adds the entries of a batch's lines to a driver's, numbered from `first` on.
+/// Adds the entries of a batch's lines to a driver's, numbered from `first` on: four by one statement, as long as there are four.
 fn insert_lines<S: Alter>(
     tx: &mut Transaction<'_, S>,
     driver: u32,
@@ -103,9 +103,20 @@ fn insert_lines<S: Alter>(
     ensures { Changes S.Store tx.old.conn tx.new.conn result
         (λ a. record a { entries = entry_rows driver first (batch_of lines.now) ++ a.entries }) }
 {
+    let (fours, rest) = lines.as_chunks::<4>();
     let mut number = first;
-    for line in lines {
-        insert_line(tx, driver, number, line)?;
+    for [a, b, c, d] in fours {
+        let four = [
+            new_entry(number, a),
+            new_entry(number + 1, b),
+            new_entry(number + 2, c),
+            new_entry(number + 3, d),
+        ];
+        entries::insert_four(tx, driver, &four)?;
+        number += 4;
+    }
+    for line in rest {
+        entries::insert(tx, driver, &new_entry(number, line))?;
         number += 1;
     }
     Ok(())
@@ -183,17 +194,26 @@ pub fn enter<S: Alter>(
     requires open { conn.old.in_transaction ≡ false }
     requires batch { IsBatch lines.now }
     ensures autocommit { conn.new.in_transaction ≡ false }
+    ensures of_no_file { IsOfNoFile result }
     ensures acts { ActsOn S.Store (λ done. done.first) conn.old conn.new result (entered driver (batch_of lines.now)) }
     ensures count { IfOk result (λ done. done.count ≡ length lines.now) }
 {
     let _settled = conn.is_autocommit();
     let mut tx = conn.transaction();
-    let done = enter_in(alloc, &mut tx, driver, lines)?;
-    match tx.commit() {
-        Ok(()) => Ok(done),
-        Err(_) => {
-            let _undone = conn.is_autocommit();
-            Err(StoreFault::Store)
+    match enter_in(alloc, &mut tx, driver, lines) {
+        Ok(done) => match tx.commit() {
+            Ok(()) => Ok(done),
+            Err(_) => {
+                let _undone = conn.is_autocommit();
+                Err(StoreFault::Store)
+            }
+        },
+        Err(fault) => {
+            tx.rollback();
+            match opening::ask(conn) {
+                Ok(()) => Err(fault),
+                Err(failed) => Err(store_fault(failed)),
+            }
         }
     }
 }

@@ -4,6 +4,7 @@ use crate::same::assert_same;
 use sqlite::{Alter, Connection, Transaction};
 use std::alloc::Global;
 use std::test::Fail;
+use tacho_tables::entries::NewEntry;
 use tacho_tables::{
     SpanTable, StoredDriver, StoredEntry, StoredSpan, TableFault, downloads, drivers, entries,
     held, making, spans,
@@ -14,6 +15,16 @@ fn span(start: u32, past: u32, mark: u32) -> StoredSpan
     ensures { result ≡ record { start = start; past = past; mark = mark } }
 {
     StoredSpan { start, past, mark }
+}
+
+/// A new entry of the test.
+fn new_entry<'a>(number: u32, span: StoredSpan, author: &'a str, note: &'a str) -> NewEntry<'a> {
+    NewEntry {
+        number,
+        span,
+        author,
+        note,
+    }
 }
 
 #[test]
@@ -116,6 +127,34 @@ fn held_spans_by_where_they_begin(rt: HostRuntime) -> Result<(), Fail> {
     );
     assert!(rt; spans::begun(alloc, &mut tx, SpanTable::Held, 18, 100, 301)?.is_empty());
     assert!(rt; spans::begun(alloc, &mut tx, SpanTable::CardSpans, 17, 100, 301)?.is_empty());
+    Ok(())
+}
+
+/// Spans that follow one another, as many as these.
+fn spans_in_order(alloc: Global, count: u32) -> Result<Vec<StoredSpan>, Fail> {
+    let mut all = Vec::new(alloc);
+    for place in 0..count.min(100) {
+        all.push(span(place * 10, place * 10 + 9, place % 8))?;
+    }
+    Ok(all)
+}
+
+#[test]
+fn as_many_spans_are_added_as_are_given(rt: HostRuntime) -> Result<(), Fail> {
+    let alloc = rt.alloc();
+    for count in [0, 1, 7, 8, 9, 15, 16, 17] {
+        let mut conn = Connection::open_in_memory(alloc)?;
+        let mut tx = conn.transaction();
+        making::make_all(&mut tx)?;
+        drivers::insert(&mut tx, 17, &[0x0d, 0x44], "anna-key-1", 19_786, "Anna")?;
+        let all = spans_in_order(alloc, count)?;
+        spans::insert_all(&mut tx, SpanTable::Held, 17, &all)?;
+        spans::insert_all(&mut tx, SpanTable::CardSpans, 17, &all)?;
+        let held = spans::begun(alloc, &mut tx, SpanTable::Held, 17, 0, 1_000)?;
+        assert_same(&rt, held.as_slice(), all.as_slice());
+        let given = spans::begun(alloc, &mut tx, SpanTable::CardSpans, 17, 0, 1_000)?;
+        assert_same(&rt, given.as_slice(), all.as_slice());
+    }
     Ok(())
 }
 
@@ -242,15 +281,49 @@ fn has_right_file<S: Alter>(tx: &mut Transaction<'_, S>) -> bool
 }
 
 #[test]
+fn four_entries_are_added_at_once(rt: HostRuntime) -> Result<(), Fail> {
+    let mut conn = Connection::open_in_memory(rt.alloc())?;
+    let mut tx = conn.transaction();
+    making::make_all(&mut tx)?;
+    drivers::insert(&mut tx, 17, &[0x0d, 0x44], "anna-key-1", 19_786, "Anna")?;
+    let four = [
+        new_entry(1, span(100, 200, 0), "Anna", "ill"),
+        new_entry(2, span(200, 300, 1), "Bert", ""),
+        new_entry(3, span(300, 400, 2), "office", "lost card"),
+        new_entry(4, span(400, 500, 3), "Cem", "fault"),
+    ];
+    entries::insert_four(&mut tx, 17, &four)?;
+    let found = entries::of_driver(rt.alloc(), &mut tx, 17)?;
+    assert!(rt; found.len() == 4);
+    for (entry, wanted) in found.iter().zip(&four) {
+        assert!(rt;
+            is_entry(
+                entry,
+                wanted.number,
+                wanted.span,
+                0,
+                wanted.author,
+                wanted.note
+            )
+        );
+    }
+    Ok(())
+}
+
+#[test]
 fn entries_are_found_and_withdrawn(rt: HostRuntime) -> Result<(), Fail> {
     let mut conn = Connection::open_in_memory(rt.alloc())?;
     let mut tx = conn.transaction();
     making::make_all(&mut tx)?;
     drivers::insert(&mut tx, 17, &[0x0d, 0x44], "anna-key-1", 19_786, "Anna")?;
     drivers::insert(&mut tx, 18, &[0x0d, 0x45], "bert-key-1", 19_787, "Bert")?;
-    entries::insert(&mut tx, 17, 1, &span(100, 200, 0), "Anna", "ill")?;
-    entries::insert(&mut tx, 17, 2, &span(200, 300, 2), "office", "")?;
-    entries::insert(&mut tx, 18, 1, &span(150, 250, 1), "Bert", "lost card")?;
+    entries::insert(&mut tx, 17, &new_entry(1, span(100, 200, 0), "Anna", "ill"))?;
+    entries::insert(&mut tx, 17, &new_entry(2, span(200, 300, 2), "office", ""))?;
+    entries::insert(
+        &mut tx,
+        18,
+        &new_entry(1, span(150, 250, 1), "Bert", "lost card"),
+    )?;
     drivers::set_entries(&mut tx, 17, 2)?;
     entries::withdraw(&mut tx, 17, 1)?;
     let first = entries::by_number(&mut tx, 17, 1)?;

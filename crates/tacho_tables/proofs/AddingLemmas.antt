@@ -1,5 +1,5 @@
--- Spans that are added one at a time, each by a call.
-use Rattle.std.proofs.Common.{◌≡◌, ◌∙◌, ◌+◌, ◌<◌, ◌≤◌, ℕ, ap, sym, subst, drop, length, get_or, drop-cons, add-one, ◌∷◌, ◌++◌, map, List, Ok}
+-- Spans that are added some at a time, each time by a call.
+use Rattle.std.proofs.Common.{[], ◌+◌, ◌<◌, ◌≤◌, ℕ, subst, drop, length, get_or, ◌∷◌, ◌++◌, map, List, Ok}
 use Rattle.std.specs.Borrow.{MutBor}
 use Rattle.std.proofs.lemmas.List.{drop_all}
 use Rattle.sqlite.specs.State.{HasCleanDisk, KeepsCommit}
@@ -10,43 +10,67 @@ use Rattle.tacho_tables.specs.Rows.{SpanRow}
 use Rattle.tacho_tables.specs.Tables.{Tables, IsArchive, row_of}
 use Rattle.tacho_tables.specs.Calls.{Stays, Changes}
 use Rattle.tacho_tables.proofs.CallLemmas.{stays_then}
+use Rattle.tacho_tables.proofs.Firsts.{joined, next_there}
 use Rattle.tacho_tables.proofs.Inside.{keeps_then}
-use Rattle.tacho_tables.proofs.SpanLemmas.{HasLeft, IsSpanTable, leaves_one_less, all_added}
+use Rattle.tacho_tables.proofs.SpanLemmas.{HasLeft, IsSpanTable, leaves_some, all_added}
 
--- so many of the spans were added
-pub record HasAdded {S : Type 0} (g : Ghosts S) (get : Tables → List SpanRow) (put : List SpanRow → Tables → Tables) (driver : ℕ) (all : List StoredSpan) (count : ℕ)
+-- all but these of the spans were added
+pub record HasStill {S : Type 0} (g : Ghosts S) (get : Tables → List SpanRow) (put : List SpanRow → Tables → Tables) (driver : ℕ) (all others : List StoredSpan)
     (old now : MutBor (Held S)) : Type 0 where
   pub stays : Stays g old now
   pub keeps : HasCleanDisk (state g now.now) → KeepsCommit (state g old.now) (state g now.now)
   pub left : HasCleanDisk (state g now.now) → IsArchive (state g old.now).now
-      → HasLeft get put driver all (drop count all) (state g old.now) (state g now.now)
+      → HasLeft get put driver all others (state g old.now) (state g now.now)
 
 -- any span
 abbrev pub none : StoredSpan
 none = record { start = 0; past = 0; mark = 0 }
 
+module _ {S : Type 0} {g : Ghosts S} {get : Tables → List SpanRow} {put : List SpanRow → Tables → Tables} {driver : ℕ} {all : List StoredSpan} where
+  -- once there are no more parts, what is behind them is left
+  pub added_parts : (parts : List (List StoredSpan)) (rest : List StoredSpan) {count : ℕ} {old now : MutBor (Held S)}
+      → HasStill g get put driver all (joined (drop count parts) rest) old now → length parts ≤ count
+      → HasStill g get put driver all rest old now
+  added_parts parts rest {count} {old} {now} was past =
+      subst (λ l. HasStill g get put driver all (joined l rest) old now) (drop_all count parts past) was
+
 module _ {S : Type 0} {g : Ghosts S} {at tree : ℕ} {name : List ℕ} {get : Tables → List SpanRow} {put : List SpanRow → Tables → Tables}
-    (table : IsSpanTable at tree name get put) {driver : ℕ} {all : List StoredSpan} {count : ℕ} {A E : Type 0} {x : A} where
-  -- and one more
-  pub adds_one : {old mid now : MutBor (Held S)} → HasAdded g get put driver all count old mid → count < length all
-      → Changes g mid now {A = A} {E = E} (Ok x) (λ a. put (row_of driver (get_or all count none) ∷ get a) a)
-      → HasAdded g get put driver all (count + 1) old now
-  adds_one {old} {mid} {now} was within it = record {
+    (table : IsSpanTable at tree name get put) {driver : ℕ} {all : List StoredSpan} {A E : Type 0} {x : A} where
+  -- some more, which stand before the others that were left
+  adds_some : (some others : List StoredSpan) {old mid now : MutBor (Held S)} → HasStill g get put driver all (some ++ others) old mid
+      → Changes g mid now {A = A} {E = E} (Ok x) (λ a. put (map (row_of driver) some ++ get a) a)
+      → HasStill g get put driver all others old now
+  adds_some some others {old} {mid} {now} was it = record {
     stays = stays_then was.stays it.stays;
     keeps = λ clean. keeps_then (state g old.now) (state g mid.now) (state g now.now) (was.keeps (it.stays.clean clean)) (it.keeps clean);
     left = λ clean is.
-        let s = get_or all count none in
-        let cut : drop count all ≡ s ∷ drop (count + 1) all = drop-cons all count none within ∙ ap (λ k. s ∷ drop k all) (sym (add-one count)) in
-        let left = subst (λ l. HasLeft get put driver all l (state g old.now) (state g mid.now)) cut (was.left (it.stays.clean clean) is) in
-        leaves_one_less table driver all (drop (count + 1) all) s (state g old.now) (state g mid.now) (state g now.now) left (it.turned clean left.schema);
+        let had = was.left (it.stays.clean clean) is in
+        leaves_some table driver all some others (state g old.now) (state g mid.now) (state g now.now) had (it.turned clean had.schema);
   }
 
-  -- once that is all of them
-  pub added_all : {old now : MutBor (Held S)} → HasAdded g get put driver all count old now → length all ≤ count
-      → Changes g old now {A = A} {E = E} (Ok x) (λ a. put (map (row_of driver) all ++ get a) a)
-  added_all {old} {now} was past = record {
+  -- the next of some parts, before what is behind them
+  pub adds_part : (d : List StoredSpan) (parts : List (List StoredSpan)) (rest : List StoredSpan) {count : ℕ} {old mid now : MutBor (Held S)}
+      → HasStill g get put driver all (joined (drop count parts) rest) old mid → count < length parts
+      → Changes g mid now {A = A} {E = E} (Ok x) (λ a. put (map (row_of driver) (get_or parts count d) ++ get a) a)
+      → HasStill g get put driver all (joined (drop (count + 1) parts) rest) old now
+  adds_part d parts rest {count} {old} {mid} {now} was within it =
+      adds_some (get_or parts count d) (joined (drop (count + 1) parts) rest)
+      (subst (λ l. HasStill g get put driver all (joined l rest) old mid) (next_there d count parts within) was) it
+
+  -- the next of those that were left
+  pub adds_next : (left : List StoredSpan) {count : ℕ} {old mid now : MutBor (Held S)} → HasStill g get put driver all (drop count left) old mid
+      → count < length left → Changes g mid now {A = A} {E = E} (Ok x) (λ a. put (row_of driver (get_or left count none) ∷ get a) a)
+      → HasStill g get put driver all (drop (count + 1) left) old now
+  adds_next left {count} {old} {mid} {now} was within it =
+      adds_some (get_or left count none ∷ []) (drop (count + 1) left)
+      (subst (λ l. HasStill g get put driver all l old mid) (next_there none count left within) was) it
+
+  -- once none is left, all were added
+  pub added_all : (left : List StoredSpan) {count : ℕ} {old now : MutBor (Held S)} → HasStill g get put driver all (drop count left) old now
+      → length left ≤ count → Changes g old now {A = A} {E = E} (Ok x) (λ a. put (map (row_of driver) all ++ get a) a)
+  added_all left {count} {old} {now} was past = record {
     stays = was.stays;
     keeps = was.keeps;
     turned = λ clean is. all_added table driver all (state g old.now) (state g now.now)
-        (subst (λ l. HasLeft get put driver all l (state g old.now) (state g now.now)) (drop_all count all past) (was.left clean is));
+        (subst (λ l. HasLeft get put driver all l (state g old.now) (state g now.now)) (drop_all count left past) (was.left clean is));
   }

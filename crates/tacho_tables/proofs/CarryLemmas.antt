@@ -28,7 +28,7 @@ use Rattle.tacho_tables.specs.Schema.{Carried, archive_schema, entry_rows, old_s
 use Rattle.tacho_tables.specs.Schema as made
 use Rattle.tacho_tables.specs.Rows.{AreNumberedRowsOf, AreRowsOf, OldEntryRow, by_office}
 use Rattle.tacho_tables.specs.Rows.{download_columns, entry_columns, old_entry_columns, span_columns}
-use Rattle.tacho_tables.specs.Tables.{Carries, IsVersion}
+use Rattle.tacho_tables.specs.Tables.{Carries, OldTables, HasOldTables, IsVersion}
 use Rattle.tacho_tables.specs.Making.{Copies, HasMade}
 use Rattle.tacho_tables.proofs.Answers.{simple, passes, listed, shows, eq_test, uncollated}
 use Rattle.tacho_tables.proofs.Idle.{idle}
@@ -263,11 +263,16 @@ carries first made copied cleared last one two three four = record {
     entries = subst (λ rows. AreRowsOf entry_columns rows (map by_office a.entries))
         (sym (four.0.kept.1.1.1.1.1.1.0 (λ e. omega (arith, e)) ∙ three.0.kept.1.1.1.1.1.1.0 (λ e. omega (arith, e))))
         (two.copied one.empty a.entries (subst (λ rows. AreRowsOf old_entry_columns rows a.entries) (sym one.others.1.1.1.1.0) s.entries));
+    old_entries = emptied a s;
     held = subst (λ rows. AreRowsOf span_columns rows a.held)
         (sym (four.0.kept.1.1.1.1.1.0 (λ e. omega (arith, e)) ∙ three.0.kept.1.1.1.1.1.0 (λ e. omega (arith, e)) ∙ two.others.1.1.1.1.1.0
         ∙ one.others.1.1.1.1.1.0)) s.held;
   };
-  emptied = λ a s. four.0.kept.1.1.1.1.0 (λ e. omega (arith, e))
-      ∙ three.1 a.entries
-      (subst (λ rows. AreRowsOf old_entry_columns rows a.entries) (sym (two.others.1.1.1.1.0 ∙ one.others.1.1.1.1.0)) s.entries);
+  emptied = emptied;
 }
+  where
+    -- `entries` is cleared, and its rows stay none
+    emptied : (a : OldTables) → HasOldTables first.now.trees a → last.now.trees 8 ≡ []
+    emptied a s = four.0.kept.1.1.1.1.0 (λ e. omega (arith, e))
+        ∙ three.1 a.entries
+        (subst (λ rows. AreRowsOf old_entry_columns rows a.entries) (sym (two.others.1.1.1.1.0 ∙ one.others.1.1.1.1.0)) s.entries)

@@ -1,8 +1,7 @@
 -- What the statements on `entry_rows`, and the DELETE of held spans, do.
-use Rattle.std.proofs.Common.{◌≡◌, ℕ, pos, ◌==◌, List, [], ◌∷◌, map, filter, codes, Bool, not, None, true, false, Ok, refl, sym, ap, subst, ◌∙◌, ◌&&◌, drop}
+use Rattle.std.proofs.Common.{◌≡◌, ℕ, pos, ◌==◌, List, [], ◌∷◌, map, filter, codes, Bool, not, None, true, Ok, refl, sym, ap, subst, ◌∙◌, ◌&&◌, ◌/◌, ◌++◌, drop, length}
 use Rattle.std.specs.Prelude.{nat_lt}
 use Rattle.std.specs.List.Sorted.{IsPermutation}
-use Rattle.std.proofs.lemmas.Bool.{and_parts, not-true}
 use Rattle.std.proofs.lemmas.List.Sorted.{IsPermutation-trans}
 use Rattle.sqlite_rules.proofs.PlaceLemmas.{given}
 use Rattle.sqlite_rules.specs.Calls.{ids_of}
@@ -11,7 +10,11 @@ use Rattle.sqlite.specs.declared.types.Value.TheVariants.{Null, Int, Text}
 use Rattle.sqlite.specs.Cast.{cast_row}
 use Rattle.sqlite.specs.Order.{Row}
 use Rattle.sqlite.specs.Term.{Term, col, eval_all}
-use Rattle.sqlite.specs.Edit.{next_rowid, is_taken, without_all, put_all, are_fresh}
+use Rattle.sqlite.specs.Edit.{without_all, put_all, numbered as with_numbers, are_fresh}
+use Rattle.sqlite.specs.Effect.{value_rows}
+use Rattle.sqlite.specs.Command.TheVariants.{Insert}
+use Rattle.sqlite.specs.Source.TheVariants.{Values}
+use Rattle.sqlite.specs.Rowids.TheVariants.{Chosen}
 use Rattle.sqlite.specs.Program.{overlay}
 use Rattle.sqlite.specs.State.{State, Executes, Shown}
 use Rattle.sqlite.proofs.Callers.{reads_as}
@@ -19,20 +22,20 @@ use Rattle.sqlite_value.specs.declared.keys.Key.{Key}
 use Rattle.tacho_tables.specs.Schema.{Layout, archive_schema, entry_tree, spans, to_driver}
 use Rattle.tacho_tables.specs.Schema as made
 use Rattle.tacho_tables.specs.Rows.{AreRowsOf, SpanRow, EntryRow, span_columns, entry_columns}
-use Rattle.tacho_tables.specs.declared.rows.StoredSpan.{StoredSpan}
+use Rattle.tacho_tables.specs.declared.entries.NewEntry.{NewEntry}
 use Rattle.tacho_tables.specs.declared.spans.SpanTable.TheVariants.{Held}
 use Rattle.tacho_tables.specs.Tables.{Tables, HasTables, IsArchive, Turns}
-use Rattle.tacho_tables.specs.Tables.{is_begun, is_entry, is_entry_of, is_kept_near, entered_row, with_withdrawn}
+use Rattle.tacho_tables.specs.Tables.{is_begun, is_entry, is_entry_of, is_kept_near, with_withdrawn}
 use Rattle.tacho_tables.proofs.Answers.{passes, listed, shows, eq_test, lt_test}
-use Rattle.tacho_tables.proofs.Stored.{stands_put, stands_left, shown_of}
-use Rattle.tacho_tables.proofs.Updates.{stands_updated}
+use Rattle.tacho_tables.proofs.Stored.{stands_left, shown_of}
+use Rattle.tacho_tables.proofs.Updates.{stands_chosen, stands_updated}
 use Rattle.tacho_tables.proofs.CatalogLemmas.{entries_stand}
 use Rattle.tacho_tables.proofs.Idle.{idle}
 use Rattle.tacho_tables.proofs.Kept.{with_held, with_entries}
 use Rattle.tacho_tables.proofs.Places.{entry_place, entries_listed, spans_listed}
 use Rattle.tacho_tables.proofs.TurnLemmas.{turns}
 use Rattle.tacho_tables.proofs.SpanLemmas.{and-true, none_given, tests_begun}
-use Rattle.tacho_tables.proofs.Statements.{IsReading, begun, own, numbered, held_delete_text, held_delete_is, new_entry, entry_insert_text, entry_insert_is, withdrawn_shown, withdraw_text, withdraw_is, kept_near}
+use Rattle.tacho_tables.proofs.Statements.{IsStatement, IsReading, begun, own, numbered, held_delete_text, held_delete_is, withdrawn_shown, withdraw_text, withdraw_is, kept_near}
 use Rattle.tacho_tables.proofs.Writes.{inserted, deleted, updated, cast_null, cast_int}
 
 -- ---- held
@@ -60,38 +63,61 @@ deletes_begun old new driver start past count is h =
 
 -- ---- entries
 
--- an INSERT adds an entry, and changes no other table
-pub adds_entry : (old new : State) (driver number : ℕ) (x : StoredSpan) (author note : List ℕ) (count : ℕ) → IsArchive old.now
-    → Executes entry_insert_text
-    (Int (pos driver) ∷ Int (pos number) ∷ Int (pos x.start) ∷ Int (pos x.past) ∷ Int (pos x.mark) ∷ Text author ∷ Text note ∷ [])
-    old new (Ok count)
-    → Turns old new (λ a. record a { entries = entered_row driver number x author note ∷ a.entries })
-adds_entry old new driver number x author note count is h =
+-- the values of a new entry, but for its driver
+abbrev pub entry_values : NewEntry → Row
+entry_values e = Int (pos e.number) ∷ Int (pos e.span.start) ∷ Int (pos e.span.past) ∷ Int (pos e.span.mark)
+    ∷ Text e.author.now ∷ Text e.note.now ∷ []
+
+-- any new entry
+abbrev pub no_entry : NewEntry
+no_entry = record {
+  number = 0;
+  span = record { start = 0; past = 0; mark = 0 };
+  author = record { ref_ptr = (0, 0); now = [] };
+  note = record { ref_ptr = (0, 0); now = [] };
+}
+
+-- an entry as a row whose number the store gives
+abbrev unnumbered : EntryRow → Row
+unnumbered x = Null ∷ entry_columns x
+
+-- its columns are stored as they are
+cast_all : (tree : ℕ) (xs : List EntryRow) → map (λ s. cast_row (record made.entry_rows { tree = tree }) (drop 0 s)) (map unnumbered xs)
+    ≡ map unnumbered xs
+cast_all tree [] = refl
+cast_all tree (x ∷ xs) = rw (
+  cast_null,
+  cast_int (pos x.driver),
+  cast_int (pos x.number),
+  cast_int (pos x.start),
+  cast_int (pos x.past),
+  cast_int (pos x.mark),
+  cast_int (pos x.withdrawn),
+  cast_all tree xs,
+) refl
+
+-- an INSERT of some entries adds them, and changes no other table
+pub adds_entries : (text : List ℕ) (terms : List Term) (params : Row) (xs : List EntryRow) (old new : State) (count : ℕ) → IsArchive old.now
+    → ((layout : Layout) → IsStatement (archive_schema layout) text (Insert (entry_place layout) (Values terms 9)))
+    → value_rows params 9 (length terms / 9) terms ≡ map unnumbered xs
+    → Executes text params old new (Ok count) → Turns old new (λ a. record a { entries = xs ++ a.entries })
+adds_entries text terms params xs old new count is each given h =
     let tree = entry_tree is.layout in
     let rows = old.now.trees tree in
     let t = made.entry_rows in
-    let row = entered_row driver number x author note in
-    let params =
-    Int (pos driver) ∷ Int (pos number) ∷ Int (pos x.start) ∷ Int (pos x.past) ∷ Int (pos x.mark) ∷ Text author ∷ Text note ∷ [] in
-    let it = entry_insert_is is.layout in
-    let e = inserted (archive_schema is.layout) old new is.schema entry_insert_text it.plain params count (entry_place is.layout)
+    let it = each is.layout in
+    let news : List Row = map unnumbered xs in
+    let e = inserted (archive_schema is.layout) old new is.schema text it.plain params count (entry_place is.layout)
     (codes "entry_rows") tree t.columns None (1 ∷ 2 ∷ []) ((1 ∷ 2 ∷ []) ∷ []) t.orders t.checks (to_driver ∷ []) (entries_listed is.layout)
-    (idle is.layout tree) new_entry 9 it.meant ((Null ∷ entry_columns row) ∷ []) refl h in
-    let stored = rw (
-      cast_null,
-      cast_int (pos driver),
-      cast_int (pos number),
-      cast_int (pos x.start),
-      cast_int (pos x.past),
-      cast_int (pos x.mark),
-      cast_int (pos 0),
-    ) at e.applies.rows in
-    let fresh = rw cast_null at e.applies.fresh in
-    let free : is_taken rows (Int (next_rowid rows) ∷ entry_columns row) ≡ false = not-true _ (and_parts _ _ fresh).0 in
-    turns old new is e (λ a. record a { entries = row ∷ a.entries })
-    (λ a s same. with_entries is.layout old.now.trees e.next a e.sound s same e.applies.tables (row ∷ a.entries)
-    (subst (λ rs. AreRowsOf entry_columns rs (row ∷ a.entries)) (sym stored)
-    (stands_put entry_columns rows a.entries (next_rowid rows) row (entries_stand old.now a is s) free)))
+    (idle is.layout tree) terms 9 it.meant news given h in
+    let stored : e.next tree ≡ put_all rows (with_numbers Chosen rows news) =
+    e.applies.rows ∙ ap (λ ns. put_all rows (with_numbers Chosen rows ns)) (cast_all tree xs) in
+    let fresh : are_fresh rows (with_numbers Chosen rows news) ≡ true =
+    subst (λ ns. are_fresh rows (with_numbers Chosen rows ns) ≡ true) (cast_all tree xs) e.applies.fresh in
+    turns old new is e (λ a. record a { entries = xs ++ a.entries })
+    (λ a s same. with_entries is.layout old.now.trees e.next a e.sound s same e.applies.tables (xs ++ a.entries)
+    (subst (λ rs. AreRowsOf entry_columns rs (xs ++ a.entries)) (sym stored)
+    (stands_chosen entry_columns xs rows a.entries (entries_stand old.now a is s) fresh)))
 
 -- the tests of a reading by number are those of an entry
 pub entry_test : (driver number : ℕ) (v : Value) (x : EntryRow) → passes numbered (Int (pos driver) ∷ Int (pos number) ∷ []) (v ∷ entry_columns x) ≡ is_entry driver number x

@@ -5,7 +5,7 @@ use Rattle.sqlite.specs.Tree.{Trees}
 use Rattle.sqlite_catalog.specs.Listing.{IsSound}
 use Rattle.tacho_tables.specs.Schema.{Layout, Made, Carried, archive_schema, entry_tree}
 use Rattle.tacho_tables.specs.Rows.{AreRowsOf, AreNumberedRowsOf, SpanRow, DownloadRow, EntryRow, DriverRow, span_columns, download_columns, entry_columns}
-use Rattle.tacho_tables.specs.Tables.{Tables, HasTables, IsVersion}
+use Rattle.tacho_tables.specs.Tables.{Tables, HasTables, HasNoOldEntries, IsVersion}
 
 -- every table but the one with this tree has its rows
 abbrev pub AreKept : Layout → ℕ → Trees → Trees → Type 0
@@ -49,6 +49,17 @@ apart : (layout : Layout) (tree : ℕ) → tree ≢ 8 → tree ≢ 12 → entry_
 apart Made tree made carried same = made (sym same)
 apart Carried tree made carried same = carried (sym same)
 
+-- nor has `entries`
+old_apart : (layout : Layout) → layout ≡ Carried → 8 ≢ entry_tree layout
+old_apart Made carried same = cc
+old_apart Carried carried same = omega (arith, same)
+
+-- `entries` has no rows, where it isn't the table with this tree
+still_none : (layout : Layout) (tree : ℕ) (db next : Trees) → AreKept layout tree db next → (layout ≡ Carried → 8 ≢ tree)
+    → HasNoOldEntries layout db → HasNoOldEntries layout next
+still_none Made tree db next kept other none = tt
+still_none Carried tree db next kept other none = kept.1.1.1.1.0 (other refl) ∙ none
+
 module _ (layout : Layout) (db next : Trees) (a : Tables) (sound : IsSound (archive_schema layout) next) (s : HasTables db a)
     (same : s.layout ≡ layout) where
   module _ (tree : ℕ) (all : AreKept layout tree db next) where
@@ -77,6 +88,10 @@ module _ (layout : Layout) (db next : Trees) (a : Tables) (sound : IsSound (arch
     entries_stay other = subst (λ rows. AreRowsOf entry_columns rows a.entries) (sym (kept.entries other))
         (subst (λ l. AreRowsOf entry_columns (db (entry_tree l)) a.entries) same s.entries)
 
+    -- `entries` has no rows
+    no_old_entries : (layout ≡ Carried → 8 ≢ tree) → HasNoOldEntries layout next
+    no_old_entries other = still_none layout tree db next all other (subst (λ l. HasNoOldEntries l db) same s.old_entries)
+
     -- what the drivers hold stays
     held_stays : 10 ≢ tree → AreRowsOf span_columns (next 10) a.held
     held_stays other = subst (λ rows. AreRowsOf span_columns rows a.held) (sym (kept.held other)) s.held
@@ -92,6 +107,7 @@ module _ (layout : Layout) (db next : Trees) (a : Tables) (sound : IsSound (arch
     downloads = downloads_stay 10 kept (λ e. omega (arith, e));
     card_spans = card_spans_stay 10 kept (λ e. omega (arith, e));
     entries = entries_stay 10 kept (apart layout 10 (λ e. omega (arith, e)) (λ e. omega (arith, e)));
+    old_entries = no_old_entries 10 kept (λ _ e. omega (arith, e));
     held = it;
   }
 
@@ -106,6 +122,7 @@ module _ (layout : Layout) (db next : Trees) (a : Tables) (sound : IsSound (arch
     downloads = downloads_stay 6 kept (λ e. omega (arith, e));
     card_spans = it;
     entries = entries_stay 6 kept (apart layout 6 (λ e. omega (arith, e)) (λ e. omega (arith, e)));
+    old_entries = no_old_entries 6 kept (λ _ e. omega (arith, e));
     held = held_stays 6 kept (λ e. omega (arith, e));
   }
 
@@ -120,6 +137,7 @@ module _ (layout : Layout) (db next : Trees) (a : Tables) (sound : IsSound (arch
     downloads = it;
     card_spans = card_spans_stay 4 kept (λ e. omega (arith, e));
     entries = entries_stay 4 kept (apart layout 4 (λ e. omega (arith, e)) (λ e. omega (arith, e)));
+    old_entries = no_old_entries 4 kept (λ _ e. omega (arith, e));
     held = held_stays 4 kept (λ e. omega (arith, e));
   }
 
@@ -134,6 +152,7 @@ module _ (layout : Layout) (db next : Trees) (a : Tables) (sound : IsSound (arch
     downloads = downloads_stay 1 kept (λ e. omega (arith, e));
     card_spans = card_spans_stay 1 kept (λ e. omega (arith, e));
     entries = entries_stay 1 kept (apart layout 1 (λ e. omega (arith, e)) (λ e. omega (arith, e)));
+    old_entries = no_old_entries 1 kept (λ _ e. omega (arith, e));
     held = held_stays 1 kept (λ e. omega (arith, e));
   }
 
@@ -148,6 +167,7 @@ module _ (layout : Layout) (db next : Trees) (a : Tables) (sound : IsSound (arch
     downloads = downloads_stay (entry_tree layout) kept (another 4 (λ e. omega (arith, e)) (λ e. omega (arith, e)));
     card_spans = card_spans_stay (entry_tree layout) kept (another 6 (λ e. omega (arith, e)) (λ e. omega (arith, e)));
     entries = it;
+    old_entries = no_old_entries (entry_tree layout) kept (old_apart layout);
     held = held_stays (entry_tree layout) kept (another 10 (λ e. omega (arith, e)) (λ e. omega (arith, e)));
   }
     where

@@ -111,6 +111,7 @@ makes_archive old new count has none h =
         downloads = nothing_stands download_columns (e.next 4) (kept.1.1.0 (λ e. omega (arith, e)) ∙ none.1.1.0);
         card_spans = nothing_stands span_columns (e.next 6) (kept.1.1.1.0 (λ e. omega (arith, e)) ∙ none.1.1.1.0);
         entries = nothing_stands entry_columns (e.next 8) (kept.1.1.1.1.0 (λ e. omega (arith, e)) ∙ none.1.1.1.1.0);
+        old_entries = tt;
         held = nothing_stands span_columns (e.next 10) (kept.1.1.1.1.1.0 (λ e. omega (arith, e)) ∙ none.1.1.1.1.1.0);
       }),
     )

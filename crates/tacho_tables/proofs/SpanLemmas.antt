@@ -1,10 +1,10 @@
 -- What the statements on a table of spans do.
-use Rattle.std.proofs.Common.{◌≡◌, ℕ, pos, ◌==◌, ◌^◌, leb, List, [], ◌∷◌, ◌++◌, map, filter, slice_get, Bool, true, false, cond, ◌&&◌}
+use Rattle.std.proofs.Common.{◌≡◌, ◌∙◌, ◌/◌, drop, length, ℕ, pos, ◌==◌, ◌^◌, leb, List, [], ◌∷◌, ◌++◌, map, filter, slice_get, Bool, true, false, cond, ◌&&◌}
 use Rattle.std.proofs.Common.{None, Some, Ok, unwrap_or, refl, sym, ap, subst}
 use Rattle.std.specs.Prelude.{nat_lt, nat_le}
 use Rattle.std.specs.List.Sorted.{IsPermutation}
-use Rattle.std.proofs.lemmas.Bool.{and_parts, not-true}
-use Rattle.std.proofs.lemmas.List.Sorted.{IsPermutation-refl, IsPermutation-trans, IsPermutation-sym, IsPermutation-map, IsPermutation-middle}
+use Rattle.std.proofs.lemmas.List.{map-append}
+use Rattle.std.proofs.lemmas.List.Sorted.{IsPermutation-refl, IsPermutation-trans, IsPermutation-map}
 use Rattle.sqlite.specs.declared.types.Value.{Value}
 use Rattle.sqlite.specs.declared.types.Value.TheVariants.{Null, Int}
 use Rattle.sqlite.specs.Command.TheVariants.{Insert}
@@ -13,7 +13,10 @@ use Rattle.sqlite.specs.Order.{Row}
 use Rattle.sqlite.specs.Tree.{Trees}
 use Rattle.sqlite_trees.proofs.ListLemmas.{pull_back}
 use Rattle.sqlite.specs.Term.{Term, eval_all}
-use Rattle.sqlite.specs.Edit.{next_rowid, is_taken}
+use Rattle.sqlite.specs.Edit.{put_all, numbered, are_fresh}
+use Rattle.sqlite.specs.Cast.{cast_row}
+use Rattle.sqlite.specs.Rowids.TheVariants.{Chosen}
+use Rattle.sqlite.specs.Effect.{value_rows}
 use Rattle.sqlite.specs.Program.{overlay}
 use Rattle.sqlite.specs.State.{State, Executes, Shown}
 use Rattle.sqlite.proofs.Callers.{reads_as}
@@ -25,13 +28,15 @@ use Rattle.tacho_tables.specs.declared.spans.SpanTable.TheVariants.{CardSpans, H
 use Rattle.tacho_tables.specs.Spans.{spans_in, with_spans, rows_of}
 use Rattle.tacho_tables.specs.Tables.{Tables, HasTables, IsArchive, Turns, is_before, is_begun, is_of, span_shown, span_of, row_of}
 use Rattle.tacho_tables.proofs.Answers.{passes, listed, shows, eq_test, lt_test, le_test}
-use Rattle.tacho_tables.proofs.Stored.{stands_put, stands_shuffled, shown_of}
+use Rattle.tacho_tables.proofs.Stored.{stands_shuffled, shown_of}
 use Rattle.tacho_tables.proofs.Idle.{idle}
 use Rattle.sqlite_catalog.specs.Listing.{IsSound}
+use Rattle.tacho_tables.proofs.Firsts.{moved}
 use Rattle.tacho_tables.proofs.Kept.{AreKept, kept_itself, with_held, with_card_spans}
-use Rattle.tacho_tables.proofs.Statements.{IsStatement, IsReading, four, before, begun, own, three_shown, by_start, span_names}
+use Rattle.tacho_tables.proofs.Statements.{IsStatement, IsReading, before, begun, own, three_shown, by_start, span_names}
 use Rattle.tacho_tables.proofs.Places.{place_of, name_of, spans_listed}
 use Rattle.tacho_tables.proofs.TurnLemmas.{turns}
+use Rattle.tacho_tables.proofs.Updates.{stands_chosen}
 use Rattle.tacho_tables.proofs.Writes.{flat, inserted, cast_null, cast_int}
 
 -- a table of spans: its place, its tree and its name, and the list that its rows stand for
@@ -110,6 +115,10 @@ module _ (text : List ℕ) (tree : ℕ) (tests : List Term) (params : Row) (p : 
 
 -- ---- INSERTs
 
+-- the values of a span, but for its driver
+abbrev pub span_values : StoredSpan → Row
+span_values s = Int (pos s.start) ∷ Int (pos s.past) ∷ Int (pos s.mark) ∷ []
+
 -- what is left to add, on top of what stands, is all on top of what stood, but for the order
 pub record HasLeft (get : Tables → List SpanRow) (put : List SpanRow → Tables → Tables) (driver : ℕ) (all left : List StoredSpan)
     (old now : State) : Type 0 where
@@ -119,23 +128,37 @@ pub record HasLeft (get : Tables → List SpanRow) (put : List SpanRow → Table
 
 module _ {at tree : ℕ} {name : List ℕ} {get : Tables → List SpanRow} {put : List SpanRow → Tables → Tables}
     (table : IsSpanTable at tree name get put) where
-  -- an INSERT adds a row to the table, and changes no other
-  pub adds_span : (text : List ℕ) (old new : State) (x : SpanRow) (count : ℕ) → IsArchive old.now
-      → ((layout : Layout) → IsStatement (archive_schema layout) text (Insert at (Values four 5)))
-      → Executes text (span_columns x) old new (Ok count) → Turns old new (λ a. put (x ∷ get a) a)
-  adds_span text old new x count is each h =
+  -- a span as a row whose number the store gives
+  abbrev unnumbered : SpanRow → Row
+  unnumbered x = Null ∷ span_columns x
+
+  -- its columns are stored as they are
+  cast_all : (xs : List SpanRow)
+      → map (λ s. cast_row (flat name tree (spans name).columns None (1 ∷ 2 ∷ []) ((1 ∷ 2 ∷ []) ∷ []) (spans name).orders [] (to_driver ∷ [])) (drop 0 s)) (map unnumbered xs)
+      ≡ map unnumbered xs
+  cast_all [] = refl
+  cast_all (x ∷ xs) = rw (cast_null, cast_int (pos x.driver), cast_int (pos x.start), cast_int (pos x.past), cast_int (pos x.mark), cast_all xs) refl
+
+  -- an INSERT of some rows adds them to the table, and changes no other
+  pub adds_spans : (text : List ℕ) (terms : List Term) (params : Row) (xs : List SpanRow) (old new : State) (count : ℕ) → IsArchive old.now
+      → ((layout : Layout) → IsStatement (archive_schema layout) text (Insert at (Values terms 5)))
+      → value_rows params 5 (length terms / 5) terms ≡ map unnumbered xs
+      → Executes text params old new (Ok count) → Turns old new (λ a. put (xs ++ get a) a)
+  adds_spans text terms params xs old new count is each given h =
       let rows = old.now.trees tree in
       let it = each is.layout in
-      let e = inserted (archive_schema is.layout) old new is.schema text it.plain (span_columns x) count at name tree (spans name).columns
+      let news : List Row = map unnumbered xs in
+      let e = inserted (archive_schema is.layout) old new is.schema text it.plain params count at name tree (spans name).columns
       None (1 ∷ 2 ∷ []) ((1 ∷ 2 ∷ []) ∷ []) (spans name).orders [] (to_driver ∷ []) (table.place is.layout) (idle is.layout tree)
-      four 5 it.meant ((Null ∷ span_columns x) ∷ []) refl h in
-      let stored = rw (cast_null, cast_int (pos x.driver), cast_int (pos x.start), cast_int (pos x.past), cast_int (pos x.mark)) at e.applies.rows in
-      let fresh = rw cast_null at e.applies.fresh in
-      let free : is_taken rows (Int (next_rowid rows) ∷ span_columns x) ≡ false = not-true _ (and_parts _ _ fresh).0 in
-      turns old new is e (λ a. put (x ∷ get a) a)
-      (λ a s same. table.changed is.layout old.now.trees e.next a e.sound s same e.applies.tables (x ∷ get a)
-      (subst (λ rs. AreRowsOf span_columns rs (x ∷ get a)) (sym stored)
-      (stands_put span_columns rows (get a) (next_rowid rows) x (table.stands old.now.trees a s) free)))
+      terms 5 it.meant news given h in
+      let stored : e.next tree ≡ put_all rows (numbered Chosen rows news) =
+      e.applies.rows ∙ ap (λ ns. put_all rows (numbered Chosen rows ns)) (cast_all xs) in
+      let fresh : are_fresh rows (numbered Chosen rows news) ≡ true =
+      subst (λ ns. are_fresh rows (numbered Chosen rows ns) ≡ true) (cast_all xs) e.applies.fresh in
+      turns old new is e (λ a. put (xs ++ get a) a)
+      (λ a s same. table.changed is.layout old.now.trees e.next a e.sound s same e.applies.tables (xs ++ get a)
+      (subst (λ rs. AreRowsOf span_columns rs (xs ++ get a)) (sym stored)
+      (stands_chosen span_columns xs rows (get a) (table.stands old.now.trees a s) fresh)))
 
   -- before the first is added
   pub all_left : (driver : ℕ) (all : List StoredSpan) (now : State) → IsArchive now.now → HasLeft get put driver all all now now
@@ -144,18 +167,20 @@ module _ {at tree : ℕ} {name : List ℕ} {get : Tables → List SpanRow} {put 
     rows = λ a stood. (get a, subst (HasTables now.now.trees) (sym (table.same a)) stood, IsPermutation-refl (map (row_of driver) all ++ get a));
   }
 
-  -- one more was added
-  pub leaves_one_less : (driver : ℕ) (all left : List StoredSpan) (s : StoredSpan) (old mid now : State)
-      → HasLeft get put driver all (s ∷ left) old mid → Turns mid now (λ a. put (row_of driver s ∷ get a) a)
+  -- some more were added
+  pub leaves_some : (driver : ℕ) (all some left : List StoredSpan) (old mid now : State)
+      → HasLeft get put driver all (some ++ left) old mid → Turns mid now (λ a. put (map (row_of driver) some ++ get a) a)
       → HasLeft get put driver all left old now
-  leaves_one_less driver all left s old mid now was turned = record {
+  leaves_some driver all some left old mid now was turned = record {
     schema = turned.schema;
     rows = λ a stood.
         let it = was.rows a stood in
-        let row = row_of driver s in (
-          row ∷ it.0,
-          rw (table.again it.0 (row ∷ get (put it.0 a)) a, table.got it.0 a) at (turned.stands (put it.0 a) it.1),
-          IsPermutation-trans _ _ _ it.2 (IsPermutation-sym _ _ (IsPermutation-middle (map (row_of driver) left) row it.0)),
+        let rows = map (row_of driver) some in
+        let others = map (row_of driver) left in (
+          rows ++ it.0,
+          rw (table.again it.0 (rows ++ get (put it.0 a)) a, table.got it.0 a) at (turned.stands (put it.0 a) it.1),
+          IsPermutation-trans _ _ _ it.2 (subst (λ both. IsPermutation (both ++ it.0) (others ++ (rows ++ it.0)))
+              (sym (map-append (row_of driver) some left)) (moved rows others it.0)),
         );
   }
 

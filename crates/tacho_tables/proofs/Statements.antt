@@ -1,5 +1,5 @@
 -- What the statements on rows are.
-use Rattle.std.proofs.Common.{◌≡◌, ℕ, List, [], ◌∷◌, codes, false, true, refl, pos, Err}
+use Rattle.std.proofs.Common.{◌≡◌, ℕ, List, [], ◌∷◌, ◌++◌, ◌+◌, codes, false, true, refl, pos, Err}
 use Rattle.sqlite.specs.declared.types.Value.TheVariants.{Null, Int}
 use Rattle.sqlite.specs.Command.{Command}
 use Rattle.sqlite.specs.Schema.{Schema}
@@ -17,7 +17,7 @@ use Rattle.sqlite_resolve.specs.declared.error.CompileError.TheVariants.{NoSuchT
 use Rattle.tacho_tables.specs.Schema.{Layout, Made, Carried, archive_schema, old_schema, no_schema, entry_tree}
 use Rattle.tacho_tables.specs.declared.spans.SpanTable.{SpanTable}
 use Rattle.tacho_tables.specs.declared.spans.SpanTable.TheVariants.{CardSpans, Held}
-use Rattle.tacho_tables.specs.Spans.{rows_of, before_text, begun_text, insert_text}
+use Rattle.tacho_tables.specs.Spans.{rows_of, before_text, begun_text, insert_text, eight_text}
 use Rattle.tacho_tables.proofs.Answers.{simple, first_of}
 use Rattle.tacho_tables.proofs.Places.{place_of, entry_place}
 
@@ -114,6 +114,23 @@ insert_is Made CardSpans = record { meant = refl; plain = (refl, refl) }
 insert_is Carried CardSpans = record { meant = refl; plain = (refl, refl) }
 insert_is Made Held = record { meant = refl; plain = (refl, refl) }
 insert_is Carried Held = record { meant = refl; plain = (refl, refl) }
+
+-- a span of driver ?1 whose other columns are the parameters from a place on, and whose row's number the store gives
+abbrev pub span_at : ℕ → List Term
+span_at place = lit Null ∷ col 0 0 ∷ col 0 place ∷ col 0 (place + 1) ∷ col 0 (place + 2) ∷ []
+
+-- eight of them
+abbrev pub eight : List Term
+eight = span_at 1 ++ (span_at 4 ++ (span_at 7 ++ (span_at 10 ++ (span_at 13 ++ (span_at 16 ++ (span_at 19 ++ span_at 22))))))
+
+-- what the text that adds eight spans means
+pub eight_is : (layout : Layout) (table : SpanTable)
+    → IsStatement (archive_schema layout) (eight_text table) (Insert (place_of table) (Values eight 5))
+unfolding understood everything
+eight_is Made CardSpans = record { meant = refl; plain = (refl, refl) }
+eight_is Carried CardSpans = record { meant = refl; plain = (refl, refl) }
+eight_is Made Held = record { meant = refl; plain = (refl, refl) }
+eight_is Carried Held = record { meant = refl; plain = (refl, refl) }
 
 -- what the text means that reads the latest span that begins before a minute
 pub before_is : (layout : Layout) (table : SpanTable)
@@ -300,9 +317,11 @@ entry_count_is Carried = record { meant = refl; plain = (refl, refl) }
 
 -- ---- entries
 
--- an entry of seven parameters, whose row's number the store gives, and which isn't withdrawn
-abbrev pub new_entry : List Term
-new_entry = lit Null ∷ col 0 0 ∷ col 0 1 ∷ col 0 2 ∷ col 0 3 ∷ col 0 4 ∷ lit (Int (pos 0)) ∷ col 0 5 ∷ col 0 6 ∷ []
+-- an entry of driver ?1 whose other columns are the parameters from a place on, whose row's number the store gives, and which
+-- isn't withdrawn
+abbrev pub entry_at : ℕ → List Term
+entry_at place = lit Null ∷ col 0 0 ∷ col 0 place ∷ col 0 (place + 1) ∷ col 0 (place + 2) ∷ col 0 (place + 3) ∷ lit (Int (pos 0))
+    ∷ col 0 (place + 4) ∷ col 0 (place + 5) ∷ []
 
 -- the text that adds an entry
 abbrev pub entry_insert_text : List ℕ
@@ -311,10 +330,26 @@ entry_insert_text =
 
 -- what it means
 pub entry_insert_is : (layout : Layout)
-    → IsStatement (archive_schema layout) entry_insert_text (Insert (entry_place layout) (Values new_entry 9))
+    → IsStatement (archive_schema layout) entry_insert_text (Insert (entry_place layout) (Values (entry_at 1) 9))
 unfolding understood everything
 entry_insert_is Made = record { meant = refl; plain = (refl, refl) }
 entry_insert_is Carried = record { meant = refl; plain = (refl, refl) }
+
+-- four entries
+abbrev pub four_entries : List Term
+four_entries = entry_at 1 ++ (entry_at 7 ++ (entry_at 13 ++ entry_at 19))
+
+-- the text that adds them
+abbrev pub four_entries_text : List ℕ
+four_entries_text =
+    codes "INSERT INTO entry_rows (driver, number, start, past, mark, withdrawn, author, note) VALUES (?1, ?2, ?3, ?4, ?5, 0, ?6, ?7), (?1, ?8, ?9, ?10, ?11, 0, ?12, ?13), (?1, ?14, ?15, ?16, ?17, 0, ?18, ?19), (?1, ?20, ?21, ?22, ?23, 0, ?24, ?25)"
+
+-- what it means
+pub four_entries_are : (layout : Layout)
+    → IsStatement (archive_schema layout) four_entries_text (Insert (entry_place layout) (Values four_entries 9))
+unfolding understood everything
+four_entries_are Made = record { meant = refl; plain = (refl, refl) }
+four_entries_are Carried = record { meant = refl; plain = (refl, refl) }
 
 -- the old number, the new number and the new columns of an entry that is withdrawn
 abbrev pub withdrawn_shown : List Term

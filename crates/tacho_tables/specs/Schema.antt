@@ -1,6 +1,6 @@
 -- Trusted in part: The schemas of the archive, and the texts that make their tables. Schema 2 has six tables. Schema 1 had `entries` in
 -- the place of `entry_rows`. An archive that was carried over has both.
-use Rattle.std.specs.Prelude.{true, false, [], ◌∷◌, Some, None, codes, List, ℕ, pos}
+use Rattle.std.specs.Prelude.{true, false, [], ◌∷◌, Some, None, codes, List, ℕ, pos, Bool, ◌&&◌, is_some}
 use Rattle.sqlite.specs.Collation.TheVariants.{Binary}
 use Rattle.sqlite.specs.declared.types.Value.TheVariants.{Null, Int}
 use Rattle.sqlite.specs.Table.{Table}
@@ -15,6 +15,7 @@ use Rattle.sqlite_sql.specs.Term.{lit, col, op2}
 use Rattle.sqlite_sql.specs.declared.ops.BinaryOp.TheVariants.{Or, Compare}
 use Rattle.sqlite_sql.specs.declared.ops.CompareOp.TheVariants.{Eq}
 use Rattle.sqlite.specs.Change.{created}
+use Rattle.sqlite_schema.specs.Names.{table_named}
 
 -- a column that is never NULL
 abbrev pub need : List ℕ → Kind → Column
@@ -163,6 +164,21 @@ pub data Layout : Type 0 where
 abbrev pub archive_schema : Layout → Schema
 archive_schema Made = created (created with_card_spans entry_rows) (spans (codes "held"))
 archive_schema Carried = created old_schema entry_rows
+
+-- a schema has a table of each of these names
+abbrev pub has_tables : List (List ℕ) → Schema → Bool
+has_tables [] schema = true
+has_tables (name ∷ names) schema = is_some (table_named schema name) && has_tables names schema
+
+-- the names of the tables that both schemas have, of those of schema 2, and of those of schema 1
+abbrev pub shared_names : List (List ℕ)
+shared_names = codes "meta" ∷ codes "drivers" ∷ codes "downloads" ∷ codes "card_spans" ∷ codes "held" ∷ []
+
+abbrev pub archive_names : List (List ℕ)
+archive_names = codes "entry_rows" ∷ shared_names
+
+abbrev pub old_names : List (List ℕ)
+old_names = codes "entries" ∷ shared_names
 
 -- the numbers by which the store knows the rows of each table; an index has one too
 abbrev pub meta_rows : ℕ

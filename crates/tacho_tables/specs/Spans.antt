@@ -35,3 +35,8 @@ begun_text Held = codes "SELECT start, past, mark FROM held WHERE driver = ?1 AN
 abbrev pub insert_text : SpanTable → List ℕ
 insert_text CardSpans = codes "INSERT INTO card_spans (driver, start, past, mark) VALUES (?1, ?2, ?3, ?4)"
 insert_text Held = codes "INSERT INTO held (driver, start, past, mark) VALUES (?1, ?2, ?3, ?4)"
+
+-- the text that adds eight spans of a driver
+abbrev pub eight_text : SpanTable → List ℕ
+eight_text CardSpans = codes "INSERT INTO card_spans (driver, start, past, mark) VALUES (?1, ?2, ?3, ?4), (?1, ?5, ?6, ?7), (?1, ?8, ?9, ?10), (?1, ?11, ?12, ?13), (?1, ?14, ?15, ?16), (?1, ?17, ?18, ?19), (?1, ?20, ?21, ?22), (?1, ?23, ?24, ?25)"
+eight_text Held = codes "INSERT INTO held (driver, start, past, mark) VALUES (?1, ?2, ?3, ?4), (?1, ?5, ?6, ?7), (?1, ?8, ?9, ?10), (?1, ?11, ?12, ?13), (?1, ?14, ?15, ?16), (?1, ?17, ?18, ?19), (?1, ?20, ?21, ?22), (?1, ?23, ?24, ?25)"

@@ -11,7 +11,8 @@ use Rattle.sqlite_catalog.specs.Listing.{IsSound}
 use Rattle.tacho_tables.specs.declared.rows.StoredSpan.{StoredSpan}
 use Rattle.tacho_tables.specs.declared.rows.StoredDriver.{StoredDriver}
 use Rattle.tacho_tables.specs.declared.rows.StoredEntry.{StoredEntry}
-use Rattle.tacho_tables.specs.Schema.{Layout, archive_schema, old_schema, entry_tree, old_entry_tree}
+use Rattle.tacho_tables.specs.declared.entries.NewEntry.{NewEntry}
+use Rattle.tacho_tables.specs.Schema.{Layout, Made, Carried, archive_schema, old_schema, entry_tree, old_entry_tree}
 use Rattle.tacho_tables.specs.Schema as tree
 use Rattle.tacho_tables.specs.Rows.{AreRowsOf, SpanRow, span_columns, DownloadRow, download_columns, EntryRow, entry_columns, OldEntryRow, old_entry_columns, by_office, DriverRow, AreNumberedRowsOf}
 
@@ -32,6 +33,11 @@ pub record IsArchive (d : Database) : Type 0 where
 abbrev pub IsVersion : ℕ → Trees → Type 0
 IsVersion version db = db tree.meta_rows ≡ (Int (pos 1) ∷ Null ∷ Int (pos version) ∷ []) ∷ []
 
+-- `entries`, the table of schema 1 which an archive keeps that was carried over, has no rows
+abbrev pub HasNoOldEntries : Layout → Trees → Type 0
+HasNoOldEntries Made db = Unit {0}
+HasNoOldEntries Carried db = db old_entry_tree ≡ []
+
 -- what is stored is an archive's database, and stands for these lists; their order means nothing
 pub record HasTables (db : Trees) (a : Tables) : Type 0 where
   pub layout : Layout
@@ -41,6 +47,7 @@ pub record HasTables (db : Trees) (a : Tables) : Type 0 where
   pub downloads : AreRowsOf download_columns (db tree.download_rows) a.downloads
   pub card_spans : AreRowsOf span_columns (db tree.card_span_rows) a.card_spans
   pub entries : AreRowsOf entry_columns (db (entry_tree layout)) a.entries
+  pub old_entries : HasNoOldEntries layout db
   pub held : AreRowsOf span_columns (db tree.held_rows) a.held
 
 -- ---- schema 1
@@ -181,6 +188,10 @@ entry_span_of r = record { start = r.start; past = r.past; mark = r.mark }
 abbrev pub entered_row : ℕ → ℕ → StoredSpan → List ℕ → List ℕ → EntryRow
 entered_row driver number s author note =
     record { driver = driver; number = number; start = s.start; past = s.past; mark = s.mark; withdrawn = 0; author = author; note = note }
+
+-- and one that is given
+abbrev pub new_entry_row : ℕ → NewEntry → EntryRow
+new_entry_row driver e = entered_row driver e.number e.span e.author.now e.note.now
 
 -- tests of drivers: by number, by key, by holder
 abbrev pub has_number : ℕ → DriverRow → Bool

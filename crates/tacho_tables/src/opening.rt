@@ -1,9 +1,10 @@
 //! What a connection is asked before its tables are made, or used.
 
-ghost use Rattle.std.specs.Prelude.{◌≡◌, ◌↔◌, [], false, OnOk, IsErr, IsTrue};
+ghost use Rattle.std.specs.Prelude.{◌≡◌, ◌↔◌, [], false, OnOk, IsErr, IsTrue, is_some};
 ghost use Rattle.sqlite.specs.State.{HasCleanDisk, Survives};
 ghost use Rattle.sqlite.specs.Held.{state};
-ghost use Rattle.tacho_tables.specs.Schema.{no_schema};
+ghost use Rattle.sqlite_schema.specs.Names.{table_named};
+ghost use Rattle.tacho_tables.specs.Schema.{no_schema, has_tables as has_tables_of, shared_names, archive_names, old_names};
 ghost use Rattle.tacho_tables.specs.Calls.{Asks};
 
 use crate::fault::TableFault;
@@ -14,6 +15,38 @@ pub fn has_tables<S: Alter>(conn: &Connection<S>) -> bool
     ensures { (result ≡ false) ↔ ((state S.Store conn.now).now.schema.tables ≡ []) }
 {
     !conn.schema().tables.is_empty()
+}
+
+/// Whether a store has a table of this name.
+fn has_table<S: Alter>(conn: &Connection<S>, name: &str) -> bool
+    ensures { result ≡ is_some (table_named (state S.Store conn.now).now.schema name.now) }
+{
+    conn.schema().table_named(name.as_bytes()).is_some()
+}
+
+/// Whether a store has the tables that both schemas have, by their names.
+fn has_shared<S: Alter>(conn: &Connection<S>) -> bool
+    ensures { result ≡ has_tables_of shared_names (state S.Store conn.now).now.schema }
+{
+    has_table(conn, "meta")
+        && has_table(conn, "drivers")
+        && has_table(conn, "downloads")
+        && has_table(conn, "card_spans")
+        && has_table(conn, "held")
+}
+
+/// Whether a store has the tables of schema 2, by their names.
+pub fn has_archive<S: Alter>(conn: &Connection<S>) -> bool
+    ensures { result ≡ has_tables_of archive_names (state S.Store conn.now).now.schema }
+{
+    has_table(conn, "entry_rows") && has_shared(conn)
+}
+
+/// Whether a store has the tables of schema 1, by their names.
+pub fn has_old_archive<S: Alter>(conn: &Connection<S>) -> bool
+    ensures { result ≡ has_tables_of old_names (state S.Store conn.now).now.schema }
+{
+    has_table(conn, "entries") && has_shared(conn)
 }
 
 /// Asks a connection for the table that says which schema it is, and reads nothing. It answers where the store is open

@@ -4,7 +4,7 @@ ghost use Rattle.std.specs.Prelude.{◌≡◌, ◌++◌, ◌∷◌, map, filter,
 ghost use Rattle.tacho_tables.specs.Rows.{SpanRow};
 ghost use Rattle.tacho_tables.specs.Calls.{Finds, Changes};
 ghost use Rattle.tacho_tables.specs.Tables.{IsLatest, is_before, is_begun, row_of, span_of};
-ghost use Rattle.tacho_tables.specs.Spans.{spans_in, with_spans, before_text, begun_text, insert_text};
+ghost use Rattle.tacho_tables.specs.Spans.{spans_in, with_spans, before_text, begun_text, insert_text, eight_text};
 
 use crate::fault::TableFault;
 use crate::rows::{StoredSpan, first_span, stored_spans};
@@ -63,6 +63,20 @@ impl SpanTable {
             }
         }
     }
+
+    /// The text that adds eight spans.
+    fn eight_text(self) -> &'static str
+        ensures { result.now ≡ eight_text self }
+    {
+        match self {
+            SpanTable::CardSpans => {
+                "INSERT INTO card_spans (driver, start, past, mark) VALUES (?1, ?2, ?3, ?4), (?1, ?5, ?6, ?7), (?1, ?8, ?9, ?10), (?1, ?11, ?12, ?13), (?1, ?14, ?15, ?16), (?1, ?17, ?18, ?19), (?1, ?20, ?21, ?22), (?1, ?23, ?24, ?25)"
+            }
+            SpanTable::Held => {
+                "INSERT INTO held (driver, start, past, mark) VALUES (?1, ?2, ?3, ?4), (?1, ?5, ?6, ?7), (?1, ?8, ?9, ?10), (?1, ?11, ?12, ?13), (?1, ?14, ?15, ?16), (?1, ?17, ?18, ?19), (?1, ?20, ?21, ?22), (?1, ?23, ?24, ?25)"
+            }
+        }
+    }
 }
 
 /// The latest of a driver's spans that begin before a minute, if there is one.
@@ -113,7 +127,29 @@ fn insert<S: Alter>(
     )
 }
 
-/// Adds spans of a driver.
+/// Adds eight spans of a driver by one statement.
+fn insert_eight<S: Alter>(
+    tx: &mut Transaction<'_, S>,
+    table: SpanTable,
+    driver: u32,
+    spans: &[StoredSpan; 8],
+) -> Result<(), TableFault>
+    ensures { Changes S.Store tx.old.conn tx.new.conn result
+        (λ a. with_spans table (map (row_of driver) spans.now ++ spans_in table a) a) }
+{
+    let [a, b, c, d, e, f, g, h] = spans;
+    run(
+        tx,
+        table.eight_text(),
+        params![
+            driver, a.start, a.past, a.mark, b.start, b.past, b.mark, c.start, c.past, c.mark,
+            d.start, d.past, d.mark, e.start, e.past, e.mark, f.start, f.past, f.mark, g.start,
+            g.past, g.mark, h.start, h.past, h.mark
+        ],
+    )
+}
+
+/// Adds spans of a driver, eight at a time as long as there are eight.
 pub fn insert_all<S: Alter>(
     tx: &mut Transaction<'_, S>,
     table: SpanTable,
@@ -123,7 +159,11 @@ pub fn insert_all<S: Alter>(
     ensures { Changes S.Store tx.old.conn tx.new.conn result
         (λ a. with_spans table (map (row_of driver) spans.now ++ spans_in table a) a) }
 {
-    for span in spans {
+    let (eights, rest) = spans.as_chunks::<8>();
+    for eight in eights {
+        insert_eight(tx, table, driver, eight)?;
+    }
+    for span in rest {
         insert(tx, table, driver, span)?;
     }
     Ok(())
