@@ -79,13 +79,15 @@ HasNotRead unread failed f = ⊥
 -- ---- what is left
 
 -- What is wanted was done over all that the reader had, where it tells its bytes, and over some input where it doesn't; or the reader
--- failed: X2, and the archive was asked nothing.
+-- failed: X2, and the archive was asked nothing. X2 comes only there, of any archive. Where words and input are sound, the answer is the
+-- archive's.
 pub record Performed {K : Type 0} (stands : K → State → Type 0) (is_clean is_live : K → Type 0) (leaves : K → List State → Type 0)
-    (old new : K) (want : Want) (driver word : List ℕ) (unread : Option (List ℕ)) (failed : Bool) (answer : Answer) : Type 0 where
+    (is_same : K → K → Type 0) (old new : K) (want : Want) (driver word : List ℕ) (unread : Option (List ℕ)) (failed : Bool) (answer : Answer) : Type 0 where
   pub input : List ℕ
   pub read : IfSome unread (λ all. input ≡ all)
   pub device : failed ≡ true → (answer ≡ Err fault.Device) × (new ≡ old)
-  pub serves : failed ≡ false → Serves stands is_clean is_live leaves old new (is_command want) answer (Performs want driver word input)
+  pub serves : failed ≡ false → Serves stands is_clean is_live leaves is_same old new (is_command want) answer (Performs want driver word input)
+  pub x2 : answer ≡ Err fault.Device → failed ≡ true
   pub asks : failed ≡ false → AsksOnly old new (AreSound want driver word input) (AreFaulty want driver word input) answer
 
 -- the reply to an answer

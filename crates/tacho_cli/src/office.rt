@@ -21,7 +21,8 @@ const INPUT_LIMIT: usize = 262_144;
 /// memory, the store or a device failed. After a refusal, or where the reader failed, the archive is as before; where the
 /// writer failed the job has acted, and a beginning of its text is written. What a command tells is kept. A job without an input, or one
 /// whose arguments have a fault, leaves the reader as it was, and so waits for nobody. Where the arguments or the input have a fault, the archive
-/// isn't asked, so that the store's fault (S12) comes only after them.
+/// isn't asked, so that the store's fault (S12) comes only after them. Where both are sound, no fault of theirs is told but E8, also where
+/// the store fails; and X2 comes only where a device failed.
 pub fn perform<K: Keeper, R: Source, W: Sink>(
     alloc: Global,
     job: Job<'_>,
@@ -33,7 +34,7 @@ pub fn perform<K: Keeper, R: Source, W: Sink>(
     requires reader { R.has_failed reader.old ≡ false }
     requires writer { W.has_failed writer.old ≡ false }
     ensures performed { OfDesk job.entry (λ want driver word.
-        Replied (Performed K.stands K.is_clean K.is_live K.leaves keeper.old keeper.new want driver word
+        Replied (Performed K.stands K.is_clean K.is_live K.leaves K.is_same keeper.old keeper.new want driver word
         (R.unread reader.old) (R.has_failed reader.new))
         (W.has_failed writer.new) (W.written writer.old) (W.written writer.new) result) }
     ensures alone { has_input job.entry ≡ false → reader.new ≡ reader.old }
@@ -65,7 +66,7 @@ fn answer<K: Keeper, R: Source>(
     reader: &mut R,
 ) -> Result<Text, Fault>
     requires reader { R.has_failed reader.old ≡ false }
-    ensures performed { Performed K.stands K.is_clean K.is_live K.leaves keeper.old keeper.new want driver.now word.now
+    ensures performed { Performed K.stands K.is_clean K.is_live K.leaves K.is_same keeper.old keeper.new want driver.now word.now
         (R.unread reader.old) (R.has_failed reader.new) (answer_of result) }
     ensures alone { has_text want ≡ false → reader.new ≡ reader.old }
     ensures words { (fault : FaultValue) → IsTask want Caller.Office driver.now word.now (Err fault) → reader.new ≡ reader.old }

@@ -26,6 +26,7 @@ use Rattle.tacho_desk.specs.Fault.{IsGivenUp, store_fault}
 use Rattle.tacho_desk.specs.Tasks.{AreOfEach, IsOfAll, OfStretches}
 use Rattle.tacho_desk.specs.Told.{Long}
 use Rattle.tacho_desk.specs.declared.fault.Fault.TheVariants as fault
+use Rattle.tacho_desk.proofs.MeantLemmas.{StaysSame, same_after}
 use Rattle.tacho_desk.proofs.ServeLemmas.{refusal_of}
 use Rattle.tacho_desk.proofs.ShownLemmas.{agree_in}
 
@@ -74,10 +75,11 @@ none_unknown s drivers i x are within is =
 
 -- it was only read, and these are its drivers
 pub record IsRead {K : Type 0} (stands : K → State → Type 0) (is_clean is_live : K → Type 0) (leaves : K → List State → Type 0)
-    (old new : K) (drivers : List DriverSummary) : Type 0 where
+    (is_same : K → K → Type 0) (old new : K) (drivers : List DriverSummary) : Type 0 where
   pub clean : is_clean new → is_clean old
   pub live : is_clean new → is_live new
   pub state : is_clean new → (s : State) → stands old s → stands new s
+  pub same : is_clean new → (s : State) → stands old s → is_same old new
   pub crash : is_clean new → (past : List State) → leaves old past → leaves new past
   pub listed : is_clean new → (s : State) → stands old s → AreSummaries s (map told_summary drivers)
 
@@ -128,16 +130,18 @@ pub none_yet : (head : List ℕ) (Is : Summary → Driver → List ℕ → Type 
     → text ≡ head → IsSoFar head Is drivers 0 text s
 none_yet head Is drivers text s is = ([], is ∙ sym (append-nil head), refl)
 
-module _ {K : Type 0} (stands : K → State → Type 0) (is_clean is_live : K → Type 0) (leaves : K → List State → Type 0) where
+module _ {K : Type 0} (stands : K → State → Type 0) (is_clean is_live : K → Type 0) (leaves : K → List State → Type 0)
+    (is_same : K → K → Type 0) where
   -- one more reading
-  pub read_on : {is_same : K → K → Type 0} {A B : Type 0} (view : A → B) (old now new : K) (drivers : List DriverSummary) (x : A)
-      (told : State → Result B StoreFault) → IsRead stands is_clean is_live leaves old now drivers
+  pub read_on : StaysSame is_live is_same → {A B : Type 0} (view : A → B) (old now new : K) (drivers : List DriverSummary) (x : A)
+      (told : State → Result B StoreFault) → IsRead stands is_clean is_live leaves is_same old now drivers
       → Reads stands is_clean is_live leaves is_same view now new (Ok x) told
-      → IsRead stands is_clean is_live leaves old new drivers
-  read_on view old now new drivers x told read on = record {
+      → IsRead stands is_clean is_live leaves is_same old new drivers
+  read_on same_then view old now new drivers x told read on = record {
     clean = λ clean. read.clean (on.clean clean);
-    live = λ clean. on.live clean;
+    live = λ clean. on.live clean tt;
     state = λ clean s st. on.state clean s (read.state (on.clean clean) s st);
+    same = same_after same_then read.same read.state on;
     crash = λ clean past left. on.crash clean past (read.crash (on.clean clean) past left);
     listed = λ clean s st. read.listed (on.clean clean) s st;
   }
@@ -148,12 +152,12 @@ module _ {K : Type 0} (stands : K → State → Type 0) (is_clean is_live : K �
   given_up f told there (inl is) = cc
   given_up f told there (inr up) = up
 
-  pub not_read : {is_same : K → K → Type 0} {A : Type 0} (view : A → Unit {0}) (old now new : K) (drivers : List DriverSummary) (i : ℕ)
+  pub not_read : StaysSame is_live is_same → {A : Type 0} (view : A → Unit {0}) (old now new : K) (drivers : List DriverSummary) (i : ℕ)
       (x : DriverSummary) (f : StoreFault) (Does : State → Doing) → i < length drivers → x ≡ get_or drivers i x
-      → IsRead stands is_clean is_live leaves old now drivers
+      → IsRead stands is_clean is_live leaves is_same old now drivers
       → Reads stands is_clean is_live leaves is_same view now new (Err f) (reported x.number)
-      → Serves stands is_clean is_live leaves old new false (Err (store_fault f)) Does
-  not_read view old now new drivers i x f Does within item read on = record {
+      → Serves stands is_clean is_live leaves is_same old new false (Err (store_fault f)) Does
+  not_read same_then view old now new drivers i x f Does within item read on = record {
     clean = λ clean. read.clean (on.clean clean);
     live = λ clean. tt;
     done = λ clean s st.
@@ -162,26 +166,28 @@ module _ {K : Type 0} (stands : K → State → Type 0) (is_clean is_live : K �
           on.state clean s here,
           inr (given_up f (reported x.number s) there (refusal_of view f (reported x.number s) (on.answer clean s here))),
         );
+    same = λ unchanged. same_after same_then read.same read.state on;
     kept = λ is. cc;
     crash = λ clean s past st left. inl (on.crash clean past (read.crash (on.clean clean) past left));
   }
 
   -- there was no memory for the text
   pub no_memory : (old now : K) (drivers : List DriverSummary) (Does : State → Doing)
-      → IsRead stands is_clean is_live leaves old now drivers → Serves stands is_clean is_live leaves old now false (Err fault.Memory) Does
+      → IsRead stands is_clean is_live leaves is_same old now drivers → Serves stands is_clean is_live leaves is_same old now false (Err fault.Memory) Does
   no_memory old now drivers Does read = record {
     clean = λ clean. read.clean clean;
     live = λ clean. tt;
     done = λ clean s st. (read.state clean s st, inr tt);
+    same = λ unchanged. read.same;
     kept = λ is. cc;
     crash = λ clean s past st left. inl (read.crash clean past left);
   }
 
   -- the text of all drivers
   pub all_read : (head : List ℕ) (Is : Summary → Driver → List ℕ → Type 0) (old now : K) (drivers : List DriverSummary) (count : ℕ)
-      (text : List ℕ) → length drivers ≤ count → IsRead stands is_clean is_live leaves old now drivers
+      (text : List ℕ) → length drivers ≤ count → IsRead stands is_clean is_live leaves is_same old now drivers
       → (is_clean now → (s : State) → stands old s → IsSoFar head Is drivers count text s)
-      → Serves stands is_clean is_live leaves old now false (Ok (Long text))
+      → Serves stands is_clean is_live leaves is_same old now false (Ok (Long text))
       (λ s answer after. IsText (IsOfAll head Is s) answer × (after ≡ s))
   all_read head Is old now drivers count text end read rows = record {
     clean = λ clean. read.clean clean;
@@ -194,6 +200,7 @@ module _ {K : Type 0} (stands : K → State → Type 0) (is_clean is_live : K �
         refl,
       ),
     );
+    same = λ unchanged. read.same;
     kept = λ is. cc;
     crash = λ clean s past st left. inl (read.crash clean past left);
   }

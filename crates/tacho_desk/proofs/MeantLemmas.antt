@@ -1,7 +1,9 @@
 -- A call that does one thing does another that it means, or nothing; and what a fault answers.
 use Rattle.std.proofs.Common.{◌≡◌, ◌⊎◌, inl, inr, Bool, List, Result, Ok, Err, ap}
 use Rattle.std.specs.Prelude.{IsErrAnd}
+use Rattle.tacho_state.specs.Acts.{Reads}
 use Rattle.tacho_state.specs.State.{State}
+use Rattle.tacho_state.specs.declared.fault.StoreFault.{StoreFault}
 use Rattle.tacho_desk.specs.Doing.{Doing, Done, IsKept, Serves, Stops}
 use Rattle.tacho_desk.specs.Fault.{IsGivenUp}
 use Rattle.tacho_desk.specs.Told.{Answer, answer_of}
@@ -40,26 +42,48 @@ stops_as leaves past A B (Err f) h (inr a) = inr (a.0, (a.1.0, a.1.1, h a.1.0 a.
 
 -- ---- at an archive
 
-module _ {K : Type 0} (stands : K → State → Type 0) (is_clean is_live : K → Type 0) (leaves : K → List State → Type 0) where
+-- What is kept is the same as itself, and where two calls that follow each other change no row, both together change none: what a
+-- `Keeper` has as `same_self` and `same_then`.
+abbrev pub IsSameAsItself : {K : Type 0} → (K → K → Type 0) → Type 0
+IsSameAsItself {K = K} is_same = (keeper : K) → is_same keeper keeper
+
+abbrev pub StaysSame : {K : Type 0} → (K → Type 0) → (K → K → Type 0) → Type 0
+StaysSame {K = K} is_live is_same =
+    (first second third : K) → (is_live third → is_live second) → is_same first second → is_same second third → is_same first third
+
+-- the rows stay in a reading after calls in which they stayed
+pub same_after : {K A B : Type 0} {stands : K → State → Type 0} {is_clean is_live : K → Type 0} {leaves : K → List State → Type 0}
+    {is_same : K → K → Type 0} {view : A → B} {old now new : K} {result : Result A StoreFault} {told : State → Result B StoreFault}
+    → StaysSame is_live is_same → (is_clean now → (s : State) → stands old s → is_same old now)
+    → (is_clean now → (s : State) → stands old s → stands now s)
+    → Reads stands is_clean is_live leaves is_same view now new result told → is_clean new → (s : State) → stands old s → is_same old new
+same_after {old = old} {now = now} {new = new} same_then same state on clean s st =
+    let before = on.clean clean in
+    same_then old now new (on.was_live clean) (same before s st) (on.same clean s (state before s st))
+
+module _ {K : Type 0} (stands : K → State → Type 0) (is_clean is_live : K → Type 0) (leaves : K → List State → Type 0)
+    (is_same : K → K → Type 0) where
   -- a call that does the one does the other
   pub served_as : (old new : K) (command : Bool) (answer : Answer) (A B : State → Doing)
       → ((s : State) (answer : Answer) (after : State) → A s answer after → B s answer after)
-      → Serves stands is_clean is_live leaves old new command answer A → Serves stands is_clean is_live leaves old new command answer B
+      → Serves stands is_clean is_live leaves is_same old new command answer A → Serves stands is_clean is_live leaves is_same old new command answer B
   served_as old new command answer A B h d = record {
     clean = d.clean;
     live = d.live;
     done = λ clean s st. done_as (stands new) s (A s) (B s) answer (h s) (d.done clean s st);
+    same = d.same;
     kept = λ is clean s st. kept_as (stands new) (leaves new) (A s) (B s) answer (h s) (d.kept is clean s st);
     crash = λ clean s past st l. stops_as (leaves new) past (A s) (B s) answer (h s) (d.crash clean s past st l);
   }
 
   -- nothing was done, since this fault is wanted, or memory failed
-  pub nothing : (keeper : K) (command : Bool) (f : Fault) (Does : State → Doing) → ((s : State) → Does s (Err f) s ⊎ IsGivenUp f)
-      → Serves stands is_clean is_live leaves keeper keeper command (Err f) Does
-  nothing keeper command f Does h = record {
+  pub nothing : IsSameAsItself is_same → (keeper : K) (command : Bool) (f : Fault) (Does : State → Doing) → ((s : State) → Does s (Err f) s ⊎ IsGivenUp f)
+      → Serves stands is_clean is_live leaves is_same keeper keeper command (Err f) Does
+  nothing same_self keeper command f Does h = record {
     clean = λ clean. clean;
     live = λ clean. tt;
     done = λ clean s st. (st, h s);
+    same = λ unchanged clean s st. same_self keeper;
     kept = λ is clean s st. tt;
     crash = λ clean s past st l. inl l;
   }

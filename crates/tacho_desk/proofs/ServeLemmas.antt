@@ -18,12 +18,12 @@ use Rattle.tacho_sheet.specs.Entries.{IsRead}
 use Rattle.tacho_sheet.specs.Rows.{IsReaderFault}
 use Rattle.tacho_sheet.specs.declared.fault.SheetFault.{SheetFault}
 use Rattle.tacho_sheet.specs.declared.fault.SheetFault.TheVariants as sheet
-use Rattle.tacho_desk.specs.Doing.{AsksOnly, Done, IsUnread, Serves, Steps, Stops, in_words}
+use Rattle.tacho_desk.specs.Doing.{AsksOnly, Done, IsOfArchive, IsUnread, Serves, Steps, Stops, in_words}
 use Rattle.tacho_desk.specs.Fault.{IsGivenUp, sheet_fault, store_fault}
 use Rattle.tacho_desk.specs.Tasks.{Enters, EntersRead, Imports, IsFaulty, IsSound, OrCsv, Registers, RegistersRead, imported_told}
 use Rattle.tacho_desk.specs.Told.{Answer, Told}
 use Rattle.tacho_desk.specs.declared.task.Task.TheVariants as task
-use Rattle.tacho_desk.proofs.MeantLemmas.{nothing, served_as}
+use Rattle.tacho_desk.proofs.MeantLemmas.{IsSameAsItself, nothing, served_as}
 use Rattle.tacho_desk.proofs.StepLemmas.{Keeps, TellsNoFile, imported_keeps}
 
 -- what an import answered
@@ -76,6 +76,24 @@ refusal_of view store.UnknownDownload told h = inl h
 refusal_of view store.OldSchema told h = inl h
 refusal_of view store.Full told h = inl h
 
+-- what a store answers is no fault of the input or of a device, unless it is the fault of a file
+of_store : (f : StoreFault) → IsOfArchive (Err (store_fault f)) ⊎ ((g : CardFault) × (f ≡ store.Card g))
+of_store store.Memory = inl tt
+of_store store.Store = inl tt
+of_store (store.Card g) = inr (g, refl)
+of_store store.DriverTaken = inl tt
+of_store store.KeyTaken = inl tt
+of_store store.HolderTaken = inl tt
+of_store store.UnknownDriver = inl tt
+of_store store.NotYourCard = inl tt
+of_store (store.Contradiction m) = inl tt
+of_store store.UnknownEntry = inl tt
+of_store store.AlreadyWithdrawn = inl tt
+of_store store.NotMonday = inl tt
+of_store store.UnknownDownload = inl tt
+of_store store.OldSchema = inl tt
+of_store store.Full = inl tt
+
 -- a text of CSV that could not be read: for want of memory, or by E8, or by its first fault
 read_fault : {A : Type 0} (Is : Result A SheetFault → Type 0) (f : SheetFault) → IsReaderFault f ⊎ Is (Err f)
     → OrCsv Is (Err f) ⊎ (f ≡ sheet.Memory)
@@ -98,7 +116,8 @@ unread : {A : Type 0} (Is : Result A SheetFault → Type 0) (f : SheetFault) →
 unread Is f (inl is) = inl (f, is, refl)
 unread Is f (inr e) = inr (ap sheet_fault e)
 
-module _ {K : Type 0} (stands : K → State → Type 0) (is_clean is_live : K → Type 0) (leaves : K → List State → Type 0) where
+module _ {K : Type 0} (stands : K → State → Type 0) (is_clean is_live : K → Type 0) (leaves : K → List State → Type 0)
+    (is_same : K → K → Type 0) where
   -- ---- CSV
 
   -- where memory was wanting the text was given up
@@ -108,10 +127,10 @@ module _ {K : Type 0} (stands : K → State → Type 0) (is_clean is_live : K �
   given_up Is f (inr e) = inr (subst (λ (g : SheetFault). IsGivenUp (sheet_fault g)) (sym e) tt)
 
   -- a text of hours that was not read
-  pub unread_lines : (keeper : K) (n : ℕ) (input : List ℕ) (f : SheetFault) → IsReaderFault f ⊎ IsRead input (Err f)
-      → Serves stands is_clean is_live leaves keeper keeper true (Err (sheet_fault f)) (Enters n input)
-  unread_lines keeper n input f h =
-      nothing stands is_clean is_live leaves keeper true (sheet_fault f) (Enters n input) (λ s. said s (given_up (IsRead input) f (read_fault (IsRead input) f h)))
+  pub unread_lines : IsSameAsItself is_same → (keeper : K) (n : ℕ) (input : List ℕ) (f : SheetFault) → IsReaderFault f ⊎ IsRead input (Err f)
+      → Serves stands is_clean is_live leaves is_same keeper keeper true (Err (sheet_fault f)) (Enters n input)
+  unread_lines same_self keeper n input f h =
+      nothing stands is_clean is_live leaves is_same same_self keeper true (sheet_fault f) (Enters n input) (λ s. said s (given_up (IsRead input) f (read_fault (IsRead input) f h)))
     where
       said : (s : State) → OrCsv (IsRead input) (Err f) ⊎ IsGivenUp (sheet_fault f)
           → Enters n input s (Err (sheet_fault f)) s ⊎ IsGivenUp (sheet_fault f)
@@ -120,17 +139,17 @@ module _ {K : Type 0} (stands : K → State → Type 0) (is_clean is_live : K �
 
   -- one that was read and entered
   pub read_lines : (old new : K) (answer : Answer) (n : ℕ) (input : List ℕ) (lines : List EntryLine)
-      → IsRead input (Ok lines) → Serves stands is_clean is_live leaves old new true answer (λ s. EntersRead n s (Ok lines))
-      → Serves stands is_clean is_live leaves old new true answer (Enters n input)
+      → IsRead input (Ok lines) → Serves stands is_clean is_live leaves is_same old new true answer (λ s. EntersRead n s (Ok lines))
+      → Serves stands is_clean is_live leaves is_same old new true answer (Enters n input)
   read_lines old new answer n input lines is d =
-      served_as stands is_clean is_live leaves old new true answer (λ s. EntersRead n s (Ok lines)) (Enters n input)
+      served_as stands is_clean is_live leaves is_same old new true answer (λ s. EntersRead n s (Ok lines)) (Enters n input)
       (λ s answer after does. (Ok lines, inl is, does)) d
 
   -- a driver's text that was not read
-  pub unread_driver : (keeper : K) (input : List ℕ) (f : SheetFault) → IsReaderFault f ⊎ IsDriverRead input (Err f)
-      → Serves stands is_clean is_live leaves keeper keeper true (Err (sheet_fault f)) (Registers input)
-  unread_driver keeper input f h =
-      nothing stands is_clean is_live leaves keeper true (sheet_fault f) (Registers input) (λ s. said s (given_up (IsDriverRead input) f (read_fault (IsDriverRead input) f h)))
+  pub unread_driver : IsSameAsItself is_same → (keeper : K) (input : List ℕ) (f : SheetFault) → IsReaderFault f ⊎ IsDriverRead input (Err f)
+      → Serves stands is_clean is_live leaves is_same keeper keeper true (Err (sheet_fault f)) (Registers input)
+  unread_driver same_self keeper input f h =
+      nothing stands is_clean is_live leaves is_same same_self keeper true (sheet_fault f) (Registers input) (λ s. said s (given_up (IsDriverRead input) f (read_fault (IsDriverRead input) f h)))
     where
       said : (s : State) → OrCsv (IsDriverRead input) (Err f) ⊎ IsGivenUp (sheet_fault f)
           → Registers input s (Err (sheet_fault f)) s ⊎ IsGivenUp (sheet_fault f)
@@ -139,10 +158,10 @@ module _ {K : Type 0} (stands : K → State → Type 0) (is_clean is_live : K �
 
   -- one that was read and registered
   pub read_driver : (old new : K) (answer : Answer) (input : List ℕ) (r : Registration)
-      → IsDriverRead input (Ok r) → Serves stands is_clean is_live leaves old new true answer (λ s. RegistersRead s (Ok r))
-      → Serves stands is_clean is_live leaves old new true answer (Registers input)
+      → IsDriverRead input (Ok r) → Serves stands is_clean is_live leaves is_same old new true answer (λ s. RegistersRead s (Ok r))
+      → Serves stands is_clean is_live leaves is_same old new true answer (Registers input)
   read_driver old new answer input r is d =
-      served_as stands is_clean is_live leaves old new true answer (λ s. RegistersRead s (Ok r)) (Registers input)
+      served_as stands is_clean is_live leaves is_same old new true answer (λ s. RegistersRead s (Ok r)) (Registers input)
       (λ s answer after does. (Ok r, inl is, does)) d
 
 -- the text of CSV was refused, and the archive was asked nothing
@@ -157,16 +176,17 @@ unasked_driver keeper input f h = inr (refl, unread (IsDriverRead input) f (read
 
 -- a step of the archive
 module _ {K : Type 0} (stands : K → State → Type 0) (is_clean is_live : K → Type 0) (leaves : K → List State → Type 0)
-    {is_same : K → K → Type 0} {is_same_of : ℕ → K → K → Type 0} where
+    (is_same : K → K → Type 0) {is_same_of : ℕ → K → K → Type 0} where
   -- a step that was refused
   pub refused_by : {A B : Type 0} (view : A → B) (words : B → Told) (old new : K) (f : StoreFault) (step : State → Turn B) → ((s : State) → Keeps s (step s))
       → ((g : CardFault) → f ≡ store.Card g → is_clean new → (s : State) (past : List State) → stands old s → leaves old past → leaves new past)
       → Acts stands is_clean is_live leaves is_same is_same_of view old new (Err f) step
-      → Serves stands is_clean is_live leaves old new true (Err (store_fault f)) (λ s. Steps words (step s))
+      → Serves stands is_clean is_live leaves is_same old new true (Err (store_fault f)) (λ s. Steps words (step s))
   refused_by {A = A} {B = B} view words old new f step keeps of_file acts = record {
     clean = acts.clean;
     live = λ clean. tt;
     done = λ clean s st. done_by s (acts.state clean s st) (refusal_of view f (step s).answer (acts.answer clean s st));
+    same = λ unchanged clean s st. acts.same clean s st;
     kept = λ is clean s st. tt;
     crash = λ clean s past st l. stopped_by clean s past st l (refusal f);
   }
@@ -188,11 +208,12 @@ module _ {K : Type 0} (stands : K → State → Type 0) (is_clean is_live : K �
   -- a step that was taken
   pub taken_by : {A B : Type 0} (view : A → B) (words : B → Told) (old new : K) (x : A) (step : State → Turn B)
       → Acts stands is_clean is_live leaves is_same is_same_of view old new (Ok x) step
-      → Serves stands is_clean is_live leaves old new true (Ok (words (view x))) (λ s. Steps words (step s))
+      → Serves stands is_clean is_live leaves is_same old new true (Ok (words (view x))) (λ s. Steps words (step s))
   taken_by view words old new x step acts = record {
     clean = acts.clean;
-    live = acts.live;
+    live = λ clean. acts.live clean tt;
     done = λ clean s st. ((step s).after, acts.state clean s st, told clean s st);
+    same = λ unchanged. absurd unchanged;
     kept = λ is clean s st. ((step s).after, acts.state clean s st, told clean s st, acts.kept clean s st);
     crash = λ clean s past st l. inr ((step s).after, told clean s st, acts.crash clean s past st l);
   }
@@ -204,7 +225,7 @@ module _ {K : Type 0} (stands : K → State → Type 0) (is_clean is_live : K �
   pub refused_without_file : {A B : Type 0} (view : A → B) (words : B → Told) (old new : K) (f : StoreFault) (step : State → Turn B) → ((s : State) → Keeps s (step s))
       → ((s : State) → TellsNoFile (step s).answer)
       → Acts stands is_clean is_live leaves is_same is_same_of view old new (Err f) step
-      → Serves stands is_clean is_live leaves old new true (Err (store_fault f)) (λ s. Steps words (step s))
+      → Serves stands is_clean is_live leaves is_same old new true (Err (store_fault f)) (λ s. Steps words (step s))
   refused_without_file {B = B} view words old new f step keeps none acts =
       refused_by view words old new f step keeps (λ g e clean s past st l. absurd (none s g (said f g e (step s).answer (acts.answer clean s st)))) acts
     where
@@ -220,11 +241,11 @@ module _ {K : Type 0} (stands : K → State → Type 0) (is_clean is_live : K �
       → ((content : Result Content CardFault) → FileTells p input content
       → Acts stands is_clean is_live leaves is_same is_same_of (λ (done : Imported). done) old new (Err f)
       (imported (caller_number caller) (part_number p) input content))
-      → Serves stands is_clean is_live leaves old new true (Err (store_fault f)) (Imports caller p input)
+      → Serves stands is_clean is_live leaves is_same old new true (Err (store_fault f)) (Imports caller p input)
   import_refused old new caller p input f unreadable readable acts =
       let c = some_content p input in
       let step = imported (caller_number caller) (part_number p) input c.0 in
-      served_as stands is_clean is_live leaves old new true (Err (store_fault f)) (λ s. Steps imported_told (step s))
+      served_as stands is_clean is_live leaves is_same old new true (Err (store_fault f)) (λ s. Steps imported_told (step s))
       (Imports caller p input)
       (λ s answer after does. (c.0, c.1, does))
       (refused_by (λ (done : Imported). done) imported_told old new f step
@@ -237,30 +258,37 @@ module _ {K : Type 0} (stands : K → State → Type 0) (is_clean is_live : K �
       → ((content : Result Content CardFault) → FileTells p input content
       → Acts stands is_clean is_live leaves is_same is_same_of (λ (done : Imported). done) old new (Ok x)
       (imported (caller_number caller) (part_number p) input content))
-      → Serves stands is_clean is_live leaves old new true (Ok (imported_told x)) (Imports caller p input)
+      → Serves stands is_clean is_live leaves is_same old new true (Ok (imported_told x)) (Imports caller p input)
   import_taken old new caller p input x acts =
       let c = some_content p input in
       let step = imported (caller_number caller) (part_number p) input c.0 in
-      served_as stands is_clean is_live leaves old new true (Ok (imported_told x)) (λ s. Steps imported_told (step s))
+      served_as stands is_clean is_live leaves is_same old new true (Ok (imported_told x)) (λ s. Steps imported_told (step s))
       (Imports caller p input)
       (λ s answer after does. (c.0, c.1, does))
       (taken_by (λ (done : Imported). done) imported_told old new x step (acts c.0 c.1))
 
--- a card file with a fault asks the archive nothing
+-- a card file with a fault asks the archive nothing, and no other is answered with one
 pub import_asks : {K : Type 0} (old new : K) (caller : Caller) (p : Part) (input : List ℕ) (f : StoreFault)
     → ((g : CardFault) → FileTells p input (Err g) → ((answered f ≡ Err store.Memory) ⊎ (answered f ≡ Err (store.Card g))) × (new ≡ old))
+    → ((g : CardFault) → answered f ≡ Err (store.Card g) → FileTells p input (Err g))
     → AsksOnly old new (IsSound (task.Import caller p) input) (IsFaulty (task.Import caller p) input) (Err (store_fault f))
-import_asks old new caller p input f unreadable = by (some_content p input).0 (some_content p input).1
+import_asks old new caller p input f unreadable readable = by (some_content p input).0 (some_content p input).1 (of_store f)
   where
     said : (g : CardFault) → FileTells p input (Err g) → (answered f ≡ Err store.Memory) ⊎ (answered f ≡ Err (store.Card g))
         → IsUnread (IsFaulty (task.Import caller p) input) (Err (store_fault f))
     said g is (inl e) = (let same : f ≡ store.Memory = cc in inr (ap store_fault same))
     said g is (inr e) = (let same : f ≡ store.Card g = cc in inl (g, is, ap store_fault same))
 
-    by : (content : Result Content CardFault) → FileTells p input content
+    faulty_file : (g : CardFault) → FileTells p input (Err g)
         → AsksOnly old new (IsSound (task.Import caller p) input) (IsFaulty (task.Import caller p) input) (Err (store_fault f))
-    by (Ok content) is = inl (content, is)
-    by (Err g) is = (let un = unreadable g is in inr (un.1, said g is un.0))
+    faulty_file g is = (let un = unreadable g is in inr (un.1, said g is un.0))
+
+    by : (content : Result Content CardFault) → FileTells p input content
+        → IsOfArchive (Err (store_fault f)) ⊎ ((g : CardFault) × (f ≡ store.Card g))
+        → AsksOnly old new (IsSound (task.Import caller p) input) (IsFaulty (task.Import caller p) input) (Err (store_fault f))
+    by (Ok content) is (inl archive) = inl ((content, is), archive)
+    by (Ok content) is (inr (g, e)) = faulty_file g (readable g (ap answered e))
+    by (Err g) is of = faulty_file g is
 
 -- nor does one that went in, or was there, have a fault
 pub import_sound : {K : Type 0} (old new : K) (caller : Caller) (p : Part) (input : List ℕ) (x : Imported) (told : Told)
@@ -274,7 +302,7 @@ import_sound old new caller p input x told unreadable = by (some_content p input
 
     by : (content : Result Content CardFault) → FileTells p input content
         → AsksOnly old new (IsSound (task.Import caller p) input) (IsFaulty (task.Import caller p) input) (Ok told)
-    by (Ok content) is = inl (content, is)
+    by (Ok content) is = inl ((content, is), tt)
     by (Err g) is = absurd (never g (unreadable g is).0)
 
 -- no reader failed where there are lines

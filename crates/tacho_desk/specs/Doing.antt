@@ -1,9 +1,10 @@
 -- Trusted: What is wanted of a task: what it tells, or its fault, and the state of the archive after it.
-use Rattle.std.specs.Prelude.{◌≡◌, ◌⊎◌, ◌∷◌, [], Bool, true, List, Option, None, Some, Result, Ok, Err, OnOk, ℕ}
+use Rattle.std.specs.Prelude.{◌≡◌, ◌⊎◌, ◌∷◌, [], Bool, true, false, List, Option, None, Some, Result, Ok, Err, OnOk, ℕ}
 use Rattle.tacho_state.specs.declared.fault.StoreFault.{StoreFault}
 use Rattle.tacho_state.specs.declared.fault.StoreFault.TheVariants as store
 use Rattle.tacho_state.specs.State.{Driver, State, driver_of}
 use Rattle.tacho_state.specs.Steps.{Turn}
+use Rattle.tacho_sheet.specs.declared.fault.Fault.TheVariants as told
 use Rattle.tacho_desk.specs.declared.fault.Fault.{Fault}
 use Rattle.tacho_desk.specs.declared.fault.Fault.TheVariants as fault
 use Rattle.tacho_desk.specs.Fault.{IsGivenUp, store_fault}
@@ -64,13 +65,20 @@ Stops leaves past Does (Ok told) = leaves past ⊎ ((after : State) × Does (Ok 
 Stops leaves past Does (Err f) =
     leaves past ⊎ (IsGivenUp f × ((answer : Answer) × (after : State) × Does answer after × leaves (after ∷ past)))
 
--- A call does what is wanted at the archive, which has not become clean by it, and is live where something was told; what a command
--- told is kept.
+-- it is a reading, or it is refused, and so changes nothing
+abbrev pub ChangesNothing : Bool → Answer → Type 0
+ChangesNothing false answer = Unit {0}
+ChangesNothing true (Ok told) = ⊥
+ChangesNothing true (Err f) = Unit {0}
+
+-- A call does what is wanted at the archive, which has not become clean by it, and is live where something was told. A reading and a
+-- refusal leave every row as it was. What a command told is kept.
 pub record Serves {K : Type 0} (stands : K → State → Type 0) (is_clean is_live : K → Type 0) (leaves : K → List State → Type 0)
-    (old new : K) (command : Bool) (answer : Answer) (Does : State → Doing) : Type 0 where
+    (is_same : K → K → Type 0) (old new : K) (command : Bool) (answer : Answer) (Does : State → Doing) : Type 0 where
   pub clean : is_clean new → is_clean old
   pub live : is_clean new → OnOk answer (is_live new)
   pub done : is_clean new → (s : State) → stands old s → Done (stands new) s (Does s) answer
+  pub same : ChangesNothing command answer → is_clean new → (s : State) → stands old s → is_same old new
   pub kept : command ≡ true → is_clean new → (s : State) → stands old s → IsKept (stands new) (leaves new) (Does s) answer
   pub crash : is_clean new → (s : State) (past : List State) → stands old s → leaves old past
       → Stops (leaves new) past (Does s) answer
@@ -82,6 +90,15 @@ abbrev pub IsUnread : (Fault → Type 0) → Answer → Type 0
 IsUnread IsFaulty (Ok told) = ⊥
 IsUnread IsFaulty (Err f) = IsFaulty f ⊎ (f ≡ fault.Memory)
 
--- Either the input is sound; or the archive was asked nothing, and the answer has nothing to do with it.
+-- what an archive answers about a sound input: a text, its own fault, or that it is out of memory; so no fault of the input or of a device
+abbrev pub IsOfArchive : Answer → Type 0
+IsOfArchive (Ok told) = Unit {0}
+IsOfArchive (Err fault.Device) = ⊥
+IsOfArchive (Err fault.Memory) = Unit {0}
+IsOfArchive (Err (fault.Told (told.Store (store.Card f)))) = ⊥
+IsOfArchive (Err (fault.Told (told.Store f))) = Unit {0}
+IsOfArchive (Err (fault.Told f)) = ⊥
+
+-- Either the input is sound, and the archive answers; or it was asked nothing, and the answer has nothing to do with it.
 abbrev pub AsksOnly : {K : Type 0} → K → K → Type 0 → (Fault → Type 0) → Answer → Type 0
-AsksOnly old new IsSound IsFaulty answer = IsSound ⊎ ((new ≡ old) × IsUnread IsFaulty answer)
+AsksOnly old new IsSound IsFaulty answer = (IsSound × IsOfArchive answer) ⊎ ((new ≡ old) × IsUnread IsFaulty answer)

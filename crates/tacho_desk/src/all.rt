@@ -1,7 +1,7 @@
 //! The texts that are read of a month of all drivers.
 
 ghost use Rattle.std.specs.Prelude.{false};
-ghost use Rattle.tacho_desk.specs.Doing.{Serves};
+ghost use Rattle.tacho_desk.specs.Doing.{IsOfArchive, Serves};
 ghost use Rattle.tacho_desk.specs.Tasks.{ShowsMonthOfAll};
 ghost use Rattle.tacho_desk.specs.Told.{answer_of};
 ghost use Rattle.tacho_desk.specs.declared.want.MonthOfAll.TheVariants as all;
@@ -21,7 +21,9 @@ pub(crate) fn show_month<K: Keeper>(
     month: Month,
     reading: MonthOfAll,
 ) -> Result<Text, Fault>
-    ensures { Serves K.stands K.is_clean K.is_live K.leaves keeper.old keeper.new false (answer_of result) (ShowsMonthOfAll reading month) }
+    ensures serves { Serves K.stands K.is_clean K.is_live K.leaves K.is_same keeper.old keeper.new false (answer_of result)
+        (ShowsMonthOfAll reading month) }
+    ensures archive { IsOfArchive (answer_of result) }
 {
     match reading {
         MonthOfAll::Overview => overview(alloc, keeper, month),
@@ -31,8 +33,9 @@ pub(crate) fn show_month<K: Keeper>(
 
 /// A row for each driver: what they hold in a month, what is examined of it, and how many breaches of each rule.
 fn overview<K: Keeper>(alloc: Global, keeper: &mut K, month: Month) -> Result<Text, Fault>
-    ensures { Serves K.stands K.is_clean K.is_live K.leaves keeper.old keeper.new false (answer_of result)
+    ensures serves { Serves K.stands K.is_clean K.is_live K.leaves K.is_same keeper.old keeper.new false (answer_of result)
         (ShowsMonthOfAll all.Overview month) }
+    ensures archive { IsOfArchive (answer_of result) }
 {
     let (start, past) = month_range(month);
     let drivers = keeper.drivers(alloc)?;
@@ -54,8 +57,9 @@ fn overview<K: Keeper>(alloc: Global, keeper: &mut K, month: Month) -> Result<Te
 
 /// A row for each breach of a month, driver by driver.
 fn incidents<K: Keeper>(alloc: Global, keeper: &mut K, month: Month) -> Result<Text, Fault>
-    ensures { Serves K.stands K.is_clean K.is_live K.leaves keeper.old keeper.new false (answer_of result)
+    ensures serves { Serves K.stands K.is_clean K.is_live K.leaves K.is_same keeper.old keeper.new false (answer_of result)
         (ShowsMonthOfAll all.Incidents month) }
+    ensures archive { IsOfArchive (answer_of result) }
 {
     let drivers = keeper.drivers(alloc)?;
     let mut text = incident_head(alloc)?;

@@ -2,7 +2,7 @@
 
 ghost use Rattle.std.specs.Prelude.{◌≡◌, Ok, true};
 ghost use Rattle.tacho_state.specs.Batch.{IsBatch};
-ghost use Rattle.tacho_desk.specs.Doing.{AsksOnly, Serves};
+ghost use Rattle.tacho_desk.specs.Doing.{AsksOnly, IsOfArchive, Serves};
 ghost use Rattle.tacho_desk.specs.Tasks.{Enters, EntersRead, Imports, IsFaulty, IsSound, Rebases, Registers, RegistersRead, Withdraws, entered_told, imported_told};
 ghost use Rattle.tacho_desk.specs.declared.task.Task.TheVariants as task;
 ghost use Rattle.tacho_desk.specs.Told.{answer_of, told_of};
@@ -24,7 +24,7 @@ pub(crate) fn register<K: Keeper>(
     keeper: &mut K,
     input: &[u8],
 ) -> Result<Text, Fault>
-    ensures serves { Serves K.stands K.is_clean K.is_live K.leaves keeper.old keeper.new true (answer_of result) (Registers input.now) }
+    ensures serves { Serves K.stands K.is_clean K.is_live K.leaves K.is_same keeper.old keeper.new true (answer_of result) (Registers input.now) }
     ensures asks { AsksOnly keeper.old keeper.new (IsSound task.Register input.now) (IsFaulty task.Register input.now) (answer_of result) }
 {
     let driver = read_driver(alloc, input)?;
@@ -33,8 +33,9 @@ pub(crate) fn register<K: Keeper>(
 
 /// Adds a driver.
 fn register_driver<K: Keeper>(keeper: &mut K, driver: &Driver) -> Result<Text, Fault>
-    ensures { Serves K.stands K.is_clean K.is_live K.leaves keeper.old keeper.new true (answer_of result)
+    ensures serves { Serves K.stands K.is_clean K.is_live K.leaves K.is_same keeper.old keeper.new true (answer_of result)
         (λ s. RegistersRead s (Ok driver.now)) }
+    ensures archive { IsOfArchive (answer_of result) }
 {
     keeper.register(driver)?;
     Ok(Text::Added(registered_line(driver.number())))
@@ -48,7 +49,7 @@ pub(crate) fn import<K: Keeper>(
     part: Part,
     input: &[u8],
 ) -> Result<Text, Fault>
-    ensures serves { Serves K.stands K.is_clean K.is_live K.leaves keeper.old keeper.new true (answer_of result)
+    ensures serves { Serves K.stands K.is_clean K.is_live K.leaves K.is_same keeper.old keeper.new true (answer_of result)
         (Imports caller part input.now) }
     ensures asks { AsksOnly keeper.old keeper.new (IsSound (task.Import caller part) input.now) (IsFaulty (task.Import caller part) input.now)
         (answer_of result) }
@@ -75,7 +76,7 @@ pub(crate) fn enter<K: Keeper>(
     driver: u32,
     input: &[u8],
 ) -> Result<Text, Fault>
-    ensures serves { Serves K.stands K.is_clean K.is_live K.leaves keeper.old keeper.new true (answer_of result) (Enters driver input.now) }
+    ensures serves { Serves K.stands K.is_clean K.is_live K.leaves K.is_same keeper.old keeper.new true (answer_of result) (Enters driver input.now) }
     ensures asks { AsksOnly keeper.old keeper.new (IsSound (task.Enter driver) input.now) (IsFaulty (task.Enter driver) input.now) (answer_of result) }
 {
     let lines = read_entries(alloc, input)?;
@@ -90,8 +91,9 @@ fn enter_lines<K: Keeper>(
     lines: &[EntryLine],
 ) -> Result<Text, Fault>
     requires { IsBatch lines.now }
-    ensures { Serves K.stands K.is_clean K.is_live K.leaves keeper.old keeper.new true (answer_of result)
+    ensures serves { Serves K.stands K.is_clean K.is_live K.leaves K.is_same keeper.old keeper.new true (answer_of result)
         (λ s. EntersRead driver s (Ok lines.now)) }
+    ensures archive { IsOfArchive (answer_of result) }
 {
     let entered = keeper.enter(alloc, driver, lines)?;
     Ok(entered_text(entered))
@@ -116,7 +118,8 @@ pub(crate) fn withdraw<K: Keeper>(
     driver: u32,
     number: u32,
 ) -> Result<Text, Fault>
-    ensures { Serves K.stands K.is_clean K.is_live K.leaves keeper.old keeper.new true (answer_of result) (Withdraws driver number) }
+    ensures serves { Serves K.stands K.is_clean K.is_live K.leaves K.is_same keeper.old keeper.new true (answer_of result) (Withdraws driver number) }
+    ensures archive { IsOfArchive (answer_of result) }
 {
     keeper.withdraw(alloc, driver, number)?;
     Ok(Text::Line(withdrawn_line(number)))
@@ -124,7 +127,8 @@ pub(crate) fn withdraw<K: Keeper>(
 
 /// Sets the day from which a driver is examined.
 pub(crate) fn rebase<K: Keeper>(keeper: &mut K, driver: u32, base: BaseDay) -> Result<Text, Fault>
-    ensures { Serves K.stands K.is_clean K.is_live K.leaves keeper.old keeper.new true (answer_of result) (Rebases driver base) }
+    ensures serves { Serves K.stands K.is_clean K.is_live K.leaves K.is_same keeper.old keeper.new true (answer_of result) (Rebases driver base) }
+    ensures archive { IsOfArchive (answer_of result) }
 {
     let day = base.day();
     keeper.rebase(driver, day)?;

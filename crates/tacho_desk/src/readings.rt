@@ -1,7 +1,7 @@
 //! The texts that are read of a driver.
 
 ghost use Rattle.std.specs.Prelude.{false};
-ghost use Rattle.tacho_desk.specs.Doing.{Serves};
+ghost use Rattle.tacho_desk.specs.Doing.{IsOfArchive, Serves};
 ghost use Rattle.tacho_desk.specs.Tasks.{ShowsDrivers, ShowsFile, ShowsMonth, ShowsReading};
 ghost use Rattle.tacho_desk.specs.Told.{answer_of};
 ghost use Rattle.tacho_desk.specs.declared.want.MonthReading.TheVariants as of_month;
@@ -26,7 +26,9 @@ pub(crate) fn show<K: Keeper>(
     driver: u32,
     reading: Reading,
 ) -> Result<Text, Fault>
-    ensures { Serves K.stands K.is_clean K.is_live K.leaves keeper.old keeper.new false (answer_of result) (ShowsReading reading driver) }
+    ensures serves { Serves K.stands K.is_clean K.is_live K.leaves K.is_same keeper.old keeper.new false (answer_of result)
+        (ShowsReading reading driver) }
+    ensures archive { IsOfArchive (answer_of result) }
 {
     match reading {
         Reading::Breaches => breaches(alloc, keeper, driver),
@@ -46,7 +48,9 @@ pub(crate) fn show_month<K: Keeper>(
     month: Month,
     reading: MonthReading,
 ) -> Result<Text, Fault>
-    ensures { Serves K.stands K.is_clean K.is_live K.leaves keeper.old keeper.new false (answer_of result) (ShowsMonth reading month driver) }
+    ensures serves { Serves K.stands K.is_clean K.is_live K.leaves K.is_same keeper.old keeper.new false (answer_of result)
+        (ShowsMonth reading month driver) }
+    ensures archive { IsOfArchive (answer_of result) }
 {
     match reading {
         MonthReading::Spans => spans(alloc, keeper, driver, month),
@@ -57,7 +61,9 @@ pub(crate) fn show_month<K: Keeper>(
 
 /// What a driver holds in a month, as CSV.
 fn spans<K: Keeper>(alloc: Global, keeper: &mut K, driver: u32, month: Month) -> Result<Text, Fault>
-    ensures { Serves K.stands K.is_clean K.is_live K.leaves keeper.old keeper.new false (answer_of result) (ShowsMonth of_month.Spans month driver) }
+    ensures serves { Serves K.stands K.is_clean K.is_live K.leaves K.is_same keeper.old keeper.new false (answer_of result)
+        (ShowsMonth of_month.Spans month driver) }
+    ensures archive { IsOfArchive (answer_of result) }
 {
     let (start, past) = month_range(month);
     let line = keeper.line_within(alloc, driver, start, past)?;
@@ -66,7 +72,9 @@ fn spans<K: Keeper>(alloc: Global, keeper: &mut K, driver: u32, month: Month) ->
 
 /// The minutes of a month that a driver doesn't hold.
 fn gaps<K: Keeper>(alloc: Global, keeper: &mut K, driver: u32, month: Month) -> Result<Text, Fault>
-    ensures { Serves K.stands K.is_clean K.is_live K.leaves keeper.old keeper.new false (answer_of result) (ShowsMonth of_month.Gaps month driver) }
+    ensures serves { Serves K.stands K.is_clean K.is_live K.leaves K.is_same keeper.old keeper.new false (answer_of result)
+        (ShowsMonth of_month.Gaps month driver) }
+    ensures archive { IsOfArchive (answer_of result) }
 {
     let (start, past) = month_range(month);
     let line = keeper.line_within(alloc, driver, start, past)?;
@@ -75,7 +83,9 @@ fn gaps<K: Keeper>(alloc: Global, keeper: &mut K, driver: u32, month: Month) -> 
 
 /// The sheet of a driver's month.
 fn sheet<K: Keeper>(alloc: Global, keeper: &mut K, driver: u32, month: Month) -> Result<Text, Fault>
-    ensures { Serves K.stands K.is_clean K.is_live K.leaves keeper.old keeper.new false (answer_of result) (ShowsMonth of_month.Sheet month driver) }
+    ensures serves { Serves K.stands K.is_clean K.is_live K.leaves K.is_same keeper.old keeper.new false (answer_of result)
+        (ShowsMonth of_month.Sheet month driver) }
+    ensures archive { IsOfArchive (answer_of result) }
 {
     let (start, past) = month_range(month);
     let name = keeper.name(alloc, driver)?;
@@ -87,7 +97,9 @@ fn sheet<K: Keeper>(alloc: Global, keeper: &mut K, driver: u32, month: Month) ->
 
 /// The breaches of a driver.
 fn breaches<K: Keeper>(alloc: Global, keeper: &mut K, driver: u32) -> Result<Text, Fault>
-    ensures { Serves K.stands K.is_clean K.is_live K.leaves keeper.old keeper.new false (answer_of result) (ShowsReading reading.Breaches driver) }
+    ensures serves { Serves K.stands K.is_clean K.is_live K.leaves K.is_same keeper.old keeper.new false (answer_of result)
+        (ShowsReading reading.Breaches driver) }
+    ensures archive { IsOfArchive (answer_of result) }
 {
     let report = keeper.report(alloc, driver)?;
     Ok(Text::Long(breach_text(alloc, &report)?))
@@ -95,7 +107,9 @@ fn breaches<K: Keeper>(alloc: Global, keeper: &mut K, driver: u32) -> Result<Tex
 
 /// The weekly rests that a driver is owed.
 fn owed<K: Keeper>(alloc: Global, keeper: &mut K, driver: u32) -> Result<Text, Fault>
-    ensures { Serves K.stands K.is_clean K.is_live K.leaves keeper.old keeper.new false (answer_of result) (ShowsReading reading.Owed driver) }
+    ensures serves { Serves K.stands K.is_clean K.is_live K.leaves K.is_same keeper.old keeper.new false (answer_of result)
+        (ShowsReading reading.Owed driver) }
+    ensures archive { IsOfArchive (answer_of result) }
 {
     let report = keeper.report(alloc, driver)?;
     Ok(Text::Long(owed_text(alloc, &report)?))
@@ -103,7 +117,9 @@ fn owed<K: Keeper>(alloc: Global, keeper: &mut K, driver: u32) -> Result<Text, F
 
 /// The entries of a driver.
 fn entries<K: Keeper>(alloc: Global, keeper: &mut K, driver: u32) -> Result<Text, Fault>
-    ensures { Serves K.stands K.is_clean K.is_live K.leaves keeper.old keeper.new false (answer_of result) (ShowsReading reading.Entries driver) }
+    ensures serves { Serves K.stands K.is_clean K.is_live K.leaves K.is_same keeper.old keeper.new false (answer_of result)
+        (ShowsReading reading.Entries driver) }
+    ensures archive { IsOfArchive (answer_of result) }
 {
     let entries = keeper.entries(alloc, driver)?;
     Ok(Text::Long(entry_text(alloc, &entries)?))
@@ -111,7 +127,9 @@ fn entries<K: Keeper>(alloc: Global, keeper: &mut K, driver: u32) -> Result<Text
 
 /// The breaches of a driver by stretches, and what isn't examined.
 fn stretches<K: Keeper>(alloc: Global, keeper: &mut K, driver: u32) -> Result<Text, Fault>
-    ensures { Serves K.stands K.is_clean K.is_live K.leaves keeper.old keeper.new false (answer_of result) (ShowsReading reading.Stretches driver) }
+    ensures serves { Serves K.stands K.is_clean K.is_live K.leaves K.is_same keeper.old keeper.new false (answer_of result)
+        (ShowsReading reading.Stretches driver) }
+    ensures archive { IsOfArchive (answer_of result) }
 {
     let stretches = keeper.stretches(alloc, driver)?;
     Ok(Text::Long(stretch_text(alloc, &stretches)?))
@@ -119,7 +137,9 @@ fn stretches<K: Keeper>(alloc: Global, keeper: &mut K, driver: u32) -> Result<Te
 
 /// The weekly rests that a driver is owed, by stretches.
 fn debts<K: Keeper>(alloc: Global, keeper: &mut K, driver: u32) -> Result<Text, Fault>
-    ensures { Serves K.stands K.is_clean K.is_live K.leaves keeper.old keeper.new false (answer_of result) (ShowsReading reading.Debts driver) }
+    ensures serves { Serves K.stands K.is_clean K.is_live K.leaves K.is_same keeper.old keeper.new false (answer_of result)
+        (ShowsReading reading.Debts driver) }
+    ensures archive { IsOfArchive (answer_of result) }
 {
     let stretches = keeper.stretches(alloc, driver)?;
     Ok(Text::Long(debt_text(alloc, &stretches)?))
@@ -127,7 +147,9 @@ fn debts<K: Keeper>(alloc: Global, keeper: &mut K, driver: u32) -> Result<Text, 
 
 /// The form for the minutes that a driver doesn't hold.
 fn form<K: Keeper>(alloc: Global, keeper: &mut K, driver: u32) -> Result<Text, Fault>
-    ensures { Serves K.stands K.is_clean K.is_live K.leaves keeper.old keeper.new false (answer_of result) (ShowsReading reading.Form driver) }
+    ensures serves { Serves K.stands K.is_clean K.is_live K.leaves K.is_same keeper.old keeper.new false (answer_of result)
+        (ShowsReading reading.Form driver) }
+    ensures archive { IsOfArchive (answer_of result) }
 {
     let stretches = keeper.stretches(alloc, driver)?;
     let (base, end) = range_of(&stretches);
@@ -142,14 +164,17 @@ pub(crate) fn file<K: Keeper>(
     driver: u32,
     number: u32,
 ) -> Result<Text, Fault>
-    ensures { Serves K.stands K.is_clean K.is_live K.leaves keeper.old keeper.new false (answer_of result) (ShowsFile driver number) }
+    ensures serves { Serves K.stands K.is_clean K.is_live K.leaves K.is_same keeper.old keeper.new false (answer_of result)
+        (ShowsFile driver number) }
+    ensures archive { IsOfArchive (answer_of result) }
 {
     Ok(Text::File(keeper.download(alloc, driver, number)?))
 }
 
 /// The list of all drivers.
 pub(crate) fn drivers<K: Keeper>(alloc: Global, keeper: &mut K) -> Result<Text, Fault>
-    ensures { Serves K.stands K.is_clean K.is_live K.leaves keeper.old keeper.new false (answer_of result) ShowsDrivers }
+    ensures serves { Serves K.stands K.is_clean K.is_live K.leaves K.is_same keeper.old keeper.new false (answer_of result) ShowsDrivers }
+    ensures archive { IsOfArchive (answer_of result) }
 {
     let drivers = keeper.drivers(alloc)?;
     Ok(Text::Long(driver_text(alloc, &drivers)?))

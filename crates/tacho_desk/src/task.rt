@@ -63,14 +63,15 @@ pub enum Task {
 }
 
 /// Does a task at an archive, over its input. A refusal changes nothing; nor does want of memory or a failure of the store. What
-/// a command tells is kept. The archive is asked only about an input that is sound.
+/// a command tells is kept. The archive is asked only about an input that is sound, and then no fault of the input is answered, whatever
+/// the store does. E8 alone may be answered of any text of CSV.
 pub fn carry_out<K: Keeper>(
     alloc: Global,
     keeper: &mut K,
     task: Task,
     input: &[u8],
 ) -> Result<Text, Fault>
-    ensures serves { Serves K.stands K.is_clean K.is_live K.leaves keeper.old keeper.new (is_command (want_of task)) (answer_of result)
+    ensures serves { Serves K.stands K.is_clean K.is_live K.leaves K.is_same keeper.old keeper.new (is_command (want_of task)) (answer_of result)
         (Does task input.now) }
     ensures asks { AsksOnly keeper.old keeper.new (IsSound task input.now) (IsFaulty task input.now) (answer_of result) }
 {

@@ -1,6 +1,6 @@
--- What holds of each place of the table holds of the place that a path names: so a driver is granted only his own, and what is posted is a
--- command.
-use Rattle.std.proofs.Common.{◌≡◌, ◌-◌, ◌∷◌, ◌==◌, ltb, ℕ, zero, suc, Bool, true, false, cond, List, [], length, Option, None, Some, IfSome, Result, Ok, Err, IfOk, option_map, refl, subst, if◌then◌else◌}
+-- What holds of each place of the table holds of the place that a path names: so a driver is granted only his own, and commands are what is
+-- posted.
+use Rattle.std.proofs.Common.{◌≡◌, ◌-◌, ◌∷◌, ◌==◌, ltb, ℕ, zero, suc, Bool, true, false, cond, List, [], length, Option, None, Some, IfSome, Result, Ok, Err, IfOk, not, option_map, refl, subst, if◌then◌else◌}
 use Rattle.matchit.specs.Order.{placed}
 use Rattle.matchit.specs.Route.{Scan, parse_route}
 use Rattle.matchit.specs.Router.{RouteOf}
@@ -15,7 +15,7 @@ use Rattle.tacho_message.specs.declared.method.Method.TheVariants as method
 use Rattle.tacho_message.specs.declared.reply.Status.{Status}
 use Rattle.tacho_message.specs.declared.reply.Status.TheVariants as status
 use Rattle.tacho_http.specs.Access.{OwnWants, PostsAreCommands}
-use Rattle.tacho_http.specs.Asked.{Wish, granted, is_post, same_asker, wish_at}
+use Rattle.tacho_http.specs.Asked.{Wish, granted, is_post, same_asker, wish_at, wish_of}
 use Rattle.tacho_http.specs.Routes.{Named, Rows, TableRow, named_at, named_by, rows_of_table, the_table, with_read, with_route}
 use Rattle.tacho_http.specs.declared.places.Asker.{Asker}
 use Rattle.tacho_http.specs.declared.places.Asker.TheVariants.{Driver}
@@ -168,10 +168,10 @@ each_posts : AllKeys Posts the_table
 each_posts = assumption refl
 
 -- also where it is another's
-fits_more : (mine : Bool) (offer : Option Want) → fits is_command true offer ≡ true → fits is_command mine offer ≡ true
-fits_more true offer h = h
-fits_more false None h = refl
-fits_more false (Some want) h = refl
+fits_more : (holds : Want → Bool) (mine : Bool) (offer : Option Want) → fits holds true offer ≡ true → fits holds mine offer ≡ true
+fits_more holds true offer h = h
+fits_more holds false None h = refl
+fits_more holds false (Some want) h = refl
 
 -- what is granted to a POST at a place
 posted_at : (a : Asker) (m : Option Method) (found : Option Named) → is_post m ≡ true → IfSome found (λ named. Posts named.place) → Grants is_command (wish_at a m found)
@@ -179,8 +179,40 @@ posted_at a m None posts h = tt
 posted_at a None (Some named) posts h = tt
 posted_at a (Some method.Get) (Some named) posts h = cc
 posted_at a (Some method.Post) (Some named) posts h =
-    of_offer is_command a named named.place.post (fits_more (same_asker a named.place.asker) named.place.post h)
+    of_offer is_command a named named.place.post (fits_more is_command (same_asker a named.place.asker) named.place.post h)
 
 -- and so at any path
 pub posts_are_commands : PostsAreCommands
 posts_are_commands a text path w e posts = subst (Grants is_command) e (posted_at a (method_of text) (named_at path) posts (in_route Posts path each_posts))
+
+-- ---- a command is posted, whoever asks
+
+abbrev is_reading : Want → Bool
+is_reading want = not (is_command want)
+
+abbrev Reads : Place → Type 0
+Reads place = fits is_reading true place.get ≡ true
+
+-- each row offers readings alone to a GET
+each_reads : AllKeys Reads the_table
+each_reads = assumption refl
+
+-- what is granted at a place to a request that isn't a POST
+read_at : (a : Asker) (m : Option Method) (found : Option Named) → is_post m ≡ false → IfSome found (λ named. Reads named.place)
+    → Grants is_reading (wish_at a m found)
+read_at a m None reads h = tt
+read_at a None (Some named) reads h = tt
+read_at a (Some method.Get) (Some named) reads h =
+    of_offer is_reading a named named.place.get (fits_more is_reading (same_asker a named.place.asker) named.place.get h)
+read_at a (Some method.Post) (Some named) reads h = cc
+
+-- a reading is no command
+no_command : (command : Bool) → not command ≡ true → command ≡ false
+no_command false reads = refl
+no_command true reads = cc
+
+-- and so at any path
+pub commands_are_posts : (a : Asker) (text path : List ℕ) (w : Wish) → wish_of a text path ≡ Ok w → is_post (method_of text) ≡ false
+    → is_command w.want ≡ false
+commands_are_posts a text path w e is =
+    no_command (is_command w.want) (subst (Grants is_reading) e (read_at a (method_of text) (named_at path) is (in_route Reads path each_reads)))

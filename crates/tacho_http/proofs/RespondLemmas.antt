@@ -1,7 +1,7 @@
 -- What the functions of a request come to, by what their parts did.
 use Rattle.std.proofs.Common.{◌≡◌, ◌==◌, ◌||◌, ◌++◌, ◌∙◌, ◌∷◌, if◌then◌else◌, codes, nat_lt, ℕ, List, [], Bool, true, false, Option, Some, None, Result, Ok, Err, bytes_eq, refl, sym, ap, subst, ◌⊎◌, inl, inr, append_assoc}
 use Rattle.std.specs.Io.KnownBytes.{Consumes}
-use Rattle.std.specs.Prelude.{IfSome, IsErr, OnOk, MatchResult}
+use Rattle.std.specs.Prelude.{IfOk, IfSome, IsErr, OnOk, MatchResult}
 use Rattle.httparse.specs.Grammar.{RequestHead}
 use Rattle.httparse.proofs.GrammarLemmas.{request_unique}
 use Rattle.tacho_time.specs.declared.device.Failed.{Failed}
@@ -15,16 +15,17 @@ use Rattle.tacho_state.specs.declared.fault.StoreFault.TheVariants as store
 use Rattle.tacho_card.specs.declared.fault.CardFault.TheVariants as card
 use Rattle.tacho_sheet.specs.declared.fault.Fault.TheVariants as told
 use Rattle.tacho_sheet.specs.declared.fault.SheetFault.TheVariants as sheet
-use Rattle.tacho_desk.specs.Doing.{Done, IsKept, Serves, Stops as TaskStops}
+use Rattle.tacho_desk.specs.Doing.{ChangesNothing, Done, IsKept, Serves, Stops as TaskStops}
 use Rattle.tacho_desk.specs.Fault.{IsGivenUp}
 use Rattle.tacho_desk.specs.Tasks.{Does}
-use Rattle.tacho_desk.specs.Told.{Answer}
+use Rattle.tacho_desk.specs.Told.{Added, Answer, File, Line, Long, Told}
 use Rattle.tacho_desk.specs.Words.{IsTask}
 use Rattle.tacho_desk.specs.declared.fault.Fault.{Fault}
 use Rattle.tacho_desk.specs.declared.fault.Fault.TheVariants as fault
 use Rattle.tacho_desk.specs.declared.task.Task.{Task}
+use Rattle.tacho_desk.proofs.MeantLemmas.{IsSameAsItself, StaysSame}
 use Rattle.tacho_message.specs.Body.{IsBody, IsCutShort}
-use Rattle.tacho_message.specs.Head.{BeginsWith}
+use Rattle.tacho_message.specs.Head.{BeginsWith, HasNoHead}
 use Rattle.tacho_message.specs.Fields.{length_told, values_under}
 use Rattle.tacho_message.specs.Length.{body_coded, body_length, body_told, body_within, method_of}
 use Rattle.tacho_message.specs.Request.{fields_of, key_of}
@@ -32,7 +33,7 @@ use Rattle.tacho_message.specs.declared.method.Method.{Method}
 use Rattle.tacho_message.specs.declared.method.Method.TheVariants as method
 use Rattle.tacho_message.specs.declared.reply.Status.{Status}
 use Rattle.tacho_message.specs.declared.reply.Status.TheVariants as status
-use Rattle.tacho_http.specs.Answer.{Answered, Answers, Asks, Exchanged, Given, Gives, IsBegun, IsPosted, IsUnfinished, IsWritten, LacksMore, MayAsk, Responds, Stopped, Stops, is_done}
+use Rattle.tacho_http.specs.Answer.{Answered, Answers, Asks, Exchanged, Given, Gives, IsBegun, IsPosted, IsUndone, IsUnfinished, IsWritten, LacksMore, MayAsk, Responds, Stopped, Stops, is_done}
 use Rattle.tacho_http.specs.Asked.{Wish, asker_of, granted, is_post, offered, same_asker, wish_at, wish_of}
 use Rattle.tacho_http.specs.Reply.{Reply, fixed, reply_of, reply_to}
 use Rattle.tacho_http.specs.Routes.{Named, named_at}
@@ -72,6 +73,13 @@ stopped_as : (leaves : List State → Type 0) (past : List State) (A B : Reactio
     → Stopped leaves past A result → Stopped leaves past B result
 stopped_as leaves past A B (Ok response) h g = stops_as leaves past A B (reply_of response) h g
 stopped_as leaves past A B (Err failed) h g = g
+
+-- what is undone by a test is undone by one that fails with it
+undone_as : (command other : Bool) (result : Result Response Failed) → (other ≡ false → command ≡ false)
+    → IsUndone other result → IsUndone command result
+undone_as command other (Ok response) less (inl none) = inl (less none)
+undone_as command other (Ok response) less (inr none) = inr none
+undone_as command other (Err failed) less undone = undone
 
 -- where a task gave up, the reply is 503
 gave_up : (f : Fault) → IsGivenUp f → reply_to (Err f) ≡ fixed status.Unavailable
@@ -195,6 +203,21 @@ is_live_behind : {P : Type 0} (answer : Answer) → OnOk answer P → is_done (r
 is_live_behind (Ok text) live done = live
 is_live_behind (Err f) live done = never_done f _ refl done
 
+-- what was told tells that something is done
+told_done : (text : Told) → is_done (reply_to (Ok text)).status ≡ true
+told_done (Added line) = refl
+told_done (Line line) = refl
+told_done (Long text) = refl
+told_done (File bytes) = refl
+
+-- so that a task has changed nothing where it is no command, or where the reply doesn't tell that anything is done
+changes_nothing : (command : Bool) (answer : Answer) (s : Status) → s ≡ (reply_to answer).status
+    → (command ≡ false) ⊎ (is_done s ≡ false) → ChangesNothing command answer
+changes_nothing false answer s same undone = tt
+changes_nothing true (Err f) s same undone = tt
+changes_nothing true (Ok text) s same (inl none) = cc
+changes_nothing true (Ok text) s same (inr none) = (let done = told_done text in let said = ap is_done same in cc)
+
 -- ---- what is refused before anything is done
 
 -- a refusal that doesn't tell that something is done
@@ -301,19 +324,21 @@ some_left : (unread : Option (List ℕ)) → (left : List ℕ) × IfSome unread 
 some_left None = ([], tt)
 some_left (Some all) = (all, refl)
 
-module _ {K : Type 0} (stands : K → State → Type 0) (is_clean is_live : K → Type 0) (leaves : K → List State → Type 0) where
+module _ {K : Type 0} (stands : K → State → Type 0) (is_clean is_live : K → Type 0) (leaves : K → List State → Type 0)
+    (is_same : K → K → Type 0) (same_self : IsSameAsItself is_same) where
   -- one meaning for another
   pub responds_as : (old new : K) (command other : Bool) (unread : Option (List ℕ)) (result : Result Response Failed) (A B : List ℕ → State → Reaction)
-      → (other ≡ true → command ≡ true)
+      → (other ≡ true → command ≡ true) → (other ≡ false → command ≡ false)
       → ((left : List ℕ) (s : State) (reply : Reply) (after : State) → A left s reply after → B left s reply after)
-      → Responds stands is_clean is_live leaves old new command unread result A
-      → Responds stands is_clean is_live leaves old new other unread result B
-  responds_as old new command other unread result A B more h r = record {
+      → Responds stands is_clean is_live leaves is_same old new command unread result A
+      → Responds stands is_clean is_live leaves is_same old new other unread result B
+  responds_as old new command other unread result A B more less h r = record {
     left = r.left;
     told = r.told;
     clean = r.clean;
     live = r.live;
     given = λ c s st. given_as (stands new) (leaves new) command other s (A r.left s) (B r.left s) result more (h r.left s) (r.given c s st);
+    same = λ undone. r.same (undone_as command other result less undone);
     crash = λ c s past st l. stopped_as (leaves new) past (A r.left s) (B r.left s) result (h r.left s) (r.crash c s past st l);
   }
 
@@ -321,26 +346,27 @@ module _ {K : Type 0} (stands : K → State → Type 0) (is_clean is_live : K �
   nothing_of : (keeper : K) (command : Bool) (unread : Option (List ℕ)) (left : List ℕ) → IfSome unread (λ all. left ≡ all)
       → (response : Response) (Wants : List ℕ → State → Reaction)
       → is_done response.status ≡ false → ((s : State) → Wants left s (reply_of response) s)
-      → Responds stands is_clean is_live leaves keeper keeper command unread (Ok response) Wants
+      → Responds stands is_clean is_live leaves is_same keeper keeper command unread (Ok response) Wants
   nothing_of keeper command unread left told response Wants none h = record {
     left = left;
     told = told;
     clean = λ c. c;
     live = λ c done. (let x = none in cc);
     given = λ c s st. inl (s, st, h s, λ is done. (let x = none in cc));
+    same = λ undone c s st. same_self keeper;
     crash = λ c s past st l. inl l;
   }
 
   -- over whatever is left
   pub nothing : (keeper : K) (command : Bool) (unread : Option (List ℕ)) (response : Response) (Wants : List ℕ → State → Reaction)
       → is_done response.status ≡ false → ((left : List ℕ) (s : State) → Wants left s (reply_of response) s)
-      → Responds stands is_clean is_live leaves keeper keeper command unread (Ok response) Wants
+      → Responds stands is_clean is_live leaves is_same keeper keeper command unread (Ok response) Wants
   nothing keeper command unread response Wants none h =
       let i = some_left unread in nothing_of keeper command unread i.0 i.1 response Wants none (h i.0)
 
   -- memory was wanting
   pub unavailable : (keeper : K) (command : Bool) (unread : Option (List ℕ)) (response : Response) (Wants : List ℕ → State → Reaction) → reply_of response ≡ fixed status.Unavailable
-      → Responds stands is_clean is_live leaves keeper keeper command unread (Ok response) Wants
+      → Responds stands is_clean is_live leaves is_same keeper keeper command unread (Ok response) Wants
   unavailable keeper command unread response Wants is =
       let i = some_left unread in record {
         left = i.0;
@@ -348,12 +374,13 @@ module _ {K : Type 0} (stands : K → State → Type 0) (is_clean is_live : K �
         clean = λ c. c;
         live = λ c done. not_available (reply_of response) is done;
         given = λ c s st. inr (is, st);
+        same = λ undone c s st. same_self keeper;
         crash = λ c s past st l. inl l;
       }
 
   -- the reader failed
   pub unread_body : (keeper : K) (command : Bool) (unread : Option (List ℕ)) (failed : Failed) (Wants : List ℕ → State → Reaction)
-      → Responds stands is_clean is_live leaves keeper keeper command unread (Err failed) Wants
+      → Responds stands is_clean is_live leaves is_same keeper keeper command unread (Err failed) Wants
   unread_body keeper command unread failed Wants =
       let i = some_left unread in record {
         left = i.0;
@@ -361,6 +388,7 @@ module _ {K : Type 0} (stands : K → State → Type 0) (is_clean is_live : K �
         clean = λ c. c;
         live = λ c. tt;
         given = λ c s st. st;
+        same = λ undone c s st. same_self keeper;
         crash = λ c s past st l. l;
       }
 
@@ -369,7 +397,7 @@ module _ {K : Type 0} (stands : K → State → Type 0) (is_clean is_live : K �
   -- the input ended before the body
   pub cut_short : (keeper : K) (command : Bool) (unread : Option (List ℕ)) (response : Response) (w : Wish) (n : ℕ) (c : Caller) (behind : List ℕ)
       → reply_of response ≡ fixed status.BadRequest → IsCutShort behind unread n
-      → Responds stands is_clean is_live leaves keeper keeper command unread (Ok response)
+      → Responds stands is_clean is_live leaves is_same keeper keeper command unread (Ok response)
       (λ left s. Runs w n c (behind ++ left) s)
   cut_short keeper command unread response w n c behind is cut =
       nothing_of keeper command unread cut.left cut.told response (λ left s. Runs w n c (behind ++ left) s)
@@ -378,7 +406,7 @@ module _ {K : Type 0} (stands : K → State → Type 0) (is_clean is_live : K �
   -- a word of the path is wrong
   pub wrong_word : (keeper : K) (command : Bool) (unread : Option (List ℕ)) (response : Response) (w : Wish) (n : ℕ) (c : Caller) (behind body : List ℕ) (f : Fault)
       → reply_of response ≡ reply_to (Err f) → IsBody behind unread n body → IsTask w.want c w.driver w.word (Err f)
-      → Responds stands is_clean is_live leaves keeper keeper command unread (Ok response)
+      → Responds stands is_clean is_live leaves is_same keeper keeper command unread (Ok response)
       (λ left s. Runs w n c (behind ++ left) s)
   wrong_word keeper command unread response w n c behind body f is read wrong =
       nothing_of keeper command unread read.left read.told response (λ left s. Runs w n c (behind ++ left) s)
@@ -387,8 +415,8 @@ module _ {K : Type 0} (stands : K → State → Type 0) (is_clean is_live : K �
   -- the task was carried out
   pub carried_out : (old new : K) (command : Bool) (unread : Option (List ℕ)) (response : Response) (answer : Answer) (w : Wish) (n : ℕ) (c : Caller) (behind body : List ℕ) (t : Task)
       → reply_of response ≡ reply_to answer → IsBody behind unread n body → IsTask w.want c w.driver w.word (Ok t)
-      → Serves stands is_clean is_live leaves old new command answer (Does t body)
-      → Responds stands is_clean is_live leaves old new command unread (Ok response) (λ left s. Runs w n c (behind ++ left) s)
+      → Serves stands is_clean is_live leaves is_same old new command answer (Does t body)
+      → Responds stands is_clean is_live leaves is_same old new command unread (Ok response) (λ left s. Runs w n c (behind ++ left) s)
   carried_out old new command unread response answer w n c behind body t is read task serves = record {
     left = read.left;
     told = read.told;
@@ -398,6 +426,7 @@ module _ {K : Type 0} (stands : K → State → Type 0) (is_clean is_live : K �
         subst (Gives (stands new) (leaves new) command s (Runs w n c (behind ++ read.left) s)) (sym is)
         (replied (stands new) (leaves new) s t body (Runs w n c (behind ++ read.left) s) (done_for s) command answer (serves.done clean s st)
         (λ is. serves.kept is clean s st));
+    same = λ undone. serves.same (changes_nothing command answer response.status (ap (λ (r : Reply). r.status) is) undone);
     crash = λ clean s past st l.
         subst (Stops (leaves new) past (Runs w n c (behind ++ read.left) s)) (sym is)
         (stopped (stands new) (leaves new) s t body (Runs w n c (behind ++ read.left) s) (done_for s) past answer (serves.crash clean s past st l));
@@ -411,12 +440,12 @@ module _ {K : Type 0} (stands : K → State → Type 0) (is_clean is_live : K �
 
   -- what is asked for is run
   pub by_wish : (old new : K) (command : Bool) (unread : Option (List ℕ)) (result : Result Response Failed) (c : Caller) (h : RequestHead) (behind : List ℕ) (w : Wish) (n : ℕ)
-      → (is_post (method_of h.method) ≡ true → command ≡ true)
+      → (is_post (method_of h.method) ≡ true → command ≡ true) → (is_post (method_of h.method) ≡ false → command ≡ false)
       → wish_of (asker_of c) h.method h.target ≡ Ok w → body_of h w.want ≡ Ok n
-      → Responds stands is_clean is_live leaves old new command unread result (λ left s. Runs w n c (behind ++ left) s)
-      → Responds stands is_clean is_live leaves old new (is_post (method_of h.method)) unread result (λ left s. ByCaller c h (behind ++ left) s)
-  by_wish old new command unread result c h behind w n posted wanted long r =
-      responds_as old new command (is_post (method_of h.method)) unread result (λ left s. Runs w n c (behind ++ left) s) (λ left s. ByCaller c h (behind ++ left) s) posted
+      → Responds stands is_clean is_live leaves is_same old new command unread result (λ left s. Runs w n c (behind ++ left) s)
+      → Responds stands is_clean is_live leaves is_same old new (is_post (method_of h.method)) unread result (λ left s. ByCaller c h (behind ++ left) s)
+  by_wish old new command unread result c h behind w n posted unposted wanted long r =
+      responds_as old new command (is_post (method_of h.method)) unread result (λ left s. Runs w n c (behind ++ left) s) (λ left s. ByCaller c h (behind ++ left) s) posted unposted
       (λ left s reply after does.
       subst (λ (x : Result Wish Status). WithWish x c h (behind ++ left) s reply after) (sym wanted)
       (subst (λ (x : Result ℕ Status). WithBody x w c (behind ++ left) s reply after) (sym long) does)) r
@@ -424,7 +453,7 @@ module _ {K : Type 0} (stands : K → State → Type 0) (is_clean is_live : K �
   -- there is no such place, or nothing at it by this method, or it is another's
   pub no_wish : (keeper : K) (unread : Option (List ℕ)) (response : Response) (c : Caller) (h : RequestHead) (behind : List ℕ) (refusal : Status)
       → reply_of response ≡ fixed refusal → is_done refusal ≡ false → wish_of (asker_of c) h.method h.target ≡ Err refusal
-      → Responds stands is_clean is_live leaves keeper keeper (is_post (method_of h.method)) unread (Ok response) (λ left s. ByCaller c h (behind ++ left) s)
+      → Responds stands is_clean is_live leaves is_same keeper keeper (is_post (method_of h.method)) unread (Ok response) (λ left s. ByCaller c h (behind ++ left) s)
   no_wish keeper unread response c h behind refusal is none refused =
       nothing keeper (is_post (method_of h.method)) unread response (λ left s. ByCaller c h (behind ++ left) s) (ap (λ (r : Reply). is_done r.status) is ∙ none)
       (λ left s. subst (λ (x : Result Wish Status). WithWish x c h (behind ++ left) s (reply_of response) s) (sym refused) (is, refl))
@@ -432,7 +461,7 @@ module _ {K : Type 0} (stands : K → State → Type 0) (is_clean is_live : K �
   -- the length of its body isn't told, or is too large
   pub no_length : (keeper : K) (unread : Option (List ℕ)) (response : Response) (c : Caller) (h : RequestHead) (behind : List ℕ) (w : Wish) (refusal : Status)
       → reply_of response ≡ fixed refusal → is_done refusal ≡ false → wish_of (asker_of c) h.method h.target ≡ Ok w → body_of h w.want ≡ Err refusal
-      → Responds stands is_clean is_live leaves keeper keeper (is_post (method_of h.method)) unread (Ok response) (λ left s. ByCaller c h (behind ++ left) s)
+      → Responds stands is_clean is_live leaves is_same keeper keeper (is_post (method_of h.method)) unread (Ok response) (λ left s. ByCaller c h (behind ++ left) s)
   no_length keeper unread response c h behind w refusal is none wanted refused =
       nothing keeper (is_post (method_of h.method)) unread response (λ left s. ByCaller c h (behind ++ left) s) (ap (λ (r : Reply). is_done r.status) is ∙ none)
       (λ left s. subst (λ (x : Result Wish Status). WithWish x c h (behind ++ left) s (reply_of response) s) (sym wanted)
@@ -440,16 +469,16 @@ module _ {K : Type 0} (stands : K → State → Type 0) (is_clean is_live : K �
 
   -- the office asks
   pub by_office : (old new : K) (command : Bool) (unread : Option (List ℕ)) (result : Result Response Failed) (office key : List ℕ) (h : RequestHead) (behind : List ℕ) → bytes_eq key office ≡ true
-      → Responds stands is_clean is_live leaves old new command unread result (λ left s. ByCaller caller.Office h (behind ++ left) s)
-      → Responds stands is_clean is_live leaves old new command unread result (λ left s. ByKey office key h (behind ++ left) s)
+      → Responds stands is_clean is_live leaves is_same old new command unread result (λ left s. ByCaller caller.Office h (behind ++ left) s)
+      → Responds stands is_clean is_live leaves is_same old new command unread result (λ left s. ByKey office key h (behind ++ left) s)
   by_office old new command unread result office key h behind e r =
-      responds_as old new command command unread result (λ left s. ByCaller caller.Office h (behind ++ left) s) (λ left s. ByKey office key h (behind ++ left) s) (λ is. is)
+      responds_as old new command command unread result (λ left s. ByCaller caller.Office h (behind ++ left) s) (λ left s. ByKey office key h (behind ++ left) s) (λ is. is) (λ is. is)
       (λ left s reply after does. subst (λ (b : Bool). ByWhom b key h (behind ++ left) s reply after) (sym e) does) r
 
 -- ---- keys
 
 module _ {K : Type 0} (stands : K → State → Type 0) (is_clean is_live : K → Type 0) (leaves : K → List State → Type 0)
-    {is_same : K → K → Type 0} where
+    (is_same : K → K → Type 0) (same_then : StaysSame is_live is_same) where
   -- the key is nobody's, or it could not be asked whose it is
   pub asked_in_vain : (old new : K) (command : Bool) (unread : Option (List ℕ)) (response : Response) (key : List ℕ)
       (Wants : List ℕ → State → Reaction) (found : Result (Option ℕ) StoreFault)
@@ -457,7 +486,7 @@ module _ {K : Type 0} (stands : K → State → Type 0) (is_clean is_live : K �
       → Reads stands is_clean is_live leaves is_same (λ (n : Option ℕ). n) old new found (owner key)
       → ((left : List ℕ) (s : State) → stands old s → is_clean new
       → Wants left s (reply_of response) s ⊎ (reply_of response ≡ fixed status.Unavailable))
-      → Responds stands is_clean is_live leaves old new command unread (Ok response) Wants
+      → Responds stands is_clean is_live leaves is_same old new command unread (Ok response) Wants
   asked_in_vain old new command unread response key Wants found none reads h =
       let i = some_left unread in record {
         left = i.0;
@@ -465,6 +494,7 @@ module _ {K : Type 0} (stands : K → State → Type 0) (is_clean is_live : K �
         clean = reads.clean;
         live = λ c done. (let x = none in cc);
         given = λ c s st. gives s (reads.state c s st) (h i.0 s st c);
+        same = λ undone. reads.same;
         crash = λ c s past st l. inl (reads.crash c past l);
       }
     where
@@ -477,7 +507,7 @@ module _ {K : Type 0} (stands : K → State → Type 0) (is_clean is_live : K �
   pub by_nobody : (old new : K) (command : Bool) (unread : Option (List ℕ)) (response : Response) (office key : List ℕ) (h : RequestHead) (behind : List ℕ)
       → bytes_eq key office ≡ false → reply_of response ≡ fixed status.Forbidden
       → Reads stands is_clean is_live leaves is_same (λ (n : Option ℕ). n) old new (Ok None) (owner key)
-      → Responds stands is_clean is_live leaves old new command unread (Ok response) (λ left s. ByKey office key h (behind ++ left) s)
+      → Responds stands is_clean is_live leaves is_same old new command unread (Ok response) (λ left s. ByKey office key h (behind ++ left) s)
   by_nobody old new command unread response office key h behind e is reads =
       asked_in_vain old new command unread response key (λ left s. ByKey office key h (behind ++ left) s) (Ok None) (ap (λ (r : Reply). is_done r.status) is) reads
       (λ left s st clean. inl (subst (λ (b : Bool). ByWhom b key h (behind ++ left) s (reply_of response) s) (sym e)
@@ -487,7 +517,7 @@ module _ {K : Type 0} (stands : K → State → Type 0) (is_clean is_live : K �
   pub by_none : (old new : K) (command : Bool) (unread : Option (List ℕ)) (response : Response) (office key : List ℕ) (h : RequestHead) (behind : List ℕ) (f : StoreFault)
       → reply_of response ≡ fixed status.Unavailable
       → Reads stands is_clean is_live leaves is_same (λ (n : Option ℕ). n) old new (Err f) (owner key)
-      → Responds stands is_clean is_live leaves old new command unread (Ok response) (λ left s. ByKey office key h (behind ++ left) s)
+      → Responds stands is_clean is_live leaves is_same old new command unread (Ok response) (λ left s. ByKey office key h (behind ++ left) s)
   by_none old new command unread response office key h behind f is reads =
       asked_in_vain old new command unread response key (λ left s. ByKey office key h (behind ++ left) s) (Err f) (ap (λ (r : Reply). is_done r.status) is) reads
       (λ left s st clean. inr is)
@@ -498,8 +528,8 @@ module _ {K : Type 0} (stands : K → State → Type 0) (is_clean is_live : K �
       → Reads stands is_clean is_live leaves is_same (λ (n : Option ℕ). n) old mid (Ok (Some n)) (owner key)
       → ((left : List ℕ) (s : State) (reply : Reply) (after : State) → owner key s ≡ Ok (Some n)
       → A left s reply after → B left s reply after)
-      → Responds stands is_clean is_live leaves mid new command unread result A
-      → Responds stands is_clean is_live leaves old new command unread result B
+      → Responds stands is_clean is_live leaves is_same mid new command unread result A
+      → Responds stands is_clean is_live leaves is_same old new command unread result B
   asked_for old mid new command unread result key n A B reads h r = record {
     left = r.left;
     told = r.told;
@@ -509,6 +539,9 @@ module _ {K : Type 0} (stands : K → State → Type 0) (is_clean is_live : K �
         let whose = reads.answer (r.clean c) s st in
         given_as (stands new) (leaves new) command command s (A r.left s) (B r.left s) result (λ is. is) (λ reply after. h r.left s reply after whose)
         (r.given c s (reads.state (r.clean c) s st));
+    same = λ undone c s st.
+        let before = r.clean c in
+        same_then old mid new (λ live. reads.live before tt) (reads.same before s st) (r.same undone c s (reads.state before s st));
     crash = λ c s past st l.
         let whose = reads.answer (r.clean c) s st in
         stopped_as (leaves new) past (A r.left s) (B r.left s) result (λ reply after. h r.left s reply after whose)
@@ -518,9 +551,9 @@ module _ {K : Type 0} (stands : K → State → Type 0) (is_clean is_live : K �
   -- a driver asks
   pub by_driver : (old mid new : K) (command : Bool) (unread : Option (List ℕ)) (result : Result Response Failed) (office key : List ℕ) (n : ℕ) (h : RequestHead) (behind : List ℕ) → bytes_eq key office ≡ false
       → Reads stands is_clean is_live leaves is_same (λ (n : Option ℕ). n) old mid (Ok (Some n)) (owner key)
-      → Responds stands is_clean is_live leaves mid new command unread result
+      → Responds stands is_clean is_live leaves is_same mid new command unread result
       (λ left s. ByCaller (caller.Driver n) h (behind ++ left) s)
-      → Responds stands is_clean is_live leaves old new command unread result (λ left s. ByKey office key h (behind ++ left) s)
+      → Responds stands is_clean is_live leaves is_same old new command unread result (λ left s. ByKey office key h (behind ++ left) s)
   by_driver old mid new command unread result office key n h behind e reads r =
       asked_for old mid new command unread result key n (λ left s. ByCaller (caller.Driver n) h (behind ++ left) s) (λ left s. ByKey office key h (behind ++ left) s) reads
       (λ left s reply after whose does.
@@ -543,45 +576,66 @@ consumed_more (Some x) (Some y) None came given cut more = absurd more
 consumed_more (Some x) (Some y) (Some z) came given cut more =
     cut ∙ (ap (λ (xs : List ℕ). came ++ xs) more ∙ sym (append_assoc came given z))
 
-module _ {K : Type 0} (stands : K → State → Type 0) (is_clean is_live : K → Type 0) (leaves : K → List State → Type 0) (office : List ℕ) where
+-- an input whose head posts, and no other, posts something
+posted_by : (input rest : List ℕ) (h : RequestHead) → BeginsWith 8192 32 input h rest → IsPosted input → is_post (method_of h.method) ≡ true
+posted_by input rest h begins p =
+    let same = request_unique input h p.0 rest p.1 begins.reads p.2.reads in
+    subst (λ (head : RequestHead). is_post (method_of head.method) ≡ true) (sym same.0) p.3
+
+module _ {K : Type 0} (stands : K → State → Type 0) (is_clean is_live : K → Type 0) (leaves : K → List State → Type 0) (is_same : K → K → Type 0)
+    (same_self : IsSameAsItself is_same) (office : List ℕ) where
   -- nothing was done, and this reply is one that the input may get, which doesn't tell that anything is
-  pub nothing_answered : (keeper : K) (unread left : Option (List ℕ)) (response : Response) (input : List ℕ) → IfSome unread (λ all. input ≡ all)
+  nothing_answered : (keeper : K) (unread left : Option (List ℕ)) (response : Response) (input : List ℕ) → IfSome unread (λ all. input ≡ all)
+      → (command : Bool) → (IsPosted input → command ≡ true) → (command ≡ true → IsPosted input)
       → is_done response.status ≡ false → ((s : State) → Reacts office input s (reply_of response) s)
-      → Answered stands is_clean is_live leaves keeper keeper office unread left (Ok response)
-  nothing_answered keeper unread left response input told none h = record {
+      → Answered stands is_clean is_live leaves is_same keeper keeper office unread left (Ok response)
+  nothing_answered keeper unread left response input told command posted is_posted none h = record {
     input = input;
     told = told;
-    command = true;
-    posted = λ p. refl;
+    command = command;
+    posted = posted;
+    is_posted = is_posted;
     clean = λ c. c;
     live = λ c done. (let x = none in cc);
     answers = λ c s st. (s, st, h s, λ is done. (let x = none in cc));
+    same = λ undone c s st. same_self keeper;
     crash = λ c s past st l. inl l;
     unfinished = λ e. cc;
     known = λ c s st e. cc;
   }
 
+  -- and that of an input without a head, which posts nothing
+  pub headless_answered : (keeper : K) (unread left : Option (List ℕ)) (response : Response) (input : List ℕ) → IfSome unread (λ all. input ≡ all)
+      → HasNoHead 8192 32 input → is_done response.status ≡ false → ((s : State) → Reacts office input s (reply_of response) s)
+      → Answered stands is_clean is_live leaves is_same keeper keeper office unread left (Ok response)
+  headless_answered keeper unread left response input told no_head none h =
+      nothing_answered keeper unread left response input told false (λ p. absurd (no_head p.0 p.1 p.2)) (λ is. cc) none h
+
   -- and that of a head, by what came of its input
-  pub head_answered : (keeper : K) (unread left : Option (List ℕ)) (response : Response) (came : List ℕ) → Consumes unread left came
+  pub head_answered : (keeper : K) (unread left : Option (List ℕ)) (response : Response) (came behind : List ℕ) (h : RequestHead) → Consumes unread left came
+      → ((more : List ℕ) → BeginsWith 8192 32 (came ++ more) h (behind ++ more))
       → is_done response.status ≡ false → ((more : List ℕ) (s : State) → Reacts office (came ++ more) s (reply_of response) s)
-      → Answered stands is_clean is_live leaves keeper keeper office unread left (Ok response)
-  head_answered keeper unread left response came cut none h =
+      → Answered stands is_clean is_live leaves is_same keeper keeper office unread left (Ok response)
+  head_answered keeper unread left response came behind h cut begins none reacts =
       let i = some_left left in
-      nothing_answered keeper unread left response (came ++ i.0) (consumed unread left came i.0 cut i.1) none (h i.0)
+      nothing_answered keeper unread left response (came ++ i.0) (consumed unread left came i.0 cut i.1) (is_post (method_of h.method))
+      (posted_by (came ++ i.0) (behind ++ i.0) h (begins i.0)) (λ is. (h, behind ++ i.0, begins i.0, is)) none (reacts i.0)
 
   -- the reader failed, and no whole request had come, whoever asks
   pub unread_head : (keeper : K) (unread left : Option (List ℕ)) (failed : Failed)
       → ((IsBy : List ℕ → Caller → Type 0) → IsUnfinished IsBy unread left)
-      → Answered stands is_clean is_live leaves keeper keeper office unread left (Err failed)
+      → Answered stands is_clean is_live leaves is_same keeper keeper office unread left (Err failed)
   unread_head keeper unread left failed part =
       let i = some_left unread in record {
         input = i.0;
         told = i.1;
         command = true;
         posted = λ p. refl;
+        is_posted = tt;
         clean = λ c. c;
         live = λ c. tt;
         answers = λ c s st. st;
+        same = λ undone c s st. same_self keeper;
         crash = λ c s past st l. l;
         unfinished = λ e. part _;
         known = λ c s st e. part _;
@@ -590,18 +644,20 @@ module _ {K : Type 0} (stands : K → State → Type 0) (is_clean is_live : K �
   -- a request with a key was answered by it
   pub keyed : (old new : K) (key came behind : List ℕ) (h : RequestHead) (unread mid left : Option (List ℕ)) (result : Result Response Failed)
       → key_of h ≡ Some key → Consumes unread mid came → ((more : List ℕ) → BeginsWith 8192 32 (came ++ more) h (behind ++ more))
-      → Responds stands is_clean is_live leaves old new (is_post (method_of h.method)) mid result (λ left s. ByKey office key h (behind ++ left) s)
+      → Responds stands is_clean is_live leaves is_same old new (is_post (method_of h.method)) mid result (λ left s. ByKey office key h (behind ++ left) s)
       → (IsErr result → LacksMore (MayAsk office) h behind mid left)
       → (IsErr result → is_clean new → (s : State) → stands old s → LacksMore (Asks s office) h behind mid left)
-      → Answered stands is_clean is_live leaves old new office unread left result
+      → Answered stands is_clean is_live leaves is_same old new office unread left result
   keyed old new key came behind h unread mid left result has cut begins r lacks known = record {
     input = input;
     told = consumed unread mid came r.left cut r.told;
     command = is_post (method_of h.method);
-    posted = posted;
+    posted = posted_by input (behind ++ r.left) h (begins r.left);
+    is_posted = is_posted result;
     clean = r.clean;
     live = r.live;
     answers = λ c s st. answers s result (r.given c s st);
+    same = r.same;
     crash = λ c s past st l. stopped_as (leaves new) past (ByKey office key h (behind ++ r.left) s) (Reacts office input s) result (reacts s) (r.crash c s past st l);
     unfinished = λ e. unfinished _ (lacks e);
     known = λ c s st e. unfinished _ (known e c s st);
@@ -626,10 +682,9 @@ module _ {K : Type 0} (stands : K → State → Type 0) (is_clean is_live : K �
       )
       answers s (Err failed) g = g
 
-      posted : IsPosted input → is_post (method_of h.method) ≡ true
-      posted p =
-          let same = request_unique input h p.0 (behind ++ r.left) p.1 (begins r.left).reads p.2.reads in
-          subst (λ (head : RequestHead). is_post (method_of head.method) ≡ true) (sym same.0) p.3
+      is_posted : (result : Result Response Failed) → IfOk result (λ response. is_post (method_of h.method) ≡ true → IsPosted input)
+      is_posted (Ok response) = λ is. (h, behind ++ r.left, begins r.left, is)
+      is_posted (Err failed) = tt
 
       unfinished : (IsBy : List ℕ → Caller → Type 0) → LacksMore IsBy h behind mid left → IsUnfinished IsBy unread left
       unfinished IsBy l = record {
@@ -640,64 +695,70 @@ module _ {K : Type 0} (stands : K → State → Type 0) (is_clean is_live : K �
 
 -- ---- one request, one reply
 
-module _ {K : Type 0} {stands : K → State → Type 0} {is_clean is_live : K → Type 0} {leaves : K → List State → Type 0} {old new : K} {office : List ℕ}
+module _ {K : Type 0} {stands : K → State → Type 0} {is_clean is_live : K → Type 0} {leaves : K → List State → Type 0} {is_same : K → K → Type 0} {old new : K} {office : List ℕ}
     {unread left : Option (List ℕ)} (before after : Option (List ℕ)) where
   -- the reply went out whole
-  pub exchanged_whole : (response : Response) → Answered stands is_clean is_live leaves old new office unread left (Ok response)
+  pub exchanged_whole : (response : Response) → Answered stands is_clean is_live leaves is_same old new office unread left (Ok response)
       → IsWritten before after (reply_of response)
-      → Exchanged stands is_clean is_live leaves old new office unread before after (Ok (record { status = response.status }))
+      → Exchanged stands is_clean is_live leaves is_same old new office unread before after (Ok (record { status = response.status }))
   exchanged_whole response a wrote = record {
     input = a.input;
     told = a.told;
     command = a.command;
     posted = a.posted;
+    is_posted = λ read. a.is_posted;
     reply = reply_of response;
     replied = (refl, wrote);
     live = a.live;
     settled = a.answers;
+    same = a.same;
     crash = a.crash;
   }
 
   -- or a beginning of it
-  pub exchanged_begun : (response : Response) → Answered stands is_clean is_live leaves old new office unread left (Ok response)
+  pub exchanged_begun : (response : Response) → Answered stands is_clean is_live leaves is_same old new office unread left (Ok response)
       → IsBegun before after (reply_of response)
-      → Exchanged stands is_clean is_live leaves old new office unread before after (Err io.Write)
+      → Exchanged stands is_clean is_live leaves is_same old new office unread before after (Err io.Write)
   exchanged_begun response a wrote = record {
     input = a.input;
     told = a.told;
     command = a.command;
     posted = a.posted;
+    is_posted = λ read. a.is_posted;
     reply = reply_of response;
     replied = wrote;
     live = λ clean. tt;
     settled = a.answers;
+    same = a.same;
     crash = a.crash;
   }
 
   -- or the reader failed, and nothing did
-  pub exchanged_unread : (result : Result Response Failed) → ((response : Response) → result ≡ Ok response → ⊥) → Answered stands is_clean is_live leaves old new office unread left result
-      → after ≡ before → Exchanged stands is_clean is_live leaves old new office unread before after (Err io.Read)
+  pub exchanged_unread : (result : Result Response Failed) → ((response : Response) → result ≡ Ok response → ⊥) → Answered stands is_clean is_live leaves is_same old new office unread left result
+      → after ≡ before → Exchanged stands is_clean is_live leaves is_same old new office unread before after (Err io.Read)
   exchanged_unread (Ok response) none a same = absurd (none response refl)
   exchanged_unread (Err failed) none a same = record {
     input = a.input;
     told = a.told;
     command = a.command;
     posted = a.posted;
+    is_posted = λ read. absurd read;
     reply = fixed status.Unavailable;
     replied = same;
     live = λ clean. tt;
     settled = a.answers;
+    same = a.same;
     crash = a.crash;
   }
 
   -- what the reader had given then is no whole request
-  pub left_unfinished : (result : Result Response Failed) → ((response : Response) → result ≡ Ok response → ⊥) → Answered stands is_clean is_live leaves old new office unread left result
+  pub left_unfinished : (result : Result Response Failed) → ((response : Response) → result ≡ Ok response → ⊥) → Answered stands is_clean is_live leaves is_same old new office unread left result
       → IsUnfinished (MayAsk office) unread left
   left_unfinished (Ok response) none a = absurd (none response refl)
   left_unfinished (Err failed) none a = a.unfinished refl
 
   -- nor one by the keys that the archive knows
-  pub left_known : (result : Result Response Failed) → ((response : Response) → result ≡ Ok response → ⊥) → Answered stands is_clean is_live leaves old new office unread left result
+  pub left_known : (result : Result Response Failed) → ((response : Response) → result ≡ Ok response → ⊥) → Answered stands is_clean is_live leaves is_same old new office unread left result
       → is_clean new → (s : State) → stands old s → IsUnfinished (Asks s office) unread left
   left_known (Ok response) none a = absurd (none response refl)
   left_known (Err failed) none a = λ c s st. a.known c s st refl

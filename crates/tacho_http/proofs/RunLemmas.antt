@@ -68,9 +68,9 @@ module _ (old new : Option (List ℕ)) (Replies : Reply → Type 0) (Stays : Typ
 
 -- ---- one connection, by what `answer` says of it
 
-module _ {K : Type 0} {stands : K → State → Type 0} {is_clean is_live : K → Type 0} {leaves : K → List State → Type 0} {before mid : K}
+module _ {K : Type 0} {stands : K → State → Type 0} {is_clean is_live : K → Type 0} {leaves : K → List State → Type 0} {is_same : K → K → Type 0} {before mid : K}
     (office : List ℕ) (unread old new : Option (List ℕ)) (reader_failed writer_failed : Bool) (result : Result Served IoFault)
-    (x : Exchanged stands is_clean is_live leaves before mid office unread old new result)
+    (x : Exchanged stands is_clean is_live leaves is_same before mid office unread old new result)
     (e : IsErrOf result io.Read ↔ (reader_failed ≡ true)) (f : IsErrOf result io.Write ↔ (writer_failed ≡ true)) where
   -- the state after it
   pub went : is_clean mid → (s : State) → stands before s

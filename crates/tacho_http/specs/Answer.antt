@@ -48,16 +48,22 @@ abbrev pub Stopped : (List State → Type 0) → List State → Reaction → Res
 Stopped leaves past Wants (Ok response) = Stops leaves past Wants (reply_of response)
 Stopped leaves past Wants (Err failed) = leaves past
 
+-- nothing was posted, or nothing was done
+abbrev pub IsUndone : Bool → Result Response Failed → Type 0
+IsUndone command (Ok response) = (command ≡ false) ⊎ (is_done response.status ≡ false)
+IsUndone command (Err failed) = Unit {0}
+
 -- A call replies as is wanted of bytes that are unread, the reader's, where it tells them, and some where it doesn't, at an archive
--- that has not become clean by it, and is live where something is done.
+-- that has not become clean by it, and is live where something is done. Where nothing is posted, or done, every row stays as it was.
 pub record Responds {K : Type 0} (stands : K → State → Type 0) (is_clean is_live : K → Type 0)
-    (leaves : K → List State → Type 0) (old new : K) (command : Bool) (unread : Option (List ℕ)) (result : Result Response Failed)
+    (leaves : K → List State → Type 0) (is_same : K → K → Type 0) (old new : K) (command : Bool) (unread : Option (List ℕ)) (result : Result Response Failed)
     (Wants : List ℕ → State → Reaction) : Type 0 where
   pub left : List ℕ
   pub told : IfSome unread (λ all. left ≡ all)
   pub clean : is_clean new → is_clean old
   pub live : is_clean new → IfOk result (λ response. is_done response.status ≡ true → is_live new)
   pub given : is_clean new → (s : State) → stands old s → Given (stands new) (leaves new) command s (Wants left s) result
+  pub same : IsUndone command result → is_clean new → (s : State) → stands old s → is_same old new
   pub crash : is_clean new → (s : State) (past : List State) → stands old s → leaves old past → Stopped (leaves new) past (Wants left s) result
 
 -- ---- what the reader has given
@@ -115,17 +121,19 @@ Answers stands leaves command office input s reply =
     (after : State) × stands after × Reacts office input s reply after × (command ≡ true → is_done reply.status ≡ true → leaves (after ∷ []))
 
 -- A request was read from a reader and answered, over an input that is the reader's, where it tells its bytes, and some input where it
--- doesn't; or the reader failed, and the state before stands.
+-- doesn't; or the reader failed, and the state before stands. Where nothing is posted, or done, every row stays as it was.
 pub record Answered {K : Type 0} (stands : K → State → Type 0) (is_clean is_live : K → Type 0)
-    (leaves : K → List State → Type 0) (old new : K) (office : List ℕ) (unread left : Option (List ℕ)) (result : Result Response Failed) : Type 0 where
+    (leaves : K → List State → Type 0) (is_same : K → K → Type 0) (old new : K) (office : List ℕ) (unread left : Option (List ℕ)) (result : Result Response Failed) : Type 0 where
   pub input : List ℕ
   pub told : IfSome unread (λ all. input ≡ all)
   pub command : Bool
   pub posted : IsPosted input → command ≡ true
+  pub is_posted : IfOk result (λ response. command ≡ true → IsPosted input)
   pub clean : is_clean new → is_clean old
   pub live : is_clean new → IfOk result (λ response. is_done response.status ≡ true → is_live new)
   pub answers : is_clean new → (s : State) → stands old s
       → MatchResult result (λ response. Answers (stands new) (leaves new) command office input s (reply_of response)) (λ failed. stands new s)
+  pub same : IsUndone command result → is_clean new → (s : State) → stands old s → is_same old new
   pub crash : is_clean new → (s : State) (past : List State) → stands old s → leaves old past → Stopped (leaves new) past (Reacts office input s) result
   pub unfinished : IsErr result → IsUnfinished (MayAsk office) unread left
   pub known : is_clean new → (s : State) → stands old s → IsErr result → IsUnfinished (Asks s office) unread left
@@ -155,18 +163,30 @@ StopsAt leaves past office input s reply (Ok served) = Stops leaves past (Reacts
 StopsAt leaves past office input s reply (Err io.Write) = Stops leaves past (Reacts office input s) reply
 StopsAt leaves past office input s reply (Err io.Read) = leaves past
 
+-- the reader failed; or nothing was posted, or nothing was done
+abbrev pub IsUndoneBy : Bool → Reply → Result Served IoFault → Type 0
+IsUndoneBy command reply (Err io.Read) = Unit {0}
+IsUndoneBy command reply result = (command ≡ false) ⊎ (is_done reply.status ≡ false)
+
+-- the reader hasn't failed
+abbrev pub HasRead : Result Served IoFault → Type 0
+HasRead (Err io.Read) = ⊥
+HasRead result = Unit {0}
+
 -- One request was read and one reply written, over an input that is the reader's, where it tells its bytes, and some input where it
--- doesn't.
+-- doesn't. Where nothing is posted, or done, every row stays as it was.
 pub record Exchanged {K : Type 0} (stands : K → State → Type 0) (is_clean is_live : K → Type 0)
-    (leaves : K → List State → Type 0) (old new : K) (office : List ℕ) (unread before after : Option (List ℕ))
+    (leaves : K → List State → Type 0) (is_same : K → K → Type 0) (old new : K) (office : List ℕ) (unread before after : Option (List ℕ))
     (result : Result Served IoFault) : Type 0 where
   pub input : List ℕ
   pub told : IfSome unread (λ all. input ≡ all)
   pub command : Bool
   pub posted : IsPosted input → command ≡ true
+  pub is_posted : HasRead result → command ≡ true → IsPosted input
   pub reply : Reply
   pub replied : IsReplied before after reply result
   pub live : is_clean new → IfOk result (λ served. is_done served.status ≡ true → is_live new)
   pub settled : is_clean new → (s : State) → stands old s → Settles (stands new) (leaves new) command office input s reply result
+  pub same : IsUndoneBy command reply result → is_clean new → (s : State) → stands old s → is_same old new
   pub crash : is_clean new → (s : State) (past : List State) → stands old s → leaves old past
       → StopsAt (leaves new) past office input s reply result

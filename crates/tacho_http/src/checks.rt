@@ -33,7 +33,7 @@ pub(crate) fn by_key<K: Keeper, R: Source>(
     requires reader { R.has_failed reader.old ≡ false }
     requires within { All (IsHeaderWithin (length request.now.buffer.now)) request.now.fields.now }
     ensures responds { (h : RequestHead) → IsRequest request.now h
-        → Responds K.stands K.is_clean K.is_live K.leaves keeper.old keeper.new (is_post (method_of h.method)) (R.unread reader.old) result
+        → Responds K.stands K.is_clean K.is_live K.leaves K.is_same keeper.old keeper.new (is_post (method_of h.method)) (R.unread reader.old) result
         (λ left s. ByKey office_key.now key.now h (request.now.behind.now ++ left) s) }
     ensures lacks { (h : RequestHead) → IsRequest request.now h → key_of h ≡ Some key.now → IsErr result
         → LacksMore (MayAsk office_key.now) h request.now.behind.now (R.unread reader.old) (R.unread reader.new) }
@@ -63,7 +63,7 @@ fn by_caller<K: Keeper, R: Source>(
     requires reader { R.has_failed reader.old ≡ false }
     requires within { All (IsHeaderWithin (length request.now.buffer.now)) request.now.fields.now }
     ensures responds { (h : RequestHead) → IsRequest request.now h
-        → Responds K.stands K.is_clean K.is_live K.leaves keeper.old keeper.new (is_post (method_of h.method)) (R.unread reader.old) result
+        → Responds K.stands K.is_clean K.is_live K.leaves K.is_same keeper.old keeper.new (is_post (method_of h.method)) (R.unread reader.old) result
         (λ left s. ByCaller caller h (request.now.behind.now ++ left) s) }
     ensures lacks { (h : RequestHead) (key : List ℕ) → IsRequest request.now h → key_of h ≡ Some key → IsErr result
         → LacksMore (λ by c. (by ≡ key) × (c ≡ caller)) h request.now.behind.now (R.unread reader.old) (R.unread reader.new) }
@@ -95,7 +95,7 @@ fn run<K: Keeper, R: Source>(
     behind: &[u8],
 ) -> Result<Response, Failed>
     requires { R.has_failed reader.old ≡ false }
-    ensures responds { Responds K.stands K.is_clean K.is_live K.leaves keeper.old keeper.new (is_command asked.entry.want) (R.unread reader.old) result
+    ensures responds { Responds K.stands K.is_clean K.is_live K.leaves K.is_same keeper.old keeper.new (is_command asked.entry.want) (R.unread reader.old) result
         (λ left s. Runs (record { want = asked.entry.want; driver = asked.entry.driver.now; word = asked.entry.word.now }) count caller (behind.now ++ left) s) }
     ensures lacks { IsErr result → Lacks behind.now (R.unread reader.old) (R.unread reader.new) count }
     ensures failed { IsErr result ↔ (R.has_failed reader.new ≡ true) }

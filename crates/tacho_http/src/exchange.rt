@@ -44,7 +44,7 @@ fn respond_in<K: Keeper, R: Source>(
     requires reader { R.has_failed reader.old ≡ false }
     requires limit { length buffer.old ≡ 8192 }
     requires room { length fields.old ≡ 32 }
-    ensures answered { Answered K.stands K.is_clean K.is_live K.leaves keeper.old keeper.new office_key.now (R.unread reader.old) (R.unread reader.new) result }
+    ensures answered { Answered K.stands K.is_clean K.is_live K.leaves K.is_same keeper.old keeper.new office_key.now (R.unread reader.old) (R.unread reader.new) result }
     ensures failed { IsErr result ↔ (R.has_failed reader.new ≡ true) }
 {
     let head = match read_head(reader, buffer, fields) {
@@ -68,7 +68,7 @@ fn respond<K: Keeper, R: Source>(
     reader: &mut R,
 ) -> Result<Response, Failed>
     requires { R.has_failed reader.old ≡ false }
-    ensures answered { Answered K.stands K.is_clean K.is_live K.leaves keeper.old keeper.new office_key.now (R.unread reader.old) (R.unread reader.new) result }
+    ensures answered { Answered K.stands K.is_clean K.is_live K.leaves K.is_same keeper.old keeper.new office_key.now (R.unread reader.old) (R.unread reader.new) result }
     ensures failed { IsErr result ↔ (R.has_failed reader.new ≡ true) }
 {
     let mut buffer = [0u8; HEAD_LIMIT];
@@ -89,7 +89,7 @@ pub fn answer<K: Keeper, R: Source, W: Sink>(
     requires writer { W.has_failed writer.old ≡ false }
     ensures clean { K.is_clean keeper.new → K.is_clean keeper.old }
     // The reply is one that the input may get, whole, or a beginning of it where the writer failed.
-    ensures exchanged { Exchanged K.stands K.is_clean K.is_live K.leaves keeper.old keeper.new office_key.now (R.unread reader.old)
+    ensures exchanged { Exchanged K.stands K.is_clean K.is_live K.leaves K.is_same keeper.old keeper.new office_key.now (R.unread reader.old)
         (W.written writer.old) (W.written writer.new) result }
     // Where the reader failed, it was asked for no more than the request lacked: its head, or the body of what it asks for.
     ensures unfinished { result ≡ Err IoFault.Read → IsUnfinished (MayAsk office_key.now) (R.unread reader.old) (R.unread reader.new) }

@@ -47,10 +47,12 @@ pub fn who<S: Alter>(conn: &mut Connection<S>, key: &[u8]) -> Result<Option<u32>
 {
     let _settled = conn.is_autocommit();
     let mut tx = conn.transaction();
-    let found = who_in(&mut tx, key)?;
+    let found = who_in(&mut tx, key);
     tx.rollback();
-    opening::ask(conn).map_err(store_fault)?;
-    Ok(found)
+    match opening::ask(conn) {
+        Ok(()) => found,
+        Err(fault) => Err(store_fault(fault)),
+    }
 }
 
 /// All drivers, within a transaction.
@@ -78,10 +80,12 @@ pub fn drivers<S: Alter>(
 {
     let _settled = conn.is_autocommit();
     let mut tx = conn.transaction();
-    let found = drivers_in(alloc, &mut tx)?;
+    let found = drivers_in(alloc, &mut tx);
     tx.rollback();
-    opening::ask(conn).map_err(store_fault)?;
-    Ok(found)
+    match opening::ask(conn) {
+        Ok(()) => found,
+        Err(fault) => Err(store_fault(fault)),
+    }
 }
 
 /// A driver's name, within a transaction: S4.
@@ -101,10 +105,12 @@ pub fn name<S: Alter>(conn: &mut Connection<S>, driver: u32) -> Result<String, S
 {
     let _settled = conn.is_autocommit();
     let mut tx = conn.transaction();
-    let found = name_in(&mut tx, driver)?;
+    let found = name_in(&mut tx, driver);
     tx.rollback();
-    opening::ask(conn).map_err(store_fault)?;
-    Ok(found)
+    match opening::ask(conn) {
+        Ok(()) => found,
+        Err(fault) => Err(store_fault(fault)),
+    }
 }
 
 /// The bytes of a driver's download, within a transaction: S4, S10.
@@ -133,10 +139,12 @@ pub fn download<S: Alter>(
 {
     let _settled = conn.is_autocommit();
     let mut tx = conn.transaction();
-    let file = download_in(&mut tx, driver, number)?;
+    let file = download_in(&mut tx, driver, number);
     tx.rollback();
-    opening::ask(conn).map_err(store_fault)?;
-    Ok(file)
+    match opening::ask(conn) {
+        Ok(()) => file,
+        Err(fault) => Err(store_fault(fault)),
+    }
 }
 
 /// A driver's timeline, within a transaction: S4.
@@ -165,10 +173,12 @@ pub fn line<S: Alter>(
 {
     let _settled = conn.is_autocommit();
     let mut tx = conn.transaction();
-    let line = line_in(alloc, &mut tx, driver)?;
+    let line = line_in(alloc, &mut tx, driver);
     tx.rollback();
-    opening::ask(conn).map_err(store_fault)?;
-    Ok(line)
+    match opening::ask(conn) {
+        Ok(()) => line,
+        Err(fault) => Err(store_fault(fault)),
+    }
 }
 
 /// What a driver holds in a range, within a transaction: S4. The rows near the range alone are read.
@@ -211,10 +221,12 @@ pub fn line_within<S: Alter>(
 {
     let _settled = conn.is_autocommit();
     let mut tx = conn.transaction();
-    let line = line_within_in(alloc, &mut tx, driver, start, past)?;
+    let line = line_within_in(alloc, &mut tx, driver, start, past);
     tx.rollback();
-    opening::ask(conn).map_err(store_fault)?;
-    Ok(line)
+    match opening::ask(conn) {
+        Ok(()) => line,
+        Err(fault) => Err(store_fault(fault)),
+    }
 }
 
 /// A driver's entries, within a transaction: S4.
@@ -243,10 +255,12 @@ pub fn entries<S: Alter>(
 {
     let _settled = conn.is_autocommit();
     let mut tx = conn.transaction();
-    let found = entries_in(alloc, &mut tx, driver)?;
+    let found = entries_in(alloc, &mut tx, driver);
     tx.rollback();
-    opening::ask(conn).map_err(store_fault)?;
-    Ok(found)
+    match opening::ask(conn) {
+        Ok(()) => found,
+        Err(fault) => Err(store_fault(fault)),
+    }
 }
 
 /// Where a reading of a driver's rows begins.
@@ -296,10 +310,12 @@ fn begin<S: Alter>(
 {
     let _settled = conn.is_autocommit();
     let mut tx = conn.transaction();
-    let found = begin_in(&mut tx, driver, from)?;
+    let found = begin_in(&mut tx, driver, from);
     tx.rollback();
-    opening::ask(conn).map_err(store_fault)?;
-    Ok(found)
+    match opening::ask(conn) {
+        Ok(()) => found,
+        Err(fault) => Err(store_fault(fault)),
+    }
 }
 
 /// The report of a driver from their base on: S4. Their rows are read one at a time, from the base on and up to the horizon.

@@ -338,7 +338,7 @@ impl Shelf {
 
 impl Keeper for Shelf {
     ghost use Rattle.std.specs.Prelude.{◌≡◌};
-    ghost use Rattle.std.proofs.Common.{inr};
+    ghost use Rattle.std.proofs.Common.{inr, refl, ◌∙◌};
     ghost use Rattle.tacho_state.specs.State.{driver_of};
     ghost use Rattle.tacho_shelf.specs.Among.{IsAmong};
 
@@ -355,6 +355,10 @@ impl Keeper for Shelf {
     ghost is_same_of = { λ n old new. driver_of n new ≡ driver_of n old };
 
     ghost leaves_more = { λ shelf s states among. inr among };
+
+    ghost same_self = { λ shelf. refl };
+
+    ghost same_then = { λ first second third was_live was is. is ∙ was };
 
     fn register(&mut self, driver: &Driver) -> Result<(), StoreFault> {
         self.add_driver(driver)

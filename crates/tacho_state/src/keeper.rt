@@ -9,7 +9,7 @@ ghost use Rattle.tacho_state.specs.Batch.{IsBatch, batch_of};
 ghost use Rattle.tacho_state.specs.Registration.{IsReadDay};
 ghost use Rattle.tacho_state.specs.Content.{FileTells, part_number};
 ghost use Rattle.tacho_state.specs.Summaries.{AreSummaries, told_summary};
-ghost use Rattle.tacho_state.specs.Acts.{Acts, Reads, caller_number};
+ghost use Rattle.tacho_state.specs.Acts.{Acts, Reads, IsOfNoFile, caller_number};
 ghost use Rattle.tacho_state.specs.declared.imported.Imported.TheVariants.{Repeated};
 ghost use Rattle.tacho_state.specs.declared.fault.StoreFault.TheVariants.{Memory, Card};
 
@@ -37,7 +37,7 @@ pub trait Keeper {
     /// It can be written to. Only a failure of the store ends that.
     ghost is_live: { Self → Type 0 };
 
-    /// Whatever a stop now leaves stands for one of these states.
+    /// Whatever a crash now leaves stands for one of these states.
     ghost leaves: { Self → List State → Type 0 };
 
     /// The second is kept as the first is: no row of it is another, as long as it can be read.
@@ -49,9 +49,17 @@ pub trait Keeper {
     /// More states may be named.
     ghost leaves_more: { (keeper : Self) (s : State) (states : List State) → leaves keeper states → leaves keeper (s ∷ states) };
 
+    /// What is kept is the same as itself.
+    ghost same_self: { (keeper : Self) → is_same keeper keeper };
+
+    /// Where no row changed from a first to a second, nor from there to a third, none changed from the first to the third.
+    ghost same_then: { (first second third : Self) → (is_live third → is_live second) → is_same first second → is_same second third
+        → is_same first third };
+
     /// Adds a driver: S1, S2, S3, S9.
     fn register(&mut self, driver: &Driver) -> Result<(), StoreFault>
-        ensures { Acts stands is_clean is_live leaves is_same is_same_of (λ _. tt) self.old self.new result
+        ensures of_no_file { IsOfNoFile result }
+        ensures registered { Acts stands is_clean is_live leaves is_same is_same_of (λ _. tt) self.old self.new result
             (registered driver.now.number driver.now.holder driver.now.key driver.now.base driver.now.name) };
 
     /// Imports a card file by a part: S11 first; then S4, S5, S6, S14.
@@ -83,18 +91,21 @@ pub trait Keeper {
         lines: &[EntryLine],
     ) -> Result<Entered, StoreFault>
         requires { IsBatch lines.now }
+        ensures of_no_file { IsOfNoFile result }
         ensures entered { Acts stands is_clean is_live leaves is_same is_same_of (λ done. done.first) self.old self.new result
             (entered driver (batch_of lines.now)) }
         ensures count { IfOk result (λ done. done.count ≡ length lines.now) };
 
     /// Withdraws an entry of a driver, which stays listed: S4, S7, S8. What downloads and other entries give, he still holds.
     fn withdraw(&mut self, alloc: Global, driver: u32, number: u32) -> Result<(), StoreFault>
-        ensures { Acts stands is_clean is_live leaves is_same is_same_of (λ _. tt) self.old self.new result (withdrawn driver number) };
+        ensures of_no_file { IsOfNoFile result }
+        ensures withdrawn { Acts stands is_clean is_live leaves is_same is_same_of (λ _. tt) self.old self.new result (withdrawn driver number) };
 
     /// Sets the day, from 2000-01-03 to 2099-12-31, from which a driver is examined: S4, S9.
     fn rebase(&mut self, driver: u32, base: Day) -> Result<(), StoreFault>
         requires { IsReadDay base }
-        ensures { Acts stands is_clean is_live leaves is_same is_same_of (λ _. tt) self.old self.new result (rebased driver base) };
+        ensures of_no_file { IsOfNoFile result }
+        ensures rebased { Acts stands is_clean is_live leaves is_same is_same_of (λ _. tt) self.old self.new result (rebased driver base) };
 
     /// The driver whose key this is, if there is one.
     fn who(&mut self, key: &[u8]) -> Result<Option<u32>, StoreFault>

@@ -30,9 +30,9 @@ returns-in_err-task-clause-performed g c =
     let word = c.args.word.now in
     let is = of_bytes c.args.want (Err f) c.as_bytes.result.now c.as_bytes-2.result.now driver word
     c.as_bytes.ensures.value c.as_bytes-2.ensures.value c.in_err-task.ensures.task in
-    subst (λ (answer : Answer). Performed k.stands k.is_clean k.is_live k.leaves keeper keeper c.args.want driver word unread failed answer)
+    subst (λ (answer : Answer). Performed k.stands k.is_clean k.is_live k.leaves k.is_same keeper keeper c.args.want driver word unread failed answer)
     (sym (faulty c.from_residual.result f c.from_residual.ensures.1))
-    (refused_words c.args.want driver word unread failed k.stands k.is_clean k.is_live k.leaves keeper f c.requires.reader is)
+    (refused_words c.args.want driver word unread failed k.stands k.is_clean k.is_live k.leaves k.is_same k.same_self keeper f c.requires.reader is)
 
 pub returns-then-not-takes_input-clause-performed : goal.returns-then-not-takes_input-clause-performed
 returns-then-not-takes_input-clause-performed g c =
@@ -43,8 +43,8 @@ returns-then-not-takes_input-clause-performed g c =
     let is = of_bytes c.args.want (Ok t) c.as_bytes.result.now c.as_bytes-2.result.now driver word
     c.as_bytes.ensures.value c.as_bytes-2.ensures.value c.in_ok-task.ensures.task in
     without_input c.args.want driver word (g.R.Source.unread c.args.reader.now) (g.R.Source.has_failed c.args.reader.now)
-    k.stands k.is_clean k.is_live k.leaves c.args.keeper.now c.carry_out.new.keeper (answer_of c.carry_out.result) t c.requires.reader is
-    c.in_ok-task.ensures.want (sym c.takes_input.ensures ∙ c.if-not-takes_input.true) c.carry_out.ensures.serves
+    k.stands k.is_clean k.is_live k.leaves k.is_same c.args.keeper.now c.carry_out.new.keeper (answer_of c.carry_out.result) t c.requires.reader is
+    c.in_ok-task.ensures.want (sym c.takes_input.ensures ∙ c.if-not-takes_input.true) c.carry_out.ensures.serves c.carry_out.ensures.asks
 
 pub returns-in_err-input-clause-performed : goal.returns-in_err-input-clause-performed
 returns-in_err-input-clause-performed g c =
@@ -58,9 +58,9 @@ returns-in_err-input-clause-performed g c =
     let word = c.args.word.now in
     let is = of_bytes c.args.want (Ok t) c.as_bytes.result.now c.as_bytes-2.result.now driver word
     c.as_bytes.ensures.value c.as_bytes-2.ensures.value c.in_ok-task.ensures.task in
-    subst (λ (answer : Answer). Performed k.stands k.is_clean k.is_live k.leaves keeper keeper c.args.want driver word unread failed answer)
+    subst (λ (answer : Answer). Performed k.stands k.is_clean k.is_live k.leaves k.is_same keeper keeper c.args.want driver word unread failed answer)
     (sym (faulty c.from_residual-in_err-input.result f c.from_residual-in_err-input.ensures.1))
-    (unread_input c.args.want driver word unread failed k.stands k.is_clean k.is_live k.leaves keeper t f is
+    (unread_input c.args.want driver word unread failed k.stands k.is_clean k.is_live k.leaves k.is_same k.same_self keeper t f is
     (sym c.takes_input.ensures ∙ c.if-not-takes_input.false) c.in_err-input.ensures)
 
 pub returns-clause-performed : goal.returns-clause-performed
@@ -76,9 +76,9 @@ returns-clause-performed g c =
     let is = of_bytes c.args.want (Ok t) c.as_bytes.result.now c.as_bytes-2.result.now driver word
     c.as_bytes.ensures.value c.as_bytes-2.ensures.value c.in_ok-task.ensures.task in
     over_input c.args.want driver word (g.R.Source.unread c.args.reader.now) (g.R.Source.has_failed c.input_of.new.reader)
-    k.stands k.is_clean k.is_live k.leaves keeper new answer t input is c.in_ok-task.ensures.want
+    k.stands k.is_clean k.is_live k.leaves k.is_same keeper new answer t input is c.in_ok-task.ensures.want
     (sym c.takes_input.ensures ∙ c.if-not-takes_input.false) c.in_ok-input.ensures
-    (subst (λ (bytes : List ℕ). Serves k.stands k.is_clean k.is_live k.leaves keeper new (is_command (want_of t)) answer (Does t bytes))
+    (subst (λ (bytes : List ℕ). Serves k.stands k.is_clean k.is_live k.leaves k.is_same keeper new (is_command (want_of t)) answer (Does t bytes))
     c.deref.ensures.value c.carry_out-2.ensures.serves)
     (subst (λ (bytes : List ℕ). AsksOnly keeper new (IsSound t bytes) (IsFaulty t bytes) answer)
     c.deref.ensures.value c.carry_out-2.ensures.asks)

@@ -20,8 +20,9 @@ loop-driver-init g c =
     record {
       read = record {
         clean = λ clean. c.drivers.ensures.reads.clean clean;
-        live = λ clean. c.in_ok-drivers.ensures.reads.live clean;
+        live = λ clean. c.in_ok-drivers.ensures.reads.live clean tt;
         state = λ clean s st. c.drivers.ensures.reads.state clean s st;
+        same = λ clean s st. c.drivers.ensures.reads.same clean s st;
         crash = λ clean past left. c.drivers.ensures.reads.crash clean past left;
         listed = λ clean s st.
             subst (λ (xs : List DriverSummary). AreSummaries s (map told_summary xs)) (sym c.deref-driver-items.ensures.value)
@@ -31,30 +32,30 @@ loop-driver-init g c =
           none_yet incident_head (AreIncidentsOf c.args.month) drivers (string_bytes c.in_ok-text.text) s c.in_ok-text.ensures;
     }
 
-pub returns-in_err-stretches : goal.returns-in_err-stretches
-returns-in_err-stretches g c =
+pub returns-in_err-stretches-clause-serves : goal.returns-in_err-stretches-clause-serves
+returns-in_err-stretches-clause-serves g c =
     let k = g.K.Keeper in
     let old = c.args.keeper.now in
     let new = c.stretches.new.self in
     let f = c.in_err-stretches.field-0.0 in
     let e = faulty c.from_residual-in_err-stretches.result (store_fault f) c.from_residual-in_err-stretches.ensures.1 in
     let does = ShowsMonthOfAll all.Incidents c.args.month in
-    subst (λ (answer : Answer). Serves k.stands k.is_clean k.is_live k.leaves old new false answer does) (sym e)
-    (not_read k.stands k.is_clean k.is_live k.leaves (λ _. tt) old c.loop-driver.keeper new
+    subst (λ (answer : Answer). Serves k.stands k.is_clean k.is_live k.leaves k.is_same old new false answer does) (sym e)
+    (not_read k.stands k.is_clean k.is_live k.leaves k.is_same k.same_then (λ _. tt) old c.loop-driver.keeper new
     c.deref-driver-items.result.now c.loop-driver.driver-index c.driver-item.result f does c.loop-driver-test.true c.driver-item.is
     c.loop-driver.invariant.read c.in_err-stretches.ensures.reads)
 
-pub returns-in_err-push_incidents : goal.returns-in_err-push_incidents
-returns-in_err-push_incidents g c =
+pub returns-in_err-push_incidents-clause-serves : goal.returns-in_err-push_incidents-clause-serves
+returns-in_err-push_incidents-clause-serves g c =
     let k = g.K.Keeper in
     let e = faulty c.from_residual-in_err-push_incidents.result fault.Memory c.from_residual-in_err-push_incidents.ensures.1 in
     let drivers = c.deref-driver-items.result.now in
     let does = ShowsMonthOfAll all.Incidents c.args.month in
     let old = c.args.keeper.now in
     let new = c.stretches.new.self in
-    subst (λ (answer : Answer). Serves k.stands k.is_clean k.is_live k.leaves old new false answer does) (sym e)
-    (no_memory k.stands k.is_clean k.is_live k.leaves old new drivers does
-    (read_on k.stands k.is_clean k.is_live k.leaves (λ _. tt) old c.loop-driver.keeper new drivers c.in_ok-stretches.stretches _
+    subst (λ (answer : Answer). Serves k.stands k.is_clean k.is_live k.leaves k.is_same old new false answer does) (sym e)
+    (no_memory k.stands k.is_clean k.is_live k.leaves k.is_same old new drivers does
+    (read_on k.stands k.is_clean k.is_live k.leaves k.is_same k.same_then (λ _. tt) old c.loop-driver.keeper new drivers c.in_ok-stretches.stretches _
     c.loop-driver.invariant.read c.in_ok-stretches.ensures.reads))
 
 pub loop-driver-preserved : goal.loop-driver-preserved
@@ -67,7 +68,7 @@ loop-driver-preserved g c =
     let before_text = string_bytes c.loop-driver.text in
     let after_text = string_bytes c.push_incidents.new.text in
     record {
-      read = read_on k.stands k.is_clean k.is_live k.leaves (λ _. tt) old c.loop-driver.keeper c.stretches.new.self drivers
+      read = read_on k.stands k.is_clean k.is_live k.leaves k.is_same k.same_then (λ _. tt) old c.loop-driver.keeper c.stretches.new.self drivers
           c.in_ok-stretches.stretches _ c.loop-driver.invariant.read c.in_ok-stretches.ensures.reads;
       rows = λ clean s st.
           let before = c.stretches.ensures.reads.clean clean in
@@ -82,9 +83,9 @@ loop-driver-preserved g c =
           c.deref-in-loop-driver.ensures.value c.in_ok-push_incidents.ensures));
     }
 
-pub returns : goal.returns
-returns g c =
+pub returns-clause-serves : goal.returns-clause-serves
+returns-clause-serves g c =
     let k = g.K.Keeper in
-    all_read k.stands k.is_clean k.is_live k.leaves incident_head (AreIncidentsOf c.args.month) c.args.keeper.now c.loop-driver.keeper
+    all_read k.stands k.is_clean k.is_live k.leaves k.is_same incident_head (AreIncidentsOf c.args.month) c.args.keeper.now c.loop-driver.keeper
     c.deref-driver-items.result.now c.loop-driver.driver-index (string_bytes c.loop-driver.text) c.loop-driver-test.false
     c.loop-driver.invariant.read c.loop-driver.invariant.rows

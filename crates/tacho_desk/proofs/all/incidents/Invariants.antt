@@ -9,7 +9,7 @@ abbrev pub invariant-loop-driver : goal.invariant-loop-driver
 invariant-loop-driver g l =
     let k = g.K.Keeper in
     record {
-      read : IsRead k.stands k.is_clean k.is_live k.leaves l.fn.keeper l.keeper l.driver-items;
+      read : IsRead k.stands k.is_clean k.is_live k.leaves k.is_same l.fn.keeper l.keeper l.driver-items;
       rows : k.is_clean l.keeper → (s : State) → k.stands l.fn.keeper s
           → IsSoFar incident_head (AreIncidentsOf l.month) l.driver-items l.driver-index (string_bytes l.text) s;
     }

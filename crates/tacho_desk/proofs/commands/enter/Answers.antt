@@ -15,9 +15,9 @@ returns-in_err-lines-clause-serves g c =
     let keeper = c.args.keeper.now in
     let f = c.in_err-lines.field-0.0 in
     let e = faulty c.from_residual.result (sheet_fault f) c.from_residual.ensures.1 in
-    subst (λ (answer : Answer). Serves k.stands k.is_clean k.is_live k.leaves keeper keeper true answer
+    subst (λ (answer : Answer). Serves k.stands k.is_clean k.is_live k.leaves k.is_same keeper keeper true answer
     (Enters c.args.driver c.args.input.now)) (sym e)
-    (unread_lines k.stands k.is_clean k.is_live k.leaves keeper c.args.driver c.args.input.now f c.in_err-lines.ensures.read)
+    (unread_lines k.stands k.is_clean k.is_live k.leaves k.is_same k.same_self keeper c.args.driver c.args.input.now f c.in_err-lines.ensures.read)
 
 pub returns-in_err-lines-clause-asks : goal.returns-in_err-lines-clause-asks
 returns-in_err-lines-clause-asks g c =
@@ -34,11 +34,13 @@ returns-clause-serves g c =
     let lines = c.in_ok-lines.lines.items in
     let new = c.enter_lines.new.keeper in
     let answer = answer_of c.enter_lines.result in
-    read_lines k.stands k.is_clean k.is_live k.leaves c.args.keeper.now new answer c.args.driver c.args.input.now lines
+    read_lines k.stands k.is_clean k.is_live k.leaves k.is_same c.args.keeper.now new answer c.args.driver c.args.input.now lines
     (lines_of c.args.input.now lines c.in_ok-lines.ensures.read)
-    (subst (λ (given : List EntryLine). Serves k.stands k.is_clean k.is_live k.leaves c.args.keeper.now new true answer
+    (subst (λ (given : List EntryLine). Serves k.stands k.is_clean k.is_live k.leaves k.is_same c.args.keeper.now new true answer
     (λ s. EntersRead c.args.driver s (Ok given)))
-    c.deref.ensures.value c.enter_lines.ensures)
+    c.deref.ensures.value c.enter_lines.ensures.serves)
 
 pub returns-clause-asks : goal.returns-clause-asks
-returns-clause-asks g c = inl (c.in_ok-lines.lines.items, lines_of c.args.input.now c.in_ok-lines.lines.items c.in_ok-lines.ensures.read)
+returns-clause-asks g c =
+    let lines = c.in_ok-lines.lines.items in
+    inl ((lines, lines_of c.args.input.now lines c.in_ok-lines.ensures.read), c.enter_lines.ensures.archive)

@@ -13,9 +13,9 @@ returns-in_err-imported-clause-serves g c =
     let k = g.K.Keeper in
     let f = c.in_err-imported.field-0.0 in
     let e = faulty c.from_residual.result (store_fault f) c.from_residual.ensures.1 in
-    subst (λ (answer : Answer). Serves k.stands k.is_clean k.is_live k.leaves c.args.keeper.now c.import.new.self true answer
+    subst (λ (answer : Answer). Serves k.stands k.is_clean k.is_live k.leaves k.is_same c.args.keeper.now c.import.new.self true answer
     (Imports c.args.caller c.args.part c.args.input.now)) (sym e)
-    (import_refused k.stands k.is_clean k.is_live k.leaves c.args.keeper.now c.import.new.self c.args.caller c.args.part c.args.input.now f
+    (import_refused k.stands k.is_clean k.is_live k.leaves k.is_same c.args.keeper.now c.import.new.self c.args.caller c.args.part c.args.input.now f
     c.in_err-imported.ensures.unreadable c.in_err-imported.ensures.readable c.in_err-imported.ensures.imported)
 
 pub returns-in_err-imported-clause-asks : goal.returns-in_err-imported-clause-asks
@@ -24,17 +24,18 @@ returns-in_err-imported-clause-asks g c =
     let e = faulty c.from_residual.result (store_fault f) c.from_residual.ensures.1 in
     let t = task.Import c.args.caller c.args.part in
     subst (λ (answer : Answer). AsksOnly c.args.keeper.now c.import.new.self (IsSound t c.args.input.now) (IsFaulty t c.args.input.now) answer) (sym e)
-    (import_asks c.args.keeper.now c.import.new.self c.args.caller c.args.part c.args.input.now f c.in_err-imported.ensures.unreadable)
+    (import_asks c.args.keeper.now c.import.new.self c.args.caller c.args.part c.args.input.now f c.in_err-imported.ensures.unreadable
+    c.in_err-imported.ensures.readable)
 
 pub returns-clause-serves : goal.returns-clause-serves
 returns-clause-serves g c =
     let k = g.K.Keeper in
     let x = c.in_ok-imported.imported in
     let keeper = c.args.keeper.now in
-    subst (λ (told : Told). Serves k.stands k.is_clean k.is_live k.leaves keeper c.import.new.self true (Ok told)
+    subst (λ (told : Told). Serves k.stands k.is_clean k.is_live k.leaves k.is_same keeper c.import.new.self true (Ok told)
     (Imports c.args.caller c.args.part c.args.input.now))
     (sym c.imported_text.ensures)
-    (import_taken k.stands k.is_clean k.is_live k.leaves keeper c.import.new.self c.args.caller c.args.part c.args.input.now x
+    (import_taken k.stands k.is_clean k.is_live k.leaves k.is_same keeper c.import.new.self c.args.caller c.args.part c.args.input.now x
     c.in_ok-imported.ensures.imported)
 
 pub returns-clause-asks : goal.returns-clause-asks

@@ -5,10 +5,11 @@ use Rattle.tacho_state.specs.declared.summary.DriverSummary.{DriverSummary}
 use Rattle.tacho_sheet.specs.Text.{summary_line}
 use Rattle.tacho_desk.proofs.readings.drivers.Goals as goal
 
-pub returns : goal.returns
-returns g c = record {
+pub returns-clause-serves : goal.returns-clause-serves
+returns-clause-serves g c = record {
   clean = c.drivers.ensures.reads.clean;
-  live = λ clean. c.in_ok-drivers.ensures.reads.live clean;
+  live = λ clean. c.in_ok-drivers.ensures.reads.live clean tt;
+  same = λ unchanged. c.drivers.ensures.reads.same;
   kept = λ is. cc;
   done = λ clean s stands.
       let text = c.in_ok-driver_text.ensures

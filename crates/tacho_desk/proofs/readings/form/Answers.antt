@@ -1,14 +1,17 @@
-use Rattle.std.proofs.Common.{inl, refl, subst, map, List}
+use Rattle.std.proofs.Common.{rules, inl, refl, subst, map, List}
 use Rattle.tacho_stretches.specs.declared.stretch.Stretch.{Stretch}
+use Rattle.tacho_state.specs.State.{State}
 use Rattle.tacho_stretches.specs.Stretches.{judged}
+use Rattle.tacho_desk.proofs.MeantLemmas.{same_after}
 use Rattle.tacho_desk.proofs.ShownLemmas.{AreEnds, form_shown}
 use Rattle.tacho_desk.proofs.readings.form.Goals as goal
 
-pub returns : goal.returns
-returns g c =
+pub returns-clause-serves : goal.returns-clause-serves
+returns-clause-serves g c =
     record {
       clean = λ clean. c.stretches.ensures.reads.clean (c.line_within.ensures.reads.clean clean);
-      live = λ clean. c.in_ok-line.ensures.reads.live clean;
+      live = λ clean. c.in_ok-line.ensures.reads.live clean tt;
+      same = λ unchanged. same_after g.K.Keeper.same_then c.stretches.ensures.reads.same c.stretches.ensures.reads.state c.line_within.ensures.reads;
       kept = λ is. cc;
       done = λ clean s stands.
           let clean_line = c.line_within.ensures.reads.clean clean in
@@ -28,3 +31,10 @@ returns g c =
           let clean_line = c.line_within.ensures.reads.clean clean in
           inl (c.line_within.ensures.reads.crash clean past (c.stretches.ensures.reads.crash clean_line past left));
     }
+
+pub returns-in_err-line-clause-serves : goal.returns-in_err-line-clause-serves
+returns-in_err-line-clause-serves g c =
+    let k = g.K.Keeper in
+    let same : k.is_clean c.line_within.new.self → (s : State) → k.stands c.args.keeper.now s → k.is_same c.args.keeper.now c.line_within.new.self =
+    same_after k.same_then c.stretches.ensures.reads.same c.stretches.ensures.reads.state c.line_within.ensures.reads in
+    search rules

@@ -3,12 +3,13 @@ use Rattle.tacho_sheet.specs.Reports.{AreBounds}
 use Rattle.tacho_desk.proofs.ShownLemmas.{gaps_shown}
 use Rattle.tacho_desk.proofs.readings.gaps.Goals as goal
 
-pub returns : goal.returns
-returns g c =
+pub returns-clause-serves : goal.returns-clause-serves
+returns-clause-serves g c =
     let bounds : AreBounds c.args.month c.month_range-start.result.0 c.month_range-start.result.1 = record { first = c.month_range-start.ensures.start; end = c.month_range-start.ensures.past } in
     record {
       clean = c.line_within.ensures.reads.clean;
-      live = λ clean. c.in_ok-line.ensures.reads.live clean;
+      live = λ clean. c.in_ok-line.ensures.reads.live clean tt;
+      same = λ unchanged. c.line_within.ensures.reads.same;
       kept = λ is. cc;
       done = λ clean s stands. (
         s,

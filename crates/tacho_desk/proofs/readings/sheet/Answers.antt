@@ -1,14 +1,19 @@
-use Rattle.std.proofs.Common.{inl, refl, subst, List, ℕ, string_bytes}
+use Rattle.std.proofs.Common.{rules, inl, refl, subst, List, ℕ, string_bytes}
+use Rattle.tacho_state.specs.State.{State}
 use Rattle.tacho_sheet.specs.Reports.{AreBounds, IsMonthSheet}
+use Rattle.tacho_desk.proofs.MeantLemmas.{same_after}
 use Rattle.tacho_desk.proofs.ShownLemmas.{sheet_shown}
 use Rattle.tacho_desk.proofs.readings.sheet.Goals as goal
 
-pub returns : goal.returns
-returns g c =
+pub returns-clause-serves : goal.returns-clause-serves
+returns-clause-serves g c =
     let bounds : AreBounds c.args.month c.month_range-start.result.0 c.month_range-start.result.1 = record { first = c.month_range-start.ensures.start; end = c.month_range-start.ensures.past } in
     record {
       clean = λ clean. c.name.ensures.clean (c.line_within.ensures.reads.clean (c.report.ensures.reads.clean clean));
-      live = λ clean. c.in_ok-report.ensures.reads.live clean;
+      live = λ clean. c.in_ok-report.ensures.reads.live clean tt;
+      same = λ unchanged.
+          same_after g.K.Keeper.same_then (same_after g.K.Keeper.same_then c.name.ensures.same c.name.ensures.state c.line_within.ensures.reads)
+          (λ clean s stands. c.line_within.ensures.reads.state clean s (c.name.ensures.state (c.line_within.ensures.reads.clean clean) s stands)) c.report.ensures.reads;
       kept = λ is. cc;
       done = λ clean s stands.
           let clean_line = c.report.ensures.reads.clean clean in
@@ -30,3 +35,26 @@ returns g c =
           let line_left = c.line_within.ensures.reads.crash clean_line past (c.name.ensures.crash clean_name past left) in
           inl (c.report.ensures.reads.crash clean past line_left);
     }
+
+pub returns-in_err-line-clause-serves : goal.returns-in_err-line-clause-serves
+returns-in_err-line-clause-serves g c =
+    let k = g.K.Keeper in
+    let same : k.is_clean c.line_within.new.self → (s : State) → k.stands c.args.keeper.now s → k.is_same c.args.keeper.now c.line_within.new.self =
+    same_after k.same_then c.name.ensures.same c.name.ensures.state c.line_within.ensures.reads in
+    search rules
+
+pub returns-in_err-report-clause-serves : goal.returns-in_err-report-clause-serves
+returns-in_err-report-clause-serves g c =
+    let k = g.K.Keeper in
+    let same : k.is_clean c.report.new.self → (s : State) → k.stands c.args.keeper.now s → k.is_same c.args.keeper.now c.report.new.self =
+    same_after k.same_then (same_after k.same_then c.name.ensures.same c.name.ensures.state c.line_within.ensures.reads)
+    (λ clean s stands. c.line_within.ensures.reads.state clean s (c.name.ensures.state (c.line_within.ensures.reads.clean clean) s stands)) c.report.ensures.reads in
+    search rules
+
+pub returns-in_err-text-clause-serves : goal.returns-in_err-text-clause-serves
+returns-in_err-text-clause-serves g c =
+    let k = g.K.Keeper in
+    let same : k.is_clean c.report.new.self → (s : State) → k.stands c.args.keeper.now s → k.is_same c.args.keeper.now c.report.new.self =
+    same_after k.same_then (same_after k.same_then c.name.ensures.same c.name.ensures.state c.line_within.ensures.reads)
+    (λ clean s stands. c.line_within.ensures.reads.state clean s (c.name.ensures.state (c.line_within.ensures.reads.clean clean) s stands)) c.report.ensures.reads in
+    search rules

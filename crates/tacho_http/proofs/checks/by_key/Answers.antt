@@ -12,7 +12,7 @@ pub returns-then-eq-clause-responds : goal.returns-then-eq-clause-responds
 returns-then-eq-clause-responds g c h is =
     let k = g.K.Keeper in
     let same : bytes_eq c.args.key.now c.args.office_key.now ≡ true = cc in
-    by_office k.stands k.is_clean k.is_live k.leaves c.args.keeper.now c.by_caller.new.keeper (is_post (method_of h.method))
+    by_office k.stands k.is_clean k.is_live k.leaves k.is_same k.same_self c.args.keeper.now c.by_caller.new.keeper (is_post (method_of h.method))
     (g.R.Source.unread c.args.reader.now) c.by_caller.result c.args.office_key.now c.args.key.now h
     c.args.request.now.behind.now same (c.by_caller.ensures.responds h is)
 
@@ -20,7 +20,7 @@ pub returns-in-Ok-Some-clause-responds : goal.returns-in-Ok-Some-clause-responds
 returns-in-Ok-Some-clause-responds g c h is =
     let k = g.K.Keeper in
     let other : bytes_eq c.args.key.now c.args.office_key.now ≡ false = cc in
-    by_driver k.stands k.is_clean k.is_live k.leaves c.args.keeper.now c.who.new.self c.by_caller-in-Ok-Some.new.keeper (is_post (method_of h.method)) (g.R.Source.unread c.args.reader.now)
+    by_driver k.stands k.is_clean k.is_live k.leaves k.is_same k.same_then c.args.keeper.now c.who.new.self c.by_caller-in-Ok-Some.new.keeper (is_post (method_of h.method)) (g.R.Source.unread c.args.reader.now)
     c.by_caller-in-Ok-Some.result c.args.office_key.now c.args.key.now c.in-Ok-Some.number h c.args.request.now.behind.now other
     (subst (λ (found : Option ℕ). Reads k.stands k.is_clean k.is_live k.leaves k.is_same (λ (n : Option ℕ). n)
     c.args.keeper.now c.who.new.self (Ok found) (owner c.args.key.now)) c.in-Ok-Some.field-0-is c.in-Ok-Some.ensures)
@@ -30,7 +30,7 @@ pub returns-in-Ok-None-clause-responds : goal.returns-in-Ok-None-clause-responds
 returns-in-Ok-None-clause-responds g c h is =
     let k = g.K.Keeper in
     let other : bytes_eq c.args.key.now c.args.office_key.now ≡ false = cc in
-    by_nobody k.stands k.is_clean k.is_live k.leaves c.args.keeper.now c.who.new.self (is_post (method_of h.method)) (g.R.Source.unread c.args.reader.now) c.fixed.result
+    by_nobody k.stands k.is_clean k.is_live k.leaves k.is_same k.same_then c.args.keeper.now c.who.new.self (is_post (method_of h.method)) (g.R.Source.unread c.args.reader.now) c.fixed.result
     c.args.office_key.now c.args.key.now h c.args.request.now.behind.now other c.fixed.ensures
     (subst (λ (found : Option ℕ). Reads k.stands k.is_clean k.is_live k.leaves k.is_same (λ (n : Option ℕ). n)
     c.args.keeper.now c.who.new.self (Ok found) (owner c.args.key.now)) c.in-Ok-None.field-0-is c.in-Ok-None.ensures)
@@ -38,7 +38,7 @@ returns-in-Ok-None-clause-responds g c h is =
 pub returns-in-Err-clause-responds : goal.returns-in-Err-clause-responds
 returns-in-Err-clause-responds g c h is =
     let k = g.K.Keeper in
-    by_none k.stands k.is_clean k.is_live k.leaves c.args.keeper.now c.who.new.self (is_post (method_of h.method)) (g.R.Source.unread c.args.reader.now) c.fixed-in-Err.result
+    by_none k.stands k.is_clean k.is_live k.leaves k.is_same k.same_then c.args.keeper.now c.who.new.self (is_post (method_of h.method)) (g.R.Source.unread c.args.reader.now) c.fixed-in-Err.result
     c.args.office_key.now c.args.key.now h c.args.request.now.behind.now c.in-Err.field-0 c.fixed-in-Err.ensures c.in-Err.ensures
 
 pub returns-then-eq-clause-lacks : goal.returns-then-eq-clause-lacks

@@ -6,33 +6,35 @@ use Rattle.tacho_http.specs.Answer.{is_done}
 use Rattle.tacho_http.specs.Reply.{Reply}
 use Rattle.tacho_http.specs.Serve.{Reacts, bad, large}
 use Rattle.tacho_http.proofs.HeadLemmas.{begins_with, key_found, no_request, refused, short_came}
-use Rattle.tacho_http.proofs.RespondLemmas.{head_answered, keyed, nothing_answered, unkeyed, unread_head}
+use Rattle.tacho_http.proofs.RespondLemmas.{head_answered, headless_answered, keyed, unkeyed, unread_head}
 use Rattle.tacho_http.proofs.exchange.respond_in.Goals as goal
 
 pub returns-in-Err-Bad-clause-answered : goal.returns-in-Err-Bad-clause-answered
 returns-in-Err-Bad-clause-answered g c =
     let k = g.K.Keeper in
     let r = c.in-Err-Bad.ensures.refused in
-    nothing_answered k.stands k.is_clean k.is_live k.leaves c.args.office_key.now c.args.keeper.now (g.R.Source.unread c.args.reader.now) (g.R.Source.unread c.read_head.new.reader)
-    c.fixed.result r.input r.told (ap (λ (reply : Reply). is_done reply.status) c.fixed.ensures)
+    let why = subst (λ (f : HeadFault). Refuses 8192 32 r.input f) c.in-Err-Bad.field-0-is
+    (refused (length c.args.buffer.now) (length c.args.fields.now) r.input c.in-Err-Bad.field-0 r.refused c.requires.limit c.requires.room) in
+    headless_answered k.stands k.is_clean k.is_live k.leaves k.is_same k.same_self c.args.office_key.now c.args.keeper.now (g.R.Source.unread c.args.reader.now) (g.R.Source.unread c.read_head.new.reader)
+    c.fixed.result r.input r.told why.0 (ap (λ (reply : Reply). is_done reply.status) c.fixed.ensures)
     (λ s. subst (λ (reply : Reply). Reacts c.args.office_key.now r.input s reply s) (sym c.fixed.ensures)
-    (bad (subst (λ (f : HeadFault). Refuses 8192 32 r.input f) c.in-Err-Bad.field-0-is
-    (refused (length c.args.buffer.now) (length c.args.fields.now) r.input c.in-Err-Bad.field-0 r.refused c.requires.limit c.requires.room))))
+    (bad why))
 
 pub returns-in-Err-TooLarge-clause-answered : goal.returns-in-Err-TooLarge-clause-answered
 returns-in-Err-TooLarge-clause-answered g c =
     let k = g.K.Keeper in
     let r = c.in-Err-TooLarge.ensures.refused in
-    nothing_answered k.stands k.is_clean k.is_live k.leaves c.args.office_key.now c.args.keeper.now (g.R.Source.unread c.args.reader.now) (g.R.Source.unread c.read_head.new.reader)
-    c.fixed-in-Err-TooLarge.result r.input r.told (ap (λ (reply : Reply). is_done reply.status) c.fixed-in-Err-TooLarge.ensures)
+    let why = subst (λ (f : HeadFault). Refuses 8192 32 r.input f) c.in-Err-TooLarge.field-0-is
+    (refused (length c.args.buffer.now) (length c.args.fields.now) r.input c.in-Err-TooLarge.field-0 r.refused c.requires.limit c.requires.room) in
+    headless_answered k.stands k.is_clean k.is_live k.leaves k.is_same k.same_self c.args.office_key.now c.args.keeper.now (g.R.Source.unread c.args.reader.now) (g.R.Source.unread c.read_head.new.reader)
+    c.fixed-in-Err-TooLarge.result r.input r.told why.0 (ap (λ (reply : Reply). is_done reply.status) c.fixed-in-Err-TooLarge.ensures)
     (λ s. subst (λ (reply : Reply). Reacts c.args.office_key.now r.input s reply s) (sym c.fixed-in-Err-TooLarge.ensures)
-    (large (subst (λ (f : HeadFault). Refuses 8192 32 r.input f) c.in-Err-TooLarge.field-0-is
-    (refused (length c.args.buffer.now) (length c.args.fields.now) r.input c.in-Err-TooLarge.field-0 r.refused c.requires.limit c.requires.room))))
+    (large why))
 
 pub returns-in-Err-Read-clause-answered : goal.returns-in-Err-Read-clause-answered
 returns-in-Err-Read-clause-answered g c =
     let k = g.K.Keeper in
-    unread_head k.stands k.is_clean k.is_live k.leaves c.args.office_key.now c.args.keeper.now (g.R.Source.unread c.args.reader.now) (g.R.Source.unread c.read_head.new.reader) _
+    unread_head k.stands k.is_clean k.is_live k.leaves k.is_same k.same_self c.args.office_key.now c.args.keeper.now (g.R.Source.unread c.args.reader.now) (g.R.Source.unread c.read_head.new.reader) _
     (λ IsBy. no_request IsBy (length c.args.buffer.now) (g.R.Source.unread c.args.reader.now) (g.R.Source.unread c.read_head.new.reader)
     (c.in-Err-Read.ensures.unfinished (ap Err c.in-Err-Read.field-0-is)) c.requires.limit)
 
@@ -48,7 +50,7 @@ returns-in-Some-clause-answered g c =
     let short = short_came c.read_head.new.buffer c.in-Ok.head.filled (length c.args.buffer.now) c.read_head.auto.buffer c.requires.limit in
     let few = c.read_head.auto.fields ∙ c.requires.room in
     let has = key_found (Some c.in-Some.key.now) (map (header_bytes r.buffer.now) r.fields.now) h c.in-Some.ensures is.fields in
-    keyed k.stands k.is_clean k.is_live k.leaves c.args.office_key.now c.args.keeper.now c.by_key.new.keeper c.in-Some.key.now came r.behind.now h
+    keyed k.stands k.is_clean k.is_live k.leaves k.is_same k.same_self c.args.office_key.now c.args.keeper.now c.by_key.new.keeper c.in-Some.key.now came r.behind.now h
     (g.R.Source.unread c.args.reader.now) (g.R.Source.unread c.read_head.new.reader) (g.R.Source.unread c.by_key.new.reader) c.by_key.result
     has c.in-Ok.ensures.read
     (λ more. subst (λ (behind : List ℕ). BeginsWith 8192 32 (came ++ more) h (behind ++ more)) (sym c.request_of-request.ensures.behind)
@@ -65,8 +67,10 @@ returns-in-None-clause-answered g c =
     let is = c.request_of-request.ensures.request h d.1.1 in
     let short = short_came c.read_head.new.buffer c.in-Ok.head.filled (length c.args.buffer.now) c.read_head.auto.buffer c.requires.limit in
     let few = c.read_head.auto.fields ∙ c.requires.room in
-    head_answered k.stands k.is_clean k.is_live k.leaves c.args.office_key.now c.args.keeper.now (g.R.Source.unread c.args.reader.now) (g.R.Source.unread c.read_head.new.reader)
-    c.fixed-in-None.result came c.in-Ok.ensures.read (ap (λ (reply : Reply). is_done reply.status) c.fixed-in-None.ensures)
-    (λ more s. unkeyed s c.args.office_key.now (came ++ more) (drop c.in-Ok.head.spans.len came ++ more) h _
-    (begins_with (came ++ more) came more c.read_head.new.fields c.in-Ok.head.spans h short few refl d.0 d.1.1)
+    let behind = drop c.in-Ok.head.spans.len came in
+    let begins : (more : List ℕ) → BeginsWith 8192 32 (came ++ more) h (behind ++ more) =
+    λ more. begins_with (came ++ more) came more c.read_head.new.fields c.in-Ok.head.spans h short few refl d.0 d.1.1 in
+    head_answered k.stands k.is_clean k.is_live k.leaves k.is_same k.same_self c.args.office_key.now c.args.keeper.now (g.R.Source.unread c.args.reader.now) (g.R.Source.unread c.read_head.new.reader)
+    c.fixed-in-None.result came behind h c.in-Ok.ensures.read begins (ap (λ (reply : Reply). is_done reply.status) c.fixed-in-None.ensures)
+    (λ more s. unkeyed s c.args.office_key.now (came ++ more) (behind ++ more) h _ (begins more)
     (key_found None (map (header_bytes r.buffer.now) r.fields.now) h c.in-None.ensures is.fields) c.fixed-in-None.ensures)

@@ -19,13 +19,14 @@ returns-in_err-line-clause-reads g c =
       was_live = search rules;
       live = search rules;
       crash = search rules;
+      of_no_file = search rules;
     }
 
 pub returns-clause-within : goal.returns-clause-within
 returns-clause-within g c clean s shows =
     let clean_1 = c.take_held.ensures.reads.clean clean in
     let reads = c.in_ok-base.ensures.reads in
-    let holds = reads.state clean_1 s shows (reads.live clean_1) in
+    let holds = reads.state clean_1 s shows (reads.live clean_1 tt) in
     line_told (state g.S.Store c.begin.new.conn).now.trees c.args.driver c.args.start c.args.past s c.in_ok-base.field-0
     c.new-pass.result c.take_held.new.pass c.new-near.result.items c.take_held.new.near.items c.in_ok-line.line holds.1
     (c.in_ok-base.ensures.begun clean_1 s shows) c.new-near.ensures.items
@@ -35,7 +36,7 @@ pub returns-clause-stretches : goal.returns-clause-stretches
 returns-clause-stretches g c clean s shows =
     let clean_1 = c.take_held.ensures.reads.clean clean in
     let reads = c.in_ok-base.ensures.reads in
-    let holds = reads.state clean_1 s shows (reads.live clean_1) in
+    let holds = reads.state clean_1 s shows (reads.live clean_1 tt) in
     stretches_told (state g.S.Store c.begin.new.conn).now.trees c.args.driver c.args.start c.args.past s c.in_ok-base.field-0
     c.new-pass.result c.take_held.new.pass c.new-near.result.items c.take_held.new.near.items
     (map judged c.in_ok-finish.field-0.items) holds.1 (c.in_ok-base.ensures.begun clean_1 s shows) c.new-pass.ensures.none

@@ -7,7 +7,7 @@ pub returns-clause-report : goal.returns-clause-report
 returns-clause-report g c clean s shows =
     let clean_1 = c.feed_held.ensures.reads.clean clean in
     let reads = c.in_ok-base.ensures.reads in
-    let holds = reads.state clean_1 s shows (reads.live clean_1) in
+    let holds = reads.state clean_1 s shows (reads.live clean_1 tt) in
     let early : c.in_ok-base.field-0.base ≤ c.new.result = omega (arith, c.in_ok-base.ensures.base.1) in
     report_told (state g.S.Store c.begin.new.conn).now.trees c.args.driver c.new.result s c.in_ok-base.field-0
     c.in_ok-horizon.horizon c.new-scan.result c.empty-found.result
