@@ -67,7 +67,7 @@ module _ (db : Trees) (s : State) (n : ℕ) (d : Driver) (a b : ℕ) (spans : Li
       (card_kept t s n d of is) card_near h
   by_lines (Ok (Some news)) h = goes_in news.card_spans.items news.held.items h
   by_lines (Err fault) (inl e) = subst (λ f. AreDecided db s n d spans (Err f)) (sym e) (λ part file. tt)
-  by_lines (Err fault) (inr (inl e)) = subst (λ f. AreDecided db s n d spans (Err f)) (sym e) (λ part file. tt)
+  by_lines (Err fault) (inr (inl torn)) = subst (λ f. AreDecided db s n d spans (Err f)) (sym torn.0) (λ part file. tt)
   by_lines (Err fault) (inr (inr it)) =
       subst (λ f. AreDecided db s n d spans (Err f)) (sym it.1)
       (λ part file. contradicted_import d part file (spans_of n t.card_spans) (spans_of n t.held) card_line line spans a b it.0

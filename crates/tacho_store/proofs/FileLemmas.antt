@@ -65,7 +65,7 @@ module _ {K : Type 0} (stands : K → State → Type 0) (is_clean is_live : K �
     others = λ _ s h n _. self_of k s h n;
     answered = λ _ answered. absurd (silent answered);
     was_live = λ _ live. live;
-    live = λ _. tt;
+    live = λ _ answered. absurd (silent answered);
     crash = λ _ s past _ left. more k _ past left;
     shut = λ _ _ past left. left;
     refused = λ _ _ past left. left;

@@ -12,6 +12,7 @@ mod DecisionLemmas
 mod AdditionLemmas
 mod EmptyLemmas
 mod OldLemmas
+mod OpeningLemmas
 mod FileLemmas
 mod WithdrawalLemmas
 mod EnteringLemmas

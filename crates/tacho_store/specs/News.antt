@@ -17,7 +17,11 @@ AreNews card_line line spans card_gains gains =
 abbrev pub IsContradicted : List Span → List Span → StoreFault → Type 0
 IsContradicted line spans fault = (m : ℕ) × (fault ≡ Contradiction m) × IsFirstConflict (Together line spans) m
 
--- spans are refused that are new and contradict what the driver holds; and there may be no memory, or rows that don't fit together
+-- rows that no archive has: what downloads give is contradicted, and what the driver holds isn't
+abbrev pub IsTorn : List Span → List Span → List Span → Type 0
+IsTorn card_line line spans = (m : ℕ) × IsFirstConflict (Together card_line spans) m × (gains : List Span) × AreGains line spans gains
+
+-- Spans are refused that are new and contradict what the driver holds. S12 comes only of rows that no archive has.
 abbrev pub IsRefused : List Span → List Span → List Span → StoreFault → Type 0
 IsRefused card_line line spans fault =
-    OrMemory Memory fault ((fault ≡ Store) ⊎ ((m : ℕ) × (fault ≡ Contradiction m) × IsNew card_line spans × IsFirstConflict (Together line spans) m))
+    OrMemory Memory fault (((fault ≡ Store) × IsTorn card_line line spans) ⊎ ((m : ℕ) × (fault ≡ Contradiction m) × IsNew card_line spans × IsFirstConflict (Together line spans) m))

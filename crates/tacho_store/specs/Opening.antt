@@ -1,13 +1,16 @@
 -- Trusted in part: How an archive comes into a store, and how it is found there again.
 use Rattle.std.specs.Prelude.{◌≡◌, ◌≢◌, ◌⊎◌, ℕ, List, [], ◌∷◌, Option, Result, Err, OnOk, OnErr, IfOk, IsErr, IsTrue}
 use Rattle.std.specs.Borrow.{MutBor}
+use Rattle.sqlite.specs.Schema.{Schema}
+use Rattle.sqlite.specs.Tree.{Trees}
 use Rattle.sqlite.specs.State.{State as Sqlite, HasCleanDisk, KeepsCommit, Survives}
 use Rattle.sqlite.specs.Store.{Ghosts}
 use Rattle.sqlite.specs.Held.{Held, state}
+use Rattle.sqlite_catalog.specs.Listing.{IsSound}
 use Rattle.tacho_state.specs.declared.fault.StoreFault.{StoreFault}
 use Rattle.tacho_state.specs.declared.fault.StoreFault.TheVariants.{OldSchema}
 use Rattle.tacho_state.specs.State.{State}
-use Rattle.tacho_tables.specs.Schema.{old_schema}
+use Rattle.tacho_tables.specs.Schema.{old_schema, meta_rows, has_tables, archive_names, old_names}
 use Rattle.tacho_tables.specs.Making.{IsVersioned, TellsVersion}
 use Rattle.tacho_tables.specs.Tables.{IsVersion}
 use Rattle.tacho_tables.specs.Calls.{Stays}
@@ -21,13 +24,28 @@ pub record Makes {S : Type 0} (g : Ghosts S) (old new : MutBor (Held S)) {A : Ty
   pub keeps : HasCleanDisk (state g new.now) → KeepsCommit (state g old.now) (state g new.now)
   pub made : HasCleanDisk (state g new.now) → IsBlank (state g old.now) → OnOk result (Sees (state g new.now) [])
 
--- the schema that a store's catalog tells is 2, or 1, or it tells no table
+-- the connection's own schema is 2, or 1, or has no table
 abbrev pub IsKnown : Sqlite → Type 0
 IsKnown c = IsVersioned c.now ⊎ IsBlank c
 
--- it has tables, and where they are of schema 1 or 2 the version is 1
+-- the stored tables are those of schema 1 or of schema 2, whatever their rows
+abbrev pub AreVersioned : Trees → Type 0
+AreVersioned db = (schema : Schema) × IsVersioned (record { schema = schema; trees = db }) × IsSound schema db
+
+-- it has tables with the names of schema 1, which stand for no state of schema 2; where they are of schema 1 or 2 they state a version,
+-- and it is 1
 pub record IsOld (c : Sqlite) : Type 0 where
   pub tables : ¬ IsBlank c
+  pub names : IsTrue (has_tables old_names c.now.schema)
+  pub none : (s : State) → ¬ StandsFor c.now.trees s
+  pub stated : AreVersioned c.now.trees → c.now.trees meta_rows ≢ []
+  pub version : AreVersioned c.now.trees → (version : ℕ) → IsVersion version c.now.trees → version ≡ 1
+
+-- it has tables with the names of schema 1, and where the connection's own schema is 1 or 2 they state a version, and it is 1
+pub record IsFoundOld (c : Sqlite) : Type 0 where
+  pub tables : ¬ IsBlank c
+  pub names : IsTrue (has_tables old_names c.now.schema)
+  pub stated : IsVersioned c.now → c.now.trees meta_rows ≢ []
   pub version : IsVersioned c.now → (version : ℕ) → IsVersion version c.now.trees → version ≡ 1
 
 -- the faults of a store that isn't adopted
@@ -48,8 +66,21 @@ module _ (old new : Sqlite) where
     pub same : HasCleanDisk new → IsTrue new.is_open → new.now ≡ old.now
     pub crash : IsBlank old → Survives old new (λ db. StandsFor db [])
 
-  -- nothing has changed, and a stop leaves what it would have left before
+  -- the tables of an archive, of whatever version, or a store without tables, are as they were
+  pub record KeepsTables : Type 0 where
+    pub stands : (s : State) → StandsFor old.now.trees s → HasCleanDisk new → IsTrue new.is_open → new.now ≡ old.now
+    pub stood : (s : OldState) → StoodFor old.now.trees s → HasCleanDisk new → IsTrue new.is_open → new.now ≡ old.now
+    pub blank : IsBlank old → HasCleanDisk new → IsTrue new.is_open → new.now ≡ old.now
+    pub same : AreVersioned old.now.trees → HasCleanDisk new → IsTrue new.is_open → new.now ≡ old.now
+
+  -- nothing has changed, and a crash leaves what it would have left before
   pub record IsLeftAlone : Type 0 where
+    pub was_open : HasCleanDisk new → IsTrue new.is_open → IsTrue old.is_open
+    pub keeps : KeepsTables
+    pub survives : Survives old new (λ _. ⊥)
+
+  -- the same, where the connection's own schema is known
+  pub record IsFoundAlone : Type 0 where
     pub was_open : HasCleanDisk new → IsTrue new.is_open → IsTrue old.is_open
     pub same : HasCleanDisk new → IsTrue new.is_open → IsKnown old → new.now ≡ old.now
     pub survives : Survives old new (λ _. ⊥)
@@ -67,11 +98,13 @@ module _ (old new : Sqlite) where
 
     -- tables of schema 2 were found; nothing has changed
     pub record IsChecked : Type 0 where
-      pub alone : IsLeftAlone
+      pub alone : IsFoundAlone
       pub live : HasCleanDisk new → OnOk result (IsTrue new.is_open)
+      pub names : OnOk result (IsTrue (has_tables archive_names old.now.schema))
       pub missing : HasCleanDisk new → IsBlank old → IsErr result
+      pub stated : HasCleanDisk new → IsVersioned old.now → OnOk result (old.now.trees meta_rows ≢ [])
       pub version : HasCleanDisk new → IsVersioned old.now → (version : ℕ) → IsVersion version old.now.trees → OnOk result (version ≡ 2)
-      pub is_old : HasCleanDisk new → result ≡ Err OldSchema → IsTrue new.is_open × IsOld old
+      pub is_old : HasCleanDisk new → result ≡ Err OldSchema → IsTrue new.is_open × IsFoundOld old
 
     -- tables of schema 1 were carried over, or nothing has changed; a stop leaves what it would have left, or these tables, carried over
     pub record IsCarried : Type 0 where
@@ -95,10 +128,10 @@ module _ (old new : Sqlite) where
     pub version : HasCleanDisk new → IsVersioned old.now → IfOk result (TellsVersion old.now.trees)
     pub missing : HasCleanDisk new → IsBlank old → IsErr result
 
-  -- an archive that was not carried over is as it was; a stop leaves what it would have left, or the archive of schema 1 carried over
+  -- an archive that was not carried over is as it was; a crash leaves what it would have left, or the archive of schema 1 carried over
   pub record IsNotMigrated : Type 0 where
     pub was_open : HasCleanDisk new → IsTrue new.is_open → IsTrue old.is_open
-    pub same : HasCleanDisk new → IsTrue new.is_open → IsKnown old → new.now ≡ old.now
+    pub keeps : KeepsTables
     pub crash : (s : OldState) → StoodFor old.now.trees s → Survives old new (λ db. StandsFor db (with_office s))
     pub alone : (s : State) → StandsFor old.now.trees s → Survives old new (λ _. ⊥)
     pub blank : IsBlank old → Survives old new (λ _. ⊥)
@@ -120,7 +153,10 @@ module _ {K : Type 0} (stands : K → State → Type 0) (is_live : K → Type 0)
     pub left : (states : List State) → LeavesOneOf old states → leaves archive states
     pub rests : (s : State) → StandsFor old.now.trees s → leaves archive (s ∷ [])
     pub found : ¬ IsBlank old
-    pub version : IsVersioned old.now → (version : ℕ) → IsVersion version old.now.trees → version ≡ 2
+    pub names : IsTrue (has_tables archive_names old.now.schema)
+    pub none : (s : OldState) → ¬ StoodFor old.now.trees s
+    pub stated : AreVersioned old.now.trees → old.now.trees meta_rows ≢ []
+    pub version : AreVersioned old.now.trees → (version : ℕ) → IsVersion version old.now.trees → version ≡ 2
 
   -- the archive that a store had: of schema 1, whose entries are the office's now, or of schema 2, as it was; until it is changed a crash
   -- leaves it so
@@ -132,3 +168,4 @@ module _ {K : Type 0} (stands : K → State → Type 0) (is_live : K → Type 0)
     pub left : (s : State) → StandsFor old.now.trees s → (states : List State) → LeavesOneOf old states → leaves archive states
     pub rests : (s : State) → StandsFor old.now.trees s → leaves archive (s ∷ [])
     pub found : ¬ IsBlank old
+    pub names : IsTrue (has_tables archive_names old.now.schema) ⊎ IsTrue (has_tables old_names old.now.schema)

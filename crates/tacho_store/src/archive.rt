@@ -76,21 +76,24 @@ fn read_version<S: Alter>(conn: &mut Connection<S>) -> Result<Option<u32>, Store
     making::version(&mut tx).map_err(store_fault)
 }
 
-/// Asks a store for tables of schema 2, and changes nothing. S13 where they are of schema 1.
+/// Asks a store for tables of schema 2, and changes nothing. S13 where they are of schema 1. S12 where there are others, or where one is
+/// missing.
 fn check<S: Alter>(conn: &mut Connection<S>) -> Result<(), StoreFault>
     requires { conn.old.in_transaction ≡ false }
     ensures autocommit { conn.new.in_transaction ≡ false }
     ensures refused { IfErr result IsOpeningFault }
     ensures checked { IsChecked (state S.Store conn.old) (state S.Store conn.new) result }
 {
+    let has_archive = opening::has_archive(conn);
+    let has_old_archive = opening::has_old_archive(conn);
     let _settled = conn.is_autocommit();
     opening::ask(conn).map_err(store_fault)?;
     let version = read_version(conn)?;
     let _settled = conn.is_autocommit();
     opening::ask(conn).map_err(store_fault)?;
     match version {
-        Some(2) => Ok(()),
-        Some(1) => Err(StoreFault::OldSchema),
+        Some(2) if has_archive => Ok(()),
+        Some(1) if has_old_archive => Err(StoreFault::OldSchema),
         _ => Err(StoreFault::Store),
     }
 }
@@ -208,7 +211,7 @@ impl<S: Alter> Archive<S> {
 
 impl<S: Alter> Keeper for Archive<S> {
     ghost use Rattle.std.specs.Prelude.{◌≡◌, IsTrue, List, Result};
-    ghost use Rattle.std.proofs.Common.{inr};
+    ghost use Rattle.std.proofs.Common.{inr, refl, ◌∙◌};
     ghost use Rattle.sqlite.specs.State.{HasCleanDisk};
     ghost use Rattle.sqlite.specs.Held.{state};
     ghost use Rattle.tacho_reading.specs.Kept.{SeesWhileOpen, LeavesOneOf, IsSame, IsSameOf};
@@ -226,6 +229,10 @@ impl<S: Alter> Keeper for Archive<S> {
     ghost is_same_of = { λ n a b. IsSameOf n (state S.Store a.conn) (state S.Store b.conn) };
 
     ghost leaves_more = { λ a s states leaves db may. inr (leaves db may) };
+
+    ghost same_self = { λ a live. refl };
+
+    ghost same_then = { λ first second third was_live was is live. is live ∙ was (was_live live) };
 
     fn register(&mut self, driver: &Driver) -> Result<(), StoreFault> {
         register(&mut self.conn, driver)

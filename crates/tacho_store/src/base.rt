@@ -1,13 +1,14 @@
 ghost use Rattle.std.specs.Prelude.{◌≡◌, false};
 ghost use Rattle.tacho_state.specs.Steps.{rebased, is_monday};
 ghost use Rattle.tacho_reading.specs.Calls.{Steps};
+ghost use Rattle.tacho_state.specs.Acts.{IsOfNoFile};
 ghost use Rattle.tacho_reading.specs.Kept.{ActsOn};
 
 use sqlite::{Alter, Connection, Transaction};
 use tacho_reading::fault::store_fault;
 use tacho_reading::finding::driver_with;
 use tacho_state::StoreFault;
-use tacho_tables::drivers;
+use tacho_tables::{drivers, opening};
 use tacho_time::Day;
 
 /// Whether a day is a Monday.
@@ -37,16 +38,25 @@ fn rebase_in<S: Alter>(
 pub fn rebase<S: Alter>(conn: &mut Connection<S>, driver: u32, base: Day) -> Result<(), StoreFault>
     requires { conn.old.in_transaction ≡ false }
     ensures autocommit { conn.new.in_transaction ≡ false }
+    ensures of_no_file { IsOfNoFile result }
     ensures acts { ActsOn S.Store (λ _. tt) conn.old conn.new result (rebased driver base) }
 {
     let _settled = conn.is_autocommit();
     let mut tx = conn.transaction();
-    rebase_in(&mut tx, driver, base)?;
-    match tx.commit() {
-        Ok(()) => Ok(()),
-        Err(_) => {
-            let _undone = conn.is_autocommit();
-            Err(StoreFault::Store)
+    match rebase_in(&mut tx, driver, base) {
+        Ok(()) => match tx.commit() {
+            Ok(()) => Ok(()),
+            Err(_) => {
+                let _undone = conn.is_autocommit();
+                Err(StoreFault::Store)
+            }
+        },
+        Err(fault) => {
+            tx.rollback();
+            match opening::ask(conn) {
+                Ok(()) => Err(fault),
+                Err(failed) => Err(store_fault(failed)),
+            }
         }
     }
 }

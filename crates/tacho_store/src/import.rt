@@ -23,7 +23,7 @@ use tacho_reading::finding::driver_with;
 use tacho_reading::near::rows_near;
 use tacho_reading::spans::{line_of_stored, range_of, stored};
 use tacho_state::{Caller, Imported, StoreFault, first_number};
-use tacho_tables::{SpanTable, StoredSpan, TableFault, downloads, drivers, spans};
+use tacho_tables::{SpanTable, StoredSpan, TableFault, downloads, drivers, opening, spans};
 use tacho_time::Span;
 
 /// The driver whom an import is for, and how many downloads he has.
@@ -243,12 +243,20 @@ pub fn import<S: Alter>(
 {
     let _settled = conn.is_autocommit();
     let mut tx = conn.transaction();
-    let done = import_in(alloc, &mut tx, caller, part, file, content)?;
-    match tx.commit() {
-        Ok(()) => Ok(done),
-        Err(_) => {
-            let _undone = conn.is_autocommit();
-            Err(StoreFault::Store)
+    match import_in(alloc, &mut tx, caller, part, file, content) {
+        Ok(done) => match tx.commit() {
+            Ok(()) => Ok(done),
+            Err(_) => {
+                let _undone = conn.is_autocommit();
+                Err(StoreFault::Store)
+            }
+        },
+        Err(fault) => {
+            tx.rollback();
+            match opening::ask(conn) {
+                Ok(()) => Err(fault),
+                Err(failed) => Err(store_fault(failed)),
+            }
         }
     }
 }

@@ -1,6 +1,7 @@
 ghost use Rattle.std.specs.Prelude.{◌≡◌, false};
 ghost use Rattle.tacho_state.specs.Steps.{registered};
 ghost use Rattle.tacho_reading.specs.Calls.{Steps, Tells};
+ghost use Rattle.tacho_state.specs.Acts.{IsOfNoFile};
 ghost use Rattle.tacho_reading.specs.Kept.{ActsOn};
 ghost use Rattle.tacho_store.specs.Registering.{IsAskedFree};
 
@@ -8,7 +9,7 @@ use crate::base::is_monday;
 use sqlite::{Alter, Connection, Transaction};
 use tacho_reading::fault::store_fault;
 use tacho_state::{Driver, StoreFault};
-use tacho_tables::drivers;
+use tacho_tables::{drivers, opening};
 
 /// Whether nobody has the number, the key or the holder of a new driver: S1, S2, S3.
 #[tactic(auto, unfolding(crate::specs::Registering::IsAskedFree))]
@@ -56,17 +57,26 @@ fn register_in<S: Alter>(tx: &mut Transaction<'_, S>, driver: &Driver) -> Result
 pub fn register<S: Alter>(conn: &mut Connection<S>, driver: &Driver) -> Result<(), StoreFault>
     requires { conn.old.in_transaction ≡ false }
     ensures autocommit { conn.new.in_transaction ≡ false }
+    ensures of_no_file { IsOfNoFile result }
     ensures acts { ActsOn S.Store (λ _. tt) conn.old conn.new result
         (registered driver.now.number driver.now.holder driver.now.key driver.now.base driver.now.name) }
 {
     let _settled = conn.is_autocommit();
     let mut tx = conn.transaction();
-    register_in(&mut tx, driver)?;
-    match tx.commit() {
-        Ok(()) => Ok(()),
-        Err(_) => {
-            let _undone = conn.is_autocommit();
-            Err(StoreFault::Store)
+    match register_in(&mut tx, driver) {
+        Ok(()) => match tx.commit() {
+            Ok(()) => Ok(()),
+            Err(_) => {
+                let _undone = conn.is_autocommit();
+                Err(StoreFault::Store)
+            }
+        },
+        Err(fault) => {
+            tx.rollback();
+            match opening::ask(conn) {
+                Ok(()) => Err(fault),
+                Err(failed) => Err(store_fault(failed)),
+            }
         }
     }
 }

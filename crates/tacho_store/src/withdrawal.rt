@@ -9,6 +9,7 @@ ghost use Rattle.tacho_state.specs.Steps.{withdrawn};
 ghost use Rattle.tacho_tables.specs.Tables.{Tables, HasTables, is_near, row_of, with_withdrawn, IsArchive};
 ghost use Rattle.tacho_reading.specs.Standing.{stored_span, IsFit, AreFaulty};
 ghost use Rattle.tacho_reading.specs.Calls.{Tells, Steps, ChangesWhere};
+ghost use Rattle.tacho_state.specs.Acts.{IsOfNoFile};
 ghost use Rattle.tacho_reading.specs.Kept.{ActsOn};
 ghost use Rattle.tacho_reading.specs.Apart.{AreApart, rows_of};
 ghost use Rattle.tacho_store.specs.Withdrawing.{IsEntry, AreRowsFor, HaveNoRows, AreRenewed};
@@ -20,7 +21,7 @@ use tacho_reading::finding::driver_with;
 use tacho_reading::near::{first_start, rows_near};
 use tacho_reading::spans::{fault_of_rows, minute_of, spans_of, stored};
 use tacho_state::{StoreFault, inside_of, outside_of};
-use tacho_tables::{SpanTable, StoredEntry, StoredSpan, TableFault, entries, held, spans};
+use tacho_tables::{SpanTable, StoredEntry, StoredSpan, TableFault, entries, held, opening, spans};
 use tacho_time::{Minute, Span};
 
 /// A driver's entry that is not withdrawn: S4, S7, S8.
@@ -188,16 +189,25 @@ pub fn withdraw<S: Alter>(
 ) -> Result<(), StoreFault>
     requires { conn.old.in_transaction ≡ false }
     ensures autocommit { conn.new.in_transaction ≡ false }
+    ensures of_no_file { IsOfNoFile result }
     ensures acts { ActsOn S.Store (λ _. tt) conn.old conn.new result (withdrawn driver number) }
 {
     let _settled = conn.is_autocommit();
     let mut tx = conn.transaction();
-    withdraw_in(alloc, &mut tx, driver, number)?;
-    match tx.commit() {
-        Ok(()) => Ok(()),
-        Err(_) => {
-            let _undone = conn.is_autocommit();
-            Err(StoreFault::Store)
+    match withdraw_in(alloc, &mut tx, driver, number) {
+        Ok(()) => match tx.commit() {
+            Ok(()) => Ok(()),
+            Err(_) => {
+                let _undone = conn.is_autocommit();
+                Err(StoreFault::Store)
+            }
+        },
+        Err(fault) => {
+            tx.rollback();
+            match opening::ask(conn) {
+                Ok(()) => Err(fault),
+                Err(failed) => Err(store_fault(failed)),
+            }
         }
     }
 }

@@ -28,6 +28,13 @@ const OLD: [&str; 9] = [
     "INSERT INTO entries (driver, number, start, past, mark, withdrawn) VALUES (17, 1, 28499040, 28501920, 0, 1)",
 ];
 
+/// What makes the table of an archive of schema 2 that schema 1 doesn't have.
+const ENTRY_ROWS: &str =
+    "CREATE TABLE entry_rows (driver INTEGER NOT NULL REFERENCES drivers(driver), number INTEGER NOT NULL, start INTEGER NOT NULL, past INTEGER NOT NULL, mark INTEGER NOT NULL, withdrawn INTEGER NOT NULL CHECK (withdrawn IN (0, 1)), author TEXT NOT NULL, note TEXT NOT NULL, PRIMARY KEY (driver, number)) STRICT";
+
+/// What says that an archive is of schema 2.
+const IS_NEW: &str = "INSERT INTO meta (id, version) VALUES (1, 2)";
+
 /// A store in which statements were run.
 fn executed<S: Alter + Drop>(
     rt: &impl Abort,
@@ -52,6 +59,25 @@ fn store_of(
     ensures { IfOk result (λ conn. conn.in_transaction ≡ false) }
 {
     executed(rt, Connection::open_in_memory(alloc)?, statements)
+}
+
+/// A store in memory in which all statements were run but the one at this place.
+fn store_without(
+    rt: &impl Abort,
+    alloc: Global,
+    statements: &[&str],
+    left_out: usize,
+) -> Result<Connection<MemStore>, Fail>
+    ensures { IfOk result (λ conn. conn.in_transaction ≡ false) }
+{
+    let mut conn = Connection::open_in_memory(alloc)?;
+    for (place, statement) in statements.iter().enumerate() {
+        if place != left_out {
+            conn.execute(*statement, &[])?;
+        }
+    }
+    assert!(rt; conn.is_autocommit());
+    Ok(conn)
 }
 
 /// The archive that a store has, carried over where it is old.
@@ -157,6 +183,45 @@ fn a_store_without_an_archive_is_not_carried_over(rt: HostRuntime) -> Result<(),
     let conn = store_of(&rt, rt.alloc(), &["CREATE TABLE note (a INTEGER) STRICT"])?;
     let conn = refused(&rt, Archive::migrate(conn), StoreFault::Store)?;
     assert!(rt; conn.schema().tables.len() == 1);
+    Ok(())
+}
+
+/// Asserts that a store has no archive, neither as it is nor to be carried over.
+fn assert_no_archive(rt: &impl Abort, conn: Connection<MemStore>) -> Result<(), Fail>
+    requires { conn.in_transaction ≡ false }
+{
+    let conn = refused(rt, Archive::adopt(conn), StoreFault::Store)?;
+    refused(rt, Archive::migrate(conn), StoreFault::Store)?;
+    Ok(())
+}
+
+#[test]
+fn an_archive_that_lacks_a_table_is_none(rt: HostRuntime) -> Result<(), Fail> {
+    let alloc = rt.alloc();
+    let [
+        meta,
+        drivers,
+        downloads,
+        card_spans,
+        entries,
+        held,
+        is_old,
+        ..
+    ] = OLD;
+    let old = [meta, drivers, downloads, card_spans, entries, held, is_old];
+    let new = [
+        meta, drivers, downloads, card_spans, ENTRY_ROWS, held, IS_NEW,
+    ];
+    refused(
+        &rt,
+        Archive::adopt(store_of(&rt, alloc, &old)?),
+        StoreFault::OldSchema,
+    )?;
+    migrated(store_of(&rt, alloc, &new)?)?;
+    for left_out in 2..6 {
+        assert_no_archive(&rt, store_without(&rt, alloc, &old, left_out)?)?;
+        assert_no_archive(&rt, store_without(&rt, alloc, &new, left_out)?)?;
+    }
     Ok(())
 }
 

@@ -2,8 +2,40 @@ use Rattle.std.proofs.Common.{rules}
 use Rattle.tacho_store.proofs.StepsLemmas.{undone_keeps}
 use Rattle.tacho_store.proofs.import.import.Goals as goal
 
-pub returns-in_err-done-clause-acts : goal.returns-in_err-done-clause-acts
-returns-in_err-done-clause-acts g c = record {
+pub returns-in-Ok-commit-clause-acts : goal.returns-in-Ok-commit-clause-acts
+returns-in-Ok-commit-clause-acts g c = record {
+  clean = search rules;
+  answer = search rules;
+  state = search rules;
+  same = search rules;
+  others = search (rules, undone_keeps);
+  answered = search rules;
+  was_live = search rules;
+  live = search rules;
+  crash = search rules;
+  shut = search rules;
+  refused = search rules;
+  kept = search rules;
+}
+
+pub returns-in-Ok-ask-clause-acts : goal.returns-in-Ok-ask-clause-acts
+returns-in-Ok-ask-clause-acts g c = record {
+  clean = search rules;
+  answer = search rules;
+  state = search rules;
+  same = search rules;
+  others = search (rules, undone_keeps);
+  answered = search rules;
+  was_live = search rules;
+  live = search rules;
+  crash = search rules;
+  shut = search rules;
+  refused = search rules;
+  kept = search rules;
+}
+
+pub returns-in-Err-ask-clause-acts : goal.returns-in-Err-ask-clause-acts
+returns-in-Err-ask-clause-acts g c = record {
   clean = search rules;
   answer = search rules;
   state = search rules;

@@ -1,12 +1,10 @@
-use Rattle.std.proofs.Common.{◌≡◌, ◌∙◌, ℕ, List, [], ◌∷◌, Result, OnOk, IsTrue, inl, inr, sym, subst}
+use Rattle.std.proofs.Common.{◌≡◌, ◌∙◌, List, [], ◌∷◌, Result, OnOk, IsTrue, sym, subst, inl, inr}
 use Rattle.sqlite.specs.Effect.{Database}
 use Rattle.sqlite.specs.State.{State as Sqlite, HasCleanDisk, IsLive, Survives}
 use Rattle.sqlite.specs.Held.{state}
 use Rattle.sqlite.proofs.StateLemmas.{survives_then}
 use Rattle.tacho_tables.specs.Schema.{old_schema}
-use Rattle.tacho_tables.specs.Tables.{IsVersion}
-use Rattle.tacho_tables.specs.Making.{IsVersioned}
-use Rattle.tacho_tables.proofs.CatalogLemmas.{is_archive, is_old_schema}
+use Rattle.tacho_tables.proofs.CatalogLemmas.{is_old_schema}
 use Rattle.tacho_state.specs.declared.fault.StoreFault.{StoreFault}
 use Rattle.tacho_state.specs.State.{State}
 use Rattle.tacho_reading.specs.Standing.{StandsFor}
@@ -16,6 +14,20 @@ use Rattle.tacho_store.specs.Opening.{IsOld, IsLeftAlone, IsCarried, IsNotMigrat
 use Rattle.tacho_store.proofs.StopLemmas.{crash_by}
 use Rattle.tacho_store.proofs.archive.Archive.migrate.Goals as goal
 
+-- an archive that was adopted is what a migration makes of schema 2
+adopted_migrates : (old : Sqlite) {K : Type 0} {stands : K → State → Type 0} {is_live : K → Type 0} {leaves : K → List State → Type 0}
+    {archive : K} → IsAdopted stands is_live leaves old archive → IsMigrated stands is_live leaves old archive
+adopted_migrates old it = record {
+  carried = λ s stood. absurd (it.none s stood);
+  held = it.held;
+  live = it.live;
+  kept = λ s stood. absurd (it.none s stood);
+  left = λ s stands. it.left;
+  rests = it.rests;
+  found = it.found;
+  names = inl it.names;
+}
+
 -- ---- a store before a migration
 
 module _ (old : Sqlite) (live : IsLive old) where
@@ -23,33 +35,6 @@ module _ (old : Sqlite) (live : IsLive old) where
   schema_was : IsTrue old.is_open → (s : OldState) → StoodFor old.now.trees s → old.now.schema ≡ old_schema
   unfolding StoodFor
   schema_was opened s stood = is_old_schema old.now stood.0 stood.1 (live opened).0
-
-  -- and its version is not 2
-  not_of_one : IsTrue old.is_open → (IsVersioned old.now → (version : ℕ) → IsVersion version old.now.trees → version ≡ 2)
-      → (s : OldState) → StoodFor old.now.trees s → ⊥
-  unfolding StoodFor
-  not_of_one opened it s stood =
-      absurd (let e = it (inl (is_old_schema old.now stood.0 stood.1 (live opened).0)) 1 stood.1.meta in cc)
-
-  -- where they stand for a state of schema 2, it is not 1
-  not_of_two : IsTrue old.is_open → IsOld old → (s : State) → StandsFor old.now.trees s → ⊥
-  unfolding StandsFor
-  not_of_two opened it s stands =
-      let has = is_archive old.now stands.0 stands.1 (live opened).0 in
-      absurd (let e = it.version (inr (has.layout, has.schema)) 2 stands.1.meta in cc)
-
-  -- an archive that was adopted is what a migration makes of schema 2
-  adopted_migrates : {K : Type 0} {stands : K → State → Type 0} {is_live : K → Type 0} {leaves : K → List State → Type 0}
-      {archive : K} → IsAdopted stands is_live leaves old archive → IsMigrated stands is_live leaves old archive
-  adopted_migrates it = record {
-    carried = λ s stood. absurd (not_of_one it.was_open it.version s stood);
-    held = it.held;
-    live = it.live;
-    kept = λ s stood. absurd (not_of_one it.was_open it.version s stood);
-    left = λ s stands. it.left;
-    rests = it.rests;
-    found = it.found;
-  }
 
   -- a store of schema 1 that was left alone, and then was to be carried over
   module _ (mid new : Sqlite) (alone : IsLeftAlone old mid) (was : HasCleanDisk mid → IsTrue mid.is_open × IsOld old)
@@ -64,14 +49,14 @@ module _ (old : Sqlite) (live : IsLive old) where
 
     -- they stood for no state of schema 2
     first_old : HasCleanDisk new → (s : State) → StandsFor old.now.trees s → ⊥
-    first_old clean = not_of_two (first_open clean) (was (it.clean clean)).1
+    first_old clean = (was (it.clean clean)).1.none
 
     -- and they stood for a state of schema 1 until they were to be carried over
     still_stood : HasCleanDisk new → (s : OldState) → StoodFor old.now.trees s
         → (mid.now.schema ≡ old_schema) × StoodFor mid.now.trees s
     still_stood clean s stood =
         let schema = schema_was (first_open clean) s stood in
-        let same = alone.same (it.clean clean) (was (it.clean clean)).0 (inl (inl schema)) in
+        let same = alone.keeps.stood s stood (it.clean clean) (was (it.clean clean)).0 in
         subst (λ (d : Database). (d.schema ≡ old_schema) × StoodFor d.trees s) (sym same) (schema, stood)
 
     -- carried over, they stand for that state with the office as the author
@@ -89,21 +74,30 @@ module _ (old : Sqlite) (live : IsLive old) where
 
     -- where the second gave up nothing has changed, but that a stop may leave what was to be made
     not_migrated : (HasCleanDisk new → IsTrue new.is_open → new.now ≡ mid.now) → IsNotMigrated old new
-    not_migrated same = record {
-      was_open = λ clean opened. first_open clean;
-      same = λ clean opened known. same clean opened ∙ alone.same (it.clean clean) (was (it.clean clean)).0 known;
-      crash = λ s stood. crash_by old new _ survived (λ clean.
-          let at = still_stood clean s stood in
-          survives_then old mid new _ _ _ (λ _ db none. absurd none) (λ _ db may. may) alone.survives (it.crash at.0 s at.1));
-      alone = λ s stands. crash_by old new _ survived (λ clean. absurd (first_old clean s stands));
-      blank = λ blank. crash_by old new _ survived (λ clean. absurd (first_found clean blank));
-    }
+    not_migrated same =
+        let still = λ (clean : HasCleanDisk new) (opened : IsTrue new.is_open)
+        (kept : HasCleanDisk mid → IsTrue mid.is_open → mid.now ≡ old.now).
+        same clean opened ∙ kept (it.clean clean) (was (it.clean clean)).0 in
+        record {
+          was_open = λ clean opened. first_open clean;
+          keeps = record {
+            stands = λ s stands clean. absurd (first_old clean s stands);
+            stood = λ s stood clean opened. still clean opened (alone.keeps.stood s stood);
+            blank = λ blank clean. absurd (first_found clean blank);
+            same = λ has clean opened. still clean opened (alone.keeps.same has);
+          };
+          crash = λ s stood. crash_by old new _ survived (λ clean.
+              let at = still_stood clean s stood in
+              survives_then old mid new _ _ _ (λ _ db none. absurd none) (λ _ db may. may) alone.survives (it.crash at.0 s at.1));
+          alone = λ s stands. crash_by old new _ survived (λ clean. absurd (first_old clean s stands));
+          blank = λ blank. crash_by old new _ survived (λ clean. absurd (first_found clean blank));
+        }
 
 -- ---- the answers
 
 pub returns-in-Ok-clause-migrated : goal.returns-in-Ok-clause-migrated
 returns-in-Ok-clause-migrated g c clean =
-    adopted_migrates (state g.S.Store c.args.conn) c.schema-sound.ensures.live (c.in-Ok.ensures.adopted clean)
+    adopted_migrates (state g.S.Store c.args.conn) (c.in-Ok.ensures.adopted clean)
 
 pub returns-in-Ok-carry-clause-migrated : goal.returns-in-Ok-carry-clause-migrated
 returns-in-Ok-carry-clause-migrated g c clean =
@@ -123,6 +117,7 @@ returns-in-Ok-carry-clause-migrated g c clean =
       left = λ s stands. absurd (first_old old live mid new alone was it clean s stands);
       rests = λ s stands. absurd (first_old old live mid new alone was it clean s stands);
       found = first_found old live mid new alone was it clean;
+      names = inr (was (it.clean clean)).1.names;
     }
 
 pub returns-in-Err-carry-clause-refused : goal.returns-in-Err-carry-clause-refused
