@@ -6,8 +6,9 @@ had is asked of the system before a command and after its answer, so that neithe
 counts; what a command takes that is refused at its first word is taken out. Each time is the least of some rounds, and each ratio the
 median of the rounds' ratios. Before the first measure a program registers a driver, imports a card of one day, and enters and
 withdraws hours, so that it has met each statement. Behind each round all files have to have the same tables. The instructions of
-imports and withdrawals are those of a program that has done them less those of one that hasn't; both end before they close their
-file."""
+imports, of a batch of entries and of withdrawals are those of a program that has done them less those of one that hasn't; both end
+before they close their file, and what they leave has the same tables. Plain Rust adds each row by itself; its instructions are counted
+once more where it adds eight spans or four entries by an INSERT, as the product does."""
 import datetime
 import functools
 import json
@@ -28,10 +29,13 @@ SPARE, OLD, NEW = 999_999, 1, range(100, 110)  # the drivers of the one day, of 
 YEARS, DRIVERS = 10, 50
 ENTRIES, ENTERED = [10, 1_000, 10_000], 10  # entries that are there, and those that are entered and withdrawn
 BATCH = 5_000  # entries that a text has at the most, so that it isn't too large
+LINES = 1_000  # entries of the text whose entering is measured
+COUNTED = ["tacho", "plain", "many"]  # the sides whose instructions are counted
 ARCHIVES = {  # beside each the one from which its growth is told
     "empty": "empty",
     "ten years": "empty",
     "fifty drivers": "empty",
+    f"{LINES:,} lines": f"{LINES:,} lines",
     "10 entries": "10 entries",
     "ten years, 10 entries": "10 entries",
     "ten years, 1000 entries": "ten years, 10 entries",
@@ -185,7 +189,7 @@ def filling(files):
     for driver in range(1, DRIVERS + 1):
         drivers += registering(driver, files.a_driver(driver)) + importing(driver, 1, files.a_year(driver))
     entries = [entering_many(files, OLD, 1, count, files.past - 1) for count in ENTRIES]
-    return dict(zip(ARCHIVES, [[], years, drivers, alone + entries[0], *(years + entered for entered in entries)]))
+    return dict(zip(ARCHIVES, [[], years, drivers, alone, alone + entries[0], *(years + entered for entered in entries)]))
 
 
 def warming(files):
@@ -200,6 +204,7 @@ def measuring(files):
     first = importing(NEW[0], 1, files.a_year(NEW[0]))
     next_year = importing(OLD, YEARS + 1, files.a_year(OLD))
     works = [{"register": registers, "import": [work]} for work in (first, next_year, first)]
+    works.append({"enter": [entering(OLD, 1, LINES, files.sheet(files.past, LINES))]})
     for count in (ENTRIES[0], *ENTRIES):
         numbers = range(count + 1, count + 1 + ENTERED)
         enters = [entering(OLD, number, 1, files.sheet(files.past + number, 1)) for number in numbers]
@@ -261,12 +266,16 @@ def content(path):
     return tables, rows
 
 
+def check_same(name, contents):
+    """The contents of the sides' files have to be the same."""
+    if any(other != contents[0] for other in contents):
+        sys.exit(f"the archives have other tables: {name}")
+
+
 def compare(folder, sides):
     """The sides' files of each archive have to have the same tables."""
     for name in ARCHIVES:
-        ours, *others = (content(path_of(folder, side, f"copy of {name}")) for side in sides)
-        if any(ours != theirs for theirs in others):
-            sys.exit(f"the archives have other tables: {name}")
+        check_same(name, [content(path_of(folder, side, f"copy of {name}")) for side in sides])
 
 
 def measured(sides, place, folder, fills, works, warm):
@@ -291,14 +300,23 @@ def instructions_behind(words, path, commands):
 
 
 def counted(sides, folder, name, works, warm):
-    """The instructions of the product and of plain Rust before an archive's last work, and with it."""
+    """The instructions of the product, and of plain Rust that adds each row by itself or many at once, before an archive's last work, and
+    with it."""
     *before, last = ([command for commands in work for command in commands] for work in works.values())
     before = [*warm, *(command for commands in before for command in commands)]
+    words = {**sides, "many": [*sides["plain"], "many"]}
+    contents = {}
 
     def side_of(side):
-        behind = lambda commands: instructions_behind(sides[side], copied(folder, side, name), commands)
+        def behind(commands):
+            path = copied(folder, side if side in sides else "plain", name)
+            taken = instructions_behind(words[side], path, commands)
+            contents[side] = content(path)
+            return taken
         return lambda: {"before": behind(before), "with": behind(before + last)}
-    return Instructions({side: side_of(side) for side in ("tacho", "plain")})
+    found = Instructions({side: side_of(side) for side in COUNTED})
+    check_same(name, [*contents.values()])
+    return found
 
 
 def settings(folder, side, words):
@@ -330,15 +348,17 @@ def archives(folder, program):
     make_files(sides, fills, folder)
     print(f"an archive: processor time in ms, the least of {ROUNDS} rounds, ratios to plain Rust and to Python, and growth")
     print(f"an import is of a year, {len(files.year_rows)} spans, by the office; ten years of that driver, or a year of fifty others")
-    print("enter is of one entry of eight hours, and withdraw of it, for a driver with other entries, and ten years or no cards")
+    print("enter is of one entry of eight hours, and withdraw of it, for a driver with other entries, and ten years or no cards;")
+    print(f"or it is of {LINES:,} such lines at once, one a day, for a driver without cards and entries")
     print("the growth is from the empty archive on, from no cards on to 10 entries with ten years, and from these on to more")
     print("a file of the archive's SQLite, with sums of its pages: journal_mode wal, synchronous 2, one process, cache of 2000 pages,")
     print("log of 1000 frames")
     for side, name in {"plain": "Rust", "stock": "Python"}.items():
         print(f"a file of stock SQLite {sqlite3.sqlite_version}, by {name}: {settings(folder, side, sides[side])}")
-    tell_instructions("of imports and withdrawals over a file millions")
+    tell_instructions("of imports, of the lines and of withdrawals over a file millions")
+    print("many is plain Rust that adds eight spans or four entries by an INSERT, as the product does, where plain adds each row by itself")
     taken, grown = (" ".join(f"{side:>{width}}" for side in sides) for width in (8, 7))
-    print(f"{'':43} {taken} {'/plain':>6} {'/stock':>6} {grown}{instruction_heads()}")
+    print(f"{'':43} {taken} {'/plain':>6} {'/stock':>6} {grown}{instruction_heads(others=COUNTED[1:])}")
     tell("memory", sides, works, measured(sides, "memory", folder, fills, works, warm), None)
     times = measured(sides, "file", folder, fills, works, warm)
     tell("file", sides, works, times, {name: counted(sides, folder, name, works[name], warm) for name in ARCHIVES})

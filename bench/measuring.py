@@ -57,22 +57,26 @@ class Rounds:
 
 
 class Instructions:
-    """The instructions of two sides, by the work, where they can be counted."""
+    """The instructions of the product and of other sides, by the work, where they can be counted."""
 
     def __init__(self, sides):
         self.taken = {name: side() for name, side in sides.items()} if HAS_VALGRIND else None
 
     def columns(self, cost, scale=1e6):
-        """Columns of a table: the instructions of both sides and their ratio. Without valgrind there are none."""
+        """Columns of a table: the instructions of all sides, and the ratio of the product's to each other one's. Without valgrind there
+        are none."""
         if not self.taken:
             return ""
-        ours, theirs = map(cost, self.taken.values())
-        return f" {ours / scale:10.3f} {theirs / scale:10.3f} {ours / theirs:6.2f}"
+        ours, *others = map(cost, self.taken.values())
+        return "".join([*(f" {count / scale:10.3f}" for count in (ours, *others)), *(f" {ours / count:6.2f}" for count in others)])
 
 
-def instruction_heads(unit="M"):
-    """The heads of these columns."""
-    return f" {'tacho/' + unit:>10} {'plain/' + unit:>10} {'ratio':>6}" if HAS_VALGRIND else ""
+def instruction_heads(unit="M", others=("plain",)):
+    """The heads of these columns. Where there is one other side, its ratio needs no name."""
+    if not HAS_VALGRIND:
+        return ""
+    ratios = ["ratio"] if len(others) == 1 else ["/" + side for side in others]
+    return "".join([*(f" {side + '/' + unit:>10}" for side in ("tacho", *others)), *(f" {ratio:>6}" for ratio in ratios)])
 
 
 def tell_instructions(unit):

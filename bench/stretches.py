@@ -1,18 +1,25 @@
-"""Measures stretches beside reports, and a month of all drivers beside a report of each, on archives in files.
+"""Measures stretches beside reports, and a month of all drivers beside a report of each, on archives in files; and the instructions of
+stretches and of a month beside a plain Rust program over stock SQLite (plain/stretches.rs).
 
 One archive has a driver with card files of ten years, whose gaps are filled by entered rest, so that the report goes to their end. Another
 has the same files and their gaps: its stretches end at each. Of fifty drivers with a year each there are two such archives likewise: the
 report of each driver in the one, and a month of all drivers in both. tacho_script opens an archive and does the commands in turns. What a
 command takes that is refused at its first word is taken out. Each time is the least of some rounds, each ratio the median of theirs. The
-memory is what a command adds to that of a process that has opened the archive, at its peak, as report.py has it."""
+memory is what a command adds to that of a process that has opened the archive, at its peak, as report.py has it.
+
+Both programs have to print the same of the archives with gaps, and each reads a row once. The instructions of a command are those of a
+program that has done it as its first one, less those of one that has opened the archive and no more: so the start and the opening don't
+count, but what the first command meets for the first time does. Those of the same command once more are told as well."""
 import functools
 import os
+import sys
 
-from archive import DONE, NOTHING, Program
-from measuring import Rounds, less
+from archive import DONE, NOTHING, Program, copied, instructions_behind, path_of
+from compiling import plain
+from measuring import HAS_VALGRIND, NO_VALGRIND, Instructions, Rounds, instruction_heads, less
 from office import DRIVER, date_of, fill
 from report import MEMORY_ROUNDS, answer_of, make, peaks_of
-from server import filling_gaps
+from server import filling_gaps, write_by_stock
 
 ROUNDS, ROUNDS_OF_ALL = 40, 10
 YEARS, DRIVERS = 10, 50
@@ -56,8 +63,42 @@ def tell(script, works, rounds):
         print(f"{name:40} {count:9} {times.least(name, cost):8.3f} {times.ratio(name, first, cost):6.2f} {added:7}", flush=True)
 
 
+def wanted_of(sides, folder, name, command):
+    """What a command prints at an archive, which is the same by each side."""
+    answers = []
+    for side, words in sides.items():
+        running = Program([*words, "archive", copied(folder, side, name)])
+        answers.append(answer_of(running, command))
+        running.end()
+    if any(answer != answers[0] for answer in answers):
+        sys.exit(f"the sides print different things of {command}: {answers}")
+    return answers[0]
+
+
+def counted(sides, folder, name, command):
+    """The instructions of each side that has opened an archive, and done a command there so often."""
+    work = command, wanted_of(sides, folder, name, command)
+
+    def side_of(side):
+        after = lambda times: instructions_behind(sides[side], copied(folder, side, name), [work] * times)
+        return lambda: {"opening": after(0), "once": after(1), "twice": after(2)}
+    return Instructions({side: side_of(side) for side in sides})
+
+
+def tell_instructions(sides, folder, works):
+    """Prints the instructions of works, each of one command at an archive of the sides."""
+    print("beside plain Rust over stock SQLite: the first command after the opening, and the same once more")
+    print("millions of instructions, by callgrind, and their ratio" if HAS_VALGRIND else NO_VALGRIND)
+    print(f"{'':40}{instruction_heads()}")
+    for title, work in works.items():
+        counts = counted(sides, folder, *work)
+        print(f"{title:40}{counts.columns(less('once', 'opening'))}")
+        print(f"{'  once more':40}{counts.columns(less('twice', 'once'))}", flush=True)
+
+
 def stretches(folder, script):
-    filled, gaps = make(script, folder, YEARS), os.path.join(folder, "gaps.db")
+    sides = {"tacho": [script], "plain": [plain(folder, "stretches")]}
+    filled, gaps = make(script, folder, YEARS), path_of(folder, "tacho", "gaps")
     fill(script, folder, gaps, DRIVER, YEARS)
     print(f"stretches of a driver behind the opening: processor time in ms, the least of {ROUNDS} rounds, and the ratio to the first line")
     works = {
@@ -67,7 +108,7 @@ def stretches(folder, script):
         f"form, {YEARS} years with gaps": (gaps, [f"form - {DRIVER}"]),
     }
     tell(script, works, ROUNDS)
-    full, many = os.path.join(folder, "full.db"), os.path.join(folder, "many.db")
+    full, many = os.path.join(folder, "full.db"), path_of(folder, "tacho", "many")
     make_all(script, folder, full, True)
     month = make_all(script, folder, many, False)
     opening = Program([script, "archive", full])
@@ -83,3 +124,10 @@ def stretches(folder, script):
         "incidents, with gaps": (many, [f"incidents - {month}"]),
     }
     tell(script, works, ROUNDS_OF_ALL)
+    for name in ("gaps", "many"):
+        write_by_stock(*(path_of(folder, side, name) for side in sides))
+    works = {
+        f"stretches, {YEARS} years with gaps": ("gaps", f"stretches - {DRIVER}"),
+        f"overview, {DRIVERS} drivers with gaps": ("many", f"overview - {month}"),
+    }
+    tell_instructions(sides, folder, works)

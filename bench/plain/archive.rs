@@ -1,8 +1,22 @@
 //! What an archive does with drivers, card files and hours, in plain Rust over stock SQLite: the statements of the program in the same
 //! transactions. What is refused gives nothing.
 use crate::line::{self, Span};
-use crate::sqlite::{Database, Row, Value::*};
+use crate::sqlite::{Database, Row, Value, Value::*};
 use crate::{dump, entries};
+
+/// The statements that add spans to a table.
+macro_rules! adding_spans {
+    ($table:literal) => {
+        Adding {
+            one: concat!("INSERT INTO ", $table, " (driver, start, past, mark) VALUES (?1, ?2, ?3, ?4)"),
+            many: concat!(
+                "INSERT INTO ", $table, " (driver, start, past, mark) VALUES (?1, ?2, ?3, ?4), (?1, ?5, ?6, ?7), (?1, ?8, ?9, ?10), ",
+                "(?1, ?11, ?12, ?13), (?1, ?14, ?15, ?16), (?1, ?17, ?18, ?19), (?1, ?20, ?21, ?22), (?1, ?23, ?24, ?25)"
+            ),
+            count: 8,
+        }
+    };
+}
 
 const BY_KEY: &str = "SELECT driver FROM drivers WHERE secret = ?1";
 const BY_HOLDER: &str = "SELECT driver FROM drivers WHERE holder = ?1";
@@ -15,10 +29,14 @@ const ADD_DOWNLOAD: &str = "INSERT INTO downloads (driver, number, part, file) V
 const ENTRY: &str = "SELECT number, start, past, mark, withdrawn, author, note FROM entry_rows WHERE driver = ?1 AND number = ?2";
 const KEPT_NEAR: &str =
     "SELECT start, past, mark FROM entry_rows WHERE driver = ?1 AND withdrawn = 0 AND start < ?3 AND ?2 < past ORDER BY start";
-const ADD_ENTRY: &str =
-    "INSERT INTO entry_rows (driver, number, start, past, mark, withdrawn, author, note) VALUES (?1, ?2, ?3, ?4, ?5, 0, ?6, ?7)";
+const ADD_ENTRY: Adding = Adding {
+    one: "INSERT INTO entry_rows (driver, number, start, past, mark, withdrawn, author, note) VALUES (?1, ?2, ?3, ?4, ?5, 0, ?6, ?7)",
+    many: "INSERT INTO entry_rows (driver, number, start, past, mark, withdrawn, author, note) VALUES (?1, ?2, ?3, ?4, ?5, 0, ?6, ?7), \
+        (?1, ?8, ?9, ?10, ?11, 0, ?12, ?13), (?1, ?14, ?15, ?16, ?17, 0, ?18, ?19), (?1, ?20, ?21, ?22, ?23, 0, ?24, ?25)",
+    count: 4,
+};
 const WITHDRAW: &str = "UPDATE entry_rows SET withdrawn = 1 WHERE driver = ?1 AND number = ?2";
-const HELD_NEAR: [&str; 2] = [
+pub const HELD_NEAR: [&str; 2] = [
     "SELECT start, past, mark FROM held WHERE driver = ?1 AND start < ?2 ORDER BY start DESC LIMIT 1",
     "SELECT start, past, mark FROM held WHERE driver = ?1 AND ?2 <= start AND start < ?3 ORDER BY start",
 ];
@@ -26,12 +44,26 @@ const CARDS_NEAR: [&str; 2] = [
     "SELECT start, past, mark FROM card_spans WHERE driver = ?1 AND start < ?2 ORDER BY start DESC LIMIT 1",
     "SELECT start, past, mark FROM card_spans WHERE driver = ?1 AND ?2 <= start AND start < ?3 ORDER BY start",
 ];
-const ADD_HELD: &str = "INSERT INTO held (driver, start, past, mark) VALUES (?1, ?2, ?3, ?4)";
-const ADD_CARD: &str = "INSERT INTO card_spans (driver, start, past, mark) VALUES (?1, ?2, ?3, ?4)";
+const ADD_HELD: Adding = adding_spans!("held");
+const ADD_CARD: Adding = adding_spans!("card_spans");
 const DELETE_HELD: &str = "DELETE FROM held WHERE driver = ?1 AND ?2 <= start AND start < ?3";
 
 const AUTHOR: &str = "office";
 const BOTH: u32 = 0; // the part of a card file that is kept
+
+/// How many rows an INSERT adds: one; or eight spans, or four entries, while there are so many left.
+#[derive(Clone, Copy)]
+pub enum Insert {
+    One,
+    Many,
+}
+
+/// The statements that add one row of a driver, and so many of them.
+struct Adding {
+    one: &'static str,
+    many: &'static str,
+    count: usize,
+}
 
 /// What is stored of a driver.
 pub struct Driver {
@@ -56,7 +88,7 @@ fn span_from(row: &Row, column: i32) -> Span {
     Span { start: row.number(column), past: row.number(column + 1), mark: (mark % 4, mark >= 4) }
 }
 
-pub fn span_of(row: Row) -> Span {
+fn span_of(row: Row) -> Span {
     span_from(&row, 0)
 }
 
@@ -70,7 +102,7 @@ fn range_of(spans: &[Span]) -> (u32, u32) {
 }
 
 /// Where the first span of a table near a range begins.
-fn first_start(archive: &mut Database, last_before: &'static str, driver: u32, start: u32) -> Option<u32> {
+pub fn first_start(archive: &mut Database, last_before: &'static str, driver: u32, start: u32) -> Option<u32> {
     let before = archive.rows(last_before, &[Number(driver), Number(start)], span_of)?.pop();
     Some(before.filter(|span| start < span.past).map_or(start, |span| span.start))
 }
@@ -81,10 +113,32 @@ fn near(archive: &mut Database, statements: [&'static str; 2], driver: u32, star
     archive.rows(statements[1], &[Number(driver), Number(begin), Number(past)], span_of)
 }
 
-fn add(archive: &mut Database, statement: &'static str, driver: u32, spans: &[Span]) -> Option<()> {
-    spans.iter().try_for_each(|span| {
-        archive.run(statement, &[Number(driver), Number(span.start), Number(span.past), Number(mark_number(span))])
-    })
+/// Adds rows of a driver, each by its values after the driver's number.
+fn add<T, const COUNT: usize>(
+    archive: &mut Database,
+    adding: Adding,
+    insert: Insert,
+    driver: u32,
+    rows: &[T],
+    values_of: impl Fn(&T) -> [Value<'static>; COUNT],
+) -> Option<()> {
+    let (many, rest) = rows.split_at(match insert {
+        Insert::One => 0,
+        Insert::Many => rows.len() - rows.len() % adding.count,
+    });
+    let mut values = Vec::with_capacity(1 + COUNT * adding.count);
+    let mut run = |statement, rows: &[T]| {
+        values.clear();
+        values.push(Number(driver));
+        rows.iter().for_each(|row| values.extend(values_of(row)));
+        archive.run(statement, &values)
+    };
+    many.chunks(adding.count).try_for_each(|rows| run(adding.many, rows))?;
+    rest.chunks(1).try_for_each(|row| run(adding.one, row))
+}
+
+fn add_spans(archive: &mut Database, adding: Adding, insert: Insert, driver: u32, spans: &[Span]) -> Option<()> {
+    add(archive, adding, insert, driver, spans, |span| [span.start, span.past, mark_number(span)].map(Number))
 }
 
 // Drivers
@@ -139,7 +193,7 @@ fn card_of(mut file: &[u8]) -> Option<(&[u8], Vec<Span>)> {
 }
 
 /// Adds a card file and what it tells, and says whether it tells anything new.
-pub fn import(archive: &mut Database, file: &[u8]) -> Option<(bool, String)> {
+pub fn import(archive: &mut Database, file: &[u8], insert: Insert) -> Option<(bool, String)> {
     let (holder, spans) = card_of(file)?;
     let (start, past) = range_of(&spans);
     archive.within("COMMIT", |archive| {
@@ -154,8 +208,8 @@ pub fn import(archive: &mut Database, file: &[u8]) -> Option<(bool, String)> {
         let new_helds = line::gains(&helds, &spans).ok()?;
         archive.run(COUNT_DOWNLOADS, &[Number(driver), Number(number)])?;
         archive.run(ADD_DOWNLOAD, &[Number(driver), Number(number), Number(BOTH), Bytes(file)])?;
-        add(archive, ADD_CARD, driver, &new_cards)?;
-        add(archive, ADD_HELD, driver, &new_helds)?;
+        add_spans(archive, ADD_CARD, insert, driver, &new_cards)?;
+        add_spans(archive, ADD_HELD, insert, driver, &new_helds)?;
         Some((true, format!("added driver {driver} number {number}\n")))
     })
 }
@@ -163,7 +217,7 @@ pub fn import(archive: &mut Database, file: &[u8]) -> Option<(bool, String)> {
 // Hours
 
 /// Enters the hours of a text of CSV for a driver.
-pub fn enter(archive: &mut Database, driver: u32, text: &[u8]) -> Option<String> {
+pub fn enter(archive: &mut Database, driver: u32, text: &[u8], insert: Insert) -> Option<String> {
     let lines = entries::lines_of(text).ok()?;
     let spans: Vec<_> = lines.iter().map(|line| Span { start: line.start, past: line.past, mark: (line.activity as u8, false) }).collect();
     let (start, past) = range_of(&spans);
@@ -173,12 +227,12 @@ pub fn enter(archive: &mut Database, driver: u32, text: &[u8]) -> Option<String>
         let new_helds = line::gains(&helds, &spans).ok()?;
         let last = before + spans.len() as u32;
         archive.run(COUNT_ENTRIES, &[Number(driver), Number(last)])?;
-        for (number, span) in (before + 1..).zip(&spans) {
-            let values = [driver, number, span.start, span.past, mark_number(span)].map(Number);
-            let [driver, number, start, past, mark] = values;
-            archive.run(ADD_ENTRY, &[driver, number, start, past, mark, Text(AUTHOR), Text("")])?;
-        }
-        add(archive, ADD_HELD, driver, &new_helds)?;
+        let numbered: Vec<_> = (before + 1..).zip(&spans).collect();
+        add(archive, ADD_ENTRY, insert, driver, &numbered, |(number, span)| {
+            let [number, start, past, mark] = [*number, span.start, span.past, mark_number(span)].map(Number);
+            [number, start, past, mark, Text(AUTHOR), Text("")]
+        })?;
+        add_spans(archive, ADD_HELD, insert, driver, &new_helds)?;
         Some(format!("entered {} to {last}\n", before + 1))
     })
 }
@@ -211,7 +265,7 @@ pub fn withdraw(archive: &mut Database, driver: u32, number: u32) -> Option<Stri
         let rows = rows_for(&entry, &given, &helds)?;
         let begin = first_start(archive, HELD_NEAR[0], driver, entry.start)?;
         archive.run(DELETE_HELD, &[Number(driver), Number(begin), Number(entry.past)])?;
-        add(archive, ADD_HELD, driver, &rows)?;
+        add_spans(archive, ADD_HELD, Insert::One, driver, &rows)?;
         Some(format!("withdrawn {number}\n"))
     })
 }

@@ -1,9 +1,9 @@
 //! What `tacho_script` does of four commands at an archive, in plain Rust over std and stock SQLite: it takes the same words and lines,
-//! and answers the same where a command is done.
+//! and answers the same where a command is done. After the word `many` an INSERT adds eight spans or four entries, not one, while there are
+//! so many left.
 #![allow(dead_code)]
 use std::env;
 use std::fs;
-use std::io::{self, BufRead, Write};
 
 mod archive;
 #[path = "dump.rs"]
@@ -12,8 +12,11 @@ mod dump;
 mod entries;
 #[path = "line.rs"]
 mod line;
+mod script;
 mod sqlite;
 
+use archive::Insert;
+use script::{bad_number, number, status_of};
 use sqlite::Database;
 
 const TABLES: &str = include_str!("../tables.sql");
@@ -26,7 +29,6 @@ const SETTINGS: [(&str, &str); 7] = [
     ("foreign_keys", "PRAGMA foreign_keys"),
     ("wal_autocheckpoint", "PRAGMA wal_autocheckpoint"),
 ];
-const BAD_NUMBER: &str = "N1 bad number\n";
 
 /// The archive of a file or, by SQLite's own name for it, of memory. It is made where it isn't there.
 fn opened(path: &str) -> Database {
@@ -43,32 +45,22 @@ fn settings(archive: &mut Database) -> String {
     told.join(", ") + "\n"
 }
 
-/// A number of a driver or of an entry.
-fn number(word: &str) -> Option<u32> {
-    word.parse().ok().filter(|number| *number > 0)
-}
-
-/// The text and the status of a command that is done or refused.
-fn status_of(text: Option<String>) -> (String, u8) {
-    text.map_or(("refused\n".to_string(), 1), |text| (text, 0))
-}
-
 /// The text and the status that a line gives.
-fn told_of(archive: &mut Database, line: &str) -> (String, u8) {
+fn told_of(archive: &mut Database, insert: Insert, line: &str) -> (String, u8) {
     let (words, path) = line.split_once(" < ").unwrap_or((line, "/dev/null"));
     let words: Vec<&str> = words.split(' ').collect();
     let input = fs::read(path).unwrap();
     match words[..] {
         ["settings"] => (settings(archive), 0),
         ["register", _] => status_of(archive::register(archive, &input)),
-        ["import", _, "both"] => status_of(archive::import(archive, &input).map(|(_, text)| text)),
+        ["import", _, "both"] => status_of(archive::import(archive, &input, insert).map(|(_, text)| text)),
         ["enter", _, driver] => match number(driver) {
-            Some(driver) => status_of(archive::enter(archive, driver, &input)),
-            None => (BAD_NUMBER.to_string(), 1),
+            Some(driver) => status_of(archive::enter(archive, driver, &input, insert)),
+            None => bad_number(),
         },
         ["withdraw", _, driver, entry] => match number(driver).zip(number(entry)) {
             Some((driver, entry)) => status_of(archive::withdraw(archive, driver, entry)),
-            None => (BAD_NUMBER.to_string(), 1),
+            None => bad_number(),
         },
         _ => (String::new(), 2),
     }
@@ -76,16 +68,12 @@ fn told_of(archive: &mut Database, line: &str) -> (String, u8) {
 
 fn main() {
     let words: Vec<String> = env::args().skip(1).collect();
-    let mut archive = match words.iter().map(String::as_str).collect::<Vec<_>>()[..] {
+    let words: Vec<&str> = words.iter().map(String::as_str).collect();
+    let (insert, words) = words.strip_prefix(&["many"]).map_or((Insert::One, &words[..]), |words| (Insert::Many, words));
+    let archive = match *words {
         ["archive", path] => opened(path),
         ["memory"] => opened(":memory:"),
-        _ => panic!("the words are: archive FILE, or memory"),
+        _ => panic!("the words are: archive FILE, or memory, after many or not"),
     };
-    println!("status 0");
-    for line in io::stdin().lock().lines() {
-        let (text, status) = told_of(&mut archive, &line.unwrap());
-        print!("{text}status {status}\n");
-        io::stdout().flush().unwrap();
-    }
-    archive.close();
+    script::answer_lines(archive, |archive, line| told_of(archive, insert, line));
 }

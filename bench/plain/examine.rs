@@ -8,7 +8,7 @@ const START: u32 = 15_780_960; // 2000-01-03 00:00
 const LAST: u32 = 68_374_080; // 2100-01-01 00:00
 const FAR: u32 = u32::MAX; // where the last rest ends
 const DAY: u32 = 1440;
-const WEEK: u32 = 7 * DAY;
+pub const WEEK: u32 = 7 * DAY;
 const FIRST_MONDAY: u32 = 4 * DAY;
 
 const FIRST_PART: u32 = 180;
@@ -21,6 +21,7 @@ const SIX_DAYS: u32 = 6 * DAY;
 #[derive(Clone, Copy, PartialEq)]
 pub enum Activity {
     Rest,
+    Available,
     Work,
     Drive,
 }
@@ -75,11 +76,11 @@ pub struct Report {
     pub debts: Vec<Debt>,
 }
 
-fn week_of(minute: u32) -> u32 {
+pub fn week_of(minute: u32) -> u32 {
     (minute - FIRST_MONDAY) / WEEK
 }
 
-fn week_start(week: u32) -> u32 {
+pub fn week_start(week: u32) -> u32 {
     FIRST_MONDAY + WEEK * week
 }
 

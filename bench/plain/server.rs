@@ -15,112 +15,55 @@ mod entries;
 mod examine;
 #[path = "line.rs"]
 mod line;
+mod reports;
 mod sqlite;
 
-use archive::{driver_by_key, driver_with, import, span_of};
-use examine::{Activity, Breach, Cause, Report};
-use line::Span;
-use sqlite::{Database, Value::*};
+use archive::{driver_by_key, driver_with, import, Insert};
+use dump::Lines;
+use examine::examine;
+use reports::{amounts_of, days_of, held_by, held_from, push_breach, push_date, push_horizon, DAY};
+use sqlite::Database;
 
-const HELD: &str = "SELECT start, past, mark FROM held WHERE driver = ?1 ORDER BY start";
 const BODY_LIMIT: usize = 262_144;
-const DAY: u32 = 1440;
-const ACTIVITIES: [Activity; 4] = [Activity::Rest, Activity::Work, Activity::Work, Activity::Drive];
 const WEEKDAYS: [&str; 7] = ["Mon", "Tue", "Wed", "Thu", "Fri", "Sat", "Sun"];
-#[rustfmt::skip]
-const RULES: [&str; 10] = [
-    "B1 Art 7", "B2 Art 8(2)", "B3 Art 8(4)", "B4 Art 6(1)", "B5 Art 6(1)", "B6 Art 6(2)", "B7 Art 6(3)", "B8 Art 8(6)",
-    "B9 Art 8(6)", "B10 Art 8(6b)",
-];
-
-// What is stored
-
-/// The base of a driver, and what he holds.
-fn held_by(archive: &mut Database, driver: u32) -> Option<(u32, Vec<Span>)> {
-    let base = driver_with(archive, driver)?.base;
-    Some((base, archive.rows(HELD, &[Number(driver)], span_of)?))
-}
 
 // What is asked for
 
-fn report_of(base: u32, spans: &[Span]) -> Report {
-    let examined = |span: &Span| examine::Span {
-        start: span.start,
-        past: span.past,
-        activity: ACTIVITIES[usize::from(span.mark.0)],
-        is_crew: span.mark.1,
-    };
-    let spans: Vec<_> = spans.iter().map(examined).collect();
-    examine::examine(&spans, DAY * base)
-}
-
-fn minute_text(minute: u32) -> String {
-    let mut lines = dump::Lines::with_capacity(16);
-    lines.push_minute(minute);
-    String::from_utf8(lines.text).unwrap()
-}
-
-fn breach_line(breach: &Breach) -> String {
-    let (moment, since) = (minute_text(breach.moment), minute_text(breach.since));
-    format!("{} at {moment} since {since} amount {}\n", RULES[breach.kind as usize], breach.amount)
-}
-
-fn horizon_line(report: &Report) -> String {
-    let cause = if let Cause::Crew = report.cause { "crew" } else { "unknown" };
-    format!("EXAMINED TO {} {cause}\n", minute_text(report.horizon))
-}
-
 fn breaches(archive: &mut Database, driver: u32) -> Option<String> {
     let (base, spans) = archive.within("ROLLBACK", |archive| held_by(archive, driver))?;
-    let report = report_of(base, &spans);
-    Some(report.breaches.iter().map(breach_line).collect::<String>() + &horizon_line(&report))
+    let report = examine(&spans, base);
+    let mut lines = Lines::with_capacity(4096);
+    report.breaches.iter().for_each(|breach| push_breach(&mut lines, breach));
+    push_horizon(&mut lines, &report);
+    String::from_utf8(lines.text).ok()
 }
 
-/// The first day of a month, and how many it has.
-fn days_of(month: &str) -> Option<(u32, u32)> {
-    let (year, month) = month.split_once('-')?;
-    let (year, month) = (year.parse().ok()?, month.parse().ok()?);
-    let is_month = (2000..2100).contains(&year) && (1..13).contains(&month);
-    is_month.then(|| (entries::day_number(year, month, 1), entries::days_in_month(year, month)))
-}
-
-/// The minutes of each day with each activity alone, with a second driver, and not held.
-fn amounts_of(spans: &[Span], first: u32, days: u32) -> Vec<[u32; 6]> {
-    let (start, past) = (DAY * first, DAY * (first + days));
-    let mut amounts = vec![[0, 0, 0, 0, 0, DAY]; days as usize];
-    for span in spans[spans.partition_point(|span| span.past <= start)..].iter().take_while(|span| span.start < past) {
-        let (mut from, end) = (span.start.max(start), span.past.min(past));
-        while from < end {
-            let of_day = &mut amounts[(from / DAY - first) as usize];
-            let midnight = (from / DAY + 1) * DAY;
-            of_day[if span.mark.1 { 4 } else { usize::from(span.mark.0) }] += end.min(midnight) - from;
-            of_day[5] -= end.min(midnight) - from;
-            from = midnight;
-        }
-    }
-    amounts
-}
-
-fn amount_columns(amounts: &[u32; 6]) -> String {
-    amounts.iter().map(|amount| format!("{:4}:{:02}", amount / 60, amount % 60)).collect()
+fn push_amounts(lines: &mut Lines, amounts: &[u32; 6]) {
+    amounts.iter().for_each(|amount| write!(lines.text, "{:4}:{:02}", amount / 60, amount % 60).unwrap());
+    lines.text.push(b'\n');
 }
 
 fn sheet(archive: &mut Database, driver: u32, month: &str) -> Option<String> {
     let (first, days) = days_of(month)?;
+    let (start, past) = (DAY * first, DAY * (first + days));
     let name = archive.within("ROLLBACK", |archive| driver_with(archive, driver))?.name;
-    let (base, spans) = archive.within("ROLLBACK", |archive| held_by(archive, driver))?;
-    let report = report_of(base, &spans);
-    let mut text = format!("DRIVER {driver} {name}\nMONTH {month}\nDATE       DAY   REST  AVAIL   WORK  DRIVE   CREW   NONE\n");
-    let mut total = [0; 6];
-    for (day, amounts) in (first..).zip(amounts_of(&spans, first, days)) {
-        let (date, weekday) = (&minute_text(DAY * day)[..10], WEEKDAYS[(day as usize + 3) % 7]);
-        text += &format!("{date} {weekday}{}\n", amount_columns(&amounts));
-        total.iter_mut().zip(amounts).for_each(|(sum, amount)| *sum += amount);
+    let (base, spans) = archive.within("ROLLBACK", |archive| {
+        let base = DAY * driver_with(archive, driver)?.base;
+        Some((base, held_from(archive, driver, base.min(start))?))
+    })?;
+    let report = examine(&spans, base);
+    let mut lines = Lines::with_capacity(4096);
+    write!(lines.text, "DRIVER {driver} {name}\nMONTH {month}\nDATE       DAY   REST  AVAIL   WORK  DRIVE   CREW   NONE\n").unwrap();
+    for day in first..first + days {
+        push_date(&mut lines, DAY * day);
+        write!(lines.text, " {}", WEEKDAYS[(day as usize + 3) % 7]).unwrap();
+        push_amounts(&mut lines, &amounts_of(&spans, DAY * day, DAY * (day + 1)));
     }
-    text += &format!("TOTAL         {}\n", amount_columns(&total));
-    let within = DAY * first..DAY * (first + days);
-    text.extend(report.breaches.iter().filter(|breach| within.contains(&breach.moment)).map(breach_line));
-    Some(text + &horizon_line(&report))
+    lines.text.extend_from_slice(b"TOTAL         ");
+    push_amounts(&mut lines, &amounts_of(&spans, start, past));
+    report.breaches.iter().filter(|breach| (start..past).contains(&breach.moment)).for_each(|breach| push_breach(&mut lines, breach));
+    push_horizon(&mut lines, &report);
+    String::from_utf8(lines.text).ok()
 }
 
 // Requests and replies
@@ -151,7 +94,7 @@ fn told_of(archive: &mut Database, office_key: &str, first_line: &str, key: &str
         return match words[..] {
             ["GET", "", "drivers", driver, "sheet", month, ..] => Some(("200 OK", sheet(archive, driver.parse().ok()?, month)?)),
             ["POST", "", "cards", "both", ..] => {
-                let (is_new, text) = import(archive, body)?;
+                let (is_new, text) = import(archive, body, Insert::One)?;
                 Some((if is_new { "201 Created" } else { "200 OK" }, text))
             }
             _ => None,

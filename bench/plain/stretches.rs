@@ -1,0 +1,123 @@
+//! What `tacho_script` does of two readings at an archive in a file, in plain Rust over std and stock SQLite: the stretches of a driver,
+//! and the overview of a month. It takes the same lines, and answers the same where a command is done. docs/RULES.md says what stretches
+//! are.
+#![allow(dead_code)]
+use std::env;
+use std::fmt::Write;
+
+mod archive;
+#[path = "dump.rs"]
+mod dump;
+#[path = "entries.rs"]
+mod entries;
+#[path = "examine.rs"]
+mod examine;
+#[path = "line.rs"]
+mod line;
+mod reports;
+mod script;
+mod sqlite;
+
+use dump::Lines;
+use examine::{examine, week_of, week_start, Report, Span, WEEK};
+use reports::{amounts_of, days_of, held_by, held_from, push_breach, push_date, push_horizon, DAY};
+use sqlite::Database;
+
+const DRIVERS: &str = "SELECT driver, base, name FROM drivers ORDER BY driver";
+const HEAD: &str = "driver,name,rest,available,work,drive,crew,none,examined,B1,B2,B3,B4,B5,B6,B7,B8,B9,B10\n";
+
+/// What is examined from a Monday on.
+struct Stretch {
+    monday: u32,
+    report: Report,
+}
+
+/// The first Monday after a minute that is held without a second driver.
+fn start_after(spans: &[Span], minute: u32) -> Option<u32> {
+    let mut later = spans[spans.partition_point(|span| span.past <= minute)..].iter().filter(|span| !span.is_crew);
+    later.find_map(|span| {
+        let monday = week_start(week_of(span.start.max(minute + 1) + WEEK - 1));
+        (monday < span.past).then_some(monday)
+    })
+}
+
+fn stretches_of(spans: &[Span], base: u32) -> Vec<Stretch> {
+    let (mut stretches, mut start) = (Vec::new(), Some(base));
+    while let Some(monday) = start {
+        let report = examine(spans, monday);
+        start = start_after(spans, report.horizon);
+        stretches.push(Stretch { monday, report });
+    }
+    stretches
+}
+
+/// The stretches of a driver as a text.
+fn stretches(archive: &mut Database, driver: u32) -> Option<String> {
+    let (base, spans) = archive.within("ROLLBACK", |archive| held_by(archive, driver))?;
+    let stretches = stretches_of(&spans, base);
+    let end = spans.last().map_or(base, |span| span.past);
+    let ends = stretches.iter().skip(1).map(|stretch| stretch.monday).chain([end]);
+    let mut lines = Lines::with_capacity(4096);
+    for (Stretch { monday, report }, end) in stretches.iter().zip(ends) {
+        lines.text.extend_from_slice(b"FROM ");
+        push_date(&mut lines, *monday);
+        lines.text.push(b'\n');
+        report.breaches.iter().for_each(|breach| push_breach(&mut lines, breach));
+        push_horizon(&mut lines, report);
+        if report.horizon < end {
+            lines.text.extend_from_slice(b"NOT EXAMINED ");
+            lines.push_minute(report.horizon);
+            lines.text.push(b' ');
+            lines.push_minute(end);
+            lines.text.push(b'\n');
+        }
+    }
+    String::from_utf8(lines.text).ok()
+}
+
+/// The numbers of a driver in an overview: the amounts of the month, how much of it is examined, and how many breaches each rule has.
+fn numbers_of(spans: &[Span], base: u32, start: u32, past: u32) -> [u32; 17] {
+    let mut numbers = [0; 17];
+    numbers[..6].copy_from_slice(&amounts_of(spans, start, past));
+    for Stretch { monday, report } in stretches_of(spans, base) {
+        numbers[6] += report.horizon.min(past).saturating_sub(monday.max(start));
+        for breach in report.breaches.iter().filter(|breach| (start..past).contains(&breach.moment)) {
+            numbers[7 + breach.kind as usize] += 1;
+        }
+    }
+    numbers
+}
+
+/// The overview of a month, as CSV.
+fn overview(archive: &mut Database, month: &str) -> Option<String> {
+    let (first, days) = days_of(month)?;
+    let (start, past) = (DAY * first, DAY * (first + days));
+    archive.within("ROLLBACK", |archive| {
+        let mut text = HEAD.to_string();
+        for (driver, base, name) in archive.rows(DRIVERS, &[], |row| (row.number(0), DAY * row.number(1), row.text(2)))? {
+            let spans = held_from(archive, driver, base.min(start))?;
+            write!(text, "{driver},{name}").unwrap();
+            numbers_of(&spans, base, start, past).iter().for_each(|number| write!(text, ",{number}").unwrap());
+            text.push('\n');
+        }
+        Some(text)
+    })
+}
+
+/// The text and the status that a line gives.
+fn told_of(archive: &mut Database, line: &str) -> (String, u8) {
+    match line.split(' ').collect::<Vec<_>>()[..] {
+        ["stretches", _, driver] => match script::number(driver) {
+            Some(driver) => script::status_of(stretches(archive, driver)),
+            None => script::bad_number(),
+        },
+        ["overview", _, month] => script::status_of(overview(archive, month)),
+        _ => (String::new(), 2),
+    }
+}
+
+fn main() {
+    let words: Vec<String> = env::args().skip(1).collect();
+    let [_, path] = &words[..] else { panic!("the words are: archive FILE") };
+    script::answer_lines(Database::open(path), told_of);
+}
