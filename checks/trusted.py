@@ -61,21 +61,21 @@ LAWYER = Order(
         ("duty days, weeks, and weekly rests that are owed", "tacho_hours: Days Weeks Debts"),
         ("the week in which a weekly rest is counted, and where no choice of weeks serves", "tacho_hours: Choice Anew"),
         ("the breaches B1 to B10, each once, all of them and in order", "tacho_hours: Breaches Exactly Order"),
-        ("where an examination begins anew, and what isn't examined", "tacho_stretches: Start Stretches Ranges Near"),
+        ("where an examination begins again, and what isn't examined", "tacho_stretches: Start Stretches Ranges Near"),
     ),
 )
 
 DATABASE = Order(
     "A database person",
-    "what do the tables stand for, and what does a stop leave? docs/TABLES.md has the tables in prose",
+    "what do the tables represent, and what does a crash leave? docs/TABLES.md has the tables in prose",
     ("tacho_store::", "tacho_state::keeper::", "tacho_state::laws::a_run_of_calls"),
     ("tacho_time", "tacho_card", "tacho_line", "tacho_hours", "tacho_rules", "tacho_stretches"),
     (
         ("the tables, and their rows as values of types", "tacho_tables: Schema Rows Tables Making"),
-        ("an archive's state, and which state the tables stand for", "tacho_state: State; tacho_reading: Standing"),
+        ("an archive's state, and which state the tables represent", "tacho_state: State; tacho_reading: Standing"),
         ("what each command and each reading answers, and the state after it",
          "tacho_state: Steps Content Batch Registration Limits Least Disjoint Reported Summaries"),
-        ("what a call does to what is kept, and what a stop within it or behind several leaves",
+        ("what a call does to an archive, and what a crash within it or after several leaves",
          "tacho_state: Acts; tacho_reading: Kept; tacho_state: Runs"),
         ("how an archive is made, found again and carried over from schema 1; the tables after a command", "tacho_store: Opening Old After"),
     ),
@@ -88,21 +88,21 @@ AUDITOR = Order(
     ("",),
     (),
     (
-        ("any list of requests: their replies, the states after them, and what a stop leaves",
+        ("any list of requests: their replies, the states after them, and what a crash leaves",
          "tacho_http: Run Answer Serve Reply"),
         ("who may ask for what, and what a driver's requests look at", "tacho_http: Routes Asked Access Laws"),
         ("requests and replies as bytes", "tacho_message: Head Fields Request Length Body Reply"),
-        ("what is done at an archive, and what is told of it", "tacho_desk: Wants Words Tasks Doing Told Fault Own"),
+        ("what is done at an archive, and what is printed of it", "tacho_desk: Wants Words Tasks Doing Told Fault Own"),
         DATABASE,
-        ("what a card file tells",
+        ("what a card file says",
          "tacho_card: CardFile DriverActivity Chain DailyRecord ActivityChangeInfo Reading Faults"),
         LAWYER,
         ("texts that come in and go out",
          "tacho_time: Text Reading Calendar; tacho_sheet: Rows Words Entries Driver Number Text Reports Done Lines"
          " Stretches Months Form"),
-        ("the program's words, and what it does without an archive and at one",
+        ("the program's arguments, and what it does without an archive and at one",
          "tacho_cli: Words Office Command Dump Card Holder Fault"),
-        ("the rest: streams, want of memory, and words of spans and lines",
+        ("the rest: streams, out of memory, and terms of spans and lines",
          "tacho_time: Device OrMemory Merge; tacho_line: Gains Join Walk Local"),
     ),
 )
@@ -627,17 +627,17 @@ def totals(rows):
 
 OPENING = (
     "# What has to be trusted",
-    "A contract is a sentence about definitions. The prover checks that the code keeps it, and no prover can"
-    " check that the sentence says what is meant: for that the definitions have to be read. This page says which."
-    " They stand in `crates/CRATE/specs/FILE.antt`, each with a comment. `proofs/*.antt`, and the contracts of"
-    " private functions and of the crates that stand between, needn't be read.",
+    "A contract is a sentence about definitions. The prover checks that the code keeps it. No prover can check that the"
+    " sentence says what is meant: for that, somebody has to read the definitions. This page lists them. They are in"
+    " `crates/CRATE/specs/FILE.antt`, each with a comment. You needn't read `proofs/*.antt`, nor the contracts of"
+    " private functions and of the crates in between.",
     "`checks/trusted.py` makes this page from the sources, and checks that it and the first line of each file"
     " agree with them. It begins at the contracts of the public functions, methods, traits, models and laws of"
     " {entries}: {count} in all. It goes on to every definition that these cite, and that those cite in turn, with"
-    " the types of signatures and of fields. What isn't reached so is private: the code could be written and"
-    " proved by other definitions, and no public sentence would be another. A file is private to the crate in"
-    " which it stands, and those above it may use it too. The scan of `tacho_rules`, its passes and the"
-    " laws about them stand between as well: a report is told by `IsReport`, however it was made.",
+    " the types of signatures and of fields. Other definitions are private: the code could be proved by others, and no"
+    " public sentence would change. A file is private to its crate, and the crates above may use it too. The scan of"
+    " `tacho_rules`, its passes and the laws about them are in between as well: what a report is, `IsReport` says,"
+    " however it was made.",
     "docs/PROVED.md names the clause or the definition of each public call.",
 )
 
