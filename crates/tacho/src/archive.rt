@@ -1,7 +1,7 @@
-//! The file of an archive, and what is done there.
+//! The file of an archive, and the jobs that are done there.
 //!
-//! What works on an archive is generic over its store, and takes and gives back the connection by value. Only `open` and `at_file`
-//! name the file's store: there each call of what is generic over a store is proved anew, which takes 15 to 50 times as long.
+//! Functions on an archive are generic over its store, and take and return the connection by value. Only `open` and `at_file` name the
+//! file's store: there each call of a function that is generic over a store is proved again, which takes 15 to 50 times as long.
 
 ghost use Rattle.std.specs.Prelude.{◌≡◌, ◌≢◌, None, false, true};
 ghost use Rattle.tacho_cli.specs.Words.{archive_of, at_desk};
@@ -18,17 +18,17 @@ use tacho_time::Device;
 /// A connection to a file.
 type FileConnection = Connection<FileStore<File>>;
 
-/// The mode of a new file: its owner reads and writes it, and nobody else, as the keys of drivers stand in it.
+/// The mode of a new file: only its owner reads and writes it, because it contains the keys of drivers.
 const OWNER_ALONE: u32 = 0o600;
 
-/// How a job ends: the line that is printed once the file is closed, or nothing where the job has printed all, and the status.
+/// How a job ends: the line to print once the file is closed (empty if the job has printed everything), and the status.
 #[derive(Clone, Copy)]
 struct Ending {
     line: &'static str,
     status: u8,
 }
 
-/// An ending with nothing more to print.
+/// An ending with nothing further to print.
 fn with_status(status: u8) -> Ending {
     Ending { line: "", status }
 }
@@ -38,7 +38,7 @@ fn done(line: &'static str) -> Ending {
     Ending { line, status: 0 }
 }
 
-/// The ending of a job at an archive that is old, whose store failed, or for which there was no memory.
+/// The ending of a job if the archive has an old schema, the store failed, or memory ran out.
 fn refused(fault: StoreFault) -> Ending {
     match fault {
         StoreFault::OldSchema => Ending {
@@ -56,7 +56,7 @@ fn refused(fault: StoreFault) -> Ending {
     }
 }
 
-/// Prints the line of an ending, and answers its status, or 3 where the line can't be written.
+/// Prints the line of an ending, and returns its status, or 3 if the line can't be written.
 fn tell(rt: &impl Print, ending: Ending) -> u8 {
     if ending.line.is_empty() {
         return ending.status;
@@ -67,7 +67,7 @@ fn tell(rt: &impl Print, ending: Ending) -> u8 {
     }
 }
 
-/// `tacho init`: makes an archive of no drivers.
+/// `tacho init`: makes an archive without drivers.
 fn create<S: Alter + Drop>(conn: Connection<S>) -> (Ending, Connection<S>)
     requires { conn.in_transaction ≡ false }
 {
@@ -77,7 +77,7 @@ fn create<S: Alter + Drop>(conn: Connection<S>) -> (Ending, Connection<S>)
     }
 }
 
-/// `tacho migrate`: carries an archive of schema 1 over to schema 2.
+/// `tacho migrate`: migrates an archive of schema 1 to schema 2.
 fn migrate<S: Alter + Drop>(conn: Connection<S>) -> (Ending, Connection<S>)
     requires { conn.in_transaction ≡ false }
 {
@@ -87,7 +87,7 @@ fn migrate<S: Alter + Drop>(conn: Connection<S>) -> (Ending, Connection<S>)
     }
 }
 
-/// Does a job at an archive that is there, with standard input and output.
+/// Does a job at an existing archive, with standard input and output.
 fn perform<S: Alter + Drop>(
     rt: &HostRuntime,
     conn: Connection<S>,
@@ -106,7 +106,7 @@ fn perform<S: Alter + Drop>(
     (with_status(status), archive.close())
 }
 
-/// `tacho serve`: answers `count` connections on a port of 127.0.0.1 at an archive that is there.
+/// `tacho serve`: answers `count` connections on a port of 127.0.0.1, at an existing archive.
 fn answer<S: Alter + Drop>(
     rt: &HostRuntime,
     conn: Connection<S>,
@@ -156,8 +156,8 @@ fn at_connection<S: Alter + Drop>(
     }
 }
 
-/// Makes an empty file with that mode, where none is there: the store takes it as new, and gives its log the same mode. Where it can't be
-/// made, the store says why.
+/// Makes an empty file with that mode if none exists. The store treats it as new, and gives its log the same mode. If the file can't be
+/// made, the store reports why.
 fn make_own(rt: &HostRuntime, path: &str) {
     let mut options = fs::File::options();
     let _ = options
@@ -167,8 +167,8 @@ fn make_own(rt: &HostRuntime, path: &str) {
         .open(rt, path);
 }
 
-/// Opens a job's file: a new one where the job makes an archive, else one that is there. A new one gets sums of its pages, by which a later
-/// open finds what has changed in it.
+/// Opens a job's file: a new one if the job makes an archive, otherwise an existing one. A new file gets checksums of its pages, by which
+/// later opens find what was changed in it.
 fn open(rt: &HostRuntime, path: &str, job: Job<'_>) -> Result<FileConnection, StoreFault> {
     if matches!(job, Job::Init { .. }) {
         make_own(rt, path);
@@ -182,8 +182,8 @@ fn open(rt: &HostRuntime, path: &str, job: Job<'_>) -> Result<FileConnection, St
     }
 }
 
-/// Does a job at the archive of a file, and answers the program's status. What was done is kept, also where the file's log can't be taken
-/// into it when it is closed: the next open does so.
+/// Does a job at the archive in a file, and returns the program's status. What was done is durable, even if the file's log can't be written
+/// back to the file at close: the next open does that.
 pub fn at_file(rt: &HostRuntime, path: &str, job: Job<'_>) -> u8
     requires { archive_of job ≢ None }
 {

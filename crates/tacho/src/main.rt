@@ -11,24 +11,24 @@ use tacho_cli::{Job, Usage};
 use tacho_state::is_key;
 use tacho_time::Device;
 
-/// The words of the command line, the program's name the first of them.
+/// The arguments of the command line, including the program's name.
 fn words(rt: &(impl Env + AllocGlobal)) -> io::Result<Vec<String>> {
     Ok(env::args(rt)?.collect(rt.alloc())?)
 }
 
-/// Tells that there was no memory. It takes none.
+/// Reports that memory ran out. Allocates no memory.
 fn no_memory(rt: &impl Print) -> ExitCode {
     let _ = print!(rt; "M1 no memory\n");
     ExitCode::from(3)
 }
 
-/// Tells how the program is used.
+/// Shows how the program is used.
 fn usage(rt: &impl Eprint, text: &str) -> ExitCode {
     let _ = eprint!(rt; "{text}");
     ExitCode::from(2)
 }
 
-/// Tells that the office's key hasn't the form of one, and answers the program's status.
+/// Reports that the office's key doesn't have the form of a key, and returns the program's status.
 fn no_key(rt: &impl Print) -> u8 {
     match print!(rt; "E9 bad value for key\n") {
         Ok(()) => 1,
@@ -36,7 +36,7 @@ fn no_key(rt: &impl Print) -> u8 {
     }
 }
 
-/// Does a job, and answers the program's status.
+/// Does a job, and returns the program's status.
 fn run(rt: &HostRuntime, job: Job<'_>) -> u8 {
     let alloc = rt.alloc();
     let mut reader = Device::new(rt.stdin());

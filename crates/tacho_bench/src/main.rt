@@ -1,7 +1,7 @@
-//! Work on timelines and on texts, to be measured. Two numbers make a line of so many spans, and then add so many days
-//! to it, one at a time. The word `examine` and three numbers make a line of so many working days with shifts of so
-//! many pieces, and examine it so many times; the word `plain` and three numbers do the same by the plain passes. The
-//! word `entries` and a number read the hours that standard input enters, as CSV, so many times.
+//! Work on timelines and on texts, for measurements. With two numbers as arguments, a line with that many spans is made, and that many days
+//! are added to it, one at a time. With `examine` and three numbers (days, pieces, times), a line of that many days, whose shifts have that
+//! many pieces, is examined that many times; `plain` does the same with the plain passes. With `entries` and a number, the hours in the CSV
+//! on standard input are read that many times.
 #![tactic(auto)]
 
 mod passes;
@@ -16,21 +16,21 @@ use tacho_rules::limits::FIRST_BASE;
 use tacho_time::{Activity, Device, Mark, Minute, Span, read_all};
 use years::Way;
 
-/// How many bytes an input has at the most.
+/// The most bytes that an input may have.
 const LIMIT: usize = 1_048_576;
 
 /// What is measured.
 #[derive(Clone, Copy)]
 enum Work {
-    /// The adding of days to a timeline.
+    /// Adding days to a timeline.
     Adding,
-    /// The examination of a timeline, in a way.
+    /// Examining a timeline, in one of two ways.
     Examining(Way),
-    /// The reading of entered hours.
+    /// Reading entered hours.
     Reading,
 }
 
-/// The span of an hour, from so many hours after the start on. Two that touch have different marks.
+/// Returns the span of an hour, `number` hours after the start. Two spans that touch have different marks.
 fn hour(number: u32) -> Span {
     let start = Minute::new(FIRST_BASE + 60 * (number % 800_000));
     let past = Minute::new(FIRST_BASE + 60 * (number % 800_000) + 60);
@@ -49,7 +49,7 @@ fn hour(number: u32) -> Span {
     }
 }
 
-/// Adds what the line lacks of some spans.
+/// Adds to a line what spans give that it doesn't hold.
 pub(crate) fn add(alloc: Global, line: &mut Line, spans: &[Span]) -> Result<(), LineFault> {
     let gains = line.gains(alloc, spans)?;
     if line.add(&gains).is_err() {
@@ -58,7 +58,7 @@ pub(crate) fn add(alloc: Global, line: &mut Line, spans: &[Span]) -> Result<(), 
     Ok(())
 }
 
-/// The hours of a day, by its number from the start.
+/// Returns the hours of a day, by the day's number from the start.
 fn day(alloc: Global, number: u32) -> Result<Vec<Span>, LineFault> {
     let mut spans = Vec::new(alloc);
     for i in 0..24 {
@@ -72,7 +72,7 @@ fn day(alloc: Global, number: u32) -> Result<Vec<Span>, LineFault> {
     Ok(spans)
 }
 
-/// A line whose spans lie on every second day.
+/// Returns a line whose spans are on every second day.
 fn line_of(alloc: Global, count: u32) -> Result<Line, LineFault> {
     let mut spans = Vec::new(alloc);
     for i in 0..count {
@@ -86,7 +86,7 @@ fn line_of(alloc: Global, count: u32) -> Result<Line, LineFault> {
     Ok(line)
 }
 
-/// The line after days between its days were added, one at a time.
+/// Adds days between a line's days, one at a time, and returns the line.
 fn measured(alloc: Global, count: u32, days: u32) -> Result<Line, LineFault> {
     let mut line = line_of(alloc, count)?;
     for i in 0..days {
@@ -96,7 +96,7 @@ fn measured(alloc: Global, count: u32, days: u32) -> Result<Line, LineFault> {
     Ok(line)
 }
 
-/// A number among the words of the command line, or a small one.
+/// Returns the number in the argument at a place, or 24 if there is none.
 fn number(rt: &(impl Env + Alloc), place: usize) -> u32 {
     let Ok(words) = env::args(rt) else {
         return 24;
@@ -109,7 +109,7 @@ fn number(rt: &(impl Env + Alloc), place: usize) -> u32 {
     24
 }
 
-/// The work that the first word of the command line names.
+/// Returns the work that the first argument names.
 fn asked(rt: &(impl Env + Alloc)) -> Work {
     let Ok(words) = env::args(rt) else {
         return Work::Adding;
@@ -127,7 +127,7 @@ fn asked(rt: &(impl Env + Alloc)) -> Work {
     Work::Adding
 }
 
-/// Adds days to a line, and prints how many spans it has then.
+/// Adds days to a line, and prints the number of its spans.
 fn tell_added(rt: &(impl Env + Alloc + Print), alloc: Global) -> io::Result<()> {
     match measured(alloc, number(rt, 1), number(rt, 2)) {
         Ok(line) => println!(rt; "{} spans", line.spans().len()),
@@ -135,7 +135,7 @@ fn tell_added(rt: &(impl Env + Alloc + Print), alloc: Global) -> io::Result<()> 
     }
 }
 
-/// Examines a line, and prints what it has and what was found.
+/// Examines a line, and prints the number of its spans and what was found.
 fn tell_examined(rt: &(impl Env + Alloc + Print), alloc: Global, way: Way) -> io::Result<()> {
     match years::examined(alloc, way, number(rt, 2), number(rt, 3), number(rt, 4)) {
         Ok(count) => {

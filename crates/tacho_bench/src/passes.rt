@@ -1,4 +1,4 @@
-//! The rules one after the other, each over all spans.
+//! The rules in turn, each over all spans.
 
 ghost use Rattle.std.specs.Prelude.{◌≤◌, All};
 ghost use Rattle.tacho_hours.specs.Line.{IsBase};
@@ -10,7 +10,7 @@ use tacho_line::Line;
 use tacho_rules::Report;
 use tacho_time::Minute;
 
-/// The report of a line as `examine` gives it, by the plain passes: breaks, days, weeks and rests.
+/// Returns the report of a line like `examine`, but by the plain passes: breaks, days, weeks and rests.
 pub(crate) fn examine_plainly(
     alloc: Global,
     line: &Line,

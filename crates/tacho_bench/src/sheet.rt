@@ -3,7 +3,7 @@ use tacho_sheet::{SheetFault, read_entries};
 use tacho_state::EntryLine;
 use tacho_time::Activity;
 
-/// What was found in a text, in all the times that it was read.
+/// What was found in a text, summed over all times that it was read.
 #[derive(Drop)]
 pub(crate) struct Count {
     pub(crate) lines: u64,
@@ -23,7 +23,7 @@ impl Count {
     }
 }
 
-/// What is found in a text of CSV when its hours are read so many times.
+/// Reads the hours in a text of CSV `times` times, and returns what was found.
 pub(crate) fn entered(alloc: Global, text: &[u8], times: u32) -> Result<Count, SheetFault> {
     let mut count = Count {
         lines: 0,

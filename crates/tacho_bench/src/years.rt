@@ -7,7 +7,7 @@ use tacho_rules::limits::{FIRST_BASE, LATEST};
 use tacho_rules::{Report, can_be_examined, examine};
 use tacho_time::{Activity, Mark, Minute, Span};
 
-/// The minutes of a shift.
+/// The length of a shift in minutes.
 const SHIFT: u32 = 360;
 
 /// How a line is examined.
@@ -19,7 +19,7 @@ pub(crate) enum Way {
     Passes,
 }
 
-/// What was found in a line, in all the times that it was examined; `sum` is made of each number of each report, in order.
+/// What was found in a line, summed over all times that it was examined. `sum` depends on each number of each report, in order.
 #[derive(Drop)]
 pub(crate) struct Count {
     pub(crate) spans: usize,
@@ -28,7 +28,7 @@ pub(crate) struct Count {
     pub(crate) sum: u64,
 }
 
-/// The number of a kind, from that of B1, which is 0, on.
+/// Returns the number of a kind, starting with 0 for B1.
 fn number_of(kind: Kind) -> u32 {
     match kind {
         Kind::B1 => 0,
@@ -45,7 +45,7 @@ fn number_of(kind: Kind) -> u32 {
 }
 
 impl Count {
-    /// Takes a number into the sum.
+    /// Adds a number to the sum.
     fn take(&mut self, number: u32) {
         self.sum = self
             .sum
@@ -53,7 +53,7 @@ impl Count {
             .wrapping_add(u64::from(number));
     }
 
-    /// Takes a breach into the sum.
+    /// Adds a breach to the sum.
     fn take_breach(&mut self, breach: &Breach) {
         self.take(number_of(breach.kind));
         self.take(breach.moment.number());
@@ -61,7 +61,7 @@ impl Count {
         self.take(breach.amount);
     }
 
-    /// Takes a debt into the sum.
+    /// Adds a debt to the sum.
     fn take_debt(&mut self, debt: &Debt) {
         let payer = match debt.paid_by {
             Some(minute) => minute.number(),
@@ -73,7 +73,7 @@ impl Count {
         self.take(payer);
     }
 
-    /// Adds what a report has.
+    /// Adds the contents of a report.
     fn add(&mut self, report: &Report) {
         self.breaches = self.breaches.wrapping_add(report.breaches.len());
         self.debts = self.debts.wrapping_add(report.debts.len());
@@ -86,12 +86,12 @@ impl Count {
     }
 }
 
-/// So many minutes after the start.
+/// Returns the minute `number` minutes after the start.
 fn minute(number: u32) -> Minute {
     Minute::new(FIRST_BASE.wrapping_add(number).min(LATEST))
 }
 
-/// What a driver who is alone does, in minutes after the start.
+/// Returns a span of a driver who is alone, in minutes after the start.
 fn single(start: u32, past: u32, activity: Activity) -> Span {
     Span {
         start: minute(start),
@@ -103,7 +103,7 @@ fn single(start: u32, past: u32, activity: Activity) -> Span {
     }
 }
 
-/// What is done in a piece of a shift, by its number: half of them are driving.
+/// Returns the activity of a piece of a shift, by the piece's number. Half of the pieces are driving.
 fn activity_of(number: u32) -> Activity {
     match number % 4 {
         1 => Activity::Rest,
@@ -112,7 +112,7 @@ fn activity_of(number: u32) -> Activity {
     }
 }
 
-/// Adds a shift of six hours in so many pieces.
+/// Adds a shift of six hours, divided into pieces.
 fn add_shift(spans: &mut Vec<Span>, from: u32, pieces: u32) -> Result<(), AllocError> {
     let end = |number: u32| from.wrapping_add(SHIFT.wrapping_mul(number) / pieces.max(1));
     for i in 0..pieces {
@@ -121,8 +121,8 @@ fn add_shift(spans: &mut Vec<Span>, from: u32, pieces: u32) -> Result<(), AllocE
     Ok(())
 }
 
-/// Where the second shift of a day starts, by the day's number from a Monday: at 13:00; on Tuesdays and Thursdays at
-/// 14:30, so that the rest has nine and a half hours; and on one day in four weeks at 15:30, so that it is too short.
+/// Returns the start of a day's second shift, by the day's number from a Monday: 13:00; on Tuesdays and Thursdays 14:30, so that the rest
+/// has nine and a half hours; and on one day in four weeks 15:30, so that the rest is too short.
 fn second_shift(day: u32) -> u32 {
     match day % 28 {
         9 => 930,
@@ -152,13 +152,13 @@ fn add_free_day(spans: &mut Vec<Span>, day: u32) -> Result<(), AllocError> {
     Ok(())
 }
 
-/// Whether there is no work on a day, by its number from a Monday: on Sundays, and on each second Saturday, so that one
-/// weekly rest of two has 35 hours and the other 59.
+/// Returns true if there is no work on a day, by its number from a Monday: on Sundays, and on every second Saturday, so that weekly rests
+/// alternate between 35 and 59 hours.
 fn is_free(day: u32) -> bool {
     day % 7 == 6 || day % 14 == 5
 }
 
-/// The line of so many days, with shifts of so many pieces.
+/// Returns a line of `days` days, whose shifts have `pieces` pieces.
 fn line_of(alloc: Global, days: u32, pieces: u32) -> Result<Line, LineFault> {
     let mut spans = Vec::new(alloc);
     for day in 0..days {
@@ -173,7 +173,7 @@ fn line_of(alloc: Global, days: u32, pieces: u32) -> Result<Line, LineFault> {
     Ok(line)
 }
 
-/// What is found in the line of so many days when it is examined so many times.
+/// Makes a line of working days, examines it several times, and returns what was found.
 pub(crate) fn examined(
     alloc: Global,
     way: Way,

@@ -1,4 +1,4 @@
--- The blocks by recursion are those that are laid end to end.
+-- The blocks that are read by recursion are exactly those that are laid end to end.
 use Rattle.std.proofs.Common.{◌≡◌, ◌≢◌, ℕ, zero, suc, ◌+◌, ◌-◌, ◌*◌, ◌<◌, ◌≤◌, ◌↔◌, Bool, true, false, List, [], ◌∷◌, ◌++◌, length, take, drop, slice_index, Result, Ok, Err, refl, sym, ap, ap₂, ◌∙◌, subst, arith}
 use Rattle.std.specs.List.{flat_map}
 use Rattle.std.proofs.Math.Seq.{take-append-add}
@@ -8,18 +8,18 @@ use Rattle.tacho_card.specs.declared.fault.CardFault.TheVariants.{Truncated}
 use Rattle.tacho_card.specs.CardFile.{FileBlock, block_bytes, FitsHead, IsLaidEndToEnd, IsTruncatedAt, front_length, is_cut, front_block, block_before, blocks_from, blocks_of}
 use Rattle.tacho_card.proofs.BlockLemmas.{IsBytes, fits, front_bytes, front_length_is, front_block_is, front_not_cut, front_rest_is, no_blocks, cut_block, whole_block, after_front, first_block}
 
--- ---- from blocks to their reading
+-- ---- from blocks to what is read
 
 -- the bytes of blocks
 abbrev all_bytes : List FileBlock → List ℕ
 all_bytes blocks = flat_map block_bytes blocks
 
--- blocks, before what is read of the rest
+-- puts blocks before those that are read from the rest
 abbrev before : List FileBlock → Result (List FileBlock) CardFault → Result (List FileBlock) CardFault
 before [] r = r
 before (b ∷ blocks) r = block_before b (before blocks r)
 
--- a block at the front is read, and then what comes after it
+-- a block at the front is read, followed by the blocks of the rest
 one_block : (fuel offset : ℕ) (b : FileBlock) (rest : List ℕ) → blocks_from (suc fuel) offset (block_bytes b ++ rest) ≡ block_before b (blocks_from fuel (offset + length (block_bytes b)) rest)
 one_block fuel offset b rest =
     let long : front_length (block_bytes b ++ rest) ≡ length (block_bytes b) = omega (arith, front_length_is b rest) in
@@ -27,11 +27,11 @@ one_block fuel offset b rest =
     ∙ ap₂ (λ first n. block_before first (blocks_from fuel (offset + n) (drop (front_length (block_bytes b ++ rest)) (block_bytes b ++ rest)))) (front_block_is b rest) long
     ∙ ap (λ xs. block_before b (blocks_from fuel (offset + length (block_bytes b)) xs)) (front_rest_is b rest)
 
--- a block has bytes
+-- a block isn't empty
 some_bytes : (b : FileBlock) → 0 < length (block_bytes b)
 some_bytes b = omega arith
 
--- blocks at the front are read, and then what comes after them
+-- blocks at the front are read, followed by the blocks of the rest
 all_blocks : (fuel offset : ℕ) (blocks : List FileBlock) (rest : List ℕ) → length (all_bytes blocks) ≤ fuel →
     blocks_from fuel offset (all_bytes blocks ++ rest) ≡ before blocks (blocks_from (fuel - length blocks) (offset + length (all_bytes blocks)) rest)
 all_blocks fuel offset [] rest enough =
@@ -48,7 +48,7 @@ all_blocks (suc fuel) offset (b ∷ bs) rest enough =
     ∙ one_block fuel offset b (all_bytes bs ++ rest)
     ∙ ap (block_before b) (others ∙ ap₂ (λ x y. before bs (blocks_from x y rest)) f o)
 
--- nothing comes after the blocks, or a fault
+-- if nothing comes after the blocks, the result is the blocks
 before_nothing : (blocks : List FileBlock) → before blocks (Ok []) ≡ Ok blocks
 before_nothing [] = refl
 before_nothing (b ∷ bs) = ap (block_before b) (before_nothing bs)
@@ -57,7 +57,7 @@ before_fault : (blocks : List FileBlock) (fault : CardFault) → before blocks (
 before_fault [] fault = refl
 before_fault (b ∷ bs) fault = ap (block_before b) (before_fault bs fault)
 
--- blocks that are laid are read
+-- blocks that are laid end to end are read
 pub laid_read : (bytes : List ℕ) (blocks : List FileBlock) → IsLaidEndToEnd bytes blocks → blocks_of bytes ≡ Ok blocks
 laid_read bytes blocks h =
     let enough : length (all_bytes blocks) ≤ length bytes = omega (arith, ap length h.laid) in
@@ -66,29 +66,29 @@ laid_read bytes blocks h =
     ∙ ap (before blocks) (no_blocks _ _)
     ∙ before_nothing blocks
 
--- at most one list of blocks is laid
+-- at most one list of blocks is laid end to end in the same bytes
 pub one_list : (bytes : List ℕ) (a b : List FileBlock) → IsLaidEndToEnd bytes a → IsLaidEndToEnd bytes b → a ≡ b
 one_list bytes a b h k =
     let same = sym (laid_read bytes a h) ∙ laid_read bytes b k in
     cc
 
--- bytes that are cut are a fault
+-- bytes that are cut are read as a fault
 cut_rest : (fuel offset : ℕ) (rest : List ℕ) → (rest ≢ []) → 0 < fuel → is_cut rest ≡ true → blocks_from fuel offset rest ≡ Err (Truncated offset)
 cut_rest fuel offset [] some enough h = absurd (some refl)
 cut_rest zero offset (x ∷ xs) some enough h = absurd (omega (arith, enough))
 cut_rest (suc fuel) offset (x ∷ xs) some enough h = cut_block fuel offset x xs h
 
--- a list that isn't empty has a length
+-- a list that isn't empty has a positive length
 some_length : (xs : List ℕ) → (xs ≢ []) → 0 < length xs
 some_length [] h = absurd (h refl)
 some_length (x ∷ xs) h = omega arith
 
--- there are no more blocks than bytes
+-- there are at most as many blocks as bytes
 few_blocks : (blocks : List FileBlock) → length blocks ≤ length (all_bytes blocks)
 few_blocks [] = omega arith
 few_blocks (b ∷ bs) = omega (arith, few_blocks bs, length-append (block_bytes b) (all_bytes bs), some_bytes b)
 
--- where some bytes come after the first ones, there are as many of these as were taken
+-- if bytes come after the first `offset` ones, there are `offset` first ones
 taken : (offset : ℕ) (bytes rest : List ℕ) → bytes ≡ take offset bytes ++ rest → 0 < length rest → length (take offset bytes) ≡ offset
 taken offset bytes rest e some = omega (arith, length-take offset bytes, ap length e, length-append (take offset bytes) rest, some)
 
@@ -106,13 +106,13 @@ truncated_read bytes offset h =
     ∙ before_fault h.blocks _
     ∙ ap (λ n. Err (Truncated n)) at
 
--- ---- from the reading to blocks
+-- ---- from what is read to blocks
 
--- what comes after some bytes is bytes
+-- dropping bytes leaves bytes
 bytes_after : (n : ℕ) (bytes : List ℕ) → IsBytes bytes → IsBytes (drop n bytes)
 bytes_after n bytes h i = rw (get_or-drop n bytes i 0) (h (n + i))
 
--- the numbers of a head fit
+-- the numbers of a head that is read fit into their bytes
 front_fits : (bytes : List ℕ) → IsBytes bytes → FitsHead (front_block bytes)
 front_fits bytes h = record {
   identifier = omega (arith, h 0, h 1);
@@ -120,19 +120,19 @@ front_fits bytes h = record {
   length = omega (arith, h 3, h 4, length-take (slice_index bytes 3 * 256 + slice_index bytes 4) (drop 5 bytes));
 }
 
--- the block at the front, and blocks after it
+-- the block at the front, followed by blocks that are laid end to end
 laid_before : (bytes : List ℕ) (blocks : List FileBlock) → IsBytes bytes → is_cut bytes ≡ false → IsLaidEndToEnd (drop (front_length bytes) bytes) blocks → IsLaidEndToEnd bytes (front_block bytes ∷ blocks)
 laid_before bytes blocks h whole rest = record {
   laid = sym (front_bytes bytes h whole) ∙ ap (λ xs. block_bytes (front_block bytes) ++ xs) rest.laid;
   heads = (front_fits bytes h, rest.heads);
 }
 
--- nothing is laid in no bytes
+-- no blocks are laid in no bytes
 none_laid : (fuel offset : ℕ) (blocks : List FileBlock) → blocks_from fuel offset [] ≡ Ok blocks → IsLaidEndToEnd [] blocks
 none_laid fuel offset [] h = record { laid = refl; heads = tt }
 none_laid fuel offset (b ∷ bs) h = let no = sym (no_blocks fuel offset) ∙ h in cc
 
--- blocks that are read are laid
+-- blocks that are read are laid end to end
 read_laid : (fuel offset : ℕ) (bytes : List ℕ) (blocks : List FileBlock) → length bytes ≤ fuel → IsBytes bytes → blocks_from fuel offset bytes ≡ Ok blocks → IsLaidEndToEnd bytes blocks
 read_laid fuel offset [] blocks enough h e = none_laid fuel offset blocks e
 read_laid zero offset (x ∷ xs) blocks enough h e = absurd (omega (arith, enough))
@@ -141,29 +141,29 @@ read_laid (suc fuel) offset (x ∷ xs) blocks enough h e =
     let rest = read_laid fuel _ _ first.1.0 (after_front x xs fuel enough) (bytes_after _ (x ∷ xs) h) first.1.1 in
     subst (λ (bs : List FileBlock). IsLaidEndToEnd (x ∷ xs) bs) (sym first.1.2) (laid_before (x ∷ xs) first.1.0 h first.0 rest)
 
--- the blocks by recursion are those that are laid
+-- blocks are laid end to end iff they are read
 pub laid : (bytes : List ℕ) (blocks : List FileBlock) → IsBytes bytes → IsLaidEndToEnd bytes blocks ↔ (blocks_of bytes ≡ Ok blocks)
 laid bytes blocks h = (laid_read bytes blocks, read_laid (length bytes) 0 bytes blocks (omega arith) h)
 
--- a fault comes from what is after a block
+-- if blocks after a first one give a fault, it comes from those after it
 fault_after : (b : FileBlock) (r : Result (List FileBlock) CardFault) (fault : CardFault) → block_before b r ≡ Err fault → r ≡ Err fault
 fault_after b (Ok blocks) fault h = cc
 fault_after b (Err f) fault h = h
 
--- as many bytes as the head says
+-- a block that isn't cut has as many bytes as its head says
 front_taken : (bytes : List ℕ) → is_cut bytes ≡ false → length (block_bytes (front_block bytes)) ≡ front_length bytes
 front_taken bytes whole =
     let enough = fits bytes whole in
     omega (arith, enough.1, enough.0, length-take (slice_index bytes 3 * 256 + slice_index bytes 4) (drop 5 bytes), length-drop 5 bytes)
 
--- the first bytes, past the block at the front
+-- the bytes of the block at the front, and the first n bytes after it
 taken_before : (bytes : List ℕ) (n : ℕ) → IsBytes bytes → is_cut bytes ≡ false → take (front_length bytes + n) bytes ≡ block_bytes (front_block bytes) ++ take n (drop (front_length bytes) bytes)
 taken_before bytes n h whole =
     let front = block_bytes (front_block bytes) in
     ap₂ (λ k xs. take (k + n) xs) (sym (front_taken bytes whole)) (sym (front_bytes bytes h whole))
     ∙ take-append-add front (drop (front_length bytes) bytes) n
 
--- a block that is cut, behind the one at the front
+-- a block that is cut, after the one at the front
 truncated_before : (bytes : List ℕ) (n : ℕ) → IsBytes bytes → is_cut bytes ≡ false → IsTruncatedAt (drop (front_length bytes) bytes) n → IsTruncatedAt bytes (front_length bytes + n)
 truncated_before bytes n h whole t =
     let front = block_bytes (front_block bytes) in
@@ -184,7 +184,7 @@ truncated_before bytes n h whole t =
 abbrev Truncation : ℕ → List ℕ → CardFault → Type 0
 Truncation offset bytes fault = (n : ℕ) × (fault ≡ Truncated (offset + n)) × IsTruncatedAt bytes n
 
--- a fault in place of blocks is that of one that is cut
+-- if a fault is read instead of blocks, a block is cut
 read_truncated : (fuel offset : ℕ) (bytes : List ℕ) (fault : CardFault) → length bytes ≤ fuel → IsBytes bytes → blocks_from fuel offset bytes ≡ Err fault → Truncation offset bytes fault
 read_truncated fuel offset [] fault enough h e = let no = sym (no_blocks fuel offset) ∙ e in cc
 read_truncated zero offset (x ∷ xs) fault enough h e = absurd (omega (arith, enough))
@@ -210,7 +210,7 @@ read_truncated (suc fuel) offset (x ∷ xs) fault enough h e =
           let at : offset + front_length (x ∷ xs) + t.0 ≡ offset + (front_length (x ∷ xs) + t.0) = omega arith in
           (front_length (x ∷ xs) + t.0, t.1 ∙ ap (λ k. Truncated k) at, truncated_before (x ∷ xs) t.0 h cut t.2)
 
--- the offset of a block that is cut
+-- `Truncated` is read iff the block at this offset is cut
 pub truncated : (bytes : List ℕ) (offset : ℕ) → IsBytes bytes → IsTruncatedAt bytes offset ↔ (blocks_of bytes ≡ Err (Truncated offset))
 truncated bytes offset h = (truncated_read bytes offset, back) where
   back : blocks_of bytes ≡ Err (Truncated offset) → IsTruncatedAt bytes offset

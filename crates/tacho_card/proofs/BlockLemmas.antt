@@ -8,32 +8,32 @@ use Rattle.tacho_card.specs.CardFile.{FileBlock, two_bytes, block_bytes, front_l
 
 -- ---- the front of a file
 
--- each number is that of a byte
+-- each number is a byte
 abbrev pub IsBytes : List ℕ → Type 0
 IsBytes bytes = (i : ℕ) → slice_index bytes i < 256
 
--- two bytes are those of their number
+-- the two bytes of a number that two bytes spell are these bytes
 two_bytes_again : (a b : ℕ) → b < 256 → two_bytes (a * 256 + b) ≡ a ∷ b ∷ []
 two_bytes_again a b h =
     let high : (a * 256 + b) / 256 ≡ a = omega arith in
     let low : (a * 256 + b) % 256 ≡ b = omega arith in
     ap₂ (λ x y. x ∷ y ∷ []) high low
 
--- a block that isn't cut is as long as its head says
+-- a block that isn't cut has at least the length that its head says
 fits_tests : (n k : ℕ) → (nat_lt n 5 || nat_lt n k) ≡ false → (5 ≤ n) × (k ≤ n)
 fits_tests n k h = (grind (arith, nat_tests), grind (arith, nat_tests))
 
 pub fits : (bytes : List ℕ) → is_cut bytes ≡ false → (5 ≤ length bytes) × (front_length bytes ≤ length bytes)
 fits bytes h = fits_tests (length bytes) (front_length bytes) h
 
--- a block that is as long as its head says isn't cut
+-- a block that has at least the length that its head says isn't cut
 not_cut_tests : (n k : ℕ) → 5 ≤ n → k ≤ n → (nat_lt n 5 || nat_lt n k) ≡ false
 not_cut_tests n k h l = grind (arith, nat_tests)
 
 pub not_cut : (bytes : List ℕ) → 5 ≤ length bytes → front_length bytes ≤ length bytes → is_cut bytes ≡ false
 not_cut bytes h l = not_cut_tests (length bytes) (front_length bytes) h l
 
--- a block is its head and its value
+-- the bytes at the front are the head and the value of the block
 front_cells : (a b c d e : ℕ) (rest : List ℕ) → b < 256 → e < 256 → d * 256 + e ≤ length rest → block_bytes (front_block (a ∷ b ∷ c ∷ d ∷ e ∷ rest)) ≡ a ∷ b ∷ c ∷ d ∷ e ∷ take (d * 256 + e) rest
 front_cells a b c d e rest hb he l =
     let n = d * 256 + e in
@@ -56,27 +56,27 @@ front_bytes (a ∷ b ∷ c ∷ d ∷ e ∷ rest) h cut =
     ∙ ap (λ x. (a ∷ b ∷ c ∷ d ∷ e ∷ take n rest) ++ x) (sym (drop-drop n 5 cells))
     ∙ ap (λ x. a ∷ b ∷ c ∷ d ∷ e ∷ x) (take-append-drop n rest)
 
--- the number that two bytes hold
+-- the number that two bytes spell is this number
 number_again : (n : ℕ) → n / 256 * 256 + n % 256 ≡ n
 number_again n = omega arith
 
--- how long a block is that stands at the front
+-- the length of a block at the front
 pub front_length_is : (b : FileBlock) (rest : List ℕ) → front_length (block_bytes b ++ rest) ≡ 5 + length b.value
 front_length_is b rest = ap (λ n. 5 + n) (number_again (length b.value))
 
--- which block stands at the front
+-- the block at the front is read as this block
 pub front_block_is : (b : FileBlock) (rest : List ℕ) → front_block (block_bytes b ++ rest) ≡ b
 front_block_is b rest =
     let value : take (length b.value / 256 * 256 + length b.value % 256) (b.value ++ rest) ≡ b.value = take_at b.value rest _ (sym (number_again (length b.value))) in
     ap₂ (λ x y. record { identifier = x; kind = b.kind; value = y }) (number_again b.identifier) value
 
--- it isn't cut
+-- a block at the front isn't cut
 pub front_not_cut : (b : FileBlock) (rest : List ℕ) → is_cut (block_bytes b ++ rest) ≡ false
 front_not_cut b rest =
     let long : length (block_bytes b ++ rest) ≡ 5 + length b.value + length rest = omega (arith, length-append b.value rest) in
     not_cut (block_bytes b ++ rest) (omega (arith, long)) (omega (arith, long, front_length_is b rest))
 
--- what comes after it
+-- what comes after a block at the front
 pub front_rest_is : (b : FileBlock) (rest : List ℕ) → drop (front_length (block_bytes b ++ rest)) (block_bytes b ++ rest) ≡ rest
 front_rest_is b rest =
     let long : length (block_bytes b) ≡ 5 + length b.value = omega arith in
@@ -84,7 +84,7 @@ front_rest_is b rest =
 
 -- ---- blocks from an offset on
 
--- nothing has no blocks
+-- no bytes have no blocks
 pub no_blocks : (fuel offset : ℕ) → blocks_from fuel offset [] ≡ Ok []
 unfolding blocks_from
 no_blocks zero offset = refl
@@ -96,13 +96,13 @@ unfolding blocks_from
 cut_block fuel offset byte bytes h =
     ap (λ b. cond b (Err (Truncated offset)) (block_before (front_block (byte ∷ bytes)) (blocks_from fuel (offset + front_length (byte ∷ bytes)) (drop (front_length (byte ∷ bytes)) (byte ∷ bytes))))) h
 
--- a block that isn't, before others
+-- a block that isn't cut, followed by others
 pub whole_block : (fuel offset byte : ℕ) (bytes : List ℕ) → is_cut (byte ∷ bytes) ≡ false → blocks_from (suc fuel) offset (byte ∷ bytes) ≡ block_before (front_block (byte ∷ bytes)) (blocks_from fuel (offset + front_length (byte ∷ bytes)) (drop (front_length (byte ∷ bytes)) (byte ∷ bytes)))
 unfolding blocks_from
 whole_block fuel offset byte bytes h =
     ap (λ b. cond b (Err (Truncated offset)) (block_before (front_block (byte ∷ bytes)) (blocks_from fuel (offset + front_length (byte ∷ bytes)) (drop (front_length (byte ∷ bytes)) (byte ∷ bytes))))) h
 
--- what comes after a block is shorter
+-- the bytes after a block are fewer
 pub after_front : (byte : ℕ) (bytes : List ℕ) (fuel : ℕ) → length (byte ∷ bytes) ≤ suc fuel → length (drop (front_length (byte ∷ bytes)) (byte ∷ bytes)) ≤ fuel
 after_front byte bytes fuel h = omega (arith, h, length-drop (front_length (byte ∷ bytes)) (byte ∷ bytes))
 
@@ -116,7 +116,7 @@ same_blocks (suc f) (suc g) offset (x ∷ xs) hf hg = go (is_cut (x ∷ xs)) ref
   go true e h = cut_block f offset x xs e ∙ sym (cut_block g offset x xs e)
   go false e h = whole_block f offset x xs e ∙ ap (block_before (front_block (x ∷ xs))) h ∙ sym (whole_block g offset x xs e)
 
--- a block that is read before others
+-- if a block before others is read, the others are read too
 some_before : (b : FileBlock) (r : Result (List FileBlock) CardFault) (blocks : List FileBlock) → block_before b r ≡ Ok blocks → (rest : List FileBlock) × (r ≡ Ok rest) × (blocks ≡ b ∷ rest)
 some_before b (Ok rest) blocks h = (rest, refl, cc)
 some_before b (Err fault) blocks h = cc
@@ -128,7 +128,7 @@ first_block fuel offset byte bytes blocks h = go (is_cut (byte ∷ bytes)) refl 
   go true e = let no = sym (cut_block fuel offset byte bytes e) ∙ h in cc
   go false e = (e, some_before (front_block (byte ∷ bytes)) _ blocks (sym (whole_block fuel offset byte bytes e) ∙ h))
 
--- the blocks of a file that is read are the same from each offset on
+-- blocks that are read are the same from any offset
 pub blocks_anywhere : (f g offset other : ℕ) (bytes : List ℕ) (blocks : List FileBlock) → length bytes ≤ f → length bytes ≤ g → blocks_from f offset bytes ≡ Ok blocks → blocks_from g other bytes ≡ Ok blocks
 blocks_anywhere f g offset other [] blocks hf hg h = no_blocks g other ∙ sym (no_blocks f offset) ∙ h
 blocks_anywhere zero g offset other (x ∷ xs) blocks hf hg h = absurd (omega (arith, hf))

@@ -1,9 +1,9 @@
--- The data that are there, one place after the other.
+-- Going over optional data, and those that are present.
 use Rattle.std.proofs.Common.{◌≡◌, ℕ, zero, suc, ◌<◌, List, [], ◌∷◌, ◌++◌, length, take, drop, get_or, Option, Some, None, refl, ap, arith}
 use Rattle.tacho_card.specs.DriverActivity.{DriverActivity}
 use Rattle.tacho_card.specs.CardFile.{those_there}
 
--- data that are there at a place come after those before it
+-- data at a place come after the data present before it
 pub those_more : (chosen : List (Option DriverActivity)) (i : ℕ) (d : Option DriverActivity) (activity : DriverActivity) → i < length chosen → get_or chosen i d ≡ Some activity → those_there (take (suc i) chosen) ≡ those_there (take i chosen) ++ activity ∷ []
 those_more [] i d activity h e = absurd (omega arith)
 those_more (None ∷ chosen) zero d activity h e = cc
@@ -11,7 +11,7 @@ those_more (Some first ∷ chosen) zero d activity h e = let same : first ≡ ac
 those_more (None ∷ chosen) (suc i) d activity h e = those_more chosen i d activity (omega arith) e
 those_more (Some first ∷ chosen) (suc i) d activity h e = ap (λ xs. first ∷ xs) (those_more chosen i d activity (omega arith) e)
 
--- where there are none at a place, nothing comes
+-- a place without data adds nothing
 pub those_same : (chosen : List (Option DriverActivity)) (i : ℕ) (d : Option DriverActivity) → i < length chosen → get_or chosen i d ≡ None → those_there (take (suc i) chosen) ≡ those_there (take i chosen)
 those_same [] i d h e = absurd (omega arith)
 those_same (None ∷ chosen) zero d h e = refl
@@ -19,7 +19,7 @@ those_same (Some first ∷ chosen) zero d h e = cc
 those_same (None ∷ chosen) (suc i) d h e = those_same chosen i d (omega arith) e
 those_same (Some first ∷ chosen) (suc i) d h e = ap (λ xs. first ∷ xs) (those_same chosen i d (omega arith) e)
 
--- all of them, split at a place
+-- the data present are those before a place, that at the place, and those after it
 pub those_split : (chosen : List (Option DriverActivity)) (i : ℕ) (d : Option DriverActivity) (activity : DriverActivity) → i < length chosen → get_or chosen i d ≡ Some activity → those_there (take i chosen) ++ activity ∷ those_there (drop (suc i) chosen) ≡ those_there chosen
 those_split [] i d activity h e = absurd (omega arith)
 those_split (None ∷ chosen) zero d activity h e = cc

@@ -1,4 +1,4 @@
--- The faults of a file's blocks by places are those by recursion.
+-- The faults of a file's blocks, defined by places, are those that the recursion finds.
 use Rattle.std.proofs.Common.{◌≡◌, ℕ, zero, suc, ◌+◌, ◌<◌, ◌⊎◌, inl, inr, ◌↔◌, ◌&&◌, ◌||◌, nat_lt, Bool, true, false, cond, List, [], ◌∷◌, ◌++◌, length, get_or, slice_get, bytes_eq, Decides, HoldsAt, Option, None, Some, Result, Ok, Err, refl, sym, ap, ap₂, ◌∙◌, subst, append_assoc, length-append, arith}
 use Rattle.std.proofs.Math.Seq.{get_or-append_seam}
 use Rattle.std.proofs.lemmas.Bool.Decides.{nat_tests, not_from_Decides, Decides-eqb, Decides-and, Decides-or, Decides-ltb, Decides-by_or}
@@ -14,25 +14,25 @@ use Rattle.tacho_card.proofs.FirstLemmas.{FirstFrom, first_here, first_behind, n
 
 -- ---- tests of blocks
 
--- the test of an identifier and a kind
+-- decides whether a block has this identifier and kind
 block_decides : (i k : ℕ) (b : FileBlock) → Decides (is_block i k b) ((b.identifier ≡ i) × (b.kind ≡ k))
 block_decides i k b = Decides-and _ _ (Decides-eqb b.identifier i) (Decides-eqb b.kind k)
 
--- the test of a block that may stand once
+-- decides whether the file may have a block only once
 single_decides : (b : FileBlock) → Decides (is_single b) (MayStandOnce b)
 single_decides b =
     Decides-and _ _ (Decides-or _ _ (Decides-eqb b.identifier activity_data) (Decides-eqb b.identifier identification))
     (Decides-or _ _ (Decides-eqb b.kind 0) (Decides-eqb b.kind 2))
 
--- a block has the identifier and the kind of another
+-- the blocks have the same identifier and the same kind
 abbrev IsLike : FileBlock → FileBlock → Type 0
 IsLike b other = (other.identifier ≡ b.identifier) × (other.kind ≡ b.kind)
 
--- at some place there is such a block
+-- a block with this identifier and kind is among the blocks
 abbrev Seen : FileBlock → List FileBlock → Type 0
 Seen b seen = (place : ℕ) × (place < length seen) × HoldsAt (IsLike b) seen place
 
--- the test of a block that repeats one that was seen
+-- decides whether a block repeats one of the blocks seen
 repeats_decides : (seen : List FileBlock) (b : FileBlock) → Decides (is_single b && has b seen) (MayStandOnce b × Seen b seen)
 repeats_decides seen b =
     Decides-and _ _ (single_decides b)
@@ -40,12 +40,12 @@ repeats_decides seen b =
 
 -- ---- the search for a repetition
 
--- behind those that were seen stands the next block
+-- the next block comes after those seen
 next_there : (seen rest : List FileBlock) (b : FileBlock) → slice_get (seen ++ b ∷ rest) (length seen) ≡ Some b
 next_there seen rest b =
     slice_get_read (seen ++ b ∷ rest) _ (length seen) b refl (omega (arith, length-append seen (b ∷ rest))) (sym (get_or-append_seam seen b rest b))
 
--- it repeats one of these, where the test says so
+-- if the test says so, the next block repeats one of those seen
 next_repeats : (seen rest : List FileBlock) (b : FileBlock) → is_single b && has b seen ≡ true → IsRepetition (seen ++ b ∷ rest) (length seen) b
 next_repeats seen rest b e =
     let h = (repeats_decides seen b).0 e in
@@ -62,7 +62,7 @@ next_repeats seen rest b e =
       kind = (h.1.2 b).1;
     }
 
--- and otherwise it repeats none
+-- otherwise it repeats none
 next_is_new : (seen rest : List FileBlock) (b other : FileBlock) → is_single b && has b seen ≡ false → ¬ (IsRepetition (seen ++ b ∷ rest) (length seen) other)
 next_is_new seen rest b other e r =
     let same : b ≡ other = same_Some b other (sym (next_there seen rest b) ∙ r.there) in
@@ -71,7 +71,7 @@ next_is_new seen rest b other e r =
     not_from_Decides _ (repeats_decides seen b) e
     (subst (λ (x : FileBlock). MayStandOnce x × Seen x seen) (sym same) (r.once, (r.earlier, r.before, like)))
 
--- behind those that were seen the recursion finds the first repetition
+-- after the blocks seen, the recursion finds the first repetition
 finds_from : (seen blocks : List FileBlock) → FirstFrom (IsRepetition (seen ++ blocks)) (length seen) (repeated seen blocks)
 finds_from seen [] = λ place b l r. absurd (omega (arith, l, slice_get_within (seen ++ []) place b r.there, length-append seen []))
 finds_from seen (b ∷ blocks) = go (is_single b && has b seen) refl (finds_from (seen ++ b ∷ []) blocks) where
@@ -92,15 +92,15 @@ finds_from seen (b ∷ blocks) = go (is_single b && has b seen) refl (finds_from
       first_behind (IsRepetition all) (length seen) _ (λ other. next_is_new seen blocks b other e)
       (subst (λ (n : ℕ). FirstFrom (IsRepetition all) n found) longer behind)
 
--- blocks in which none is found have no repetition
+-- if none is found, there is no repetition
 none_found : (blocks : List FileBlock) → repeated [] blocks ≡ None → HaveNoRepetition blocks
 none_found blocks e = none_there (IsRepetition blocks) _ (finds_from [] blocks) e
 
--- in blocks without a repetition none is found
+-- if there is no repetition, none is found
 no_fault : (blocks : List FileBlock) → HaveNoRepetition blocks → repeated [] blocks ≡ None
 no_fault blocks h = finds_none (IsRepetition blocks) _ (finds_from [] blocks) h
 
--- the block that is found is the first repetition
+-- the block found is the first repetition
 first_found : (blocks : List FileBlock) (b : FileBlock) → repeated [] blocks ≡ Some b → IsFirstRepetition blocks b
 first_found blocks b e =
     let found = subst (FirstFrom (IsRepetition blocks) 0) e (finds_from [] blocks) in
@@ -118,12 +118,12 @@ first_fault blocks b h =
 
 -- ---- the values of the identifications
 
--- at some place stands a block with this identifier, kind and value
+-- some block has this identifier, kind and value
 abbrev HasValue : ℕ → ℕ → List FileBlock → List ℕ → Type 0
 HasValue i k blocks v =
     (place : ℕ) × (b : FileBlock) × (slice_get blocks place ≡ Some b) × (b.identifier ≡ i) × (b.kind ≡ k) × (b.value ≡ v)
 
--- the value of an identifier and a kind is that of such a block
+-- if a value is found for an identifier and a kind, some block has it
 value_at : (i k : ℕ) (blocks : List FileBlock) (v : List ℕ) → value_of i k blocks ≡ Some v → HasValue i k blocks v
 value_at i k [] v h = cc
 value_at i k (x ∷ xs) v h = go (is_block i k x) refl h (value_at i k xs v) where
@@ -131,12 +131,12 @@ value_at i k (x ∷ xs) v h = go (is_block i k x) refl h (value_at i k xs v) whe
   go true e h more = let like = (block_decides i k x).0 e in (0, x, refl, like.0, like.1, same_Some x.value v h)
   go false e h more = let rest = more h in (suc rest.0, rest.1, rest.2, rest.3, rest.4, rest.5)
 
--- where nothing is found, a block did not pass, and nothing is found behind it
+-- if nothing is found, the first block doesn't match and nothing is found after it
 not_passed : (t : Bool) (v : List ℕ) (rest : Option (List ℕ)) → cond t (Some v) rest ≡ None → (t ≡ false) × (rest ≡ None)
 not_passed true v rest h = cc
 not_passed false v rest h = (refl, h)
 
--- no block has an identifier and a kind without a value
+-- if no value is found, no block has this identifier and kind
 no_value : (i k : ℕ) (blocks : List FileBlock) (place : ℕ) (b : FileBlock) → value_of i k blocks ≡ None → slice_get blocks place ≡ Some b →
     ¬ ((b.identifier ≡ i) × (b.kind ≡ k))
 no_value i k [] place b h there like = cc
@@ -145,13 +145,13 @@ no_value i k (x ∷ xs) zero b h there like =
     not_from_Decides _ (block_decides i k x) passed.0 (subst (λ (y : FileBlock). (y.identifier ≡ i) × (y.kind ≡ k)) (sym (same_Some x b there)) like)
 no_value i k (x ∷ xs) (suc n) b h there like = no_value i k xs n b (not_passed (is_block i k x) x.value (value_of i k xs) h).1 there like
 
--- a block that may stand once, behind one with its identifier and its kind, repeats it
+-- a later block that may be in the file only once repeats an earlier one with the same identifier and kind
 repeats : (blocks : List FileBlock) (i j : ℕ) (a b : FileBlock) → i < j → slice_get blocks i ≡ Some a → slice_get blocks j ≡ Some b →
     IsLike b a → MayStandOnce b → IsRepetition blocks j b
 repeats blocks i j a b l at there like once =
     record { there = there; once = once; earlier = i; before = l; other = a; stood = at; identifier = like.0; kind = like.1 }
 
--- so without a repetition at most one such block has an identifier and a kind
+-- so without a repetition, at most one block that may be in the file once has an identifier and a kind
 one_block : (blocks : List FileBlock) (i j : ℕ) (a b : FileBlock) → HaveNoRepetition blocks → slice_get blocks i ≡ Some a → slice_get blocks j ≡ Some b →
     IsLike b a → MayStandOnce a → MayStandOnce b → a ≡ b
 one_block blocks i j a b none at there like once other = go (nat_lt i j) refl (nat_lt j i) refl where
@@ -160,19 +160,19 @@ one_block blocks i j a b none at there like once other = go (nat_lt i j) refl (n
   go false e true f = absurd (none i a (repeats blocks j i b a (grind (arith, nat_tests)) there at (sym like.0, sym like.1) once))
   go false e false f = let same : i ≡ j = grind (arith, nat_tests) in same_Some a b (sym at ∙ ap (slice_get blocks) same ∙ there)
 
--- an identification may stand once
+-- an identification may be in the file only once
 may_stand : (blocks : List FileBlock) (b : FileBlock) → IsIdentification blocks b → MayStandOnce b
 may_stand blocks b h = (inr h.identifier, h.kind)
 
--- and it has a place
+-- an identification has a place
 stands : (blocks : List FileBlock) (b : FileBlock) → IsIdentification blocks b → (place : ℕ) × (slice_get blocks place ≡ Some b)
 stands blocks b h = (h.among.0, slice_get_read blocks _ h.among.0 b refl h.among.1 (sym h.among.2))
 
--- some identification has the value
+-- the value is that of an identification
 abbrev IsNamed : List FileBlock → List ℕ → Type 0
 IsNamed blocks value = (b : FileBlock) × IsIdentification blocks b × (b.value ≡ value)
 
--- the value of either kind is that of an identification
+-- a value found for either kind is that of an identification
 value_named : (blocks : List FileBlock) (k : ℕ) → (k ≡ 0) ⊎ (k ≡ 2) → (v : List ℕ) → value_of identification k blocks ≡ Some v → IsNamed blocks v
 value_named blocks k either v e =
     let h = value_at identification k blocks v e in (
@@ -185,7 +185,7 @@ value_named blocks k either v e =
       h.5,
     )
 
--- without a repetition that of an identification is the value of its kind
+-- without a repetition, the value of an identification is found for its kind
 named_value : (blocks : List FileBlock) (k : ℕ) (b : FileBlock) → HaveNoRepetition blocks → IsIdentification blocks b → b.kind ≡ k →
     value_of identification k blocks ≡ Some b.value
 named_value blocks k b none h kind = go (value_of identification k blocks) refl where
@@ -202,7 +202,7 @@ named_value blocks k b none h kind = go (value_of identification k blocks) refl 
 
 -- ---- the holder
 
--- what is said of the identifications of blocks by their holder, or by its fault
+-- the identifications of blocks have this holder, or this fault
 abbrev Names : List FileBlock → Result (List ℕ) CardFault → Type 0
 Names blocks (Ok holder) = IsHolder blocks holder
 Names blocks (Err NoIdentification) = HaveNoIdentification blocks
@@ -210,15 +210,15 @@ Names blocks (Err ShortIdentification) = HaveShortIdentification blocks
 Names blocks (Err TwoCards) = ¬ (HaveShortIdentification blocks) × HaveTwoHolders blocks
 Names blocks (Err fault) = ⊥
 
--- the test of a value that is short
+-- decides whether a value is short
 short_decides : (value : List ℕ) → Decides (is_short (Some value)) (length value < 17)
 short_decides value = Decides-ltb (length value) 17
 
--- an identification with a short value is short
+-- if an identification's value is short, the blocks have a short identification
 named_short : (blocks : List FileBlock) (x : List ℕ) → IsNamed blocks x → is_short (Some x) ≡ true → HaveShortIdentification blocks
 named_short blocks x h e = (h.0, h.1, subst (λ (v : List ℕ). length v < 17) (sym h.2) ((short_decides x).0 e))
 
--- where all have this value, it decides
+-- if all identifications have this value, it determines the holder or the fault
 one_names : (blocks : List FileBlock) (x : List ℕ) → IsNamed blocks x → ((b : FileBlock) → IsIdentification blocks b → b.value ≡ x) →
     Names blocks (cond (is_short (Some x)) (Err ShortIdentification) (Ok (holder_in x)))
 one_names blocks x named each = go (is_short (Some x)) refl where
@@ -230,7 +230,7 @@ one_names blocks x named each = go (is_short (Some x)) refl where
     each = λ b h. ap holder_in (each b h);
   }
 
--- where all have one of these two values, they decide
+-- if each identification has one of these two values, they determine the holder or the fault
 two_names : (blocks : List FileBlock) (x y : List ℕ) → IsNamed blocks x → IsNamed blocks y →
     ((b : FileBlock) → IsIdentification blocks b → (b.value ≡ x) ⊎ (b.value ≡ y)) → Names blocks (holder_of (Some x) (Some y))
 two_names blocks x y one other each = go (is_short (Some x)) refl (is_short (Some y)) refl (bytes_eq (holder_in x) (holder_in y)) refl where
@@ -258,7 +258,7 @@ two_names blocks x y one other each = go (is_short (Some x)) refl (is_short (Som
     (one.0, other.0, one.1, other.1, λ same. not_from_Decides _ (bytes_eq-Decides (holder_in x) (holder_in y)) g (ap holder_in (sym one.2) ∙ same ∙ ap holder_in other.2)),
   )
 
--- the values of both kinds decide
+-- the values of the two kinds determine the holder or the fault
 values_name : (blocks : List FileBlock) (v w : Option (List ℕ)) → ((x : List ℕ) → v ≡ Some x → IsNamed blocks x) → ((x : List ℕ) → w ≡ Some x → IsNamed blocks x) →
     ((b : FileBlock) → IsIdentification blocks b → (v ≡ Some b.value) ⊎ (w ≡ Some b.value)) → Names blocks (holder_of v w)
 values_name blocks None None first second each = λ b h. go (each b h) where
@@ -278,23 +278,23 @@ values_name blocks (Some x) (Some y) first second each = two_names blocks x y (f
   go b (inl e) = inl (sym (same_Some x b.value e))
   go b (inr e) = inr (sym (same_Some y b.value e))
 
--- without a repetition each identification has the value of one of the kinds
+-- without a repetition, each identification has the value found for its kind
 either_value : (blocks : List FileBlock) (b : FileBlock) → HaveNoRepetition blocks → IsIdentification blocks b → (b.kind ≡ 0) ⊎ (b.kind ≡ 2) →
     (value_of identification 0 blocks ≡ Some b.value) ⊎ (value_of identification 2 blocks ≡ Some b.value)
 either_value blocks b none h (inl kind) = inl (named_value blocks 0 b none h kind)
 either_value blocks b none h (inr kind) = inr (named_value blocks 2 b none h kind)
 
--- the holder of blocks without a repetition, or its fault, is what their identifications say
+-- without a repetition, the holder or fault found is that of the identifications
 holder_names : (blocks : List FileBlock) → HaveNoRepetition blocks → Names blocks (file_holder blocks)
 holder_names blocks none =
     values_name blocks (value_of identification 0 blocks) (value_of identification 2 blocks) (value_named blocks 0 (inl refl)) (value_named blocks 2 (inr refl))
     (λ b h. either_value blocks b none h h.kind)
 
--- two holders are not both the one
+-- blocks with one holder don't have two
 no_two : (blocks : List FileBlock) (holder : List ℕ) → IsHolder blocks holder → ¬ (HaveTwoHolders blocks)
 no_two blocks holder h two = two.4 (h.each two.0 two.2 ∙ sym (h.each two.1 two.3))
 
--- the identifications of blocks say one thing
+-- identifications determine one holder or fault
 one_thing : (blocks : List FileBlock) (r s : Result (List ℕ) CardFault) → Names blocks r → Names blocks s → r ≡ s
 one_thing blocks (Ok x) (Ok y) h k = ap (λ z. Ok z) (sym (h.each h.some.0 h.some.1) ∙ k.each h.some.0 h.some.1)
 one_thing blocks (Ok x) (Err NoIdentification) h k = absurd (k h.some.0 h.some.1)
@@ -318,26 +318,26 @@ one_thing blocks (Err TwoCards) (Err TwoCards) h k = refl
 one_thing blocks (Err TwoCards) (Err g) h k = absurd k
 one_thing blocks (Err f) s h k = absurd h
 
--- what they say is the holder, or its fault
+-- without a repetition, the holder or fault of the identifications is exactly the one found
 says : (blocks : List FileBlock) (r : Result (List ℕ) CardFault) → HaveNoRepetition blocks → Names blocks r ↔ (file_holder blocks ≡ r)
 says blocks r none = (one_thing blocks (file_holder blocks) r (holder_names blocks none), λ e. subst (Names blocks) e (holder_names blocks none))
 
--- the holder of blocks without a repetition is the one that each identification names
+-- without a repetition, the holder found is the one that each identification names
 pub holder_named : (blocks : List FileBlock) (holder : List ℕ) → HaveNoRepetition blocks → IsHolder blocks holder ↔ (file_holder blocks ≡ Ok holder)
 holder_named blocks holder none = says blocks (Ok holder) none
 
 -- ---- the fault of a file
 
--- what is read of blocks
+-- the result of reading blocks
 abbrev read_blocks : List FileBlock → Option FileBlock → Result (List FileBlock) CardFault
 read_blocks blocks o = then_held (no_repetition o blocks)
 
--- a fault of the identifications of blocks without a repetition is theirs
+-- without a repetition, a fault of the identifications is the one that is read
 held_fault : (blocks : List FileBlock) (fault : CardFault) → HaveNoRepetition blocks → Names blocks (Err fault) → read_blocks blocks (repeated [] blocks) ≡ Err fault
 held_fault blocks fault none h =
     ap (read_blocks blocks) (no_fault blocks none) ∙ ap (with_holder blocks) ((says blocks (Err fault) none).0 h)
 
--- the fault of blocks by places is the one by recursion
+-- a fault of the blocks by places is the one found by recursion
 fault_read : (blocks : List FileBlock) (fault : CardFault) → IsFileFault blocks fault → read_blocks blocks (repeated [] blocks) ≡ Err fault
 fault_read blocks (Twice i k) h = ap (read_blocks blocks) (first_fault blocks h.0 h.1) ∙ ap₂ (λ x y. Err (Twice x y)) h.2 h.3
 fault_read blocks NoIdentification h = held_fault blocks NoIdentification h.0 h.1
@@ -345,19 +345,19 @@ fault_read blocks ShortIdentification h = held_fault blocks ShortIdentification 
 fault_read blocks TwoCards h = held_fault blocks TwoCards h.0 (h.1, h.2)
 fault_read blocks fault h = absurd h
 
--- a fault of the identifications is one of the blocks
+-- without a repetition, a fault of the identifications is one of the blocks
 fault_held : (blocks : List FileBlock) (fault : CardFault) → HaveNoRepetition blocks → Names blocks (Err fault) → IsFileFault blocks fault
 fault_held blocks NoIdentification none h = (none, h)
 fault_held blocks ShortIdentification none h = (none, h)
 fault_held blocks TwoCards none h = (none, h.0, h.1)
 fault_held blocks fault none h = absurd h
 
--- where blocks with a holder are refused, the holder is
+-- if checking the holder gives a fault, it is the fault of the holder
 only_holder : (blocks : List FileBlock) (r : Result (List ℕ) CardFault) (fault : CardFault) → with_holder blocks r ≡ Err fault → r ≡ Err fault
 only_holder blocks (Ok holder) fault h = cc
 only_holder blocks (Err f) fault h = cc
 
--- the fault of blocks by recursion is the one by places
+-- a fault of the blocks found by recursion is one by places
 read_fault : (blocks : List FileBlock) (fault : CardFault) → read_blocks blocks (repeated [] blocks) ≡ Err fault → IsFileFault blocks fault
 read_fault blocks fault h = go (repeated [] blocks) refl h where
   go : (o : Option FileBlock) → repeated [] blocks ≡ o → read_blocks blocks o ≡ Err fault → IsFileFault blocks fault
@@ -368,18 +368,18 @@ read_fault blocks fault h = go (repeated [] blocks) refl h where
       let same : Twice b.identifier b.kind ≡ fault = cc in
       subst (IsFileFault blocks) same (b, first_found blocks b e, refl, refl)
 
--- blocks that are laid end to end are refused with their fault
+-- blocks that are laid end to end are refused with exactly their fault
 pub file_fault : (bytes : List ℕ) (blocks : List FileBlock) (fault : CardFault) → IsLaidEndToEnd bytes blocks → IsFileFault blocks fault ↔ (card_file bytes ≡ Err fault)
 file_fault bytes blocks fault h =
     let read = ap (λ r. then_held (then_single r)) (laid_read bytes blocks h) in
     (λ f. read ∙ fault_read blocks fault f, λ e. read_fault blocks fault (sym read ∙ e))
 
--- blocks without a repetition that name a holder are read
+-- blocks that have no repetition and name a holder are read
 blocks_read : (blocks : List FileBlock) → HaveNoRepetition blocks × ((holder : List ℕ) × IsHolder blocks holder) → read_blocks blocks (repeated [] blocks) ≡ Ok blocks
 blocks_read blocks h =
     ap (read_blocks blocks) (no_fault blocks h.0) ∙ ap (with_holder blocks) ((says blocks (Ok h.1.0) h.0).0 h.1.1)
 
--- blocks that are read have no repetition, and name a holder
+-- blocks that are read have no repetition and name a holder
 read_holder : (blocks : List FileBlock) → read_blocks blocks (repeated [] blocks) ≡ Ok blocks → HaveNoRepetition blocks × ((holder : List ℕ) × IsHolder blocks holder)
 read_holder blocks h = go (repeated [] blocks) refl h where
   named : HaveNoRepetition blocks → (r : Result (List ℕ) CardFault) → file_holder blocks ≡ r → with_holder blocks r ≡ Ok blocks → (holder : List ℕ) × IsHolder blocks holder
@@ -390,7 +390,7 @@ read_holder blocks h = go (repeated [] blocks) refl h where
   go None e same = let none = none_found blocks e in (none, named none (file_holder blocks) refl same)
   go (Some b) e same = cc
 
--- blocks that are laid end to end are read where they have no repetition and name a holder
+-- blocks that are laid end to end are read iff they have no repetition and name a holder
 pub file_read : (bytes : List ℕ) (blocks : List FileBlock) → IsLaidEndToEnd bytes blocks → (HaveNoRepetition blocks × ((holder : List ℕ) × IsHolder blocks holder)) ↔ (card_file bytes ≡ Ok blocks)
 file_read bytes blocks h =
     let read = ap (λ r. then_held (then_single r)) (laid_read bytes blocks h) in

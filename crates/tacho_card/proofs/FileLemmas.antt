@@ -1,4 +1,4 @@
--- What is said of a file while its blocks are gone over.
+-- What holds while a pass goes over the blocks of a file.
 use Rattle.std.proofs.Common.{◌≡◌, ℕ, zero, suc, ◌+◌, ◌-◌, ◌<◌, ◌≤◌, true, false, List, [], ◌∷◌, length, drop, Option, None, Some, Result, Ok, Err, refl, sym, ap, ◌∙◌, arith}
 use Rattle.std.proofs.lemmas.List.{length-drop, drop-drop, drop_all, nil_from_length}
 use Rattle.tacho_card.specs.declared.fault.CardFault.{CardFault}
@@ -8,17 +8,17 @@ use Rattle.tacho_card.proofs.BlockLemmas.{fits, no_blocks, cut_block, whole_bloc
 
 -- ---- C1
 
--- the fault that there is in place of blocks
+-- the fault of a result, if there is one
 abbrev pub fault_in : Result (List FileBlock) CardFault → Option CardFault
 fault_in (Ok blocks) = None
 fault_in (Err fault) = Some fault
 
--- a block before others changes no fault
+-- a block before the others doesn't change the fault
 fault_behind : (b : FileBlock) (r : Result (List FileBlock) CardFault) → fault_in (block_before b r) ≡ fault_in r
 fault_behind b (Ok blocks) = refl
 fault_behind b (Err fault) = refl
 
--- a block that is cut, and one that isn't
+-- the fault of bytes that begin with a block that is cut, and with one that isn't
 cut_cells : (fuel offset : ℕ) (bytes : List ℕ) → 0 < length bytes → length bytes ≤ fuel → is_cut bytes ≡ true → fault_in (blocks_from fuel offset bytes) ≡ Some (Truncated offset)
 cut_cells fuel offset [] some enough h = absurd (omega (arith, some))
 cut_cells zero offset (x ∷ xs) some enough h = absurd (omega (arith, enough))
@@ -31,7 +31,7 @@ whole_cells (suc fuel) offset (x ∷ xs) some enough h =
     let less : fuel ≡ suc fuel - 1 = omega arith in
     ap fault_in (whole_block fuel offset x xs h) ∙ fault_behind _ _ ∙ ap (λ f. fault_in (blocks_from f (offset + front_length (x ∷ xs)) (drop (front_length (x ∷ xs)) (x ∷ xs)))) less
 
--- the fault of what is left from an offset on
+-- the fault of the remaining bytes from an offset on
 abbrev pub fault_from : List ℕ → ℕ → Option CardFault
 fault_from bytes offset = fault_in (blocks_from (length bytes - offset) offset (drop offset bytes))
 
@@ -54,7 +54,7 @@ pub no_fault_at_end : (bytes : List ℕ) (offset : ℕ) → length bytes ≤ off
 no_fault_at_end bytes offset h =
     ap (λ xs. fault_in (blocks_from (length bytes - offset) offset xs)) (drop_all offset bytes h) ∙ ap fault_in (no_blocks (length bytes - offset) offset)
 
--- a fault in place of blocks, and blocks in place of a fault
+-- from the fault of a result to the result, with and without a fault
 pub is_fault : (r : Result (List FileBlock) CardFault) (fault : CardFault) → fault_in r ≡ Some fault → Err fault ≡ r
 is_fault (Ok blocks) fault h = cc
 is_fault (Err f) fault h = cc
@@ -63,9 +63,9 @@ pub no_fault : (r : Result (List FileBlock) CardFault) → fault_in r ≡ None �
 no_fault (Ok blocks) h = refl
 no_fault (Err f) h = cc
 
--- ---- the blocks, one after the other
+-- ---- the blocks, in order
 
--- the blocks of bytes that are blocks
+-- the blocks of bytes, if they are read
 abbrev pub items : List ℕ → List FileBlock
 items bytes = blocks_or_none (blocks_of bytes)
 
@@ -79,7 +79,7 @@ no_items bytes h = ap items (nil_from_length bytes h) ∙ ap blocks_or_none (no_
 read_whole : (bytes : List ℕ) (blocks : List FileBlock) → blocks_of bytes ≡ Ok blocks → (items bytes ≡ blocks) × IsWhole bytes
 read_whole bytes blocks h = let e = ap blocks_or_none h in (e, h ∙ ap (λ bs. Ok bs) (sym e))
 
--- the first item, and the others
+-- the first block, and the blocks after it
 pub next_item : (bytes after : List ℕ) → 0 < length bytes → after ≡ drop (front_length bytes) bytes → IsWhole bytes → IsWhole after × (items bytes ≡ front_block bytes ∷ items after)
 next_item bytes after some e h =
     let next = next_block bytes (items bytes) some h in

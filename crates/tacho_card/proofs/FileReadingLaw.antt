@@ -1,4 +1,4 @@
--- A file has one reading by each part.
+-- A file has exactly one reading by each part.
 use Rattle.std.proofs.Common.{◌≡◌, ℕ, ◌⊎◌, inl, inr, List, [], ◌∷◌, ◌++◌, Option, Result, Ok, Err, refl, sym, ◌∙◌, subst, append_assoc, append-nil}
 use Rattle.tacho_time.specs.declared.span.Span.{Span}
 use Rattle.tacho_time.specs.Spans.{Gives, IsCanonicalOf, IsFirstConflict}
@@ -16,11 +16,11 @@ use Rattle.tacho_card.proofs.ReadingLaw.{one_of_data}
 
 -- ---- there is a reading
 
--- data have a reading
+-- the data have a reading
 abbrev HaveReading : List DriverActivity → Type 0
 HaveReading activities = (reading : Result (List Span) CardFault) × IsReading activities reading
 
--- a fault of data that is not want of memory is that of their reading
+-- a fault of data other than out of memory is their reading
 own_fault : (activities : List DriverActivity) (m : ℕ) → IsFaultOf activities (SelfContradiction m) → IsReading activities (Err (SelfContradiction m))
 own_fault activities m (inl e) = cc
 own_fault activities m (inr h) = h
@@ -32,7 +32,7 @@ raw_has activities raw h = go (list_or_conflict raw) where
   go (inl c) = (Ok c.0, raw_reading (λ xs. xs) activities raw (Ok c.0) h c.1)
   go (inr c) = (Err (SelfContradiction c.0), own_fault activities c.0 (raw_reading (λ xs. xs) activities raw (Err (SelfContradiction c.0)) h (inr (c.0, refl, c.1))))
 
--- behind data whose spans are known come others
+-- data whose spans are known, followed by further data, have a reading
 has_from : (front rest : List DriverActivity) (raw : List Span) → IsRaw front raw → HaveReading (front ++ rest)
 has_from front [] raw h = subst HaveReading (sym (append-nil front)) (raw_has front raw h)
 has_from front (activity ∷ rest) raw h = go (with_spans raw (activity_spans activity)) refl (λ new e. has_from (front ++ activity ∷ []) rest new (raw_more front activity raw new h e)) where
@@ -42,7 +42,7 @@ has_from front (activity ∷ rest) raw h = go (with_spans raw (activity_spans ac
   go (Ok new) e more = subst HaveReading (append_assoc front (activity ∷ []) rest) (more new e)
   go (Err f) e more = (Err f, inl (fault_after front (activity ∷ rest) h.0 ∙ chain_with activity rest f (activity_fault activity f (only_fault raw (activity_spans activity) f e))))
 
--- the chosen data have a reading
+-- chosen data have a reading
 chosen_has : (chosen : Result (List (Option DriverActivity)) CardFault) → (reading : Result (List Span) CardFault) × ReadsChosen chosen reading
 chosen_has (Ok chosen) = has_from [] (those_there chosen) [] raw_none
 chosen_has (Err fault) = (Err fault, refl)
@@ -51,13 +51,13 @@ chosen_has (Err fault) = (Err fault, refl)
 pub some_reading : (part : Part) (blocks : List FileBlock) → (reading : Result (List Span) CardFault) × ReadsFile part blocks reading
 some_reading part blocks = chosen_has (chosen_activity part blocks)
 
--- ---- there is no second one
+-- ---- there is at most one reading
 
--- the chosen data have one reading at most
+-- chosen data have at most one reading
 chosen_one : (chosen : Result (List (Option DriverActivity)) CardFault) (a b : Result (List Span) CardFault) → ReadsChosen chosen a → ReadsChosen chosen b → a ≡ b
 chosen_one (Ok chosen) a b h k = one_of_data (those_there chosen) a b h k
 chosen_one (Err fault) a b h k = h ∙ sym k
 
--- a file has one reading by each part at most
+-- a file has at most one reading by each part
 pub one_reading : (part : Part) (blocks : List FileBlock) (a b : Result (List Span) CardFault) → ReadsFile part blocks a → ReadsFile part blocks b → a ≡ b
 one_reading part blocks a b h k = chosen_one (chosen_activity part blocks) a b h k

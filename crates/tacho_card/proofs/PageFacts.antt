@@ -1,4 +1,4 @@
--- Values that the page on the card prints, by computation: marks of words, and bytes that show each fault.
+-- Values that the page on the card prints, by computation: marks of words, and bytes that have each fault.
 use Rattle.std.proofs.Common.{◌≡◌, ℕ, ◌+◌, ◌-◌, ◌*◌, ◌≤◌, inl, inr, cond, nat_lt, List, [], ◌∷◌, ◌++◌, codes, false, Option, None, Some, Result, Ok, Err, refl, ap, arith}
 use Rattle.tacho_time.specs.declared.span.Activity.TheVariants.{Rest, Work, Drive}
 use Rattle.tacho_time.specs.declared.span.Mark.{Mark}
@@ -18,14 +18,14 @@ use Rattle.tacho_card.specs.CardFile.{blocks_from, blocks_of, blocks_or_none, ca
 
 -- ---- words
 
--- 19e0: in, single, driving, from 08:00 on
+-- 19e0: card in, single, driving, from 08:00 on
 in_single : mark_of 0x19e0 ≡ Some (record { activity = Drive; crew = false })
 in_single = refl
 
 from_eight : time_of 0x19e0 ≡ 480
 from_eight = refl
 
--- out, and entered by hand; out, and unknown
+-- card out, entered by hand; card out, unknown
 by_hand : mark_of 0x6000 ≡ Some (record { activity = Rest; crew = false })
 by_hand = refl
 
@@ -73,7 +73,7 @@ c6 = refl
 
 -- ---- activity data
 
--- the first fault of a value's bytes, short of C14
+-- the first fault of a value's bytes, except C14
 abbrev fault_in : Result DriverActivity CardFault → Option CardFault
 fault_in (Err f) = Some f
 fault_in (Ok block) = fault_of (chain block)
@@ -109,7 +109,7 @@ c13 : fault_of_value (codes "000000000000001265e50f0000010000000011fe19e0") ≡ 
 unfolding chain_from record_at words_fault
 c13 = refl
 
--- ---- C14: two records of one day, rest and driving from its midnight on
+-- ---- C14: two records of the same day, one resting and one driving from its midnight on
 
 abbrev twice : DriverActivity
 twice = record { oldest = 0; newest = 16; buffer = bytes (codes "0000001065e50f0000010000000011e00010001065e50f0000020000180011e0") }
@@ -117,7 +117,7 @@ twice = record { oldest = 0; newest = 16; buffer = bytes (codes "0000001065e50f0
 its_value : driver_activity (bytes (codes "000000100000001065e50f0000010000000011e00010001065e50f0000020000180011e0")) ≡ Ok twice
 its_value = refl
 
--- the midnight, and what the records give
+-- midnight, and what the records give
 abbrev midnight : ℕ
 midnight = 28491840
 

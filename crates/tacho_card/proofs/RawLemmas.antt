@@ -1,4 +1,4 @@
--- The spans of words and of records, one by one.
+-- Collecting the spans of words and records in order.
 use Rattle.std.proofs.Common.{◌≡◌, ◌≢◌, ℕ, zero, suc, ◌+◌, ◌-◌, ◌*◌, ◌<◌, ◌≤◌, ◌==◌, Bool, true, false, cond, List, [], ◌∷◌, ◌++◌, Option, None, Result, Ok, Err, refl, sym, ap, ◌∙◌, append_assoc, append-nil, arith}
 use Rattle.std.proofs.lemmas.Bool.Decides.{nat_tests}
 use Rattle.tacho_time.specs.declared.span.Span.{Span}
@@ -11,32 +11,32 @@ use Rattle.tacho_card.specs.RawSpans.{marked, closed_mark, word_past, words_span
 
 -- ---- words
 
--- a choice by whether a number is 0, where it is
+-- a choice for a number that is 0
 if_zero : {X : Type 0} (k : ℕ) (x y : X) → k ≡ 0 → cond (k == 0) x y ≡ x
 if_zero k x y h = grind (arith, nat_tests)
 
--- the same, where it is not
+-- a choice for a number that isn't 0
 pub unless_zero : {X : Type 0} (k : ℕ) (x y : X) → k ≢ 0 → cond (k == 0) x y ≡ y
 unless_zero k x y h = grind (arith, nat_tests)
 
--- a minute of a day, counted from the first day
+-- two ways to write a minute of a day
 from_midnight : (x t : ℕ) → x * 1440 + t ≡ 1440 * x + t
 from_midnight x t = omega arith
 
--- where a word begins, from the minutes before its day and those of the day
+-- the minute from which a word holds, computed from its day and its time
 pub word_begins : (r : DailyRecord) (i day word start : ℕ) → day ≡ day_at r.buffer r.place → word ≡ word_at r.buffer r.place i → start ≡ day * 1440 + time_of word → start ≡ word_minute r i
 word_begins r i day word start d w s =
     s ∙ from_midnight day (time_of word) ∙ ap (λ x. 1440 * x + time_of word) d ∙ ap (λ x. 1440 * day_at r.buffer r.place + time_of x) w
 
--- where a day ends
+-- the end of a day
 pub day_ends : (r : DailyRecord) (day past : ℕ) → day ≡ day_at r.buffer r.place → past ≡ day * 1440 + 1440 → past ≡ 1440 * day_at r.buffer r.place + 1440
 day_ends r day past d s = s ∙ from_midnight day 1440 ∙ ap (λ x. 1440 * x + 1440) d
 
--- the last word ends with the day
+-- the last word ends at the end of the day
 pub last_past : (r : DailyRecord) (i past : ℕ) → i + 1 ≡ r.count → past ≡ 1440 * day_at r.buffer r.place + 1440 → past ≡ word_past r i (r.count - (i + 1))
 last_past r i past e h = h ∙ sym (if_zero (r.count - (i + 1)) _ _ (omega arith))
 
--- another one ends at the next
+-- any other word ends at the next one
 pub next_past : (r : DailyRecord) (i past : ℕ) → i < r.count → i + 1 ≢ r.count → past ≡ word_minute r (i + 1) → past ≡ word_past r i (r.count - (i + 1))
 next_past r i past l e h = h ∙ sym (unless_zero (r.count - (i + 1)) _ _ (omega arith))
 
@@ -55,7 +55,7 @@ pub closed_word : (r : DailyRecord) (i : ℕ) (t : Bool) (mark : Option Mark) �
 closed_word r i true mark h m = cc
 closed_word r i false mark h m = m
 
--- the spans of some words are that of the first, before those of the others
+-- the spans of words are those of the first word, followed by those of the others
 one_span : (t : Bool) (r : DailyRecord) (i n : ℕ) → i < n → words_spans t r i (n - i) ≡ marked (word_minute r i) (word_past r i (n - (i + 1))) (closed_mark t r i (n - (i + 1))) ++ words_spans t r (i + 1) (n - (i + 1))
 unfolding words_spans
 one_span t r i n h = let e : n - i ≡ suc (n - (i + 1)) = omega arith in ap (words_spans t r i) e
@@ -64,11 +64,11 @@ one_span t r i n h = let e : n - i ≡ suc (n - (i + 1)) = omega arith in ap (wo
 same_marked : (a b x y : ℕ) (o p : Option Mark) → a ≡ x → b ≡ y → o ≡ p → marked a b o ≡ marked x y p
 same_marked a b x y o p e f g = ap (λ v. marked v b o) e ∙ ap (λ v. marked x v o) f ∙ ap (λ v. marked x y v) g
 
--- before the first word, all are left
+-- before the first word, the spans of all words remain
 pub all_words : (t : Bool) (r : DailyRecord) (raw : List Span) → raw ++ words_spans t r 0 (r.count - 0) ≡ raw ++ record_spans t r
 all_words t r raw = let e : r.count - 0 ≡ r.count = omega arith in ap (λ n. raw ++ words_spans t r 0 n) e
 
--- with the span of a word, the spans so far are before those of one word less
+-- after appending a word's spans, those of one word fewer remain
 pub append_word : (t : Bool) (r : DailyRecord) (i : ℕ) (raw new all : List Span) (start past : ℕ) (mark : Option Mark) → i < r.count → start ≡ word_minute r i → past ≡ word_past r i (r.count - (i + 1)) → mark ≡ closed_mark t r i (r.count - (i + 1)) → new ≡ raw ++ marked start past mark → raw ++ words_spans t r i (r.count - i) ≡ all → new ++ words_spans t r (i + 1) (r.count - (i + 1)) ≡ all
 append_word t r i raw new all start past mark l s p m e h =
     let rest = words_spans t r (i + 1) (r.count - (i + 1)) in
@@ -77,7 +77,7 @@ append_word t r i raw new all start past mark l s p m e h =
     ∙ append_assoc raw _ rest
     ∙ ap (λ x. raw ++ x) (sym (one_span t r i r.count l)) ∙ h
 
--- the spans so far, with no word left, are all
+-- with no word left, the spans so far are all spans
 pub no_words : (t : Bool) (r : DailyRecord) (i : ℕ) (raw all : List Span) → r.count ≤ i → raw ++ words_spans t r i (r.count - i) ≡ all → raw ≡ all
 unfolding words_spans
 no_words t r i raw all l h =
@@ -86,29 +86,29 @@ no_words t r i raw all l h =
 
 -- ---- records
 
--- two fronts, one before the other, are one front
+-- putting two lists of spans before a result is putting their concatenation before it
 fronts : (xs ys : List Span) (r : Result (List Span) CardFault) → with_spans (xs ++ ys) r ≡ with_spans xs (with_spans ys r)
 fronts xs ys (Ok zs) = ap Ok (append_assoc xs ys zs)
 fronts xs ys (Err f) = refl
 
--- a fault behind some spans is there without them
+-- a fault after spans is there without the spans too
 pub only_fault : (xs : List Span) (r : Result (List Span) CardFault) (f : CardFault) → with_spans xs r ≡ Err f → r ≡ Err f
 only_fault xs (Ok ys) f h = cc
 only_fault xs (Err g) f h = h
 
--- the fault that comes next is that of all
+-- the fault of the next item is the fault of all
 pub spans_fault : (raw : List Span) (n : ℕ) (rest items : List (Result DailyRecord CardFault)) (f : CardFault) (r : Result (List Span) CardFault) → rest ≡ Err f ∷ items → with_spans raw (items_spans n rest) ≡ r → r ≡ Err f
 unfolding items_spans
 spans_fault raw n rest items f r e h = sym h ∙ ap (λ l. with_spans raw (items_spans n l)) e
 
--- with the spans of a record, the spans so far are before those of one record less
+-- after appending a record's spans, those of one record fewer remain
 pub spans_more : (raw new : List Span) (n : ℕ) (rest items : List (Result DailyRecord CardFault)) (x : DailyRecord) (r : Result (List Span) CardFault) → rest ≡ Ok x ∷ items → with_spans raw (items_spans n rest) ≡ r → new ≡ raw ++ record_spans (x.place == n) x → with_spans new (items_spans n items) ≡ r
 unfolding items_spans
 spans_more raw new n rest items x r e h added =
     ap (λ l. with_spans l (items_spans n items)) added ∙ fronts raw (record_spans (x.place == n) x) (items_spans n items)
     ∙ sym (ap (λ l. with_spans raw (items_spans n l)) e) ∙ h
 
--- the spans so far, with no record left, are all
+-- with no record left, the spans so far are all spans
 pub spans_end : (raw : List Span) (n : ℕ) (rest : List (Result DailyRecord CardFault)) (r : Result (List Span) CardFault) → rest ≡ [] → with_spans raw (items_spans n rest) ≡ r → r ≡ Ok raw
 unfolding items_spans
 spans_end raw n rest r e h = sym h ∙ ap (λ l. with_spans raw (items_spans n l)) e ∙ ap Ok (append-nil raw)

@@ -1,4 +1,4 @@
--- The words of a record, one by one.
+-- The words of a record, in order.
 use Rattle.std.proofs.Common.{◌≡◌, ℕ, zero, suc, ◌+◌, ◌-◌, ◌<◌, ◌≤◌, cond, nat_le, nat_lt, List, Option, Some, None, sym, ap, ◌∙◌, arith}
 use Rattle.std.proofs.lemmas.Bool.Decides.{nat_tests}
 use Rattle.tacho_card.specs.declared.fault.CardFault.{CardFault}
@@ -7,7 +7,7 @@ use Rattle.tacho_card.specs.ActivityChangeInfo.{time_of}
 use Rattle.tacho_card.specs.DriverActivity.{wrapped}
 use Rattle.tacho_card.specs.DailyRecord.{word_place, word_at, words_fault}
 
--- one word, and the others
+-- the fault of one word, or that of the words after it
 abbrev after_word : List ℕ → ℕ → ℕ → ℕ → Option CardFault → Option CardFault
 after_word buffer place before i rest =
     let minute = time_of (word_at buffer place i) in

@@ -4,7 +4,7 @@ use Rattle.tacho_time.specs.declared.span.Activity.{Activity}
 use Rattle.tacho_time.specs.declared.span.Activity.TheVariants.{Rest, Available, Work, Drive}
 use Rattle.tacho_time.specs.declared.span.Mark.{Mark}
 
--- `c`: while the card is in, 1 for crew; while it is out, 1 where the activity was entered by hand
+-- `c`: while the card is in, 1 for crew; while it is out, 1 if the activity was entered by hand
 abbrev pub driving_status : ℕ → ℕ
 driving_status word = word / 16384 % 2
 
@@ -12,7 +12,7 @@ driving_status word = word / 16384 % 2
 abbrev pub card_status : ℕ → ℕ
 card_status word = word / 8192 % 2
 
--- `aa`
+-- `aa`: the activity
 abbrev pub activity_of : ℕ → Activity
 activity_of word =
     let code = word / 2048 % 4 in
@@ -22,12 +22,12 @@ activity_of word =
 abbrev pub time_of : ℕ → ℕ
 time_of word = word % 2048
 
--- the mark of an activity, by whether the card is out and whether c is 1
+-- the mark of an activity, given whether the card is out and whether `c` is 1
 abbrev pub mark_by : Activity → Bool → Bool → Option Mark
 mark_by activity false crew = Some (record { activity = activity; crew = crew })
 mark_by activity true true = Some (record { activity = activity; crew = false })
 mark_by activity true false = None
 
--- the mark of a word: none where the card is out and nothing was entered by hand
+-- the mark of a word; none if the card is out and nothing was entered by hand
 abbrev pub mark_of : ℕ → Option Mark
 mark_of word = mark_by (activity_of word) (card_status word == 1) (driving_status word == 1)

@@ -23,28 +23,28 @@ two_bytes n = n / 256 ∷ n % 256 ∷ []
 abbrev pub block_bytes : FileBlock → List ℕ
 block_bytes b = two_bytes b.identifier ++ b.kind ∷ two_bytes (length b.value) ++ b.value
 
--- the numbers of the block's head fit their bytes
+-- the numbers of the block's head fit into their bytes
 pub record FitsHead (b : FileBlock) : Type 0 where
   pub identifier : b.identifier < 65536
   pub kind : b.kind < 256
   pub length : length b.value < 65536
 
--- the bytes are the blocks, one after the other
+-- the bytes are those of the blocks, one block after the other
 pub record IsLaidEndToEnd (bytes : List ℕ) (blocks : List FileBlock) : Type 0 where
   pub laid : bytes ≡ flat_map block_bytes blocks
   pub heads : AllByRecursion FitsHead blocks
 
 -- ---- C1
 
--- how many bytes the block at the front has, as its head says; a head has 5
+-- the number of bytes of the block at the front, as its head says; the head itself has 5
 abbrev pub front_length : List ℕ → ℕ
 front_length bytes = 5 + (slice_index bytes 3 * 256 + slice_index bytes 4)
 
--- the head or the value of the block at the front goes past the end
+-- the head or the value of the block at the front extends past the end
 abbrev pub is_cut : List ℕ → Bool
 is_cut bytes = nat_lt (length bytes) 5 || nat_lt (length bytes) (front_length bytes)
 
--- whole blocks, and then one that goes past the end: its offset
+-- whole blocks, followed by one at this offset that extends past the end
 pub record IsTruncatedAt (bytes : List ℕ) (offset : ℕ) : Type 0 where
   pub blocks : List FileBlock
   pub rest : List ℕ
@@ -53,7 +53,7 @@ pub record IsTruncatedAt (bytes : List ℕ) (offset : ℕ) : Type 0 where
   pub some : rest ≢ []
   pub cut : is_cut rest ≡ true
 
--- ---- the blocks of a file by recursion, as an iterator goes over them
+-- ---- the blocks of a file by recursion, in the order of an iterator
 
 -- the block at the front, as its head says
 abbrev pub front_block : List ℕ → FileBlock
@@ -63,17 +63,17 @@ front_block bytes = record {
   value = take (slice_index bytes 3 * 256 + slice_index bytes 4) (drop 5 bytes);
 }
 
--- a block before what is read of the rest
+-- puts a block before those that are read from the rest
 abbrev pub block_before : FileBlock → Result (List FileBlock) CardFault → Result (List FileBlock) CardFault
 block_before b (Ok blocks) = Ok (b ∷ blocks)
 block_before b (Err fault) = Err fault
 
--- there are no bytes
+-- true if there are no bytes
 abbrev pub is_nothing : List ℕ → Bool
 is_nothing [] = true
 is_nothing (byte ∷ bytes) = false
 
--- the blocks of the bytes from an offset on, or C1; as much fuel as there are bytes is enough
+-- the blocks of the bytes from an offset on, or C1; it takes as much fuel as there are bytes
 unfoldable pub blocks_from : ℕ → ℕ → List ℕ → Result (List FileBlock) CardFault
 blocks_from zero offset bytes = Ok []
 blocks_from (suc fuel) offset bytes =
@@ -85,22 +85,22 @@ blocks_from (suc fuel) offset bytes =
 abbrev pub blocks_of : List ℕ → Result (List FileBlock) CardFault
 blocks_of bytes = blocks_from (length bytes) 0 bytes
 
--- the blocks, where there are some
+-- the blocks that were read, or none if there was a fault
 abbrev pub blocks_or_none : Result (List FileBlock) CardFault → List FileBlock
 blocks_or_none (Ok blocks) = blocks
 blocks_or_none (Err fault) = []
 
 -- ---- C2 to C5
 
--- EF Driver_Activity_Data and EF Identification; data of the first and of the second generation
+-- the identifier of EF Driver_Activity_Data
 abbrev pub activity_data : ℕ
 activity_data = 0x0504
 
--- EF Identification
+-- the identifier of EF Identification
 abbrev pub identification : ℕ
 identification = 0x0520
 
--- a block has this identifier and this kind
+-- true if a block has this identifier and this kind
 abbrev pub is_block : ℕ → ℕ → FileBlock → Bool
 is_block identifier kind b = (b.identifier == identifier) && (b.kind == kind)
 
@@ -109,21 +109,21 @@ abbrev pub value_of : ℕ → ℕ → List FileBlock → Option (List ℕ)
 value_of identifier kind [] = None
 value_of identifier kind (b ∷ blocks) = if is_block identifier kind b then Some b.value else value_of identifier kind blocks
 
--- a block that the file may have once: data of either generation, of one of the two elementary files
+-- true if the file may have a block with this identifier and kind only once: data of either generation, in either elementary file
 abbrev pub is_single : FileBlock → Bool
 is_single b = ((b.identifier == activity_data) || (b.identifier == identification)) && ((b.kind == 0) || (b.kind == 2))
 
--- one of the blocks has the identifier and the kind of this one
+-- true if one of the blocks has the identifier and the kind of this one
 abbrev pub has : FileBlock → List FileBlock → Bool
 has b [] = false
 has b (first ∷ blocks) = is_block b.identifier b.kind first || has b blocks
 
--- the first block that repeats one before it, where the file may have it once; `seen` come before
+-- the first block that repeats an earlier one, of those that the file may have only once; the blocks in `seen` come before
 abbrev pub repeated : List FileBlock → List FileBlock → Option FileBlock
 repeated seen [] = None
 repeated seen (b ∷ blocks) = if is_single b && has b seen then Some b else repeated (seen ++ b ∷ []) blocks
 
--- C2, or the blocks
+-- the blocks, or C2 if one of them is repeated
 abbrev pub no_repetition : Option FileBlock → List FileBlock → Result (List FileBlock) CardFault
 no_repetition (Some b) blocks = Err (Twice b.identifier b.kind)
 no_repetition None blocks = Ok blocks
@@ -132,7 +132,7 @@ no_repetition None blocks = Ok blocks
 abbrev pub holder_in : List ℕ → List ℕ
 holder_in value = take 15 value
 
--- C4: an identification has fewer than 17 bytes
+-- C4: true if there is an identification, and it has fewer than 17 bytes
 abbrev pub is_short : Option (List ℕ) → Bool
 is_short None = false
 is_short (Some value) = nat_lt (length value) 17
@@ -150,17 +150,17 @@ holder_of (Some first) (Some second) =
 abbrev pub file_holder : List FileBlock → Result (List ℕ) CardFault
 file_holder blocks = holder_of (value_of identification 0 blocks) (value_of identification 2 blocks)
 
--- the blocks, where they name a holder
+-- the blocks if they name a holder, else the fault
 abbrev pub with_holder : List FileBlock → Result (List ℕ) CardFault → Result (List FileBlock) CardFault
 with_holder blocks (Ok holder) = Ok blocks
 with_holder blocks (Err fault) = Err fault
 
--- blocks, or the first of C3 to C5
+-- the blocks, or the first of C3 to C5
 abbrev pub then_held : Result (List FileBlock) CardFault → Result (List FileBlock) CardFault
 then_held (Ok blocks) = with_holder blocks (file_holder blocks)
 then_held (Err fault) = Err fault
 
--- blocks, or C2
+-- the blocks, or C2
 abbrev pub then_single : Result (List FileBlock) CardFault → Result (List FileBlock) CardFault
 then_single (Ok blocks) = no_repetition (repeated [] blocks) blocks
 then_single (Err fault) = Err fault
@@ -171,7 +171,7 @@ card_file bytes = then_held (then_single (blocks_of bytes))
 
 -- ---- the parts
 
--- the data of a value, if there is one, or the first of C7 and C8
+-- the data of a value, if there is a value, or the first of C7 and C8
 abbrev pub read_value : Option (List ℕ) → Result (Option DriverActivity) CardFault
 read_value None = Ok None
 read_value (Some bytes) = read_some (driver_activity bytes)
@@ -180,31 +180,31 @@ read_value (Some bytes) = read_some (driver_activity bytes)
     read_some (Ok block) = Ok (Some block)
     read_some (Err fault) = Err fault
 
--- what is read of both values, or the first fault
+-- the data of both values, or the first fault
 abbrev pub both_read : Result (Option DriverActivity) CardFault → Result (Option DriverActivity) CardFault → Result (List (Option DriverActivity)) CardFault
 both_read (Err fault) second = Err fault
 both_read (Ok first) (Err fault) = Err fault
 both_read (Ok first) (Ok second) = Ok (first ∷ second ∷ [])
 
--- what is read of the chosen values, or C6 where there are none
+-- the data of the chosen values, or C6 if there are none
 abbrev pub some_chosen : Option (List ℕ) → Option (List ℕ) → Result (List (Option DriverActivity)) CardFault
 some_chosen None None = Err NoActivity
 some_chosen (Some first) second = both_read (read_value (Some first)) (read_value second)
 some_chosen None (Some second) = both_read (Ok None) (read_value (Some second))
 
--- the data of the chosen values, of the first and of the second generation, or the first of C6, C7 and C8
+-- the data of the values that a part chooses, first generation before second, or the first of C6, C7 and C8
 abbrev pub chosen_activity : Part → List FileBlock → Result (List (Option DriverActivity)) CardFault
 chosen_activity part.First blocks = some_chosen (value_of activity_data 0 blocks) None
 chosen_activity part.Second blocks = some_chosen None (value_of activity_data 2 blocks)
 chosen_activity part.Both blocks = some_chosen (value_of activity_data 0 blocks) (value_of activity_data 2 blocks)
 
--- those that are there
+-- the data that are present
 abbrev pub those_there : List (Option DriverActivity) → List DriverActivity
 those_there [] = []
 those_there (None ∷ chosen) = those_there chosen
 those_there (Some activity ∷ chosen) = activity ∷ those_there chosen
 
--- the reading of chosen data, or their fault
+-- the reading of chosen data, or the fault of choosing them
 abbrev pub ReadsChosen : Result (List (Option DriverActivity)) CardFault → Result (List Span) CardFault → Type 0
 ReadsChosen (Ok chosen) reading = IsReading (those_there chosen) reading
 ReadsChosen (Err fault) reading = reading ≡ Err fault

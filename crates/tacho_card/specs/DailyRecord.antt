@@ -1,11 +1,11 @@
--- Trusted: CardActivityDailyRecord (Annex IC, Appendix 1): twelve bytes, and then the words of a day.
+-- Trusted: CardActivityDailyRecord (Annex IC, Appendix 1): twelve bytes, followed by the words of a day.
 use Rattle.std.specs.Prelude.{ℕ, zero, suc, ◌+◌, ◌-◌, ◌*◌, ◌/◌, ◌%◌, ◌&&◌, ◌==◌, nat_lt, nat_le, not, Bool, List, length, Option, None, Some, Result, Ok, Err, if◌then◌else◌}
 use Rattle.tacho_card.specs.declared.fault.CardFault.{CardFault}
 use Rattle.tacho_card.specs.declared.fault.CardFault.TheVariants.{RecordLength, Chain, DayRange, WordMinute, WordOrder}
 use Rattle.tacho_card.specs.ActivityChangeInfo.{time_of}
 use Rattle.tacho_card.specs.DriverActivity.{wrapped, number_at}
 
--- a record in a buffer: where it begins, and how many words it has
+-- a record in a buffer: the place at which it begins, and the number of its words
 pub record DailyRecord : Type 0 where
   pub buffer : List ℕ
   pub place : ℕ
@@ -23,7 +23,7 @@ seconds_at buffer place = number_at buffer (place + 4) * 65536 + number_at buffe
 abbrev pub day_at : List ℕ → ℕ → ℕ
 day_at buffer place = seconds_at buffer place / 86400
 
--- where the i-th word of the record at a place begins
+-- the place of the i-th word of the record at a place
 abbrev pub word_place : ℕ → ℕ → ℕ
 word_place place i = place + 12 + 2 * i
 
@@ -31,15 +31,15 @@ word_place place i = place + 12 + 2 * i
 abbrev pub word_at : List ℕ → ℕ → ℕ → ℕ
 word_at buffer place i = number_at buffer (word_place place i)
 
--- a length that a record may have: 12 bytes and some words, within the buffer
+-- true if a record may have this length: 12 bytes and some number of words, within the buffer
 abbrev pub is_length : ℕ → ℕ → Bool
 is_length size len = nat_le 12 len && (len % 2 == 0) && nat_le len size
 
--- from 2000-01-03 to 2099-12-31
+-- true if a day is from 2000-01-03 to 2099-12-31
 abbrev pub is_read_day : ℕ → Bool
 is_read_day day = nat_le 10959 day && nat_le day 47481
 
--- the first fault of k words from the i-th on, after a word of the minute `before`: C12 before C13
+-- the first fault of k words from the i-th on, after a word with the minute `before`; C12 comes before C13
 unfoldable pub words_fault : List ℕ → ℕ → ℕ → ℕ → ℕ → Option CardFault
 words_fault buffer place before i zero = None
 words_fault buffer place before i (suc k) =
@@ -48,13 +48,13 @@ words_fault buffer place before i (suc k) =
     else (if nat_lt minute before then Some (WordOrder (wrapped buffer (word_place place i)))
     else words_fault buffer place minute (i + 1) k)
 
--- the fault, or the record where there is none
+-- the fault, or the record if there is none
 abbrev pub fault_or : Option CardFault → DailyRecord → Result DailyRecord CardFault
 fault_or (Some fault) r = Err fault
 fault_or None r = Ok r
 
--- the record at a place where the records before it leave so many bytes of the buffer, or its first fault:
--- C9, C10, C11, and then those of its words
+-- the record at a place, if the records before it leave `left` bytes of the buffer, or its first fault: C9, C10, C11, and then those of its
+-- words
 unfoldable pub record_at : List ℕ → ℕ → ℕ → Result DailyRecord CardFault
 record_at buffer place left =
     let len = length_at buffer place in

@@ -3,21 +3,21 @@ use Rattle.std.specs.Prelude.{ℕ, ◌+◌, ◌-◌, ◌*◌, ◌%◌, ◌||◌,
 use Rattle.tacho_card.specs.declared.fault.CardFault.{CardFault}
 use Rattle.tacho_card.specs.declared.fault.CardFault.TheVariants.{ShortActivity, Pointer}
 
--- where the oldest and the newest record begin, and the bytes of the buffer
+-- the places of the oldest and of the newest record, and the bytes of the buffer
 pub record DriverActivity : Type 0 where
   pub oldest : ℕ
   pub newest : ℕ
   pub buffer : List ℕ
 
--- a place, counted on past the buffer's end
+-- a place, wrapped around at the buffer's end
 abbrev pub wrapped : List ℕ → ℕ → ℕ
 wrapped buffer i = i % length buffer
 
--- the byte at such a place
+-- the byte at a place that may wrap around
 abbrev pub byte_at : List ℕ → ℕ → ℕ
 byte_at buffer i = slice_index buffer (wrapped buffer i)
 
--- two bytes, the most significant first
+-- the number in two bytes, the most significant first
 abbrev pub number_at : List ℕ → ℕ → ℕ
 number_at buffer i = byte_at buffer i * 256 + byte_at buffer (i + 1)
 

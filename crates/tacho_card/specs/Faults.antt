@@ -1,5 +1,5 @@
--- Trusted: The faults of a card file and of its records (Annex IC, Appendices 1 and 7), by blocks, places and words, and not by
--- the order in which a program goes over them. C1 is IsTruncatedAt of CardFile, and C14 stands in Reading.
+-- Trusted: The faults of a card file and of its records (Annex IC, Appendices 1 and 7), defined by blocks, places and words, and not by the
+-- order in which a program goes over them. C1 is IsTruncatedAt in CardFile, and C14 is in Reading.
 use Rattle.std.specs.Prelude.{◌≡◌, ◌≢◌, ℕ, ◌+◌, ◌*◌, ◌<◌, ◌≤◌, ◌⊎◌, List, length, Contains, slice_get, Some, Result, Ok, Err}
 use Rattle.tacho_card.specs.declared.fault.CardFault.{CardFault}
 use Rattle.tacho_card.specs.declared.fault.CardFault.TheVariants.{Twice, NoIdentification, ShortIdentification, TwoCards, RecordLength, Chain, DayRange, WordMinute, WordOrder}
@@ -11,11 +11,11 @@ use Rattle.tacho_card.specs.CardFile.{FileBlock, activity_data, identification, 
 
 -- ---- C2 to C5: the blocks of a file
 
--- data of EF Driver_Activity_Data or of EF Identification, of the first or of the second generation
+-- the file may have this block only once: data of EF Driver_Activity_Data or of EF Identification, of the first or of the second generation
 abbrev pub MayStandOnce : FileBlock → Type 0
 MayStandOnce b = ((b.identifier ≡ activity_data) ⊎ (b.identifier ≡ identification)) × ((b.kind ≡ 0) ⊎ (b.kind ≡ 2))
 
--- the block at a place may stand once, and one before it has the same identifier and the same kind
+-- the file may have the block at this place only once, and an earlier one has the same identifier and the same kind
 pub record IsRepetition (blocks : List FileBlock) (place : ℕ) (b : FileBlock) : Type 0 where
   pub there : slice_get blocks place ≡ Some b
   pub once : MayStandOnce b
@@ -41,15 +41,15 @@ pub record IsIdentification (blocks : List FileBlock) (b : FileBlock) : Type 0 w
   pub identifier : b.identifier ≡ identification
   pub kind : (b.kind ≡ 0) ⊎ (b.kind ≡ 2)
 
--- C3: there is none
+-- C3: there is no identification
 abbrev pub HaveNoIdentification : List FileBlock → Type 0
 HaveNoIdentification blocks = (b : FileBlock) → ¬ (IsIdentification blocks b)
 
--- C4: there is one with fewer than 17 bytes
+-- C4: an identification has fewer than 17 bytes
 abbrev pub HaveShortIdentification : List FileBlock → Type 0
 HaveShortIdentification blocks = (b : FileBlock) × IsIdentification blocks b × (length b.value < 17)
 
--- C5: there are two with two holders
+-- C5: two identifications name different holders
 abbrev pub HaveTwoHolders : List FileBlock → Type 0
 HaveTwoHolders blocks =
     (a : FileBlock) × (b : FileBlock) × IsIdentification blocks a × IsIdentification blocks b × (holder_in a.value ≢ holder_in b.value)
@@ -62,34 +62,34 @@ IsFileFault blocks ShortIdentification = HaveNoRepetition blocks × HaveShortIde
 IsFileFault blocks TwoCards = HaveNoRepetition blocks × ¬ (HaveShortIdentification blocks) × HaveTwoHolders blocks
 IsFileFault blocks fault = ⊥
 
--- there is an identification, each has 17 bytes, and each names the holder
+-- there is an identification, each has at least 17 bytes, and each names this holder
 pub record IsHolder (blocks : List FileBlock) (holder : List ℕ) : Type 0 where
   pub some : (b : FileBlock) × IsIdentification blocks b
   pub long : ¬ (HaveShortIdentification blocks)
   pub each : (b : FileBlock) → IsIdentification blocks b → holder_in b.value ≡ holder
 
--- ---- C9 to C13: a record, after those at the places of a front
+-- ---- C9 to C13: a record after those at the places of a front
 
--- the record at a place is as long as a record of so many words, and no longer than the buffer; C9: of no number of words
+-- the record at a place has the length of a record with `count` words, and isn't longer than the buffer; C9: this holds for no count
 abbrev pub HasWords : DriverActivity → ℕ → ℕ → Type 0
 HasWords activity place count = (length_at activity.buffer place ≡ 12 + 2 * count) × (length_at activity.buffer place ≤ length activity.buffer)
 
--- C10: with it the lengths come to more than the buffer has
+-- C10: with this record, the lengths add up to more than the buffer's
 abbrev pub IsTooLong : DriverActivity → List ℕ → ℕ → Type 0
 IsTooLong activity front place = length activity.buffer < lengths activity.buffer front + length_at activity.buffer place
 
--- its day is from 2000-01-03 to 2099-12-31; C11: it isn't
+-- the record's day is from 2000-01-03 to 2099-12-31; C11: it isn't
 abbrev pub IsReadDay : DriverActivity → ℕ → Type 0
 IsReadDay activity place = (10959 ≤ day_at activity.buffer place) × (day_at activity.buffer place ≤ 47481)
 
--- C12: the minute of a word is none of a day; C13: it is below that of the word before
+-- C12: the minute of a word isn't one of a day; C13: it is below that of the word before
 abbrev pub IsWordFault : List ℕ → ℕ → ℕ → CardFault → Type 0
 IsWordFault buffer place word fault =
     ((1440 ≤ time_of (word_at buffer place word)) × (fault ≡ WordMinute (wrapped buffer (word_place place word))))
     ⊎ (((before : ℕ) × (before + 1 ≡ word) × (time_of (word_at buffer place word) < time_of (word_at buffer place before)))
     × (fault ≡ WordOrder (wrapped buffer (word_place place word))))
 
--- the fault of the first of so many words that has one
+-- the fault of the first of `count` words that has one
 pub record IsFirstWordFault (buffer : List ℕ) (place count : ℕ) (fault : CardFault) : Type 0 where
   pub word : ℕ
   pub among : word < count
@@ -116,7 +116,7 @@ pub record IsSound (activity : DriverActivity) (front : List ℕ) (r : DailyReco
   pub day : IsReadDay activity r.place
   pub in_order : HaveNoWordFault activity.buffer r.place r.count
 
--- what is read at a place: a record without a fault, or its first fault
+-- the result of reading at a place: a record without a fault, or its first fault
 abbrev pub IsRecordReading : DriverActivity → List ℕ → ℕ → Result DailyRecord CardFault → Type 0
 IsRecordReading activity front place (Ok r) = (r.place ≡ place) × IsSound activity front r
 IsRecordReading activity front place (Err fault) = IsRecordFault activity front place fault

@@ -9,16 +9,16 @@ use Rattle.tacho_card.specs.DailyRecord.{DailyRecord, day_at, word_at}
 use Rattle.tacho_card.specs.Chain.{chain}
 use Rattle.tacho_card.specs.Reading.{word_minute}
 
--- a span of a mark, if there is one
+-- a span with this mark, if there is a mark
 abbrev pub marked : ℕ → ℕ → Option Mark → List Span
 marked start past None = []
 marked start past (Some mark) = record { start = start; past = past; mark = mark } ∷ []
 
--- the mark of the i-th word, where k words come after it: none of the newest record's last word
+-- the mark that the i-th word gives, if k words come after it; the last word of the newest record gives none
 abbrev pub closed_mark : Bool → DailyRecord → ℕ → ℕ → Option Mark
 closed_mark newest r i k = if newest && (k == 0) then None else mark_of (word_at r.buffer r.place i)
 
--- where the i-th word ends, where k words come after it: at the next one, or with the day
+-- the end of the i-th word, if k words come after it: at the next word, or at the end of the day
 abbrev pub word_past : DailyRecord → ℕ → ℕ → ℕ
 word_past r i k = if k == 0 then 1440 * day_at r.buffer r.place + 1440 else word_minute r (i + 1)
 
@@ -31,7 +31,7 @@ words_spans newest r i (suc k) = marked (word_minute r i) (word_past r i k) (clo
 abbrev pub record_spans : Bool → DailyRecord → List Span
 record_spans newest r = words_spans newest r 0 r.count
 
--- spans before what is read of the rest
+-- puts spans before those that are read from the rest
 abbrev pub with_spans : List Span → Result (List Span) CardFault → Result (List Span) CardFault
 with_spans front (Ok spans) = Ok (front ++ spans)
 with_spans front (Err fault) = Err fault

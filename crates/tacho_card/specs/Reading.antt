@@ -1,4 +1,4 @@
--- Trusted: What activity data gives: pairs of a minute and a mark, or the first fault.
+-- Trusted: What activity data give: pairs of a minute and a mark, or the first fault.
 use Rattle.std.specs.Prelude.{◌≡◌, ℕ, ◌+◌, ◌*◌, ◌<◌, ◌≤◌, ◌⊎◌, List, [], ◌∷◌, Option, None, Some, Result, Ok, Err}
 use Rattle.tacho_time.specs.declared.span.Span.{Span}
 use Rattle.tacho_time.specs.declared.span.Mark.{Mark}
@@ -17,8 +17,8 @@ use Rattle.tacho_card.specs.Chain.{chain, fault_of}
 abbrev pub word_minute : DailyRecord → ℕ → ℕ
 word_minute r i = 1440 * day_at r.buffer r.place + time_of (word_at r.buffer r.place i)
 
--- A record gives a minute of its day the mark of the last word that holds by then. A word without a mark gives
--- nothing, and nor does the last word of the newest record: nothing says how long it held.
+-- A record gives a minute of its day the mark of the last word that holds at or before that minute. A word without a mark gives nothing.
+-- The last word of the newest record gives nothing either, since the card doesn't say how long it held.
 pub record RecordGives (newest : ℕ) (r : DailyRecord) (m : ℕ) (mark : Mark) : Type 0 where
   pub word : ℕ
   pub there : word < r.count
@@ -34,12 +34,12 @@ ItemsGive newest [] m mark = ⊥
 ItemsGive newest (Ok r ∷ items) m mark = RecordGives newest r m mark ⊎ ItemsGive newest items m mark
 ItemsGive newest (Err fault ∷ items) m mark = ItemsGive newest items m mark
 
--- some record of some of the data gives the minute this mark
+-- some record of these data gives the minute this mark
 abbrev pub ActivitiesGive : List DriverActivity → ℕ → Mark → Type 0
 ActivitiesGive [] m mark = ⊥
 ActivitiesGive (activity ∷ activities) m mark = ItemsGive activity.newest (chain activity) m mark ⊎ ActivitiesGive activities m mark
 
--- the first fault of the chains, one after the other
+-- the first fault of the chains, in order
 abbrev pub chains_fault : List DriverActivity → Option CardFault
 chains_fault [] = None
 chains_fault (activity ∷ activities) = fault_before (fault_of (chain activity)) (chains_fault activities)
@@ -48,19 +48,19 @@ chains_fault (activity ∷ activities) = fault_before (fault_of (chain activity)
     fault_before (Some fault) rest = Some fault
     fault_before None rest = rest
 
--- The reading of data: the canonical list of what they give, or the first fault. Contradiction within the data, of
--- which the least minute is named, comes after all faults of records.
+-- The reading of data: the canonical list of what they give, or the first fault. A contradiction within the data comes after all faults of
+-- records, and names the least minute with two marks.
 abbrev pub IsReading : List DriverActivity → Result (List Span) CardFault → Type 0
 IsReading activities (Ok spans) = (chains_fault activities ≡ None) × IsCanonicalOf (ActivitiesGive activities) spans
 IsReading activities (Err fault) =
     (chains_fault activities ≡ Some fault)
     ⊎ ((chains_fault activities ≡ None) × ((m : ℕ) × (fault ≡ SelfContradiction m) × IsFirstConflict (ActivitiesGive activities) m))
 
--- a fault is that of the reading, or want of memory
+-- the fault is that of the reading, or out of memory
 abbrev pub IsFaultOf : List DriverActivity → CardFault → Type 0
 IsFaultOf activities fault = OrMemory Memory fault (IsReading activities (Err fault))
 
--- the fault of a card whose spans have that fault
+-- the card fault for a fault of its spans
 abbrev pub fault_of_spans : SpanFault → CardFault
 fault_of_spans (Contradiction m) = SelfContradiction m
 fault_of_spans NoMemory = Memory

@@ -1,8 +1,8 @@
--- Private to tacho_card: The four blocks that a card file may have once, by number.
+-- Private to tacho_card: The four blocks that a card file may have only once, by number.
 use Rattle.std.specs.Prelude.{ℕ, Option, None, Some, if◌then◌else◌}
 use Rattle.tacho_card.specs.CardFile.{FileBlock, activity_data, identification, is_block}
 
--- which of them a block is
+-- the number of a block, if it is one of the four
 abbrev pub single_place : FileBlock → Option ℕ
 single_place b =
     if is_block activity_data 0 b then Some 0

@@ -12,7 +12,7 @@ pub(crate) const ACTIVITY_DATA: u16 = 0x0504;
 /// The identifier of EF Identification.
 pub(crate) const IDENTIFICATION: u16 = 0x0520;
 
-/// A block of a card file, lent.
+/// A block of a card file, borrowed from the file's bytes.
 #[derive(Drop)]
 pub struct Block<'a> {
     identifier: u16,
@@ -34,21 +34,21 @@ impl<'a> Model for Block<'a> {
 impl<'a> Block<'a> {
     ghost use Rattle.std.specs.Prelude.{◌≡◌, ◌<◌, length};
 
-    /// The identifier of the elementary file that the block is of.
+    /// Returns the identifier of the block's elementary file.
     pub fn identifier(&self) -> u16
         ensures { result ≡ self.now.identifier }
     {
         self.identifier
     }
 
-    /// What of that file it has: 00 and 02 for data, 01 and 03 for a signature, of each generation.
+    /// Returns what the block contains: data (00 for the first generation, 02 for the second) or a signature (01 and 03).
     pub fn kind(&self) -> u8
         ensures { result ≡ self.now.kind }
     {
         self.kind
     }
 
-    /// Its bytes: fewer than 65,536.
+    /// Returns the bytes of the value: fewer than 65,536.
     pub fn value(&self) -> &'a [u8]
         ensures is { result.now ≡ self.now.value }
         ensures short { length result.now < 65536 }
@@ -57,7 +57,7 @@ impl<'a> Block<'a> {
     }
 }
 
-/// The blocks of a card file, one after the other.
+/// The blocks of a card file, in order.
 #[derive(Drop)]
 pub struct Blocks<'a> {
     rest: &'a [u8],
@@ -78,7 +78,7 @@ impl<'a> Blocks<'a> {
     ghost use Rattle.std.specs.Prelude.{◌≡◌, ◌<◌, [], length, option_map, IfSome};
     ghost use Rattle.tacho_card.specs.CardFile.{blocks_of, repeated as first_repeated, value_of as first_value, file_holder};
 
-    /// The blocks of these bytes, or C1.
+    /// Returns the blocks of these bytes, or C1.
     pub(crate) fn read(bytes: &'a [u8]) -> Result<Blocks<'a>, CardFault>
         ensures { result ≡ blocks_of bytes.now }
     {
@@ -93,14 +93,14 @@ impl<'a> Blocks<'a> {
         Ok(Blocks { rest: bytes })
     }
 
-    /// The same blocks once more.
+    /// Returns the same blocks again.
     pub(crate) fn again(&self) -> Blocks<'a>
         ensures { result ≡ self.now }
     {
         Blocks { rest: self.rest }
     }
 
-    /// The first block that repeats one before it, where a file may have it once.
+    /// Returns the first block that repeats an earlier one, of those that a file may have only once.
     pub(crate) fn repeated(&self) -> Option<Block<'a>>
         ensures { result ≡ first_repeated [] self.now }
     {
@@ -116,7 +116,7 @@ impl<'a> Blocks<'a> {
         None
     }
 
-    /// The value of the first block with this identifier and kind.
+    /// Returns the value of the first block with this identifier and kind.
     pub(crate) fn value_of(&self, identifier: u16, kind: u8) -> Option<&'a [u8]>
         ensures is { option_map (λ value. value.now) result ≡ first_value identifier kind self.now }
         ensures short { IfSome result (λ value. length value.now < 65536) }
@@ -129,7 +129,7 @@ impl<'a> Blocks<'a> {
         None
     }
 
-    /// The holder that the identifications name, or the first of C3, C4 and C5.
+    /// Returns the holder that the identifications name, or the first of C3, C4 and C5.
     pub(crate) fn holder(&self) -> Result<[u8; 15], CardFault>
         ensures { result ≡ file_holder self.now }
     {
@@ -162,7 +162,7 @@ impl<'a> Iterator for Blocks<'a> {
     }
 }
 
-/// How many bytes the block at the front has, as its head says.
+/// Returns the number of bytes of the block at the front, as its head says.
 fn front_length(bytes: &[u8]) -> usize
     requires { 5 ≤ length bytes.now }
     ensures { result ≡ length_of_front bytes.now }
@@ -170,14 +170,14 @@ fn front_length(bytes: &[u8]) -> usize
     5 + BigEndian::read_u16(&bytes[3..]) as usize
 }
 
-/// Whether the head or the value of the block at the front goes past the end.
+/// Returns true if the head or the value of the block at the front extends past the end.
 fn is_cut(bytes: &[u8]) -> bool
     ensures { result ≡ cut_test bytes.now }
 {
     bytes.len() < 5 || bytes.len() < front_length(bytes)
 }
 
-/// The block at the front.
+/// Returns the block at the front.
 fn front_block<'a>(bytes: &'a [u8]) -> Block<'a>
     requires { cut_test bytes.now ≡ false }
     ensures { result ≡ block_at_front bytes.now }
@@ -189,7 +189,7 @@ fn front_block<'a>(bytes: &'a [u8]) -> Block<'a>
     }
 }
 
-/// The bytes after that block.
+/// Returns the bytes after the block at the front.
 fn after_front<'a>(bytes: &'a [u8]) -> &'a [u8]
     requires { cut_test bytes.now ≡ false }
     ensures { result.now ≡ drop (length_of_front bytes.now) bytes.now }
@@ -197,7 +197,7 @@ fn after_front<'a>(bytes: &'a [u8]) -> &'a [u8]
     &bytes[front_length(bytes)..]
 }
 
-/// Which of the four blocks that a file may have once it is.
+/// Returns the number of a block, if it is one of the four that a file may have only once.
 fn single_place(block: &Block) -> Option<usize>
     ensures { result ≡ place_of_single block.now }
 {
@@ -210,7 +210,7 @@ fn single_place(block: &Block) -> Option<usize>
     }
 }
 
-/// The holder that an identification names, or C4.
+/// Returns the holder that an identification names, or C4.
 fn holder_in(value: &[u8]) -> Result<[u8; 15], CardFault>
     ensures { result ≡ holder_of (Some value.now) None }
 {
@@ -222,7 +222,7 @@ fn holder_in(value: &[u8]) -> Result<[u8; 15], CardFault>
     Ok(holder)
 }
 
-/// The holder that both identifications name, or the first of C4 and C5.
+/// Returns the holder that both identifications name, or the first of C4 and C5.
 fn same_holder(first: &[u8], second: &[u8]) -> Result<[u8; 15], CardFault>
     ensures { result ≡ holder_of (Some first.now) (Some second.now) }
 {

@@ -6,7 +6,7 @@ use crate::records::Records;
 use byteorder::{BigEndian, ByteOrder};
 use std::marker::Model;
 
-/// CardDriverActivity (Annex IC, Appendix 1): two pointers and a cyclic buffer of records, lent.
+/// CardDriverActivity (Annex IC, Appendix 1): two pointers and a cyclic buffer of records, borrowed from the file's bytes.
 #[derive(Drop)]
 pub struct Cyclic<'a> {
     oldest: usize,
@@ -30,7 +30,7 @@ impl<'a> Cyclic<'a> {
     ghost use Rattle.tacho_card.specs.DriverActivity.{driver_activity, byte_at, number_at};
     ghost use Rattle.tacho_card.specs.Chain.{chain};
 
-    /// The data of a value's bytes, or the first of C7 and C8.
+    /// Reads the data of a value's bytes, or returns the first of C7 and C8.
     pub fn read(bytes: &'a [u8]) -> Result<Cyclic<'a>, CardFault>
         requires { length bytes.now ≤ 65535 }
         ensures { result ≡ driver_activity bytes.now }
@@ -51,28 +51,28 @@ impl<'a> Cyclic<'a> {
         })
     }
 
-    /// The place of the newest record.
+    /// Returns the place of the newest record.
     pub(crate) fn newest(&self) -> usize
         ensures { result ≡ self.now.newest }
     {
         self.newest
     }
 
-    /// The byte at a place, counted on past the buffer's end.
+    /// Returns the byte at a place, which may wrap around at the buffer's end.
     pub fn byte(&self, i: usize) -> u8
         ensures { result ≡ byte_at self.now.buffer i }
     {
         byte_in(self.buffer, i)
     }
 
-    /// The number in the two bytes from a place on, the most significant first.
+    /// Returns the number in the two bytes from a place on, the most significant first.
     pub fn number(&self, i: usize) -> u16
         ensures { result ≡ number_at self.now.buffer i }
     {
         number_in(self.buffer, i)
     }
 
-    /// The records from the oldest to the newest, and then the fault of the chain if it has one.
+    /// Returns the records from the oldest to the newest, followed by the fault of the chain if it has one.
     pub fn records(&self) -> Records<'a>
         ensures { result ≡ chain self.now }
     {
@@ -82,7 +82,7 @@ impl<'a> Cyclic<'a> {
     }
 }
 
-/// The byte at a place, counted on past the end.
+/// Returns the byte at a place, which may wrap around at the end.
 pub(crate) fn byte_in(buffer: &[u8], i: usize) -> u8
     requires { 0 < length buffer.now }
     ensures { result ≡ byte_at buffer.now i }
@@ -90,7 +90,7 @@ pub(crate) fn byte_in(buffer: &[u8], i: usize) -> u8
     buffer[place_in(buffer, i)]
 }
 
-/// The place that is counted on past the end. Most lie before it, and take no division.
+/// Wraps a place around at the end. Most places are before the end, and take no division.
 pub(crate) fn place_in(buffer: &[u8], i: usize) -> usize
     requires { 0 < length buffer.now }
     ensures value { result ≡ i % length buffer.now }
@@ -102,7 +102,7 @@ pub(crate) fn place_in(buffer: &[u8], i: usize) -> usize
     i % buffer.len()
 }
 
-/// The number in the two bytes from a place on.
+/// Returns the number in the two bytes from a place on.
 pub(crate) fn number_in(buffer: &[u8], i: usize) -> u16
     requires { 0 < length buffer.now }
     ensures { result ≡ number_at buffer.now i }

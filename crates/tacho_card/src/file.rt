@@ -9,15 +9,15 @@ use std::marker::Model;
 /// Which generation's activity data is read.
 #[derive(Clone, Copy, Debug, PartialEq, Eq)]
 pub enum Part {
-    /// That of the Tachograph application (kind 00).
+    /// The activity data of the Tachograph application (kind 00).
     First,
-    /// That of Tachograph_G2 (kind 02).
+    /// The activity data of Tachograph_G2 (kind 02).
     Second,
-    /// Each of the two that is there.
+    /// Whichever of the two the file has.
     Both,
 }
 
-/// A card download file (Annex IC, Appendix 7), lent: blocks laid end to end.
+/// A card download file (Annex IC, Appendix 7), borrowed from its bytes: blocks laid end to end.
 #[derive(Drop)]
 pub struct CardFile<'a> {
     blocks: Blocks<'a>,
@@ -38,7 +38,7 @@ impl<'a> CardFile<'a> {
     ghost use Rattle.std.specs.Prelude.{◌≡◌, Ok};
     ghost use Rattle.tacho_card.specs.CardFile.{card_file, file_holder, chosen_activity};
 
-    /// The file of these bytes, or the first of C1 to C5.
+    /// Reads a file from these bytes, or returns the first of C1 to C5.
     pub fn read(bytes: &'a [u8]) -> Result<CardFile<'a>, CardFault>
         ensures { result ≡ card_file bytes.now }
     {
@@ -50,14 +50,14 @@ impl<'a> CardFile<'a> {
         Ok(CardFile { blocks })
     }
 
-    /// Its blocks.
+    /// Returns the file's blocks.
     pub fn blocks(&self) -> Blocks<'a>
         ensures { result ≡ self.now }
     {
         self.blocks.again()
     }
 
-    /// The holder that its identifications name: cardIssuingMemberState and driverIdentification, 15 bytes.
+    /// Returns the holder that the identifications name: cardIssuingMemberState and driverIdentification, 15 bytes.
     pub fn holder(&self) -> [u8; 15]
         ensures { file_holder self.now ≡ Ok result }
     {
@@ -67,7 +67,7 @@ impl<'a> CardFile<'a> {
         }
     }
 
-    /// The activity data of a part, of the first and of the second generation, or the first of C6, C7 and C8.
+    /// Returns the activity data of a part, first generation before second, or the first of C6, C7 and C8.
     pub fn activity(&self, part: Part) -> Result<[Option<Cyclic<'a>>; 2], CardFault>
         ensures { result ≡ chosen_activity part self.now }
     {
@@ -86,7 +86,7 @@ impl<'a> CardFile<'a> {
     }
 }
 
-/// The data of a value, if there is one, or the first of C7 and C8.
+/// Reads the data of a value, if there is a value, or returns the first of C7 and C8.
 fn read_value<'a>(value: Option<&'a [u8]>) -> Result<Option<Cyclic<'a>>, CardFault>
     requires { IfSome value (λ bytes. length bytes.now < 65536) }
     ensures { result ≡ value_reading (option_map (λ bytes. bytes.now) value.entry) }

@@ -1,4 +1,4 @@
-//! Driver cards: the file's blocks, words, the cyclic buffer of daily records, and what they give.
+//! Driver cards: the blocks of a file, words, the cyclic buffer of daily records, and what they give.
 #![tactic(auto)]
 
 mod blocks;

@@ -11,8 +11,8 @@ use crate::file::{CardFile, Part};
 use std::alloc::Global;
 use tacho_time::{Span, canonical_spans};
 
-/// What activity data gives, as a canonical list of spans, or its first fault: of its records in the order of
-/// the chain (C9 to C13), and then C14.
+/// Returns what activity data give, as a canonical list of spans, or their first fault: first those of the records in the order of the
+/// chain (C9 to C13), then C14.
 pub fn spans_of(alloc: Global, activity: &Cyclic) -> Result<Vec<Span>, CardFault>
     ensures { MatchResult result (λ spans. IsReading (activity.now ∷ []) (Ok spans.items)) (IsFaultOf (activity.now ∷ [])) }
 {
@@ -21,8 +21,8 @@ pub fn spans_of(alloc: Global, activity: &Cyclic) -> Result<Vec<Span>, CardFault
     canonical(alloc, &raw)
 }
 
-/// What a part of a card file gives, as a canonical list of spans, or the first fault in reading order: C6; C7 and C8
-/// of each generation's data; C9 to C13 of its records, all of the first generation's data first; and then C14.
+/// Returns what a part of a card file gives, as a canonical list of spans, or the first fault in reading order: C6; C7 and C8 of each
+/// generation's data; C9 to C13 of the records, all of the first generation's data first; and then C14.
 pub fn spans(alloc: Global, file: &CardFile, part: Part) -> Result<Vec<Span>, CardFault>
     ensures { MatchResult result (λ spans. ReadsFile part file.now (Ok spans.items)) (λ fault. OrMemory CardFault.Memory fault (ReadsFile part file.now (Err fault))) }
 {
@@ -30,7 +30,7 @@ pub fn spans(alloc: Global, file: &CardFile, part: Part) -> Result<Vec<Span>, Ca
     spans_of_chosen(alloc, &chosen)
 }
 
-/// What the data that are there give together, or their first fault.
+/// Returns what all data that are present give together, or their first fault.
 fn spans_of_chosen(alloc: Global, chosen: &[Option<Cyclic>]) -> Result<Vec<Span>, CardFault>
     ensures { MatchResult result (λ spans. IsReading (those_there chosen.now) (Ok spans.items)) (IsFaultOf (those_there chosen.now)) }
 {
@@ -43,7 +43,7 @@ fn spans_of_chosen(alloc: Global, chosen: &[Option<Cyclic>]) -> Result<Vec<Span>
     canonical(alloc, &raw)
 }
 
-/// Appends the spans of all records of activity data, in no order.
+/// Appends the spans of all records of activity data, in no particular order.
 fn append_activity(spans: &mut Vec<Span>, activity: &Cyclic) -> Result<(), CardFault>
     ensures { MatchResult result (λ _. with_spans spans.old.items (activity_spans activity.now) ≡ Ok spans.new.items) (λ fault. OrMemory CardFault.Memory fault (activity_spans activity.now ≡ Err fault)) }
 {
@@ -57,7 +57,7 @@ fn append_activity(spans: &mut Vec<Span>, activity: &Cyclic) -> Result<(), CardF
     Ok(())
 }
 
-/// The canonical list of what spans give, or the least minute to which they give two marks.
+/// Returns the canonical list of what spans give, or the least minute to which they give two marks.
 fn canonical(alloc: Global, spans: &[Span]) -> Result<Vec<Span>, CardFault>
     ensures { MatchResult result (λ runs. IsCanonicalOf (Gives spans.now) runs.items) (λ fault. OrMemory CardFault.Memory fault ((m : ℕ) × (fault ≡ CardFault.SelfContradiction m) × IsFirstConflict (Gives spans.now) m)) }
 {

@@ -10,7 +10,7 @@ use std::alloc::AllocError;
 use std::marker::Model;
 use tacho_time::{Day, Mark, Minute, Span};
 
-/// CardActivityDailyRecord (Annex IC, Appendix 1), lent from the buffer: the changes of activity of a day.
+/// CardActivityDailyRecord (Annex IC, Appendix 1), borrowed from the buffer: the changes of activity of a day.
 #[derive(Drop)]
 pub struct Record<'a> {
     buffer: &'a [u8],
@@ -36,28 +36,28 @@ impl<'a> Record<'a> {
     ghost use Rattle.tacho_card.specs.DailyRecord.{day_at, word_at, record_at};
     ghost use Rattle.tacho_card.specs.RawSpans.{record_spans};
 
-    /// Where it begins in the buffer.
+    /// Returns the place at which the record begins in the buffer.
     pub fn place(&self) -> usize
         ensures { result ≡ self.now.place }
     {
         self.place
     }
 
-    /// The day that it is of.
+    /// Returns the day of the record.
     pub fn day(&self) -> Day
         ensures { result ≡ day_at self.now.buffer self.now.place }
     {
         Day::new(day_in(self.buffer, self.place))
     }
 
-    /// How many words it has.
+    /// Returns the number of words in the record.
     pub fn count(&self) -> usize
         ensures { result ≡ self.now.count }
     {
         self.count
     }
 
-    /// The i-th word, from 0. From `count` on it is what the buffer has behind the record.
+    /// Returns the i-th word, counted from 0. From `count` on, these are the bytes of the buffer after the record.
     pub fn word(&self, i: usize) -> Word
         ensures { result ≡ word_at self.now.buffer self.now.place i }
     {
@@ -65,7 +65,7 @@ impl<'a> Record<'a> {
         Word::of(number_in(self.buffer, self.place + 12 + 2 * i))
     }
 
-    /// The record at a place where the records before it leave so many bytes of the buffer, or its first fault.
+    /// Reads the record at a place, if the records before it leave `left` bytes of the buffer, or returns its first fault.
     #[tactic(auto, unfolding(crate::specs::DailyRecord::record_at))]
     pub(crate) fn at(buffer: &'a [u8], place: usize, left: usize) -> Result<Record<'a>, CardFault>
         requires size { 12 ≤ length buffer.now }
@@ -94,7 +94,7 @@ impl<'a> Record<'a> {
         }
     }
 
-    /// Appends what each word gives: from its minute to that of the next word, or to the end of the day.
+    /// Appends what each word gives: its mark from its minute to that of the next word, or to the end of the day.
     pub(crate) fn append_spans(
         &self,
         spans: &mut Vec<Span>,
@@ -124,7 +124,7 @@ impl<'a> Record<'a> {
     }
 }
 
-/// The minute from which a word holds on the day that begins at a minute.
+/// Returns the minute from which a word holds, on the day that begins at `midnight`.
 fn minute_from(midnight: u32, word: Word) -> Minute
     requires { midnight ≤ 1440 * 47481 }
     ensures { result ≡ midnight + time_of word }
@@ -132,7 +132,7 @@ fn minute_from(midnight: u32, word: Word) -> Minute
     Minute::new(midnight + word.minute() as u32)
 }
 
-/// Appends the span of a mark, if there is one.
+/// Appends a span with this mark, if there is a mark.
 fn append_marked(
     spans: &mut Vec<Span>,
     start: Minute,
@@ -147,7 +147,7 @@ fn append_marked(
     Ok(())
 }
 
-/// The day of the record at a place.
+/// Returns the day of the record at a place.
 fn day_in(buffer: &[u8], place: usize) -> u32
     requires size { 12 ≤ length buffer.now }
     requires limit { length buffer.now < 65536 }
@@ -158,21 +158,21 @@ fn day_in(buffer: &[u8], place: usize) -> u32
     seconds / 86400
 }
 
-/// Whether a record may have that length.
+/// Returns true if a record may have this length.
 fn is_length(size: usize, len: usize) -> bool
     ensures { result ≡ length_test size len }
 {
     12 <= len && len % 2 == 0 && len <= size
 }
 
-/// Whether a day may be read.
+/// Returns true if a day is in the range that can be read.
 fn is_read_day(day: u32) -> bool
     ensures { result ≡ day_test day }
 {
     10959 <= day && day <= 47481
 }
 
-/// The first fault of the words of the record at a place.
+/// Returns the first fault of the words of the record at a place.
 fn fault_of_words(buffer: &[u8], place: usize, count: usize) -> Option<CardFault>
     requires size { 12 ≤ length buffer.now }
     requires limit { length buffer.now < 65536 }

@@ -3,7 +3,7 @@ use crate::fault::CardFault;
 use crate::record::Record;
 use std::marker::Model;
 
-/// The records of a chain from the oldest to the newest, and then its fault if it has one.
+/// The records of a chain from the oldest to the newest, followed by its fault if it has one.
 #[derive(Drop)]
 pub struct Records<'a> {
     buffer: &'a [u8],
@@ -30,7 +30,7 @@ impl<'a> Records<'a> {
     ghost use Rattle.std.specs.Prelude.{◌≡◌, ◌+◌, ◌<◌, ◌≤◌, length, [], if◌then◌else◌};
     ghost use Rattle.tacho_card.specs.Chain.{chain_from};
 
-    /// The records from a place on, where so many bytes of the buffer are left, or none if it has ended.
+    /// Returns the records from a place on, if `left` bytes of the buffer are left, or none if the chain has ended.
     pub(crate) fn from(
         buffer: &'a [u8],
         newest: usize,

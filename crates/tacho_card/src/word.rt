@@ -24,21 +24,21 @@ impl Word {
     ghost use Rattle.std.specs.Prelude.{◌≡◌};
     ghost use Rattle.tacho_card.specs.ActivityChangeInfo.{time_of, mark_of};
 
-    /// The word of these bits.
+    /// Returns the word with these bits.
     pub fn of(bits: u16) -> Word
         ensures { result ≡ bits }
     {
         Word { bits }
     }
 
-    /// The minute of the day from which it holds: 0 to 2047, of which a day has 1,440.
+    /// Returns the minute of the day from which the word holds: 0 to 2047, although a day has only 1,440.
     pub fn minute(self) -> u16
         ensures { result ≡ time_of self }
     {
         self.bits % 2048
     }
 
-    /// The mark that it gives, or none where the card was out and nothing was entered by hand.
+    /// Returns the mark that the word gives, or none if the card was out and nothing was entered by hand.
     pub fn mark(self) -> Option<Mark>
         ensures { result ≡ mark_of self }
     {
@@ -56,7 +56,7 @@ impl Word {
     }
 }
 
-/// The activity of the bits `aa`.
+/// Returns the activity of the bits `aa`.
 fn activity_of_word(bits: u16) -> Activity
     ensures { result ≡ activity_of bits }
 {

@@ -9,9 +9,9 @@ use tacho_line::{Line, LineFault};
 use tacho_rules::{Breach, Kind};
 use tacho_time::{Activity, Minute, Span};
 
-// Where nothing else is said, a day begins at 06:00 (minute 360), and its 24 hours end at 06:00 of the next.
+// Unless something else is said, a day begins at 06:00 (minute 360), and its 24 hours end at 06:00 of the next day.
 
-/// The first day's rest has 660 minutes within its 24 hours, 659, 540, and 540 with three hours before them.
+/// The first day's rest has 660 minutes within the day's 24 hours; 659; 540; and 540 with a rest of three hours before them.
 #[test]
 fn nine_hours_of_rest_are_enough(rt: HostRuntime) -> Result<(), Fail> {
     let alloc = rt.alloc();
@@ -24,7 +24,7 @@ fn nine_hours_of_rest_are_enough(rt: HostRuntime) -> Result<(), Fail> {
     Ok(())
 }
 
-/// The rest has nine hours, of which one minute lies after the day's 24.
+/// The rest has nine hours, one minute of which is after the day's 24 hours.
 #[test]
 fn a_minute_less_than_nine_hours_is_too_short(rt: HostRuntime) -> Result<(), Fail> {
     let pieces = [work(4, 4, 360, 1261), work(5, 5, 361, 420)];
@@ -33,7 +33,7 @@ fn a_minute_less_than_nine_hours_is_too_short(rt: HostRuntime) -> Result<(), Fai
     Ok(())
 }
 
-/// The pieces of three days with reduced rests, from the 4th on, and some more.
+/// Returns the pieces of three days with reduced rests, from the 4th on, followed by more pieces.
 fn three_reduced(alloc: Global, more: &[Piece]) -> Result<Vec<Piece>, AllocError> {
     let mut pieces = Vec::new(alloc);
     pieces.push(work(4, 6, 360, 1260))?;
@@ -41,7 +41,8 @@ fn three_reduced(alloc: Global, more: &[Piece]) -> Result<Vec<Piece>, AllocError
     Ok(pieces)
 }
 
-/// A reduced daily rest from a minute on, so many more than three since the weekly rest that ended on the 4th.
+/// Returns the breach of a reduced daily rest that starts at `moment`: it is `amount` rests more than three since the weekly rest that
+/// ended on the 4th.
 fn one_too_many(moment: Minute, amount: u32) -> Breach {
     breach(Kind::B3, moment, at(4, 360), amount)
 }
@@ -54,7 +55,7 @@ fn three_reduced_rests_are_no_breach(rt: HostRuntime) -> Result<(), Fail> {
     Ok(())
 }
 
-/// That of the 7th: 540 minutes, and 659.
+/// The rest of the 7th has 540 minutes in one case and 659 in the other.
 #[test]
 fn a_fourth_reduced_rest_is_a_breach(rt: HostRuntime) -> Result<(), Fail> {
     let alloc = rt.alloc();
@@ -83,7 +84,7 @@ fn eleven_hours_are_no_reduced_rest(rt: HostRuntime) -> Result<(), Fail> {
     Ok(())
 }
 
-/// On the 6th, the third day, or on the 7th, the fourth.
+/// The rest in two parts is on the 6th, the third day, or on the 7th, the fourth.
 #[test]
 fn three_hours_and_then_nine_are_no_reduced_rest(rt: HostRuntime) -> Result<(), Fail> {
     let alloc = rt.alloc();
@@ -117,8 +118,8 @@ fn a_minute_less_than_three_hours_does_not_split_a_rest(rt: HostRuntime) -> Resu
     Ok(())
 }
 
-/// The rest of the 7th has 539 minutes within its 24 hours. That of the 8th, a day that begins at 06:01, is the fourth
-/// reduced one.
+/// The rest of the 7th has 539 minutes within the day's 24 hours. The rest of the 8th, a day that begins at 06:01, is the fourth reduced
+/// one.
 #[test]
 fn a_rest_that_is_too_short_is_no_reduced_one(rt: HostRuntime) -> Result<(), Fail> {
     let alloc = rt.alloc();
@@ -136,7 +137,7 @@ fn a_rest_that_is_too_short_is_no_reduced_one(rt: HostRuntime) -> Result<(), Fai
     Ok(())
 }
 
-/// The rest from the 6th to the 8th has 33 hours. Two reduced ones come before it, and two after it.
+/// The rest from the 6th to the 8th has 33 hours. Two reduced rests come before it, and two after it.
 #[test]
 fn reduced_rests_count_anew_after_a_weekly_one(rt: HostRuntime) -> Result<(), Fail> {
     let alloc = rt.alloc();
@@ -145,7 +146,7 @@ fn reduced_rests_count_anew_after_a_weekly_one(rt: HostRuntime) -> Result<(), Fa
     Ok(())
 }
 
-/// On some days driving from 06:00 to 10:30, from 11:15 to 15:45, which is 540 minutes, and from 16:30 to a minute of the day.
+/// Returns driving on some days: from 06:00 to 10:30 and from 11:15 to 15:45, which is 540 minutes, and from 16:30 to a minute of the day.
 fn driven(first: u32, last: u32, end: u32) -> [Piece; 3] {
     [
         drive(first, last, 360, 630),
@@ -199,13 +200,13 @@ fn days_of_more_than_nine_hours_are_those_of_a_week(rt: HostRuntime) -> Result<(
     Ok(())
 }
 
-/// The first minute of the k-th of the rests that follow one another from 2024-03-11 00:00 on: nine hours, and a minute of
-/// work.
+/// Returns the first minute of the k-th of the rests that follow one another from 2024-03-11 00:00 on: nine hours each, with a minute of
+/// work after it.
 fn rest_from(k: u32) -> Minute {
     Minute::new(BASE + 10_080 + 541 * k.min(18))
 }
 
-/// Rest to 2024-03-10 23:59, and from then on a minute of work and nine hours of rest in turn, held for two weeks.
+/// Returns a line of rest up to 2024-03-10 23:59, and then of a minute of work and nine hours of rest in turn, held for two weeks.
 fn minutes_of_work(alloc: Global) -> Result<Line, LineFault> {
     let mut line = Line::empty(alloc);
     for k in 0..19 {
@@ -220,7 +221,7 @@ fn minutes_of_work(alloc: Global) -> Result<Line, LineFault> {
     Ok(line)
 }
 
-/// The breaches of these rests, which are reduced, from one to before another.
+/// Appends the breaches of these rests, which are reduced, from rest `first` to before rest `past`.
 fn too_many(found: &mut Vec<Breach>, first: u32, past: u32) -> Result<(), AllocError>
     requires first { 3 ≤ first }
 {
@@ -230,8 +231,8 @@ fn too_many(found: &mut Vec<Breach>, first: u32, past: u32) -> Result<(), AllocE
     Ok(())
 }
 
-/// The rests 0 to 17 are reduced, so that the rest k is too many by k - 2. The last, rest 18, goes on after the horizon. It
-/// is the next weekly rest, and starts 9,738 minutes after the 11th at 00:00, where 8,639 are allowed.
+/// The rests 0 to 17 are reduced, so rest k exceeds the limit by k - 2. The last one, rest 18, continues after the horizon. It is the next
+/// weekly rest, and starts 9,738 minutes after the 11th at 00:00, where 8,639 are allowed.
 #[test]
 fn a_week_of_reduced_rests(rt: HostRuntime) -> Result<(), Fail> {
     let alloc = rt.alloc();

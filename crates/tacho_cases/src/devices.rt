@@ -3,14 +3,14 @@ use std::io::{self, ErrorKind, Read, Write};
 use std::test::Fail;
 use tacho_time::{Device, Failed, Sink, Source};
 
-/// A reader and a writer whose first call fails. From the second on it reads zeros, and takes what is written.
+/// A reader and writer whose first call fails. From the second call on, it reads zeros and accepts what is written.
 #[derive(Drop)]
 struct FailsOnce {
     calls: u32,
 }
 
 impl FailsOnce {
-    /// Counts a call of so many bytes.
+    /// Counts a call with this many bytes.
     fn count(&mut self, bytes: usize) -> io::Result<usize> {
         self.calls = self.calls.saturating_add(1);
         if self.calls == 1 {

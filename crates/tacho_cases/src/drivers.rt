@@ -22,7 +22,7 @@ const DRIVE: Mark = Mark {
     crew: false,
 };
 
-/// A span of the first 255 minutes.
+/// Returns a span within the first 255 minutes.
 fn span(start: u8, past: u8, mark: Mark) -> Span {
     Span {
         start: Minute::new(start as u32),
@@ -40,7 +40,7 @@ fn parts_outside_a_range_stay(rt: HostRuntime) -> Result<(), Fail> {
     Ok(())
 }
 
-/// What hinders the report of a line of rest up to a minute, from a day on.
+/// Returns why a line of rest up to a minute has no report from a day on, or none if it has one.
 fn hindrance(alloc: Global, past: Minute, base: u32) -> Result<Option<StoreFault>, Fail> {
     let rest = Span {
         start: Minute::new(0),
@@ -85,7 +85,7 @@ fn a_report_is_from_its_base(rt: HostRuntime) -> Result<(), Fail> {
     Ok(())
 }
 
-/// A driver of these columns, with a day and a holder that may be.
+/// Returns a driver with these columns, and with a valid day and holder.
 fn driver(
     alloc: Global,
     number: u32,

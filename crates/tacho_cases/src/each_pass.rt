@@ -8,7 +8,7 @@ use tacho_line::Line;
 use tacho_rules::{Breach, Breaks, Days, Debt, Found, Kind, Pass, WeekRests, WeekSums};
 use tacho_time::Minute;
 
-/// A week of long days from the 4th to the 9th, a morning on the 10th and an hour on the 12th.
+/// Returns a week of long days from the 4th to the 9th, a morning on the 10th, and an hour on the 12th.
 fn pieces(alloc: Global) -> Result<Vec<Piece>, AllocError> {
     Vec::from_slice(
         alloc,
@@ -28,7 +28,7 @@ fn pieces(alloc: Global) -> Result<Vec<Piece>, AllocError> {
     )
 }
 
-/// The end of the line of these pieces, 2024-03-13 00:00.
+/// Returns the end of the line of these pieces, 2024-03-13 00:00.
 fn end() -> Minute {
     at(13, 0)
 }
@@ -49,24 +49,24 @@ fn of_days() -> [Breach; 4] {
     ]
 }
 
-/// The days from the 4th to the 10th have 541, 541, 601, 540, 540, 539 and 271 minutes of driving, together 3,573. Those of
-/// the first six are 3,302, so that minute 3,361 is the 59th of the 10th.
+/// The days from the 4th to the 10th have 541, 541, 601, 540, 540, 539 and 271 minutes of driving, 3,573 in total. Those of the first six
+/// days are 3,302, so minute 3,361 is the 59th of the 10th.
 fn of_sums() -> [Breach; 1] {
     [breach(Kind::B6, at(10, 418), at(4, 0), 213)]
 }
 
-/// A weekly rest ends on the 4th at 06:00, and the next starts on the 10th at 10:31, where it has to by 06:00.
+/// A weekly rest ends on the 4th at 06:00. The next has to start by the 10th at 06:00, but starts at 10:31.
 fn of_weekly_rests() -> [Breach; 1] {
     [breach(Kind::B8, at(10, 360), at(4, 360), 271)]
 }
 
-/// That rest goes to the 12th at 06:00. It has 809 + 1,440 + 360 minutes, 91 fewer than 2,700. The rest from the 12th at
-/// 07:00 has 1,020 minutes up to the line's end, of which nine hours stay, and pays.
+/// That rest lasts to the 12th at 06:00. It has 809 + 1,440 + 360 minutes, 91 fewer than 2,700. The rest from the 12th at 07:00 has 1,020
+/// minutes up to the line's end. It keeps nine hours of them, and pays.
 fn owed() -> Debt {
     debt(91, Some(at(12, 420)))
 }
 
-/// What a pass finds by itself in a line that is held without a gap from the base on.
+/// Returns what a pass alone finds in a line that is held without a gap from the base on.
 fn found_by<P: Pass>(alloc: Global, line: &Line) -> Result<Found, Fail> {
     let base = Minute::new(BASE);
     let mut pass = P::new(base);

@@ -47,7 +47,7 @@ fn a_rest_of_975_minutes_pays_345(rt: HostRuntime) -> Result<(), Fail> {
     Ok(())
 }
 
-/// The pieces of a week whose main rest has 24 hours, and some more.
+/// Returns the pieces of a week whose main rest has 24 hours, and some more.
 fn short_week(alloc: Global, more: &[Piece]) -> Result<Vec<Piece>, AllocError> {
     let mut pieces = Vec::new(alloc);
     pieces.push(work(4, 9, 360, 420))?;
@@ -91,7 +91,7 @@ fn a_rest_of_30_hours_beside_the_main_one_pays(rt: HostRuntime) -> Result<(), Fa
     Ok(())
 }
 
-/// The pieces of three weeks behind the short one in which nothing pays, and of a last night.
+/// Returns the pieces of three weeks after the short one in which no rest pays, and of a last night.
 fn unpaid(alloc: Global, end: u32) -> Result<Vec<Piece>, AllocError> {
     short_week(
         alloc,
@@ -178,8 +178,8 @@ fn two_weeks_with_short_weekly_rests(rt: HostRuntime) -> Result<(), Fail> {
     Ok(())
 }
 
-/// The pieces of four weeks with a rest of 45 hours over each Sunday and Monday between them and no other of 24 hours, but for
-/// the days from the 26th on, and some more.
+/// Returns the pieces of four weeks with a rest of 45 hours over each Sunday and Monday between them and no other rest of 24 hours, except
+/// for the days from the 26th on, and some more.
 fn three_sundays(alloc: Global, more: &[Piece]) -> Result<Vec<Piece>, AllocError> {
     let mut pieces = Vec::new(alloc);
     pieces.extend_from_slice(&[
@@ -199,13 +199,13 @@ fn three_sundays(alloc: Global, more: &[Piece]) -> Result<Vec<Piece>, AllocError
     Ok(pieces)
 }
 
-/// The breach of the weeks from the 18th and the 25th.
+/// Returns the breach for the weeks from the 18th and the 25th.
 fn lacking_by_april() -> Breach {
     breach(Kind::B9, at(32, 0), at(18, 0), 0)
 }
 
-/// The weeks from the 4th and the 11th have two rests only where the second counts in the week from the 11th, those from the
-/// 18th and the 25th only where it counts in that from the 18th.
+/// The weeks from the 4th and the 11th have two rests only if the second counts in the week from the 11th. Those from the 18th and the 25th
+/// do only if it counts in the week from the 18th.
 #[test]
 fn three_rests_over_sundays_are_not_enough(rt: HostRuntime) -> Result<(), Fail> {
     let alloc = rt.alloc();
@@ -220,7 +220,7 @@ fn three_rests_over_sundays_are_not_enough(rt: HostRuntime) -> Result<(), Fail> 
     Ok(())
 }
 
-/// With a fourth rest, from the 27th to the 29th, the week from the 25th and the one before have that and the third.
+/// With a fourth rest, from the 27th to the 29th, the week from the 25th and the one before have this rest and the third.
 #[test]
 fn a_fourth_rest_is_enough(rt: HostRuntime) -> Result<(), Fail> {
     let alloc = rt.alloc();
@@ -229,7 +229,7 @@ fn a_fourth_rest_is_enough(rt: HostRuntime) -> Result<(), Fail> {
     Ok(())
 }
 
-/// The weeks from the 25th and from 1 April have the third rest alone, also where it is counted anew.
+/// The weeks from the 25th and from 1 April have only the third rest, also if its week is chosen again.
 #[test]
 fn weeks_lack_rests_directly_behind_others(rt: HostRuntime) -> Result<(), Fail> {
     let alloc = rt.alloc();
@@ -248,9 +248,9 @@ fn weeks_lack_rests_directly_behind_others(rt: HostRuntime) -> Result<(), Fail> 
     Ok(())
 }
 
-/// The weeks from the 4th and the 11th need the rest from the 16th in that from the 11th, so that and the next need the one
-/// from the 24th in the week from the 18th, which leaves none for it and the week from the 25th. From there on the rest from
-/// the 24th counts in the week from the 25th, and is enough with the one from 1 April.
+/// The weeks from the 4th and the 11th need the rest from the 16th to count in the week from the 11th. So that week and the next need the
+/// rest from the 24th to count in the week from the 18th, which leaves no rest for the week from the 18th and the one from the 25th. From
+/// there on, the rest from the 24th counts in the week from the 25th, and is enough together with the rest from 1 April.
 #[test]
 fn a_rest_counts_in_another_week_behind_a_breach(rt: HostRuntime) -> Result<(), Fail> {
     let pieces = [
@@ -274,8 +274,8 @@ fn a_rest_counts_in_another_week_behind_a_breach(rt: HostRuntime) -> Result<(), 
     Ok(())
 }
 
-/// The pieces of five weeks with a rest from the 16th to the 25th, one in the week from the 4th and one from the 31st to
-/// 2 April, and some more.
+/// Returns the pieces of five weeks with a rest from the 16th to the 25th, one in the week from the 4th and one from the 31st to 2 April,
+/// and some more.
 fn a_long_rest(alloc: Global, more: &[Piece]) -> Result<Vec<Piece>, AllocError> {
     let mut pieces = Vec::new(alloc);
     pieces.extend_from_slice(&[
@@ -295,7 +295,7 @@ fn a_long_rest(alloc: Global, more: &[Piece]) -> Result<Vec<Piece>, AllocError> 
     Ok(pieces)
 }
 
-/// The weeks before the one that is wholly at rest need the long rest, and those behind it need it too.
+/// The weeks before the one that is entirely at rest need the long rest, and so do those after it.
 #[test]
 fn a_rest_of_more_than_a_week_counts_once(rt: HostRuntime) -> Result<(), Fail> {
     let alloc = rt.alloc();
@@ -305,7 +305,7 @@ fn a_rest_of_more_than_a_week_counts_once(rt: HostRuntime) -> Result<(), Fail> {
     Ok(())
 }
 
-/// With one more, from the 12th to the 14th, those before it don't.
+/// With one more rest, from the 12th to the 14th, the weeks before don't need it.
 #[test]
 fn a_rest_of_more_than_a_week_counts_behind_it(rt: HostRuntime) -> Result<(), Fail> {
     let alloc = rt.alloc();

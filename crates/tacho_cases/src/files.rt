@@ -15,7 +15,7 @@ const ACTIVITY: &[u8] =
 
 const SHORT: &[u8] = b"\x05\x20\x00\x00\x10\x0dD12345678901230";
 
-/// The holder that a file of these bytes names.
+/// Returns the holder that a file with these bytes names.
 fn holder_of(bytes: &[u8]) -> Result<[u8; 15], CardFault> {
     Ok(CardFile::read(bytes)?.holder())
 }
@@ -97,7 +97,7 @@ fn chooses_the_activity(rt: HostRuntime) -> Result<(), Fail> {
     Ok(())
 }
 
-/// Two days of activity of the first generation, and other words for them of the second.
+/// Two days of activity of the first generation, and different words for them of the second.
 const TWO_GENERATIONS: &[u8] = &[
     0x05, 0x04, 0x00, 0x00, 0x28, 0x00, 0x00, 0x00, 0x14, 0x00, 0x00, 0x00, 0x14, 0x65, 0xe5, 0x0f,
     0x00, 0x00, 0x01, 0x00, 0x64, 0x00, 0x00, 0x11, 0xe0, 0x19, 0xfe, 0x23, 0xfc, 0x00, 0x14, 0x00,
@@ -111,14 +111,14 @@ const TWO_GENERATIONS: &[u8] = &[
 fn reads_each_generation(rt: HostRuntime) -> Result<(), Fail> {
     let bytes = joined(rt.alloc(), IDENTIFIED, TWO_GENERATIONS)?;
     let file = CardFile::read(&bytes)?;
-    // 4 March 2024, 08:00: the first generation has work from then on, and the second still rest.
+    // 4 March 2024, 08:00: from then on, the first generation has work, and the second still has rest.
     let contradiction = CardFault::SelfContradiction(Minute::new(28_492_320));
     assert_same(
         &rt,
         spans(rt.alloc(), &file, Part::Both).err(),
         Some(contradiction),
     );
-    // Until when each of the four spans lasts. Both generations end alike.
+    // The ends of the four spans. Both generations end at the same minute.
     for (part, pasts) in [
         (
             Part::First,

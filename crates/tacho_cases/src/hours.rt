@@ -19,7 +19,7 @@ const BASE: u32 = 28_491_840;
 /// 2024-03-05 00:00.
 const HORIZON: u32 = 28_493_280;
 
-/// What a driver who is alone does, in minutes from the base.
+/// Returns a span of a driver who is alone, in minutes from the base.
 fn single(start: u32, past: u32, activity: Activity) -> Span
     requires start { start ≤ 1440 }
     requires past { past ≤ 1440 }
@@ -35,7 +35,7 @@ fn single(start: u32, past: u32, activity: Activity) -> Span
     }
 }
 
-/// A day with two times of driving, in which availability is between a rest and work.
+/// Returns a day with two times of driving, in which availability is between a rest and work.
 fn day() -> [Span; 6]
     ensures joined { Joined result 28491840 28493280 }
     ensures single { All (λ span. span.mark.crew ≡ false) result }
@@ -50,7 +50,7 @@ fn day() -> [Span; 6]
     ]
 }
 
-/// The rest runs of the day's spans.
+/// Returns the rest runs of the day's spans.
 fn runs_of_day(alloc: Global, spans: &[Span]) -> Result<Vec<Run>, AllocError>
     requires joined { Joined spans.now 28491840 28493280 }
     requires single { All (λ span. span.mark.crew ≡ false) spans.now }
@@ -63,7 +63,7 @@ fn runs_of_day(alloc: Global, spans: &[Span]) -> Result<Vec<Run>, AllocError>
     rest_runs(alloc, &examined)
 }
 
-/// How many minutes of the day's spans are driving, from one minute of the day to before another.
+/// Returns how many minutes of the day's spans are driving, from one minute of the day to before another.
 fn driven(spans: &[Span], from: u32, to: u32) -> u32
     requires joined { Joined spans.now 28491840 28493280 }
     requires single { All (λ span. span.mark.crew ≡ false) spans.now }
@@ -74,7 +74,7 @@ fn driven(spans: &[Span], from: u32, to: u32) -> u32
     driving_minutes(&Examined { spans, base, past }, BASE + from, BASE + to)
 }
 
-/// The k-th driving minute of the day's spans.
+/// Returns the k-th driving minute of the day's spans.
 fn driven_minute(spans: &[Span], k: u32) -> Option<u32>
     requires joined { Joined spans.now 28491840 28493280 }
     requires single { All (λ span. span.mark.crew ≡ false) spans.now }
@@ -118,8 +118,8 @@ fn driving_is_counted(rt: HostRuntime) {
     assert_same(&rt, driven_minute(&spans, 541), None);
 }
 
-/// The driving of the day's spans above a limit, from one minute of the day to before another: its first minute, and how
-/// many there are.
+/// Returns the driving of the day's spans above a limit, from one minute of the day to before another: the first such minute, and the
+/// number of them.
 fn driven_above(spans: &[Span], from: u32, to: u32, limit: u32) -> Option<(u32, u32)>
     requires joined { Joined spans.now 28491840 28493280 }
     requires single { All (λ span. span.mark.crew ≡ false) spans.now }
@@ -196,7 +196,7 @@ fn breaks_have_45_minutes_or_15_and_then_30(rt: HostRuntime) -> Result<(), Fail>
     Ok(())
 }
 
-/// The runs of two duty days, the first with a rest of three hours in it.
+/// Returns the runs of two duty days. There is a rest of three hours in the first.
 fn two_days() -> [Run; 4]
     ensures some { All (λ run. run.start < run.past) result }
     ensures in_order { AllPairs Before result }
@@ -284,7 +284,7 @@ fn a_rest_of_three_and_of_nine_hours_is_regular(rt: HostRuntime) {
     assert!(rt; is_reduced(day, &before));
 }
 
-/// A breach of a kind with these minutes.
+/// Returns a breach of a kind with these minutes.
 fn breach(kind: Kind, moment: u32, since: u32) -> Breach
     requires moment { moment ≤ 1440 }
     requires since { since ≤ 1440 }
@@ -313,7 +313,7 @@ fn breaches_are_in_order(rt: HostRuntime) -> Result<(), Fail> {
     Ok(())
 }
 
-/// A rest, in minutes from the base.
+/// Returns a rest, in minutes from the base.
 fn rest(start: u32, past: u32) -> Run
     requires start { start ≤ 20160 }
     requires past { past ≤ 20160 }
@@ -325,7 +325,7 @@ fn rest(start: u32, past: u32) -> Run
     }
 }
 
-/// Three weekly rests that start in one week: two of 1,540 minutes, and one of 45 hours that ends in the next week.
+/// Returns three weekly rests that start in the same week: two of 1,540 minutes, and one of 45 hours that ends in the next week.
 fn weekly_rests() -> [Run; 3]
     ensures { AreInTime result }
 {

@@ -1,5 +1,5 @@
-//! Worked cases of the crates from `tacho_time` to `tacho_sheet`, as tests: all of them are proved once for these, where tests in
-//! each crate would have it proved twice.
+//! Worked cases of the crates from `tacho_time` to `tacho_sheet`, as tests. All these crates are proved once more for them. With tests in
+//! each crate, each would have to be proved twice.
 #![tactic(auto)]
 
 #[cfg(test)]

@@ -15,7 +15,7 @@ fn minute(number: u32) -> Minute
     Minute::new(A + number)
 }
 
-/// A span of so many minutes of the week.
+/// Returns a span from one minute of the week to another.
 fn span(start: u32, past: u32, activity: Activity, crew: bool) -> Span
     requires start { start ≤ 10000 }
     requires past { past ≤ 10000 }
@@ -27,7 +27,7 @@ fn span(start: u32, past: u32, activity: Activity, crew: bool) -> Span
     }
 }
 
-/// A span of a driver who is alone.
+/// Returns a span of a driver who is alone.
 fn single(start: u32, past: u32, activity: Activity) -> Span
     requires start { start ≤ 10000 }
     requires past { past ≤ 10000 }
@@ -35,14 +35,14 @@ fn single(start: u32, past: u32, activity: Activity) -> Span
     span(start, past, activity, false)
 }
 
-/// Adds what spans give that a line lacks.
+/// Adds to a line what spans give that it doesn't hold.
 fn learn(alloc: Global, line: &mut Line, spans: &[Span]) -> Result<(), LineFault> {
     let gains = line.gains(alloc, spans)?;
     line.add(&gains)?;
     Ok(())
 }
 
-/// A rest, some work, and a drive to minute 1020.
+/// Returns a line with a rest, some work, and driving up to minute 1020.
 fn monday(alloc: Global) -> Result<Line, LineFault> {
     let mut line = Line::empty(alloc);
     let spans = [

@@ -14,7 +14,7 @@ const BASE: u32 = 28_491_840;
 /// 2024-03-05 00:00.
 const HORIZON: u32 = 28_493_280;
 
-/// What a driver who is alone does, in minutes from the base.
+/// Returns a span of a driver who is alone, in minutes from the base.
 fn single(start: u32, past: u32, activity: Activity) -> Span
     requires start { start ≤ 20160 }
     requires past { past ≤ 20160 }
@@ -30,7 +30,7 @@ fn single(start: u32, past: u32, activity: Activity) -> Span
     }
 }
 
-/// Rest, in minutes from the base.
+/// Returns rest, in minutes from the base.
 fn rest(start: u32, past: u32) -> Span
     requires start { start ≤ 20160 }
     requires past { past ≤ 20160 }
@@ -39,7 +39,7 @@ fn rest(start: u32, past: u32) -> Span
     single(start, past, Activity::Rest)
 }
 
-/// Driving, in minutes from the base.
+/// Returns driving, in minutes from the base.
 fn drive(start: u32, past: u32) -> Span
     requires start { start ≤ 20160 }
     requires past { past ≤ 20160 }
@@ -48,7 +48,7 @@ fn drive(start: u32, past: u32) -> Span
     single(start, past, Activity::Drive)
 }
 
-/// The breach of the rule on breaks with these minutes from the base.
+/// Returns the breach of the rule on breaks with these minutes from the base.
 fn no_break(moment: u32, since: u32, amount: u32) -> Breach
     requires moment { moment ≤ 1440 }
     requires since { since ≤ 1440 }
@@ -61,7 +61,7 @@ fn no_break(moment: u32, since: u32, amount: u32) -> Breach
     }
 }
 
-/// The breaches of the day's spans.
+/// Returns the breaches of the day's spans.
 fn breaks_of_day(alloc: Global, spans: &[Span]) -> Result<Vec<Breach>, AllocError>
     requires joined { Joined spans.now 28491840 28493280 }
     requires single { All (λ span. span.mark.crew ≡ false) spans.now }
@@ -69,7 +69,7 @@ fn breaks_of_day(alloc: Global, spans: &[Span]) -> Result<Vec<Breach>, AllocErro
     breaks(alloc, spans, Minute::new(BASE), Minute::new(HORIZON))
 }
 
-/// The breach of a rule on days with these minutes from the base.
+/// Returns the breach of a rule on days with these minutes from the base.
 fn of_day(kind: Kind, moment: u32, since: u32, amount: u32) -> Breach
     requires moment { moment ≤ 1440 }
     requires since { since ≤ 1440 }
@@ -82,7 +82,7 @@ fn of_day(kind: Kind, moment: u32, since: u32, amount: u32) -> Breach
     }
 }
 
-/// The breaches of the rules on days of the day's spans.
+/// Returns the breaches of the rules on days in the day's spans.
 fn days_of_day(alloc: Global, spans: &[Span]) -> Result<Vec<Breach>, AllocError>
     requires joined { Joined spans.now 28491840 28493280 }
     requires single { All (λ span. span.mark.crew ≡ false) spans.now }
@@ -190,7 +190,7 @@ fn a_first_part_serves_once(rt: HostRuntime) -> Result<(), Fail> {
     Ok(())
 }
 
-/// Rest, and driving from 06:00 to 10:00 and from 10:45 to a later minute of the day that begins at `midnight`.
+/// Adds rest, and driving from 06:00 to 10:00 and from 10:45 to a later minute of the day that begins at `midnight`.
 fn add_day(spans: &mut Vec<Span>, at: u32, midnight: u32, end: u32) -> Result<(), AllocError>
     requires before { at ≤ midnight }
     requires some { 645 < end }
@@ -207,8 +207,7 @@ fn add_day(spans: &mut Vec<Span>, at: u32, midnight: u32, end: u32) -> Result<()
     Ok(())
 }
 
-/// The line from the base to `past`, with driving on each day up to its minute in `ends`, and none where that is
-/// before 10:46.
+/// Returns the line from the base to `past`, with driving on each day up to its minute in `ends`, and none if that minute is before 10:46.
 fn driven(alloc: Global, ends: &[u32], past: u32) -> Result<Vec<Span>, AllocError>
     requires days { 1440 * length ends.now < past }
     requires within { past ≤ 20160 }
@@ -229,7 +228,7 @@ fn driven(alloc: Global, ends: &[u32], past: u32) -> Result<Vec<Span>, AllocErro
     Ok(spans)
 }
 
-/// The breaches of the rules on weeks in that line.
+/// Returns the breaches of the rules on weeks in that line.
 fn breaches_of_weeks(alloc: Global, ends: &[u32], past: u32) -> Result<Vec<Breach>, AllocError>
     requires days { 1440 * length ends.now < past }
     requires within { past ≤ 20160 }
@@ -238,7 +237,7 @@ fn breaches_of_weeks(alloc: Global, ends: &[u32], past: u32) -> Result<Vec<Breac
     weeks(alloc, &spans, Minute::new(BASE), Minute::new(BASE + past))
 }
 
-/// The breach at that minute from the base.
+/// Returns the breach at a minute from the base.
 fn too_much(kind: Kind, moment: u32, since: Minute, amount: u32) -> Breach
     requires { moment ≤ 20160 }
 {
@@ -305,7 +304,7 @@ fn a_week_of_91_hours_counts_with_both_its_neighbours(rt: HostRuntime) -> Result
     Ok(())
 }
 
-/// What the rules on weekly rests find in that line.
+/// Returns what the rules on weekly rests find in that line.
 fn found_of_rests(alloc: Global, ends: &[u32], past: u32) -> Result<Found, AllocError>
     requires days { 1440 * length ends.now < past }
     requires within { past ≤ 20160 }
@@ -320,13 +319,13 @@ fn a_late_and_short_weekly_rest_that_a_night_pays(rt: HostRuntime) -> Result<(),
         885, 885, 885, 885, 885, 885, 885, 0, 916, 915, 885, 885, 885,
     ];
     let found = found_of_rests(rt.alloc(), &ends, 20_160)?;
-    // The weekly rest before the first work ends on the 4th at 06:00, so the next has to start by the 10th at 06:00. It
-    // starts there at 14:45, 525 minutes later. The last starts on the 16th, in time. The two weeks have weekly rests enough.
+    // The weekly rest before the first work ends on the 4th at 06:00, so the next has to start by the 10th at 06:00. It starts there at
+    // 14:45, 525 minutes late. The last one starts on the 16th, in time. The two weeks have enough weekly rests.
     let late = too_much(Kind::B8, 9000, Minute::new(BASE + 360), 525);
     assert_same(&rt, found.breaches.as_slice(), [late].as_slice());
-    // That rest is the main one of its week. It goes to the 12th at 06:00 and has 555 + 1,440 + 360 minutes, 345 fewer than
-    // 2,700. The night from the 12th at 15:16 has 884 minutes: beside nine hours 344, one too few. The night from the 13th
-    // at 15:15 has 885 and pays. The deadline is 1 April at 00:00.
+    // That rest is the main rest of its week. It lasts to the 12th at 06:00 and has 555 + 1,440 + 360 minutes, 345 fewer than 2,700. The
+    // night from the 12th at 15:16 has 884 minutes: 344 in addition to nine hours, one too few. The night from the 13th at 15:15 has 885
+    // minutes, and pays. The deadline is 1 April at 00:00.
     let owed = Debt {
         week: Week::new(2826),
         amount: 345,

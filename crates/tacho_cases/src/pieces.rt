@@ -12,7 +12,7 @@ pub(crate) const BASE: u32 = 28_491_840;
 /// The week of that Monday.
 pub(crate) const WEEK: u32 = 2826;
 
-/// What is done on days of March 2024, from one minute of the day to another. April goes on with the 32nd.
+/// An activity on days of March 2024, from one minute of the day to another. Day 32 is 1 April, and so on.
 #[derive(Clone, Copy)]
 pub(crate) struct Piece {
     first: u32,
@@ -22,12 +22,12 @@ pub(crate) struct Piece {
     activity: Activity,
 }
 
-/// A minute of a day of March 2024, from the 4th to the 60th.
+/// Returns a minute of a day of March 2024, from the 4th to the 60th.
 pub(crate) fn at(day: u32, minute: u32) -> Minute {
     Minute::new(BASE + 1440 * (day.min(60).saturating_sub(4)) + minute.min(1440))
 }
 
-/// Work on some days.
+/// Returns work on some days.
 pub(crate) fn work(first: u32, last: u32, from: u32, to: u32) -> Piece {
     Piece {
         first,
@@ -38,7 +38,7 @@ pub(crate) fn work(first: u32, last: u32, from: u32, to: u32) -> Piece {
     }
 }
 
-/// Driving on some days.
+/// Returns driving on some days.
 pub(crate) fn drive(first: u32, last: u32, from: u32, to: u32) -> Piece {
     Piece {
         first,
@@ -49,7 +49,7 @@ pub(crate) fn drive(first: u32, last: u32, from: u32, to: u32) -> Piece {
     }
 }
 
-/// The mark of a driver who is alone.
+/// Returns the mark of a driver who is alone.
 pub(crate) fn alone(activity: Activity) -> Mark {
     Mark {
         activity,
@@ -57,7 +57,7 @@ pub(crate) fn alone(activity: Activity) -> Mark {
     }
 }
 
-/// A line with more spans.
+/// Adds spans to a line.
 pub(crate) fn add(alloc: Global, line: &mut Line, spans: &[Span]) -> Result<(), LineFault> {
     let gains = line.gains(alloc, spans)?;
     if line.add(&gains).is_err() {
@@ -66,7 +66,7 @@ pub(crate) fn add(alloc: Global, line: &mut Line, spans: &[Span]) -> Result<(), 
     Ok(())
 }
 
-/// The spans of a piece, one for each of its days.
+/// Returns the spans of a piece, one for each of its days.
 fn spans_of(alloc: Global, piece: Piece) -> Result<Vec<Span>, AllocError> {
     let mut spans = Vec::new(alloc);
     for day in piece.first..piece.last.min(60) + 1 {
@@ -79,7 +79,7 @@ fn spans_of(alloc: Global, piece: Piece) -> Result<Vec<Span>, AllocError> {
     Ok(spans)
 }
 
-/// A line with rest where it holds nothing, from the base to a horizon.
+/// Adds rest to a line where it holds nothing, from the base to a horizon.
 pub(crate) fn add_rest(alloc: Global, line: &mut Line, horizon: Minute) -> Result<(), LineFault> {
     let gaps = line.gaps(alloc, Minute::new(BASE), horizon)?;
     for gap in &gaps {
@@ -93,7 +93,7 @@ pub(crate) fn add_rest(alloc: Global, line: &mut Line, horizon: Minute) -> Resul
     Ok(())
 }
 
-/// The line of pieces, with rest between them, from the base to a horizon.
+/// Returns the line of pieces, with rest between them, from the base to a horizon.
 pub(crate) fn line_of(alloc: Global, pieces: &[Piece], horizon: Minute) -> Result<Line, LineFault> {
     let mut line = Line::empty(alloc);
     for piece in pieces {
@@ -103,7 +103,7 @@ pub(crate) fn line_of(alloc: Global, pieces: &[Piece], horizon: Minute) -> Resul
     Ok(line)
 }
 
-/// The report of a line from the base's week or the next.
+/// Returns the report of a line, from the base's week or the next.
 pub(crate) fn report_of(alloc: Global, line: &Line, week: u32) -> Result<Report, Fail>
     requires { week ≤ 1 }
 {
@@ -114,7 +114,7 @@ pub(crate) fn report_of(alloc: Global, line: &Line, week: u32) -> Result<Report,
     Ok(examine(alloc, line, base)?)
 }
 
-/// Whether the report of a line has a horizon that isn't held, these breaches and these debts.
+/// Returns true if the report of a line has a horizon that isn't held, these breaches and these debts.
 pub(crate) fn has_report(
     alloc: Global,
     line: &Line,
@@ -131,7 +131,7 @@ pub(crate) fn has_report(
     )
 }
 
-/// Whether that is the report of pieces with rest between them.
+/// Returns true if this is the report of pieces with rest between them.
 pub(crate) fn finds(
     alloc: Global,
     pieces: &[Piece],
@@ -148,7 +148,7 @@ pub(crate) fn finds(
     )
 }
 
-/// A breach.
+/// Returns a breach.
 pub(crate) fn breach(kind: Kind, moment: Minute, since: Minute, amount: u32) -> Breach {
     Breach {
         kind,
@@ -158,7 +158,7 @@ pub(crate) fn breach(kind: Kind, moment: Minute, since: Minute, amount: u32) -> 
     }
 }
 
-/// The debt of the base's week.
+/// Returns a debt of the base's week.
 pub(crate) fn debt(amount: u32, paid_by: Option<Minute>) -> Debt {
     Debt {
         week: Week::new(WEEK),

@@ -10,8 +10,8 @@ use tacho_sheet::{
 use tacho_stretches::Stretch;
 use tacho_time::{Activity, Mark, Minute, Month, Span, Week};
 
-// `checks/failing_sheet.py` runs each test with each of its allocations refused in turn. So a test returns an error where it is out of
-// memory, by `?`, and asserts everything else.
+// `checks/failing_sheet.py` runs each test with each of its allocations refused in turn. So a test returns an error by `?` if it runs out
+// of memory, and asserts everything else.
 
 /// Friday, 1 March 2024, 00:00.
 const MARCH: u32 = 28_487_520;
@@ -22,12 +22,12 @@ const FEBRUARY: u32 = 28_481_760;
 /// 2100-01-01 00:00.
 const LATEST: u32 = 68_374_080;
 
-/// A minute of a day of March 2024. April goes on with the 32nd, and February ends with day 0.
+/// Returns a minute of a day of March 2024. Day 32 is 1 April, and day 0 is the last of February.
 fn at(day: u32, minute: u32) -> Minute {
     Minute::new((MARCH - 1440) + 1440 * day.min(60) + minute.min(1440))
 }
 
-/// A span of one day.
+/// Returns a span within one day.
 fn span(day: u32, from: u32, to: u32, activity: Activity, crew: bool) -> Span {
     Span {
         start: at(day, from),
@@ -36,7 +36,7 @@ fn span(day: u32, from: u32, to: u32, activity: Activity, crew: bool) -> Span {
     }
 }
 
-/// A line that holds these spans.
+/// Returns a line that holds these spans.
 fn line_of(alloc: Global, spans: &[Span]) -> Result<Line, LineFault> {
     let mut line = Line::empty(alloc);
     let gains = line.gains(alloc, spans)?;
@@ -46,7 +46,7 @@ fn line_of(alloc: Global, spans: &[Span]) -> Result<Line, LineFault> {
     Ok(line)
 }
 
-/// A month of 2024.
+/// Returns a month of 2024.
 fn month(text: &[u8]) -> Result<Month, Fail> {
     match Month::read(text) {
         Ok(month) => Ok(month),
@@ -54,7 +54,7 @@ fn month(text: &[u8]) -> Result<Month, Fail> {
     }
 }
 
-/// A breach.
+/// Returns a breach.
 fn breach(kind: Kind, moment: Minute, since: Minute, amount: u32) -> Breach {
     Breach {
         kind,
@@ -64,7 +64,7 @@ fn breach(kind: Kind, moment: Minute, since: Minute, amount: u32) -> Breach {
     }
 }
 
-/// A debt of a week.
+/// Returns a debt of a week.
 fn debt(week: u32, amount: u32, deadline: Minute, paid_by: Option<Minute>) -> Debt {
     Debt {
         week: Week::new(week.min(3000)),
@@ -74,7 +74,7 @@ fn debt(week: u32, amount: u32, deadline: Minute, paid_by: Option<Minute>) -> De
     }
 }
 
-/// A horizon that isn't held.
+/// Returns a horizon that isn't held.
 fn unknown(minute: Minute) -> Horizon {
     Horizon {
         minute,
@@ -82,7 +82,7 @@ fn unknown(minute: Minute) -> Horizon {
     }
 }
 
-/// A stretch with these breaches.
+/// Returns a stretch with these breaches.
 fn stretch(
     alloc: Global,
     monday: Minute,
@@ -101,7 +101,7 @@ fn stretch(
     })
 }
 
-/// A stretch with these debts.
+/// Returns a stretch with these debts.
 fn owing(
     alloc: Global,
     monday: Minute,
@@ -120,7 +120,7 @@ fn owing(
     })
 }
 
-/// Rest, work and driving on Monday the 4th, and rest and driving on the next one.
+/// Returns rest, work and driving on Monday the 4th, and rest and driving on the next Monday.
 fn two_mondays(alloc: Global) -> Result<Line, LineFault> {
     let spans = [
         span(4, 0, 480, Activity::Rest, false),
@@ -132,7 +132,7 @@ fn two_mondays(alloc: Global) -> Result<Line, LineFault> {
     line_of(alloc, &spans)
 }
 
-/// Their stretches.
+/// Returns the stretches of these two Mondays.
 fn of_two_mondays(alloc: Global) -> Result<[Stretch; 2], Fail> {
     let late = breach(Kind::B1, at(4, 780), at(4, 510), 240);
     Ok([
@@ -167,7 +167,7 @@ fn stretches_are_printed(rt: HostRuntime) -> Result<(), Fail> {
         text.as_str(),
         "FROM 2024-03-04\nEXAMINED TO 2024-03-05 06:00 crew\nNOT EXAMINED 2024-03-05 06:00 2024-03-05 15:00\n",
     );
-    // Where nothing is held, the horizon is the base.
+    // If nothing is held, the horizon is the base.
     let alone = [stretch(alloc, at(4, 0), unknown(at(4, 0)), &[], None)?];
     let text = stretch_text(alloc, &alone)?;
     assert_same(
@@ -181,9 +181,9 @@ fn stretches_are_printed(rt: HostRuntime) -> Result<(), Fail> {
 #[test]
 fn debts_of_stretches_are_printed(rt: HostRuntime) -> Result<(), Fail> {
     let alloc = rt.alloc();
-    // The first one's horizon is a minute before the deadline, and the second one's is long after it.
+    // The first stretch's horizon is a minute before the deadline, and the second one's is long after it.
     let open = [debt(2826, 1260, at(32, 0), None)];
-    // Of the second the horizon is the first deadline's minute.
+    // The second stretch's horizon is the minute of the first deadline.
     let others = [
         debt(2830, 345, at(60, 0), None),
         debt(2831, 900, at(60, 1440), None),
@@ -199,7 +199,7 @@ fn debts_of_stretches_are_printed(rt: HostRuntime) -> Result<(), Fail> {
         text.as_str(),
         "FROM 2024-03-04\nWEEK 2024-03-04 owes 1260 by 2024-04-01 00:00 open\nEXAMINED TO 2024-03-31 23:59 unknown\nNOT EXAMINED 2024-03-31 23:59 2024-04-01 00:00\nFROM 2024-04-01\nWEEK 2024-04-01 owes 345 by 2024-04-29 00:00 late\nWEEK 2024-04-08 owes 900 by 2024-04-30 00:00 open\nWEEK 2024-04-15 owes 60 by 2024-04-30 00:00 paid 2024-04-27 01:01\nEXAMINED TO 2024-04-29 00:00 unknown\n",
     );
-    // Breaches don't stand there, nor debts among the breaches.
+    // Breaches aren't listed there, and debts aren't listed among the breaches.
     let text = debt_text(alloc, &of_two_mondays(alloc)?)?;
     assert_same(
         &rt,
@@ -215,7 +215,7 @@ fn debts_of_stretches_are_printed(rt: HostRuntime) -> Result<(), Fail> {
     Ok(())
 }
 
-/// Stretches over the month's two ends, with breaches at its first and its last minute and at the minutes beside them.
+/// Returns stretches over the month's two ends, with breaches at its first and last minutes and at the minutes next to them.
 fn over_the_ends(alloc: Global) -> Result<[Stretch; 2], Fail> {
     let first = [
         breach(Kind::B2, at(0, 1439), at(0, 0), 1),
@@ -237,7 +237,7 @@ fn over_the_ends(alloc: Global) -> Result<[Stretch; 2], Fail> {
     ])
 }
 
-/// What is held near the month's two ends and within it.
+/// Returns what is held near the month's two ends and within the month.
 fn near_the_ends(alloc: Global) -> Result<Line, LineFault> {
     let spans = [
         span(0, 0, 1440, Activity::Rest, false),
@@ -264,7 +264,7 @@ fn an_overview_is_printed(rt: HostRuntime) -> Result<(), Fail> {
         &of_two_mondays(alloc)?,
         march,
     )?;
-    // Of the first stretch 10 minutes are in the month, and of the second seven days.
+    // The first stretch has 10 minutes in the month, and the second has seven days.
     push_overview(
         alloc,
         &mut text,
@@ -282,7 +282,7 @@ fn an_overview_is_printed(rt: HostRuntime) -> Result<(), Fail> {
     Ok(())
 }
 
-/// A driver's row of a month, by what is near the ends of March.
+/// Returns a driver's row of a month, from what is near the ends of March.
 fn row_of(alloc: Global, text: &[u8]) -> Result<String, Fail> {
     let mut row = String::new(alloc);
     let (line, stretches) = (near_the_ends(alloc)?, over_the_ends(alloc)?);
@@ -312,7 +312,7 @@ fn an_overview_is_cut_at_the_ends_of_the_month(rt: HostRuntime) -> Result<(), Fa
     Ok(())
 }
 
-/// Stretches of which one ends with the month's last minute, and the next one begins with the next month's first.
+/// Returns stretches, one of which ends with the month's last minute; the next one begins with the next month's first minute.
 fn beside_the_end(alloc: Global) -> Result<[Stretch; 3], Fail> {
     let late = breach(Kind::B10, at(32, 0), at(4, 0), 1260);
     Ok([

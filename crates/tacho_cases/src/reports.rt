@@ -7,18 +7,18 @@ use tacho_rules::Report;
 use tacho_sheet::{breach_text, gap_text, month_sheet, owed_text, span_csv};
 use tacho_time::{Activity, Mark, Minute, Month, Span, Week, span_lines};
 
-// `checks/failing_sheet.py` runs each test with each of its allocations refused in turn. So a test hands on want of memory by
-// `?`, and asserts everything else.
+// `checks/failing_sheet.py` runs each test with each of its allocations refused in turn. So a test returns an error by `?` if it runs out
+// of memory, and asserts everything else.
 
 /// Friday, 1 March 2024, 00:00.
 const MARCH: u32 = 28_487_520;
 
-/// A minute of a day of March 2024. April goes on with the 32nd, and February ends with day 0.
+/// Returns a minute of a day of March 2024. Day 32 is 1 April, and day 0 is the last of February.
 fn at(day: u32, minute: u32) -> Minute {
     Minute::new((MARCH - 1440) + 1440 * day.min(60) + minute.min(1440))
 }
 
-/// A span of one day.
+/// Returns a span within one day.
 fn span(day: u32, from: u32, to: u32, activity: Activity, crew: bool) -> Span {
     Span {
         start: at(day, from),
@@ -27,7 +27,7 @@ fn span(day: u32, from: u32, to: u32, activity: Activity, crew: bool) -> Span {
     }
 }
 
-/// A line that holds these spans.
+/// Returns a line that holds these spans.
 fn line_of(alloc: Global, spans: &[Span]) -> Result<Line, LineFault> {
     let mut line = Line::empty(alloc);
     let gains = line.gains(alloc, spans)?;
@@ -37,7 +37,7 @@ fn line_of(alloc: Global, spans: &[Span]) -> Result<Line, LineFault> {
     Ok(line)
 }
 
-/// Rest, work and driving on Monday the 4th, and rest over the month's end.
+/// Returns rest, work and driving on Monday the 4th, and rest over the month's end.
 fn a_month(alloc: Global) -> Result<Line, LineFault> {
     let spans = [
         span(4, 0, 480, Activity::Rest, false),
@@ -49,7 +49,7 @@ fn a_month(alloc: Global) -> Result<Line, LineFault> {
     line_of(alloc, &spans)
 }
 
-/// March 2024.
+/// Returns March 2024.
 fn march() -> Result<Month, Fail> {
     match Month::read(b"2024-03") {
         Ok(month) => Ok(month),
@@ -57,7 +57,7 @@ fn march() -> Result<Month, Fail> {
     }
 }
 
-/// A breach.
+/// Returns a breach.
 fn breach(kind: Kind, moment: Minute, since: Minute, amount: u32) -> Breach {
     Breach {
         kind,
@@ -67,7 +67,7 @@ fn breach(kind: Kind, moment: Minute, since: Minute, amount: u32) -> Breach {
     }
 }
 
-/// A debt of the week of Monday the 4th, to be paid by 1 April.
+/// Returns a debt of the week of Monday the 4th, which has to be paid by 1 April.
 fn debt(amount: u32, paid_by: Option<Minute>) -> Debt {
     Debt {
         week: Week::new(2826),
@@ -77,7 +77,7 @@ fn debt(amount: u32, paid_by: Option<Minute>) -> Debt {
     }
 }
 
-/// A report with these breaches.
+/// Returns a report with these breaches.
 fn report_of(alloc: Global, horizon: Horizon, breaches: &[Breach]) -> Result<Report, Fail> {
     Ok(Report {
         horizon,
@@ -86,7 +86,7 @@ fn report_of(alloc: Global, horizon: Horizon, breaches: &[Breach]) -> Result<Rep
     })
 }
 
-/// The text of debts, where the examination ends at a minute.
+/// Returns the text of debts, if the examination ends at a minute.
 fn owed(alloc: Global, debts: &[Debt], minute: Minute) -> Result<String, Fail> {
     let report = Report {
         horizon: Horizon {
@@ -99,7 +99,7 @@ fn owed(alloc: Global, debts: &[Debt], minute: Minute) -> Result<String, Fail> {
     Ok(owed_text(alloc, &report)?)
 }
 
-/// Where the examination of the month ends.
+/// Returns the horizon of the month's examination.
 fn end() -> Horizon {
     Horizon {
         minute: at(4, 1020),
@@ -114,7 +114,7 @@ fn spans_have_lines(rt: HostRuntime) -> Result<(), Fail> {
         span(4, 480, 510, Activity::Work, true),
         span(4, 510, 1020, Activity::Drive, false),
         span(31, 1380, 1440, Activity::Available, true),
-        // They needn't be in order.
+        // The spans needn't be in order.
         span(4, 1020, 1021, Activity::Rest, true),
     ];
     let text = span_lines(rt.alloc(), &spans)?;
@@ -233,7 +233,7 @@ fn spans_of_a_month_are_printed(rt: HostRuntime) -> Result<(), Fail> {
 #[test]
 fn a_month_is_printed(rt: HostRuntime) -> Result<(), Fail> {
     let alloc = rt.alloc();
-    // Those of the month's first and last minute, and those of the minutes beside them.
+    // Breaches at the month's first and last minutes, and at the minutes next to them.
     let breaches = [
         breach(Kind::B2, at(0, 1439), at(0, 0), 1),
         breach(Kind::B6, at(1, 0), at(0, 0), 2),

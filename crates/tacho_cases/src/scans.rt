@@ -14,7 +14,7 @@ const BASE: u32 = 28_491_840;
 /// 2024-01-01 00:00, a Monday's first minute.
 const YEAR: u32 = 28_401_120;
 
-/// What is done in the hours from a base on.
+/// The activities in the hours from a base on.
 #[derive(Clone, Copy)]
 enum Plan {
     /// The work of the month.
@@ -55,7 +55,7 @@ const MONTH: [(u32, u32); 28] = [
     (15, 17),
 ];
 
-/// What a driver who is alone does in an hour behind a base.
+/// Returns a span of a driver who is alone, in one hour after a base.
 fn hour(base: u32, number: u32, activity: Activity) -> Span
     requires base { base ≤ 28491840 }
     requires number { number ≤ 8736 }
@@ -72,7 +72,7 @@ fn hour(base: u32, number: u32, activity: Activity) -> Span
     }
 }
 
-/// What is done in an hour behind the base.
+/// Returns the activity in an hour after the base.
 fn done_in(plan: Plan, number: u32) -> Activity {
     let (from, to) = match plan {
         Plan::Month => MONTH[(number / 24 % 28) as usize],
@@ -107,7 +107,7 @@ fn feed_hours(
     Ok(())
 }
 
-/// A copy of what was found.
+/// Returns a copy of what was found.
 fn copy_of(alloc: Global, found: &Found) -> Result<Found, AllocError> {
     Ok(Found {
         breaches: Vec::from_slice(alloc, &found.breaches)?,
@@ -115,7 +115,7 @@ fn copy_of(alloc: Global, found: &Found) -> Result<Found, AllocError> {
     })
 }
 
-/// The reports of so many hours, by a scan and by a copy of it that is made after three quarters: each goes on with its own
+/// Returns two reports of some hours: by a scan, and by a copy of it that is made after three quarters. Each continues with its own
 /// `Found`.
 fn reports_of(
     alloc: Global,
@@ -142,14 +142,14 @@ fn reports_of(
     Ok((scan.finish(horizon, found)?, copy.finish(horizon, others)?))
 }
 
-/// Whether both reports say the same.
+/// Returns true if both reports are the same.
 fn agree(report: &Report, other: &Report) -> bool {
     report.horizon == other.horizon
         && report.breaches.as_slice() == other.breaches.as_slice()
         && report.debts.as_slice() == other.debts.as_slice()
 }
 
-/// A scan asks for memory only to tell of a breach or a debt (`checks/failing_sheet.py` looks that it asks for none here).
+/// A scan asks for memory only to report a breach or a debt (`checks/failing_sheet.py` checks that it asks for none here).
 #[test]
 fn a_year_of_office_hours_asks_for_no_memory(rt: HostRuntime) -> Result<(), Fail> {
     let (report, other) = reports_of(rt.alloc(), YEAR, 8736, Plan::Office)?;
@@ -164,8 +164,8 @@ fn a_month_hour_by_hour(rt: HostRuntime) -> Result<(), Fail> {
     let (report, other) = reports_of(rt.alloc(), BASE, 672, Plan::Month)?;
     assert!(rt; agree(&report, &other));
     assert_same(&rt, report.breaches.len(), 0);
-    // The first week's main rest is 15 hours short of 45. The rest from the 15th at 18:00 pays. The third week's is 19 hours
-    // short, which the rest from the 26th at 12:00 pays.
+    // The first week's main rest is 15 hours short of 45. The rest from the 15th at 18:00 pays. The third week's main rest is 19 hours
+    // short, and the rest from the 26th at 12:00 pays.
     let wanted = [
         Debt {
             week: Week::new(2826),

@@ -9,13 +9,13 @@ use tacho_sheet::{
 use tacho_state::{Column, Entered, Entry, EntryLine, Imported, StoreFault};
 use tacho_time::{Activity, Day, Minute, TimeFault};
 
-// `checks/failing_sheet.py` runs each test with each of its allocations refused in turn. So a test hands on want of memory by
-// `?`, and asserts everything else.
+// `checks/failing_sheet.py` runs each test with each of its allocations refused in turn. So a test returns an error by `?` if it runs out
+// of memory, and asserts everything else.
 
 /// Monday, 4 March 2024, 00:00.
 const MONDAY: u32 = 28_491_840;
 
-/// A line of rest, which the office enters and says nothing of. An Err is want of memory.
+/// Returns a line of rest that the office enters without a note. An Err means out of memory.
 fn rest(alloc: Global, start: u32, past: u32) -> Result<EntryLine, Fail> {
     let author = String::from_str(alloc, "office")?;
     let note = String::from_str(alloc, "")?;
@@ -26,7 +26,7 @@ fn rest(alloc: Global, start: u32, past: u32) -> Result<EntryLine, Fail> {
     Ok(EntryLine::new(start, past, Activity::Rest, author, note)?)
 }
 
-/// Whether there is a line, and it is one of rest, which the office enters and says nothing of.
+/// Returns true if there is a line, and it is one of rest that the office enters without a note.
 fn is_rest(line: Option<&EntryLine>, start: u32, past: u32) -> bool {
     line.is_some_and(|line| {
         (line.start().number(), line.past().number()) == (start, past)
@@ -35,7 +35,7 @@ fn is_rest(line: Option<&EntryLine>, start: u32, past: u32) -> bool {
     })
 }
 
-/// The fault of a text. An Err is want of memory.
+/// Returns the fault of a text. An Err means out of memory.
 fn fault_of(alloc: Global, text: &str) -> Result<Option<SheetFault>, SheetFault> {
     match read_entries(alloc, text.as_bytes()) {
         Ok(_) => Ok(None),
@@ -44,7 +44,7 @@ fn fault_of(alloc: Global, text: &str) -> Result<Option<SheetFault>, SheetFault>
     }
 }
 
-/// The fault of a driver's text. An Err is want of memory.
+/// Returns the fault of a driver's text. An Err means out of memory.
 fn driver_fault_of(alloc: Global, text: &str) -> Result<Option<SheetFault>, SheetFault> {
     match read_driver(alloc, text.as_bytes()) {
         Ok(_) => Ok(None),
@@ -62,9 +62,9 @@ fn entries_are_read(rt: HostRuntime) -> Result<(), Fail> {
         "\u{feff}start,past,activity\r\n2024-03-04 00:00,2024-03-04 12:00,rest\r\n2024-03-04 12:00,2024-03-04 12:01,rest\r\n",
         "\"start\",\"past\",\"activity\"\n\"2024-03-04 00:00\",\"2024-03-04 12:00\",\"rest\"\n\n2024-03-04 12:00,2024-03-04 12:01,rest",
         "\u{feff}\r\n\"start\",\"past\",\"activity\"\r\n\r\n\"2024-03-04 00:00\",\"2024-03-04 12:00\",\"rest\"\r\n\r\n\"2024-03-04 12:00\",\"2024-03-04 12:01\",\"rest\"\r\n\r\n",
-        // CR alone as the line's end.
+        // CR alone as the end of a line.
         "start,past,activity\r2024-03-04 00:00,2024-03-04 12:00,rest\r\r2024-03-04 12:00,2024-03-04 12:01,rest\r",
-        // A quote that is never closed ends with the text.
+        // A quote that is never closed ends at the end of the text.
         "start,past,activity\n2024-03-04 00:00,2024-03-04 12:00,rest\n2024-03-04 12:00,2024-03-04 12:01,\"rest",
     ];
     for text in texts {
@@ -126,7 +126,7 @@ fn authors_and_notes_are_read(rt: HostRuntime) -> Result<(), Fail> {
     Ok(())
 }
 
-/// A text of so many letters. An Err is want of memory.
+/// Returns a text of `count` letters. An Err means out of memory.
 fn letters(alloc: Global, count: usize) -> Result<String, Fail> {
     let mut text = String::new(alloc);
     for _ in 0..count {
@@ -192,7 +192,7 @@ const WRONG_HEADS: &[&str] = &[
     "past,start,activity\n",
     // The second byte order mark is part of the first field.
     "\u{feff}\u{feff}start,past,activity\n",
-    // A quote that is never closed takes all the rest into its field.
+    // A quote that is never closed takes the rest of the text into its field.
     "start,past,\"activity\n2024-03-04 00:00,2024-03-04 12:00,rest\n",
 ];
 
@@ -203,14 +203,14 @@ const FAULTY_ROWS: &[(&str, SheetFault)] = &[
         SheetFault::Fields(2),
     ),
     ("2024-03-04 00:00,2024-03-04 12:00\n", SheetFault::Fields(2)),
-    // A line with a blank isn't blank.
+    // A line with a space isn't blank.
     (" \n", SheetFault::Fields(2)),
     ("2024-03-04,2024-03-04 12:00,rest\n", SheetFault::Time(2)),
     (
         "2024-03-04 00:00,2024-02-30 12:00,crew\n",
         SheetFault::Time(2),
     ),
-    // A comma and a line's end within quotes are the field's.
+    // A comma or a line end within quotes belongs to the field.
     (
         "\"2024-03-04 00:00,x\",2024-03-04 12:00,rest\n",
         SheetFault::Time(2),
@@ -228,7 +228,7 @@ const FAULTY_ROWS: &[(&str, SheetFault)] = &[
         "2024-03-04 00:00,2024-03-04 12:00,\"re\"\"st\"\n",
         SheetFault::Activity(2),
     ),
-    // A quote that is never closed takes the line's end into its field.
+    // A quote that is never closed takes the line end into its field.
     (
         "2024-03-04 00:00,2024-03-04 12:00,\"rest\n",
         SheetFault::Activity(2),
@@ -237,12 +237,12 @@ const FAULTY_ROWS: &[(&str, SheetFault)] = &[
         "2024-03-04 00:00,2024-03-04 00:00,rest\n",
         SheetFault::Order(2),
     ),
-    // A time that can't be read comes before the order, also where the start is before the past of the row before.
+    // A time that can't be read is reported before the order, even if the start is before the past of the previous row.
     (
         "2024-03-04 00:00,2024-03-04 12:00,rest\n2024-03-04 11:59,noon,rest\n",
         SheetFault::Time(3),
     ),
-    // A start one minute before the past of the row before; a word that is left out comes behind that.
+    // A start one minute before the past of the previous row is reported before an unknown activity.
     (
         "2024-03-04 00:00,2024-03-04 12:00,rest\n2024-03-04 11:59,2024-03-04 12:01,crew\n",
         SheetFault::Order(3),
@@ -407,7 +407,7 @@ fn a_driver_is_read(rt: HostRuntime) -> Result<(), Fail> {
     Ok(())
 }
 
-/// A driver's text of more than 256 bytes: each column is in quotes, key and name are as long as they may be, and there are blank lines.
+/// A driver's text of more than 256 bytes: each column is in quotes, key and name have the greatest length, and there are blank lines.
 const LONG_DRIVER: &str =
     "\u{feff}\r\n\"driver\",\"holder\",\"key\",\"base\",\"name\"\r\n\r\n\"999999\",\"010203040506070809000102030405\",\"anna-key-1-anna-key-1-anna-key-1-anna-key-1-anna-key-1-anna-key-\",\"2024-03-04\",\"Anna Berg Anna Berg Anna Berg Anna Berg Anna Berg Anna Berg Anna\"\r\n\r\n\r\n\r\n\r\n\r\n\r\n\r\n\r\n\r\n\r\n\r\n\r\n\r\n\r\n\r\n\r\n\r\n\r\n\r\n\r\n\r\n\r\n\r\n";
 
@@ -429,8 +429,7 @@ fn a_long_text_of_a_driver_is_read(rt: HostRuntime) -> Result<(), Fail> {
     Ok(())
 }
 
-/// Rows of drivers with a bad column, or with several, and the leftmost of these: a number, the holder's digits, a key, a base and a
-/// name.
+/// Rows of drivers with one or several bad columns, and the leftmost of these: a number, the holder's digits, a key, a base and a name.
 const BAD_COLUMNS: &[(&str, Column)] = &[
     (
         "017,010203040506070809000102030405,anna,Monday,",
@@ -460,7 +459,7 @@ const BAD_COLUMNS: &[(&str, Column)] = &[
         "17,010203040506070809000102030405,anna-key-1,2024-03-04,",
         Column::Name,
     ),
-    // Of each two of them the left one.
+    // If two columns are bad, the left one is reported.
     ("017,,anna-key-1,2024-03-04,Anna", Column::Driver),
     (
         "017,0d4431303030303030303037303031,anna,2024-03-04,Anna",
@@ -489,7 +488,7 @@ const BAD_COLUMNS: &[(&str, Column)] = &[
         "17,0d4431303030303030303037303031,anna-key-1,Monday,",
         Column::Base,
     ),
-    // A holder in capitals, and one of fourteen bytes.
+    // A holder in capital letters, and one of fourteen bytes.
     (
         "17,0D4431303030303030303037303031,anna,2024-03-04,Anna",
         Column::Holder,
@@ -634,12 +633,12 @@ fn entries_are_printed(rt: HostRuntime) -> Result<(), Fail> {
     Ok(())
 }
 
-/// Whether this is the line of a fault.
+/// Returns true if the fault has this line.
 fn has_line(fault: Fault, line: &str) -> bool {
     fault_line(fault).as_str() == line
 }
 
-/// The faults of cards, and their lines.
+/// Returns the faults of cards and their lines.
 fn card_lines() -> [(CardFault, &'static str); 16] {
     [
         (CardFault::Truncated(261), "C1 truncated block at 261\n"),

@@ -9,22 +9,22 @@ use tacho_stretches::{Stretch, StretchPass, range_of, stretches};
 use tacho_time::Activity::{Drive, Rest, Work};
 use tacho_time::{Activity, Mark, Minute, Span, Week};
 
-// `checks/failing_sheet.py` runs each test with each of its allocations refused in turn. So a test returns an error where it is out of
-// memory, by `?`, and asserts everything else.
+// `checks/failing_sheet.py` runs each test with each of its allocations refused in turn. So a test returns an error by `?` if it runs out
+// of memory, and asserts everything else.
 
 /// 2024-03-04 00:00, a Monday's first minute.
 const MONDAY: u32 = 28_491_840;
 
-/// 2100-01-01 00:00: no span goes past it.
+/// 2100-01-01 00:00: no span may end after it.
 const LATEST: u32 = 68_374_080;
 
-/// What is done, and whether there is a second driver. Minutes are counted from that Monday on, here and in what follows.
+/// An activity from one minute to another, and whether there is a second driver. Here and below, minutes are counted from that Monday.
 type Piece = (u16, u16, Activity, bool);
 
-/// A stretch: its Monday, its horizon and why it is there, where what isn't examined after it ends, and how many breaches it has.
+/// A stretch: its Monday, its horizon and the horizon's cause, the end of what isn't examined after it, and the number of its breaches.
 type Judged = (u16, u16, Cause, Option<u16>, usize);
 
-/// A line's name, its pieces, a base, the stretches from there, and where what is held ends.
+/// A line's name, its pieces, a base, the stretches from there on, and the end of what is held.
 type Row = (&'static str, &'static [Piece], u16, &'static [Judged], u16);
 
 /// Lines and their stretches.
@@ -44,7 +44,7 @@ static ROWS: [Row; 14] = [
         &[(10_080, 10_080, Cause::Unknown, None, 0)],
         10_080,
     ),
-    // Of 300 minutes of driving 271 come after the base.
+    // 271 of the 300 minutes of driving come after the base.
     (
         "a span over the base",
         &[(10_051, 10_351, Drive, false)],
@@ -166,7 +166,7 @@ static ROWS: [Row; 14] = [
         ],
         10_081,
     ),
-    // The rest from the sixth day on has two Mondays in it.
+    // The rest from the sixth day on contains two Mondays.
     (
         "three stretches",
         &[
@@ -186,12 +186,12 @@ static ROWS: [Row; 14] = [
     ),
 ];
 
-/// A minute from the Monday on.
+/// Returns a minute, counted from the Monday.
 fn at(minute: u16) -> Minute {
     Minute::new(MONDAY + u32::from(minute))
 }
 
-/// A span of a driver.
+/// Returns a span of a driver.
 fn span(start: Minute, past: Minute, activity: Activity, crew: bool) -> Span {
     Span {
         start,
@@ -200,7 +200,7 @@ fn span(start: Minute, past: Minute, activity: Activity, crew: bool) -> Span {
     }
 }
 
-/// The spans of pieces.
+/// Returns the spans of pieces.
 fn spans_of(alloc: Global, pieces: &[Piece]) -> Result<Vec<Span>, AllocError> {
     let mut spans = Vec::new(alloc);
     for &(start, past, activity, crew) in pieces {
@@ -209,7 +209,7 @@ fn spans_of(alloc: Global, pieces: &[Piece]) -> Result<Vec<Span>, AllocError> {
     Ok(spans)
 }
 
-/// A line that holds these spans.
+/// Returns a line that holds these spans.
 fn line_of(alloc: Global, spans: &[Span]) -> Result<Line, LineFault> {
     let mut line = Line::empty(alloc);
     let gains = line.gains(alloc, spans)?;
@@ -219,7 +219,7 @@ fn line_of(alloc: Global, spans: &[Span]) -> Result<Line, LineFault> {
     Ok(line)
 }
 
-/// The stretches of a line from a base on.
+/// Returns the stretches of a line from a base on.
 fn stretches_of(alloc: Global, line: &Line, base: Minute) -> Result<Vec<Stretch>, Fail> {
     if !can_be_examined(line, base) {
         return Err(Fail::new("a line that can't be examined"));
@@ -227,7 +227,7 @@ fn stretches_of(alloc: Global, line: &Line, base: Minute) -> Result<Vec<Stretch>
     Ok(stretches(alloc, line, base)?)
 }
 
-/// The stretches that a pass from a base on has of a line, of which it is given these spans one by one.
+/// Returns the stretches that a pass finds from a base on, if it is fed these spans of a line one at a time.
 fn passed(alloc: Global, line: &Line, base: Minute, spans: &[Span]) -> Result<Vec<Stretch>, Fail> {
     if !can_be_examined(line, base) {
         return Err(Fail::new("a line that can't be examined"));
@@ -242,7 +242,7 @@ fn passed(alloc: Global, line: &Line, base: Minute, spans: &[Span]) -> Result<Ve
     Ok(pass.finish()?)
 }
 
-/// Adds a span, cut into pieces of a number of minutes.
+/// Adds a span, cut into pieces of `every` minutes.
 fn push_cut(pieces: &mut Vec<Span>, whole: Span, every: u32) -> Result<(), AllocError> {
     let mut start = whole.start;
     for _ in 0..whole.past.number().saturating_sub(start.number()) {
@@ -256,7 +256,7 @@ fn push_cut(pieces: &mut Vec<Span>, whole: Span, every: u32) -> Result<(), Alloc
     Ok(())
 }
 
-/// The same spans, cut into pieces of a number of minutes.
+/// Returns the same spans, cut into pieces of `every` minutes.
 fn cut(alloc: Global, spans: &[Span], every: u32) -> Result<Vec<Span>, AllocError> {
     let mut pieces = Vec::new(alloc);
     for whole in spans {
@@ -265,7 +265,7 @@ fn cut(alloc: Global, spans: &[Span], every: u32) -> Result<Vec<Span>, AllocErro
     Ok(pieces)
 }
 
-/// A stretch is one of a list.
+/// Returns true if a stretch is this one of a list.
 fn is_judged(stretch: &Stretch, wanted: Judged) -> bool {
     let (monday, until, cause, unseen, breaches) = wanted;
     let horizon = Horizon {
@@ -278,7 +278,7 @@ fn is_judged(stretch: &Stretch, wanted: Judged) -> bool {
         && stretch.unseen == unseen.map(at)
 }
 
-/// Stretches are those of a list.
+/// Ends the test unless the stretches are those of a list.
 fn assert_judged(rt: &impl Abort, name: &str, found: &[Stretch], judged: &[Judged]) {
     assert!(rt; found.len() == judged.len(), "of {name}");
     for (stretch, wanted) in found.iter().zip(judged) {
@@ -286,7 +286,7 @@ fn assert_judged(rt: &impl Abort, name: &str, found: &[Stretch], judged: &[Judge
     }
 }
 
-/// Two stretches are alike, with their breaches and debts.
+/// Returns true if two stretches are the same, with their breaches and debts.
 fn is_alike(stretch: &Stretch, other: &Stretch) -> bool {
     stretch.monday == other.monday
         && stretch.unseen == other.unseen
@@ -295,7 +295,7 @@ fn is_alike(stretch: &Stretch, other: &Stretch) -> bool {
         && stretch.report.debts.as_slice() == other.report.debts.as_slice()
 }
 
-/// Two lists of stretches are alike.
+/// Ends the test unless two lists of stretches are the same.
 fn assert_alike(rt: &impl Abort, name: &str, found: &[Stretch], others: &[Stretch]) {
     assert!(rt; found.len() == others.len(), "of {name}");
     for (stretch, other) in found.iter().zip(others) {
@@ -303,7 +303,7 @@ fn assert_alike(rt: &impl Abort, name: &str, found: &[Stretch], others: &[Stretc
     }
 }
 
-/// A pass has the stretches of a line, however its spans are cut.
+/// Ends the test unless a pass finds the stretches of a line, however its spans are cut.
 fn assert_passed(
     rt: &impl Abort,
     alloc: Global,
@@ -314,7 +314,7 @@ fn assert_passed(
     let wanted = stretches_of(alloc, line, base)?;
     let found = passed(alloc, line, base, line.spans())?;
     assert_alike(rt, name, &found, &wanted);
-    // Pieces that end at each midnight and Monday, and pieces that don't.
+    // Pieces that end at each midnight and each Monday, and pieces that don't.
     for every in [1440, 997] {
         let found = passed(alloc, line, base, &cut(alloc, line.spans(), every)?)?;
         assert_alike(rt, name, &found, &wanted);
@@ -322,7 +322,8 @@ fn assert_passed(
     Ok(())
 }
 
-/// A row's line has its stretches, a pass has them too, and they speak of the minutes from the base to the end.
+/// Ends the test unless a row's line has the row's stretches, a pass finds them too, and together they cover the minutes from the base to
+/// the end.
 fn assert_row(rt: &impl Abort, alloc: Global, row: Row) -> Result<(), Fail> {
     let (name, pieces, base, judged, end) = row;
     let line = line_of(alloc, &spans_of(alloc, pieces)?)?;
@@ -340,7 +341,7 @@ fn lines_have_their_stretches(rt: HostRuntime) -> Result<(), Fail> {
     Ok(())
 }
 
-/// The work of four weeks of which the first has a rest of 24 hours and no longer one, and no later one pays.
+/// The work of four weeks. The first one has a rest of 24 hours and no longer one, and no later rest pays.
 const UNPAID: &[(u16, u16)] = &[
     (360, 420),
     (1800, 1860),
@@ -370,7 +371,7 @@ const UNPAID: &[(u16, u16)] = &[
     (40_260, 40_320),
 ];
 
-/// The spans of work, with rest before each, from the Monday on.
+/// Returns the spans of work, with rest before each, from the Monday on.
 fn worked(alloc: Global, work: &[(u16, u16)]) -> Result<Vec<Span>, AllocError> {
     let mut spans = Vec::new(alloc);
     let mut rested = 0;
@@ -440,29 +441,29 @@ fn no_stretches_speak_of_no_minutes(rt: HostRuntime) {
     assert_same(&rt, range_of(&[]), (Minute::new(0), Minute::new(0)));
 }
 
-/// Minutes of a span, and whether a pass can take it after one from minute 1,000 to before minute 2,000.
+/// The minutes of a span, and whether a pass can take it after a span from minute 1,000 to before minute 2,000.
 const NEXT: &[(u32, u32, bool)] = &[
     (2000, 2001, true),
     (2000, LATEST, true),
     (68_374_079, LATEST, true),
-    // Without a minute.
+    // No minute.
     (2000, 2000, false),
     (2001, 2000, false),
-    // From before the last one's end.
+    // Starts before the end of the last span.
     (1999, 2001, false),
     (1000, 2000, false),
     (0, 500, false),
-    // Past 2099.
+    // Ends after 2099.
     (2000, 68_374_081, false),
     (LATEST, 68_374_081, false),
 ];
 
-/// A minute, up to the last that there is.
+/// Returns a minute, or the last possible minute if the number is too large.
 fn minute(number: u32) -> Minute {
     Minute::new(number.min(68_428_800))
 }
 
-/// A pass from the Monday on that has taken a span.
+/// Returns a pass from the Monday on that was fed one span.
 fn pass_after(alloc: Global, first: Span) -> Result<StretchPass, Fail> {
     let base = at(0);
     if !can_be_examined(&Line::empty(alloc), base) {

@@ -7,17 +7,17 @@ use tacho_time::{
     weekday,
 };
 
-/// The number of the day that a text is read as.
+/// Returns the number of the day that a text is read as.
 fn day(text: &str) -> Result<u32, TimeFault> {
     Ok(Day::read(text.as_bytes())?.number())
 }
 
-/// The number of the minute that a text is read as.
+/// Returns the number of the minute that a text is read as.
 fn minute(text: &str) -> Result<u32, TimeFault> {
     Ok(Minute::read(text.as_bytes())?.number())
 }
 
-/// The year and the month that a text is read as.
+/// Returns the year and the month that a text is read as.
 fn month(text: &str) -> Result<(u32, u32), TimeFault> {
     let month = Month::read(text.as_bytes())?;
     Ok((month.year(), month.month()))
@@ -55,7 +55,7 @@ fn minutes_are_read(rt: HostRuntime) -> Result<(), Fail> {
         ("2024-03-04 24:00", Err(TimeFault::NoSuchDate)),
         ("2024-03-04 23:60", Err(TimeFault::NoSuchDate)),
         ("2024-02-30 00:00", Err(TimeFault::NoSuchDate)),
-        // No such time comes before out of range.
+        // "No such date" is reported before "out of range".
         ("1999-12-31 24:00", Err(TimeFault::NoSuchDate)),
         ("1999-12-31 23:59", Err(TimeFault::OutOfRange)),
         ("2024-03-04T00:00", Err(TimeFault::Shape)),

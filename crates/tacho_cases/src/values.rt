@@ -5,14 +5,14 @@ use std::test::Fail;
 use tacho_card::{Cyclic, spans_of};
 use tacho_time::{Activity, Mark, Minute, Span};
 
-/// Two records: that of a Monday from 00:00 on with four words, and that of the next day with two.
+/// Two records: one of a Monday from 00:00 on with four words, and one of the next day with two.
 const TWO_DAYS: [u8; 40] = [
     0x00, 0x00, 0x00, 0x14, 0x00, 0x00, 0x00, 0x14, 0x65, 0xe5, 0x0f, 0x00, 0x00, 0x01, 0x00, 0x64,
     0x00, 0x00, 0x11, 0xe0, 0x19, 0xfe, 0x23, 0xfc, 0x00, 0x14, 0x00, 0x10, 0x65, 0xe6, 0x60, 0x80,
     0x00, 0x02, 0x00, 0x00, 0x00, 0x00, 0x11, 0xe0,
 ];
 
-/// A span of a driver who is alone.
+/// Returns a span of a driver who is alone.
 fn single(start: u32, past: u32, activity: Activity) -> Span
     requires start { start ≤ 68428800 }
     requires past { past ≤ 68428800 }

@@ -1,5 +1,5 @@
--- Sets of rests, told by whether they have one, two or a regular one (specs/Counted): which case a set is, one rest
--- more, and what two sets have together.
+-- Sets of rests, described by whether they have one, two or a regular one (specs/Counted): the case of a set, a set with one more rest, and
+-- two sets together.
 use Rattle.std.proofs.Common.{◌≡◌, ◌≢◌, ◌⊎◌, inl, inr, refl, sym, ap, subst, ◌∙◌, Bool, true, false, Option, Some, None}
 use Rattle.std.specs.Prelude.{◌↔◌, ◌&&◌, ◌||◌}
 use Rattle.std.proofs.lemmas.Bool.{or_cases, or_left, or_right, and_parts, and_from}
@@ -13,7 +13,7 @@ same_tests true b f g = sym (f refl)
 same_tests false true f g = g refl
 same_tests false false f g = refl
 
--- two different rests, the first of them long
+-- there are two different rests, and the first of them is regular
 abbrev pub HasTwoOf : {R : Type 0} → (R → Bool) → (R → Type 0) → Type 0
 HasTwoOf {R} is_regular P = (r : R) × ((s : R) × (P r × P s × (r ≢ s) × (is_regular r ≡ true)))
 
@@ -92,7 +92,7 @@ module _ (R : Type 0) (is_regular : R → Bool) where
     );
   }
 
-  -- a rest of the kind is added where it is taken
+  -- a rest of this kind is added if it is taken
   pub case_where : (P E T : R → Type 0) (taken : Bool) (edge : Option Bool) (a : Counted) → IsOneOf is_regular E edge
       → ((r s : R) → E r → E s → r ≡ s) → ((r : R) → E r → P r → ⊥) → ((r : R) → E r → (taken ≡ true) ↔ T r)
       → AreCounted is_regular P a → AreCounted is_regular (λ r. P r ⊎ (E r × T r)) (plus_where taken edge a)
@@ -122,7 +122,7 @@ module _ (R : Type 0) (is_regular : R → Bool) where
 
   module _ (P Q : R → Type 0) (a b : Counted) (apart : (r : R) → P r → Q r → ⊥) (same_or_not : (r s : R)
       → (r ≡ s) ⊎ (r ≢ s)) (is : AreCounted is_regular P a) (are : AreCounted is_regular Q b) where
-    -- two different rests of two sets, if the Bool says so
+    -- there are two different rests in the two sets, if the test says so
     two_of : ((has_two a || has_two b) || (has_one a && has_one b)) ≡ true
         → (r : R) × ((s : R) × ((P r ⊎ Q r) × (P s ⊎ Q s) × (r ≢ s)))
     two_of e = elim (or_cases (has_two a || has_two b) (has_one a && has_one b) e) [

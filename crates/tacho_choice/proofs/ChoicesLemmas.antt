@@ -1,5 +1,5 @@
--- One week's step is exact for any things that have a first week and a last, where one at most crosses the end of each
--- week: a choice is read one week earlier, or is made anew for the thing that crosses the end.
+-- One week's step is exact for any things that have a first and a last week, if at most one of them crosses the end of each week. The proof
+-- reads a choice one week earlier, or changes it for the thing that crosses the end.
 use Rattle.std.proofs.Common.{◌≡◌, ◌≢◌, ℕ, ◌+◌, ◌-◌, ◌<◌, ◌≤◌, ◌⊎◌, inl, inr, refl, sym, ap, subst, ◌∙◌, arith}
 use Rattle.std.proofs.Common.{Bool, true, false, cond, leb, ltb, Option, Some, None}
 use Rattle.std.specs.Prelude.{◌↔◌, ◌&&◌, ◌||◌, not, is_some}
@@ -12,7 +12,7 @@ use Rattle.tacho_choice.specs.Step.{plus_where, counted_of, may, serves, IsNext,
 use Rattle.tacho_choice.specs.Counted.{AreCounted, IsOneOf}
 use Rattle.tacho_choice.proofs.CasesLemmas.{HasTwoOf, case_same, case_agree, case_where, serves_is, same_tests}
 
--- a week by its parts
+-- a week, given its parts
 abbrev week_by : Option Bool → Counted → Option Bool → Bool → WeeklyRests
 week_by entering inside starting through =
     record { entering = entering; inside = inside; starting = starting; through = through }
@@ -21,11 +21,11 @@ module _ (R : Type 0) (IsRest : R → Type 0) (first last : R → ℕ) (is_regul
   abbrev pub IsChoice : (R → ℕ) → Type 0
   IsChoice week_of = (r : R) → IsRest r → (first r ≤ week_of r) × (week_of r ≤ last r)
 
-  -- it comes from the week before
+  -- it starts in an earlier week and reaches this one
   abbrev pub Enters : ℕ → R → Type 0
   Enters w r = IsRest r × (first r < w) × (w ≤ last r)
 
-  -- it starts in the week and goes on into the next
+  -- it starts in this week and continues into the next
   abbrev pub Starts : ℕ → R → Type 0
   Starts w r = IsRest r × (first r ≡ w) × (w < last r)
 
@@ -35,7 +35,7 @@ module _ (R : Type 0) (IsRest : R → Type 0) (first last : R → ℕ) (is_regul
   abbrev pub Leaves : ℕ → R → Type 0
   Leaves w r = IsRest r × (first r ≤ w) × (w < last r)
 
-  -- what a week is
+  -- the week has these rests
   pub record IsWeek (w : ℕ) (week : WeeklyRests) : Type 0 where
     pub entering : IsOneOf is_regular (Enters w) week.entering
     pub inside : AreCounted is_regular (Inside w) week.inside
@@ -45,31 +45,31 @@ module _ (R : Type 0) (IsRest : R → Type 0) (first last : R → ℕ) (is_regul
   abbrev pub CountedIn : (R → ℕ) → ℕ → R → Type 0
   CountedIn week_of w r = IsRest r × (week_of r ≡ w)
 
-  -- the rest that crosses the week's start is counted before it
+  -- true if the rest that crosses the week's start is counted before this week
   abbrev pub CameCounted : (R → ℕ) → ℕ → Bool → Type 0
   CameCounted week_of w b = (b ≡ true) ↔ ((r : R) × (Enters w r × (week_of r < w)))
 
-  -- the rest that crosses the week's end is counted by then
+  -- true if the rest that crosses the week's end is counted in this week or an earlier one
   abbrev pub GoesCounted : (R → ℕ) → ℕ → Bool → Type 0
   GoesCounted week_of w b = (b ≡ true) ↔ ((r : R) × (Leaves w r × (week_of r ≤ w)))
 
-  -- the outcome of a closed week under a choice
+  -- the outcome of a week under a choice
   pub record IsOutcome (week_of : R → ℕ) (w : ℕ) (outcome : Outcome) : Type 0 where
     pub counted : AreCounted is_regular (CountedIn week_of w) outcome.counted
     pub crossing : GoesCounted week_of w outcome.crossing
 
-  -- a pair with a week wholly at rest asks for nothing
+  -- the choice is valid for a week and the next; if one of them is entirely at rest, nothing is required
   abbrev pub Serves : (R → ℕ) → ℕ → Type 0
   Serves week_of w = Whole w ⊎ (Whole (w + 1) ⊎ HasTwoOf is_regular (λ r. CountedIn week_of w r ⊎ CountedIn week_of
       (w + 1) r))
 
-  -- some choice serves each pair from one week to another
+  -- one choice is valid for each two neighbouring weeks from one week to another
   pub record CanServe (a u : ℕ) : Type 0 where
     pub week_of : R → ℕ
     pub choice : IsChoice week_of
     pub each : (w : ℕ) → a ≤ w → w + 1 ≤ u → Serves week_of w
 
-  -- and leaves the last week in this outcome
+  -- likewise, and the choice leaves this outcome of the last week
   pub record CanReach (a u : ℕ) (left : Outcome) : Type 0 where
     pub week_of : R → ℕ
     pub choice : IsChoice week_of
@@ -90,7 +90,7 @@ module _ (R : Type 0) (IsRest : R → Type 0) (first last : R → ℕ) (is_regul
         let sf : first s ≡ w = f.1 in
         alone w r s (e.0, omega arith, e.2) (f.0, omega arith, f.2)
 
-    -- whether the one rest of a kind is regular
+    -- there is only one rest of this kind, so it is regular or not
     edge_only : (E : R → Type 0) (a b : Option Bool) → ((r s : R) → E r → E s → r ≡ s) → IsOneOf is_regular E a
         → IsOneOf is_regular E b → a ≡ b
     edge_only E None None same is are = refl
@@ -99,7 +99,7 @@ module _ (R : Type 0) (IsRest : R → Type 0) (first last : R → ℕ) (is_regul
     edge_only E (Some k) (Some l) same is are =
         ap Some (sym is.1.1 ∙ (ap is_regular (same is.0 are.0 is.1.0 are.1.0) ∙ are.1.1))
 
-    -- what a week is, once
+    -- a week has only one description
     pub week_only : (w : ℕ) (a b : WeeklyRests) → IsWeek w a → IsWeek w b → a ≡ b
     week_only w a b is are =
         let e : a.entering ≡ b.entering =
@@ -114,7 +114,7 @@ module _ (R : Type 0) (IsRest : R → Type 0) (first last : R → ℕ) (is_regul
         ∙ (ap (λ (x : Option Bool). week_by b.entering b.inside x a.through) g
         ∙ ap (λ (x : Bool). week_by b.entering b.inside b.starting x) h))
 
-    -- a test of the one rest of a kind
+    -- decides something for the one rest of this kind
     edge_test : (E T : R → Type 0) (edge : Option Bool) → IsOneOf is_regular E edge → ((r s : R) → E r → E s → r ≡ s)
         → ((r : R) → T r ⊎ (T r → ⊥)) → (b : Bool) × (((b ≡ true) ↔ ((r : R) × (E r × T r))) × (b ≡ true
         → is_some edge ≡ true))
@@ -156,7 +156,7 @@ module _ (R : Type 0) (IsRest : R → Type 0) (first last : R → ℕ) (is_regul
     below_or_not : (m n : ℕ) → (m < n) ⊎ ((m < n) → ⊥)
     below_or_not m n = elim (cases_lt m n) [ inl h ↦ inl h | inr h ↦ inr (λ k. absurd (omega arith)) ]
 
-    -- what the tests say of the rest that comes in
+    -- what the tests mean for the rest that crosses the week's start
     entering_test : (b t e : Bool) (f w l : ℕ) → ((b ≡ true) ↔ (f < w)) → ((t ≡ true) ↔ (w < l))
         → (w < l → (e ≡ true) ↔ (f ≤ w)) → f ≤ l → ((not b && (not t || e)) ≡ true) ↔ (f ≡ w)
     entering_test true t e f w l came through goes fits = (
@@ -250,7 +250,7 @@ module _ (R : Type 0) (IsRest : R → Type 0) (first last : R → ℕ) (is_regul
           λ x. is.through.1 (r, (h, x)),
         )
 
-        -- a week's outcome is what its data give
+        -- the outcome of a week is computed from its description
         pub counted_is : AreCounted is_regular (CountedIn week_of w) (counted_of week b e)
         counted_is =
             let T : R → Type 0 = λ r. week_of r ≡ w in
@@ -320,11 +320,11 @@ module _ (R : Type 0) (IsRest : R → Type 0) (first last : R → ℕ) (is_regul
               | inr no' ↦ or_left (not (week.through && b)) e (rw no' refl)
             ])
 
-      -- the same choice, made anew for the rest that crosses the week's end and isn't counted before the week
+      -- the same choice, changed for a rest that crosses the week's end and isn't counted before this week
       abbrev now_at : Bool → R → ℕ
       now_at e r = cond (leb (first r) w && (ltb w (last r) && leb w (week_of r))) (cond e w (w + 1)) (week_of r)
 
-      -- either the rest is counted anew, or it stays
+      -- the rest's week is changed, or it stays
       now_cases : (e : Bool) (r : R)
           → ((first r ≤ w) × (w < last r) × (w ≤ week_of r) × (now_at e r ≡ cond e w (w + 1)))
           ⊎ ((first r ≤ w → w < last r → w ≤ week_of r → ⊥) × (now_at e r ≡ week_of r))
@@ -360,7 +360,7 @@ module _ (R : Type 0) (IsRest : R → Type 0) (first last : R → ℕ) (is_regul
             week_of r ≤ last r = (choice r rest).1 in (omega arith, omega arith)
       ]
 
-      -- earlier weeks get what they got
+      -- earlier weeks have the same rests as before
       now_before : (e : Bool) (v : ℕ) → v < w → (r : R) → (now_at e r ≡ v) ↔ (week_of r ≡ v)
       now_before e v below r = elim (now_cases e r) [
         | inl h ↦ let b : w ≤ week_of r = h.2 in let c : now_at e r ≡ cond e w (w + 1) = h.3 in let d0 : w ≤ cond e w
@@ -429,7 +429,7 @@ module _ (R : Type 0) (IsRest : R → Type 0) (first last : R → ℕ) (is_regul
             ]),
       )
 
-    -- the rest that crosses the start of the first week may be counted before it, or not
+    -- the rest that crosses the start of the first week can be counted before it, or not
     first_came : (w : ℕ) (week : WeeklyRests) → IsWeek w week → (b : Bool) → (b ≡ true → is_some week.entering ≡ true)
         → (week_of : R → ℕ) × (IsChoice week_of × CameCounted week_of w b)
     first_came w week is true comes =
@@ -446,7 +446,7 @@ module _ (R : Type 0) (IsRest : R → Type 0) (first last : R → ℕ) (is_regul
       ),
     )
 
-    -- what crosses a week's end comes into the next
+    -- the rest that crosses a week's end crosses the next week's start
     goes_comes : (week_of : R → ℕ) (w : ℕ) (b : Bool) → GoesCounted week_of w b → CameCounted week_of (w + 1) b
     goes_comes week_of w b goes = (
       λ e. let x = goes.0 e in let f : first x.0 ≤ w = x.1.0.1 in let l : w < last x.0 = x.1.0.2 in let g : week_of
@@ -458,7 +458,7 @@ module _ (R : Type 0) (IsRest : R → Type 0) (first last : R → ℕ) (is_regul
     same_tests_of : (P : Type 0) (a b : Bool) → (a ≡ true) ↔ P → (b ≡ true) ↔ P → a ≡ b
     same_tests_of P a b f g = same_tests a b (λ e. g.1 (f.0 e)) (λ e. f.1 (g.0 e))
 
-    -- a pair that is served stays so under a choice that gives its two weeks the same
+    -- a choice that counts the same rests in two weeks is valid for them too
     serves_agree : (f g : R → ℕ) (v : ℕ) → ((r : R) → (f r ≡ v) ↔ (g r ≡ v))
         → ((r : R) → (f r ≡ v + 1) ↔ (g r ≡ v + 1)) → Serves f v → Serves g v
     serves_agree f g v here next (inl whole) = inl whole
@@ -471,7 +471,7 @@ module _ (R : Type 0) (IsRest : R → Type 0) (first last : R → ℕ) (is_regul
     apart : (f : R → ℕ) (v : ℕ) (r : R) → CountedIn f v r → CountedIn f (v + 1) r → ⊥
     apart f v r a b = let x : f r ≡ v = a.1 in let y : f r ≡ v + 1 = b.1 in absurd (omega arith)
 
-    -- whether a pair asks for something
+    -- true if something is required of a week and the next
     abbrev pub Asks : ℕ → Bool → Type 0
     Asks v asks = (asks ≡ true → (Whole v → ⊥) × (Whole (v + 1) → ⊥)) × (asks ≡ false → Whole v ⊎ Whole (v + 1))
 
@@ -555,7 +555,7 @@ module _ (R : Type 0) (IsRest : R → Type 0) (first last : R → ℕ) (is_regul
               ),
             )
 
-      -- the first week: nothing is asked
+      -- the first week: nothing is required before it
       module _ (a : ℕ) (week : WeeklyRests) (is : IsWeek a week) (t : Outcome) where
         pub first_reaches : IsFirst week t → CanReach a a t
         first_reaches h =
@@ -588,7 +588,7 @@ module _ (R : Type 0) (IsRest : R → Type 0) (first last : R → ℕ) (is_regul
                   r.outcome.counted (counted_is f r.choice a week is before.0 t.crossing before.1.0 r.outcome.crossing);
             }
 
-      -- some choice serves exactly where it leaves some outcome
+      -- some choice is valid iff it leaves some outcome
       pub serve_reaches : (a u : ℕ) (week : WeeklyRests) → IsWeek u week → CanServe a u → (s : Outcome) × CanReach a u s
       serve_reaches a u week is h =
           let before = came h.week_of h.choice u week is in

@@ -1,5 +1,5 @@
--- Weekly rests of a line, by the weeks that they touch: what the definitions say of them is what ChoicesLemmas says of
--- any things that have a first week and a last (specs/Weeks).
+-- The weekly rests of a line, by the weeks in which they have minutes. The definitions (specs/Weeks) say of them what ChoicesLemmas says of
+-- any things with a first and a last week.
 use Rattle.std.proofs.Common.{◌≡◌, ◌≢◌, ℕ, ◌+◌, ◌-◌, ◌/◌, ◌<◌, ◌≤◌, ◌⊎◌, inl, inr, ap, ◌∙◌, arith}
 use Rattle.std.specs.Prelude.{◌↔◌}
 use Rattle.std.proofs.lemmas.Bool.{cases_lt, cases_eq, le-leb, leb-true}
@@ -15,7 +15,7 @@ use Rattle.tacho_choice.specs.declared.outcome.Outcome.{Outcome}
 use Rattle.tacho_choice.specs.Weeks.{first_of, last_of, is_regular, IsInWeeks, IsWeekOf, CanReach}
 use Rattle.tacho_choice.proofs.ChoicesLemmas as abstract
 
--- numbers of weeks and of minutes
+-- a run starts before the end of a week iff its first week is at most that week
 first_is : (s w : ℕ) → (s < week_start (w + 1)) ↔ ((s - 5760) / 10080 ≤ w)
 first_is s w = (λ h. omega arith, λ h. omega arith)
 
@@ -35,7 +35,7 @@ run_or_not r s = elim (cases_eq r.start s.start) [
 ]
 
 module _ (line : Line) (is : IsInWeeks line) where
-  -- rests that have a minute in common are one
+  -- rest runs with a common minute are equal
   same_rest : (a b : Run) (m : ℕ) → IsRestRun line a → IsRestRun line b → a.start ≤ m → m < a.past → b.start ≤ m
       → m < b.past → a ≡ b
   same_rest a b m rests others from to begins ends = elim (cases_lt a.start b.start) [

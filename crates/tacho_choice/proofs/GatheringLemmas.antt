@@ -1,4 +1,4 @@
--- The rests of a week, with one more.
+-- The rests of a week, with one more rest.
 use Rattle.std.proofs.Common.{◌≡◌, ℕ, ◌<◌, ◌≤◌, ◌⊎◌, inl, inr, refl, ap, subst, ◌∙◌, arith, Bool, true, false, ltb, leb}
 use Rattle.std.proofs.Common.{Option, Some, None}
 use Rattle.std.specs.Prelude.{◌↔◌, ◌||◌}
@@ -20,7 +20,7 @@ module _ (R : Type 0) (first last : R → ℕ) (is_regular : R → Bool) (Whole 
   edge_agree A B None same none = λ r b. none r ((same r).1 b)
   edge_agree A B (Some l) same some = (some.0, ((same some.0).0 some.1.0, some.1.1))
 
-  -- rests that agree where they touch the week
+  -- sets of rests that agree on the rests with a minute in the week
   module _ (P Q : R → Type 0) (w : ℕ) (week : WeeklyRests) (same : (r : R) → first r ≤ w → w ≤ last r → P r ↔ Q r) where
     enters_same : (r : R) → Enters R P first last is_regular Whole w r ↔ Enters R Q first last is_regular Whole w r
     enters_same r = (

@@ -1,4 +1,4 @@
--- Ten truth values as a set of outcomes (specs/Step, Holds), and the step on them.
+-- Ten booleans as a set of outcomes (specs/Step, Holds), and one week's step on them.
 use Rattle.std.proofs.Common.{◌≡◌, ◌≢◌, ℕ, zero, suc, ◌+◌, ◌<◌, ◌≤◌, ◌⊎◌, inl, inr, refl, sym, ap, subst, ◌∙◌, arith}
 use Rattle.std.proofs.Common.{Bool, true, false, List, [], ◌∷◌, length, get_or, set, get_or-set_other, get_or-set_same}
 use Rattle.std.specs.Prelude.{◌↔◌}
@@ -10,7 +10,7 @@ use Rattle.tacho_choice.specs.declared.weekly_rests.WeeklyRests.{WeeklyRests}
 use Rattle.tacho_choice.specs.Step.{counted_of, first_place, may, serves, place_of_counted, place_of, Holds, IsNext}
 use Rattle.tacho_choice.specs.Step.{IsLedTo}
 
--- which of the five cases a number is
+-- the case with this number, of the five
 abbrev counted_at : ℕ → Counted
 counted_at zero = Nothing
 counted_at (suc zero) = One false
@@ -77,7 +77,7 @@ holds_set outcomes s new size =
       )
     ]
 
--- each place among the ten is that of an outcome
+-- each of the ten places is that of an outcome
 pub at_place : (k : ℕ) → k < 10 → (s : Outcome) × (place_of s ≡ k)
 at_place zero b = (record { counted = Nothing; crossing = false }, refl)
 at_place (suc zero) b = (record { counted = One false; crossing = false }, refl)
@@ -103,7 +103,7 @@ pub first_few : (b : Bool) → first_place b ≤ 5
 first_few true = omega arith
 first_few false = omega arith
 
--- an outcome's place, by whether the rest over the week's end is counted by then
+-- the range of an outcome's place, by whether the rest that crosses the week's end is counted
 first_at : (s : Outcome) (b : Bool) → s.crossing ≡ b → (first_place b ≤ place_of s) × (place_of s < first_place b + 5)
 first_at s b e =
     let below : place_of_counted s.counted < 5 = counted_below s.counted in
@@ -118,13 +118,13 @@ crossing_by true n false few above below = absurd (omega arith)
 crossing_by false n true few above below = absurd (omega arith)
 crossing_by false n false few above below = refl
 
--- an outcome of these, with the rest over the week's end counted by then or not, that serves with what is counted next
+-- an outcome in the set, with this `crossing`, that is valid together with what the next week counts
 abbrev pub Leads : Bool → List Bool → Bool → Counted → Outcome → Type 0
 Leads asks outcomes crossing counted old =
     Holds outcomes old × (old.crossing ≡ crossing) × (asks ≡ true → serves old.counted counted ≡ true)
 
 module _ (asks : Bool) (outcomes : List Bool) (crossing : Bool) (counted : Counted) where
-  -- of those at the first places none does
+  -- no outcome at one of the first n places does that
   abbrev pub NoneLeads : ℕ → Type 0
   NoneLeads n = (old : Outcome) → Leads asks outcomes crossing counted old → place_of old < n → ⊥
 
@@ -163,7 +163,7 @@ module _ (asks : Bool) (outcomes : List Bool) (crossing : Bool) (counted : Count
 
 module _ (outcomes old : List Bool) (week : WeeklyRests) (asks before after allows : Bool) (counted : Counted)
     (is : counted ≡ counted_of week before after) (may_is : allows ≡ may week before after) where
-  -- what leads to an outcome that may be left
+  -- an outcome that can be reached is allowed
   led_allowed : (new : Outcome) → IsLedTo week asks old before after new → allows ≡ true
   led_allowed new (at, (o, (held, from, next))) =
       let one : may week before new.crossing ≡ true =
@@ -188,7 +188,7 @@ module _ (outcomes old : List Bool) (week : WeeklyRests) (asks before after allo
     ),
   )
 
-  -- no outcome is added
+  -- either no outcome is added
   pub reach_not : allows ≡ false → (new : Outcome)
       → Holds outcomes new ↔ (Holds outcomes new ⊎ IsLedTo week asks old before after new)
   reach_not no' new = (
@@ -207,7 +207,7 @@ module _ (outcomes old : List Bool) (week : WeeklyRests) (asks before after allo
     λ h. elim h [ inl held ↦ held | inr led ↦ let x = led_leads new led in absurd (none x.0 x.1) ],
   )
 
-  -- or one is
+  -- or one outcome is added
   pub reach_put : (place : ℕ) → length outcomes ≡ 10 → allows ≡ true → ((o : Outcome) × Leads asks old before counted o)
       → place ≡ place_of (record { counted = counted; crossing = after }) → (new : Outcome)
       → Holds (set outcomes place true) new ↔ (Holds outcomes new ⊎ IsLedTo week asks old before after new)
@@ -241,7 +241,7 @@ module _ (outcomes old : List Bool) (week : WeeklyRests) (asks before after allo
         ]),
       )
 
--- none of the ten
+-- the empty set of outcomes
 abbrev pub no_outcomes : List Bool
 no_outcomes = false ∷ false ∷ false ∷ false ∷ false ∷ false ∷ false ∷ false ∷ false ∷ false ∷ []
 
@@ -262,7 +262,7 @@ none_held (More false) false h = let e : false ≡ true = h in cc
 pub holds_none : (new : Outcome) → Holds no_outcomes new → ⊥
 holds_none new h = none_held new.counted new.crossing h
 
--- the step is what is led to in each of the four ways
+-- the step adds what is reached in each of the four ways
 pub step_four : (week : WeeklyRests) (asks : Bool) (old none one two three four : List Bool)
     → ((new : Outcome) → Holds none new → ⊥)
     → ((new : Outcome) → Holds one new ↔ (Holds none new ⊎ IsLedTo week asks old false false new))

@@ -1,4 +1,4 @@
--- The rests of a week as they are seen one by one (specs/Weeks, IsWeekOfRests).
+-- Collecting the rests of a week as they are seen, one by one (specs/Weeks, IsWeekOfRests).
 use Rattle.std.proofs.Common.{◌≡◌, ℕ, ◌+◌, ◌<◌, ◌≤◌, ◌⊎◌, inl, inr, refl, sym, subst, arith, Bool, true, false}
 use Rattle.std.proofs.Common.{List, [], ◌∷◌, ◌&&◌, leb}
 use Rattle.std.specs.Prelude.{◌↔◌, not}
@@ -22,7 +22,7 @@ use Rattle.tacho_choice.specs.Weeks.{Asks, IsInWeeks}
 use Rattle.tacho_choice.proofs.ChoicesLemmas as abstract
 use Rattle.tacho_choice.proofs.GatheringLemmas as gathering
 
--- no week matters to where rests lie
+-- no week is entirely at rest; this doesn't matter for where rests are
 Never : ℕ → Type 0
 Never w = ⊥
 
@@ -36,21 +36,21 @@ from_abstract : (S : Run → Type 0) (w : ℕ) (week : WeeklyRests)
 from_abstract S w week h =
     record { entering = h.entering; inside = h.inside; starting = h.starting; through = h.through }
 
--- a rest that has all of a week touches it
+-- a rest that covers all of a week has a minute in it
 has_first : (w : ℕ) (rest : Run) → HasWeek w rest → first_of rest ≤ w
 has_first w rest h = let a : rest.start ≤ week_start w = h.0 in omega arith
 
 has_last : (w : ℕ) (rest : Run) → HasWeek w rest → w ≤ last_of rest
 has_last w rest h = let a : week_start (w + 1) ≤ rest.past = h.1 in omega arith
 
--- of no rests
+-- the week of no rests
 pub seen_none : (S : Run → Type 0) (w : ℕ) → ((rest : Run) → S rest → ⊥) → IsWeekOfRests S w week_none
 seen_none S w none = record {
   rests = from_abstract S w week_none.rests (gathering.week_none Run first_of last_of is_regular Never S w none);
   whole = (λ e. absurd (let k : false ≡ true = e in cc), λ x. absurd (none x.0 x.1.0));
 }
 
--- of rests that agree where they touch the week
+-- sets of rests that agree on the rests with a minute in the week have the same description
 pub seen_agree : (S T : Run → Type 0) (w : ℕ) (week : WeekOfRests)
     → ((rest : Run) → first_of rest ≤ w → w ≤ last_of rest → S rest ↔ T rest)
     → IsWeekOfRests S w week → IsWeekOfRests T w week
@@ -64,7 +64,7 @@ seen_agree S T w week same h = record {
   );
 }
 
--- of one more
+-- the description with one more rest
 pub seen_more : (S : Run → Type 0) (w : ℕ) (week : WeekOfRests) (x : Run) → (S x → ⊥) → first_of x ≤ last_of x
     → IsWeekOfRests S w week → IsWeekOfRests (λ rest. S rest ⊎ (rest ≡ x)) w (week_with w x week)
 seen_more S w week x fresh order h =
@@ -91,11 +91,11 @@ seen_more S w week x fresh order h =
       );
     }
 
--- a weekly rest among some runs
+-- a weekly rest in a list of runs
 IsLongOf : List Run → Run → Type 0
 IsLongOf runs rest = Contains runs rest × (weekly_rest ≤ minutes_of rest)
 
--- of a list of runs, one after the other
+-- the description for a list of runs, taken in order
 seen_of : (w : ℕ) (runs : List Run) → AllPairs Before runs → ((x : Run) → Contains runs x → x.start < x.past)
     → (week : WeekOfRests) × IsWeekOfRests (IsLongOf runs) w week
 unfolding IsLongOf
@@ -132,7 +132,7 @@ seen_of w (x ∷ runs) order some =
       )
     ]
 
--- of all weekly rests of a line
+-- the description for all weekly rests of a line
 pub seen_all : (line : Line) → IsInWeeks line → (w : ℕ)
     → (week : WeekOfRests) × IsWeekOfRests (IsWeeklyRest line) w week
 unfolding IsLongOf
@@ -148,7 +148,7 @@ seen_all line is w =
           week.1,
     )
 
--- where all weekly rests of a line are seen, whether the week is wholly at rest
+-- once all weekly rests of a line are seen, it is known whether the week is entirely at rest
 pub seen_whole : (line : Line) (w : ℕ) (week : WeekOfRests) → week_start (w + 1) < FAR
     → IsWeekOfRests (IsWeeklyRest line) w week → (week.whole ≡ true) ↔ IsWhollyAtRest line w
 seen_whole line w week below h = (
@@ -174,7 +174,7 @@ seen_whole line w week below h = (
       h.whole.1 (c.run, (record { rests = c.rests; enough = omega arith }, (from, late))),
 )
 
--- where a line is at rest until week 0 begins, each of its weekly rests has a minute in some week
+-- if a line is at rest until week 0 begins, each of its weekly rests has a minute in some week
 pub in_weeks : (line : Line) (runs : List Run) → AreRestRuns line runs → ((m : ℕ) → m ≤ first_week → line m ≡ Rest)
     → IsInWeeks line
 in_weeks line runs are resting = record {
@@ -189,7 +189,7 @@ in_weeks line runs are resting = record {
   ];
 }
 
--- whether something is asked of two weeks, by whether they are wholly at rest
+-- something is required of two weeks unless one of them is entirely at rest
 pub asks_is : (line : Line) (u : ℕ) (rested whole : Bool)
     → (rested ≡ true) ↔ IsWhollyAtRest line u → (whole ≡ true) ↔ IsWhollyAtRest line (u + 1)
     → Asks line u (not rested && not whole)

@@ -7,20 +7,20 @@ use Rattle.tacho_choice.specs.declared.outcome.Outcome.{Outcome}
 use Rattle.tacho_choice.specs.Step.{IsNext, IsFirst}
 use Rattle.tacho_choice.specs.Weeks.{IsInWeeks, IsWeekOf, CanReach, Asks}
 
--- the outcomes of a week are those that a step leads to from the outcomes of the week before
+-- the outcomes of a week are exactly those to which a step leads from an outcome of the week before
 abbrev pub ChoicesReach : Type 0
 ChoicesReach = (line : Line) (first u : ℕ) (old new : WeeklyRests) (asks : Bool) (outcome : Outcome)
     → IsInWeeks line → first ≤ u → IsWeekOf line u old → IsWeekOf line (u + 1) new → Asks line u asks
     → CanReach line first (u + 1) outcome
     ↔ ((before : Outcome) × (CanReach line first u before × IsNext new asks before outcome))
 
--- those of the first week are those of all choices
+-- the outcomes of the first week are exactly those of all choices
 abbrev pub ChoicesStart : Type 0
 ChoicesStart = (line : Line) (first : ℕ) (week : WeeklyRests) (outcome : Outcome)
     → IsInWeeks line → IsWeekOf line first week
     → CanReach line first first outcome ↔ IsFirst week outcome
 
--- some choice serves up to a week exactly where it leaves some outcome of it
+-- some choice is valid up to a week iff it leaves some outcome of that week
 abbrev pub ChoicesServe : Type 0
 ChoicesServe = (line : Line) (first u : ℕ) (week : WeeklyRests) → IsInWeeks line → IsWeekOf line u week
     → CanServe line first u ↔ ((outcome : Outcome) × CanReach line first u outcome)

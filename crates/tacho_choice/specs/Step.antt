@@ -1,5 +1,5 @@
--- Private to tacho_choice: What is counted in a week, by the weekly rests that it has and by whether those over its
--- start and its end are counted by then (Regulation (EC) 561/2006, Articles 8(6), first subparagraph, and 8(9)).
+-- Private to tacho_choice: What is counted in a week, given its weekly rests, and whether the rest that crosses its start is counted before
+-- it and the one that crosses its end is counted by its end (Regulation (EC) 561/2006, Articles 8(6), first subparagraph, and 8(9)).
 use Rattle.std.specs.Prelude.{◌≡◌, ◌+◌, ◌&&◌, ◌||◌, not, ℕ, Bool, true, false, List, Option, Some, None, is_some}
 use Rattle.std.specs.Prelude.{if◌then◌else◌, slice_index_or, nat_lt, nat_le}
 use Rattle.tacho_choice.specs.declared.counted.Counted.{Counted}
@@ -7,44 +7,44 @@ use Rattle.tacho_choice.specs.declared.counted.Counted.TheVariants.{Nothing, One
 use Rattle.tacho_choice.specs.declared.outcome.Outcome.{Outcome}
 use Rattle.tacho_choice.specs.declared.weekly_rests.WeeklyRests.{WeeklyRests}
 
--- one or more
+-- true for one rest or more
 abbrev pub has_one : Counted → Bool
 has_one Nothing = false
 has_one (One regular) = true
 has_one (More regular) = true
 
--- two or more
+-- true for two rests or more
 abbrev pub has_two : Counted → Bool
 has_two Nothing = false
 has_two (One regular) = false
 has_two (More regular) = true
 
--- a regular one among them
+-- true if a regular rest is among them
 abbrev pub has_regular : Counted → Bool
 has_regular Nothing = false
 has_regular (One regular) = regular
 has_regular (More regular) = regular
 
--- one more rest
+-- with one more rest
 abbrev pub plus : Counted → Bool → Counted
 plus Nothing regular = One regular
 plus (One before) regular = More (before || regular)
 plus (More before) regular = More (before || regular)
 
--- one more rest, where it is there and taken
+-- with one more rest, if there is one and it is taken
 abbrev pub plus_where : Bool → Option Bool → Counted → Counted
 plus_where taken None counted = counted
 plus_where true (Some regular) counted = plus counted regular
 plus_where false (Some regular) counted = counted
 
--- what is counted in a week: the rests inside, the one over its start where it isn't counted before and is by its end,
--- and the one over its end where it is by then
+-- what is counted in a week: the rests inside it; the one that crosses its start, if it isn't counted before but is by the week's end; and
+-- the one that starts in it and crosses its end, if it is counted by then
 abbrev pub counted_of : WeeklyRests → Bool → Bool → Counted
 counted_of week before after =
     plus_where after week.starting
     (plus_where (not before && (not week.through || after)) week.entering week.inside)
 
--- only a rest over a week's end can be counted by then, and one that was counted before the week is
+-- only a rest that crosses the week's end can be counted by then; if it also crosses the week's start and is counted before it, it is
 abbrev pub may : WeeklyRests → Bool → Bool → Bool
 may week before after =
     (not after || (week.through || is_some week.starting)) && (not (week.through && before) || after)
@@ -53,13 +53,13 @@ may week before after =
 abbrev pub serves : Counted → Counted → Bool
 serves a b = (has_regular a || has_regular b) && ((has_two a || has_two b) || (has_one a && has_one b))
 
--- a week's outcome behind that of the week before
+-- an outcome of a week, following the outcome `old` of the week before
 pub record IsNext (week : WeeklyRests) (asks : Bool) (old new : Outcome) : Type 0 where
   pub allowed : may week old.crossing new.crossing ≡ true
   pub counted : new.counted ≡ counted_of week old.crossing new.crossing
   pub served : asks ≡ true → serves old.counted new.counted ≡ true
 
--- a week's outcome where nothing is asked of the week before
+-- an outcome of a week, if nothing is required of the week before
 pub record IsFirst (week : WeeklyRests) (new : Outcome) : Type 0 where
   pub before : Bool
   pub comes : before ≡ true → is_some week.entering ≡ true
@@ -80,18 +80,17 @@ first_place crossing = if crossing then 5 else 0
 abbrev pub place_of : Outcome → ℕ
 place_of outcome = place_of_counted outcome.counted + first_place outcome.crossing
 
--- the outcome is among these
+-- the outcome is in the set
 abbrev pub Holds : List Bool → Outcome → Type 0
 Holds outcomes outcome = slice_index_or outcomes (place_of outcome) false ≡ true
 
--- an outcome behind some of these, with the rest over the week's start counted before it or not, and the one over its
--- end by then or not
+-- an outcome reached from one of these with `crossing ≡ before`, where the rest that crosses the week's end is counted by then iff `after`
 abbrev pub IsLedTo : WeeklyRests → Bool → List Bool → Bool → Bool → Outcome → Type 0
 IsLedTo week asks outcomes before after new =
     (new.crossing ≡ after)
     × ((old : Outcome) × (Holds outcomes old × (old.crossing ≡ before) × IsNext week asks old new))
 
--- a week with one more rest, by the rest's first week and last
+-- a week with one more rest, given by its first and its last week
 abbrev pub with_rest : WeeklyRests → ℕ → ℕ → ℕ → Bool → WeeklyRests
 with_rest week w first last regular =
     if nat_lt first w

@@ -31,7 +31,7 @@ impl Counted {
         }
     }
 
-    /// With one more rest.
+    /// Returns the set with one more rest.
     pub fn and(self, regular: bool) -> Counted
         ensures { result ≡ plus self regular }
     {
@@ -41,7 +41,7 @@ impl Counted {
         }
     }
 
-    /// With one more rest, where it is there and taken.
+    /// Returns the set with one more rest, if there is one and it is taken.
     pub fn and_where(self, taken: bool, rest: Option<bool>) -> Counted
         ensures { result ≡ plus_where taken rest self }
     {
@@ -51,7 +51,7 @@ impl Counted {
         }
     }
 
-    /// Whether a week and the next have two rests, one of them regular (Article 8(6), first subparagraph).
+    /// Returns true if a week and the next have two rests, one of them regular (Article 8(6), first subparagraph).
     pub fn serves(self, next: Counted) -> bool
         ensures { result ≡ serves_it self next }
     {

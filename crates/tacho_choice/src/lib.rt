@@ -1,5 +1,5 @@
-//! A week for each weekly rest, in which it is counted (Articles 8(6), first subparagraph, and 8(9) of Regulation (EC)
-//! 561/2006): what all choices leave of a week, from what they leave of the week before.
+//! The week in which each weekly rest is counted (Articles 8(6), first subparagraph, and 8(9) of Regulation (EC) 561/2006): the outcomes
+//! that all choices leave of a week, computed from those of the week before.
 #![tactic(auto)]
 
 mod counted;

@@ -3,22 +3,21 @@ ghost use Rattle.tacho_choice.specs.Step.{place_of};
 
 use crate::counted::Counted;
 
-/// What a choice leaves of a week: the rests that it counts there, and whether it counts the rest over the week's end
-/// by then.
+/// What a choice leaves of a week: the rests that it counts there, and whether it counts the rest that crosses the week's end by then.
 #[derive(Clone, Copy)]
 pub struct Outcome {
     pub counted: Counted,
     pub crossing: bool,
 }
 
-/// The outcomes of a week that nothing is asked of: nothing is counted in it, and a rest over its end may be counted by
-/// then or not.
+/// The outcomes of a week of which nothing is required: nothing is counted in it, and a rest that crosses its end may or may not be counted
+/// by then.
 pub const ANY: [bool; 10] = [
     true, false, false, false, false, true, false, false, false, false,
 ];
 
 impl Outcome {
-    /// Its place among the ten.
+    /// Returns the outcome's place among the ten.
     pub fn place(self) -> usize
         ensures { result ≡ place_of self }
     {
@@ -32,7 +31,7 @@ impl Outcome {
         if self.crossing { counted + 5 } else { counted }
     }
 
-    /// The one at a place.
+    /// Returns the outcome at a place.
     pub fn at(place: usize) -> Outcome
         requires { place < 10 }
         ensures { place_of result ≡ place }

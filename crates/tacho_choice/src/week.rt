@@ -5,7 +5,7 @@ use crate::weekly_rests::WeeklyRests;
 use tacho_hours::Run;
 use tacho_time::{Week, first_minute};
 
-/// The weekly rests of a week, and whether one of them has all of it.
+/// The weekly rests of a week, and whether one of them covers all of it.
 #[derive(Clone, Copy)]
 pub struct WeekOfRests {
     pub rests: WeeklyRests,
@@ -13,7 +13,7 @@ pub struct WeekOfRests {
 }
 
 impl WeekOfRests {
-    /// Of no rests.
+    /// Returns the week without rests.
     pub fn none() -> WeekOfRests
         ensures { result ≡ week_none }
     {
@@ -23,7 +23,7 @@ impl WeekOfRests {
         }
     }
 
-    /// With one more weekly rest.
+    /// Returns the week with one more weekly rest.
     pub fn with(self, week: u32, rest: Run) -> WeekOfRests
         requires { week ≤ 6786 }
         ensures { result ≡ week_with week rest self }

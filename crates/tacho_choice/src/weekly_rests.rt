@@ -10,12 +10,12 @@ use crate::outcome::Outcome;
 use tacho_hours::Run;
 use tacho_hours::limits::{FIRST_WEEK, REGULAR_WEEKLY_REST};
 
-/// A week's minutes (Article 4(i)).
+/// The number of minutes in a week (Article 4(i)).
 const MINUTES_OF_WEEK: u32 = 10_080;
 
-/// The weekly rests that have a minute in a week, by where they lie: whether the one over the week's start is regular,
-/// those inside, whether the one that starts in the week and goes on over its end is regular, and whether the one over
-/// its start goes on over its end too.
+/// The weekly rests that have a minute in a week, by where they are: whether the one that crosses the week's start is regular; those
+/// inside; whether the one that starts in the week and crosses its end is regular; and whether the one that crosses its start also crosses
+/// its end.
 #[derive(Clone, Copy)]
 pub struct WeeklyRests {
     pub entering: Option<bool>,
@@ -24,36 +24,36 @@ pub struct WeeklyRests {
     pub through: bool,
 }
 
-/// The first week in which a rest has a minute.
+/// Returns the first week in which a rest has a minute.
 fn first(rest: Run) -> u32
     ensures { result ≡ first_of rest }
 {
     rest.start.saturating_sub(FIRST_WEEK) / MINUTES_OF_WEEK
 }
 
-/// The last week in which a rest has a minute.
+/// Returns the last week in which a rest has a minute.
 fn last(rest: Run) -> u32
     ensures { result ≡ last_of rest }
 {
     rest.past.saturating_sub(FIRST_WEEK + 1) / MINUTES_OF_WEEK
 }
 
-/// Whether a weekly rest is regular (Article 4(h)).
+/// Returns true if a weekly rest is regular (Article 4(h)).
 fn regular(rest: Run) -> bool
     ensures { result ≡ is_regular rest }
 {
     rest.past.saturating_sub(rest.start) >= REGULAR_WEEKLY_REST
 }
 
-/// The first place of the outcomes with the rest over the week's end counted by then, or not.
+/// Returns the first place of the outcomes with this `crossing`.
 fn first_place(crossing: bool) -> usize
     ensures { result ≡ first_place_of crossing }
 {
     if crossing { 5 } else { 0 }
 }
 
-/// Whether one of these outcomes, with the rest over the week's end counted by then or not, serves with what is counted
-/// in the next week, where something is asked.
+/// Returns true if one of these outcomes, with this `crossing`, is valid together with what is counted in the next week. If nothing is
+/// required (`asks` is false), any such outcome is valid.
 fn lead_to(asks: bool, outcomes: [bool; 10], crossing: bool, counted: Counted) -> bool
     ensures { IsTrue result ↔ ((old : OutcomeValue) × (Holds outcomes old × (old.crossing ≡ crossing)
         × (asks ≡ true → serves old.counted counted ≡ true))) }
@@ -68,7 +68,7 @@ fn lead_to(asks: bool, outcomes: [bool; 10], crossing: bool, counted: Counted) -
 }
 
 impl WeeklyRests {
-    /// None.
+    /// Returns a week without weekly rests.
     pub fn none() -> WeeklyRests
         ensures { result ≡ record { entering = None; inside = Nothing; starting = None; through = false } }
     {
@@ -80,7 +80,7 @@ impl WeeklyRests {
         }
     }
 
-    /// With one more weekly rest, where it has a minute in the week.
+    /// Returns the week with one more weekly rest, if the rest has a minute in the week.
     pub fn with(self, week: u32, rest: Run) -> WeeklyRests
         ensures { result ≡ with_rest self week (first_of rest) (last_of rest) (is_regular rest) }
     {
@@ -110,7 +110,7 @@ impl WeeklyRests {
         }
     }
 
-    /// What is counted in the week, by whether the rests over its start and its end are counted by then.
+    /// Returns what is counted in the week, given whether the rests that cross its start and its end are counted by then.
     pub fn counted(self, before: bool, after: bool) -> Counted
         ensures { result ≡ counted_of self before after }
     {
@@ -119,15 +119,15 @@ impl WeeklyRests {
             .and_where(after, self.starting)
     }
 
-    /// Whether the rests over its start and its end can be counted so.
+    /// Returns true if the rests that cross the week's start and its end can be counted like this.
     pub fn allows(self, before: bool, after: bool) -> bool
         ensures { result ≡ may self before after }
     {
         (!after || self.through || self.starting.is_some()) && (!(self.through && before) || after)
     }
 
-    /// Adds the outcome that is left behind those which count the rest over the week's start before it, or those which
-    /// don't, and which counts the rest over its end by then or not.
+    /// Adds the outcome reached from the outcomes in `old` with `crossing == before`, where the rest that crosses this week's end is
+    /// counted by then iff `after`.
     fn reach(
         self,
         asks: bool,
@@ -152,7 +152,7 @@ impl WeeklyRests {
         }
     }
 
-    /// The outcomes of the week, behind those of the week before.
+    /// Returns the outcomes of the week, given those of the week before.
     pub fn step(self, asks: bool, outcomes: [bool; 10]) -> [bool; 10]
         ensures { (new : OutcomeValue) → Holds result new
             ↔ ((old : OutcomeValue) × (Holds outcomes old × IsNext self asks old new)) }

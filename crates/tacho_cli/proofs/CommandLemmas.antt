@@ -1,4 +1,4 @@
--- What the commands on a card leave, by what their parts answered.
+-- What the commands on a card do, derived from what their parts answered.
 use Rattle.std.proofs.Common.{◌≡◌, ℕ, ◌+◌, ◌<◌, ◌≤◌, ◌⊎◌, inl, inr, ◌↔◌, ◌∙◌, Bool, true, false, List, [], Option, Some, None, Result, Ok, Err, length, refl, sym, ap, subst, arith}
 use Rattle.std.proofs.lemmas.List.{length-replicate}
 use Rattle.std.specs.Prelude.{IfSome, flat_map, replicate}
@@ -22,7 +22,7 @@ use Rattle.tacho_cli.specs.Dump.{IsDump, IsDumped, ReadsValue}
 use Rattle.tacho_cli.specs.Holder.{IsHolder, card_holder, holder_reply}
 use Rattle.tacho_cli.specs.Command.{Reply, fault_reply, card_reply, IsReplied, IsWrittenOut, Finishes}
 
--- an input for a reader, whether or not it tells its bytes
+-- an input that the reader may have, with a property: the reader's bytes if they are known, otherwise some input
 pub record Input (P : List ℕ → Type 0) (unread : Option (List ℕ)) : Type 0 where
   pub input : List ℕ
   pub told : IfSome unread (λ all. input ≡ all)
@@ -36,19 +36,19 @@ pub any_input : (unread : Option (List ℕ)) → Input (λ _. Unit {0}) unread
 any_input None = record { input = []; told = tt; holds = tt }
 any_input (Some all) = record { input = all; told = refl; holds = tt }
 
--- what a test that isn't true is
+-- a test that isn't true is false
 not_true : (b : Bool) → (b ≡ true → ⊥) → b ≡ false
 not_true true h = absurd (h refl)
 not_true false h = refl
 
--- what a command leaves after a reply that is wanted, where the reader has not failed
+-- after a valid reply, if the reader has not failed
 pub replied : (Wanted : List ℕ → Reply → Type 0) (unread : Option (List ℕ)) (reader writer : Bool) (old new : Option (List ℕ)) (status : ℕ) (input : List ℕ) (reply : Reply)
     → (reader ≡ true → ⊥) → IfSome unread (λ all. input ≡ all) → Wanted input reply ⊎ (reply ≡ fault_reply fault.Memory) → IsWrittenOut writer old new reply status
     → Finishes Wanted unread reader writer old new status
 replied Wanted unread reader writer old new status input reply sound told wanted tells =
     record { input = input; reply = reply; read = told; replied = subst (λ (b : Bool). IsReplied (Wanted input) b reply) (sym (not_true reader sound)) wanted; told = tells }
 
--- what a command leaves where its input was not read
+-- if the input was not read
 pub unread_leaves : (Wanted : List ℕ → Reply → Type 0) (limit : ℕ) (unread : Option (List ℕ)) (reader writer : Bool) (old new : Option (List ℕ)) (status : ℕ) (f : ReadFault)
     → ((input : List ℕ) → limit < length input → Wanted input (fault_reply (fault.Told told.TooLarge)))
     → (f ≡ read.TooLarge → IfSome unread (λ input. limit < length input))
@@ -65,7 +65,7 @@ unread_leaves Wanted limit unread reader writer old new status read.Memory wante
     let i = any_input unread in
     replied Wanted unread reader writer old new status i.input (fault_reply fault.Memory) (λ e. let no = failed.1 e in cc) i.told (inr refl) tells
 
--- what a command leaves after a card's fault
+-- after a fault of a card
 pub refused : (Wanted : List ℕ → Reply → Type 0) (unread : Option (List ℕ)) (reader writer : Bool) (old new : Option (List ℕ)) (status : ℕ) (input : List ℕ) (f : CardFault)
     → (reader ≡ true → ⊥) → IfSome unread (λ all. input ≡ all) → Wanted input (card_reply f) ⊎ (f ≡ card.Memory) → IsWrittenOut writer old new (card_reply f) status
     → Finishes Wanted unread reader writer old new status
@@ -74,21 +74,21 @@ refused Wanted unread reader writer old new status input f sound told (inl wante
 refused Wanted unread reader writer old new status input f sound told (inr e) tells =
     replied Wanted unread reader writer old new status input (card_reply f) sound told (inr (ap card_reply e)) tells
 
--- the reply to what a value's bytes give
+-- the reply with the spans of a value
 pub dumped : (input text : List ℕ) → length input ≤ 65535 → IsDumped input text → IsDump input (record { text = text; status = 0 })
 dumped input text within is = inr (within, (Ok is.0, is.1, ap (λ (t : List ℕ). record { text = t; status = 0 }) is.2))
 
--- the reply to a fault of a value's bytes
+-- the reply to a fault of a value
 pub not_dumped : (input : List ℕ) (f : CardFault) → length input ≤ 65535 → ReadsValue input (Err f) ⊎ (f ≡ card.Memory) → IsDump input (card_reply f) ⊎ (f ≡ card.Memory)
 not_dumped input f within (inl reads) = inl (inr (within, (Err f, reads, refl)))
 not_dumped input f within (inr e) = inr e
 
--- the reply to a card file that has no holder
+-- the reply to a card file without a holder
 pub not_held : (input : List ℕ) (f : CardFault) → length input ≤ 262144 → (card_holder input ≡ Err f) ⊎ (f ≡ card.Memory) → IsHolder input (card_reply f) ⊎ (f ≡ card.Memory)
 not_held input f within (inl reads) = inl (inr (within, ap holder_reply (sym reads)))
 not_held input f within (inr e) = inr e
 
--- what a command leaves where a word of its own was refused, and nothing was read
+-- if the command's own argument was refused, and nothing was read
 pub unasked : (Wanted : List ℕ → Reply → Type 0) (unread : Option (List ℕ)) (reader writer : Bool) (old new : Option (List ℕ))
     (status : ℕ) (reply : Reply)
     → reader ≡ false → ((input : List ℕ) → Wanted input reply) → IsWrittenOut writer old new reply status
@@ -97,18 +97,18 @@ unasked Wanted unread reader writer old new status reply sound wanted tells =
     let i = any_input unread in
     replied Wanted unread reader writer old new status i.input reply (λ e. cc) i.told (inl (wanted i.input)) tells
 
--- the reply to what a file tells, read by a part
+-- the reply with the spans of a card file, read by a part
 pub card_listed : (part : Part) (input text : List ℕ) → length input ≤ 262144 → IsListed part input text
     → IsCardBy (Some part) input (record { text = text; status = 0 })
 card_listed part input text within is = inr (within, (Ok is.0, is.1, ap (λ (t : List ℕ). record { text = t; status = 0 }) is.2))
 
--- the reply to a fault of a file
+-- the reply to a fault of a card file
 pub not_listed : (part : Part) (input : List ℕ) (f : CardFault) → length input ≤ 262144 → FileTells part input (Err f) ⊎ (f ≡ card.Memory)
     → IsCardBy (Some part) input (card_reply f) ⊎ (f ≡ card.Memory)
 not_listed part input f within (inl tells) = inl (inr (within, (Err f, tells, refl)))
 not_listed part input f within (inr e) = inr e
 
--- the lines of what a file's blocks give
+-- the lines of the spans that a file's blocks give
 pub lines_listed : (part : Part) (bytes : List ℕ) (blocks : List FileBlock) (spans : List Span) (text : List ℕ)
     → card_file bytes ≡ Ok blocks
     → ReadsFile part blocks (Ok spans) → text ≡ flat_map span_line spans → IsListed part bytes text

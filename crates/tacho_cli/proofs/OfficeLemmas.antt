@@ -1,4 +1,4 @@
--- What is wanted of the office's archive leaves, by what its parts did.
+-- What a job at the archive does, derived from what its parts did.
 use Rattle.std.proofs.Common.{◌≡◌, ℕ, ◌<◌, ◌≤◌, inl, inr, ◌↔◌, Bool, true, false, List, [], length}
 use Rattle.std.proofs.Common.{Option, None, Some, Result, Ok, Err, refl, sym, subst, arith}
 use Rattle.std.proofs.lemmas.List.{length-replicate}
@@ -39,13 +39,13 @@ not_read unread failed read.Memory large is = λ e. let no = is.1 e in cc
 
 -- ---- tasks
 
--- the task of words whose bytes are these
+-- the task of arguments with these bytes
 pub of_bytes : (w : Want) (wanted : Wanted) (a b driver word : List ℕ) → a ≡ driver → b ≡ word → IsTask w caller.Office a b wanted
     → IsTask w caller.Office driver word wanted
 of_bytes w wanted a b driver word same also is =
     subst (λ (d : List ℕ). IsTask w caller.Office d word wanted) same (subst (λ (x : List ℕ). IsTask w caller.Office a x wanted) also is)
 
--- a task that takes no input has none that could have a fault
+-- a task without an input has no fault of its input
 none_faulty : (t : Task) (input : List ℕ) (f : Fault) → takes_input (want_of t) ≡ false → IsFaulty t input f → ⊥
 none_faulty task.Register input f e h = absurd (cc)
 none_faulty (task.Import caller part) input f e h = absurd (cc)
@@ -60,22 +60,22 @@ none_faulty (task.MonthOfAll m text) input f e h = h
 
 -- ---- X2
 
--- words are never refused by it: neither a part
+-- arguments are never refused with X2: not the part
 part_without : (c : Caller) (o : Option Part) → Err fault.Device ≡ by_part o (λ p. task.Import c p) → ⊥
 part_without c None e = cc
 part_without c (Some p) e = cc
 
--- nor a day or a month
+-- nor the day or the month
 time_without : (make : ℕ → Task) (r : Result ℕ TimeFault) → Err fault.Device ≡ by_time r (λ n. Ok (make n)) → ⊥
 time_without make (Ok n) e = cc
 time_without make (Err f) e = cc
 
--- nor a number
+-- nor the number
 number_without : (text : List ℕ) (make : ℕ → Task) → ByNumber most_number text (λ n w. w ≡ Ok (make n)) (Err fault.Device) → ⊥
 number_without text make (inl h) = let e = h.1 in cc
 number_without text make (inr h) = let e = h.2 in cc
 
--- nor the driver's
+-- nor the driver's number
 driver_without : (c : Caller) (word : List ℕ) (Is : ℕ → Wanted → Type 0) → ((n : ℕ) → Is n (Err fault.Device) → ⊥)
     → ByDriver c word Is (Err fault.Device) → ⊥
 driver_without c word Is none (inl h) = let e = h.1 in cc
@@ -115,7 +115,7 @@ csv_without (sheet.Column column) h = cc
 csv_without (sheet.Text row column) h = cc
 csv_without sheet.Memory h = cc
 
--- nor any input
+-- nor is any input
 input_without : (t : Task) (input : List ℕ) → IsFaulty t input fault.Device → ⊥
 input_without task.Register input h = csv_without h.0 h.2
 input_without (task.Import caller part) input h = let e = h.2 in cc
@@ -128,7 +128,7 @@ input_without (task.File n number) input h = h
 input_without task.Drivers input h = h
 input_without (task.MonthOfAll m text) input h = h
 
--- nor one that may be too large
+-- nor is an input that may be too large
 over_without : (takes : Bool) (t : Task) (input : List ℕ) → IsFaultyOver takes t input fault.Device → ⊥
 over_without true t input (inl (large, e)) = cc
 over_without true t input (inr (within, h)) = input_without t input h
@@ -139,33 +139,33 @@ faults_without w driver word input (Err f, is, e) =
     words_without w caller.Office driver word (subst (λ (f : Fault). IsTask w caller.Office driver word (Err f)) (sym e) is)
 faults_without w driver word input (Ok t, is, h) = over_without (takes_input w) t input h
 
--- and so X2 is answered neither in place of the archive
+-- so X2 is not the answer when the archive isn't accessed
 unread_without : (w : Want) (driver word input : List ℕ) → IsUnread (AreFaulty w driver word input) (Err fault.Device) → ⊥
 unread_without w driver word input (inl h) = faults_without w driver word input h
 unread_without w driver word input (inr memory) = cc
 
--- nor by the archive
+-- nor is it an answer of the archive
 never_device : {K : Type 0} (old new : K) (w : Want) (driver word input : List ℕ) (answer : Answer)
     → AsksOnly old new (AreSound w driver word input) (AreFaulty w driver word input) answer → answer ≡ Err fault.Device → ⊥
 never_device old new w driver word input answer (inl (sound, archive)) e = subst (λ (a : Answer). IsOfArchive a) e archive
 never_device old new w driver word input answer (inr (same, unread)) e =
     unread_without w driver word input (subst (λ (a : Answer). IsUnread (AreFaulty w driver word input) a) e unread)
 
--- what is wanted, by its words, and by whether the reader failed
+-- a job, by its arguments and by whether the reader failed
 module _ (w : Want) (driver word : List ℕ) (unread : Option (List ℕ)) (failed : Bool) where
-  -- what the task does over no input is what is wanted
+  -- what the task does without an input is what the job has to do
   does_without : (t : Task) (input : List ℕ) (s : State) (answer : Answer) (after : State) → IsTask w caller.Office driver word (Ok t)
       → takes_input w ≡ false → Does t [] s answer after → Performs w driver word input s answer after
   does_without t input s answer after is none does =
       (Ok t, is, subst (λ (b : Bool). DoesOver b t input s answer after) (sym none) does)
 
-  -- and over an input that was read
+  -- likewise with an input that was read
   does_over : (t : Task) (input : List ℕ) (s : State) (answer : Answer) (after : State) → IsTask w caller.Office driver word (Ok t)
       → takes_input w ≡ true → length input ≤ 262144 → Does t input s answer after → Performs w driver word input s answer after
   does_over t input s answer after is one within does =
       (Ok t, is, subst (λ (b : Bool). DoesOver b t input s answer after) (sym one) (inr (within, does)))
 
-  -- X1
+  -- X1: the input is too large
   too_large : (t : Task) (input : List ℕ) (s : State) → IsTask w caller.Office driver word (Ok t) → takes_input w ≡ true
       → 262144 < length input → Performs w driver word input s (Err (fault.Told told.TooLarge)) s
   too_large t input s is one large =
@@ -176,7 +176,7 @@ module _ (w : Want) (driver word : List ℕ) (unread : Option (List ℕ)) (faile
   large_is_faulty t input is one large =
       (Ok t, is, subst (λ (b : Bool). IsFaultyOver b t input (fault.Told told.TooLarge)) (sym one) (inl (large, refl)))
 
-  -- the archive is asked about an input that is sound, or not at all
+  -- the archive is accessed for a valid input, or not at all
   asks_over : {K : Type 0} (old new : K) (t : Task) (input : List ℕ) (answer : Answer) → IsTask w caller.Office driver word (Ok t)
       → takes_input w ≡ true → length input ≤ 262144 → AsksOnly old new (IsSound t input) (IsFaulty t input) answer
       → AsksOnly old new (AreSound w driver word input) (AreFaulty w driver word input) answer
@@ -187,7 +187,7 @@ module _ (w : Want) (driver word : List ℕ) (unread : Option (List ℕ)) (faile
   asks_over old new t input (Err f) is one within (inr (same, inl h)) =
       inr (same, inl (Ok t, is, subst (λ (b : Bool). IsFaultyOver b t input f) (sym one) (inr (within, h))))
 
-  -- a task without an input asks the archive, or there was no memory
+  -- a task without an input accesses the archive, or memory ran out
   asks_without : {K : Type 0} (old new : K) (t : Task) (input : List ℕ) (answer : Answer) → IsTask w caller.Office driver word (Ok t)
       → takes_input w ≡ false → takes_input (want_of t) ≡ false → AsksOnly old new (IsSound t []) (IsFaulty t []) answer
       → AsksOnly old new (AreSound w driver word input) (AreFaulty w driver word input) answer
@@ -200,7 +200,7 @@ module _ (w : Want) (driver word : List ℕ) (unread : Option (List ℕ)) (faile
   -- at an archive
   module _ {K : Type 0} (stands : K → State → Type 0) (is_clean is_live : K → Type 0) (leaves : K → List State → Type 0)
       (is_same : K → K → Type 0) where
-    -- the words were refused
+    -- the arguments were refused
     pub refused_words : IsSameAsItself is_same → (keeper : K) (f : Fault) → failed ≡ false → IsTask w caller.Office driver word (Err f)
         → Performed stands is_clean is_live leaves is_same keeper keeper w driver word unread failed (Err f)
     refused_words same_self keeper f sound is =
@@ -214,7 +214,7 @@ module _ (w : Want) (driver word : List ℕ) (unread : Option (List ℕ)) (faile
           asks = λ _. inr (refl, inl (Err f, is, refl));
         }
 
-    -- a task that takes no input
+    -- a task without an input
     pub without_input : (old new : K) (answer : Answer) (t : Task) → failed ≡ false → IsTask w caller.Office driver word (Ok t)
         → want_of t ≡ w → takes_input w ≡ false → Serves stands is_clean is_live leaves is_same old new (is_command (want_of t)) answer (Does t [])
         → AsksOnly old new (IsSound t []) (IsFaulty t []) answer

@@ -1,4 +1,4 @@
--- Values that the documents print, by computation: the subcommands with their words, and what follows a fault.
+-- Values in the documents, computed: the subcommands with their arguments, and the status and line of a fault.
 use Rattle.std.proofs.Common.{◌≡◌, ◌∷◌, ◌++◌, List, [], Option, Some, None, codes, map, refl}
 use Rattle.std.specs.Prelude.{flat_map, replicate}
 use Rattle.clap.specs.Words.{Text}
@@ -95,11 +95,11 @@ form = refl
 serve : act_named (codes "serve") the_table ≡ Some act.Serve
 serve = refl
 
--- another name names none
+-- another name is no subcommand
 other_name : act_named (codes "files") the_table ≡ None
 other_name = refl
 
--- a subcommand and its words, as they are given
+-- a subcommand and its arguments, as they are given
 abbrev given : Subcommand → Text
 given row = row.0 ++ flat_map (λ word. codes " " ++ word) row.1
 
@@ -113,12 +113,12 @@ all_given : map given the_table
     ∷ codes "serve archive key port count" ∷ []
 all_given = refl
 
--- a word that may be there
+-- an optional argument
 abbrev one : Option Text → List Text
 one (Some id) = id ∷ []
 one None = []
 
--- the words of what is wanted at an archive are the archive, the driver where he is named, and the other word
+-- the arguments of a job at an archive are the archive, the driver (if one is named), and the other argument
 abbrev read_words : Act → List Text → List Text
 read_words (act.AtDesk w) words = codes "archive" ∷ (one (driver_id (has_driver w)) ++ one (word_id w))
 read_words a words = words
@@ -174,7 +174,7 @@ bad_texts : map (λ f. fault_status (fault.Told (told.Sheet f)))
     ≡ replicate 11 1
 bad_texts = refl
 
--- status 3 where memory, the store or a device failed
+-- status 3 if memory ran out, the store failed, or a device failed
 no_memory : fault_status fault.Memory ≡ 3
 no_memory = refl
 
@@ -184,7 +184,7 @@ store_failed = refl
 device_failed : fault_status fault.Device ≡ 3
 device_failed = refl
 
--- their lines
+-- the lines of these faults
 no_memory_line : fault_line fault.Memory ≡ codes "M1 no memory\n"
 no_memory_line = refl
 

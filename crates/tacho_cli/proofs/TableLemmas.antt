@@ -1,4 +1,4 @@
--- One more word, one more subcommand, and the subcommand of a name.
+-- One more argument, one more subcommand, and the subcommand with a name.
 use Rattle.std.proofs.Common.{◌≡◌, ◌<◌, ◌≤◌, ◌+◌, ◌∷◌, ℕ, true, false, List, [], None, Some, length, map, drop}
 use Rattle.std.proofs.Common.{bytes_eq, get_or, refl, arith, suc, zero, add-one, drop-cons}
 use Rattle.std.proofs.lemmas.Grind.{common_steps}
@@ -45,12 +45,12 @@ pub act_met : {X : Type 0} (f : X → Subcommand) (name : Text) (xs : List X) (i
     → bytes_eq (f (get_or xs i d)).0 name ≡ true → act_named name (drop i (map f xs)) ≡ Some (f (get_or xs i d)).2
 act_met f name xs i d h same = rw (next f xs i d h, same) refl
 
--- it has another
+-- the row has another name
 pub act_step : {X : Type 0} (f : X → Subcommand) (name : Text) (xs : List X) (i : ℕ) (d : X) → i < length xs
     → bytes_eq (f (get_or xs i d)).0 name ≡ false → act_named name (drop i (map f xs)) ≡ act_named name (drop (i + 1) (map f xs))
 act_step f name xs i d h other = rw (next f xs i d h, other) refl
 
--- no row is left
+-- no row remains
 pub act_end : {X : Type 0} (f : X → Subcommand) (name : Text) (xs : List X) (i : ℕ) → length xs ≤ i
     → act_named name (drop i (map f xs)) ≡ None
 act_end f name xs i h = let none : drop i (map f xs) ≡ [] = drop_all (map f xs) i (rw length-map h) in rw none refl

@@ -1,4 +1,4 @@
--- The command is one of which clap gives the matches, and the subcommand that a parse met.
+-- The command is one for which clap gives the matches; and the subcommand that a parse found.
 use Rattle.std.proofs.Common.{◌≡◌, List, Option, Some, None, Bool, true, false, Result, Ok, Err, refl}
 use Rattle.std.specs.Prelude.{Box, IfErr, IfOk, option_map}
 use Rattle.std.specs.Box.{box_value}
@@ -33,7 +33,7 @@ told (Some b) name rows x y =
     let r : rows ≡ rows_of (found_of (out-SubCommand (box_value b)).matches) = cc in
     rw (n, r) refl
 
--- how words are used is told only where the command line doesn't take them
+-- usage is shown only if the command line doesn't accept the arguments
 pub usage_of : (taken : Bool) (sub : Option (Text × List Row)) (kind : ErrorKind) (u : Usage)
     → (taken ≡ true → kind ≡ OutOfMemory) → IsRefusal kind u → IsUsage taken sub u
 usage_of true sub kind (usage.Words text) h r = absurd (r (h refl))
@@ -42,18 +42,18 @@ usage_of taken sub kind usage.Numbers h r = absurd r
 usage_of taken sub kind usage.Parser h r = tt
 usage_of taken sub kind usage.Memory h r = tt
 
--- what holds of whatever job
+-- a fact that holds for any job
 pub of_job : {P : Type 0} (result : Result Job Usage) → P → IfOk result (λ _. P)
 of_job (Ok j) p = p
 of_job (Err u) p = tt
 
--- the job of the subcommand that was met
+-- the job of the subcommand that was found
 pub job_met : (sub : Option (Text × List Row)) (name : Text) (rows : List Row) (a : Act) (result : Result Job Usage)
     → sub ≡ Some (name, rows) → act_named name the_table ≡ Some a → IfOk result (IsJobOf a rows) → IfOk result (IsJob sub)
 job_met sub name rows a (Ok j) is named h = (name, rows, a, is, named, h)
 job_met sub name rows a (Err u) is named h = tt
 
--- its fault
+-- the fault of the subcommand that was found
 act_usage : (taken : Bool) (sub : Option (Text × List Row)) (name : Text) (rows : List Row) (a : Act) (u : Usage) → sub ≡ Some (name, rows)
     → act_named name the_table ≡ Some a → IsActUsage a rows u → IsUsage taken sub u
 act_usage taken sub name rows act.Serve usage.Numbers is named h = (name, rows, is, named, h)

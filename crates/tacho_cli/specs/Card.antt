@@ -1,4 +1,4 @@
--- Trusted in part: What `card` replies to the name of a part and an input.
+-- Trusted in part: The reply of `card` to a part's name and an input.
 use Rattle.std.specs.Prelude.{◌≡◌, ℕ, ◌<◌, ◌≤◌, ◌⊎◌, List, Option, None, Some, Result, Ok, Err, length, flat_map}
 use Rattle.tacho_time.specs.Text.{span_line}
 use Rattle.tacho_card.specs.declared.fault.CardFault.{CardFault}
@@ -10,20 +10,20 @@ use Rattle.tacho_desk.specs.Words.{part_of}
 use Rattle.tacho_desk.specs.declared.fault.Fault.TheVariants as fault
 use Rattle.tacho_cli.specs.Command.{Reply, fault_reply, card_reply}
 
--- the lines of the spans that a file tells, or that of its first fault
+-- the lines of the spans of a file, or the line of its first fault
 abbrev pub content_reply : Result Content CardFault → Reply
 content_reply (Ok content) = record { text = flat_map span_line content.spans; status = 0 }
 content_reply (Err f) = card_reply f
 
--- the text has the lines of the spans that a file tells, read by a part
+-- the text has the lines of the spans of the file, read by the part
 abbrev pub IsListed : Part → List ℕ → List ℕ → Type 0
 IsListed part bytes text = (content : Content) × FileTells part bytes (Ok content) × (text ≡ flat_map span_line content.spans)
 
--- the reply of a word that names no part: P1
+-- the reply to an argument that names no part: P1
 abbrev pub no_part_reply : Reply
 no_part_reply = fault_reply (fault.Told told.Part)
 
--- the reply to an input, read by a part: what the file tells, unless it is too large
+-- the reply to an input, read by a part: the spans of the file or its fault, unless the file is too large
 abbrev pub IsCardBy : Option Part → List ℕ → Reply → Type 0
 IsCardBy None input reply = reply ≡ no_part_reply
 IsCardBy (Some part) input reply =

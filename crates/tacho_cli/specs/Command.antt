@@ -1,4 +1,4 @@
--- Trusted: What a command that reads an input and writes a reply leaves.
+-- Trusted: The effects of a command that reads an input and writes a reply.
 use Rattle.std.specs.Prelude.{◌≡◌, ℕ, ◌⊎◌, List, Option, Bool, true, false, take, IfSome}
 use Rattle.std.specs.Io.KnownBytes.{Appends}
 use Rattle.tacho_card.specs.declared.fault.CardFault.{CardFault}
@@ -7,31 +7,30 @@ use Rattle.tacho_desk.specs.declared.fault.Fault.TheVariants as fault
 use Rattle.tacho_desk.specs.Fault.{card_fault}
 use Rattle.tacho_cli.specs.Fault.{fault_line, fault_status}
 
--- the text that is written, and the status that the program ends with
+-- the text that is written, and the program's exit status
 pub record Reply : Type 0 where
   pub text : List ℕ
   pub status : ℕ
 
--- the reply of a fault of the command, and of a card's
+-- the reply to a fault of the command; below, to a fault of a card
 abbrev pub fault_reply : Fault → Reply
 fault_reply f = record { text = fault_line f; status = fault_status f }
 
 abbrev pub card_reply : CardFault → Reply
 card_reply f = fault_reply (card_fault f)
 
--- The reply, by whether the reader failed: that of a failed device; or else the one that is wanted, or want of
--- memory in its place.
+-- if the reader failed, the reply is X2; otherwise it is a valid one, or M1 (out of memory)
 abbrev pub IsReplied : (Reply → Type 0) → Bool → Reply → Type 0
 IsReplied Wanted true reply = reply ≡ fault_reply fault.Device
 IsReplied Wanted false reply = Wanted reply ⊎ (reply ≡ fault_reply fault.Memory)
 
--- What is written of a reply, by whether the writer failed: a beginning of its text, and then the status is 3; or
--- else all of it, and the status is its own.
+-- if the writer failed, a prefix of the text is written, and the status is 3; otherwise the whole text is written, and the status is that
+-- of the reply
 abbrev pub IsWrittenOut : Bool → Option (List ℕ) → Option (List ℕ) → Reply → ℕ → Type 0
 IsWrittenOut true old new reply status = ((n : ℕ) × Appends old new (take n reply.text)) × (status ≡ 3)
 IsWrittenOut false old new reply status = Appends old new reply.text × (status ≡ reply.status)
 
--- The input is all that the reader had, where it tells its bytes, and some input where it doesn't.
+-- The input is what the reader had, if its bytes are known, otherwise some input.
 pub record Finishes (Wanted : List ℕ → Reply → Type 0) (unread : Option (List ℕ)) (reader_failed writer_failed : Bool) (old new : Option (List ℕ)) (status : ℕ) : Type 0 where
   pub input : List ℕ
   pub reply : Reply

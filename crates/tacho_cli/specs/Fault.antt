@@ -15,7 +15,7 @@ fault_line (fault.Told f) = told_line f
 fault_line fault.Device = codes "X2 device failed\n"
 fault_line fault.Memory = no_memory_line
 
--- 3 where memory or the store failed, or else 1
+-- 3 if memory ran out or the store failed, otherwise 1
 abbrev pub told_status : Told → ℕ
 told_status (told.Card card.Memory) = 3
 told_status (told.Store store.Store) = 3
@@ -24,7 +24,7 @@ told_status (told.Store (store.Card card.Memory)) = 3
 told_status (told.Sheet sheet.Memory) = 3
 told_status f = 1
 
--- 1 after a refusal, 3 where memory, the store or a device failed
+-- 1 after a refusal, 3 if memory ran out, the store failed, or a device failed
 abbrev pub fault_status : Fault → ℕ
 fault_status (fault.Told f) = told_status f
 fault_status fault.Device = 3

@@ -18,29 +18,29 @@ use Rattle.tacho_cli.specs.declared.job.Job.TheVariants as job
 
 -- ---- input
 
--- X1, or what is done
+-- X1 if the input is too large, otherwise what is done
 abbrev pub Sized : List ℕ → State → Doing → Doing
 Sized input s Does answer after =
     ((262144 < length input) × (answer ≡ Err (fault.Told told.TooLarge)) × (after ≡ s)) ⊎ ((length input ≤ 262144) × Does answer after)
 
--- a task over its input, or over none
+-- a task with its input, or without one
 abbrev pub DoesOver : Bool → Task → List ℕ → State → Doing
 DoesOver true t input s = Sized input s (Does t input s)
 DoesOver false t input s = Does t [] s
 
--- the task that is wanted, or the fault of the words
+-- the task that is asked for, or the fault of the arguments
 abbrev pub DoesWanted : Bool → Wanted → List ℕ → State → Doing
 DoesWanted takes (Err f) input s = Refuses f s
 DoesWanted takes (Ok t) input s = DoesOver takes t input s
 
--- what the office wants, by its words, which are read from left to right, and then its input
+-- what the office asks for; its arguments are read from left to right, and then its input
 abbrev pub Performs : Want → List ℕ → List ℕ → List ℕ → State → Doing
 Performs want driver word input s answer after =
     (wanted : Wanted) × IsTask want caller.Office driver word wanted × DoesWanted (takes_input want) wanted input s answer after
 
--- ---- what is asked of the archive
+-- ---- access to the archive
 
--- words and input are sound
+-- the arguments and the input are valid
 abbrev pub IsSoundOver : Bool → Task → List ℕ → Type 0
 IsSoundOver true t input = (length input ≤ 262144) × IsSound t input
 IsSoundOver false t input = IsSound t []
@@ -48,7 +48,7 @@ IsSoundOver false t input = IsSound t []
 abbrev pub AreSound : Want → List ℕ → List ℕ → List ℕ → Type 0
 AreSound want driver word input = (t : Task) × IsTask want caller.Office driver word (Ok t) × IsSoundOver (takes_input want) t input
 
--- or the words have a fault, or else the input
+-- the arguments have a fault, or else the input has
 abbrev pub IsFaultyOver : Bool → Task → List ℕ → Fault → Type 0
 IsFaultyOver true t input f = ((262144 < length input) × (f ≡ fault.Told told.TooLarge)) ⊎ ((length input ≤ 262144) × IsFaulty t input f)
 IsFaultyOver false t input f = ⊥
@@ -63,24 +63,23 @@ AreFaulty want driver word input f =
 
 -- ---- the reader
 
--- all that the reader had was read, where it tells its bytes, and it has not failed
+-- the whole input of the reader was read, if its bytes are known, and the reader has not failed
 pub record HasRead (unread : Option (List ℕ)) (failed : Bool) (input : List ℕ) : Type 0 where
   pub whole : IfSome unread (λ all. input ≡ all)
   pub within : length input ≤ 262144
   pub sound : ¬ (failed ≡ true)
 
--- why it was not: it had more, it failed, or memory did
+-- why it was not read: it was too large, the reader failed, or memory ran out
 abbrev pub HasNotRead : Option (List ℕ) → Bool → Fault → Type 0
 HasNotRead unread failed (fault.Told told.TooLarge) = IfSome unread (λ all. 262144 < length all) × ¬ (failed ≡ true)
 HasNotRead unread failed fault.Device = failed ≡ true
 HasNotRead unread failed fault.Memory = ¬ (failed ≡ true)
 HasNotRead unread failed f = ⊥
 
--- ---- what is left
+-- ---- the whole job
 
--- What is wanted was done over all that the reader had, where it tells its bytes, and over some input where it doesn't; or the reader
--- failed: X2, and the archive was asked nothing. X2 comes only there, of any archive. Where words and input are sound, the answer is the
--- archive's.
+-- The job was done with the whole input of the reader, if its bytes are known, otherwise with some input. Or the reader failed: X2, and the
+-- archive was not accessed. X2 occurs only then. If the arguments and the input are valid, the answer is the archive's.
 pub record Performed {K : Type 0} (stands : K → State → Type 0) (is_clean is_live : K → Type 0) (leaves : K → List State → Type 0)
     (is_same : K → K → Type 0) (old new : K) (want : Want) (driver word : List ℕ) (unread : Option (List ℕ)) (failed : Bool) (answer : Answer) : Type 0 where
   pub input : List ℕ
@@ -95,13 +94,13 @@ abbrev pub reply_to : Answer → Reply
 reply_to (Ok told) = record { text = bytes_of told; status = 0 }
 reply_to (Err f) = fault_reply f
 
--- The reply to the answer is written whole, or a beginning of it where the writer failed.
+-- The reply to the answer is written whole, or, if the writer failed, in part.
 pub record Replied (IsAnswer : Answer → Type 0) (failed : Bool) (old new : Option (List ℕ)) (status : ℕ) : Type 0 where
   pub answer : Answer
   pub is : IsAnswer answer
   pub told : IsWrittenOut failed old new (reply_to answer) status
 
--- what is said of a job at an archive, by what is wanted and its words
+-- a statement about a job at an archive, by what it asks for and its arguments
 abbrev pub OfDesk : Job → (Want → List ℕ → List ℕ → Type 0) → Type 0
 OfDesk (job.AtDesk archive want driver word) Is = Is want driver.now word.now
 OfDesk j Is = Unit {0}

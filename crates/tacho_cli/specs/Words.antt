@@ -1,4 +1,4 @@
--- Trusted in part: The command line, and the job that its words name.
+-- Trusted in part: The command line, and the job that its arguments name.
 use Rattle.std.specs.Prelude.{◌≡◌, ◌≢◌, ◌⊎◌, ℕ, Bool, true, false, List, [], ◌∷◌, Option, None, Some, bytes_eq, codes, if◌then◌else◌}
 use Rattle.tacho_sheet.specs.Number.{HasNoNumber, IsNumberText}
 use Rattle.clap.specs.Words.{App, Row, Rule, Text, first_of, new_app, new_rule, with_rule, with_subcommand}
@@ -19,25 +19,25 @@ use Rattle.tacho_cli.specs.declared.job.Job.TheVariants as job
 
 -- ---- the command line
 
--- a word that has to be there
+-- a required argument
 abbrev pub word_rule : Text → Rule
 word_rule id = record (new_rule id) { required = true }
 
--- a command with these words in this order
+-- a command with these arguments, in this order
 unfoldable pub with_words : App → List Text → App
 with_words app [] = app
 with_words app (id ∷ ids) = with_words (with_rule app (word_rule id)) ids
 
--- a subcommand: its name, its words in order, and what it does
+-- a subcommand: its name, its arguments in order, and what it does
 abbrev pub Subcommand : Type 0
 Subcommand = Text × List Text × Act
 
--- a command with these subcommands, each with its words
+-- a command with these subcommands, each with its arguments
 unfoldable pub with_table : App → List Subcommand → App
 with_table app [] = app
 with_table app (row ∷ table) = with_table (with_subcommand app (with_words (new_app row.0) row.1).top) table
 
--- the command with one of its subcommands required
+-- a command of which one subcommand is required
 abbrev pub needs_subcommand : App → App
 needs_subcommand app = record app { top = record app.top { subcommand_required = true } }
 
@@ -69,18 +69,18 @@ the_table =
     ∷ (codes "serve", codes "archive" ∷ codes "key" ∷ codes "port" ∷ codes "count" ∷ [], act.Serve)
     ∷ []
 
--- `tacho` with its subcommands, of which one has to be named
+-- `tacho` with its subcommands, one of which is required
 unfoldable pub tacho_app : App
 tacho_app = with_table (needs_subcommand (new_app (codes "tacho"))) the_table
 
 -- ---- the job
 
--- what the subcommand of a name does: that of the first row with it
+-- what the subcommand with a name does: the act of the first row with this name
 abbrev pub act_named : Text → List Subcommand → Option Act
 act_named name [] = None
 act_named name (row ∷ table) = if bytes_eq row.0 name then Some row.2 else act_named name table
 
--- whether it has an input, a text of CSV or a card file
+-- the job has an input: a text of CSV or a card file
 abbrev pub has_input : Job → Bool
 has_input job.Dump = true
 has_input job.Holder = true
@@ -88,15 +88,15 @@ has_input (job.Card part) = true
 has_input (job.AtDesk archive want driver word) = takes_input want
 has_input other = false
 
--- the word with this name is this text
+-- the argument with this name is this text
 abbrev pub IsWord : List Row → Text → Text → Type 0
 IsWord rows id text = first_of id rows ≡ Some text
 
--- the word with this name is the number's text, in decimal without leading zeros
+-- the argument with this name is the decimal text of the number, without leading zeros
 abbrev pub IsNumbered : List Row → Text → ℕ → ℕ → Type 0
 IsNumbered rows id most n = (text : Text) × IsWord rows id text × IsNumberText most text n
 
--- whether the driver is named
+-- the arguments name a driver
 abbrev pub has_driver : Want → Bool
 has_driver want.Register = false
 has_driver want.Import = false
@@ -104,7 +104,7 @@ has_driver want.Drivers = false
 has_driver (want.MonthOfAll text) = false
 has_driver other = true
 
--- the name of the other word
+-- the name of the other argument
 abbrev pub word_id : Want → Option Text
 word_id want.Import = Some (codes "part")
 word_id want.Withdraw = Some (codes "number")
@@ -114,7 +114,7 @@ word_id (want.MonthReading text) = Some (codes "month")
 word_id (want.MonthOfAll text) = Some (codes "month")
 word_id other = None
 
--- the word with this name is this text, or there is none and the text is empty
+-- the argument with this name is this text; or there is none, and the text is empty
 abbrev pub IsWordText : Option Text → List Row → Text → Type 0
 IsWordText (Some id) rows text = IsWord rows id text
 IsWordText None rows text = text ≡ []
@@ -126,7 +126,7 @@ driver_id false = None
 abbrev pub IsDriverText : Want → List Row → Text → Type 0
 IsDriverText w = IsWordText (driver_id (has_driver w))
 
--- the job of a subcommand, with the words of these rows
+-- the job of a subcommand, with the arguments in these rows
 abbrev pub IsJobOf : Act → List Row → Job → Type 0
 IsJobOf act.Dump rows j = j ≡ job.Dump
 IsJobOf act.Holder rows j = j ≡ job.Holder
@@ -140,17 +140,17 @@ IsJobOf act.Serve rows (job.Serve archive key port count) =
     × IsNumbered rows (codes "port") 65535 port × IsNumbered rows (codes "count") 1000000 count
 IsJobOf a rows j = ⊥
 
--- the job of the subcommand that the words name
+-- the job of the subcommand that the arguments name
 abbrev pub IsJob : Option (Text × List Row) → Job → Type 0
 IsJob sub j =
     (name : Text) × (rows : List Row) × (a : Act) × (sub ≡ Some (name, rows)) × (act_named name the_table ≡ Some a) × IsJobOf a rows j
 
--- the job is done at an archive that is there
+-- the job is done at an existing archive
 abbrev pub at_desk : Job → Bool
 at_desk (job.AtDesk archive want driver word) = true
 at_desk j = false
 
--- the path of the archive's file, where the job has one
+-- the path of the archive's file, if the job has one
 abbrev pub archive_of : Job → Option Text
 archive_of job.Dump = None
 archive_of job.Holder = None
@@ -160,28 +160,29 @@ archive_of (job.Migrate archive) = Some archive.now
 archive_of (job.AtDesk archive want driver word) = Some archive.now
 archive_of (job.Serve archive key port count) = Some archive.now
 
--- ---- how words are used
+-- ---- usage
 
--- how words are used is told where the parser refused them for another cause than memory, and no more where it had none
+-- usage is shown if the parser refused the arguments for a cause other than memory; if the parser was out of memory, nothing further is
+-- shown
 abbrev pub IsRefusal : ErrorKind → Usage → Type 0
 IsRefusal kind (usage.Words text) = kind ≢ OutOfMemory
 IsRefusal kind usage.Parser = kind ≡ OutOfMemory
 IsRefusal kind usage.Memory = Unit {0}
 IsRefusal kind usage.Numbers = ⊥
 
--- a port or a count that is none
+-- the argument for the port or the count isn't such a number
 abbrev pub HasNoNumbered : List Row → Type 0
 HasNoNumbered rows =
     (text : Text)
     × ((IsWord rows (codes "port") text × HasNoNumber 65535 text) ⊎ (IsWord rows (codes "count") text × HasNoNumber 1000000 text))
 
--- numbers are told of only by `serve`
+-- only `serve` reports bad numbers
 abbrev pub IsActUsage : Act → List Row → Usage → Type 0
 IsActUsage act.Serve rows usage.Numbers = HasNoNumbered rows
 IsActUsage a rows usage.Parser = Unit {0}
 IsActUsage a rows u = ⊥
 
--- it is told only where the command line doesn't take the words, or `serve` names a port or a count that is none
+-- usage is shown only if the command line doesn't accept the arguments, or if the port or the count of `serve` is no such number
 abbrev pub IsUsage : Bool → Option (Text × List Row) → Usage → Type 0
 IsUsage taken sub (usage.Words text) = taken ≡ false
 IsUsage taken sub usage.Numbers =

@@ -6,23 +6,23 @@ use tacho_desk::Want;
 /// What a subcommand does.
 #[derive(Clone, Copy, Debug, PartialEq, Eq)]
 pub(crate) enum Act {
-    /// It prints the spans of a value of EF Driver_Activity_Data.
+    /// Prints the spans of a value of EF Driver_Activity_Data.
     Dump,
-    /// It prints the holder of a card file.
+    /// Prints the holder of a card file.
     Holder,
-    /// It prints the spans of a card file.
+    /// Prints the spans of a card file.
     Card,
-    /// It makes an archive.
+    /// Makes an archive.
     Init,
-    /// It carries an archive of schema 1 over.
+    /// Migrates an archive of schema 1.
     Migrate,
-    /// What is wanted is done at an archive.
+    /// Does a task at an archive.
     AtDesk(Want),
-    /// It answers requests.
+    /// Answers requests.
     Serve,
 }
 
-/// Whether the command line names the driver.
+/// True if the command line names the driver.
 pub(crate) fn names_driver(want: Want) -> bool
     ensures { result ≡ has_driver want }
 {
@@ -32,7 +32,7 @@ pub(crate) fn names_driver(want: Want) -> bool
     )
 }
 
-/// The name of the other word, if there is one.
+/// The name of the other argument, if there is one.
 pub(crate) fn word_of(want: Want) -> Option<&'static str>
     ensures { option_map (λ id. id.now) result ≡ word_id want }
 {

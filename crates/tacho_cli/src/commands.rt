@@ -14,12 +14,11 @@ use tacho_desk::{Fault, part_of};
 use tacho_sheet::{Fault as ToldFault, push_bytes};
 use tacho_time::{Sink, Source, read_all, span_lines};
 
-/// How many bytes an EF Driver_Activity_Data has at the most.
+/// The most bytes that an EF Driver_Activity_Data can have.
 const ACTIVITY_LIMIT: usize = 65_535;
 
-/// `tacho dump`: reads one value of EF Driver_Activity_Data, of at most 65,535 bytes, and writes the spans that it
-/// gives, a line each, or the line of its first fault. Answers the program's status: 0 done, 1 refused, 3 where memory
-/// or a device failed.
+/// `tacho dump`: reads one value of EF Driver_Activity_Data, of at most 65,535 bytes, and writes the spans that it gives, a line each, or
+/// the line of its first fault. Returns the program's status: 0 done, 1 refused, 3 if memory ran out or a device failed.
 pub fn dump<R: Source, W: Sink>(alloc: Global, reader: &mut R, writer: &mut W) -> u8
     requires reader { R.has_failed reader.old ≡ false }
     requires writer { W.has_failed writer.old ≡ false }
@@ -35,7 +34,7 @@ pub fn dump<R: Source, W: Sink>(alloc: Global, reader: &mut R, writer: &mut W) -
     }
 }
 
-/// The lines of what a value's bytes give.
+/// The lines of the spans that a value's bytes give.
 fn dump_text(alloc: Global, bytes: &[u8]) -> Result<Vec<u8>, CardFault>
     requires { length bytes.now ≤ 65535 }
     ensures { MatchResult result (λ text. IsDumped bytes.now text.items) (λ fault. ReadsValue bytes.now (Err fault) ⊎ (fault ≡ Memory)) }
@@ -45,12 +44,11 @@ fn dump_text(alloc: Global, bytes: &[u8]) -> Result<Vec<u8>, CardFault>
     Ok(span_lines(alloc, &spans)?)
 }
 
-/// How many bytes a card file has at the most.
+/// The most bytes that a card file can have.
 const FILE_LIMIT: usize = 262_144;
 
-/// `tacho holder`: reads one card download file, of at most 262,144 bytes, and writes its holder in 30 hexadecimal
-/// digits, or the line of the first of C1 to C5. Answers the program's status: 0 done, 1 refused, 3 where memory or a
-/// device failed.
+/// `tacho holder`: reads one card file, of at most 262,144 bytes, and writes its holder in 30 hexadecimal digits, or the line of the first
+/// of C1 to C5. Returns the program's status: 0 done, 1 refused, 3 if memory ran out or a device failed.
 pub fn holder<R: Source, W: Sink>(alloc: Global, reader: &mut R, writer: &mut W) -> u8
     requires reader { R.has_failed reader.old ≡ false }
     requires writer { W.has_failed writer.old ≡ false }
@@ -66,9 +64,9 @@ pub fn holder<R: Source, W: Sink>(alloc: Global, reader: &mut R, writer: &mut W)
     }
 }
 
-/// `tacho card PART`: reads one card download file, of at most 262,144 bytes, by a part of it (`both`, `first` or `second`; another
-/// word is P1, and then nothing is read), and writes the spans that it gives, a line each, or the line of the first of C1 to C14.
-/// Answers the program's status: 0 done, 1 refused, 3 where memory or a device failed.
+/// `tacho card PART`: reads one card file, of at most 262,144 bytes, by a part (`both`, `first` or `second`), and writes the spans that it
+/// gives, a line each, or the line of the first of C1 to C14. With another argument it answers P1 and reads nothing. Returns the program's
+/// status: 0 done, 1 refused, 3 if memory ran out or a device failed.
 pub fn card<R: Source, W: Sink>(alloc: Global, part: &str, reader: &mut R, writer: &mut W) -> u8
     requires reader { R.has_failed reader.old ≡ false }
     requires writer { W.has_failed writer.old ≡ false }
@@ -82,7 +80,7 @@ pub fn card<R: Source, W: Sink>(alloc: Global, part: &str, reader: &mut R, write
     card_by(alloc, part, reader, writer)
 }
 
-/// The spans of a card file, read by a part.
+/// Writes the spans of a card file, read by a part.
 fn card_by<R: Source, W: Sink>(alloc: Global, part: Part, reader: &mut R, writer: &mut W) -> u8
     requires reader { R.has_failed reader.old ≡ false }
     requires writer { W.has_failed writer.old ≡ false }
@@ -99,7 +97,7 @@ fn card_by<R: Source, W: Sink>(alloc: Global, part: Part, reader: &mut R, writer
     }
 }
 
-/// The lines of what a card file gives, read by a part.
+/// The lines of the spans that a card file gives, read by a part.
 fn card_text(alloc: Global, part: Part, bytes: &[u8]) -> Result<Vec<u8>, CardFault>
     ensures { MatchResult result (λ text. IsListed part bytes.now text.items)
         (λ fault. FileTells part bytes.now (Err fault) ⊎ (fault ≡ Memory)) }

@@ -13,16 +13,19 @@ use tacho_desk::{Fault, Text, Want, carry_out, task_of};
 use tacho_state::{Caller, Keeper};
 use tacho_time::{Sink, Source, read_all};
 
-/// How many bytes an input has at the most.
+/// The most bytes that an input can have.
 const INPUT_LIMIT: usize = 262_144;
 
-/// Does a job at an archive, as the office: reads its words from left to right, then its input where it has one (of at most
-/// 262,144 bytes), acts, and writes its text or the line of its fault. Answers the program's status: 0 done, 1 refused, 3 where
-/// memory, the store or a device failed. After a refusal, or where the reader failed, the archive is as before; where the
-/// writer failed the job has acted, and a beginning of its text is written. What a command tells is kept. A job without an input, or one
-/// whose arguments have a fault, leaves the reader as it was, and so waits for nobody. Where the arguments or the input have a fault, the archive
-/// isn't asked, so that the store's fault (S12) comes only after them. Where both are sound, no fault of theirs is told but E8, also where
-/// the store fails; and X2 comes only where a device failed.
+/// Does a job at an archive, as the office. Reads its arguments from left to right, then its input if it has one (at most 262,144 bytes),
+/// acts, and writes its text or the line of its fault. Returns the program's status: 0 done, 1 refused, 3 if memory ran out, the store
+/// failed, or a device failed.
+///
+/// After a refusal, or if the reader failed, the archive is as it was before. If the writer failed, the job was done, and a prefix of its
+/// text is written. What a command answered with success is durable.
+///
+/// A job without input, or with bad arguments, does not touch the reader, so it never waits for input. If an argument or the input is bad,
+/// the archive is not accessed, so a store failure (S12) is reported only after such faults. If both are valid, no fault of theirs is
+/// reported except E8, even if the store fails. X2 is reported only if a device failed.
 pub fn perform<K: Keeper, R: Source, W: Sink>(
     alloc: Global,
     job: Job<'_>,
@@ -56,7 +59,7 @@ pub fn perform<K: Keeper, R: Source, W: Sink>(
     }
 }
 
-/// What is wanted of the office's archive comes to this, with the words' texts.
+/// Answers a job at the office's archive, with the texts of its arguments.
 fn answer<K: Keeper, R: Source>(
     alloc: Global,
     want: Want,

@@ -8,7 +8,7 @@ use tacho_sheet::{Fault as ToldFault, SheetFault, fault_line};
 use tacho_state::StoreFault;
 use tacho_time::{Sink, write_all};
 
-/// Writes a text, and answers the status, or 3 where the writer failed.
+/// Writes a text, and returns the status, or 3 if the writer failed.
 pub(crate) fn tell<W: Sink>(writer: &mut W, text: &[u8], status: u8) -> u8
     ensures { IsWrittenOut (W.has_failed writer.new) (W.written writer.old) (W.written writer.new) (record { text = text.now; status = status }) result }
 {
@@ -18,7 +18,7 @@ pub(crate) fn tell<W: Sink>(writer: &mut W, text: &[u8], status: u8) -> u8
     }
 }
 
-/// Writes the line of a fault, and answers its status, or 3 where the writer failed. It takes no memory.
+/// Writes the line of a fault, and returns its status, or 3 if the writer failed. Allocates no memory.
 pub(crate) fn tell_fault<W: Sink>(writer: &mut W, fault: Fault) -> u8
     ensures { IsWrittenOut (W.has_failed writer.new) (W.written writer.old) (W.written writer.new) (fault_reply fault) result }
 {
@@ -29,7 +29,7 @@ pub(crate) fn tell_fault<W: Sink>(writer: &mut W, fault: Fault) -> u8
     }
 }
 
-/// The program's status after a refusal: 3 where memory or the store failed, or else 1.
+/// The program's status after a refusal: 3 if memory ran out or the store failed, otherwise 1.
 fn status_of(fault: &ToldFault) -> u8
     ensures { result ≡ told_status fault.now }
 {

@@ -12,16 +12,16 @@ use std::alloc::{AllocError, Global};
 use tacho_desk::{MonthOfAll, MonthReading, Reading, Want};
 use tacho_sheet::read_number;
 
-/// Why a command line asks for nothing.
+/// Why a command line names no job.
 #[derive(Debug, Drop)]
 pub enum Usage {
-    /// The words name no job: how they are used.
+    /// The arguments name no job. The value is the text that shows the usage.
     Words(String),
-    /// PORT is no number from 1 to 65535, or COUNT none from 1 to 1,000,000.
+    /// PORT isn't a number from 1 to 65535, or COUNT isn't one from 1 to 1,000,000.
     Numbers,
-    /// The parser of words gave no answer, since it had no memory.
+    /// The parser of arguments gave no answer, because it was out of memory.
     Parser,
-    /// There was no memory.
+    /// Out of memory.
     Memory,
 }
 
@@ -36,7 +36,7 @@ impl From<AllocError> for Usage {
     }
 }
 
-/// A subcommand: its name, what it does in words for its user, the names of its words in order, and what it does.
+/// A subcommand: its name, its description for the user, the names of its arguments in order, and what it does.
 type Row = (&'static str, &'static str, &'static [&'static str], Act);
 
 /// The subcommands.
@@ -187,12 +187,12 @@ static TABLE: [Row; 24] = [
     ),
 ];
 
-/// The greatest port, and the most connections that are answered.
+/// The greatest port; below, the greatest number of connections to answer.
 const LAST_PORT: u32 = 65_535;
 
 const LAST_COUNT: u32 = 1_000_000;
 
-/// What a word stands for, in words for its user.
+/// The description of an argument for the user.
 fn meaning_of(id: &str) -> &'static str {
     if id == "archive" {
         "The path of the archive's file"
@@ -215,7 +215,7 @@ fn meaning_of(id: &str) -> &'static str {
     }
 }
 
-/// A word that has to be there.
+/// A required argument.
 fn word<'a>(alloc: Global, id: &'a str) -> Arg<'a>
     ensures rule { rule_of result ≡ word_rule id.entry.now }
     ensures global { result.global ≡ false }
@@ -223,7 +223,7 @@ fn word<'a>(alloc: Global, id: &'a str) -> Arg<'a>
     Arg::new(alloc, id).required(true).help(meaning_of(id))
 }
 
-/// A command with its words.
+/// A command with its arguments.
 fn leaf<'a>(
     alloc: Global,
     name: &'a str,
@@ -262,7 +262,7 @@ fn tacho<'a>(alloc: Global) -> Result<Command<'a>, AllocError>
     command_of(alloc, TABLE.as_slice())
 }
 
-/// What the subcommand of a name does, by a table.
+/// What the subcommand with a name does, according to a table.
 fn act_in(table: &[Row], name: &str) -> Option<Act>
     ensures { result ≡ act_named name.now (map (λ row. (row.0.now, map (λ s. s.now) row.2.now, row.3)) table.now) }
 {
@@ -274,14 +274,14 @@ fn act_in(table: &[Row], name: &str) -> Option<Act>
     None
 }
 
-/// What the subcommand of a name does.
+/// What the subcommand with a name does.
 fn act_of(name: &str) -> Option<Act>
     ensures { result ≡ act_named name.now the_table }
 {
     act_in(TABLE.as_slice(), name)
 }
 
-/// The text of a word.
+/// The text of an argument.
 fn text_of<'a>(matches: &ArgMatches<'a>, id: &str) -> Option<&'a str>
     ensures { IfSome result (λ text. IsWord (rows_of (found_of matches.now)) id.now text.now) }
 {
@@ -289,7 +289,7 @@ fn text_of<'a>(matches: &ArgMatches<'a>, id: &str) -> Option<&'a str>
     Some(text)
 }
 
-/// The driver's number as the words have it, where they name a driver, or an empty text.
+/// The driver's number as text, or an empty text if the arguments name no driver.
 fn driver_text<'a>(want: Want, words: &ArgMatches<'a>) -> Option<&'a str>
     ensures { IfSome result (λ text. IsDriverText want (rows_of (found_of words.now)) text.now) }
 {
@@ -300,7 +300,7 @@ fn driver_text<'a>(want: Want, words: &ArgMatches<'a>) -> Option<&'a str>
     }
 }
 
-/// The other word, where there is one, or an empty text.
+/// The other argument, or an empty text if there is none.
 fn word_text<'a>(want: Want, words: &ArgMatches<'a>) -> Option<&'a str>
     ensures { IfSome result (λ text. IsWordText (word_id want) (rows_of (found_of words.now)) text.now) }
 {
@@ -310,7 +310,7 @@ fn word_text<'a>(want: Want, words: &ArgMatches<'a>) -> Option<&'a str>
     }
 }
 
-/// The job of a subcommand by its words.
+/// Makes the job of a subcommand from its arguments.
 fn job_of<'a>(act: Act, words: &ArgMatches<'a>) -> Result<Job<'a>, Usage>
     ensures job { IfOk result (IsJobOf act (rows_of (found_of words.now))) }
     ensures usage { IfErr result (IsActUsage act (rows_of (found_of words.now))) }
@@ -335,7 +335,7 @@ fn job_of<'a>(act: Act, words: &ArgMatches<'a>) -> Result<Job<'a>, Usage>
     }
 }
 
-/// The job at an archive by its words.
+/// Makes the job at an archive from its arguments.
 fn desk_of<'a>(want: Want, words: &ArgMatches<'a>) -> Result<Job<'a>, Usage>
     ensures job { IfOk result (IsJobOf (Act.AtDesk want) (rows_of (found_of words.now))) }
     ensures usage { IfErr result (λ usage. usage ≡ Usage.Parser) }
@@ -354,7 +354,7 @@ fn desk_of<'a>(want: Want, words: &ArgMatches<'a>) -> Result<Job<'a>, Usage>
     })
 }
 
-/// The words of `serve`. Of a port or a count that is none how they are used is told.
+/// Makes the job of `serve` from its arguments. Fails with `Usage::Numbers` if the port or the count isn't a valid number.
 fn serve_of<'a>(words: &ArgMatches<'a>) -> Result<Job<'a>, Usage>
     ensures job { IfOk result (IsJobOf Act.Serve (rows_of (found_of words.now))) }
     ensures usage { IfErr result (IsActUsage Act.Serve (rows_of (found_of words.now))) }
@@ -379,7 +379,7 @@ fn serve_of<'a>(words: &ArgMatches<'a>) -> Result<Job<'a>, Usage>
     })
 }
 
-/// What an error of the parser says: how the words are used, unless it had no memory.
+/// Converts an error of the parser: the usage, unless the parser was out of memory.
 fn refusal(alloc: Global, error: &Error) -> Usage
     ensures { IsRefusal (kind_of error.now) result }
 {
@@ -392,7 +392,7 @@ fn refusal(alloc: Global, error: &Error) -> Usage
     }
 }
 
-/// The job that the words of a command line name, the program's name the first of them, or how they are used.
+/// Parses the arguments of a command line, the first of which is the program's name. Returns the job that they name, or why they name none.
 pub fn parse<'a>(alloc: Global, words: &'a [String]) -> Result<Job<'a>, Usage>
     ensures taken { IfOk result (λ _. fault_of tacho_app (map string_bytes words.entry.now) ≡ []) }
     ensures job { IfOk result (IsJob (subcommand_of tacho_app (map string_bytes words.entry.now))) }

@@ -1,4 +1,4 @@
--- The breaches of a day's driving (specs/DailyDriving), where a rest run ends.
+-- The breaches of a day's driving (specs/DailyDriving), when a rest run ends.
 use Rattle.std.proofs.Common.{◌≡◌, ℕ, ◌<◌, ◌≤◌, ◌⊎◌, ◌↔◌, inl, inr, Bool, true, false, List, [], ◌∷◌, ◌++◌}
 use Rattle.std.proofs.Common.{refl, sym, subst, ◌∙◌, arith, nat_lt, if◌then◌else◌}
 use Rattle.std.specs.List.{Contains}
@@ -28,14 +28,14 @@ use Rattle.tacho_days.specs.DutyDays.{day_to, IsLastOf}
 use Rattle.tacho_days.specs.DailyDriving.{IsB4Seen, IsB5Seen, IsDrivingSeen}
 use Rattle.tacho_days.proofs.DutyDaysLemmas.{day_lasts, never_both, duty_new, duty_only, day_before}
 
--- before the first run
+-- before the first run, there is no breach
 pub none_seen : (line : Line) (b : Breach) → IsDrivingSeen line [] b → ⊥
 none_seen line b h = elim h [
   | inl four ↦ (let k : four.seen.0 < 0 = four.seen.1 in omega arith)
   | inr five ↦ (let k : five.seen.0 < 0 = five.seen.1 in omega arith)
 ]
 
--- a run more
+-- one more run
 module _ (line : Line) (runs : List Run) (r : Run) where
   wider : (b : Breach) → IsDrivingSeen line runs b → IsDrivingSeen line (runs ++ r ∷ []) b
   wider b h = elim h [
@@ -51,7 +51,7 @@ module _ (line : Line) (runs : List Run) (r : Run) where
     })
   ]
 
-  -- that is no day's rest
+  -- a run that isn't a day's rest
   pub seen_keep : ((day : DutyDay) → IsDuty line day → r ≡ day.rest → ⊥)
       → (b : Breach) → IsDrivingSeen line runs b ↔ IsDrivingSeen line (runs ++ r ∷ []) b
   seen_keep none b = (
@@ -68,17 +68,17 @@ module _ (line : Line) (runs : List Run) (r : Run) where
     ],
   )
 
--- a long rest behind another, which ends a day of a week, the n-th of the extended days if it is one
+-- a long rest after another one, which ends a day of a week; if the day is extended, it is the n-th extended day of the week
 module _ (line : Line) (runs : List Run) (start place : ℕ) (reached : Reached line runs start place)
     (r : Run) (is : IsRestRun line r) (at : r.start ≡ start)
     (enough : 540 ≤ minutes_of r) (from : ℕ) (l : IsLastOf 540 runs from) (u n : ℕ) (week : IsInWeek u from)
     (so : 540 < driving line from r.start
     → AreSoMany (λ day. IsExtended line u day × (day.start ≤ from)) EarlierDay n) where
-  -- more than ten hours in it
+  -- more than ten hours of driving in this day
   IsLong : Breach → Type 0
   IsLong b = IsTooMuch line B4 600 from r.start b
 
-  -- a third extended day, or a later one
+  -- a third or later extended day
   IsOften : Breach → Type 0
   IsOften b = (2 < n) × IsTooMuch line B5 540 from r.start b
 
@@ -133,7 +133,7 @@ module _ (line : Line) (runs : List Run) (start place : ℕ) (reached : Reached 
         })
   ]
 
-  -- its ordinal is n
+  -- the number of extended days up to this one is n
   ordinal_is : (w other : ℕ) → IsInWeek w from → 540 < driving line from r.start
       → AreSoMany (λ day. IsExtended line w day × (day.start ≤ from)) EarlierDay other → other ≡ n
   ordinal_is w other (low, high) more many =
@@ -166,7 +166,7 @@ module _ (line : Line) (runs : List Run) (start place : ℕ) (reached : Reached 
         inr (omega arith, long)
   ]
 
-  -- the breaches of the day and those before
+  -- the breaches seen are those before and those of this day
   all_seen : (b : Breach) → ((IsDrivingSeen line runs b ⊎ IsLong b) ⊎ IsOften b) ↔ IsDrivingSeen line (runs ++ r ∷ []) b
   all_seen b = (
     λ h. elim h [
@@ -179,7 +179,7 @@ module _ (line : Line) (runs : List Run) (start place : ℕ) (reached : Reached 
     ],
   )
 
-  -- no day before starts there
+  -- no earlier day starts at the same minute
   not_before : (day : DutyDay) → IsDuty line day → Contains runs day.rest → day.start ≡ from → ⊥
   not_before day d in' e =
       let (s, t) = day_lasts line day d in
@@ -237,7 +237,7 @@ module _ (line : Line) (runs : List Run) (start place : ℕ) (reached : Reached 
         (exactly_skip (λ b. IsDrivingSeen line runs b ⊎ IsLong b) IsOften Apart (own ++ xs) first_one (λ b h.
         let many : 2 < n = h.0 in omega arith))
 
-    -- are collected
+    -- all these breaches are found
     pub day_collected : AreCollected (λ b. IsDrivingSeen line (runs ++ r ∷ []) b)
         (own ++ (listed (over_of B4 600 from ten) ++ (if nat_lt 2 n then listed (over_of B5 540 from nine) else [])))
     day_collected =

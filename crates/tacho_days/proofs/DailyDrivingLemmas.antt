@@ -41,7 +41,7 @@ use Rattle.tacho_days.proofs.DutyDaysLemmas.{first_on, first_long}
 use Rattle.tacho_days.proofs.DailyDrivingWeekLemmas.{week_in, tally_none, tally_keep, tally_next, so_many_upto}
 use Rattle.tacho_days.proofs.DailyDrivingFoundLemmas.{none_seen, seen_keep, day_collected}
 
--- what is put has its kind
+-- a breach that is put has the kind B4 or B5
 often_kinds : (b : Bool) (d : DutyDriving)
     → All (λ (y : Breach). IsTrue (is_b4_or_b5 y.kind)) (if b then listed (over_of B5 540 d.from d.nine) else [])
 often_kinds true d = over_kinds is_b4_or_b5 B5 540 d.from d.nine refl
@@ -65,7 +65,7 @@ pub any_kinds : (run : Option Run) (d : DutyDriving)
 any_kinds None d = All-nil (λ (y : Breach). IsTrue (is_b4_or_b5 y.kind))
 any_kinds (Some run) d = duty_kinds run d
 
--- nothing is put for a count of nothing
+-- a count without driving gives no breach
 over_none : (g : Bool) (limit : ℕ) (c : Count) (b : Breach) → nat_lt limit c.minutes ≡ g → c.minutes ≡ 0
     → listed (if g then Some b else None) ≡ []
 over_none true limit c b e none = absurd (let f : limit < c.minutes = grind (arith, nat_tests) in omega arith)
@@ -86,10 +86,10 @@ none_found d nine ten =
     over_none (nat_lt 540 d.nine.minutes) 540 d.nine five refl nine in
     rw (e, often_none (nat_lt 2 (ordinal_of d)) (listed (over_of B5 540 d.from d.nine)) f) refl
 
--- a rest run that starts where the last one did
+-- a rest run that starts where the runs that have ended stop
 module _ (line : Line) (start place : ℕ) (d : DutyDriving) (own : List Breach) (h : IsDriven line start place d own)
     (r : Run) (is : IsRestRun line r) (at : r.start ≡ start) where
-  -- that is no day's rest
+  -- a run that isn't a day's rest
   module _ (none : (day : DutyDay) → IsDuty line day → r ≡ day.rest → ⊥) where
     found_kept : AreCollected (λ b. IsDrivingSeen line (h.runs ++ r ∷ []) b) own
     found_kept =
@@ -99,10 +99,10 @@ module _ (line : Line) (start place : ℕ) (d : DutyDriving) (own : List Breach)
     tally_kept : IsTally line (h.runs ++ r ∷ []) d.week d.extended
     tally_kept = tally_keep line h.runs r (λ w day x same. none day x.duty same) d.week d.extended h.tally
 
-  -- a long one
+  -- a long rest
   module _ (enough : 540 ≤ minutes_of r) (late : 5760 ≤ d.from)
       (all : (run : Run) → IsRestRun line run → run.start ≤ r.start → Contains (h.runs ++ r ∷ []) run) where
-    -- behind another
+    -- after another long rest
     module _ (l : IsLastOf 540 h.runs d.from) where
       nine_here : IsCounted line 540 d.from r.start d.nine
       nine_here = subst (λ (n : ℕ). IsCounted line 540 d.from n d.nine) (sym at) h.nine
@@ -150,7 +150,7 @@ module _ (line : Line) (start place : ℕ) (d : DutyDriving) (own : List Breach)
           omega (arith, e', f, over, few)))
           d.week d.extended h.tally
 
-    -- the first
+    -- the first long rest
     module _ (none : h.runs ≡ []) (zero' : start ≡ 0) where
       nothing : (limit : ℕ) (c : Count) → IsCounted line limit d.from start c → c.minutes ≡ 0
       nothing limit c n =
@@ -174,7 +174,7 @@ module _ (line : Line) (start place : ℕ) (d : DutyDriving) (own : List Breach)
           omega arith)
       first_if false e = tally_kept (none_first line h.runs start place h.reached r is at none)
 
-    -- ends a day
+    -- a long rest ends a day, and the day's breaches are found
     pub found_next : AreCollected (λ b. IsDrivingSeen line (h.runs ++ r ∷ []) b) (own ++ found_of d)
     found_next = elim h.last [ inl first ↦ found_first first.none first.first | inr l ↦ found_long l ]
 
@@ -187,7 +187,7 @@ module _ (line : Line) (start place : ℕ) (d : DutyDriving) (own : List Breach)
         → IsTally line (h.runs ++ r ∷ []) (next_day from d).week (next_day from d).extended
     tally_after from = tally_here (nat_lt 540 d.nine.minutes) refl
 
--- the steps over a span from place to q
+-- the steps over a span from `place` to q
 module _ (line : Line) (start place q : ℕ) (d : DutyDriving) (own : List Breach)
     (h : IsDriven line start place d own) (more : place < q) where
   pub rest_step : ((m : ℕ) → place ≤ m → m < q → line m ≡ Rest) → IsDriven line start q d own
@@ -204,7 +204,7 @@ module _ (line : Line) (start place q : ℕ) (d : DutyDriving) (own : List Breac
     found = h.found;
   }
 
-  -- the day that is open starts by the runs that have ended
+  -- the open day starts at or before the end of the runs
   from_by : IsLastOf 540 h.runs d.from → d.from ≤ start
   from_by l =
       let e : l.run.past < start = All-contains (λ (y : Run). y.past < start) h.runs l.run h.reached.ended l.among in
@@ -213,7 +213,7 @@ module _ (line : Line) (start place q : ℕ) (d : DutyDriving) (own : List Breac
 
   module _ (drives : Bool) (does : Does line drives place q)
       (busy : (m : ℕ) → place ≤ m → m < q → line m ≢ Rest) where
-    -- no run ends
+    -- no rest run ends at the span
     pub busy_step : place ≤ start → IsDriven line q q (duty_with drives place q d) own
     busy_step none =
         let below : start ≤ place = h.reached.below in
@@ -235,7 +235,7 @@ module _ (line : Line) (start place q : ℕ) (d : DutyDriving) (own : List Breac
               }
         ]
 
-    -- a run ends
+    -- a rest run ends at the span
     module _ (gap : start < place) (far : place < FAR) (late : 5760 ≤ d.from) where
       reached_on : Reached line (h.runs ++ run_of start place ∷ []) q q
       reached_on = reached_gap line h.runs start place q h.reached gap more far busy
@@ -308,7 +308,7 @@ module _ (line : Line) (start place q : ℕ) (d : DutyDriving) (own : List Breac
           (own ++ duty_found (run_of start place) d)
       gap_step = gap_if (nat_le 540 (place - start)) refl
 
--- a span more
+-- one more span
 module _ (spans : List Span) (s : Span) (base start : ℕ) (d : DutyDriving) (own : List Breach) (owed : List Debt)
     (r : DailyDrivingStands start s.start d own owed base spans)
     (some : s.start < s.past) (far : s.past < FAR) (late : 5760 ≤ d.from) where
@@ -366,7 +366,7 @@ module _ (spans : List Span) (s : Span) (base start : ℕ) (d : DutyDriving) (ow
       (own ++ found_any (run_before start s) d) owed base (spans ++ s ∷ [])
   driven_fed = by (is_rest s.mark.activity) (nat_lt start s.start) refl refl
 
--- nothing is counted before a minute
+-- before the first minute, nothing is counted
 counted_none : (line : Line) (limit from : ℕ) → IsCounted line limit from 0 count_none
 counted_none line limit from = record {
   minutes = sym (driving_before line from 0 (omega arith));
@@ -389,7 +389,7 @@ driven_none base late = record {
   };
 }
 
--- with all runs of the line these are all breaches
+-- with all runs of the line, these are all breaches
 all_driving : (line : Line) (runs : List Run) → AreRestRuns line runs → (b : Breach)
     → IsDrivingSeen line runs b ↔ IsDailyDriving line b
 all_driving line runs all b = (
@@ -408,7 +408,7 @@ all_driving line runs all b = (
   ],
 )
 
--- at the end
+-- the end of the line
 pub driven_end : (spans : List Span) (base past start : ℕ) (d : DutyDriving) (own : List Breach) (owed : List Debt)
     → DailyDrivingStands start past d own owed base spans → IsExamined spans base past → 5760 ≤ d.from
     → DailyDrivingDefined (own ++ duty_found (run_of start FAR) d) owed base past spans

@@ -1,4 +1,4 @@
--- How many extended days a week has so far (specs/DailyDriving), where a rest run ends.
+-- The number of extended days of a week so far (specs/DailyDriving), when a rest run ends.
 use Rattle.std.proofs.Common.{◌≡◌, ◌≢◌, ℕ, ◌+◌, ◌<◌, ◌≤◌, ◌⊎◌, ◌↔◌, inl, inr, Bool, true, false, List, [], ◌∷◌, ◌++◌}
 use Rattle.std.proofs.Common.{length, length-append, refl, subst, arith, nat_eq, if◌then◌else◌}
 use Rattle.std.specs.List.{Contains}
@@ -20,7 +20,7 @@ use Rattle.tacho_days.specs.DutyDays.{day_to, IsLastOf}
 use Rattle.tacho_days.specs.DailyDriving.{week_at, IsExtendedSeen, IsTally}
 use Rattle.tacho_days.proofs.DutyDaysLemmas.{day_lasts, later, duty_only, day_only, day_before}
 
--- a minute lies in its week
+-- a minute is in its week
 pub week_in : (m : ℕ) → 5760 ≤ m → IsInWeek (week_at m) m
 week_in m late = (omega arith, omega arith)
 
@@ -37,12 +37,12 @@ tally_none line = record {
   known = inl refl;
 }
 
--- a run more
+-- one more run
 module _ (line : Line) (runs : List Run) (r : Run) where
   wider : (w : ℕ) (day : DutyDay) → IsExtendedSeen line runs w day → IsExtendedSeen line (runs ++ r ∷ []) w day
   wider w day h = record { extended = h.extended; seen = Contains-append_left runs (r ∷ []) day.rest h.seen }
 
-  -- that is no extended day's rest
+  -- a run that isn't the rest of an extended day
   module _ (none : (w : ℕ) (day : DutyDay) → IsExtended line w day → r ≡ day.rest → ⊥) where
     narrower : (w : ℕ) (day : DutyDay) → IsExtendedSeen line (runs ++ r ∷ []) w day → IsExtendedSeen line runs w day
     narrower w day h = elim (Contains-push_cases runs r day.rest h.seen) [
@@ -59,11 +59,11 @@ module _ (line : Line) (runs : List Run) (r : Run) where
       known = elim t.known [ inl e ↦ inl e | inr (day, h) ↦ inr (day, wider week day h) ];
     }
 
--- a long rest behind another
+-- a long rest after another one
 module _ (line : Line) (runs : List Run) (start place : ℕ) (reached : Reached line runs start place)
     (r : Run) (is : IsRestRun line r) (at : r.start ≡ start)
     (enough : 540 ≤ minutes_of r) (from : ℕ) (l : IsLastOf 540 runs from) where
-  -- no duty day up to this one starts later
+  -- no duty day up to this one starts later than this one
   starts_by : (day : DutyDay) → IsDuty line day → Contains (runs ++ r ∷ []) day.rest → day.start ≤ from
   starts_by day d in' = elim (Contains-push_cases runs r day.rest in') [
     | inl was ↦
@@ -76,7 +76,7 @@ module _ (line : Line) (runs : List Run) (start place : ℕ) (reached : Reached 
         let e : day.start ≡ from = only.0 in omega arith)
   ]
 
-  -- a day that starts by then has its rest among the runs
+  -- a day that starts at or before this one ends with a rest at or before this rest
   rest_by : (day : DutyDay) → IsDuty line day → day.start ≤ from → day.rest.start ≤ r.start
   rest_by day d le = elim (cases_lt r.start day.rest.start) [
     | inl after ↦
@@ -88,7 +88,7 @@ module _ (line : Line) (runs : List Run) (start place : ℕ) (reached : Reached 
     | inr by ↦ by
   ]
 
-  -- that ends an extended day of a week
+  -- the rest ends an extended day of a week
   module _ (u : ℕ) (x : IsExtended line u (day_to from r)) where
     one_more : (day : DutyDay)
         → (IsExtendedSeen line runs u day ⊎ (day_to from r ≡ day))
@@ -120,7 +120,7 @@ module _ (line : Line) (runs : List Run) (start place : ℕ) (reached : Reached 
         → EarlierDay day (day_to from r)
     earlier day h = day_before line runs start place reached r is at enough from l day h.extended.duty h.seen
 
-    -- one more of the week
+    -- one more extended day of the same week
     tally_same : (count : ℕ) → IsTally line runs u count → IsTally line (runs ++ r ∷ []) u (count + 1)
     tally_same count t = record {
       so_many = record {
@@ -142,7 +142,7 @@ module _ (line : Line) (runs : List Run) (start place : ℕ) (reached : Reached 
       known = inr (day_to from r, here);
     }
 
-    -- the first of the week
+    -- the first extended day of a week
     tally_other : (week count : ℕ) → IsTally line runs week count → week ≢ u → IsTally line (runs ++ r ∷ []) u 1
     tally_other week count t ne =
         let none : (day : DutyDay) → IsExtendedSeen line runs u day → ⊥ = λ day h.

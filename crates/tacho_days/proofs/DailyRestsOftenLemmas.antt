@@ -1,4 +1,4 @@
--- Reduced daily rests that come too often, as they end one by one (specs/RestingDays, specs/DailyRests).
+-- Reduced daily rests that come too often, found one by one as the rests end (specs/RestingDays, specs/DailyRests).
 use Rattle.std.proofs.Common.{◌≡◌, ℕ, ◌+◌, ◌<◌, ◌≤◌, ◌⊎◌, ◌&&◌, inl, inr, Bool, true, false, None, Some}
 use Rattle.std.proofs.Common.{List, [], ◌∷◌, ◌++◌, refl, sym, ap, subst, ◌∙◌, arith, nat_lt, if◌then◌else◌}
 use Rattle.std.specs.Prelude.{◌↔◌, IsTrue}
@@ -36,11 +36,11 @@ pub record IsOftenTo (line : Line) (from : ℕ) (r : Run) (weekly number : ℕ) 
   pub since : b.since ≡ weekly
   pub amount : b.amount + 3 ≡ number + 1
 
--- the reduced rests behind a weekly one, up to a minute
+-- the reduced rests after a weekly rest, up to a minute
 abbrev pub ReducedUpTo : Line → Run → ℕ → DutyDay → Type 0
 ReducedUpTo line weekly to other = IsReduced line other × Before weekly other.rest × (other.rest.start ≤ to)
 
--- there is one number of them
+-- their number is unique
 up_to_only : (line : Line) (weekly : Run) (to n m : ℕ) → AreSoMany (ReducedUpTo line weekly to) EarlierDay n
     → AreSoMany (ReducedUpTo line weekly to) EarlierDay m → n ≡ m
 up_to_only line weekly to n m a b =
@@ -57,11 +57,11 @@ module _ (line : Line) (runs : List Run) (start place : ℕ) (reached : Reached 
   weekly_is : IsWeeklyRest line w.run
   weekly_is = record { rests = rests line runs start place reached r is at w.run w.among; enough = w.enough }
 
-  -- lies before this one
+  -- it is before this rest
   weekly_before : Before w.run r
   weekly_before = later line runs start place reached r is at w.run w.among
 
-  -- with none between
+  -- no weekly rest is between them
   weekly_last : (run : Run) → IsWeeklyRest line run → Before w.run run → Before run r → ⊥
   weekly_last run h after before =
       let some : run.start < run.past = h.rests.some in
@@ -73,7 +73,7 @@ module _ (line : Line) (runs : List Run) (start place : ℕ) (reached : Reached 
         | inr sooner ↦ (let s : run.past < w.run.start = sooner in omega arith)
       ]
 
-  -- the reduced rests up to this one
+  -- the number of reduced rests up to this one
   up_to : IsReduced line (day_to from r) → AreSoMany (ReducedUpTo line w.run r.start) EarlierDay (number + 1)
   up_to new =
       let ends : w.run.past ≡ weekly = w.ends in
@@ -101,7 +101,7 @@ module _ (line : Line) (runs : List Run) (start place : ℕ) (reached : Reached 
       ))
       (reduced_more line runs start place reached r is at enough from l weekly number w n new)
 
-  -- what a breach of the day says
+  -- if a breach is that of this day, its fields are those of this rest
   b3_back : (b : Breach) (h : IsB3Seen line (runs ++ r ∷ []) b) → r ≡ h.is.day.rest
       → IsOftenTo line from r weekly number b
   b3_back b h same =
@@ -136,7 +136,7 @@ module _ (line : Line) (runs : List Run) (start place : ℕ) (reached : Reached 
         amount = omega arith;
       }
 
-  -- one rest more
+  -- the breaches with one more rest
   pub b3_both : (b : Breach)
       → (IsB3Seen line runs b ⊎ IsOftenTo line from r weekly number b) ↔ IsB3Seen line (runs ++ r ∷ []) b
   b3_both b = (
@@ -171,7 +171,7 @@ module _ (line : Line) (runs : List Run) (start place : ℕ) (reached : Reached 
     ],
   )
 
-  -- an earlier breach has an earlier moment
+  -- a breach of an earlier rest has an earlier moment
   pub b3_apart : (b : Breach) → IsB3Seen line runs b → b.moment ≡ r.start → ⊥
   b3_apart b h moment =
       let e : b.moment ≡ h.is.day.rest.start = h.is.moment in
@@ -179,11 +179,11 @@ module _ (line : Line) (runs : List Run) (start place : ℕ) (reached : Reached 
       let before : h.is.day.rest.past < r.start = later line runs start place reached r is at h.is.day.rest h.seen in
       omega arith
 
--- the breach of the day, where there is one
+-- the breach of the day, if there is one
 module _ (P : Breach → Type 0) (found : List Breach) (line : Line) (r : Run) (d : RestingDay)
     (same : IsTrue (reduced_of d.part (day_to d.from r)) ↔ IsReduced line (day_to d.from r)) (t : AreCollected P found)
     (apart : (b : Breach) → P b → b.kind ≡ B3 → b.moment ≡ r.start → ⊥) where
-  -- whether it is reduced, and above the limit
+  -- by cases: whether the rest is reduced, and whether the number is above the limit
   often_by : (g h : Bool) → reduced_of d.part (day_to d.from r) ≡ g → nat_lt 3 (d.number + 1) ≡ h
       → AreCollected (λ b. P b ⊎ IsOftenTo line d.from r d.weekly d.number b)
       (found ++ listed (if g && h then Some (often_breach r d) else None))
@@ -215,7 +215,7 @@ module _ (P : Breach → Type 0) (found : List Breach) (line : Line) (r : Run) (
       (λ b k. (let yes' : reduced_of d.part (day_to d.from r) ≡ true = same.1 k.reduced in
       let g : false ≡ true = sym e ∙ yes' in cc)))
 
-  -- and so as the code goes
+  -- as the code computes it
   pub collected_often : AreCollected (λ b. P b ⊎ IsOftenTo line d.from r d.weekly d.number b)
       (found ++ listed (often_of r d))
   collected_often = often_by (reduced_of d.part (day_to d.from r)) (nat_lt 3 (d.number + 1)) refl refl

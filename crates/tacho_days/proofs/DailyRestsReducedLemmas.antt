@@ -1,4 +1,4 @@
--- Regular and reduced daily rests, told by a first part within the day (specs/RestingDays, specs/DailyRests).
+-- Regular and reduced daily rests, given whether there is a first part within the day (specs/RestingDays, specs/DailyRests).
 use Rattle.std.proofs.Common.{◌≡◌, ℕ, ◌+◌, ◌<◌, ◌≤◌, ◌⊎◌, ◌&&◌, ◌||◌, inl, inr, Bool, true, false, not}
 use Rattle.std.proofs.Common.{List, [], ◌∷◌, ◌++◌, min, length, length-append, refl, ap, subst, arith, nat_le, nat_lt}
 use Rattle.std.specs.Prelude.{◌↔◌, IsTrue}
@@ -17,16 +17,16 @@ use Rattle.tacho_days.specs.RestingDays.{portion_of, regular_of, reduced_of}
 use Rattle.tacho_days.specs.DailyRests.{HasPart, IsReducedSince}
 use Rattle.tacho_days.proofs.DutyDaysLemmas.{later, rests, seen, duty_new, day_only, day_before}
 
--- the test of a portion holds
+-- if the test passes, the rest has the portion
 pub portion_yes : (day : DutyDay) (n : ℕ) → portion_of day n ≡ true → HasPortion day n
 portion_yes day n e = grind (arith, nat_tests)
 
--- or fails
+-- if the test fails, it doesn't
 pub portion_no : (day : DutyDay) (n : ℕ) → portion_of day n ≡ false → HasPortion day n → ⊥
 portion_no day n e h =
     let f : min day.rest.past (day.start + 1440) < day.past + n = grind (arith, nat_tests) in omega arith
 
--- how many there are, with one more
+-- with one more thing, the number is one higher
 so_many_add : {A : Type 0} (P Q : A → Type 0) (R : A → A → Type 0) (n : ℕ) (new : A) → AreSoMany P R n
     → Q new → ((x : A) → Q x → new ≡ x) → ((x : A) → P x → R x new) → AreSoMany (λ x. P x ⊎ Q x) R (n + 1)
 so_many_add P Q R n new a is one later' = record {
@@ -35,7 +35,7 @@ so_many_add P Q R n new a is one later' = record {
   count = let m : length a.all ≡ n = a.count in omega (arith, length-append a.all (new ∷ []));
 }
 
--- and none
+-- without any, the number is 0
 so_many_none : {A : Type 0} (P : A → Type 0) (R : A → A → Type 0) → ((x : A) → P x → ⊥) → AreSoMany P R 0
 so_many_none P R none = record { all = []; exactly = exactly_none P R none; count = refl }
 
@@ -46,7 +46,7 @@ reduced_none line since =
 
 module _ (line : Line) (runs : List Run) (start place : ℕ) (reached : Reached line runs start place)
     (r : Run) (is : IsRestRun line r) (at : r.start ≡ start) where
-  -- no rest of three hours lies behind this run yet
+  -- no rest of three hours is after this run yet
   pub part_none : HasPart (runs ++ r ∷ []) r.past → ⊥
   part_none h =
       let some : r.start < r.past = is.some in
@@ -59,7 +59,7 @@ module _ (line : Line) (runs : List Run) (start place : ℕ) (reached : Reached 
         | inr same ↦ let e : r.start ≡ h.part.start = ap (λ (x : Run). x.start) same in omega arith
       ]
 
-  -- it is such a rest, or not
+  -- by cases: whether this run is such a rest
   part_by : (from : ℕ) → from ≤ start → (p b : Bool) → nat_le 180 (minutes_of r) ≡ b
       → (IsTrue p ↔ HasPart runs from) → IsTrue (p || b) ↔ HasPart (runs ++ r ∷ []) from
   part_by from le true b e same = (
@@ -93,12 +93,12 @@ module _ (line : Line) (runs : List Run) (start place : ℕ) (reached : Reached 
     ],
   )
 
-  -- and so the code tells
+  -- as the code computes it
   pub part_more : (from : ℕ) (p : Bool) → from ≤ start → (IsTrue p ↔ HasPart runs from)
       → IsTrue (p || nat_le 180 (minutes_of r)) ↔ HasPart (runs ++ r ∷ []) from
   part_more from p le same = part_by from le p (nat_le 180 (minutes_of r)) refl same
 
-  -- none behind the last run
+  -- after the last run, there is no reduced rest yet
   pub reduced_behind : AreSoMany (IsReducedSince line (runs ++ r ∷ []) r.past) EarlierDay 0
   reduced_behind =
       so_many_none (IsReducedSince line (runs ++ r ∷ []) r.past) EarlierDay
@@ -113,7 +113,7 @@ module _ (line : Line) (runs : List Run) (start place : ℕ) (reached : Reached 
         | inr same ↦ let e : r.start ≡ day.rest.start = ap (λ (x : Run). x.start) same in omega arith
       ]))
 
-  -- a run that ends no reduced rest changes nothing
+  -- a run that isn't a reduced rest changes nothing
   pub reduced_keep : (since number : ℕ) → ((day : DutyDay) → r ≡ day.rest → IsReduced line day → ⊥)
       → AreSoMany (IsReducedSince line runs since) EarlierDay number
       → AreSoMany (IsReducedSince line (runs ++ r ∷ []) since) EarlierDay number
@@ -133,7 +133,7 @@ module _ (line : Line) (runs : List Run) (start place : ℕ) (reached : Reached 
       n
 
   module _ (enough : 540 ≤ minutes_of r) (from : ℕ) (l : IsLastOf 540 runs from) where
-    -- its rest is regular, told by a first part
+    -- the day's rest is regular, given whether there is a first part
     regular_by : (a b p : Bool) → portion_of (day_to from r) 660 ≡ a → portion_of (day_to from r) 540 ≡ b
         → (IsTrue p ↔ HasPart runs from) → IsTrue (a || (b && p)) ↔ IsRegular line (day_to from r)
     regular_by true b p e f same = (λ h. inl (portion_yes (day_to from r) 660 e), λ h. refl)
@@ -179,7 +179,7 @@ module _ (line : Line) (runs : List Run) (start place : ℕ) (reached : Reached 
       ],
     )
 
-    -- or reduced
+    -- the day's rest is reduced
     reduced_by : (p a b c : Bool) → regular_of p (day_to from r) ≡ a → portion_of (day_to from r) 540 ≡ b
         → nat_lt (minutes_of r) 1440 ≡ c → (IsTrue a ↔ IsRegular line (day_to from r))
         → IsTrue (not a && (b && c)) ↔ IsReduced line (day_to from r)
@@ -208,7 +208,7 @@ module _ (line : Line) (runs : List Run) (start place : ℕ) (reached : Reached 
       λ h. absurd (portion_no (day_to from r) 540 f h.portion),
     )
 
-    -- and so the code tells
+    -- as the code computes it
     pub reduced_is : (p : Bool) → (IsTrue p ↔ HasPart runs from)
         → IsTrue (reduced_of p (day_to from r)) ↔ IsReduced line (day_to from r)
     reduced_is p same =
@@ -218,7 +218,7 @@ module _ (line : Line) (runs : List Run) (start place : ℕ) (reached : Reached 
 
     module _ (since number : ℕ) (w : IsLastOf 1440 runs since)
         (n : AreSoMany (IsReducedSince line runs since) EarlierDay number) where
-      -- one more reduced rest
+      -- the reduced rests with one more
       reduced_both : IsReduced line (day_to from r) → (day : DutyDay)
           → (IsReducedSince line runs since day ⊎ (day_to from r ≡ day))
           ↔ IsReducedSince line (runs ++ r ∷ []) since day
@@ -241,7 +241,7 @@ module _ (line : Line) (runs : List Run) (start place : ℕ) (reached : Reached 
         ],
       )
 
-      -- and the number with it
+      -- the number with one more reduced rest
       pub reduced_more : IsReduced line (day_to from r)
           → AreSoMany (IsReducedSince line (runs ++ r ∷ []) since) EarlierDay (number + 1)
       reduced_more new =

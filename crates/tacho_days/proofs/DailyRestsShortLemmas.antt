@@ -1,4 +1,4 @@
--- Daily rests that are too short, as they end one by one (specs/RestingDays, specs/DailyRests).
+-- Daily rests that are too short, found one by one as the rests end (specs/RestingDays, specs/DailyRests).
 use Rattle.std.proofs.Common.{◌≡◌, ℕ, ◌+◌, ◌<◌, ◌≤◌, ◌⊎◌, inl, inr, Bool, true, false, None, Some, List, []}
 use Rattle.std.proofs.Common.{◌∷◌, ◌++◌, min, refl, sym, ap, subst, arith, if◌then◌else◌}
 use Rattle.std.specs.Prelude.{◌↔◌}
@@ -33,7 +33,7 @@ pub record IsShortTo (from : ℕ) (r : Run) (b : Breach) : Type 0 where
 module _ (line : Line) (runs : List Run) (start place : ℕ) (reached : Reached line runs start place)
     (r : Run) (is : IsRestRun line r) (at : r.start ≡ start)
     (enough : 540 ≤ minutes_of r) (from : ℕ) (l : IsLastOf 540 runs from) where
-  -- one rest more
+  -- the breaches with one more rest
   pub b2_both : (b : Breach) → (IsB2Seen line runs b ⊎ IsShortTo from r b) ↔ IsB2Seen line (runs ++ r ∷ []) b
   b2_both b = (
     λ h. elim h [
@@ -77,7 +77,7 @@ module _ (line : Line) (runs : List Run) (start place : ℕ) (reached : Reached 
     ],
   )
 
-  -- an earlier breach has an earlier start
+  -- the breach of an earlier day has an earlier start
   pub b2_apart : (b : Breach) → IsB2Seen line runs b → b.since ≡ from → ⊥
   b2_apart b h since =
       let e : b.since ≡ h.is.day.start = h.is.since in
@@ -86,10 +86,10 @@ module _ (line : Line) (runs : List Run) (start place : ℕ) (reached : Reached 
       day_before line runs start place reached r is at enough from l h.is.day h.is.duty h.seen in
       omega arith
 
--- the breach of the day, where there is one
+-- the breach of the day, if there is one
 module _ (P : Breach → Type 0) (found : List Breach) (from : ℕ) (r : Run) (t : AreCollected P found)
     (apart : (b : Breach) → P b → b.kind ≡ B2 → b.since ≡ from → ⊥) where
-  -- whether it has its portion
+  -- by cases: whether the rest has its portion
   short_by : (g : Bool) → portion_of (day_to from r) 540 ≡ g
       → AreCollected (λ b. P b ⊎ IsShortTo from r b)
       (found ++ listed (if g then None else Some (short_breach (day_to from r))))
@@ -111,6 +111,6 @@ module _ (P : Breach → Type 0) (found : List Breach) (from : ℕ) (r : Run) (t
       subst (λ (xs : List Breach). AreCollected (λ b. P b ⊎ IsShortTo from r b) xs) (sym (append-nil found))
       (exactly_skip P (IsShortTo from r) Apart found t (λ b h. h.short (portion_yes (day_to from r) 540 e)))
 
-  -- and so as the code goes
+  -- as the code computes it
   pub collected_short : AreCollected (λ b. P b ⊎ IsShortTo from r b) (found ++ listed (short_of (day_to from r)))
   collected_short = short_by (portion_of (day_to from r) 540) refl

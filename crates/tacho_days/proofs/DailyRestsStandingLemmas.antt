@@ -1,4 +1,4 @@
--- The pass over daily rests stands for the spans that it was fed (specs/DailyRests).
+-- The pass over daily rests represents the spans that it was fed (specs/DailyRests).
 use Rattle.std.proofs.Common.{◌≡◌, ◌≢◌, ℕ, ◌+◌, ◌-◌, ◌<◌, ◌≤◌, ◌⊎◌, ◌&&◌, inl, inr, Bool, true, false, not}
 use Rattle.std.proofs.Common.{Option, None, Some, List, [], ◌∷◌, ◌++◌, min, refl, sym, subst, ◌∙◌, arith, nat_le}
 use Rattle.std.proofs.Common.{nat_lt, if◌then◌else◌}
@@ -42,34 +42,34 @@ use Rattle.tacho_days.proofs.DailyRestsReducedLemmas.{reduced_keep, reduced_more
 use Rattle.tacho_days.proofs.DailyRestsShortLemmas.{IsShortTo, b2_both, b2_apart, collected_short}
 use Rattle.tacho_days.proofs.DailyRestsOftenLemmas.{IsOftenTo, b3_both, b3_apart, collected_often}
 
--- these are of the pass's kinds
+-- these breaches have the pass's kinds
 abbrev AreOwn : List Breach → Type 0
 AreOwn found = All (λ (b : Breach). IsTrue (is_b2_or_b3 b.kind)) found
 
--- none is
+-- no breaches
 own_none : AreOwn []
 own_none = All-nil (λ (b : Breach). IsTrue (is_b2_or_b3 b.kind))
 
--- one is
+-- one breach
 own_one : (x : Breach) → is_b2_or_b3 x.kind ≡ true → AreOwn (x ∷ [])
 own_one x e = All-cons (λ (b : Breach). IsTrue (is_b2_or_b3 b.kind)) x [] e own_none
 
--- one where a test holds
+-- one breach if a test passes
 own_if : (g : Bool) (x : Breach) → is_b2_or_b3 x.kind ≡ true → AreOwn (listed (if g then Some x else None))
 own_if true x e = own_one x e
 own_if false x e = own_none
 
--- or fails
+-- one breach if a test fails
 own_unless : (g : Bool) (x : Breach) → is_b2_or_b3 x.kind ≡ true → AreOwn (listed (if g then None else Some x))
 own_unless true x e = own_none
 own_unless false x e = own_one x e
 
--- some where a test holds
+-- some breaches if a test passes
 own_all_if : (g : Bool) (found : List Breach) → AreOwn found → AreOwn (if g then found else [])
 own_all_if true found own = own
 own_all_if false found own = own_none
 
--- what is put for a rest is of the pass's kinds
+-- the breaches that are put for a rest have the pass's kinds
 pub rest_kinds : (r : Run) (d : RestingDay) → All (λ (b : Breach). IsTrue (is_b2_or_b3 b.kind)) (rest_found r d)
 rest_kinds r d =
     let day : DutyDay = day_to d.from r in
@@ -78,19 +78,19 @@ rest_kinds r d =
     (own_unless (portion_of day 540) (short_breach day) refl)
     (own_if (reduced_of d.part day && nat_lt 3 (d.number + 1)) (often_breach r d) refl))
 
--- and for a rest or none
+-- likewise for an optional rest
 pub any_kinds : (r : Option Run) (d : RestingDay) → All (λ (b : Breach). IsTrue (is_b2_or_b3 b.kind)) (found_any r d)
 any_kinds None d = own_none
 any_kinds (Some r) d = rest_kinds r d
 
--- no breach before the first run
+-- before the first run, there is no breach
 none_seen : (line : Line) (b : Breach) → IsRestSeen line [] b → ⊥
 none_seen line b h = elim h [
   | inl short ↦ (let k : short.seen.0 < 0 = short.seen.1 in omega arith)
   | inr often ↦ (let k : often.seen.0 < 0 = often.seen.1 in omega arith)
 ]
 
--- a rest is no breach that has its portion and isn't reduced
+-- a rest that has its portion and isn't reduced gives no breach
 nothing_by : (g k m : Bool) (x y : Breach) → g ≡ true → k ≡ false
     → listed (if g then None else Some x) ++ listed (if k && m then Some y else None) ≡ []
 nothing_by true false m x y e f = refl
@@ -103,7 +103,7 @@ weekly_by true true c e = e
 weekly_by true false c e = refl
 weekly_by false b c e = refl
 
--- so the first rest is no breach
+-- so the first rest gives no breach
 nothing_found : (r : Run) (d : RestingDay) → r.start ≡ 0 → d.from ≤ 0 → 1440 ≤ minutes_of r
     → listed (short_of (day_to d.from r)) ++ listed (often_of r d) ≡ []
 nothing_found r d first from long =
@@ -119,9 +119,9 @@ nothing_found r d first from long =
 -- a run that ends at a minute
 module _ (line : Line) (start place : ℕ) (d : RestingDay) (own : List Breach) (h : IsResting line start place d own)
     (past : ℕ) (is : IsRestRun line (run_of start past)) where
-  -- and is no day's rest
+  -- a run that isn't a day's rest
   module _ (none : (day : DutyDay) → IsDuty line day → run_of start past ≡ day.rest → ⊥) where
-    -- a breach up to it is one before it
+    -- the breaches up to this run are those before it
     kept : (b : Breach) → IsRestSeen line h.runs b ↔ IsRestSeen line (h.runs ++ run_of start past ∷ []) b
     kept b = (
       λ k. elim k [
@@ -148,12 +148,12 @@ module _ (line : Line) (start place : ℕ) (d : RestingDay) (own : List Breach) 
       ],
     )
 
-    -- and so they are all found
+    -- so all of them are found
     found_kept : AreCollected (IsRestSeen line (h.runs ++ run_of start past ∷ [])) own
     found_kept =
         exactly_as (IsRestSeen line h.runs) (IsRestSeen line (h.runs ++ run_of start past ∷ [])) Apart own kept h.found
 
-    -- there is no reduced rest more
+    -- the number of reduced rests stays the same
     number_kept : AreSoMany (IsReducedSince line (h.runs ++ run_of start past ∷ []) d.weekly) EarlierDay d.number
     number_kept =
         reduced_keep line h.runs start place h.reached (run_of start past) is refl d.weekly d.number
@@ -161,7 +161,7 @@ module _ (line : Line) (start place : ℕ) (d : RestingDay) (own : List Breach) 
 
   module _ (upto : place ≤ past) (long : 540 ≤ past - start)
       (all : (x : Run) → IsRestRun line x → x.start ≤ start → Contains (h.runs ++ run_of start past ∷ []) x) where
-    -- the first one ends none
+    -- the first rest run ends no day
     first_found : IsBeforeFirst 1440 h.runs start place
         → AreCollected (IsRestSeen line (h.runs ++ run_of start past ∷ []))
         (own ++ (listed (short_of (day_to d.from (run_of start past))) ++ listed (often_of (run_of start past) d)))
@@ -178,14 +178,14 @@ module _ (line : Line) (start place : ℕ) (d : RestingDay) (own : List Breach) 
         (found_kept (none_first line h.runs start place h.reached (run_of start past) is refl first.none)))
 
     module _ (behind : IsBehindRests h.runs d) where
-      -- the test of a reduced rest
+      -- the test of a reduced rest is right
       test_is : IsTrue (reduced_of d.part (day_to d.from (run_of start past)))
           ↔ IsReduced line (day_to d.from (run_of start past))
       test_is =
           reduced_is line h.runs start place h.reached (run_of start past) is refl
           long d.from behind.daily d.part h.part
 
-      -- how many reduced rests there are
+      -- by cases: the number of reduced rests
       number_by : (g : Bool) → reduced_of d.part (day_to d.from (run_of start past)) ≡ g
           → AreSoMany (IsReducedSince line (h.runs ++ run_of start past ∷ []) d.weekly) EarlierDay
           (if g then d.number + 1 else d.number)
@@ -204,17 +204,17 @@ module _ (line : Line) (start place : ℕ) (d : RestingDay) (own : List Breach) 
           cc))
           h.so_many
 
-      -- behind this rest
+      -- the number of reduced rests after this one
       number_next : AreSoMany (IsReducedSince line (h.runs ++ run_of start past ∷ []) d.weekly) EarlierDay
           (if reduced_of d.part (day_to d.from (run_of start past)) then d.number + 1 else d.number)
       number_next = number_by (reduced_of d.part (day_to d.from (run_of start past))) refl
 
-      -- those of the earlier days, and of this one
+      -- the breaches of earlier days, and of this one
       Wide : Breach → Type 0
       Wide b = (IsRestSeen line h.runs b ⊎ IsShortTo d.from (run_of start past) b)
           ⊎ IsOftenTo line d.from (run_of start past) d.weekly d.number b
 
-      -- are those of the days up to this one
+      -- these are the breaches of the days up to this one
       both : (b : Breach) → Wide b ↔ IsRestSeen line (h.runs ++ run_of start past ∷ []) b
       unfolding Wide
       both b =
@@ -238,7 +238,7 @@ module _ (line : Line) (start place : ℕ) (d : RestingDay) (own : List Breach) 
             ],
           )
 
-      -- and are all found
+      -- all of them are found
       behind_found : AreCollected (IsRestSeen line (h.runs ++ run_of start past ∷ []))
           (own ++ (listed (short_of (day_to d.from (run_of start past))) ++ listed (often_of (run_of start past) d)))
       unfolding Wide
@@ -272,7 +272,7 @@ module _ (line : Line) (start place : ℕ) (d : RestingDay) (own : List Breach) 
           ((own ++ listed (short_of (day_to d.from (run_of start past)))) ++ listed (often_of (run_of start past) d))
           both all')
 
-    -- so the breaches are found, whatever run it is
+    -- so the breaches are found, whatever the run is
     pub found_next : AreCollected (IsRestSeen line (h.runs ++ run_of start past ∷ []))
         (own ++ (listed (short_of (day_to d.from (run_of start past))) ++ listed (often_of (run_of start past) d)))
     found_next = elim h.last [
@@ -280,10 +280,10 @@ module _ (line : Line) (start place : ℕ) (d : RestingDay) (own : List Breach) 
       | inr behind ↦ behind_found behind
     ]
 
--- the steps over a span from place to q
+-- the steps over a span from `place` to q
 module _ (line : Line) (start place q : ℕ) (d : RestingDay) (own : List Breach) (h : IsResting line start place d own)
     (more : place < q) where
-  -- of rest
+  -- a span of rest
   pub rest_step : ((m : ℕ) → place ≤ m → m < q → line m ≡ Rest) → IsResting line start q d own
   rest_step at = record {
     runs = h.runs;
@@ -298,9 +298,9 @@ module _ (line : Line) (start place q : ℕ) (d : RestingDay) (own : List Breach
     found = h.found;
   }
 
-  -- of something else
+  -- a span that isn't rest
   module _ (busy : (m : ℕ) → place ≤ m → m < q → line m ≢ Rest) where
-    -- where no run ends
+    -- no rest run ends at the span
     pub busy_step : place ≤ start → IsResting line q q d own
     busy_step none =
         let below : start ≤ place = h.reached.below in
@@ -318,13 +318,13 @@ module _ (line : Line) (start place q : ℕ) (d : RestingDay) (own : List Breach
           found = h.found;
         }
 
-    -- where a run ends
+    -- a rest run ends at the span
     module _ (gap : start < place) (far : place < FAR) where
-      -- the runs with this one
+      -- the runs, with this one
       reached_on : Reached line (h.runs ++ run_of start place ∷ []) q q
       reached_on = reached_gap line h.runs start place q h.reached gap more far busy
 
-      -- which is a rest run
+      -- this run is a rest run
       run_is : IsRestRun line (run_of start place)
       run_is = record {
         some = gap;
@@ -333,21 +333,21 @@ module _ (line : Line) (start place q : ℕ) (d : RestingDay) (own : List Breach
         until = inr (busy place (omega arith) more);
       }
 
-      -- the breaches with those of its day
+      -- the breaches, with those of its day
       found_on : 540 ≤ place - start → AreCollected (IsRestSeen line (h.runs ++ run_of start place ∷ []))
           (own ++ (listed (short_of (day_to d.from (run_of start place))) ++ listed (often_of (run_of start place) d)))
       found_on long =
           found_next line start place d own h place run_is (omega arith) long
           (λ x is le. reached_on.all x is (omega arith))
 
-      -- no part lies behind a long one
+      -- after a long rest, there is no first part yet
       none_on : IsTrue false ↔ HasPart (h.runs ++ run_of start place ∷ []) place
       none_on = (
         λ k. absurd (let g : false ≡ true = k in cc),
         λ k. absurd (part_none line h.runs start place h.reached (run_of start place) run_is refl k),
       )
 
-      -- a weekly rest, a daily one or a shorter one
+      -- by cases: a weekly rest, a daily rest, or a shorter one
       gap_if : (a b : Bool) → nat_le 1440 (place - start) ≡ a → nat_le 540 (place - start) ≡ b
           → IsResting line q q
           (if a then after_weekly (run_of start place) else
@@ -424,24 +424,24 @@ module _ (line : Line) (start place q : ℕ) (d : RestingDay) (own : List Breach
             }
           ]
 
-      -- and so as the code goes
+      -- as the code computes it
       pub gap_step : IsResting line q q (after_rest (run_of start place) d)
           (own ++ rest_found (run_of start place) d)
       gap_step = gap_if (nat_le 1440 (place - start)) (nat_le 540 (place - start)) refl refl
 
--- a span more
+-- one more span
 module _ (spans : List Span) (s : Span) (base start : ℕ) (d : RestingDay) (own : List Breach) (owed : List Debt)
     (r : DailyRestsStand start s.start d own owed base spans) (some : s.start < s.past) (far : s.past < FAR) where
   module _ (line : Line) (c : Continues line (spans ++ s ∷ []) s.past) where
-    -- in the span the line has its activity
+    -- in the span, the line has the span's activity
     at : (m : ℕ) → s.start ≤ m → m < s.past → line m ≡ s.mark.activity
     at m above below = c m below ∙ line_at_end spans s base m r.joined above below
 
-    -- before the span
+    -- the state before the span
     before : IsResting line start s.start d own
     before = r.kept line (λ m below. c m (omega arith) ∙ line_append spans s m below)
 
-    -- a span of something else
+    -- a span that isn't rest
     busy : is_rest s.mark.activity ≡ false → (m : ℕ) → s.start ≤ m → m < s.past → line m ≢ Rest
     busy e m above below f = rests_no s.mark.activity e (sym (at m above below) ∙ f)
 
@@ -452,7 +452,7 @@ module _ (spans : List Span) (s : Span) (base start : ℕ) (d : RestingDay) (own
         rest_step line start s.start s.past d own before some (λ m above below. at m above below ∙ e) in
         rw (append-nil own) rest
 
-  -- whether the span is rest, and whether a run ends before it
+  -- by cases: whether the span is rest, and whether a run ends before it
   by : (b g : Bool) → is_rest s.mark.activity ≡ b → nat_lt start s.start ≡ g
       → DailyRestsStand (if b then start else s.past) s.past
       (after_any (if b then None else (if g then Some (run_of start s.start) else None)) d)
@@ -479,7 +479,7 @@ module _ (spans : List Span) (s : Span) (base start : ℕ) (d : RestingDay) (own
         (let k : s.start ≤ start = grind (arith, nat_tests) in k));
   }
 
-  -- and so as the code goes
+  -- as the code computes it
   pub rests_fed : DailyRestsStand (start_after start s) s.past (after_any (run_before start s) d)
       (own ++ found_any (run_before start s) d) owed base (spans ++ s ∷ [])
   rests_fed = by (is_rest s.mark.activity) (nat_lt start s.start) refl refl
@@ -503,7 +503,7 @@ rests_none base late = record {
   };
 }
 
--- at the end
+-- the end of the line
 pub rests_end : (spans : List Span) (base past start : ℕ) (d : RestingDay) (own : List Breach) (owed : List Debt)
     → DailyRestsStand start past d own owed base spans → IsExamined spans base past
     → DailyRestsDefined (own ++ rest_found (run_of start FAR) d) owed base past spans

@@ -1,4 +1,4 @@
--- The two rules on days in one: the kinds of both, and what they find together (specs/Days).
+-- Both rules on days as one: their kinds, and what they find together (specs/Days).
 use Rattle.std.proofs.Common.{◌≡◌, ℕ, ◌⊎◌, ◌↔◌, inl, inr, List, [], refl, sym, ap, subst, ◌∙◌, Bool, true, false}
 use Rattle.std.specs.Prelude.{IsTrue}
 use Rattle.std.specs.List.{All}
@@ -18,7 +18,7 @@ use Rattle.tacho_days.specs.DailyRests.{IsDailyRestBreach, DailyRestsDefined}
 use Rattle.tacho_days.specs.DailyDriving.{IsDailyDriving, DailyDrivingDefined}
 use Rattle.tacho_days.specs.Days.{DaysDefined}
 
--- the kinds of each pass
+-- the kinds of each rule
 rests_kind : (k : Kind) → is_b2_or_b3 k ≡ true → (k ≡ B2) ⊎ (k ≡ B3)
 rests_kind B2 e = inl refl
 rests_kind B3 e = inr refl
@@ -47,7 +47,7 @@ module _ (line : Line) where
     ],
   )
 
-  -- all have one of the four kinds
+  -- each breach of the rules on days has one of the four kinds
   of_days : (kind : Kind) (breach : Breach) → IsDayBreach line kind breach → is_b2_to_b5 kind ≡ true
   of_days B2 breach h = refl
   of_days B3 breach h = refl
@@ -77,7 +77,7 @@ module _ (line : Line) where
         → AreCollected (λ b. IsDayBreach line b.kind b) own
     days_join kinds = joined (λ k b. IsDayBreach line k b) is_b2_to_b5 own kinds (λ b is. of_days b.kind b is) part
 
--- what both find of their kinds among all that is found
+-- what both rules find of their kinds, among all that is found
 pub days_defined : (new : List Breach) (base horizon : ℕ) (spans : List Span)
     → DailyRestsDefined (own_of is_b2_or_b3 (own_of is_b2_to_b5 new)) [] base horizon spans
     → DailyDrivingDefined (own_of is_b4_or_b5 (own_of is_b2_to_b5 new)) [] base horizon spans

@@ -1,5 +1,4 @@
--- Duty days and the rests that end them, one by one (specs/DutyDays), for the pass over daily rests and the pass over
--- daily driving.
+-- Duty days and the rests that end them, one by one (specs/DutyDays), for the passes over daily rests and daily driving.
 use Rattle.std.proofs.Common.{◌≡◌, ℕ, ◌-◌, ◌<◌, ◌≤◌, inl, inr, List, [], ◌∷◌, ◌++◌, refl, sym, ap, subst, ◌∙◌, arith}
 use Rattle.std.specs.List.{Contains}
 use Rattle.std.proofs.lemmas.List.Elements.{Contains-push, Contains-append_left, Contains-push_cases, All-contains}
@@ -11,7 +10,7 @@ use Rattle.tacho_hours.specs.SoFar.{Reached}
 use Rattle.tacho_hours.specs.Days.{IsDuty, EarlierDay}
 use Rattle.tacho_days.specs.DutyDays.{day_to, IsLastOf, IsBeforeFirst}
 
--- a duty day lasts, and so does its rest
+-- a duty day isn't empty, and neither is its rest
 pub day_lasts : (line : Line) (day : DutyDay) → IsDuty line day
     → (day.start < day.rest.start) × (day.rest.start < day.rest.past)
 day_lasts line day d =
@@ -25,14 +24,14 @@ pub never_both : (line : Line) (x y : DutyDay) → IsDuty line x → IsDuty line
 never_both line x y d e before after =
     let (s, t) = day_lasts line x d in let (u, v) = day_lasts line y e in omega arith
 
--- a run of less than nine hours is no day's rest
+-- a run of less than nine hours isn't a day's rest
 pub none_short : (line : Line) (r : Run) → minutes_of r < 540 → (day : DutyDay) → IsDuty line day → r ≡ day.rest → ⊥
 none_short line r short day d same =
     let e : minutes_of r ≡ minutes_of day.rest = ap minutes_of same in
     let f : 540 ≤ minutes_of day.rest = d.neighbours.second.enough in
     omega (arith, e, f)
 
--- the first rest goes on, up to a later minute
+-- the first rest continues up to a later minute
 pub first_on : (least : ℕ) (runs : List Run) (start place q : ℕ) → place < q → IsBeforeFirst least runs start place
     → IsBeforeFirst least runs start q
 first_on least runs start place q more f = record {
@@ -41,7 +40,7 @@ first_on least runs start place q more f = record {
   long = (let l : least ≤ place = f.long in omega arith);
 }
 
--- and has no fewer minutes
+-- the first rest isn't shorter than required
 pub first_long : (least : ℕ) (runs : List Run) (start place : ℕ) → place - start < least
     → IsBeforeFirst least runs start place → ⊥
 first_long least runs start place short f =
@@ -52,20 +51,20 @@ first_long least runs start place short f =
 -- a rest run that starts where the runs that have ended stop
 module _ (line : Line) (runs : List Run) (start place : ℕ) (reached : Reached line runs start place)
     (r : Run) (is : IsRestRun line r) (at : r.start ≡ start) where
-  -- the others are before it
+  -- the runs that have ended are before it
   pub later : (x : Run) → Contains runs x → Before x r
   later x in' =
       let e : x.past < start = All-contains (λ (y : Run). y.past < start) runs x reached.ended in' in omega arith
 
-  -- and are rests
+  -- they are rest runs
   pub rests : (x : Run) → Contains runs x → IsRestRun line x
   rests x in' = All-contains (λ (y : Run). IsRestRun line y) runs x reached.each in'
 
-  -- all of those before it
+  -- they are all rest runs before it
   pub seen : (x : Run) → IsRestRun line x → x.start < r.start → Contains runs x
   seen x is' below = reached.all x is' (omega arith)
 
-  -- the last rest of so many minutes, behind one of them
+  -- if the run has `least` minutes, it is the last rest with that many
   pub last_next : (least : ℕ) → least ≤ minutes_of r → IsLastOf least (runs ++ r ∷ []) r.past
   last_next least enough = record {
     run = r;
@@ -78,7 +77,7 @@ module _ (line : Line) (runs : List Run) (start place : ℕ) (reached : Reached 
     ];
   }
 
-  -- and behind a shorter one
+  -- if it is shorter, the last one stays the same
   pub last_keep : (least ended : ℕ) → minutes_of r < least → IsLastOf least runs ended
       → IsLastOf least (runs ++ r ∷ []) ended
   last_keep least ended short l = record {
@@ -92,7 +91,7 @@ module _ (line : Line) (runs : List Run) (start place : ℕ) (reached : Reached 
     ];
   }
 
-  -- the first run is no day's rest
+  -- the first run isn't a day's rest
   pub none_first : runs ≡ [] → (day : DutyDay) → IsDuty line day → r ≡ day.rest → ⊥
   none_first none day d same =
       let before : d.last.past < day.rest.start = d.neighbours.before in
@@ -103,13 +102,13 @@ module _ (line : Line) (runs : List Run) (start place : ℕ) (reached : Reached 
       let l : k.0 < 0 = k.1 in
       omega arith
 
-  -- a rest of nine hours or more, behind another
+  -- a rest of nine hours or more, after another one
   module _ (enough : 540 ≤ minutes_of r) (from : ℕ) (l : IsLastOf 540 runs from) where
     -- the daily rest before it
     pub last_rest : IsRestOf line 540 l.run
     last_rest = record { rests = rests l.run l.among; enough = l.enough }
 
-    -- it ends a duty day
+    -- the rest ends a duty day
     pub duty_new : IsDuty line (day_to from r)
     duty_new = record {
       last = l.run;
@@ -131,7 +130,7 @@ module _ (line : Line) (runs : List Run) (start place : ℕ) (reached : Reached 
       past = refl;
     }
 
-    -- which starts and ends so
+    -- this day has this start and this end
     pub duty_only : (day : DutyDay) → IsDuty line day → r ≡ day.rest → (day.start ≡ from) × (day.past ≡ r.start)
     duty_only day d same =
         let e : r.start ≡ day.rest.start = ap (λ (x : Run). x.start) same in
@@ -149,7 +148,7 @@ module _ (line : Line) (runs : List Run) (start place : ℕ) (reached : Reached 
               (subst (λ (x : Run). Before l.run x) same (later l.run l.among)))
         ]
 
-    -- and is the only one with this rest
+    -- it is the only day with this rest
     pub day_only : (day : DutyDay) → IsDuty line day → r ≡ day.rest → day_to from r ≡ day
     day_only day d same =
         let (e, f) = duty_only day d same in
@@ -158,7 +157,7 @@ module _ (line : Line) (runs : List Run) (start place : ℕ) (reached : Reached 
         let three : Run → DutyDay = λ x. record { start = day.start; past = day.past; rest = x } in
         ap one (sym e) ∙ (ap two (sym f) ∙ ap three same)
 
-    -- a day whose rest is an earlier run has ended
+    -- a day whose rest is an earlier run has ended before
     pub day_before : (day : DutyDay) → IsDuty line day → Contains runs day.rest → day.rest.past ≤ from
     day_before day d in' =
         let ends : l.run.past ≡ from = l.ends in

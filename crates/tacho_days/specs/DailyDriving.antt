@@ -1,5 +1,5 @@
--- Private to tacho_days: Driving in duty days and the extended days of a week (Regulation (EC) 561/2006, Article 6(1)), span by
--- span: what is kept of them, and what that stands for.
+-- Private to tacho_days: Driving in duty days and the extended days of a week (Regulation (EC) 561/2006, Article 6(1)), span by span: the
+-- state of the rules, and what it represents.
 use Rattle.std.specs.Prelude.{◌≡◌, ℕ, ◌+◌, ◌-◌, ◌/◌, ◌++◌, ◌≤◌, ◌⊎◌, ◌&&◌, nat_le, nat_lt, nat_eq, Bool}
 use Rattle.std.specs.Prelude.{if◌then◌else◌, Option, None, Some, List, Contains, []}
 use Rattle.tacho_time.specs.declared.span.Span.{Span}
@@ -21,19 +21,19 @@ use Rattle.tacho_pass.specs.Counts.{count_none, count_with, over_of, IsCounted}
 use Rattle.tacho_days.specs.declared.daily_driving.DutyDriving.{DutyDriving}
 use Rattle.tacho_days.specs.DutyDays.{is_long, IsLastOf, IsBeforeFirst}
 
--- Article 4(i): the week that a minute lies in, from that of 1970-01-05 on
+-- Article 4(i): the week of a minute; week 0 is that of 1970-01-05
 abbrev pub week_at : ℕ → ℕ
 week_at m = (m - first_week) / minutes_of_week
 
--- before the first daily rest, with nothing driven
+-- the state before the first daily rest, with nothing driven
 abbrev pub duty_none : ℕ → DutyDriving
 duty_none from = record { from = from; nine = count_none; ten = count_none; week = 0; extended = 0 }
 
--- each count is at most the number of a minute: so no sum overflows
+-- each count is at most a minute's number, so no sum overflows
 abbrev pub are_few : DutyDriving → ℕ → Bool
 are_few d place = nat_le d.nine.minutes place && nat_le d.ten.minutes place
 
--- with the minutes from one up to another
+-- the state with the minutes from `from` to before `to`
 abbrev pub duty_with : Bool → ℕ → ℕ → DutyDriving → DutyDriving
 duty_with drives from to d = record {
   from = d.from;
@@ -43,7 +43,7 @@ duty_with drives from to d = record {
   extended = d.extended;
 }
 
--- which extended day of its week the day is, if it is one
+-- the day's number among the extended days of its week, if it is extended
 abbrev pub ordinal_of : DutyDriving → ℕ
 ordinal_of d = (if nat_eq d.week (week_at d.from) then d.extended else 0) + 1
 
@@ -56,7 +56,7 @@ often_of d =
 abbrev pub found_of : DutyDriving → List Breach
 found_of d = listed (over_of B4 driving_in_extended_day d.from d.ten) ++ often_of d
 
--- behind a day, where the next one starts at a minute: it was extended where it has more than nine hours of driving
+-- the state after a day, when the next one starts at `from`; the day was extended if it has more than nine hours of driving
 abbrev pub next_day : ℕ → DutyDriving → DutyDriving
 next_day from d = record {
   from = from;
@@ -66,53 +66,53 @@ next_day from d = record {
   extended = if nat_lt driving_in_day d.nine.minutes then ordinal_of d else d.extended;
 }
 
--- behind a rest run, which may end the day
+-- the state after a rest run, which may end the day
 abbrev pub duty_after : Run → DutyDriving → DutyDriving
 duty_after run d = if is_long run then next_day run.past d else d
 
--- the breaches of the day that a rest run ends, where it ends one
+-- the breaches of the day, if the rest run ends it
 abbrev pub duty_found : Run → DutyDriving → List Breach
 duty_found run d = if is_long run then found_of d else []
 
--- behind a rest run, if there is one
+-- the state after a rest run, if there is one
 abbrev pub duty_any : Option Run → DutyDriving → DutyDriving
 duty_any None d = d
 duty_any (Some run) d = duty_after run d
 
--- and the breaches that are found there
+-- the breaches found at a rest run, if there is one
 abbrev pub found_any : Option Run → DutyDriving → List Breach
 found_any None d = []
 found_any (Some run) d = duty_found run d
 
--- an extended day of a week whose rest is one of the runs (Article 6(1))
+-- an extended day of a week whose rest is among the runs (Article 6(1))
 pub record IsExtendedSeen (line : Line) (runs : List Run) (week : ℕ) (day : DutyDay) : Type 0 where
   pub extended : IsExtended line week day
   pub seen : Contains runs day.rest
 
--- how many extended days a week has among the days whose rest is one of the runs; no other such day is of a later week
+-- the number of extended days of a week, among the days whose rest is one of the runs; none of the extended days is in a later week
 pub record IsTally (line : Line) (runs : List Run) (week count : ℕ) : Type 0 where
   pub so_many : AreSoMany (λ day. IsExtendedSeen line runs week day) EarlierDay count
   pub latest : (day : DutyDay) (other : ℕ) → IsExtendedSeen line runs other day → other ≤ week
   pub known : (week ≡ 0) ⊎ ((day : DutyDay) × IsExtendedSeen line runs week day)
 
--- a breach of a day whose rest is one of the runs: more than ten hours of driving (Article 6(1))
+-- a breach of a day whose rest is among the runs: more than ten hours of driving (Article 6(1))
 pub record IsB4Seen (line : Line) (runs : List Run) (breach : Breach) : Type 0 where
   pub kind : breach.kind ≡ B4
   pub is : IsB4 line breach
   pub seen : Contains runs is.day.rest
 
--- and a third or later extended day of its week (Article 6(1))
+-- a breach of a day whose rest is among the runs: a third or later extended day of its week (Article 6(1))
 pub record IsB5Seen (line : Line) (runs : List Run) (breach : Breach) : Type 0 where
   pub kind : breach.kind ≡ B5
   pub is : IsB5 line breach
   pub seen : Contains runs is.day.rest
 
--- and either of them
+-- either of these breaches
 abbrev pub IsDrivingSeen : Line → List Run → Breach → Type 0
 IsDrivingSeen line runs breach = IsB4Seen line runs breach ⊎ IsB5Seen line runs breach
 
--- of a line that goes on: the runs that have ended, the driving from the end of the last daily rest up to the rest that
--- is open, the extended days of the last week that has one, and the breaches of the days that have ended
+-- for a line known up to a minute: the runs that have ended, the driving from the end of the last daily rest up to the open rest, the
+-- extended days of the last week that has one, and the breaches of the days that have ended
 pub record IsDriven (line : Line) (start place : ℕ) (d : DutyDriving) (own : List Breach) : Type 0 where
   pub runs : List Run
   pub reached : Reached line runs start place
@@ -122,7 +122,7 @@ pub record IsDriven (line : Line) (start place : ℕ) (d : DutyDriving) (own : L
   pub tally : IsTally line runs d.week d.extended
   pub found : AreCollected (λ breach. IsDrivingSeen line runs breach) own
 
--- what is kept stands for the spans: it is so of each line that goes on as they say
+-- the state represents the spans: the above holds for each line that continues them
 pub record DailyDrivingStands (start place : ℕ) (d : DutyDriving) (own : List Breach) (owed : List Debt) (base : ℕ)
     (spans : List Span) : Type 0 where
   pub none : owed ≡ []
@@ -133,7 +133,7 @@ pub record DailyDrivingStands (start place : ℕ) (d : DutyDriving) (own : List 
 abbrev pub IsDailyDriving : Line → Breach → Type 0
 IsDailyDriving line breach = ((breach.kind ≡ B4) × IsB4 line breach) ⊎ ((breach.kind ≡ B5) × IsB5 line breach)
 
--- all such breaches are found, each once, and no debts
+-- exactly these breaches are found, each once, and no debts
 pub record DailyDrivingDefined (own : List Breach) (owed : List Debt) (base horizon : ℕ) (spans : List Span) : Type 0 where
   pub none : owed ≡ []
   pub breaches : AreCollected (λ breach. IsDailyDriving (line_of spans) breach) own

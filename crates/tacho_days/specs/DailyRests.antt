@@ -1,4 +1,4 @@
--- Private to tacho_days: What the pass over daily rests stands for (Regulation (EC) 561/2006, Articles 4(g), 8(2) and 8(4)).
+-- Private to tacho_days: What the pass over daily rests represents (Regulation (EC) 561/2006, Articles 4(g), 8(2) and 8(4)).
 use Rattle.std.specs.Prelude.{◌≡◌, ℕ, ◌<◌, ◌≤◌, ◌⊎◌, ◌↔◌, IsTrue, List, Contains, []}
 use Rattle.tacho_time.specs.declared.span.Span.{Span}
 use Rattle.tacho_hours.specs.declared.run.Run.{Run}
@@ -17,41 +17,41 @@ use Rattle.tacho_pass.specs.Heard.{Continues}
 use Rattle.tacho_days.specs.declared.daily_rest.RestingDay.{RestingDay}
 use Rattle.tacho_days.specs.DutyDays.{IsLastOf, IsBeforeFirst}
 
--- behind a daily and a weekly rest
+-- there was a daily rest, and a weekly rest
 pub record IsBehindRests (runs : List Run) (d : RestingDay) : Type 0 where
   pub daily : IsLastOf daily_rest runs d.from
   pub weekly : IsLastOf weekly_rest runs d.weekly
 
--- Article 4(g): a rest of three hours or more from a minute on
+-- Article 4(g): there is a rest of three hours or more from a minute on
 pub record HasPart (runs : List Run) (from : ℕ) : Type 0 where
   pub part : Run
   pub among : Contains runs part
   pub enough : first_part_of_daily_rest ≤ minutes_of part
   pub behind : from ≤ part.start
 
--- Article 8(4): a reduced daily rest since a minute
+-- Article 8(4): a reduced daily rest after a minute
 pub record IsReducedSince (line : Line) (runs : List Run) (since : ℕ) (day : DutyDay) : Type 0 where
   pub reduced : IsReduced line day
   pub seen : Contains runs day.rest
   pub behind : since < day.rest.start
 
--- Article 8(2): a breach of a daily rest that is one of the runs
+-- Article 8(2): a breach of a daily rest that is among the runs
 pub record IsB2Seen (line : Line) (runs : List Run) (breach : Breach) : Type 0 where
   pub kind : breach.kind ≡ B2
   pub is : IsB2 line breach
   pub seen : Contains runs is.day.rest
 
--- and so with Article 8(4)
+-- Article 8(4): likewise
 pub record IsB3Seen (line : Line) (runs : List Run) (breach : Breach) : Type 0 where
   pub kind : breach.kind ≡ B3
   pub is : IsB3 line breach
   pub seen : Contains runs is.day.rest
 
--- of either
+-- either of these breaches
 abbrev pub IsRestSeen : Line → List Run → Breach → Type 0
 IsRestSeen line runs breach = IsB2Seen line runs breach ⊎ IsB3Seen line runs breach
 
--- the daily rests of a line that ended before `start`, from where it rests up to `place`; the first is a weekly one
+-- for a line at rest from `start` to `place`: the daily rests that ended before `start`; the first one is a weekly rest
 pub record IsResting (line : Line) (start place : ℕ) (d : RestingDay) (own : List Breach) : Type 0 where
   pub runs : List Run
   pub reached : Reached line runs start place
@@ -61,7 +61,7 @@ pub record IsResting (line : Line) (start place : ℕ) (d : RestingDay) (own : L
   pub so_many : AreSoMany (IsReducedSince line runs d.weekly) EarlierDay d.number
   pub found : AreCollected (IsRestSeen line runs) own
 
--- and so for each line that does what the spans say
+-- the state represents the spans: the above holds for each line that continues them
 pub record DailyRestsStand (start place : ℕ) (d : RestingDay) (own : List Breach) (owed : List Debt) (base : ℕ)
     (spans : List Span) : Type 0 where
   pub none : owed ≡ []
@@ -72,7 +72,7 @@ pub record DailyRestsStand (start place : ℕ) (d : RestingDay) (own : List Brea
 abbrev pub IsDailyRestBreach : Line → Breach → Type 0
 IsDailyRestBreach line breach = ((breach.kind ≡ B2) × IsB2 line breach) ⊎ ((breach.kind ≡ B3) × IsB3 line breach)
 
--- all of them, and no debts
+-- exactly these breaches are found, and no debts
 pub record DailyRestsDefined (own : List Breach) (owed : List Debt) (base horizon : ℕ) (spans : List Span) : Type 0 where
   pub none : owed ≡ []
   pub breaches : AreCollected (IsDailyRestBreach (line_of spans)) own

@@ -7,7 +7,7 @@ use Rattle.tacho_hours.specs.Line.{line_of}
 use Rattle.tacho_hours.specs.SoFar.{AreCollected}
 use Rattle.tacho_hours.specs.Breaches.{IsDayBreach}
 
--- the breaches of the rules on days, and no debts
+-- exactly the breaches of the rules on days are found, and no debts
 pub record DaysDefined (own : List Breach) (owed : List Debt) (base horizon : ℕ) (spans : List Span) : Type 0 where
   pub none : owed ≡ []
   pub breaches : AreCollected (λ breach. IsDayBreach (line_of spans) breach.kind breach) own

@@ -5,7 +5,7 @@ use Rattle.tacho_hours.specs.declared.days.DutyDay.{DutyDay}
 use Rattle.tacho_hours.specs.Runs.{minutes_of, Before}
 use Rattle.tacho_hours.specs.Limits.{daily_rest}
 
--- Article 4(g): a rest run of nine hours or more, which ends a duty day
+-- Article 4(g): true for a rest run of nine hours or more, which ends a duty day
 abbrev pub is_long : Run → Bool
 is_long run = nat_le daily_rest (minutes_of run)
 
@@ -13,7 +13,7 @@ is_long run = nat_le daily_rest (minutes_of run)
 abbrev pub day_to : ℕ → Run → DutyDay
 day_to from rest = record { start = from; past = rest.start; rest = rest }
 
--- the last of the rests of so many minutes or more ends there
+-- the last of the rests with `least` minutes or more ends at this minute
 pub record IsLastOf (least : ℕ) (runs : List Run) (ended : ℕ) : Type 0 where
   pub run : Run
   pub among : Contains runs run
@@ -21,7 +21,7 @@ pub record IsLastOf (least : ℕ) (runs : List Run) (ended : ℕ) : Type 0 where
   pub ends : run.past ≡ ended
   pub last : (x : Run) → Contains runs x → least ≤ minutes_of x → (x ≡ run) ⊎ Before x run
 
--- before the end of the first rest, which has no start and so many minutes or more
+-- the first rest, which has no start and `least` minutes or more, hasn't ended yet
 pub record IsBeforeFirst (least : ℕ) (runs : List Run) (start place : ℕ) : Type 0 where
   pub none : runs ≡ []
   pub first : start ≡ 0

@@ -12,24 +12,24 @@ use Rattle.tacho_pass.specs.Found.{listed}
 use Rattle.tacho_days.specs.declared.daily_rest.RestingDay.{RestingDay}
 use Rattle.tacho_days.specs.DutyDays.{is_long, day_to}
 
--- before the first rest
+-- the state before the first rest
 abbrev pub resting_none : RestingDay
 resting_none = record { from = 0; part = false; weekly = 0; number = 0 }
 
--- Article 8(2): its rest has so many minutes within 24 hours of its start
+-- Article 8(2): true if the day's rest has n minutes within 24 hours of the day's start
 abbrev pub portion_of : DutyDay → ℕ → Bool
 portion_of day n = nat_le (day.past + n) (min day.rest.past (day.start + minutes_of_day))
 
--- Article 4(g): its rest is regular, given whether a rest of three hours or more lies within the day
+-- Article 4(g): true if the day's rest is regular; `part` says whether there is a rest of three hours or more within the day
 abbrev pub regular_of : Bool → DutyDay → Bool
 regular_of part day = portion_of day regular_daily_rest || (portion_of day daily_rest && part)
 
--- Articles 4(g), 8(2) and 8(4): or reduced, and no weekly rest
+-- Articles 4(g), 8(2) and 8(4): true if the day's rest is reduced, and isn't a weekly rest
 abbrev pub reduced_of : Bool → DutyDay → Bool
 reduced_of part day =
     not (regular_of part day) && (portion_of day daily_rest && nat_lt (minutes_of day.rest) weekly_rest)
 
--- Article 8(2): the breach of a daily rest with fewer than nine hours within the 24
+-- Article 8(2): the breach of a daily rest with fewer than nine hours within the 24 hours
 abbrev pub short_breach : DutyDay → Breach
 short_breach day =
     record {
@@ -39,7 +39,7 @@ short_breach day =
       amount = (daily_rest + day.past) - min day.rest.past (day.start + minutes_of_day);
     }
 
--- where its rest is so short
+-- this breach, if the day's rest is that short
 abbrev pub short_of : DutyDay → Option Breach
 short_of day = if portion_of day daily_rest then None else Some (short_breach day)
 
@@ -48,18 +48,18 @@ abbrev pub often_breach : Run → RestingDay → Breach
 often_breach rest d =
     record { kind = B3; moment = rest.start; since = d.weekly; amount = (d.number + 1) - reduced_daily_rests }
 
--- where the rest is such a one
+-- this breach, if the rest is such a one
 abbrev pub often_of : Run → RestingDay → Option Breach
 often_of rest d =
     if reduced_of d.part (day_to d.from rest) && nat_lt reduced_daily_rests (d.number + 1)
     then Some (often_breach rest d) else None
 
--- the breaches of a daily rest, and none of a shorter one
+-- the breaches of a daily rest; none for a shorter rest
 abbrev pub rest_found : Run → RestingDay → List Breach
 rest_found rest d =
     if is_long rest then listed (short_of (day_to d.from rest)) ++ listed (often_of rest d) else []
 
--- behind a daily rest that is no weekly one
+-- the state after a daily rest that isn't a weekly rest
 abbrev pub after_daily : Run → RestingDay → RestingDay
 after_daily rest d =
     record {
@@ -69,11 +69,11 @@ after_daily rest d =
       number = if reduced_of d.part (day_to d.from rest) then d.number + 1 else d.number;
     }
 
--- behind a weekly rest
+-- the state after a weekly rest
 abbrev pub after_weekly : Run → RestingDay
 after_weekly rest = record { from = rest.past; part = false; weekly = rest.past; number = 0 }
 
--- behind a rest within the day
+-- the state after a rest within the day
 abbrev pub after_part : Run → RestingDay → RestingDay
 after_part rest d =
     record {
@@ -83,18 +83,18 @@ after_part rest d =
       number = d.number;
     }
 
--- behind a rest
+-- the state after a rest
 abbrev pub after_rest : Run → RestingDay → RestingDay
 after_rest rest d =
     if nat_le weekly_rest (minutes_of rest) then after_weekly rest else
     (if is_long rest then after_daily rest d else after_part rest d)
 
--- behind a rest or none
+-- the state after a rest, if there is one
 abbrev pub after_any : Option Run → RestingDay → RestingDay
 after_any None d = d
 after_any (Some rest) d = after_rest rest d
 
--- and the breaches
+-- the breaches found at a rest, if there is one
 abbrev pub found_any : Option Run → RestingDay → List Breach
 found_any None d = []
 found_any (Some rest) d = rest_found rest d

@@ -13,24 +13,23 @@ use tacho_hours::{Breach, FAR, Kind, Run};
 use tacho_pass::{Count, Found, Judge, is_drive, put};
 use tacho_time::{Minute, Span, week_of};
 
-/// The driving of the duty day that is open, and the extended days of a week before it (Article 6(1) of Regulation
-/// (EC) 561/2006).
+/// The driving of the open duty day, and the extended days of a week before it (Article 6(1) of Regulation (EC) 561/2006).
 #[derive(Clone, Copy)]
 pub struct DutyDriving {
-    /// Where the day starts.
+    /// The minute at which the day starts.
     pub from: Minute,
-    /// Its driving, with the first minute above nine hours.
+    /// The day's driving, with the first minute above nine hours.
     pub nine: Count,
-    /// The same, with the first minute above ten.
+    /// The same driving, with the first minute above ten hours.
     pub ten: Count,
     /// The week of the last extended day.
     pub week: u32,
-    /// How many extended days that week has so far.
+    /// The number of extended days of that week so far.
     pub extended: u32,
 }
 
 impl DutyDriving {
-    /// Before the first daily rest, with nothing driven.
+    /// Returns the state before the first daily rest, with nothing driven.
     fn none(from: Minute) -> DutyDriving
         ensures { result ≡ duty_none from }
     {
@@ -43,7 +42,7 @@ impl DutyDriving {
         }
     }
 
-    /// Adds the minutes from one up to another, which are all driving or none.
+    /// Adds the minutes from `from` to before `to`. Either all are driving or none is.
     fn add(&mut self, drives: bool, from: u32, to: u32)
         requires few { IsTrue (are_few self.old from) }
         requires some { from ≤ to }
@@ -57,7 +56,7 @@ impl DutyDriving {
         }
     }
 
-    /// Which extended day of its week the day is, if it is one.
+    /// Returns the day's number among the extended days of its week, if it is extended.
     fn ordinal(self) -> u32
         requires from { first_week ≤ self.from }
         requires extended { self.extended ≤ latest }
@@ -72,7 +71,7 @@ impl DutyDriving {
         before + 1
     }
 
-    /// The breach of a third or later extended day of the week.
+    /// Returns the breach of a third or later extended day of the week.
     fn often(self) -> Option<Breach>
         requires from { first_week ≤ self.from }
         requires extended { self.extended ≤ latest }
@@ -86,7 +85,7 @@ impl DutyDriving {
         }
     }
 
-    /// Behind the day, where the next one starts at a minute.
+    /// Returns the state after the day, when the next one starts at `from`.
     fn next(self, from: Minute) -> DutyDriving
         requires from { first_week ≤ self.from }
         requires extended { self.extended ≤ latest }
@@ -107,7 +106,7 @@ impl DutyDriving {
         }
     }
 
-    /// Puts the breaches of the day that a rest run ends to what is found.
+    /// Appends the breaches of the day that a rest run ends.
     fn end(&self, run: Run, found: &mut Found) -> Result<(), AllocError>
         requires from { first_week ≤ self.now.from }
         requires extended { self.now.extended ≤ latest }
@@ -125,7 +124,7 @@ impl DutyDriving {
         Ok(())
     }
 
-    /// Behind a rest run, which may end the day.
+    /// Moves past a rest run, which may end the day.
     fn turn(&mut self, run: Run)
         requires from { first_week ≤ self.old.from }
         requires extended { self.old.extended ≤ latest }
@@ -141,7 +140,7 @@ impl DutyDriving {
         }
     }
 
-    /// Takes a span, which may end a rest run where it starts.
+    /// Takes a span, and the rest run that ends where the span starts, if there is one.
     fn hear(
         &mut self,
         run: Option<Run>,
@@ -208,7 +207,7 @@ impl Judge for DutyDriving {
     }
 }
 
-/// Whether a rest run has nine hours or more, and so ends a duty day (Article 4(g)).
+/// Returns true if a rest run has nine hours or more, and so ends a duty day (Article 4(g)).
 fn ends_day(run: Run) -> bool
     ensures { result ≡ is_long run }
 {

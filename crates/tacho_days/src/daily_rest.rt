@@ -17,21 +17,21 @@ use tacho_hours::{Breach, DutyDay, FAR, Kind, Run, has_portion};
 use tacho_pass::{Found, Judge, put};
 use tacho_time::{Minute, Span};
 
-/// The duty day so far, and the reduced daily rests before it (Articles 8(2) and 8(4) of Regulation (EC) 561/2006).
+/// The open duty day, and the reduced daily rests before it (Articles 8(2) and 8(4) of Regulation (EC) 561/2006).
 #[derive(Clone, Copy)]
 pub struct RestingDay {
-    /// Where the day starts: the end of the last daily rest.
+    /// The minute at which the day starts: the end of the last daily rest.
     pub from: Minute,
-    /// Whether a rest of three hours or more lies within the day, which may be the first part of a regular daily rest.
+    /// True if there is a rest of three hours or more within the day. It may be the first part of a regular daily rest.
     pub part: bool,
     /// The end of the last weekly rest.
     pub weekly: Minute,
-    /// How many daily rests were reduced since then.
+    /// The number of reduced daily rests since then.
     pub number: u32,
 }
 
 impl RestingDay {
-    /// Before the first rest.
+    /// Returns the state before the first rest.
     fn none() -> RestingDay
         ensures { result ≡ resting_none }
     {
@@ -43,7 +43,7 @@ impl RestingDay {
         }
     }
 
-    /// The duty day that a daily rest ends.
+    /// Returns the duty day that a daily rest ends.
     fn day(&self, rest: Run) -> DutyDay
         ensures day { result ≡ day_to self.now.from rest }
         ensures started { result.start ≤ 68428800 }
@@ -55,8 +55,8 @@ impl RestingDay {
         }
     }
 
-    /// The breach of a daily rest with fewer than nine hours within the 24 from the day's start (Article 8(2) of
-    /// Regulation (EC) 561/2006).
+    /// Returns the breach of a daily rest with fewer than nine hours within the 24 hours from the day's start (Article 8(2) of Regulation
+    /// (EC) 561/2006).
     fn short_rest(&self, rest: Run) -> Option<Breach>
         requires start { rest.start ≤ latest }
         requires enough { daily_rest ≤ minutes_of rest }
@@ -75,7 +75,7 @@ impl RestingDay {
         })
     }
 
-    /// Whether a daily rest is regular (Article 4(g)).
+    /// Returns true if a daily rest is regular (Article 4(g)).
     fn is_regular(&self, rest: Run) -> bool
         requires { rest.start ≤ latest }
         ensures { result ≡ regular_of self.now.part (day_to self.now.from rest) }
@@ -84,7 +84,7 @@ impl RestingDay {
             || (has_portion(self.day(rest), DAILY_REST) && self.part)
     }
 
-    /// Whether a daily rest is reduced (Articles 4(g) and 8(4)).
+    /// Returns true if a daily rest is reduced (Articles 4(g) and 8(4)).
     fn is_reduced(&self, rest: Run) -> bool
         requires { rest.start ≤ latest }
         ensures { result ≡ reduced_of self.now.part (day_to self.now.from rest) }
@@ -94,7 +94,7 @@ impl RestingDay {
             && rest.past.saturating_sub(rest.start) < WEEKLY_REST
     }
 
-    /// The breach of a fourth or later reduced daily rest since the last weekly one (Article 8(4)).
+    /// Returns the breach of a fourth or later reduced daily rest since the last weekly one (Article 8(4)).
     fn often_reduced(&self, rest: Run) -> Option<Breach>
         requires start { rest.start ≤ latest }
         requires few { self.now.number ≤ latest }
@@ -112,7 +112,7 @@ impl RestingDay {
         None
     }
 
-    /// Behind a rest.
+    /// Returns the state after a rest.
     fn after(&self, rest: Run) -> RestingDay
         requires start { rest.start ≤ latest }
         requires past { rest.past ≤ latest }
@@ -149,7 +149,7 @@ impl RestingDay {
         }
     }
 
-    /// Puts the breaches of a rest to what is found.
+    /// Appends the breaches of a rest.
     fn end(&self, rest: Run, found: &mut Found) -> Result<(), AllocError>
         requires start { rest.start ≤ latest }
         requires few { self.now.number ≤ latest }
@@ -164,7 +164,7 @@ impl RestingDay {
         Ok(())
     }
 
-    /// Takes a rest that a span ends, or none.
+    /// Takes the rest run that ends where a span starts, if there is one.
     fn hear(&mut self, rest: Option<Run>, found: &mut Found) -> Result<(), AllocError>
         requires start { MatchOption rest ⊤ (λ rest. rest.start ≤ latest) }
         requires past { MatchOption rest ⊤ (λ rest. rest.past ≤ latest) }

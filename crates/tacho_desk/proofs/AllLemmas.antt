@@ -30,33 +30,33 @@ use Rattle.tacho_desk.proofs.MeantLemmas.{StaysSame, same_after}
 use Rattle.tacho_desk.proofs.ServeLemmas.{refusal_of}
 use Rattle.tacho_desk.proofs.ShownLemmas.{agree_in}
 
--- ---- who is listed is there
+-- ---- each listed driver exists
 
--- there is a driver with the number
+-- a driver with the number exists
 abbrev IsThere : State → ℕ → Type 0
 IsThere s n = (d : Driver) × (driver_of n s ≡ Some d)
 
--- also where there is one more
+-- they still exist when the state has one more driver
 still_there : (n : ℕ) (x : Driver) (s : State) → IsThere s n → IsThere (x ∷ s) n
 still_there n x s h = (elim (x.number == n) as (λ b. (x.number == n) ≡ b → (d : Driver) × (cond b (Some x) (driver_of n s) ≡ Some d)) [
   | true ↦ λ is. (x, refl)
   | false ↦ λ is. h
 ]) refl
 
--- each driver is
+-- each driver of the state exists by number
 all_there : (s : State) → All (λ (d : Driver). IsThere s d.number) s
 all_there [] i d within = absurd (omega (arith, within))
 all_there (x ∷ s) zero d within = (x, rw (eq-eqb x.number x.number refl) refl)
 all_there (x ∷ s) (suc i) d within = still_there (get_or s i d).number x s (all_there s i d (omega (arith, within)))
 
--- what holds of each summary holds of the drivers in memory that it is of
+-- what holds for each summary holds for each driver in memory with that summary
 of_told : (P : Summary → Type 0) (xs : List DriverSummary) → All P (map told_summary xs)
     → All (λ (x : DriverSummary). P (told_summary x)) xs
 of_told P [] h i d within = absurd (omega (arith, within))
 of_told P (x ∷ xs) h zero d within = h zero (told_summary d) (omega arith)
 of_told P (x ∷ xs) h (suc i) d within = of_told P xs (λ k e l. h (suc k) e (omega (arith, l))) i d (omega (arith, within))
 
--- so is each that is listed
+-- each listed driver exists
 listed_there : (s : State) (drivers : List DriverSummary) → AreSummaries s (map told_summary drivers)
     → All (λ (x : DriverSummary). IsThere s x.number) drivers
 listed_there s drivers are =
@@ -64,7 +64,7 @@ listed_there s drivers are =
     (All-permutation (λ (x : Summary). IsThere s x.number) (map summary_of s) (map told_summary drivers) are.all
     (All-map (λ (x : Summary). IsThere s x.number) summary_of s (all_there s)))
 
--- and so none of them is answered as unknown
+-- so none of them is answered as unknown
 pub none_unknown : (s : State) (drivers : List DriverSummary) (i : ℕ) (x : DriverSummary) → AreSummaries s (map told_summary drivers)
     → i < length drivers → x ≡ get_or drivers i x → reported x.number s ≡ Ok tt
 none_unknown s drivers i x are within is =
@@ -73,7 +73,7 @@ none_unknown s drivers i x are within is =
 
 -- ---- an archive that is read driver by driver
 
--- it was only read, and these are its drivers
+-- calls that only read the archive, and its list of drivers
 pub record IsRead {K : Type 0} (stands : K → State → Type 0) (is_clean is_live : K → Type 0) (leaves : K → List State → Type 0)
     (is_same : K → K → Type 0) (old new : K) (drivers : List DriverSummary) : Type 0 where
   pub clean : is_clean new → is_clean old
@@ -83,12 +83,12 @@ pub record IsRead {K : Type 0} (stands : K → State → Type 0) (is_clean is_li
   pub crash : is_clean new → (past : List State) → leaves old past → leaves new past
   pub listed : is_clean new → (s : State) → stands old s → AreSummaries s (map told_summary drivers)
 
--- the text so far: a head, and a text of each of the first n drivers
+-- the text so far: a head, and the text of each of the first `count` drivers
 abbrev pub IsSoFar : List ℕ → (Summary → Driver → List ℕ → Type 0) → List DriverSummary → ℕ → List ℕ → State → Type 0
 IsSoFar head Is drivers count text s =
     (rows : List ℕ) × (text ≡ head ++ rows) × AreOfEach Is s (map told_summary (take count drivers)) rows
 
--- a text of one driver more
+-- the text of one more driver
 each_more : (Is : Summary → Driver → List ℕ → Type 0) (s : State) (listed : List Summary) (x : Summary) (text row : List ℕ) (d : Driver)
     → AreOfEach Is s listed text → driver_of x.number s ≡ Some d → Is x d row → AreOfEach Is s (listed ++ x ∷ []) (text ++ row)
 each_more Is s [] x text row d h e is =
@@ -103,7 +103,7 @@ each_more Is s (y ∷ listed) x text row d (his, his_is, front, back, made, of_h
   each_more Is s listed x back row d more e is,
 )
 
--- one driver more is listed
+-- one more driver of the list
 take_more : (xs : List DriverSummary) (i : ℕ) (x : DriverSummary) → i < length xs → x ≡ get_or xs i x
     → map told_summary (take (i + 1) xs) ≡ map told_summary (take i xs) ++ told_summary x ∷ []
 take_more [] i x within is = absurd (omega (arith, within))
@@ -113,7 +113,7 @@ take_more (y ∷ xs) (suc i) x within is =
     subst (λ (n : ℕ). map told_summary (take n (y ∷ xs)) ≡ told_summary y ∷ (map told_summary (take i xs) ++ told_summary x ∷ [])) at
     (ap (λ (rest : List Summary). told_summary y ∷ rest) (take_more xs i x (omega (arith, within)) is))
 
--- the text with one driver more
+-- the text so far with one more driver
 pub row_more : (head : List ℕ) (Is : Summary → Driver → List ℕ → Type 0) (drivers : List DriverSummary) (i : ℕ) (x : DriverSummary)
     (before after : List ℕ) (s : State) → i < length drivers → x ≡ get_or drivers i x → IsSoFar head Is drivers i before s
     → (d : Driver) × (driver_of x.number s ≡ Some d) × (row : List ℕ) × (after ≡ before ++ row) × Is (told_summary x) d row
@@ -125,7 +125,7 @@ row_more head Is drivers i x before after s within item (rows, made, each) (d, e
       (each_more Is s (map told_summary (take i drivers)) (told_summary x) rows row d each e is),
 )
 
--- no text yet
+-- the text so far without any driver is the head
 pub none_yet : (head : List ℕ) (Is : Summary → Driver → List ℕ → Type 0) (drivers : List DriverSummary) (text : List ℕ) (s : State)
     → text ≡ head → IsSoFar head Is drivers 0 text s
 none_yet head Is drivers text s is = ([], is ∙ sym (append-nil head), refl)
@@ -146,7 +146,7 @@ module _ {K : Type 0} (stands : K → State → Type 0) (is_clean is_live : K �
     listed = λ clean s st. read.listed (on.clean clean) s st;
   }
 
-  -- a reading of a driver who is there fails because it is out of memory, or because the store failed
+  -- reading a driver who exists fails only if memory runs out or the store fails
   given_up : (f : StoreFault) (told : Result (Unit {0}) StoreFault) → told ≡ Ok tt → (told ≡ Err f) ⊎ IsGivenUp (store_fault f)
       → IsGivenUp (store_fault f)
   given_up f told there (inl is) = cc
@@ -171,7 +171,7 @@ module _ {K : Type 0} (stands : K → State → Type 0) (is_clean is_live : K �
     crash = λ clean s past st left. inl (on.crash clean past (read.crash (on.clean clean) past left));
   }
 
-  -- there was no memory for the text
+  -- memory for the text ran out
   pub no_memory : (old now : K) (drivers : List DriverSummary) (Does : State → Doing)
       → IsRead stands is_clean is_live leaves is_same old now drivers → Serves stands is_clean is_live leaves is_same old now false (Err fault.Memory) Does
   no_memory old now drivers Does read = record {
@@ -216,14 +216,14 @@ module _ {K : Type 0} (stands : K → State → Type 0) (is_clean is_live : K �
 
 -- ---- a driver's part of the text
 
--- the row of a month's overview, and the rows of its incidents
+-- the row of a month's overview; and below, the rows of its incidents
 abbrev pub IsOverviewOf : ℕ → Summary → Driver → List ℕ → Type 0
 IsOverviewOf month x d = OfStretches (λ stretches. IsOverviewRow x.number x.name (held_spans d) stretches month) d
 
 abbrev pub AreIncidentsOf : ℕ → Summary → Driver → List ℕ → Type 0
 AreIncidentsOf month x d = OfStretches (λ stretches. AreIncidentRows x.number x.name stretches month) d
 
--- a text of the stretches of a driver who is there
+-- a text of the stretches of a driver who exists
 rows_of : (o : Option Driver) (Is : Driver → List Judged → List ℕ → Type 0) (stretches : List Judged) (before after : List ℕ)
     → told_of {A = Unit {0}} (λ d. Ok tt) o ≡ Ok tt → IfSome o (λ d. AreStretches (held_spans d) (1440 * d.base) stretches)
     → IfSome o (λ d. (row : List ℕ) × (after ≡ before ++ row) × Is d stretches row)
@@ -231,7 +231,7 @@ rows_of : (o : Option Driver) (Is : Driver → List Judged → List ℕ → Type
 rows_of None Is stretches before after there are rows = cc
 rows_of (Some d) Is stretches before after there are (row, made, is) = (d, refl, row, made, (stretches, are, is))
 
--- the row of the overview, by the minutes of the month alone
+-- the row of the overview depends only on the marks in the month
 overview_by_marks : (o : Option Driver) (n : ℕ) (name line_name : List ℕ) (line : List Span) (stretches : List Judged)
     (month start past : ℕ) (before after : List ℕ) → AreBounds month start past → line_name ≡ name
     → IfSome o (λ d. AgreeWithin start past line (held_spans d)) → IfSome o (λ d. AreStretches (held_spans d) (1440 * d.base) stretches)
@@ -258,7 +258,7 @@ overview_of n s name line_name line stretches month start past before after boun
     rows_of (driver_of n s) (λ d stretches. IsOverviewRow n name (held_spans d) stretches month) stretches before after there are
     (overview_by_marks (driver_of n s) n name line_name line stretches month start past before after bounds named within are pushed)
 
--- the rows of incidents of a driver, if there is one
+-- a fact holds for a driver, if there is one
 if_there : (o : Option Driver) {P : Type 0} → P → IfSome o (λ d. P)
 if_there None p = tt
 if_there (Some d) p = p

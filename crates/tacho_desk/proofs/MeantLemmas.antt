@@ -1,4 +1,4 @@
--- A call that does one thing does another that it means, or nothing; and what a fault answers.
+-- If a call does one thing, it does each thing that this implies; and calls that do nothing but answer a fault.
 use Rattle.std.proofs.Common.{◌≡◌, ◌⊎◌, inl, inr, Bool, List, Result, Ok, Err, ap}
 use Rattle.std.specs.Prelude.{IsErrAnd}
 use Rattle.tacho_state.specs.Acts.{Reads}
@@ -10,28 +10,28 @@ use Rattle.tacho_desk.specs.Told.{Answer, answer_of}
 use Rattle.tacho_desk.specs.declared.fault.Fault.{Fault}
 use Rattle.tacho_desk.specs.declared.text.Text.{Text}
 
--- the answer of a result that is this fault
+-- a result with a fault answers this fault
 pub faulty : (result : Result Text Fault) (f : Fault) → IsErrAnd result (λ e. e ≡ f) → answer_of result ≡ Err f
 faulty (Err e) f h = ap Err h
 faulty (Ok text) f h = absurd h
 
--- ---- one meaning for another
+-- ---- one meaning implies another
 
--- of the answer and the state
+-- for the answer and the state
 done_as : (stands : State → Type 0) (s : State) (A B : Doing) (answer : Answer) → ((answer : Answer) (after : State) → A answer after → B answer after)
     → Done stands s A answer → Done stands s B answer
 done_as stands s A B (Ok told) h d = (d.0, d.1, h (Ok told) d.0 d.2)
 done_as stands s A B (Err f) h (st, inl d) = (st, inl (h (Err f) s d))
 done_as stands s A B (Err f) h (st, inr g) = (st, inr g)
 
--- of what is kept
+-- for what is durable
 kept_as : (stands : State → Type 0) (leaves : List State → Type 0) (A B : Doing) (answer : Answer)
     → ((answer : Answer) (after : State) → A answer after → B answer after)
     → IsKept stands leaves A answer → IsKept stands leaves B answer
 kept_as stands leaves A B (Ok told) h d = (d.0, d.1, h (Ok told) d.0 d.2, d.3)
 kept_as stands leaves A B (Err f) h d = tt
 
--- of what a stop leaves
+-- for the states that a crash may leave
 stops_as : (leaves : List State → Type 0) (past : List State) (A B : Doing) (answer : Answer)
     → ((answer : Answer) (after : State) → A answer after → B answer after)
     → Stops leaves past A answer → Stops leaves past B answer
@@ -40,10 +40,10 @@ stops_as leaves past A B (Ok told) h (inr a) = inr (a.0, h (Ok told) a.0 a.1, a.
 stops_as leaves past A B (Err f) h (inl l) = inl l
 stops_as leaves past A B (Err f) h (inr a) = inr (a.0, (a.1.0, a.1.1, h a.1.0 a.1.1 a.1.2, a.1.3))
 
--- ---- at an archive
+-- ---- calls of an archive
 
--- What is kept is the same as itself, and where two calls that follow each other change no row, both together change none: what a
--- `Keeper` has as `same_self` and `same_then`.
+-- an archive has the same rows as itself; and if neither of two calls in sequence changes a row, both together change none: a `Keeper`
+-- ensures these as `same_self` and `same_then`
 abbrev pub IsSameAsItself : {K : Type 0} → (K → K → Type 0) → Type 0
 IsSameAsItself {K = K} is_same = (keeper : K) → is_same keeper keeper
 
@@ -51,7 +51,7 @@ abbrev pub StaysSame : {K : Type 0} → (K → Type 0) → (K → K → Type 0) 
 StaysSame {K = K} is_live is_same =
     (first second third : K) → (is_live third → is_live second) → is_same first second → is_same second third → is_same first third
 
--- the rows stay in a reading after calls in which they stayed
+-- a reading keeps the rows, after calls that kept them
 pub same_after : {K A B : Type 0} {stands : K → State → Type 0} {is_clean is_live : K → Type 0} {leaves : K → List State → Type 0}
     {is_same : K → K → Type 0} {view : A → B} {old now new : K} {result : Result A StoreFault} {told : State → Result B StoreFault}
     → StaysSame is_live is_same → (is_clean now → (s : State) → stands old s → is_same old now)
@@ -63,7 +63,7 @@ same_after {old = old} {now = now} {new = new} same_then same state on clean s s
 
 module _ {K : Type 0} (stands : K → State → Type 0) (is_clean is_live : K → Type 0) (leaves : K → List State → Type 0)
     (is_same : K → K → Type 0) where
-  -- a call that does the one does the other
+  -- if one meaning implies another, a call that does the first does the second
   pub served_as : (old new : K) (command : Bool) (answer : Answer) (A B : State → Doing)
       → ((s : State) (answer : Answer) (after : State) → A s answer after → B s answer after)
       → Serves stands is_clean is_live leaves is_same old new command answer A → Serves stands is_clean is_live leaves is_same old new command answer B
@@ -76,7 +76,7 @@ module _ {K : Type 0} (stands : K → State → Type 0) (is_clean is_live : K �
     crash = λ clean s past st l. stops_as (leaves new) past (A s) (B s) answer (h s) (d.crash clean s past st l);
   }
 
-  -- nothing was done, since this fault is wanted, or memory failed
+  -- nothing was done: the task answers this fault, or memory ran out, or the store failed
   pub nothing : IsSameAsItself is_same → (keeper : K) (command : Bool) (f : Fault) (Does : State → Doing) → ((s : State) → Does s (Err f) s ⊎ IsGivenUp f)
       → Serves stands is_clean is_live leaves is_same keeper keeper command (Err f) Does
   nothing same_self keeper command f Does h = record {

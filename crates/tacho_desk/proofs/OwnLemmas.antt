@@ -1,4 +1,4 @@
--- Why a refusal changes nothing, and a driver's own tasks stand alone.
+-- Why a refusal changes nothing, and why a driver's own tasks depend on their rows alone.
 use Rattle.std.proofs.Common.{◌≡◌, ◌≢◌, ◌∙◌, ◌==◌, ◌*◌, ℕ, Bool, true, false, cond, List, [], ◌∷◌, ◌++◌, Option, Some, None, Result, Ok, Err, bytes_eq, refl, sym, ap, subst, if◌then◌else◌, nat_lt, length}
 use Rattle.std.proofs.lemmas.Bool.{eqb-true, eq-eqb}
 use Rattle.tacho_line.specs.declared.horizon.Horizon.{Horizon}
@@ -40,21 +40,21 @@ use Rattle.tacho_desk.proofs.StepLemmas.{Keeps, entered_keeps, imported_keeps, r
 
 -- ---- refusals
 
--- an answer that is a fault was one of the archive
+-- an answer that is a fault comes from a fault of the archive
 err_words : {A : Type 0} (words : A → Told) (r : Result A StoreFault) (f : Fault) → Err f ≡ in_words words r → (g : StoreFault) × (r ≡ Err g)
 err_words words (Ok x) f e = cc
 err_words words (Err g) f e = (g, refl)
 
--- a step that is refused leaves the state
+-- a refused step leaves the state as it was
 steps_stay : {A : Type 0} (words : A → Told) (s : State) (turn : Turn A) (f : Fault) (after : State) → Keeps s turn → Steps words turn (Err f) after → after ≡ s
 steps_stay words s turn f after keeps h = (let g = err_words words turn.answer f h.0 in h.1 ∙ keeps g.0 g.1)
 
--- so does a registration
+-- so does a refused registration
 registers_stay : (s : State) (read : Result Registration SheetFault) (f : Fault) (after : State) → RegistersRead s read (Err f) after → after ≡ s
 registers_stay s (Err g) f after h = h.1
 registers_stay s (Ok r) f after h = steps_stay _ s (registered r.number r.holder r.key r.base r.name s) f after (registered_keeps r.number r.holder r.key r.base r.name s) h
 
--- and a batch of hours
+-- so does a refused batch
 enters_stay : (n : ℕ) (s : State) (read : Lines) (f : Fault) (after : State) → EntersRead n s read (Err f) after → after ≡ s
 enters_stay n s (Err g) f after h = h.1
 enters_stay n s (Ok lines) f after h =
@@ -69,13 +69,13 @@ reading_stays reading.Stretches n s answer after h = h.1
 reading_stays reading.Debts n s answer after h = h.1
 reading_stays reading.Form n s answer after h = h.1
 
--- nor does one of a month
+-- nor does a reading of a month
 month_stays : (text : MonthReading) (month n : ℕ) (s : State) (answer : Answer) (after : State) → ShowsMonth text month n s answer after → after ≡ s
 month_stays month.Spans m n s answer after h = h.1
 month_stays month.Gaps m n s answer after h = h.1
 month_stays month.Sheet m n s answer after h = h.1
 
--- nor does one of a month of all drivers
+-- nor does a reading of a month of all drivers
 all_stays : (text : MonthOfAll) (month : ℕ) (s : State) (answer : Answer) (after : State) → ShowsMonthOfAll text month s answer after
     → after ≡ s
 all_stays all.Overview m s answer after h = h.1
@@ -97,7 +97,7 @@ refusals (task.MonthOfAll month text) input s f after h = all_stays text month s
 
 -- ---- rows
 
--- the driver with a number has it
+-- the driver found by a number has this number
 his_number : (n : ℕ) (s : State) (d : Driver) → driver_of n s ≡ Some d → d.number ≡ n
 his_number n [] d e = cc
 his_number n (x ∷ s) d e = (elim (x.number == n) as (λ b. (x.number == n) ≡ b → cond b (Some x) (driver_of n s) ≡ Some d → d.number ≡ n) [
@@ -105,7 +105,7 @@ his_number n (x ∷ s) d e = (elim (x.number == n) as (λ b. (x.number == n) ≡
   | false ↦ λ is same. his_number n s d same
 ]) refl e
 
--- the driver who was put in another's place, who has the same number
+-- a driver who replaces one with the same number is found by this number
 put_own : (d : Driver) (s : State) (old : Driver) → driver_of d.number s ≡ Some old → driver_of d.number (put d s) ≡ Some d
 put_own d [] old e = cc
 put_own d (x ∷ s) old e = (elim (x.number == d.number) as (λ b. (x.number == d.number) ≡ b → cond b (Some x) (driver_of d.number s) ≡ Some old
@@ -114,7 +114,7 @@ put_own d (x ∷ s) old e = (elim (x.number == d.number) as (λ b. (x.number == 
       | false ↦ λ is same. rw is (put_own d s old same)
     ]) refl e
 
--- the others
+-- other drivers are found as before
 put_others : (m : ℕ) (d : Driver) (s : State) → m ≢ d.number → driver_of m (put d s) ≡ driver_of m s
 put_others m d [] h = refl
 put_others m d (x ∷ s) h = (elim (x.number == d.number) as (λ b. (x.number == d.number) ≡ b → driver_of m (cond b (d ∷ s) (x ∷ put d s)) ≡ cond (x.number == m) (Some x) (driver_of m s)) [
@@ -127,31 +127,31 @@ put_others m d (x ∷ s) h = (elim (x.number == d.number) as (λ b. (x.number ==
     not_same : (a b : ℕ) → a ≢ b → (a == b) ≡ false
     not_same a b h = (elim (a == b) as (λ t. (a == b) ≡ t → t ≡ false) [ true ↦ λ e. absurd (h (eqb-true a b e)) | false ↦ λ e. refl ]) refl
 
--- ---- the import of his card
+-- ---- the import of a driver's card
 
--- a command leaves a driver his number
+-- a command doesn't change a driver's number
 abbrev NumberStays : {A : Type 0} → ℕ → Result (A × Driver) StoreFault → Type 0
 NumberStays n (Ok told) = told.1.number ≡ n
 NumberStays n (Err f) = Unit {0}
 
--- a test between two answers
+-- nor does a choice between two answers that don't
 either : {A : Type 0} (n : ℕ) (b : Bool) (x y : Result (A × Driver) StoreFault) → NumberStays n x → NumberStays n y → NumberStays n (if b then x else y)
 either n true x y h k = h
 either n false x y h k = k
 
--- a file that is kept leaves its driver his number
+-- nor does keeping a file
 kept_number : (part : ℕ) (file : List ℕ) (spans : List Span) (d : Driver) (o : Option ℕ) → NumberStays d.number (kept_by part file spans d o)
 kept_number part file spans d (Some m) = tt
 kept_number part file spans d None = either d.number (nat_lt (length d.downloads) most) _ _ refl tt
 
--- and so does his import
+-- nor does an import
 import_number : (part : ℕ) (file : List ℕ) (content : Content) (d : Driver) → NumberStays d.number (import_his part file content d)
 import_number part file content d =
     either d.number (bytes_eq d.holder content.holder) _ _
     (either d.number (is_within content.spans (given_spans d.downloads)) _ _ refl
     (kept_number part file content.spans d (least_conflict (held_spans d ++ content.spans)))) tt
 
--- one driver's command in two states in which he has the same rows
+-- one driver's command answers the same in two states in which the driver's rows are the same, and leaves them the same
 settled_same : {A : Type 0} (n : ℕ) (s other : State) (d : Driver) (r : Result (A × Driver) StoreFault) → driver_of n s ≡ Some d → driver_of n other ≡ Some d → NumberStays n r
     → ((settled s r).answer ≡ (settled other r).answer) × (driver_of n (settled s r).after ≡ driver_of n (settled other r).after)
 settled_same n s other d (Ok told) a b stays =
@@ -160,25 +160,25 @@ settled_same n s other d (Ok told) a b stays =
     (refl, subst (λ (m : ℕ). driver_of m (put told.1 s) ≡ driver_of m (put told.1 other)) stays (put_own told.1 s d x ∙ sym (put_own told.1 other d y)))
 settled_same n s other d (Err f) a b stays = (refl, a ∙ sym b)
 
--- the rows of others are as before
+-- the rows of other drivers stay as they were
 settled_others : {A : Type 0} (n m : ℕ) (s : State) (r : Result (A × Driver) StoreFault) → NumberStays n r → m ≢ n → driver_of m (settled s r).after ≡ driver_of m s
 settled_others n m s (Ok told) stays h = put_others m told.1 s (λ e. h (e ∙ stays))
 settled_others n m s (Err f) stays h = refl
 
--- one driver's command, whether or not there is such a driver
+-- likewise whether or not the driver exists
 own_same : {A : Type 0} (own : Own A) (n : ℕ) (s other : State) (o : Option Driver) → ((d : Driver) → NumberStays d.number (own d)) → driver_of n s ≡ o → driver_of n other ≡ o
     → ((own_turn own s o).answer ≡ (own_turn own other o).answer) × (driver_of n (own_turn own s o).after ≡ driver_of n (own_turn own other o).after)
 own_same own n s other None stays a b = (refl, a ∙ sym b)
 own_same own n s other (Some d) stays a b =
     settled_same n s other d (own d) a b (subst (λ (m : ℕ). NumberStays m (own d)) (his_number n s d a) (stays d))
 
--- others are as before it
+-- the rows of other drivers stay, whether or not the driver exists
 own_others : {A : Type 0} (own : Own A) (n m : ℕ) (s : State) (o : Option Driver) → ((d : Driver) → NumberStays d.number (own d)) → driver_of n s ≡ o → m ≢ n
     → driver_of m (own_turn own s o).after ≡ driver_of m s
 own_others own n m s None stays a h = refl
 own_others own n m s (Some d) stays a h = settled_others n m s (own d) (subst (λ (k : ℕ). NumberStays k (own d)) (his_number n s d a) (stays d)) h
 
--- his import by what the file tells
+-- likewise for the import of the driver's card
 import_same : (n part : ℕ) (file : List ℕ) (content : Result Content CardFault) (s other : State) → driver_of n s ≡ driver_of n other
     → ((imported (Some n) part file content s).answer ≡ (imported (Some n) part file content other).answer)
     × (driver_of n (imported (Some n) part file content s).after ≡ driver_of n (imported (Some n) part file content other).after)
@@ -188,24 +188,24 @@ import_same n part file (Ok content) s other e =
     × (driver_of n (own_turn (import_his part file content) s (driver_of n s)).after ≡ driver_of n (own_turn (import_his part file content) other o).after)) e
     (own_same (import_his part file content) n s other (driver_of n s) (import_number part file content) refl (sym e))
 
--- nobody else's rows change by his import
+-- the import of a driver's card changes no other driver's rows
 import_others : (n m part : ℕ) (file : List ℕ) (content : Result Content CardFault) (s : State) → m ≢ n → driver_of m (imported (Some n) part file content s).after ≡ driver_of m s
 import_others n m part file (Err f) s h = refl
 import_others n m part file (Ok content) s h = own_others (import_his part file content) n m s (driver_of n s) (import_number part file content) refl h
 
--- ---- his tasks
+-- ---- a driver's own tasks
 
--- a text of his is the same where his rows are
+-- a driver's text is the same if the driver's rows are
 shows_same : (Is : Driver → List ℕ → Type 0) (n : ℕ) (s other : State) → driver_of n s ≡ driver_of n other → (answer : Answer) (after : State) → Shows Is n s answer after
     → (left : State) × Shows Is n other answer left × (driver_of n after ≡ driver_of n left)
 shows_same Is n s other e answer after h = (other, (subst (λ (o : Option Driver). IsTextOf Is o answer) e h.0, refl), ap (driver_of n) h.1 ∙ e)
 
--- and so is a list of his
+-- so is a list of what the driver has
 lists_same : {A : Type 0} (words : A → Told) (f : Driver → Result A StoreFault) (n : ℕ) (s other : State) → driver_of n s ≡ driver_of n other → (answer : Answer) (after : State)
     → Lists words s (told_of f (driver_of n s)) answer after → (left : State) × Lists words other (told_of f (driver_of n other)) answer left × (driver_of n after ≡ driver_of n left)
 lists_same words f n s other e answer after h = (other, (h.0 ∙ ap (λ (o : Option Driver). in_words words (told_of f o)) e, refl), ap (driver_of n) h.1 ∙ e)
 
--- and what his import tells
+-- so is what an import answers
 imports_same : (n : ℕ) (p : Part) (input : List ℕ) (s other : State) → driver_of n s ≡ driver_of n other → (answer : Answer) (after : State) → Imports (caller.Driver n) p input s answer after
     → (left : State) × Imports (caller.Driver n) p input other answer left × (driver_of n after ≡ driver_of n left)
 imports_same n p input s other e answer after h =
@@ -213,7 +213,7 @@ imports_same n p input s other e answer after h =
     let left = (imported (Some n) (part_number p) input h.0 other).after in
     (left, (h.0, h.1, (h.2.0 ∙ ap (in_words imported_told) same.0, refl)), ap (driver_of n) h.2.1 ∙ same.1)
 
--- by the number that he has
+-- likewise for an equal number
 at_number : (n m : ℕ) → m ≡ n → (s other : State) (Does : State → Doing) (answer : Answer) (after : State)
     → (driver_of m s ≡ driver_of m other → (left : State) × Does other answer left × (driver_of m after ≡ driver_of m left))
     → driver_of n s ≡ driver_of n other → (left : State) × Does other answer left × (driver_of n after ≡ driver_of n left)
@@ -221,7 +221,7 @@ at_number n m is s other Does answer after h e =
     let r = h (subst (λ (k : ℕ). driver_of k s ≡ driver_of k other) (sym is) e) in
     (r.0, r.1, subst (λ (k : ℕ). driver_of k after ≡ driver_of k r.0) is r.2)
 
--- his texts are those of his rows
+-- a driver's texts depend on their rows alone
 reading_same : (text : Reading) (n : ℕ) (s other : State) → driver_of n s ≡ driver_of n other → (answer : Answer) (after : State)
     → ShowsReading text n s answer after → (left : State) × ShowsReading text n other answer left × (driver_of n after ≡ driver_of n left)
 reading_same reading.Breaches n s other e answer after h = shows_same _ n s other e answer after h
@@ -231,14 +231,14 @@ reading_same reading.Stretches n s other e answer after h = shows_same _ n s oth
 reading_same reading.Debts n s other e answer after h = shows_same _ n s other e answer after h
 reading_same reading.Form n s other e answer after h = shows_same _ n s other e answer after h
 
--- the same of his month
+-- so do the texts of a month
 month_same : (text : MonthReading) (month n : ℕ) (s other : State) → driver_of n s ≡ driver_of n other → (answer : Answer) (after : State)
     → ShowsMonth text month n s answer after → (left : State) × ShowsMonth text month n other answer left × (driver_of n after ≡ driver_of n left)
 month_same month.Spans m n s other e answer after h = shows_same _ n s other e answer after h
 month_same month.Gaps m n s other e answer after h = shows_same _ n s other e answer after h
 month_same month.Sheet m n s other e answer after h = shows_same _ n s other e answer after h
 
--- each task of his answers by his rows alone
+-- each of a driver's own tasks answers by the driver's rows alone
 pub same_answers : SameAnswers
 same_answers n (task.Import (caller.Driver m) p) his input s other e answer after h =
     at_number n m his s other (Imports (caller.Driver m) p input) answer after (λ same. imports_same m p input s other same answer after h) e
@@ -256,7 +256,7 @@ same_answers n (task.Base m day) his input s other e answer after h = absurd his
 same_answers n task.Drivers his input s other e answer after h = absurd his
 same_answers n (task.MonthOfAll month text) his input s other e answer after h = absurd his
 
--- and changes nobody else's
+-- it changes no other driver's rows
 pub others_stay : OthersStay
 others_stay n (task.Import (caller.Driver k) p) his input s answer after h m other =
     ap (driver_of m) h.2.1 ∙ import_others k m (part_number p) input h.0 s (λ e. other (e ∙ his))
@@ -274,11 +274,11 @@ others_stay n (task.MonthOfAll month text) his input s answer after h m other = 
 
 -- ---- one answer
 
--- two texts that are so are one
+-- at most one text has the property
 abbrev IsOne : (Driver → List ℕ → Type 0) → Type 0
 IsOne Is = (d : Driver) (a b : List ℕ) → Is d a → Is d b → a ≡ b
 
--- what shows a text has one answer
+-- an answer that is a text with the property is unique
 one_text : (Is : Driver → List ℕ → Type 0) → IsOne Is → (d : Driver) (a b : Answer) → IsText (Is d) a → IsText (Is d) b → a ≡ b
 one_text Is one d (Ok (Long x)) (Ok (Long y)) h k = ap (λ (text : List ℕ). Ok (Long text)) (one d x y h k)
 one_text Is one d (Ok (Long x)) (Ok (Added y)) h k = absurd k
@@ -290,20 +290,20 @@ one_text Is one d (Ok (Line x)) b h k = absurd h
 one_text Is one d (Ok (File x)) b h k = absurd h
 one_text Is one d (Err f) b h k = absurd h
 
--- also where there may be no driver
+-- likewise if the driver may not exist
 one_text_of : (Is : Driver → List ℕ → Type 0) → IsOne Is → (o : Option Driver) (a b : Answer) → IsTextOf Is o a → IsTextOf Is o b → a ≡ b
 one_text_of Is one None a b h k = h ∙ sym k
 one_text_of Is one (Some d) a b h k = one_text Is one d a b h k
 
--- and one state behind it
+-- likewise with the state after it
 one_shown : (Is : Driver → List ℕ → Type 0) → IsOne Is → (n : ℕ) (s : State) (a b : Answer) (after left : State) → Shows Is n s a after → Shows Is n s b left → (a ≡ b) × (after ≡ left)
 one_shown Is one n s a b after left h k = (one_text_of Is one (driver_of n s) a b h.0 k.0, h.1 ∙ sym k.1)
 
--- a list has one answer
+-- the answer with a list is unique
 one_listed : {A : Type 0} (words : A → Told) (s : State) (r : Result A StoreFault) (a b : Answer) (after left : State) → Lists words s r a after → Lists words s r b left → (a ≡ b) × (after ≡ left)
 one_listed words s r a b after left h k = (h.0 ∙ sym k.0, h.1 ∙ sym k.1)
 
--- what the laws below say
+-- assuming what the laws below say
 module _ (one_content : (p : Part) (bytes : List ℕ) (a b : Result Content CardFault) → FileTells p bytes a → FileTells p bytes b → a ≡ b)
     (one_report : (held : List Span) (base : ℕ) (horizon other : Horizon) (found others : List Breach) (debts owed : List Debt)
     → IsReport held base horizon found debts → IsReport held base other others owed → (horizon ≡ other) × (found ≡ others) × (debts ≡ owed))
@@ -314,7 +314,7 @@ module _ (one_content : (p : Part) (bytes : List ℕ) (a b : Result Content Card
     (one_stretches : (line : List Span) (base : ℕ) (stretches others : List Judged) → AreStretches line base stretches
     → AreStretches line base others → stretches ≡ others)
     (one_form : (line : List Span) (base end : ℕ) (a b : List ℕ) → IsForm line base end a → IsForm line base end b → a ≡ b) where
-  -- a text of a report is one where the report is
+  -- a text of a report is unique, since the report is
   one_of_report : (Is : Driver → List Breach → List Debt → Horizon → List ℕ → Type 0)
       → ((d : Driver) (breaches : List Breach) (debts : List Debt) (horizon : Horizon) (a b : List ℕ) → Is d breaches debts horizon a → Is d breaches debts horizon b → a ≡ b)
       → IsOne (λ d. OfReport (Is d) d)
@@ -325,20 +325,20 @@ module _ (one_content : (p : Part) (bytes : List ℕ) (a b : Result Content Card
       (subst (λ (breaches : List Breach). Is d breaches k.2 h.0 b) (sym same.1)
       (subst (λ (horizon : Horizon). Is d k.1 k.2 horizon b) (sym same.0) k.4)))
 
-  -- a text of stretches is one where they are
+  -- a text of stretches is unique, since the stretches are
   one_of_stretches : (Is : List Judged → List ℕ → Type 0)
       → ((stretches : List Judged) (a b : List ℕ) → Is stretches a → Is stretches b → a ≡ b) → IsOne (OfStretches Is)
   one_of_stretches Is one d a b h k =
       let same = one_stretches (held_spans d) (1440 * d.base) k.0 h.0 k.1 h.1 in
       one h.0 a b h.2 (subst (λ (stretches : List Judged). Is stretches b) same k.2)
 
-  -- there is one form, up to the one end of what is held
+  -- the form is unique, since the end of what is held is
   one_form_of : IsOne IsFormOf
   one_form_of d a b h k =
       let end : k.0 ≡ h.0 = one_end (held_spans d) (1440 * d.base) k.0 h.0 k.1 h.1 in
       one_form (held_spans d) (1440 * d.base) h.0 a b h.2 (subst (λ (end : ℕ). IsForm (held_spans d) (1440 * d.base) end b) end k.2)
 
-  -- his texts are one
+  -- each text of a driver is unique
   one_reading : (text : Reading) (n : ℕ) (s : State) (a b : Answer) (after left : State)
       → ShowsReading text n s a after → ShowsReading text n s b left → (a ≡ b) × (after ≡ left)
   one_reading reading.Breaches n s a b after left h k =
@@ -354,7 +354,7 @@ module _ (one_content : (p : Part) (bytes : List ℕ) (a b : Result Content Card
       n s a b after left h k
   one_reading reading.Form n s a b after left h k = one_shown IsFormOf one_form_of n s a b after left h k
 
-  -- the texts of his month are one
+  -- each text of a driver's month is unique
   one_month : (text : MonthReading) (month n : ℕ) (s : State) (a b : Answer) (after left : State)
       → ShowsMonth text month n s a after → ShowsMonth text month n s b left → (a ≡ b) × (after ≡ left)
   one_month month.Spans m n s a b after left h k = one_shown _ (λ d x y. one_spans (held_spans d) m x y) n s a b after left h k
@@ -363,7 +363,7 @@ module _ (one_content : (p : Part) (bytes : List ℕ) (a b : Result Content Card
       one_shown _ (one_of_report (λ d breaches debts horizon. IsMonthSheet n d.name (held_spans d) breaches horizon m)
       (λ d breaches debts horizon x y. one_sheet n d.name (held_spans d) breaches horizon m x y)) n s a b after left h k
 
-  -- each task of his has one answer
+  -- each of a driver's own tasks has one answer
   pub one_answer : OneAnswer
   one_answer n (task.Import (caller.Driver m) p) his input s a b after left h k =
       let same = one_content p input h.0 k.0 h.1 k.1 in (

@@ -1,4 +1,4 @@
--- What docs/FORMATS.md says of what can be wanted, held against the definitions: with another value here this file is refused.
+-- What docs/FORMATS.md says of tasks is what the definitions say: with another value here, this file isn't accepted.
 use Rattle.std.proofs.Common.{◌≡◌, List, [], ◌∷◌, Ok, Err, Some, codes, map, true, false, refl}
 use Rattle.tacho_card.specs.declared.file.Part.TheVariants as part
 use Rattle.tacho_state.specs.declared.caller.Caller.TheVariants as caller
@@ -14,27 +14,27 @@ use Rattle.tacho_desk.specs.declared.want.Reading.TheVariants as reading
 use Rattle.tacho_desk.specs.declared.want.Want.{Want}
 use Rattle.tacho_desk.specs.declared.want.Want.TheVariants.{Base, Drivers, Enter, File, Import, MonthReading, Reading, Register, Withdraw}
 
--- ---- all that can be wanted
+-- ---- all kinds of tasks
 
 abbrev all_wants : List Want
 all_wants = Register ∷ Import ∷ Enter ∷ Withdraw ∷ Base ∷ (Reading reading.Breaches) ∷ (Reading reading.Owed) ∷ (Reading reading.Entries)
     ∷ (MonthReading month.Spans) ∷ (MonthReading month.Gaps) ∷ (MonthReading month.Sheet) ∷ File ∷ Drivers ∷ []
 
--- which of it has an input
+-- whether each has an input
 pub inputs : map takes_input all_wants
     ≡ true ∷ true ∷ true ∷ false ∷ false ∷ false ∷ false ∷ false ∷ false ∷ false ∷ false ∷ false ∷ false ∷ []
 inputs = refl
 
--- changes the archive
+-- whether each changes the archive
 pub commands : map is_command all_wants
     ≡ true ∷ true ∷ true ∷ true ∷ true ∷ false ∷ false ∷ false ∷ false ∷ false ∷ false ∷ false ∷ false ∷ []
 commands = refl
 
--- and is a driver's own
+-- whether each is a driver's own
 pub own : map is_own all_wants ≡ false ∷ true ∷ false ∷ false ∷ false ∷ true ∷ true ∷ true ∷ true ∷ true ∷ true ∷ true ∷ false ∷ []
 own = refl
 
--- ---- words
+-- ---- arguments
 
 pub both : by_part (part_of (codes "both")) (λ p. task.Import caller.Office p) ≡ Ok (task.Import caller.Office part.Both)
 both = refl

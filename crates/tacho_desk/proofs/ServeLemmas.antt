@@ -1,4 +1,4 @@
--- What functions of the tasks do, by what their parts did.
+-- What the functions for tasks do, derived from what their parts did.
 use Rattle.std.proofs.Common.{◌≡◌, ◌⊎◌, inl, inr, ℕ, true, List, Result, Ok, Err, refl, sym, ap, subst}
 use Rattle.tacho_card.specs.declared.fault.CardFault.{CardFault}
 use Rattle.tacho_card.specs.declared.file.Part.{Part}
@@ -26,20 +26,20 @@ use Rattle.tacho_desk.specs.declared.task.Task.TheVariants as task
 use Rattle.tacho_desk.proofs.MeantLemmas.{IsSameAsItself, nothing, served_as}
 use Rattle.tacho_desk.proofs.StepLemmas.{Keeps, TellsNoFile, imported_keeps}
 
--- what an import answered
+-- the answer of an import
 abbrev pub answered : StoreFault → Result Imported StoreFault
 answered f = Err f
 
 abbrev pub taken : Imported → Result Imported StoreFault
 taken x = Ok x
 
--- ---- what refused a task
+-- ---- the fault of a task
 
--- it was given up, or refused by the archive, or its file has a fault
+-- the task was given up, or the archive refused it, or its file has a fault
 abbrev pub Refusal : StoreFault → Type 0
 Refusal f = IsGivenUp (store_fault f) ⊎ (IsRefused {A = Unit {0}} (Err f) ⊎ ((g : CardFault) × (f ≡ store.Card g)))
 
--- each fault is one of the three
+-- each fault is one of these three
 refusal : (f : StoreFault) → Refusal f
 refusal store.Memory = inl tt
 refusal store.Store = inl tt
@@ -57,7 +57,7 @@ refusal store.UnknownDownload = inr (inl tt)
 refusal store.OldSchema = inr (inl tt)
 refusal store.Full = inr (inl tt)
 
--- a refusal of the archive is the step's, or a giving up
+-- a refusal of the archive is that of the step, or the call was given up
 pub refusal_of : {A B : Type 0} (view : A → B) (f : StoreFault) (told : Result B StoreFault) → Answers view (Err f) told
     → (told ≡ Err f) ⊎ IsGivenUp (store_fault f)
 refusal_of view store.Memory told h = inr tt
@@ -76,7 +76,7 @@ refusal_of view store.UnknownDownload told h = inl h
 refusal_of view store.OldSchema told h = inl h
 refusal_of view store.Full told h = inl h
 
--- what a store answers is no fault of the input or of a device, unless it is the fault of a file
+-- a store's fault is no fault of the input or of a device, unless it is the fault of a file
 of_store : (f : StoreFault) → IsOfArchive (Err (store_fault f)) ⊎ ((g : CardFault) × (f ≡ store.Card g))
 of_store store.Memory = inl tt
 of_store store.Store = inl tt
@@ -94,7 +94,7 @@ of_store store.UnknownDownload = inl tt
 of_store store.OldSchema = inl tt
 of_store store.Full = inl tt
 
--- a text of CSV that could not be read: for want of memory, or by E8, or by its first fault
+-- a text of CSV could not be read: memory ran out, or E8, or its first fault
 read_fault : {A : Type 0} (Is : Result A SheetFault → Type 0) (f : SheetFault) → IsReaderFault f ⊎ Is (Err f)
     → OrCsv Is (Err f) ⊎ (f ≡ sheet.Memory)
 read_fault Is f (inr is) = inl (inl is)
@@ -110,7 +110,7 @@ read_fault Is (sheet.TooLong row) (inl h) = absurd h
 read_fault Is (sheet.Column column) (inl h) = absurd h
 read_fault Is (sheet.Text row column) (inl h) = absurd h
 
--- it is the input's fault, or want of memory
+-- the answer is a fault of the input, or out of memory
 unread : {A : Type 0} (Is : Result A SheetFault → Type 0) (f : SheetFault) → OrCsv Is (Err f) ⊎ (f ≡ sheet.Memory)
     → IsUnread (λ g. (e : SheetFault) × OrCsv Is (Err e) × (g ≡ sheet_fault e)) (Err (sheet_fault f))
 unread Is f (inl is) = inl (f, is, refl)
@@ -120,13 +120,13 @@ module _ {K : Type 0} (stands : K → State → Type 0) (is_clean is_live : K �
     (is_same : K → K → Type 0) where
   -- ---- CSV
 
-  -- where memory was wanting the text was given up
+  -- if memory ran out, the task was given up
   given_up : {A : Type 0} (Is : Result A SheetFault → Type 0) (f : SheetFault) → OrCsv Is (Err f) ⊎ (f ≡ sheet.Memory)
       → OrCsv Is (Err f) ⊎ IsGivenUp (sheet_fault f)
   given_up Is f (inl is) = inl is
   given_up Is f (inr e) = inr (subst (λ (g : SheetFault). IsGivenUp (sheet_fault g)) (sym e) tt)
 
-  -- a text of hours that was not read
+  -- a text of hours that could not be read
   pub unread_lines : IsSameAsItself is_same → (keeper : K) (n : ℕ) (input : List ℕ) (f : SheetFault) → IsReaderFault f ⊎ IsRead input (Err f)
       → Serves stands is_clean is_live leaves is_same keeper keeper true (Err (sheet_fault f)) (Enters n input)
   unread_lines same_self keeper n input f h =
@@ -137,7 +137,7 @@ module _ {K : Type 0} (stands : K → State → Type 0) (is_clean is_live : K �
       said s (inl is) = inl (Err f, is, (refl, refl))
       said s (inr g) = inr g
 
-  -- one that was read and entered
+  -- a text of hours that was read and entered
   pub read_lines : (old new : K) (answer : Answer) (n : ℕ) (input : List ℕ) (lines : List EntryLine)
       → IsRead input (Ok lines) → Serves stands is_clean is_live leaves is_same old new true answer (λ s. EntersRead n s (Ok lines))
       → Serves stands is_clean is_live leaves is_same old new true answer (Enters n input)
@@ -145,7 +145,7 @@ module _ {K : Type 0} (stands : K → State → Type 0) (is_clean is_live : K �
       served_as stands is_clean is_live leaves is_same old new true answer (λ s. EntersRead n s (Ok lines)) (Enters n input)
       (λ s answer after does. (Ok lines, inl is, does)) d
 
-  -- a driver's text that was not read
+  -- a driver's text that could not be read
   pub unread_driver : IsSameAsItself is_same → (keeper : K) (input : List ℕ) (f : SheetFault) → IsReaderFault f ⊎ IsDriverRead input (Err f)
       → Serves stands is_clean is_live leaves is_same keeper keeper true (Err (sheet_fault f)) (Registers input)
   unread_driver same_self keeper input f h =
@@ -156,7 +156,7 @@ module _ {K : Type 0} (stands : K → State → Type 0) (is_clean is_live : K �
       said s (inl is) = inl (Err f, is, (refl, refl))
       said s (inr g) = inr g
 
-  -- one that was read and registered
+  -- a driver's text that was read and registered
   pub read_driver : (old new : K) (answer : Answer) (input : List ℕ) (r : Registration)
       → IsDriverRead input (Ok r) → Serves stands is_clean is_live leaves is_same old new true answer (λ s. RegistersRead s (Ok r))
       → Serves stands is_clean is_live leaves is_same old new true answer (Registers input)
@@ -164,12 +164,12 @@ module _ {K : Type 0} (stands : K → State → Type 0) (is_clean is_live : K �
       served_as stands is_clean is_live leaves is_same old new true answer (λ s. RegistersRead s (Ok r)) (Registers input)
       (λ s answer after does. (Ok r, inl is, does)) d
 
--- the text of CSV was refused, and the archive was asked nothing
+-- the text of hours was refused, and the archive was not accessed
 pub unasked_lines : {K : Type 0} (keeper : K) (n : ℕ) (input : List ℕ) (f : SheetFault) → IsReaderFault f ⊎ IsRead input (Err f)
     → AsksOnly keeper keeper (IsSound (task.Enter n) input) (IsFaulty (task.Enter n) input) (Err (sheet_fault f))
 unasked_lines keeper n input f h = inr (refl, unread (IsRead input) f (read_fault (IsRead input) f h))
 
--- the same of a driver's text
+-- likewise for a driver's text
 pub unasked_driver : {K : Type 0} (keeper : K) (input : List ℕ) (f : SheetFault) → IsReaderFault f ⊎ IsDriverRead input (Err f)
     → AsksOnly keeper keeper (IsSound task.Register input) (IsFaulty task.Register input) (Err (sheet_fault f))
 unasked_driver keeper input f h = inr (refl, unread (IsDriverRead input) f (read_fault (IsDriverRead input) f h))
@@ -205,7 +205,7 @@ module _ {K : Type 0} (stands : K → State → Type 0) (is_clean is_live : K �
       stopped_by clean s past st l (inr (inl h)) = inl (acts.refused clean (refuses f h) past l)
       stopped_by clean s past st l (inr (inr h)) = inl (of_file h.0 h.1 clean s past st l)
 
-  -- a step that was taken
+  -- a step that was done
   pub taken_by : {A B : Type 0} (view : A → B) (words : B → Told) (old new : K) (x : A) (step : State → Turn B)
       → Acts stands is_clean is_live leaves is_same is_same_of view old new (Ok x) step
       → Serves stands is_clean is_live leaves is_same old new true (Ok (words (view x))) (λ s. Steps words (step s))
@@ -221,7 +221,7 @@ module _ {K : Type 0} (stands : K → State → Type 0) (is_clean is_live : K �
       told : is_clean new → (s : State) → stands old s → Steps words (step s) (Ok (words (view x))) (step s).after
       told clean s st = (sym (ap (in_words words) (acts.answer clean s st)), refl)
 
-  -- a step that tells no file's fault
+  -- a step that never reports the fault of a file was refused
   pub refused_without_file : {A B : Type 0} (view : A → B) (words : B → Told) (old new : K) (f : StoreFault) (step : State → Turn B) → ((s : State) → Keeps s (step s))
       → ((s : State) → TellsNoFile (step s).answer)
       → Acts stands is_clean is_live leaves is_same is_same_of view old new (Err f) step
@@ -234,7 +234,7 @@ module _ {K : Type 0} (stands : K → State → Type 0) (is_clean is_live : K �
 
   -- ---- import
 
-  -- an import that was refused, by whatever its file tells
+  -- an import that was refused, for any content of its file
   pub import_refused : (old new : K) (caller : Caller) (p : Part) (input : List ℕ) (f : StoreFault)
       → ((g : CardFault) → FileTells p input (Err g) → ((answered f ≡ Err store.Memory) ⊎ (answered f ≡ Err (store.Card g))) × (new ≡ old))
       → ((g : CardFault) → answered f ≡ Err (store.Card g) → FileTells p input (Err g))
@@ -253,7 +253,7 @@ module _ {K : Type 0} (stands : K → State → Type 0) (is_clean is_live : K �
       (λ g e clean s past st l. subst (λ (k : K). leaves k past) (sym (unreadable g (readable g (ap Err e))).1) l)
       (acts c.0 c.1))
 
-  -- one that went in, or was there
+  -- an import that added the file, or found it there
   pub import_taken : (old new : K) (caller : Caller) (p : Part) (input : List ℕ) (x : Imported)
       → ((content : Result Content CardFault) → FileTells p input content
       → Acts stands is_clean is_live leaves is_same is_same_of (λ (done : Imported). done) old new (Ok x)
@@ -267,7 +267,7 @@ module _ {K : Type 0} (stands : K → State → Type 0) (is_clean is_live : K �
       (λ s answer after does. (c.0, c.1, does))
       (taken_by (λ (done : Imported). done) imported_told old new x step (acts c.0 c.1))
 
--- a card file with a fault asks the archive nothing, and no other is answered with one
+-- a card file with a fault doesn't access the archive, and only such a file is answered with a file's fault
 pub import_asks : {K : Type 0} (old new : K) (caller : Caller) (p : Part) (input : List ℕ) (f : StoreFault)
     → ((g : CardFault) → FileTells p input (Err g) → ((answered f ≡ Err store.Memory) ⊎ (answered f ≡ Err (store.Card g))) × (new ≡ old))
     → ((g : CardFault) → answered f ≡ Err (store.Card g) → FileTells p input (Err g))
@@ -290,7 +290,7 @@ import_asks old new caller p input f unreadable readable = by (some_content p in
     by (Ok content) is (inr (g, e)) = faulty_file g (readable g (ap answered e))
     by (Err g) is of = faulty_file g is
 
--- nor does one that went in, or was there, have a fault
+-- a file that was added, or was there, has no fault
 pub import_sound : {K : Type 0} (old new : K) (caller : Caller) (p : Part) (input : List ℕ) (x : Imported) (told : Told)
     → ((g : CardFault) → FileTells p input (Err g) → ((taken x ≡ Err store.Memory) ⊎ (taken x ≡ Err (store.Card g))) × (new ≡ old))
     → AsksOnly old new (IsSound (task.Import caller p) input) (IsFaulty (task.Import caller p) input) (Ok told)
@@ -305,7 +305,7 @@ import_sound old new caller p input x told unreadable = by (some_content p input
     by (Ok content) is = inl ((content, is), tt)
     by (Err g) is = absurd (never g (unreadable g is).0)
 
--- no reader failed where there are lines
+-- if lines were read, the reader of CSV did not fail
 pub lines_of : (input : List ℕ) (lines : List EntryLine) → ⊥ ⊎ IsRead input (Ok lines) → IsRead input (Ok lines)
 lines_of input lines (inl h) = absurd h
 lines_of input lines (inr is) = is

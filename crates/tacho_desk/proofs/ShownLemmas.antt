@@ -1,4 +1,4 @@
--- The texts of a driver, by what was read of him.
+-- The texts of a driver, derived from what was read.
 use Rattle.std.proofs.Common.{◌≡◌, ℕ, ◌*◌, List, Option, Some, None, Ok, subst}
 use Rattle.std.specs.Prelude.{IfSome}
 use Rattle.tacho_time.specs.declared.span.Span.{Span}
@@ -17,14 +17,14 @@ use Rattle.tacho_desk.specs.Doing.{IsTextOf}
 use Rattle.tacho_desk.specs.Tasks.{IsFormOf, OfReport, OfStretches}
 use Rattle.tacho_desk.specs.Told.{Long}
 
--- lines that agree between the bounds of a month agree in it
+-- lines that agree between the bounds of a month agree in the month
 pub agree_in : (month start past : ℕ) (a b : List Span) → AreBounds month start past → AgreeWithin start past a b → AgreeIn month a b
 agree_in month start past a b bounds e first end others =
     let same_start : start ≡ first = let x = bounds.first in let y = others.first in cc in
     let same_end : past ≡ end = let x = bounds.end in let y = others.end in cc in
     subst (λ (m : ℕ). AgreeWithin m end a b) same_start (subst (λ (m : ℕ). AgreeWithin start m a b) same_end e)
 
--- a text of a line with the marks of a month is one of what the driver holds
+-- a text of a line that has the marks of a month is a text of what the driver holds
 module _ (month start past : ℕ) (bounds : AreBounds month start past) where
   -- the text of a month
   month_shown : (Is : List Span → List ℕ → Type 0) → ((a b : List Span) (text : List ℕ) → AgreeIn month a b → Is a text → Is b text)
@@ -34,17 +34,17 @@ module _ (month start past : ℕ) (bounds : AreBounds month start past) where
   month_shown Is same (Some d) line text e within is =
       same line (held_spans d) text (agree_in month start past line (held_spans d) bounds within) is
 
-  -- the CSV of what he holds
+  -- the CSV of what the driver holds
   pub spans_shown : (n : ℕ) (s : State) (line : List Span) (text : List ℕ) → reported n s ≡ Ok tt → IsHeldWithin n start past s line
       → IsSpanCsv line month text → IsTextOf (λ d. IsSpanCsv (held_spans d) month) (driver_of n s) (Ok (Long text))
   spans_shown n s line text = month_shown (λ line. IsSpanCsv line month) (λ a b. span_csv_same a b month) (driver_of n s) line text
 
-  -- the text of what he doesn't hold
+  -- the text of what the driver doesn't hold
   pub gaps_shown : (n : ℕ) (s : State) (line : List Span) (text : List ℕ) → reported n s ≡ Ok tt → IsHeldWithin n start past s line
       → IsGapText line month text → IsTextOf (λ d. IsGapText (held_spans d) month) (driver_of n s) (Ok (Long text))
   gaps_shown n s line text = month_shown (λ line. IsGapText line month) (λ a b. gap_text_same a b month) (driver_of n s) line text
 
-  -- the sheet of his name, of the line and of the report is the driver's
+  -- a sheet of the driver's name, of the line and of the report is the driver's sheet
   sheet_of : (n : ℕ) (o : Option Driver) (name : List ℕ) (line : List Span) (report : Report) (text : List ℕ)
       → told_of (λ d. Ok d.name) o ≡ Ok name → IfSome o (λ d. AgreeWithin start past line (held_spans d))
       → IfSome o (λ d. IsReport (held_spans d) (1440 * d.base) report.horizon report.breaches.items report.debts.items)
@@ -82,7 +82,7 @@ pub stretches_shown : (Is : List Judged → List ℕ → Type 0) (n : ℕ) (s : 
     → reported n s ≡ Ok tt → AreStretchesOf n s stretches → Is stretches text → IsTextOf (OfStretches Is) (driver_of n s) (Ok (Long text))
 stretches_shown Is n s stretches text = of_stretches Is (driver_of n s) stretches text
 
--- what stretches say of the range that they speak of
+-- the range for which a form is made goes from the base to the end of what is held
 abbrev pub AreEnds : List Judged → ℕ → ℕ → Type 0
 AreEnds stretches start past =
     (line : List Span) (base end : ℕ) → AreStretches line base stretches → IsEndOfHeld line base end → (start ≡ base) × (past ≡ end)

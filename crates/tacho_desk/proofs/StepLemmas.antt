@@ -1,4 +1,4 @@
--- A step that is refused leaves the state before, and none but an import tells the fault of a file.
+-- A refused step leaves the state as it was, and only an import reports the fault of a file.
 use Rattle.std.proofs.Common.{◌≡◌, ◌+◌, ◌++◌, ℕ, Bool, true, false, List, Option, Some, None, Result, Ok, Err, ap, refl, if◌then◌else◌, is_some, length, nat_lt}
 use Rattle.tacho_card.specs.declared.fault.CardFault.{CardFault}
 use Rattle.tacho_state.specs.Least.{least_conflict}
@@ -10,22 +10,22 @@ use Rattle.tacho_state.specs.declared.fault.StoreFault.TheVariants.{Card, Driver
 abbrev pub Keeps : {A : Type 0} → State → Turn A → Type 0
 Keeps s turn = (f : StoreFault) → turn.answer ≡ Err f → turn.after ≡ s
 
--- what one driver's command settles
+-- so does one driver's command
 settled_keeps : {A : Type 0} (s : State) (r : Result (A × Driver) StoreFault) → Keeps s (settled s r)
 settled_keeps s (Ok told) f e = cc
 settled_keeps s (Err g) f e = refl
 
--- whether or not there is such a driver
+-- so does a command, whether or not the driver exists
 own_keeps : {A : Type 0} (own : Own A) (s : State) (o : Option Driver) → Keeps s (own_turn own s o)
 own_keeps own s None f e = refl
 own_keeps own s (Some d) f e = settled_keeps s (own d) f e
 
--- a test between two turns
+-- a choice between two steps keeps the state if both do
 either_keeps : {A : Type 0} (s : State) (b : Bool) (turn other : Turn A) → Keeps s turn → Keeps s other → Keeps s (if b then turn else other)
 either_keeps s true turn other h k = h
 either_keeps s false turn other h k = k
 
--- a refusal itself
+-- a refusal keeps the state
 refused_keeps : {A : Type 0} (s : State) (g : StoreFault) → Keeps {A = A} s (refused g s)
 refused_keeps s g f e = refl
 
@@ -37,7 +37,7 @@ registered_keeps number holder key base name s =
     (either_keeps s (is_some (holding holder s)) _ _ (refused_keeps s HolderTaken)
     (either_keeps s (is_monday base) _ _ (λ f e. cc) (refused_keeps s NotMonday))))
 
--- an import, by the office or by a driver
+-- an import, for the office or a driver
 pub imported_keeps : (caller : Option ℕ) (part : ℕ) (file : List ℕ) (content : Result Content CardFault) (s : State) → Keeps s (imported caller part file content s)
 imported_keeps caller part file (Err fault) s f e = refl
 imported_keeps None part file (Ok content) s f e = own_keeps (import_own part file content.spans) s (holding content.holder s) f e
@@ -51,31 +51,31 @@ entered_keeps n batch s = own_keeps (enter_own batch) s (driver_of n s)
 pub withdrawn_keeps : (n number : ℕ) (s : State) → Keeps s (withdrawn n number s)
 withdrawn_keeps n number s = own_keeps (withdraw_own number) s (driver_of n s)
 
--- another base
+-- a change of a base
 pub rebased_keeps : (n base : ℕ) (s : State) → Keeps s (rebased n base s)
 rebased_keeps n base s = own_keeps (rebase_own base) s (driver_of n s)
 
--- ---- no step but an import tells the fault of a file
+-- ---- only an import reports the fault of a file
 
 abbrev pub TellsNoFile : {A : Type 0} → Result A StoreFault → Type 0
 TellsNoFile r = (f : CardFault) → r ≡ Err (Card f) → ⊥
 
--- what one driver's command settles
+-- one driver's command
 none_settled : {A : Type 0} (s : State) (r : Result (A × Driver) StoreFault) → TellsNoFile r → TellsNoFile (settled s r).answer
 none_settled s (Ok told) h f e = cc
 none_settled s (Err g) h f e = h f (let same : g ≡ Card f = cc in ap Err same)
 
--- whether or not there is such a driver
+-- a command, whether or not the driver exists
 none_own : {A : Type 0} (own : Own A) (s : State) (o : Option Driver) → ((d : Driver) → TellsNoFile (own d)) → TellsNoFile (own_turn own s o).answer
 none_own own s None h f e = cc
 none_own own s (Some d) h f e = none_settled s (own d) (h d) f e
 
--- a test between two answers
+-- a choice between two answers
 none_either : {A : Type 0} (b : Bool) (r other : Result A StoreFault) → TellsNoFile r → TellsNoFile other → TellsNoFile (if b then r else other)
 none_either true r other h k = h
 none_either false r other h k = k
 
--- a test between two turns
+-- a choice between two steps
 none_turned : {A : Type 0} (b : Bool) (turn other : Turn A) → TellsNoFile turn.answer → TellsNoFile other.answer
     → TellsNoFile (if b then turn else other).answer
 none_turned true turn other h k = h
@@ -90,7 +90,7 @@ registered_tells_no_file number holder key base name s =
     (none_turned (is_some (holding holder s)) _ _ (λ f e. cc)
     (none_turned (is_monday base) _ _ (λ f e. cc) (λ f e. cc))))
 
--- hours that contradict, or are too many, or go in
+-- a batch that contradicts, is too large, or is entered
 none_entered : (batch : List Entry) (d : Driver) (o : Option ℕ) → TellsNoFile (entered_by batch d o)
 none_entered batch d (Some m) = λ f e. cc
 none_entered batch d None = none_either (nat_lt most (length d.entries + length batch)) _ _ (λ f e. cc) (λ f e. cc)
@@ -100,7 +100,7 @@ pub entered_tells_no_file : (n : ℕ) (batch : List Entry) (s : State) → Tells
 entered_tells_no_file n batch s = none_own (enter_own batch) s (driver_of n s)
     (λ d. none_entered batch d (least_conflict (held_spans d ++ entered_spans batch)))
 
--- an entry that isn't there, or was withdrawn, or is
+-- an entry that doesn't exist, is withdrawn already, or is withdrawn now
 none_withdrawn : (number : ℕ) (d : Driver) (o : Option Entry) → TellsNoFile (withdrawn_by number d o)
 none_withdrawn number d None = λ f e. cc
 none_withdrawn number d (Some entry) = none_either entry.withdrawn _ _ (λ f e. cc) (λ f e. cc)
@@ -109,7 +109,7 @@ none_withdrawn number d (Some entry) = none_either entry.withdrawn _ _ (λ f e. 
 pub withdrawn_tells_no_file : (n number : ℕ) (s : State) → TellsNoFile (withdrawn n number s).answer
 withdrawn_tells_no_file n number s = none_own (withdraw_own number) s (driver_of n s) (λ d. none_withdrawn number d (entry_from 1 number d.entries))
 
--- another base
+-- a change of a base
 pub rebased_tells_no_file : (n base : ℕ) (s : State) → TellsNoFile (rebased n base s).answer
 rebased_tells_no_file n base s = none_own (rebase_own base) s (driver_of n s)
     (λ d. none_either (is_monday base) _ _ (λ f e. cc) (λ f e. cc))

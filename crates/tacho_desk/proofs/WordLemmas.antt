@@ -10,14 +10,14 @@ use Rattle.tacho_desk.specs.declared.task.Task.TheVariants as task
 use Rattle.tacho_desk.specs.declared.want.Want.{Want}
 use Rattle.tacho_desk.specs.declared.want.Want.TheVariants as want
 
--- a text is that of one number
+-- a text is the text of at most one number
 one_number : (most : ℕ) (text : List ℕ) (n m : ℕ) → most ≤ 1000000 → IsNumberText most text n → IsNumberText most text m → n ≡ m
 one_number most text n m few x y =
     let i = x.greatest in
     let j = y.greatest in
     decimal_injective n m (omega arith) (omega arith) (sym x.written ∙ y.written)
 
--- what is wanted with each number is one
+-- for each number there is at most one result
 abbrev IsOneEach : (ℕ → Wanted → Type 0) → Type 0
 IsOneEach Is = (n : ℕ) (a b : Wanted) → Is n a → Is n b → a ≡ b
 
@@ -29,7 +29,7 @@ number_once text Is each a b (inr x) (inl y) = absurd (y.0 x.0 x.1)
 number_once text Is each a b (inr x) (inr y) =
     each y.0 a b (subst (λ (n : ℕ). Is n a) (one_number most_number text x.0 y.0 (omega arith) x.1 y.1) x.2) y.2
 
--- a task is about one driver
+-- the arguments name at most one driver
 one_driver : (c : Caller) (word : List ℕ) (n m : ℕ) → IsDriver c word n → IsDriver c word m → n ≡ m
 one_driver caller.Office word n m x y = one_number most_driver word n m (omega arith) x y
 one_driver (caller.Driver k) word n m x y = x ∙ sym y

@@ -1,4 +1,4 @@
--- Trusted: What is wanted of a task: what it tells, or its fault, and the state of the archive after it.
+-- Trusted: The requirements of a task: what it answers, and the state of the archive after it.
 use Rattle.std.specs.Prelude.{◌≡◌, ◌⊎◌, ◌∷◌, [], Bool, true, false, List, Option, None, Some, Result, Ok, Err, OnOk, ℕ}
 use Rattle.tacho_state.specs.declared.fault.StoreFault.{StoreFault}
 use Rattle.tacho_state.specs.declared.fault.StoreFault.TheVariants as store
@@ -10,69 +10,69 @@ use Rattle.tacho_desk.specs.declared.fault.Fault.TheVariants as fault
 use Rattle.tacho_desk.specs.Fault.{IsGivenUp, store_fault}
 use Rattle.tacho_desk.specs.Told.{Answer, Told, Long}
 
--- the answer, and the state after it
+-- a relation between the answer and the state after it
 abbrev pub Doing : Type 1
 Doing = Answer → State → Type 0
 
--- the fault is answered, and nothing changes
+-- the answer is the fault, and nothing changes
 abbrev pub Refuses : Fault → State → Doing
 Refuses f s answer after = (answer ≡ Err f) × (after ≡ s)
 
--- what the archive answered, in these words
+-- the archive's answer, as text
 abbrev pub in_words : {A : Type 0} → (A → Told) → Result A StoreFault → Answer
 in_words words (Ok x) = Ok (words x)
 in_words words (Err f) = Err (store_fault f)
 
--- a step of the archive, its answer in these words; a step that is refused leaves the state before
+-- a step of the archive, with its answer as text; a step that is refused leaves the state as it was
 abbrev pub Steps : {A : Type 0} → (A → Told) → Turn A → Doing
 Steps words turn answer after = (answer ≡ in_words words turn.answer) × (after ≡ turn.after)
 
--- what a reading answered, in these words; the state stays
+-- the answer of a reading, as text; the state stays as it was
 abbrev pub Lists : {A : Type 0} → (A → Told) → State → Result A StoreFault → Doing
 Lists words s read answer after = (answer ≡ in_words words read) × (after ≡ s)
 
--- the answer is a text that is so
+-- the answer is a text with this property
 abbrev pub IsText : (List ℕ → Type 0) → Answer → Type 0
 IsText Is (Ok (Long text)) = Is text
 IsText Is answer = ⊥
 
--- a text of the driver, if there is one: S4
+-- the answer is a text with this property for the driver; S4 if there is none
 abbrev pub IsTextOf : (Driver → List ℕ → Type 0) → Option Driver → Answer → Type 0
 IsTextOf Is None answer = answer ≡ Err (store_fault store.UnknownDriver)
 IsTextOf Is (Some d) answer = IsText (Is d) answer
 
--- a text of the driver with the number; the state stays
+-- the answer is a text for the driver with the number; the state stays as it was
 abbrev pub Shows : (Driver → List ℕ → Type 0) → ℕ → State → Doing
 Shows Is n s answer after = IsTextOf Is (driver_of n s) answer × (after ≡ s)
 
--- ---- what is left
+-- ---- the states after a call
 
--- The answer is wanted, and the state after it stands; or it was given up, and the state before stands. A refusal changes
--- nothing.
+-- on success the answer is one that the task allows, and the archive has the state after it; on a fault the archive has the state before,
+-- and the fault is one that the task allows, or memory ran out, or the store failed
 abbrev pub Done : (State → Type 0) → State → Doing → Answer → Type 0
 Done stands s Does (Ok told) = (after : State) × stands after × Does (Ok told) after
 Done stands s Does (Err f) = stands s × (Does (Err f) s ⊎ IsGivenUp f)
 
--- What was told is kept: a stop leaves the state after it and no other.
+-- on success the result is durable: a crash leaves the state after it and no other
 abbrev pub IsKept : (State → Type 0) → (List State → Type 0) → Doing → Answer → Type 0
 IsKept stands leaves Does (Ok told) = (after : State) × stands after × Does (Ok told) after × leaves (after ∷ [])
 IsKept stands leaves Does (Err f) = Unit {0}
 
--- A stop leaves what could be left before, or also the state after what was told; where the task was given up, the state after
--- some answer that is wanted.
+-- a crash may leave what it could leave before the call; and on success also the state after the answer; and if memory ran out or the store
+-- failed, also the state after some answer that the task allows
 abbrev pub Stops : (List State → Type 0) → List State → Doing → Answer → Type 0
 Stops leaves past Does (Ok told) = leaves past ⊎ ((after : State) × Does (Ok told) after × leaves (after ∷ past))
 Stops leaves past Does (Err f) =
     leaves past ⊎ (IsGivenUp f × ((answer : Answer) × (after : State) × Does answer after × leaves (after ∷ past)))
 
--- it is a reading, or it is refused, and so changes nothing
+-- the call is a reading, or it is refused, and so changes nothing
 abbrev pub ChangesNothing : Bool → Answer → Type 0
 ChangesNothing false answer = Unit {0}
 ChangesNothing true (Ok told) = ⊥
 ChangesNothing true (Err f) = Unit {0}
 
--- A call does what is wanted at the archive, which has not become clean by it, and is live where something was told. A reading and a
--- refusal leave every row as it was. What a command told is kept.
+-- a call does what the task requires. If the archive is clean after the call, it was clean before, and on success it is live. A reading and
+-- a refusal leave every row as it was. What a command answered with success is durable.
 pub record Serves {K : Type 0} (stands : K → State → Type 0) (is_clean is_live : K → Type 0) (leaves : K → List State → Type 0)
     (is_same : K → K → Type 0) (old new : K) (command : Bool) (answer : Answer) (Does : State → Doing) : Type 0 where
   pub clean : is_clean new → is_clean old
@@ -83,14 +83,14 @@ pub record Serves {K : Type 0} (stands : K → State → Type 0) (is_clean is_li
   pub crash : is_clean new → (s : State) (past : List State) → stands old s → leaves old past
       → Stops (leaves new) past (Does s) answer
 
--- ---- what is asked
+-- ---- access to the archive
 
--- the answer is the input's fault, or want of memory
+-- the answer is a fault of the input, or out of memory
 abbrev pub IsUnread : (Fault → Type 0) → Answer → Type 0
 IsUnread IsFaulty (Ok told) = ⊥
 IsUnread IsFaulty (Err f) = IsFaulty f ⊎ (f ≡ fault.Memory)
 
--- what an archive answers about a sound input: a text, its own fault, or that it is out of memory; so no fault of the input or of a device
+-- what an archive may answer for a valid input: a text, its own fault, or out of memory, but no fault of the input or of a device
 abbrev pub IsOfArchive : Answer → Type 0
 IsOfArchive (Ok told) = Unit {0}
 IsOfArchive (Err fault.Device) = ⊥
@@ -99,6 +99,7 @@ IsOfArchive (Err (fault.Told (told.Store (store.Card f)))) = ⊥
 IsOfArchive (Err (fault.Told (told.Store f))) = Unit {0}
 IsOfArchive (Err (fault.Told f)) = ⊥
 
--- Either the input is sound, and the archive answers; or it was asked nothing, and the answer has nothing to do with it.
+-- either the input is valid, and the archive answers; or the archive was not accessed, and the answer is a fault of the input, or out of
+-- memory
 abbrev pub AsksOnly : {K : Type 0} → K → K → Type 0 → (Fault → Type 0) → Answer → Type 0
 AsksOnly old new IsSound IsFaulty answer = (IsSound × IsOfArchive answer) ⊎ ((new ≡ old) × IsUnread IsFaulty answer)

@@ -1,4 +1,4 @@
--- Trusted: The fault of a task, by what refused it.
+-- Trusted: The fault of a task, by what caused it.
 use Rattle.tacho_card.specs.declared.fault.CardFault.{CardFault}
 use Rattle.tacho_card.specs.declared.fault.CardFault.TheVariants as card
 use Rattle.tacho_time.specs.declared.fault.TimeFault.{TimeFault}
@@ -12,13 +12,13 @@ use Rattle.tacho_sheet.specs.declared.fault.SheetFault.TheVariants as sheet
 use Rattle.tacho_desk.specs.declared.fault.Fault.{Fault}
 use Rattle.tacho_desk.specs.declared.fault.Fault.TheVariants as fault
 
--- why an input was not read
+-- the fault of an input that was not read
 abbrev pub read_fault : ReadFault → Fault
 read_fault read.TooLarge = fault.Told told.TooLarge
 read_fault read.Failed = fault.Device
 read_fault read.Memory = fault.Memory
 
--- the fault of a card, of an archive, of a text of CSV, of a date
+-- the fault of a card; below, of an archive, of a text of CSV, and of a date
 abbrev pub card_fault : CardFault → Fault
 card_fault card.Memory = fault.Memory
 card_fault f = fault.Told (told.Card f)
@@ -34,7 +34,7 @@ sheet_fault f = fault.Told (told.Sheet f)
 abbrev pub time_fault : TimeFault → Fault
 time_fault f = fault.Told (told.Time f)
 
--- memory or the store failed
+-- out of memory, or the store failed
 abbrev pub IsGivenUp : Fault → Type 0
 IsGivenUp fault.Memory = Unit {0}
 IsGivenUp (fault.Told (told.Store store.Store)) = Unit {0}

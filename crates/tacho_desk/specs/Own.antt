@@ -1,4 +1,4 @@
--- Trusted: A driver's own tasks: they look at his rows alone, and change nobody else's.
+-- Trusted: A driver's own tasks: they depend on that driver's rows alone, and change no other driver's.
 use Rattle.std.specs.Prelude.{◌≡◌, ◌≢◌, ℕ, List, Err}
 use Rattle.tacho_state.specs.State.{State, driver_of}
 use Rattle.tacho_state.specs.declared.caller.Caller.TheVariants as caller
@@ -8,7 +8,7 @@ use Rattle.tacho_desk.specs.declared.fault.Fault.{Fault}
 use Rattle.tacho_desk.specs.declared.task.Task.{Task}
 use Rattle.tacho_desk.specs.declared.task.Task.TheVariants as task
 
--- a task of the driver himself: the import of his card, or a reading of what he has
+-- a driver's own task: the import of their card, or a reading of what they have
 abbrev pub IsHis : ℕ → Task → Type 0
 IsHis n (task.Import (caller.Driver m) part) = m ≡ n
 IsHis n (task.Reading m text) = m ≡ n
@@ -16,22 +16,23 @@ IsHis n (task.MonthReading m month text) = m ≡ n
 IsHis n (task.File m number) = m ≡ n
 IsHis n t = ⊥
 
--- In two states in which he has the same rows his task may answer the same, and then he has the same rows.
+-- if two states have the same rows of a driver, each answer of the driver's own task in one state is an answer in the other, and the
+-- driver's rows are the same after it
 abbrev pub SameAnswers : Type 0
 SameAnswers = (n : ℕ) (t : Task) → IsHis n t → (input : List ℕ) (s other : State) → driver_of n s ≡ driver_of n other
     → (answer : Answer) (after : State) → Does t input s answer after
     → (left : State) × Does t input other answer left × (driver_of n after ≡ driver_of n left)
 
--- His task has one answer, and one state after it.
+-- a driver's own task has only one answer, and only one state after it
 abbrev pub OneAnswer : Type 0
 OneAnswer = (n : ℕ) (t : Task) → IsHis n t → (input : List ℕ) (s : State) (a b : Answer) (after left : State)
     → Does t input s a after → Does t input s b left → (a ≡ b) × (after ≡ left)
 
--- No other driver's rows change.
+-- no other driver's rows change
 abbrev pub OthersStay : Type 0
 OthersStay = (n : ℕ) (t : Task) → IsHis n t → (input : List ℕ) (s : State) (answer : Answer) (after : State) → Does t input s answer after
     → (m : ℕ) → m ≢ n → driver_of m after ≡ driver_of m s
 
--- A refusal changes nothing, whoever is refused.
+-- a refusal changes nothing, whoever is refused
 abbrev pub RefusalsStay : Type 0
 RefusalsStay = (t : Task) (input : List ℕ) (s : State) (f : Fault) (after : State) → Does t input s (Err f) after → after ≡ s

@@ -1,4 +1,4 @@
--- Trusted: What each task tells of an archive, and the state after it.
+-- Trusted: What each task answers, and the state of the archive after it.
 use Rattle.std.specs.Prelude.{◌≡◌, ◌⊎◌, ℕ, ◌*◌, ◌==◌, List, [], ◌∷◌, ◌++◌, Some, Result, Ok, Err, codes, flat_map, if◌then◌else◌, length}
 use Rattle.tacho_line.specs.declared.horizon.Horizon.{Horizon}
 use Rattle.tacho_card.specs.declared.fault.CardFault.{CardFault}
@@ -47,11 +47,11 @@ use Rattle.tacho_desk.specs.declared.want.Want.TheVariants as want
 
 -- ---- commands
 
--- what a text of CSV is read as; or E8, since of no reader of CSV it is promised that it doesn't fail
+-- a text of CSV is read as defined; or the fault is E8, since it isn't promised of the reader of CSV that it never fails
 abbrev pub OrCsv : {A : Type 0} → (Result A SheetFault → Type 0) → Result A SheetFault → Type 0
 OrCsv Is read = Is read ⊎ (read ≡ Err sheet.Csv)
 
--- E1, E2, E8 or E9, or the step of the registration
+-- the fault E1, E2, E8 or E9; or the step of the registration
 abbrev pub RegistersRead : State → Result Registration SheetFault → Doing
 RegistersRead s (Err f) = Refuses (sheet_fault f) s
 RegistersRead s (Ok r) = Steps (λ _. Added (number_line (codes "registered ") r.number)) (registered r.number r.holder r.key r.base r.name s)
@@ -59,22 +59,22 @@ RegistersRead s (Ok r) = Steps (λ _. Added (number_line (codes "registered ") r
 abbrev pub Registers : List ℕ → State → Doing
 Registers input s answer after = (read : Result Registration SheetFault) × OrCsv (IsDriverRead input) read × RegistersRead s read answer after
 
--- a file that was kept, or one that was there
+-- the answer for a file that was added, or one that was there already
 abbrev pub imported_told : Imported → Told
 imported_told (imported.Added driver number) = Added (imported_text (imported.Added driver number))
 imported_told (imported.Repeated driver) = Line (imported_text (imported.Repeated driver))
 
--- the step of an import by a caller
+-- the step of an import for a caller
 abbrev pub Imports : Caller → Part → List ℕ → State → Doing
 Imports caller p input s answer after =
     (content : Result Content CardFault) × FileTells p input content
     × Steps imported_told (imported (caller_number caller) (part_number p) input content s) answer after
 
--- the entries of a batch that was not empty, or none
+-- the answer for the entries of a batch, or for an empty batch
 abbrev pub entered_told : ℕ → ℕ → Told
 entered_told first count = if count == 0 then Line (entered_text first count) else Added (entered_text first count)
 
--- one of E1 to E8 or E10, or the step of the batch
+-- the fault, one of E1 to E8 or E10; or the step of the batch
 abbrev pub EntersRead : ℕ → State → Lines → Doing
 EntersRead n s (Err f) = Refuses (sheet_fault f) s
 EntersRead n s (Ok lines) = Steps (λ first. entered_told first (length lines)) (entered n (batch_of lines) s)
@@ -90,7 +90,7 @@ Rebases n day s = Steps (λ _. Line (base_line day)) (rebased n day s)
 
 -- ---- readings
 
--- a text of the report of what the driver holds, from his base on
+-- a text of the report of what the driver holds, from the base on
 abbrev pub OfReport : (List Breach → List Debt → Horizon → List ℕ → Type 0) → Driver → List ℕ → Type 0
 OfReport Is d text =
     (horizon : Horizon) × (breaches : List Breach) × (debts : List Debt) × IsReport (held_spans d) (1440 * d.base) horizon breaches debts
@@ -100,7 +100,7 @@ OfReport Is d text =
 abbrev pub OfStretches : (List Judged → List ℕ → Type 0) → Driver → List ℕ → Type 0
 OfStretches Is d text = (stretches : List Judged) × AreStretches (held_spans d) (1440 * d.base) stretches × Is stretches text
 
--- the form for the minutes from the base to the end of what is held that the driver doesn't hold
+-- the form for the minutes that the driver doesn't hold, from the base to the end of what they hold
 abbrev pub IsFormOf : Driver → List ℕ → Type 0
 IsFormOf d text = (end : ℕ) × IsEndOfHeld (held_spans d) (1440 * d.base) end × IsForm (held_spans d) (1440 * d.base) end text
 
@@ -113,7 +113,7 @@ ShowsReading reading.Stretches n s = Shows (OfStretches (λ stretches text. text
 ShowsReading reading.Debts n s = Shows (OfStretches (λ stretches text. text ≡ debt_text stretches)) n s
 ShowsReading reading.Form n s = Shows IsFormOf n s
 
--- a text of his month
+-- a text of a driver's month
 abbrev pub ShowsMonth : MonthReading → ℕ → ℕ → State → Doing
 ShowsMonth month.Spans m n s = Shows (λ d. IsSpanCsv (held_spans d) m) n s
 ShowsMonth month.Gaps m n s = Shows (λ d. IsGapText (held_spans d) m) n s
@@ -122,19 +122,19 @@ ShowsMonth month.Sheet m n s = Shows (λ d. OfReport (λ breaches debts horizon.
 abbrev pub ShowsFile : ℕ → ℕ → State → Doing
 ShowsFile n number s = Lists (λ file. File file) s (downloaded n number s)
 
--- the list of all drivers: a line for each, the lower number first
+-- the list of all drivers, a line for each, in the order of their numbers
 abbrev pub ShowsDrivers : State → Doing
 ShowsDrivers s answer after =
     IsText (λ text. (summaries : List Summary) × AreSummaries s summaries × (text ≡ flat_map summary_line summaries)) answer × (after ≡ s)
 
--- a text of each driver that is listed, one after the other
+-- the texts of the listed drivers, in sequence
 abbrev pub AreOfEach : (Summary → Driver → List ℕ → Type 0) → State → List Summary → List ℕ → Type 0
 AreOfEach Is s [] text = text ≡ []
 AreOfEach Is s (x ∷ listed) text =
     (d : Driver) × (driver_of x.number s ≡ Some d)
     × (front : List ℕ) × (back : List ℕ) × (text ≡ front ++ back) × Is x d front × AreOfEach Is s listed back
 
--- a head, and a text of each driver of the state, the lower number first
+-- a head, and a text of each driver of the state, in the order of their numbers
 abbrev pub IsOfAll : List ℕ → (Summary → Driver → List ℕ → Type 0) → State → List ℕ → Type 0
 IsOfAll head Is s text =
     (summaries : List Summary) × AreSummaries s summaries × (rows : List ℕ) × (text ≡ head ++ rows) × AreOfEach Is s summaries rows
@@ -149,7 +149,7 @@ ShowsMonthOfAll all.Incidents m s answer after =
 
 -- ---- tasks
 
--- what is wanted by a task
+-- the kind of a task
 abbrev pub want_of : Task → Want
 want_of task.Register = want.Register
 want_of (task.Import caller part) = want.Import
@@ -162,7 +162,7 @@ want_of (task.File n number) = want.File
 want_of task.Drivers = want.Drivers
 want_of (task.MonthOfAll m text) = want.MonthOfAll text
 
--- what a task tells over its input, and the state after it
+-- what a task answers for its input, and the state after it
 abbrev pub Does : Task → List ℕ → State → Doing
 Does task.Register input s = Registers input s
 Does (task.Import caller part) input s = Imports caller part input s
@@ -177,14 +177,14 @@ Does (task.MonthOfAll m text) input s = ShowsMonthOfAll text m s
 
 -- ---- inputs
 
--- its input is sound: a text of CSV that is read, a card file without a fault, or none that is looked at
+-- the input is valid: a text of CSV that can be read, a card file without a fault, or any input if the task doesn't read it
 abbrev pub IsSound : Task → List ℕ → Type 0
 IsSound task.Register input = (r : Registration) × IsDriverRead input (Ok r)
 IsSound (task.Import caller part) input = (content : Content) × FileTells part input (Ok content)
 IsSound (task.Enter n) input = (lines : List EntryLine) × IsRead input (Ok lines)
 IsSound t input = Unit {0}
 
--- its input has this fault
+-- the input has this fault
 abbrev pub IsFaulty : Task → List ℕ → Fault → Type 0
 IsFaulty task.Register input f = (e : SheetFault) × OrCsv (IsDriverRead input) (Err e) × (f ≡ sheet_fault e)
 IsFaulty (task.Import caller part) input f = (e : CardFault) × FileTells part input (Err e) × (f ≡ store_fault (store.Card e))

@@ -1,10 +1,10 @@
--- Trusted: What is told of a task that was done.
+-- Trusted: The answer of a task that was done.
 use Rattle.std.specs.Prelude.{ℕ, List, Result, Ok, Err, string_bytes}
 use Rattle.tacho_desk.specs.declared.fault.Fault.{Fault}
 use Rattle.tacho_desk.specs.declared.text.Text.{Text}
 use Rattle.tacho_desk.specs.declared.text.Text.TheVariants as text
 
--- a line of a command that added something, or of one that didn't; a text; the bytes of a file
+-- the line of a command that added something; the line of one that didn't; a text; the bytes of a file
 pub data Told : Type 0 where
   Added : List ℕ → Told
   Line : List ℕ → Told
@@ -24,7 +24,7 @@ told_of (text.Line line) = Line line.items
 told_of (text.Long string) = Long (string_bytes string)
 told_of (text.File bytes) = File bytes.items
 
--- what is told, or why nothing is
+-- the text of a success, or the fault
 abbrev pub Answer : Type 0
 Answer = Result Told Fault
 

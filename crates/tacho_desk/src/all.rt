@@ -1,4 +1,4 @@
-//! The texts that are read of a month of all drivers.
+//! Texts about a month of all drivers.
 
 ghost use Rattle.std.specs.Prelude.{false};
 ghost use Rattle.tacho_desk.specs.Doing.{IsOfArchive, Serves};
@@ -14,7 +14,7 @@ use tacho_sheet::{incident_head, overview_head, push_incidents, push_overview};
 use tacho_state::Keeper;
 use tacho_time::{Month, month_range};
 
-/// A text of a month of all drivers.
+/// Answers with a text about a month of all drivers.
 pub(crate) fn show_month<K: Keeper>(
     alloc: Global,
     keeper: &mut K,
@@ -31,7 +31,7 @@ pub(crate) fn show_month<K: Keeper>(
     }
 }
 
-/// A row for each driver: what they hold in a month, what is examined of it, and how many breaches of each rule.
+/// Writes a row for each driver: what they hold in a month, how much of it is examined, and the number of breaches of each rule.
 fn overview<K: Keeper>(alloc: Global, keeper: &mut K, month: Month) -> Result<Text, Fault>
     ensures serves { Serves K.stands K.is_clean K.is_live K.leaves K.is_same keeper.old keeper.new false (answer_of result)
         (ShowsMonthOfAll all.Overview month) }
@@ -55,7 +55,7 @@ fn overview<K: Keeper>(alloc: Global, keeper: &mut K, month: Month) -> Result<Te
     Ok(Text::Long(text))
 }
 
-/// A row for each breach of a month, driver by driver.
+/// Writes a row for each breach of a month, driver by driver.
 fn incidents<K: Keeper>(alloc: Global, keeper: &mut K, month: Month) -> Result<Text, Fault>
     ensures serves { Serves K.stands K.is_clean K.is_live K.leaves K.is_same keeper.old keeper.new false (answer_of result)
         (ShowsMonthOfAll all.Incidents month) }

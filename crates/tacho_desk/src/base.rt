@@ -1,7 +1,7 @@
 use std::marker::Model;
 use tacho_time::{Day, TimeFault};
 
-/// A day from which a driver may be examined: from 2000-01-03 to 2099-12-31.
+/// A day that may be a driver's base: from 2000-01-03 to 2099-12-31.
 #[derive(Clone, Copy, Debug, PartialEq, Eq)]
 pub struct BaseDay {
     day: Day,

@@ -1,4 +1,4 @@
-//! The commands, over their numbers and their input.
+//! The commands, with their numbers and their input.
 
 ghost use Rattle.std.specs.Prelude.{◌≡◌, Ok, true};
 ghost use Rattle.tacho_state.specs.Batch.{IsBatch};
@@ -18,7 +18,7 @@ use tacho_sheet::{
 };
 use tacho_state::{Caller, Driver, Entered, EntryLine, Imported, Keeper};
 
-/// Adds the driver of a text of CSV.
+/// Adds the driver described by a text of CSV.
 pub(crate) fn register<K: Keeper>(
     alloc: Global,
     keeper: &mut K,
@@ -41,7 +41,7 @@ fn register_driver<K: Keeper>(keeper: &mut K, driver: &Driver) -> Result<Text, F
     Ok(Text::Added(registered_line(driver.number())))
 }
 
-/// Keeps a card file.
+/// Imports a card file.
 pub(crate) fn import<K: Keeper>(
     alloc: Global,
     keeper: &mut K,
@@ -58,7 +58,7 @@ pub(crate) fn import<K: Keeper>(
     Ok(imported_text(imported))
 }
 
-/// The line of an import, by whether the file was kept or was there.
+/// The line of an import, by whether the file was added or was there already.
 fn imported_text(imported: Imported) -> Text
     ensures { told_of result ≡ imported_told imported }
 {
@@ -99,7 +99,7 @@ fn enter_lines<K: Keeper>(
     Ok(entered_text(entered))
 }
 
-/// The line of a batch, by whether it had hours.
+/// The line of a batch, by whether it had lines.
 fn entered_text(entered: Entered) -> Text
     ensures { told_of result ≡ entered_told entered.first entered.count }
 {
@@ -125,7 +125,7 @@ pub(crate) fn withdraw<K: Keeper>(
     Ok(Text::Line(withdrawn_line(number)))
 }
 
-/// Sets the day from which a driver is examined.
+/// Sets a driver's base.
 pub(crate) fn rebase<K: Keeper>(keeper: &mut K, driver: u32, base: BaseDay) -> Result<Text, Fault>
     ensures serves { Serves K.stands K.is_clean K.is_live K.leaves K.is_same keeper.old keeper.new true (answer_of result) (Rebases driver base) }
     ensures archive { IsOfArchive (answer_of result) }

@@ -7,11 +7,11 @@ use tacho_time::{ReadFault, TimeFault};
 /// Why a task was not done.
 #[derive(Clone, Copy, Debug, PartialEq, Eq)]
 pub enum Fault {
-    /// It was refused, and this has the line.
+    /// The task was refused. The value has the line of the fault.
     Told(ToldFault),
-    /// X2: the reader or the writer has failed.
+    /// X2: the reader or the writer failed.
     Device,
-    /// M1: there was no memory.
+    /// M1: out of memory.
     Memory,
 }
 

@@ -1,5 +1,5 @@
-//! Laws about tasks. A law is a function that does nothing: what it ensures is proved, and holds for all that it names. Some call the laws
-//! on which they stand.
+//! Laws about tasks. A law is a function that does nothing: what it ensures is proved, and holds for everything that it names. Some call
+//! the laws on which they depend.
 
 ghost use Rattle.std.specs.Prelude.{◌≡◌, ℕ, List};
 ghost use Rattle.tacho_state.specs.declared.caller.Caller.{Caller};
@@ -23,13 +23,13 @@ pub fn refusals_change_nothing()
     ensures { RefusalsStay }
 {}
 
-/// What a driver's own task answers, and his rows after it, depend on his rows alone; and it changes nobody else's.
+/// What a driver's own task answers, and the driver's rows after it, depend on the driver's rows alone. No other driver's rows change.
 pub fn own_tasks_stand_alone()
     ensures same { SameAnswers }
     ensures others { OthersStay }
 {}
 
-/// A driver's own task has one answer, and one state after it.
+/// A driver's own task has only one answer, and only one state after it.
 pub fn own_tasks_have_one_answer()
     ensures { OneAnswer }
 {

@@ -1,5 +1,5 @@
-//! What is done at an archive: what a command line or a request can want, its words, the task that these make, and what it
-//! tells over its input, or its fault.
+//! Tasks at an archive: what a command line or a request can ask for, its arguments, the task that these make, and what the task answers
+//! for its input, or its fault.
 #![tactic(auto)]
 
 mod all;

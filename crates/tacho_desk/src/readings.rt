@@ -1,4 +1,4 @@
-//! The texts that are read of a driver.
+//! Texts about a driver.
 
 ghost use Rattle.std.specs.Prelude.{false};
 ghost use Rattle.tacho_desk.specs.Doing.{IsOfArchive, Serves};
@@ -19,7 +19,7 @@ use tacho_state::Keeper;
 use tacho_stretches::range_of;
 use tacho_time::{Month, month_range};
 
-/// A text of a driver.
+/// Answers with a text about a driver.
 pub(crate) fn show<K: Keeper>(
     alloc: Global,
     keeper: &mut K,
@@ -40,7 +40,7 @@ pub(crate) fn show<K: Keeper>(
     }
 }
 
-/// A text of a driver's month.
+/// Answers with a text about a driver's month.
 pub(crate) fn show_month<K: Keeper>(
     alloc: Global,
     keeper: &mut K,
@@ -59,7 +59,7 @@ pub(crate) fn show_month<K: Keeper>(
     }
 }
 
-/// What a driver holds in a month, as CSV.
+/// Writes what a driver holds in a month, as CSV.
 fn spans<K: Keeper>(alloc: Global, keeper: &mut K, driver: u32, month: Month) -> Result<Text, Fault>
     ensures serves { Serves K.stands K.is_clean K.is_live K.leaves K.is_same keeper.old keeper.new false (answer_of result)
         (ShowsMonth of_month.Spans month driver) }
@@ -70,7 +70,7 @@ fn spans<K: Keeper>(alloc: Global, keeper: &mut K, driver: u32, month: Month) ->
     Ok(Text::Long(span_csv(alloc, &line, month)?))
 }
 
-/// The minutes of a month that a driver doesn't hold.
+/// Writes the minutes of a month that a driver doesn't hold.
 fn gaps<K: Keeper>(alloc: Global, keeper: &mut K, driver: u32, month: Month) -> Result<Text, Fault>
     ensures serves { Serves K.stands K.is_clean K.is_live K.leaves K.is_same keeper.old keeper.new false (answer_of result)
         (ShowsMonth of_month.Gaps month driver) }
@@ -81,7 +81,7 @@ fn gaps<K: Keeper>(alloc: Global, keeper: &mut K, driver: u32, month: Month) -> 
     Ok(Text::Long(gap_text(alloc, &line, month)?))
 }
 
-/// The sheet of a driver's month.
+/// Writes the sheet of a driver's month.
 fn sheet<K: Keeper>(alloc: Global, keeper: &mut K, driver: u32, month: Month) -> Result<Text, Fault>
     ensures serves { Serves K.stands K.is_clean K.is_live K.leaves K.is_same keeper.old keeper.new false (answer_of result)
         (ShowsMonth of_month.Sheet month driver) }
@@ -95,7 +95,7 @@ fn sheet<K: Keeper>(alloc: Global, keeper: &mut K, driver: u32, month: Month) ->
     Ok(Text::Long(text))
 }
 
-/// The breaches of a driver.
+/// Writes the breaches of a driver.
 fn breaches<K: Keeper>(alloc: Global, keeper: &mut K, driver: u32) -> Result<Text, Fault>
     ensures serves { Serves K.stands K.is_clean K.is_live K.leaves K.is_same keeper.old keeper.new false (answer_of result)
         (ShowsReading reading.Breaches driver) }
@@ -105,7 +105,7 @@ fn breaches<K: Keeper>(alloc: Global, keeper: &mut K, driver: u32) -> Result<Tex
     Ok(Text::Long(breach_text(alloc, &report)?))
 }
 
-/// The weekly rests that a driver is owed.
+/// Writes the debts of a driver: compensation owed for reduced weekly rests.
 fn owed<K: Keeper>(alloc: Global, keeper: &mut K, driver: u32) -> Result<Text, Fault>
     ensures serves { Serves K.stands K.is_clean K.is_live K.leaves K.is_same keeper.old keeper.new false (answer_of result)
         (ShowsReading reading.Owed driver) }
@@ -115,7 +115,7 @@ fn owed<K: Keeper>(alloc: Global, keeper: &mut K, driver: u32) -> Result<Text, F
     Ok(Text::Long(owed_text(alloc, &report)?))
 }
 
-/// The entries of a driver.
+/// Writes the entries of a driver.
 fn entries<K: Keeper>(alloc: Global, keeper: &mut K, driver: u32) -> Result<Text, Fault>
     ensures serves { Serves K.stands K.is_clean K.is_live K.leaves K.is_same keeper.old keeper.new false (answer_of result)
         (ShowsReading reading.Entries driver) }
@@ -125,7 +125,7 @@ fn entries<K: Keeper>(alloc: Global, keeper: &mut K, driver: u32) -> Result<Text
     Ok(Text::Long(entry_text(alloc, &entries)?))
 }
 
-/// The breaches of a driver by stretches, and what isn't examined.
+/// Writes the breaches of a driver by stretches, and what isn't examined.
 fn stretches<K: Keeper>(alloc: Global, keeper: &mut K, driver: u32) -> Result<Text, Fault>
     ensures serves { Serves K.stands K.is_clean K.is_live K.leaves K.is_same keeper.old keeper.new false (answer_of result)
         (ShowsReading reading.Stretches driver) }
@@ -135,7 +135,7 @@ fn stretches<K: Keeper>(alloc: Global, keeper: &mut K, driver: u32) -> Result<Te
     Ok(Text::Long(stretch_text(alloc, &stretches)?))
 }
 
-/// The weekly rests that a driver is owed, by stretches.
+/// Writes the debts of a driver by stretches.
 fn debts<K: Keeper>(alloc: Global, keeper: &mut K, driver: u32) -> Result<Text, Fault>
     ensures serves { Serves K.stands K.is_clean K.is_live K.leaves K.is_same keeper.old keeper.new false (answer_of result)
         (ShowsReading reading.Debts driver) }
@@ -145,7 +145,7 @@ fn debts<K: Keeper>(alloc: Global, keeper: &mut K, driver: u32) -> Result<Text, 
     Ok(Text::Long(debt_text(alloc, &stretches)?))
 }
 
-/// The form for the minutes that a driver doesn't hold.
+/// Writes the form for the minutes that a driver doesn't hold.
 fn form<K: Keeper>(alloc: Global, keeper: &mut K, driver: u32) -> Result<Text, Fault>
     ensures serves { Serves K.stands K.is_clean K.is_live K.leaves K.is_same keeper.old keeper.new false (answer_of result)
         (ShowsReading reading.Form driver) }
@@ -157,7 +157,7 @@ fn form<K: Keeper>(alloc: Global, keeper: &mut K, driver: u32) -> Result<Text, F
     Ok(Text::Long(form_text(alloc, &line, base, end)?))
 }
 
-/// A card file that was kept.
+/// Answers with a card file of the archive.
 pub(crate) fn file<K: Keeper>(
     alloc: Global,
     keeper: &mut K,
@@ -171,7 +171,7 @@ pub(crate) fn file<K: Keeper>(
     Ok(Text::File(keeper.download(alloc, driver, number)?))
 }
 
-/// The list of all drivers.
+/// Writes the list of all drivers.
 pub(crate) fn drivers<K: Keeper>(alloc: Global, keeper: &mut K) -> Result<Text, Fault>
     ensures serves { Serves K.stands K.is_clean K.is_live K.leaves K.is_same keeper.old keeper.new false (answer_of result) ShowsDrivers }
     ensures archive { IsOfArchive (answer_of result) }

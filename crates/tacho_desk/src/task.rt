@@ -13,58 +13,58 @@ use tacho_card::Part;
 use tacho_state::{Caller, Keeper};
 use tacho_time::Month;
 
-/// What is wanted at an archive, its words read.
+/// What is to be done at an archive, with its arguments read.
 #[derive(Clone, Copy, Debug, PartialEq, Eq)]
 pub enum Task {
-    /// A driver more, by CSV.
+    /// Adds a driver, given as CSV.
     Register,
-    /// A card file is kept, read by a part.
+    /// Imports a card file, read by a part.
     Import {
         caller: Caller,
         part: Part,
     },
-    /// Hours of a driver, by CSV.
+    /// Enters a driver's hours, given as CSV.
     Enter {
         driver: u32,
     },
-    /// An entry of a driver is withdrawn.
+    /// Withdraws a driver's entry.
     Withdraw {
         driver: u32,
         number: u32,
     },
-    /// The Monday from which a driver is examined.
+    /// Sets a driver's base.
     Base {
         driver: u32,
         day: BaseDay,
     },
-    /// A text of a driver.
+    /// Reads a text about a driver.
     Reading {
         driver: u32,
         reading: Reading,
     },
-    /// A text of a driver's month.
+    /// Reads a text about a driver's month.
     MonthReading {
         driver: u32,
         month: Month,
         reading: MonthReading,
     },
-    /// A text of a month of all drivers.
+    /// Reads a text about a month of all drivers.
     MonthOfAll {
         month: Month,
         reading: MonthOfAll,
     },
-    /// A card file that was kept.
+    /// Reads a card file of the archive.
     File {
         driver: u32,
         number: u32,
     },
-    /// The list of all drivers.
+    /// Lists all drivers.
     Drivers,
 }
 
-/// Does a task at an archive, over its input. A refusal changes nothing; nor does want of memory or a failure of the store. What
-/// a command tells is kept. The archive is asked only about an input that is sound, and then no fault of the input is answered, whatever
-/// the store does. E8 alone may be answered of any text of CSV.
+/// Does a task at an archive, with its input. A refusal, running out of memory, and a store failure leave the state as it was. What a
+/// command answered with success is durable. The archive is accessed only if the input is valid, and then the answer is no fault of the
+/// input, whatever the store does. Only E8 may be answered for any text of CSV.
 pub fn carry_out<K: Keeper>(
     alloc: Global,
     keeper: &mut K,

@@ -1,11 +1,11 @@
 use tacho_sheet::DoneLine;
 
-/// What a task tells where it was done.
+/// What a task answers when it was done.
 #[derive(Drop)]
 pub enum Text {
-    /// The line of a command that added a driver, a download or entries. It took no memory.
+    /// The line of a command that added a driver, a download or entries. Allocates no memory.
     Added(DoneLine),
-    /// The line of a command that added nothing. It took no memory.
+    /// The line of a command that added nothing. Allocates no memory.
     Line(DoneLine),
     /// A text.
     Long(String),
@@ -17,7 +17,7 @@ impl Text {
     ghost use Rattle.std.specs.Prelude.{◌≡◌};
     ghost use Rattle.tacho_desk.specs.Told.{bytes_of, told_of};
 
-    /// Its bytes.
+    /// The bytes of the text.
     pub fn bytes(&self) -> &[u8]
         ensures { result.now ≡ bytes_of (told_of self.now) }
     {

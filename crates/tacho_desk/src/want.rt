@@ -1,60 +1,60 @@
-/// What can be wanted at an archive: by a command of the program, or by a request.
+/// What a command of the program, or a request, can ask for at an archive.
 #[derive(Clone, Copy, Debug, PartialEq, Eq)]
 pub enum Want {
-    /// A driver more, by CSV.
+    /// Add a driver, given as CSV.
     Register,
-    /// A card file is kept, read by a part.
+    /// Import a card file, read by a part.
     Import,
-    /// Hours of a driver, by CSV.
+    /// Enter a driver's hours, given as CSV.
     Enter,
-    /// An entry of a driver is withdrawn.
+    /// Withdraw a driver's entry.
     Withdraw,
-    /// The Monday from which a driver is examined.
+    /// Set a driver's base.
     Base,
-    /// A text of a driver.
+    /// Read a text about a driver.
     Reading(Reading),
-    /// A text of a driver's month.
+    /// Read a text about a driver's month.
     MonthReading(MonthReading),
-    /// A text of a month of all drivers.
+    /// Read a text about a month of all drivers.
     MonthOfAll(MonthOfAll),
-    /// A card file that was kept.
+    /// Read a card file of the archive.
     File,
-    /// The list of all drivers.
+    /// List all drivers.
     Drivers,
 }
 
-/// A text that is read of a driver.
+/// A text about a driver.
 #[derive(Clone, Copy, Debug, PartialEq, Eq)]
 pub enum Reading {
     /// The breaches of the rules.
     Breaches,
-    /// The weekly rests that he is owed.
+    /// The debts: compensation owed for reduced weekly rests.
     Owed,
     /// The hours that were entered by hand.
     Entries,
     /// The breaches of each stretch, and what isn't examined.
     Stretches,
-    /// The weekly rests that are owed by each stretch, and what isn't examined.
+    /// The debts of each stretch, and what isn't examined.
     Debts,
     /// CSV of the minutes that aren't held, to be filled in and entered.
     Form,
 }
 
-/// A text that is read of a driver's month.
+/// A text about a driver's month.
 #[derive(Clone, Copy, Debug, PartialEq, Eq)]
 pub enum MonthReading {
-    /// What he holds, as CSV.
+    /// What the driver holds, as CSV.
     Spans,
-    /// The minutes that he doesn't hold.
+    /// The minutes that the driver doesn't hold.
     Gaps,
     /// The sheet of the month.
     Sheet,
 }
 
-/// A text that is read of a month of all drivers, as CSV.
+/// A text about a month of all drivers, as CSV.
 #[derive(Clone, Copy, Debug, PartialEq, Eq)]
 pub enum MonthOfAll {
-    /// A row for each driver: what they hold, what is examined of it, and how many breaches of each rule.
+    /// A row for each driver: what they hold, how much of it is examined, and the number of breaches of each rule.
     Overview,
     /// A row for each breach.
     Incidents,
@@ -64,7 +64,7 @@ impl Want {
     ghost use Rattle.std.specs.Prelude.{◌≡◌};
     ghost use Rattle.tacho_desk.specs.Wants.{takes_input as has_input};
 
-    /// Whether it has an input: a text of CSV or a card file.
+    /// Whether the task has an input: a text of CSV or a card file.
     pub fn takes_input(self) -> bool
         ensures { result ≡ has_input self }
     {

@@ -20,8 +20,8 @@ const LAST_DRIVER: u32 = 999_999;
 /// The greatest number of an entry or a download.
 const LAST_NUMBER: u32 = 1_000_000;
 
-/// The driver whom a task is about: for the office the one whose number, 1 to 999,999 without leading zeros, is the word (N1), or
-/// the driver himself who asks.
+/// The driver whom a task is about. For the office, the argument is the driver's number, 1 to 999,999 without leading zeros (N1). For a
+/// driver, it is that driver.
 fn driver_of(caller: Caller, word: &[u8]) -> Result<u32, Fault>
     ensures { MatchResult result (IsDriver caller word.now) (λ fault. HasNoDriver caller word.now × (fault ≡ Fault.Told told.Number)) }
 {
@@ -34,7 +34,7 @@ fn driver_of(caller: Caller, word: &[u8]) -> Result<u32, Fault>
     }
 }
 
-/// The number of an entry or a download, 1 to 1,000,000 without leading zeros: N1.
+/// Reads the number of an entry or a download, 1 to 1,000,000 without leading zeros: N1.
 fn number_of(text: &[u8]) -> Result<u32, Fault>
     ensures { MatchResult result (IsNumberText most_number text.now) (λ fault. HasNoNumber most_number text.now × (fault ≡ Fault.Told told.Number)) }
 {
@@ -44,7 +44,7 @@ fn number_of(text: &[u8]) -> Result<u32, Fault>
     }
 }
 
-/// The part of a card file that a word names: `both`, `first` or `second`.
+/// Reads the name of a part of a card file: `both`, `first` or `second`.
 pub fn part_of(word: &[u8]) -> Option<Part>
     ensures { result ≡ part_named word.now }
 {
@@ -59,7 +59,7 @@ pub fn part_of(word: &[u8]) -> Option<Part>
     }
 }
 
-/// The import by a caller of the part that a word names: `both`, `first` or `second`. Others name none: P1.
+/// The caller's import by the part that the argument names: `both`, `first` or `second`. Fails with P1 otherwise.
 fn import_of(caller: Caller, word: &[u8]) -> Result<Task, Fault>
     ensures { result ≡ by_part (part_named word.now) (λ part. task.Import caller part) }
 {
@@ -69,9 +69,8 @@ fn import_of(caller: Caller, word: &[u8]) -> Result<Task, Fault>
     }
 }
 
-/// The task of what a caller wants, its words read from left to right: the number of the driver, which the office's has and a driver's
-/// own hasn't (N1), and its other word, a part (P1), the number of an entry or a download (N1), a day or a month (Z1 to Z3), or none
-/// that is looked at.
+/// Makes the task that a caller asks for from its arguments, read from left to right. The first is the driver's number (N1), which only the
+/// office gives. The other is a part (P1), the number of an entry or a download (N1), a day or a month (Z1 to Z3), or is ignored.
 pub fn task_of(want: Want, caller: Caller, driver: &[u8], word: &[u8]) -> Result<Task, Fault>
     ensures task { IsTask want caller driver.now word.now result }
     ensures want { IfOk result (λ task. want_of task ≡ want) }

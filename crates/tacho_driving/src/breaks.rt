@@ -17,15 +17,15 @@ use tacho_time::{Minute, Span};
 /// The driving since the last complete break.
 #[derive(Clone, Copy)]
 pub struct Period {
-    /// There was a first part of a break.
+    /// True if there was a first part of a break.
     pub short: bool,
-    /// Its driving, with the first minute above four and a half hours (Article 7).
+    /// The driving of the period, with the first minute above four and a half hours (Article 7).
     pub over: Count,
-    /// The same, with the first driving minute.
+    /// The same driving, with the first driving minute.
     pub since: Count,
 }
 
-/// Whether a run of so many minutes completes a break, after a first part or without one (Article 7).
+/// Returns true if a run with this many minutes completes a break. `short` is true after a first part (Article 7).
 fn completes(minutes: u32, short: bool) -> bool
     ensures { result ≡ completes_it minutes short }
 {
@@ -33,7 +33,7 @@ fn completes(minutes: u32, short: bool) -> bool
 }
 
 impl Period {
-    /// With nothing driven.
+    /// Returns the state with nothing driven.
     pub fn none() -> Period
         ensures { result ≡ period_none }
     {
@@ -44,7 +44,7 @@ impl Period {
         }
     }
 
-    /// Adds the minutes from one up to another, which are all driving or none.
+    /// Adds the minutes from `from` to before `to`. Either all are driving or none is.
     fn add(&mut self, drives: bool, from: u32, to: u32)
         requires few { IsTrue (are_few self.old from) }
         requires some { from ≤ to }
@@ -58,7 +58,7 @@ impl Period {
         }
     }
 
-    /// Behind a rest run, which may end the period.
+    /// Moves past a rest run, which may end the period.
     fn end(&mut self, run: Run, found: &mut Found) -> Result<(), AllocError>
         ensures after { OnOk result (self.new ≡ after_run run self.old) }
         ensures few { (place : ℕ) → IsTrue (are_few self.old place) → IsTrue (are_few self.new place) }
@@ -78,7 +78,7 @@ impl Period {
         Ok(())
     }
 
-    /// Takes a span, which may end a rest run where it starts.
+    /// Takes a span, and the rest run that ends where the span starts, if there is one.
     fn hear(
         &mut self,
         run: Option<Run>,
@@ -103,7 +103,7 @@ impl Period {
     }
 }
 
-/// The breaches of driving without a break (Article 7 of Regulation (EC) 561/2006).
+/// The pass that finds driving without a break (Article 7 of Regulation (EC) 561/2006).
 pub type Breaks = Hearing<Period>;
 
 impl Judge for Period {

@@ -13,21 +13,21 @@ use tacho_hours::{Kind, Run};
 use tacho_pass::{Count, Found, Hearing, Judge, is_drive, put};
 use tacho_time::{Minute, Span, Week, first_minute, week_of};
 
-/// The driving minutes of the week after `week`, and of the two.
+/// The driving minutes of the current week, which follows `week`, and of both weeks together.
 #[derive(Clone, Copy)]
 pub struct Sums {
-    /// The week before.
+    /// The week before the current one.
     pub week: u32,
-    /// Of the week after, with the first minute above 56 hours (Article 6(2)).
+    /// The driving of the current week, with the first minute above 56 hours (Article 6(2)).
     pub here: Count,
-    /// Of the two weeks, with the first minute above 90 hours (Article 6(3)).
+    /// The driving of `week` and the current week, with the first minute above 90 hours (Article 6(3)).
     pub two: Count,
-    /// Of the week after, as a part of it and the next, with the first minute above 90 hours.
+    /// The driving of the current week, as part of the pair with the next week, with the first minute above 90 hours.
     pub ahead: Count,
 }
 
 impl Sums {
-    /// Before the first minute of the week after `week`, with nothing driven before.
+    /// Returns the state before the first minute of the week after `week`, with nothing driven before.
     pub fn none(week: u32) -> Sums
         ensures { result ≡ record { week = week; here = count_none; two = count_none; ahead = count_none } }
     {
@@ -39,7 +39,7 @@ impl Sums {
         }
     }
 
-    /// How many weeks end by a minute, from the week after on. Most spans end in the week that is open.
+    /// Returns how many weeks, starting with the current one, end at or before a minute. Most spans end in the current week.
     fn ends_by(&self, minute: Minute) -> u32
         requires from { week_start (self.now.week + 1) ≤ minute }
         requires early { minute ≤ latest }
@@ -53,7 +53,7 @@ impl Sums {
         week_of(minute).number() - (self.week + 1)
     }
 
-    /// Adds the minutes from one up to another, in the same week, which are all driving or none.
+    /// Adds the minutes from `from` to before `to`, all in the same week. Either all are driving or none is.
     fn fill(&mut self, drives: bool, from: u32, to: u32)
         requires few { IsTrue (are_few self.old from) }
         requires some { from ≤ to }
@@ -68,7 +68,7 @@ impl Sums {
         }
     }
 
-    /// At a week's end.
+    /// Moves past the end of the week.
     fn close(&mut self)
         requires { self.old.week ≤ 6786 }
         ensures { self.new ≡ closed self.old }
@@ -81,7 +81,7 @@ impl Sums {
         };
     }
 
-    /// Up to the week's end, and in the next.
+    /// Adds the minutes from `from` to the end of the week, and continues in the next week.
     fn turn(&mut self, drives: bool, from: u32, found: &mut Found) -> Result<(), AllocError>
         requires week { self.old.week ≤ 6786 }
         requires few { IsTrue (are_few self.old from) }
@@ -99,7 +99,7 @@ impl Sums {
         Ok(())
     }
 
-    /// Over so many week ends, from one minute up to another.
+    /// Adds the minutes from `from` to before `to`, over `ends` week ends.
     fn go_through(
         &mut self,
         drives: bool,
@@ -131,7 +131,7 @@ impl Sums {
     }
 }
 
-/// Puts the breaches of the week and of the two to what is found.
+/// Appends the breaches of the week and of the two weeks to what is found.
 fn put_breaches(sums: &Sums, found: &mut Found) -> Result<(), AllocError>
     requires { sums.now.week ≤ 6786 }
     ensures breaches { OnOk result (found.new.breaches.items ≡ found.old.breaches.items ++ breaches_of sums.now) }
@@ -144,7 +144,7 @@ fn put_breaches(sums: &Sums, found: &mut Found) -> Result<(), AllocError>
     Ok(())
 }
 
-/// The breaches of driving in a week and in two (Article 6(2) and (3) of Regulation (EC) 561/2006).
+/// The pass that finds too much driving in one week and in two (Article 6(2) and (3) of Regulation (EC) 561/2006).
 pub type WeekSums = Hearing<Sums>;
 
 impl Judge for Sums {

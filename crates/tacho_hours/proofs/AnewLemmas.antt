@@ -1,5 +1,5 @@
--- The weeks at which a rule fails that is kept anew from each week at which it failed (specs/Anew): whether the next
--- week is one is told by the last of them alone.
+-- The weeks at which a rule fails that is examined again from each week at which it failed (specs/Anew). Whether the next week is one of
+-- them depends only on the last of them.
 use Rattle.std.proofs.Common.{◌≡◌, ℕ, zero, suc, ◌+◌, ◌<◌, ◌≤◌, ◌⊎◌, inl, inr, refl, subst, arith}
 use Rattle.std.proofs.lemmas.Bool.{cases_order}
 use Rattle.tacho_hours.specs.Anew.{FailsFrom, Fails}
@@ -7,7 +7,7 @@ use Rattle.tacho_hours.specs.Anew.Fails.{at_first, anew}
 
 module _ (Serve : ℕ → ℕ → Type 0) (Ended : ℕ → Type 0) (first : ℕ)
     (less : (a u v : ℕ) → v ≤ u → Serve a u → Serve a v) where
-  -- from where it is kept: the first week, or a week at which it failed
+  -- a week from which the rule is examined: the first week, or a week at which it failed
   abbrev pub IsStart : ℕ → Type 0
   IsStart a = (a ≡ first) ⊎ Fails Serve Ended first a
 
@@ -26,7 +26,7 @@ module _ (Serve : ℕ → ℕ → Type 0) (Ended : ℕ → Type 0) (first : ℕ)
   came_from a (at_first f) = (first, (inl refl, f))
   came_from a (anew {a = b} h f) = (b, (inr h, f))
 
-  -- it isn't kept from one start to another
+  -- the rule can't be kept from one start up to a later start
   starts_apart : (n a b : ℕ) → a < n → IsStart a → IsStart b → b < a → Serve b a → ⊥
   starts_apart zero a b below is are order s = omega arith
   starts_apart (suc n) a b below (inl e) (inl f) order s = omega arith
@@ -42,7 +42,7 @@ module _ (Serve : ℕ → ℕ → Type 0) (Ended : ℕ → Type 0) (first : ℕ)
         ]
       ]
 
-  -- where it is kept from a start up to a week, the next week is one exactly where it can't be kept up to that
+  -- if the rule can be kept from a start a up to u, it fails at the next week iff it can't be kept from a up to that week
   module _ (a u : ℕ) (start : IsStart a) (within : a ≤ u) (so_far : Serve a u) where
     pub none_at : Serve a (u + 1) → Fails Serve Ended first (u + 1) → ⊥
     none_at s h = starts_apart (u + 2) (u + 1) a (omega arith) (inr h) start (omega arith) s

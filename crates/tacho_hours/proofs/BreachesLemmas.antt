@@ -11,7 +11,7 @@ use Rattle.tacho_hours.proofs.BreaksLemmas.{one_complete_breaks}
 use Rattle.tacho_hours.proofs.OrderLemmas.{one_breaches}
 use Rattle.tacho_hours.proofs.RunsLemmas.{one_rest_runs, rest_runs_are}
 
--- the breaches of the rule on breaks
+-- there is one list of the breaches of the rule on breaks
 pub one_break_breaches : (line : Line) (found others : List Breach)
     → AreBreakBreaches line found → AreBreakBreaches line others → found ≡ others
 one_break_breaches line found others a b =

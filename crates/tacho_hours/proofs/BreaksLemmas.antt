@@ -1,5 +1,4 @@
--- Rest runs one after the other give those that complete a break, and there is one list of them
--- (`laws::one_list_of_complete_breaks`).
+-- Complete breaks are found by going over the rest runs in order, and there is one list of them (`laws::one_list_of_complete_breaks`).
 use Rattle.std.proofs.Common.{◌≡◌, ℕ, zero, suc, ◌<◌, ◌≤◌, ◌⊎◌, inl, inr, List, [], ◌∷◌, ◌++◌}
 use Rattle.std.proofs.Common.{get_or, refl, sym, ap, subst, arith, Bool, true, false}
 use Rattle.std.specs.Prelude.{IsTrue}
@@ -28,7 +27,7 @@ breaking_none = record {
   has = λ h. absurd (nothing h.part h.among);
 }
 
--- the step at a run after all that were seen
+-- the step for a run after all runs seen
 module _ (seen breaks : List Run) (short : Bool) (run : Run) (r : Breaking seen breaks short)
     (later : (x : Run) → Contains seen x → Before x run) (some : run.start < run.past)
     (each : (x : Run) → Contains seen x → x.start < x.past) where
@@ -36,15 +35,15 @@ module _ (seen breaks : List Run) (short : Bool) (run : Run) (r : Breaking seen 
   held : (b : Run) → Contains breaks b → Contains seen b
   held b h = ((r.whole.each b).0 h).0
 
-  -- a run is not before itself
+  -- no run is before itself
   not_itself : Before run run → ⊥
   not_itself h = omega arith
 
-  -- nor before one that was seen
+  -- the new run isn't before a run that was seen
   not_before : (x : Run) → Contains seen x → Before run x → ⊥
   not_before x h b = let l : x.past < run.start = later x h in let e : x.start < x.past = each x h in omega arith
 
-  -- a run among more that is before one that was seen was seen
+  -- a run that is before a run seen, or before the new run, was seen
   seen_if : (x : Run) → Contains (seen ++ run ∷ []) x → (y : Run)
       → Contains seen y ⊎ (run ≡ y) → Before x y → Contains seen x
   seen_if x h y at b = elim (Contains-push_cases seen run x h) [
@@ -57,7 +56,7 @@ module _ (seen breaks : List Run) (short : Bool) (run : Run) (r : Breaking seen 
 
   module _ (more : List Run) (old : (b : Run) → Contains breaks b → Contains more b)
       (new : (b : Run) → Contains more b → Contains breaks b ⊎ (run ≡ b)) where
-    -- what was seen completes as before
+    -- a run seen that completed a break still does
     keeps : (x : Run) → Contains seen x → Completes seen breaks x → Completes (seen ++ run ∷ []) more x
     keeps x in' c = elim c [
       | inl long ↦ inl long
@@ -76,7 +75,7 @@ module _ (seen breaks : List Run) (short : Bool) (run : Run) (r : Breaking seen 
       )
     ]
 
-    -- and it completed before if it does now
+    -- a run seen that completes a break now did so before
     kept : (x : Run) → Contains seen x → Completes (seen ++ run ∷ []) more x → Completes seen breaks x
     kept x in' c = elim c [
       | inl long ↦ inl long
@@ -92,7 +91,7 @@ module _ (seen breaks : List Run) (short : Bool) (run : Run) (r : Breaking seen 
       )
     ]
 
-    -- the run itself completes where the flag says so
+    -- the new run completes a break if it is long enough, or if it is the last part and a first part is open
     here : (45 ≤ minutes_of run) ⊎ ((30 ≤ minutes_of run) × IsTrue short) → Completes (seen ++ run ∷ []) more run
     here c = elim c [
       | inl long ↦ inl long
@@ -113,7 +112,7 @@ module _ (seen breaks : List Run) (short : Bool) (run : Run) (r : Breaking seen 
           )
     ]
 
-    -- and where it completes the flag says so
+    -- conversely, if the new run completes a break, it is long enough, or the last part after an open first part
     there : Completes (seen ++ run ∷ []) more run → (45 ≤ minutes_of run) ⊎ ((30 ≤ minutes_of run) × IsTrue short)
     there c = elim c [
       | inl long ↦ inl long
@@ -128,7 +127,7 @@ module _ (seen breaks : List Run) (short : Bool) (run : Run) (r : Breaking seen 
       )
     ]
 
-  -- a run that completes a break is added
+  -- a run that completes a break is added, and no first part is open after it
   pub breaking_add : (45 ≤ minutes_of run) ⊎ ((30 ≤ minutes_of run) × IsTrue short)
       → Breaking (seen ++ run ∷ []) (breaks ++ run ∷ []) false
   breaking_add c =
@@ -165,7 +164,7 @@ module _ (seen breaks : List Run) (short : Bool) (run : Run) (r : Breaking seen 
         ]);
       }
 
-  -- where it doesn't join, the breaks stay
+  -- if the run doesn't complete a break, the breaks stay the same
   stay : ((45 ≤ minutes_of run) ⊎ ((30 ≤ minutes_of run) × IsTrue short) → ⊥)
       → AreCompleteBreaks (seen ++ run ∷ []) breaks
   stay fails =
@@ -187,7 +186,7 @@ module _ (seen breaks : List Run) (short : Bool) (run : Run) (r : Breaking seen 
         in_order = r.whole.in_order;
       }
 
-  -- a run of 15 minutes sets the flag
+  -- a run of 15 minutes that completes no break is an open first part
   pub breaking_short : ((45 ≤ minutes_of run) ⊎ ((30 ≤ minutes_of run) × IsTrue short) → ⊥)
       → 15 ≤ minutes_of run → Breaking (seen ++ run ∷ []) breaks true
   breaking_short fails enough = record {
@@ -219,14 +218,14 @@ module _ (seen breaks : List Run) (short : Bool) (run : Run) (r : Breaking seen 
     ];
   }
 
--- complete breaks last some minutes, as the rest runs do
+-- complete breaks aren't empty, since rest runs aren't
 pub breaks_last : (runs breaks : List Run) → AreCompleteBreaks runs breaks
     → All (λ (x : Run). x.start < x.past) runs → All (λ (x : Run). x.start < x.past) breaks
 breaks_last runs breaks are all k d within =
     All-contains (λ (x : Run). x.start < x.past) runs (get_or breaks k d) all
     ((are.each (get_or breaks k d)).0 (Contains-get_or breaks k d within)).0
 
--- which of the runs complete a break is known from the breaks before each
+-- breaks of one list are in the other: whether a run completes a break depends only on the breaks before it
 same_breaks : (runs breaks others : List Run) → All (λ (run : Run). run.start < run.past) runs
     → AreCompleteBreaks runs breaks → AreCompleteBreaks runs others
     → (n : ℕ) (run : Run) → run.start < n → Contains breaks run → Contains others run
@@ -252,7 +251,7 @@ same_breaks runs breaks others some a b (suc n) run below h =
     ] in
     (b.each run).1 (is.0, completes)
 
--- the complete breaks among runs
+-- runs have one list of complete breaks
 pub one_complete_breaks : (runs breaks others : List Run) → All (λ (run : Run). run.start < run.past) runs
     → AreCompleteBreaks runs breaks → AreCompleteBreaks runs others → breaks ≡ others
 one_complete_breaks runs breaks others some a b =

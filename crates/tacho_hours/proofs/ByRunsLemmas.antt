@@ -1,5 +1,4 @@
--- Debts that the rest runs pay one after the other (specs/ByRuns) have the payers of the definition (specs/Debts), and
--- no others have them (`laws::paid_by_runs`).
+-- Debts paid run by run (specs/ByRuns) have the payers of the definition (specs/Debts), and only these (`laws::paid_by_runs`).
 use Rattle.std.proofs.Common.{◌≡◌, ℕ, zero, suc, ◌+◌, ◌<◌, ◌≤◌, ◌⊎◌, ◌↔◌, inl, inr, nat_lt}
 use Rattle.std.proofs.Common.{if◌then◌else◌, Option, None, Some, List, [], ◌∷◌, ◌++◌, map}
 use Rattle.std.proofs.Common.{length, get_or, take, refl, sym, ap, ap₂, subst, ◌∙◌, arith}
@@ -22,11 +21,11 @@ use Rattle.tacho_hours.proofs.ExactlyLemmas.{at_index, contains_head, contains_t
 use Rattle.tacho_hours.proofs.ExactlyLemmas.{contains_cases, head_first, tail_order}
 use Rattle.tacho_hours.proofs.DebtsLemmas.{Alike, separate, can_alike, Settled, settled_head, settled_tail, settled}
 
--- a debt with nobody that pays it
+-- a debt without its payer
 abbrev pub bare : Debt → Debt
 bare debt = record debt { paid_by = None }
 
--- debts that are one without their payers are alike
+-- debts that are equal without their payers are alike
 pub bare_alike : (a b : Debt) → bare a ≡ bare b → Alike a b
 bare_alike a b e = record {
   week = ap (λ (debt : Debt). debt.week) e;
@@ -34,17 +33,17 @@ bare_alike a b e = record {
   deadline = ap (λ (debt : Debt). debt.deadline) e;
 }
 
--- of lists that are one without payers, the debts at a place are too
+-- if two lists are equal without payers, so are their debts at each place
 pub bare_at : (xs ys : List Debt) (k : ℕ) (d : Debt) → map bare xs ≡ map bare ys
     → bare (get_or xs k d) ≡ bare (get_or ys k d)
 bare_at xs ys k d same =
     sym (get_or-map bare xs k d) ∙ ap (λ (ds : List Debt). get_or ds k (bare d)) same ∙ get_or-map bare ys k d
 
--- and they are as long
+-- if two lists are equal without payers, they have the same length
 pub bare_length : (xs ys : List Debt) → map bare xs ≡ map bare ys → length xs ≡ length ys
 bare_length xs ys same = sym (length-map xs bare) ∙ ap (λ (ds : List Debt). length ds) same ∙ length-map ys bare
 
--- each debt of the one has one alike in the other
+-- if two lists are equal without payers, each debt of one has a debt alike in the other
 pub bare_match : (xs ys : List Debt) → map bare xs ≡ map bare ys → (debt : Debt)
     → Contains xs debt → (other : Debt) × Contains ys other × Alike debt other
 bare_match xs ys same debt (k, within, is) =
@@ -52,7 +51,7 @@ bare_match xs ys same debt (k, within, is) =
     let here : bare debt ≡ bare (get_or ys k debt) = ap bare (sym is) ∙ bare_at xs ys k debt same in
     (get_or ys k debt, Contains-get_or ys k debt (omega arith), bare_alike debt (get_or ys k debt) here)
 
--- who pays debts doesn't change that they are owed
+-- changing payers doesn't change what is owed
 owed_alike : (line : Line) (horizon : ℕ) (xs ys : List Debt)
     → map bare xs ≡ map bare ys → AreOwed line horizon xs → AreOwed line horizon ys
 owed_alike line horizon xs ys same a = record {
@@ -81,20 +80,20 @@ owed_alike line horizon xs ys same a = record {
       omega arith;
 }
 
--- runs that start one after the other
+-- one run starts before the other
 Sooner : Run → Run → Type 0
 Sooner a b = a.start < b.start
 
--- two runs are in one order
+-- no two runs start before each other
 never_sooner : (a b : Run) → Sooner a b → Sooner b a → ⊥
 unfolding Sooner
 never_sooner a b e f = omega arith
 
--- of a debt that a later run pays, nothing
+-- a run pays nothing of a debt that a later run pays
 pub other_share : (run : Run) (debt : Debt) (s : ℕ) → run.start < s → share run (record debt { paid_by = Some s }) ≡ 0
 other_share run debt s later = grind (arith, nat_tests)
 
--- who can pay a debt can pay it beside others of which it pays as much
+-- a run that can pay a debt after these earlier debts can also do so after others, of which it pays as much
 can_beside : (line : Line) (horizon : ℕ) (earlier others : List Debt) (debt : Debt) (run : Run)
     → paid_from run earlier ≡ paid_from run others
     → CanPay line horizon earlier debt run → CanPay line horizon others debt run
@@ -110,14 +109,14 @@ can_beside line horizon earlier others debt run same c = record {
   };
 }
 
--- debts that are alike can be paid by the same runs
+-- a run that can pay a debt can also pay one that is alike, after others of which it pays as much
 can_move : (line : Line) (horizon : ℕ) (earlier others : List Debt) (a b : Debt) (run : Run)
     → paid_from run earlier ≡ paid_from run others → Alike a b
     → CanPay line horizon earlier a run → CanPay line horizon others b run
 can_move line horizon earlier others a b run same e c =
     can_alike line horizon others a b run e (can_beside line horizon earlier others a run same c)
 
--- rest runs of a line that start at one minute are one
+-- two runs of an ordered list that start at the same minute are equal
 same_run : (runs : List Run) (a b : Run) → AllPairs Sooner runs
     → Contains runs a → Contains runs b → a.start ≡ b.start → a ≡ b
 unfolding Sooner
@@ -140,13 +139,13 @@ same_run (x ∷ xs) a b order f g e =
       ]
     ]
 
--- the rest runs that start from a minute on
+-- the rest runs that start at minute b or later
 record AreLeft (line : Line) (b : ℕ) (runs : List Run) : Type 0 where
   order : AllPairs Sooner runs
   each : (run : Run) → Contains runs run → IsRestRun line run × (b ≤ run.start)
   all : (run : Run) → IsRestRun line run → (run.start < b) ⊎ Contains runs run
 
--- at first, all
+-- from minute 0 on, these are all rest runs
 all_left : (line : Line) (runs : List Run) → AreRestRuns line runs → AreLeft line 0 runs
 unfolding Sooner
 all_left line runs are = record {
@@ -159,12 +158,12 @@ all_left line runs are = record {
   all = λ run rests. inr ((are.each run).1 rests);
 }
 
--- the first is one of them
+-- the first of the remaining runs is a rest run and starts at b or later
 first_left : (line : Line) (b : ℕ) (run : Run) (runs : List Run)
     → AreLeft line b (run ∷ runs) → IsRestRun line run × (b ≤ run.start)
 first_left line b run runs a = a.each run (contains_head run runs)
 
--- none starts before the first
+-- no other rest run starts between b and the first remaining run
 none_between : (line : Line) (b : ℕ) (run : Run) (runs : List Run) → AreLeft line b (run ∷ runs)
     → (other : Run) → IsRestRun line other → other.start < run.start → other.start < b
 unfolding Sooner
@@ -177,7 +176,7 @@ none_between line b run runs a other rests sooner = elim (a.all other rests) [
   ]
 ]
 
--- those behind the first
+-- the other runs are the remaining ones after the start of the first
 others_left : (line : Line) (b : ℕ) (run : Run) (runs : List Run)
     → AreLeft line b (run ∷ runs) → AreLeft line (run.start + 1) runs
 unfolding Sooner
@@ -195,20 +194,20 @@ others_left line b run runs a = record {
   ];
 }
 
--- behind the last, each has started before
+-- if no run remains, each rest run started before b
 none_left : (line : Line) (b : ℕ) → AreLeft line b [] → (run : Run) → IsRestRun line run → run.start < b
 none_left line b a run rests = elim (a.all run rests) [
   | inl before ↦ before
   | inr (k, within, is) ↦ absurd (omega arith)
 ]
 
--- a debt is settled by a payer, or by none
+-- the payer of a debt is settled: this run, or none
 abbrev IsSettledBy : Line → ℕ → List Debt → Debt → Option ℕ → Type 0
 IsSettledBy line horizon earlier debt p =
     MatchOption p ((run : Run) → CanPay line horizon earlier debt run → ⊥)
     (λ start. Pays line horizon earlier debt start)
 
--- before the first turn nothing is paid
+-- before the first run's turn, nothing is paid
 none_done : (line : Line) (horizon : ℕ) (earlier debts : List Debt)
     → All (λ (debt : Debt). debt.paid_by ≡ None) debts → AreDone line horizon 0 earlier debts
 none_done line horizon earlier [] unpaid = tt
@@ -219,7 +218,7 @@ none_done line horizon earlier (debt ∷ debts) unpaid =
       none_done line horizon (earlier ++ debt ∷ []) debts (λ k d within. unpaid (suc k) d (omega arith)),
     )
 
--- nothing changes up to the next run
+-- if no rest run starts from b to before c, a debt's payer at b is that at c
 done_until : (line : Line) (horizon b c : ℕ) (earlier : List Debt) (debt : Debt) (p : Option ℕ)
     → b ≤ c → ((run : Run) → IsRestRun line run → run.start < c → run.start < b)
     → IsDone line horizon b earlier debt p → IsDone line horizon c earlier debt p
@@ -227,7 +226,7 @@ done_until line horizon b c earlier debt None from none nobody = λ run before c
     nobody run (none run can.rests before) can
 done_until line horizon b c earlier debt (Some start) from none (early, pays) = (omega arith, pays)
 
--- of all debts
+-- likewise for all debts
 are_done_until : (line : Line) (horizon b c : ℕ) (earlier debts : List Debt)
     → b ≤ c → ((run : Run) → IsRestRun line run → run.start < c → run.start < b)
     → AreDone line horizon b earlier debts → AreDone line horizon c earlier debts
@@ -237,14 +236,14 @@ are_done_until line horizon b c earlier (debt ∷ debts) from none (one, others)
   are_done_until line horizon b c (earlier ++ debt ∷ []) debts from none others,
 )
 
--- behind the last run all are settled
+-- after the last run, a debt is settled
 done_settled : (line : Line) (horizon b : ℕ) (earlier : List Debt) (debt : Debt) (p : Option ℕ)
     → ((run : Run) → IsRestRun line run → run.start < b) → IsDone line horizon b earlier debt p
     → IsSettledBy line horizon earlier debt p
 done_settled line horizon b earlier debt None all nobody = λ run can. nobody run (all run can.rests) can
 done_settled line horizon b earlier debt (Some start) all (early, pays) = pays
 
--- each after those before it
+-- after the last run, each debt is settled, given those before it
 pub are_settled : (line : Line) (horizon b : ℕ) (earlier debts : List Debt)
     → ((run : Run) → IsRestRun line run → run.start < b) → AreDone line horizon b earlier debts
     → (i : ℕ) (debt : Debt) → slice_get debts i ≡ Some debt → IsSettled line horizon (earlier ++ take i debts) debt
@@ -258,21 +257,21 @@ are_settled line horizon b earlier (x ∷ xs) all (one, others) (suc i) debt is 
     subst (λ (ds : List Debt). IsSettled line horizon ds debt) (append_assoc earlier (x ∷ []) (take i xs))
     (are_settled line horizon b (earlier ++ x ∷ []) xs all others i debt is)
 
--- runs that start before a minute pay as much of one list as of the other
+-- runs that start before minute b pay the same of both lists
 pub Agree : ℕ → List Debt → List Debt → Type 0
 Agree b earlier others = (run : Run) → run.start < b → paid_from run earlier ≡ paid_from run others
 
--- a list does with itself
+-- a list agrees with itself
 pub agree_same : (b : ℕ) (debts : List Debt) → Agree b debts debts
 unfolding Agree
 agree_same b debts run sooner = refl
 
 module _ (line : Line) (horizon : ℕ) (runs : List Run) (are : AreRestRuns line runs) where
-  -- the rest run of a line that starts at a minute
+  -- rest runs of a line that start at the same minute are equal
   pub one_run : (a b : Run) → IsRestRun line a → IsRestRun line b → a.start ≡ b.start → a ≡ b
   one_run a b r s e = same_run runs a b (all_left line runs are).order ((are.each a).1 r) ((are.each b).1 s) e
 
-  -- a debt that stays as it is in a run's turn
+  -- a debt that a run's turn leaves as it is
   stays_done : (run : Run) (earlier others : List Debt) (debt : Debt) (p : Option ℕ)
       → IsRestRun line run → Agree run.start earlier others
       → (p ≡ None → CanPay line horizon others debt run → ⊥)
@@ -326,7 +325,7 @@ module _ (line : Line) (horizon : ℕ) (runs : List Run) (are : AreRestRuns line
         },
       )
 
-  -- a debt in a run's turn
+  -- a debt after a run's turn
   turn_done : (run : Run) (earlier others : List Debt) (before after : Debt)
       → IsRestRun line run → Agree run.start earlier others
       → IsTurn line horizon run others before after → IsDone line horizon run.start earlier before before.paid_by
@@ -339,7 +338,7 @@ module _ (line : Line) (horizon : ℕ) (runs : List Run) (are : AreRestRuns line
       (stays_done run earlier others before before.paid_by rests agree
       (λ none can. not_takes (record { unpaid = none; can = can })) done)
 
-  -- a run's turn changes nothing of what runs before it pay
+  -- a run's turn doesn't change what earlier runs pay of a debt
   same_share : (run : Run) (others : List Debt) (before after : Debt) (x : Run) → x.start < run.start
       → IsTurn line horizon run others before after → share x before ≡ share x after
   same_share run others before after x sooner (inl (takes, is)) =
@@ -347,7 +346,7 @@ module _ (line : Line) (horizon : ℕ) (runs : List Run) (are : AreRestRuns line
       ∙ sym (other_share x before run.start sooner) ∙ ap (λ (d : Debt). share x d) (sym is)
   same_share run others before after x sooner (inr (not_takes, is)) = ap (λ (d : Debt). share x d) (sym is)
 
-  -- nor when one more debt has had its turn
+  -- the lists still agree with one more debt after its turn
   turn_agrees : (run : Run) (earlier others : List Debt) (before after : Debt) → Agree run.start earlier others
       → IsTurn line horizon run others before after → Agree run.start (earlier ++ before ∷ []) (others ++ after ∷ [])
   unfolding Agree
@@ -356,7 +355,7 @@ module _ (line : Line) (horizon : ℕ) (runs : List Run) (are : AreRestRuns line
       ∙ ap₂ (λ (m n : ℕ). m + n) (agree x sooner) (same_share run others before after x sooner turn)
       ∙ sym (sum_by_push (share x) others after)
 
-  -- all debts in a run's turn
+  -- all debts after a run's turn
   pub run_done : (run : Run) (earlier others before after : List Debt)
       → IsRestRun line run → Agree run.start earlier others
       → AfterRun line horizon run others before after → AreDone line horizon run.start earlier before
@@ -399,14 +398,14 @@ run_bare line horizon run earlier (before ∷ befores) (after ∷ afters) (turn,
     ap₂ (λ (d : Debt) (ds : List Debt). d ∷ ds) same
     (run_bare line horizon run (earlier ++ after ∷ []) befores afters turns)
 
--- and so do the turns of runs
+-- likewise for the turns of several runs
 runs_bare : (line : Line) (horizon : ℕ) (runs : List Run) (before after : List Debt)
     → AfterRuns line horizon runs before after → map bare before ≡ map bare after
 runs_bare line horizon [] before after same = ap (λ (ds : List Debt). map bare ds) same
 runs_bare line horizon (run ∷ runs) before after (between, turn, turns) =
     run_bare line horizon run [] before between turn ∙ runs_bare line horizon runs between after turns
 
--- what is paid run by run are the debts
+-- debts paid run by run are the debts of the definition
 from_runs : (line : Line) (horizon : ℕ) (runs : List Run) (debts : List Debt)
     → AreRestRuns line runs → ArePaidByRuns line horizon runs debts → AreDebts line horizon debts
 from_runs line horizon runs debts are a = record {
@@ -416,29 +415,29 @@ from_runs line horizon runs debts are a = record {
       (none_done line horizon [] a.owed a.unpaid) a.paid;
 }
 
--- the payer, if it starts before a minute
+-- the payer, if it starts before minute b; else none
 abbrev payer_until : ℕ → Option ℕ → Option ℕ
 payer_until b None = None
 payer_until b (Some s) = if nat_lt s b then Some s else None
 
--- it does
+-- a payer that starts before b is shown
 payer_shown : (b s : ℕ) → s < b → payer_until b (Some s) ≡ Some s
 payer_shown b s below = grind (arith, nat_tests)
 
--- it doesn't
+-- a payer that starts at b or later is hidden
 payer_hidden : (b s : ℕ) → b ≤ s → payer_until b (Some s) ≡ None
 payer_hidden b s from = grind (arith, nat_tests)
 
--- a debt before the turns of the runs from a minute on
+-- a debt as it is before the turns of the runs that start at b or later
 abbrev shown : ℕ → Debt → Debt
 shown b debt = record debt { paid_by = payer_until b debt.paid_by }
 
--- nobody pays it before the first turn
+-- before the first turn, no debt has a payer
 none_shown : (debt : Debt) (p : Option ℕ) → payer_until 0 p ≡ None
 none_shown debt None = refl
 none_shown debt (Some s) = payer_hidden 0 s (omega arith)
 
--- a run pays as much of it behind its turn as at last
+-- after a run's own turn, what it pays of a debt doesn't change
 shown_share : (run : Run) (debt : Debt) (p : Option ℕ)
     → share run (record debt { paid_by = payer_until (run.start + 1) p }) ≡ share run (record debt { paid_by = p })
 shown_share run debt None = refl
@@ -449,7 +448,7 @@ shown_share run debt (Some s) = elim (cases_lt s (run.start + 1)) [
       ∙ sym (other_share run debt s (omega arith))
 ]
 
--- and as much of all
+-- likewise for all debts
 shown_paid : (run : Run) (debts : List Debt) → paid_from run (map (shown (run.start + 1)) debts) ≡ paid_from run debts
 shown_paid run [] = refl
 shown_paid run (debt ∷ debts) =
@@ -457,7 +456,7 @@ shown_paid run (debt ∷ debts) =
     ∙ ap₂ (λ (m n : ℕ). m + n) (shown_share run debt debt.paid_by) (shown_paid run debts)
     ∙ sym (sum_by-cons (share run) debt debts)
 
--- between the turns of neighbours nothing changes
+-- if no rest run starts from b to before c, the payer shown is the same
 payer_same : (line : Line) (horizon b c : ℕ) (earlier : List Debt) (debt : Debt) (p : Option ℕ)
     → b ≤ c → ((run : Run) → IsRestRun line run → run.start < c → run.start < b)
     → IsSettledBy line horizon earlier debt p → payer_until b p ≡ payer_until c p
@@ -473,7 +472,7 @@ payer_same line horizon b c earlier debt (Some start) from none pays = elim (cas
   ]
 ]
 
--- of all debts
+-- likewise for all debts
 shown_same : (line : Line) (horizon b c : ℕ) (earlier debts : List Debt)
     → b ≤ c → ((run : Run) → IsRestRun line run → run.start < c → run.start < b)
     → Settled line horizon earlier debts → map (shown b) debts ≡ map (shown c) debts
@@ -484,7 +483,7 @@ shown_same line horizon b c earlier (debt ∷ debts) from none s =
     (shown_same line horizon b c (earlier ++ debt ∷ []) debts from
     none (settled_tail line horizon earlier debt debts s))
 
--- behind the last turn the debts stand as at last
+-- after the last run's turn, the payer shown is the debt's payer
 payer_last : (line : Line) (horizon b : ℕ) (earlier : List Debt) (debt : Debt) (p : Option ℕ)
     → ((run : Run) → IsRestRun line run → run.start < b)
     → IsSettledBy line horizon earlier debt p → payer_until b p ≡ p
@@ -494,7 +493,7 @@ payer_last line horizon b earlier debt (Some start) all pays =
     let before : pays.payer.start < b = all pays.payer pays.can.rests in
     payer_shown b start (omega arith)
 
--- each of them
+-- likewise for all debts
 shown_last : (line : Line) (horizon b : ℕ) (earlier debts : List Debt)
     → ((run : Run) → IsRestRun line run → run.start < b)
     → Settled line horizon earlier debts → map (shown b) debts ≡ debts
@@ -504,13 +503,13 @@ shown_last line horizon b earlier (debt ∷ debts) all s =
     (payer_last line horizon b earlier debt debt.paid_by all (settled_head line horizon earlier debt debts s))
     (shown_last line horizon b (earlier ++ debt ∷ []) debts all (settled_tail line horizon earlier debt debts s))
 
--- without payers they are the same
+-- without payers, the debts shown are the same
 shown_bare : (b : ℕ) (debts : List Debt) → map bare debts ≡ map bare (map (shown b) debts)
 shown_bare b [] = refl
 shown_bare b (debt ∷ debts) = ap (λ (ds : List Debt). bare debt ∷ ds) (shown_bare b debts)
 
 module _ (line : Line) (horizon : ℕ) (runs : List Run) (are : AreRestRuns line runs) where
-  -- a settled debt in a run's turn
+  -- a run's turn takes a settled debt as shown before it to the debt as shown after it
   settled_turn : (run : Run) (earlier : List Debt) (debt : Debt) (p : Option ℕ) → IsRestRun line run
       → IsSettledBy line horizon earlier debt p
       → IsTurn line horizon run (map (shown (run.start + 1)) earlier)
@@ -562,7 +561,7 @@ module _ (line : Line) (horizon : ℕ) (runs : List Run) (are : AreRestRuns line
         ]
       ]
 
-  -- settled debts in a run's turn
+  -- likewise for all settled debts
   settled_turns : (run : Run) (earlier debts : List Debt) → IsRestRun line run → Settled line horizon earlier debts
       → AfterRun line horizon run (map (shown (run.start + 1)) earlier)
       (map (shown run.start) debts) (map (shown (run.start + 1)) debts)
@@ -575,7 +574,7 @@ module _ (line : Line) (horizon : ℕ) (runs : List Run) (are : AreRestRuns line
         (settled_turns run (earlier ++ debt ∷ []) debts rests (settled_tail line horizon earlier debt debts s)),
   )
 
-  -- settled debts in the turns of runs
+  -- likewise for the turns of all remaining runs
   settled_runs : (b : ℕ) (rest : List Run) (debts : List Debt) → AreLeft line b rest
       → Settled line horizon [] debts → AfterRuns line horizon rest (map (shown b) debts) debts
   settled_runs b [] debts left s = shown_last line horizon b [] debts (none_left line b left) s
@@ -589,7 +588,7 @@ module _ (line : Line) (horizon : ℕ) (runs : List Run) (are : AreRestRuns line
         settled_runs (run.start + 1) rest debts (others_left line b run rest left) s,
       )
 
--- the debts are paid run by run
+-- debts of the definition are those that are paid run by run
 to_runs : (line : Line) (horizon : ℕ) (runs : List Run) (debts : List Debt)
     → AreRestRuns line runs → AreDebts line horizon debts → ArePaidByRuns line horizon runs debts
 to_runs line horizon runs debts are a = record {
@@ -600,7 +599,7 @@ to_runs line horizon runs debts are a = record {
   paid = settled_runs line horizon runs are 0 runs debts (all_left line runs are) (settled line horizon debts a);
 }
 
--- the debts that the rest runs pay in order of time are those that are settled one by one
+-- debts paid run by run are exactly the debts of the definition
 pub paid_by_turns : (line : Line) (horizon : ℕ) (runs : List Run) (debts : List Debt)
     → AreRestRuns line runs → (ArePaidByRuns line horizon runs debts ↔ AreDebts line horizon debts)
 paid_by_turns line horizon runs debts are = (from_runs line horizon runs debts are, to_runs line horizon runs debts are)

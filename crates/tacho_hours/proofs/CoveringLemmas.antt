@@ -1,4 +1,4 @@
--- Each minute at rest lies in a rest run (specs/Runs).
+-- Each minute at rest is in a rest run (specs/Runs).
 use Rattle.std.proofs.Common.{◌≡◌, ◌≢◌, ℕ, ◌+◌, ◌-◌, ◌<◌, ◌≤◌, ◌⊎◌, inl, inr, zero}
 use Rattle.std.proofs.Common.{suc, refl, subst, arith}
 use Rattle.std.proofs.lemmas.Bool.{cases_lt}
@@ -9,21 +9,21 @@ use Rattle.tacho_hours.specs.declared.run.TheConstants.{FAR}
 use Rattle.tacho_hours.specs.Line.{Line}
 use Rattle.tacho_hours.specs.Runs.{IsRestRun}
 
--- an activity is rest, or another
+-- each activity is rest or isn't
 pub rest_or : (a : Activity) → (a ≡ Rest) ⊎ (a ≢ Rest)
 rest_or Rest = inl refl
 rest_or Available = inr (λ e. cc)
 rest_or Work = inr (λ e. cc)
 rest_or Drive = inr (λ e. cc)
 
--- at rest from a minute on to another, and not before
+-- a minute from which the line is at rest up to m, and before which it isn't
 record StartsBy (line : Line) (m : ℕ) : Type 0 where
   pub start : ℕ
   pub below : start ≤ m
   pub rest : (k : ℕ) → start ≤ k → k ≤ m → line k ≡ Rest
   pub from : (start ≡ 0) ⊎ ((k : ℕ) → k + 1 ≡ start → line k ≢ Rest)
 
--- a minute at rest is behind such a start
+-- each minute at rest has such a start
 starts_by : (line : Line) (m : ℕ) → line m ≡ Rest → StartsBy line m
 starts_by line zero here = record {
   start = 0;
@@ -52,14 +52,14 @@ starts_by line (suc m) here = elim (rest_or (line m)) [
   }
 ]
 
--- at rest from a minute to before another, and not there
+-- a minute up to which the line is at rest from p on, and at which it isn't
 pub record EndsBehind (line : Line) (p : ℕ) : Type 0 where
   pub past : ℕ
   pub above : p ≤ past
   pub rest : (k : ℕ) → p ≤ k → k < past → line k ≡ Rest
   pub until : (past ≡ FAR) ⊎ (line past ≢ Rest)
 
--- each minute is before such an end
+-- each minute has such an end
 pub ends_behind : (line : Line) (n p : ℕ) → p + n ≡ FAR → EndsBehind line p
 ends_behind line zero p e =
     record { past = p; above = omega arith; rest = λ k above below. absurd (omega arith); until = inl (omega arith) }
@@ -79,7 +79,7 @@ ends_behind line (suc n) p e = elim (rest_or (line p)) [
   | inr busy ↦ record { past = p; above = omega arith; rest = λ k above below. absurd (omega arith); until = inr busy }
 ]
 
--- a rest run that has a minute
+-- a rest run that contains minute m
 pub record Covers (line : Line) (m : ℕ) : Type 0 where
   pub run : Run
   pub rests : IsRestRun line run

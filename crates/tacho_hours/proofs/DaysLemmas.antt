@@ -1,4 +1,4 @@
--- A day's rest is told by the rests of three hours (`laws::rest_by_parts`).
+-- Whether a day's rest is regular or reduced can be decided from the rests of three hours or more (`laws::rest_by_parts`).
 use Rattle.std.proofs.Common.{inl, inr, List}
 use Rattle.std.specs.Prelude.{◌↔◌}
 use Rattle.tacho_hours.specs.declared.run.Run.{Run}
@@ -7,7 +7,7 @@ use Rattle.tacho_hours.specs.Runs.{AreRestsOf}
 use Rattle.tacho_hours.specs.Line.{Line}
 use Rattle.tacho_hours.specs.Days.{IsDuty, HasRegularRest, HasReducedRest, IsRegular, IsReduced}
 
--- a day's rest is regular by the rests of three hours where it is so by the line
+-- a day's rest is regular by these rests iff it is regular by the line
 pub regular_by_parts : (line : Line) (parts : List Run) (day : DutyDay)
     → AreRestsOf line 180 parts → HasRegularRest parts day ↔ IsRegular line day
 regular_by_parts line parts day are = (
@@ -21,7 +21,7 @@ regular_by_parts line parts day are = (
   ],
 )
 
--- and so for a reduced rest of a duty day
+-- likewise for a reduced rest of a duty day
 pub reduced_by_parts : (line : Line) (parts : List Run) (day : DutyDay)
     → AreRestsOf line 180 parts → IsDuty line day → HasReducedRest parts day ↔ IsReduced line day
 reduced_by_parts line parts day are duty =

@@ -1,4 +1,4 @@
--- There is one list of debts (`laws::one_list_of_debts`), and so one of the breaches of the rules on weekly rests
+-- A line has one list of debts (`laws::one_list_of_debts`), and so one list of breaches of the rules on weekly rests
 -- (`laws::one_list_of_rest_breaches`).
 use Rattle.std.proofs.Common.{◌≡◌, ℕ, suc, ◌+◌, ◌-◌, ◌<◌, ◌≤◌, inl, inr, Option, None, Some}
 use Rattle.std.proofs.Common.{List, [], ◌∷◌, ◌++◌, refl, sym, ap, subst, ◌∙◌, arith, take, min}
@@ -19,7 +19,7 @@ use Rattle.tacho_hours.specs.Order.{AreBreaches}
 use Rattle.tacho_hours.proofs.ExactlyLemmas.{contains_head, contains_tail, contains_cases, head_first, tail_order}
 use Rattle.tacho_hours.proofs.OrderLemmas.{one_breaches}
 
--- debts that agree in all but who pays them
+-- debts that are equal except for who pays them
 pub record Alike (a b : Debt) : Type 0 where
   pub week : a.week ≡ b.week
   pub amount : a.amount ≡ b.amount
@@ -28,7 +28,7 @@ pub record Alike (a b : Debt) : Type 0 where
 alike_back : (a b : Debt) → Alike a b → Alike b a
 alike_back a b e = record { week = sym e.week; amount = sym e.amount; deadline = sym e.deadline }
 
--- a rest run that starts earlier has ended before
+-- a rest run that starts earlier ends before the other starts
 pub separate : (line : Line) (a b : Run) → IsRestRun line a → IsRestRun line b → a.start < b.start → Before a b
 separate line a b r s earlier = elim (cases_lt a.past b.start) [
   | inl before ↦ before
@@ -38,7 +38,7 @@ separate line a b r s earlier = elim (cases_lt a.past b.start) [
   ]
 ]
 
--- who can pay a debt can pay one that is alike
+-- a run that can pay a debt can also pay one that is alike
 pub can_alike : (line : Line) (horizon : ℕ) (earlier : List Debt) (a b : Debt) (run : Run)
     → Alike a b → CanPay line horizon earlier a run → CanPay line horizon earlier b run
 can_alike line horizon earlier a b run e c = record {
@@ -57,7 +57,7 @@ can_alike line horizon earlier a b run e c = record {
   };
 }
 
--- debts that are alike have one payer
+-- debts that are alike have the same payer
 same_payer : (line : Line) (horizon : ℕ) (earlier : List Debt) (a b : Debt) (p q : Option ℕ) → Alike a b
     → MatchOption p ((run : Run) → CanPay line horizon earlier a run → ⊥) (λ start. Pays line horizon earlier a start)
     → MatchOption q ((run : Run) → CanPay line horizon earlier b run → ⊥) (λ start. Pays line horizon earlier b start)
@@ -80,7 +80,7 @@ same_payer line horizon earlier a b (Some start) (Some other) e s t =
       ]
     ]
 
--- debts are settled, given those before them
+-- each debt is settled, given those before it
 pub Settled : Line → ℕ → List Debt → List Debt → Type 0
 Settled line horizon before debts =
     (i : ℕ) (debt : Debt) → slice_get debts i ≡ Some debt → IsSettled line horizon (before ++ take i debts) debt
@@ -101,15 +101,15 @@ settled_tail line horizon before x xs s i debt is =
 never_earlier_week : (a b : Debt) → EarlierWeek a b → EarlierWeek b a → ⊥
 never_earlier_week a b e f = omega arith
 
--- each debt of one list has one alike in the other
+-- each debt of one list has a debt alike in the other
 Matches : List Debt → List Debt → Type 0
 Matches debts others = (debt : Debt) → Contains debts debt → (other : Debt) × Contains others other × Alike debt other
 
--- debts with one week, amount, deadline and payer are one
+-- debts with the same week, amount, deadline and payer are equal
 same_debt : (a b : Debt) → Alike a b → a.paid_by ≡ b.paid_by → a ≡ b
 same_debt a b e p = rw (e.week, e.amount, e.deadline, p) refl
 
--- the first of two lists of debts are alike
+-- the first debts of two ordered lists that match are alike
 heads_alike : (x y : Debt) (xs ys : List Debt) → AllPairs EarlierWeek (x ∷ xs)
     → AllPairs EarlierWeek (y ∷ ys) → Matches (x ∷ xs) (y ∷ ys) → Matches (y ∷ ys) (x ∷ xs) → Alike x y
 unfolding Matches
@@ -128,7 +128,7 @@ heads_alike x y xs ys o p f g =
           ]
     ]
 
--- the others match
+-- the rest of the first list matches that of the second
 tails_match : (x y : Debt) (xs ys : List Debt) → AllPairs EarlierWeek (x ∷ xs)
     → Alike x y → Matches (x ∷ xs) (y ∷ ys) → Matches xs ys
 unfolding Matches
@@ -142,7 +142,7 @@ tails_match x y xs ys o e f debt in' =
       | inr later ↦ (m.0, later, m.2)
     ]
 
--- no debt matches where there is none
+-- a nonempty list doesn't match an empty one
 no_match : (x : Debt) (xs : List Debt) → Matches (x ∷ xs) [] → ⊥
 unfolding Matches
 no_match x xs f =
@@ -150,7 +150,7 @@ no_match x xs f =
     let k : m.1.0 < 0 = m.1.1 in
     omega arith
 
--- debts in order that match are settled by one list
+-- ordered lists that match, and are settled after the same debts, are equal
 one_after : (line : Line) (horizon : ℕ) (before debts others : List Debt) → AllPairs EarlierWeek debts
     → AllPairs EarlierWeek others → Matches debts others → Matches others debts
     → Settled line horizon before debts → Settled line horizon before others → debts ≡ others
@@ -197,7 +197,7 @@ one_debts line horizon debts others a b =
     (debts_match line horizon debts others a b) (debts_match line horizon others debts b a)
     (settled line horizon debts a) (settled line horizon others b)
 
--- and one list of breaches of the rules on weekly rests
+-- a line has one list of breaches of the rules on weekly rests
 pub one_rest_breaches : (line : Line) (base horizon : ℕ) (found others : List Breach) (debts debts' : List Debt)
     → AreRestBreaches line base horizon found debts → AreRestBreaches line base horizon others debts' → found ≡ others
 one_rest_breaches line base horizon found others debts debts' a b =

@@ -1,4 +1,4 @@
--- How many minutes are driving, minute by minute, and which is the k-th.
+-- Counting driving minutes, minute by minute, and finding the k-th.
 use Rattle.std.proofs.Common.{◌≡◌, ◌≢◌, ℕ, zero, suc, ◌+◌, ◌-◌, ◌<◌, ◌≤◌, inl, inr, List}
 use Rattle.std.proofs.Common.{[], ◌∷◌, refl, ap}
 use Rattle.std.proofs.Common.{◌∙◌, arith, true, false, add-one, add-suc, add-zero}
@@ -11,18 +11,18 @@ use Rattle.tacho_hours.specs.Line.{line_of, Joined}
 use Rattle.tacho_hours.specs.Driving.{driving, is_drive, IsDrivingMinute}
 use Rattle.tacho_hours.proofs.RunsLemmas.{joined_le, line_past}
 
--- the test of driving holds
+-- driving passes the test
 drives : (a : Activity) → a ≡ Drive → is_drive a ≡ true
 drives a e = ap is_drive e
 
--- the test of driving fails
+-- other activities fail the test
 idle : (a : Activity) → a ≢ Drive → is_drive a ≡ false
 idle Drive n = absurd (n refl)
 idle Rest n = refl
 idle Available n = refl
 idle Work n = refl
 
--- one more minute
+-- a driving minute adds one
 pub driving_next : (line : ℕ → Activity) (from m : ℕ) → from ≤ m
     → line m ≡ Drive → driving line from (m + 1) ≡ driving line from m + 1
 unfolding driving
@@ -49,7 +49,7 @@ driving_mono line from m zero = rw add-zero (omega arith)
 driving_mono line from m (suc n) =
     rw add-suc (let e : driving line from m ≤ driving line from (m + n) = driving_mono line from m n in omega arith)
 
--- n more minutes, all driving, or none
+-- n more minutes that are all driving add n
 pub driving_run : (line : ℕ → Activity) (from m n : ℕ) → from ≤ m
     → ((i : ℕ) → m ≤ i → i < m + n → line i ≡ Drive) → driving line from (m + n) ≡ driving line from m + n
 driving_run line from m zero above h = rw (add-zero, add-zero) refl
@@ -61,7 +61,7 @@ driving_run line from m (suc n) above h =
     let g : m + suc n ≡ (m + n) + 1 = omega arith in
     rw g (omega arith)
 
--- n more minutes of which none is driving
+-- n more minutes without driving add nothing
 pub driving_rest : (line : ℕ → Activity) (from m n : ℕ)
     → ((i : ℕ) → m ≤ i → i < m + n → line i ≢ Drive) → driving line from (m + n) ≡ driving line from m
 driving_rest line from m zero h = rw add-zero refl
@@ -73,21 +73,21 @@ driving_rest line from m (suc n) h =
     let g : m + suc n ≡ (m + n) + 1 = omega arith in
     rw g (omega arith)
 
--- the same between two minutes
+-- likewise between two minutes: all are driving
 pub driving_all : (line : ℕ → Activity) (from m n : ℕ) → from ≤ m → m ≤ n
     → ((i : ℕ) → m ≤ i → i < n → line i ≡ Drive) → driving line from n ≡ driving line from m + (n - m)
 driving_all line from m n above le h =
     let g : m + (n - m) ≡ n = omega arith in
     rw g at (driving_run line from m (n - m) above (λ i a b. h i a (omega arith)))
 
--- none between two minutes
+-- likewise between two minutes: none is driving
 pub driving_none : (line : ℕ → Activity) (from m n : ℕ) → m ≤ n
     → ((i : ℕ) → m ≤ i → i < n → line i ≢ Drive) → driving line from n ≡ driving line from m
 driving_none line from m n le h =
     let g : m + (n - m) ≡ n = omega arith in
     rw g at (driving_rest line from m (n - m) (λ i a b. h i a (omega arith)))
 
--- there is one k-th driving minute
+-- there is only one k-th driving minute
 pub driving_minute_only : (line : ℕ → Activity) (from to k m n : ℕ)
     → IsDrivingMinute line from to k m → IsDrivingMinute line from to k n → m ≡ n
 driving_minute_only line from to k m n a b =
@@ -106,13 +106,13 @@ driving_minute_only line from to k m n a b =
       | inr ge ↦ elim (cases_lt n m) [ inl lt ↦ absurd (one n m b a lt) | inr le ↦ omega arith ]
     ]
 
--- a count is no more than the minutes up to its end
+-- a count is at most the number of minutes up to its end
 pub driving_le : (line : ℕ → Activity) (from m : ℕ) → driving line from m ≤ m
 unfolding driving
 driving_le line from zero = omega arith
 driving_le line from (suc m) = let e : driving line from m ≤ m = driving_le line from m in grind (arith, nat_tests)
 
--- where there is a k-th driving minute there are k
+-- if there is a k-th driving minute, there are at least k
 pub driving_reaches : (line : ℕ → Activity) (from to k m : ℕ)
     → IsDrivingMinute line from to k m → k ≤ driving line from to
 driving_reaches line from to k m a =
@@ -123,7 +123,7 @@ driving_reaches line from to k m a =
     rw g at (driving_mono line from (m + 1) (to - (m + 1))) in
     omega arith
 
--- behind the spans the line is at rest
+-- after the spans, the line is at rest
 pub line_behind : (spans : List Span) (base past m : ℕ) → Joined spans base past → past ≤ m → line_of spans m ≡ Rest
 line_behind [] base past m j late = refl
 line_behind (s ∷ spans) base past m j late =

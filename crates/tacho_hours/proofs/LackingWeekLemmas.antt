@@ -1,4 +1,4 @@
--- Weeks one after the other, and the breaches of those up to which no choice of a week for each weekly rest serves.
+-- Going over the weeks in order, and the breaches for weeks up to which no choice of a week for each weekly rest is valid.
 use Rattle.std.proofs.Common.{◌≡◌, ℕ, ◌+◌, ◌<◌, ◌≤◌, List, [], ◌∷◌, ◌++◌, sym, subst, ◌∙◌, arith}
 use Rattle.tacho_hours.specs.declared.breach.Breach.{Breach}
 use Rattle.tacho_hours.specs.declared.breach.Kind.TheVariants.{B9}
@@ -13,7 +13,7 @@ use Rattle.tacho_hours.proofs.AnewLemmas.{starts_late, ended_by}
 use Rattle.tacho_hours.proofs.OrderLemmas.{same_breach}
 use Rattle.tacho_hours.proofs.ExactlyLemmas.{OfBelow, exactly_as, below_none, below_skip, below_add}
 
--- what serves up to a week serves up to each before it
+-- a choice that is valid up to a week is valid up to each earlier week
 pub serves_less : (line : Line) (a u v : ℕ) → v ≤ u → CanServe line a u → CanServe line a v
 serves_less line a u v le h = record {
   week_of = h.week_of;
@@ -21,7 +21,7 @@ serves_less line a u v le h = record {
   each = λ w above below. h.each w above (omega arith);
 }
 
--- the breach of a week and the next, up to which no choice serves
+-- the breach for weeks w and w + 1, where the rule fails at w + 1
 pub record IsLackingOf (line : Line) (horizon first w : ℕ) (breach : Breach) : Type 0 where
   pub kind_is : breach.kind ≡ B9
   pub fails : Fails (CanServe line) (EndedBy horizon) first (w + 1)
@@ -29,30 +29,30 @@ pub record IsLackingOf (line : Line) (horizon first w : ℕ) (breach : Breach) :
   pub since : breach.since ≡ week_start w
   pub amount : breach.amount ≡ 0
 
--- a week has one such breach at most
+-- there is at most one such breach for a week
 only : (line : Line) (horizon first w : ℕ) (x y : Breach)
     → IsLackingOf line horizon first w x → IsLackingOf line horizon first w y → x ≡ y
 only line horizon first w x y p q =
     same_breach x y (p.kind_is ∙ sym q.kind_is) (p.moment ∙ sym q.moment)
     (p.since ∙ sym q.since) (p.amount ∙ sym q.amount)
 
--- such a breach of a week from one number up to another
+-- such a breach for a week from `first` to below n
 abbrev pub LackingBelow : Line → ℕ → ℕ → ℕ → Breach → Type 0
 LackingBelow line horizon first n breach = OfBelow (IsLackingOf line horizon first) first n breach
 
--- before the first week
+-- no breach is found before the first week
 pub lacking_none : (line : Line) (horizon first : ℕ) → AreCollected (LackingBelow line horizon first first) []
 lacking_none line horizon first = below_none (IsLackingOf line horizon first) Apart first
 
--- the step from the weeks below n to one more
+-- the step from the weeks below n to week n
 module _ (line : Line) (horizon first n : ℕ) (some : first ≤ n) (found : List Breach)
     (r : AreCollected (LackingBelow line horizon first n) found) where
-  -- the week has no such breach
+  -- no such breach for week n
   pub lacking_skip : ((breach : Breach) → IsLackingOf line horizon first n breach → ⊥)
       → AreCollected (LackingBelow line horizon first (n + 1)) found
   lacking_skip never = below_skip (IsLackingOf line horizon first) Apart first n found some r never
 
-  -- the week has one
+  -- a breach for week n
   pub lacking_add : (new : Breach) → IsLackingOf line horizon first n new
       → AreCollected (LackingBelow line horizon first (n + 1)) (found ++ new ∷ [])
   lacking_add new is = below_add (IsLackingOf line horizon first) Apart first n found new some r is
@@ -63,7 +63,7 @@ module _ (line : Line) (horizon first n : ℕ) (some : first ≤ n) (found : Lis
       let d : new.since ≡ week_start n = is.since in
       omega arith))
 
--- where the week behind the last one has not ended, these are all
+-- if week n + 1 hasn't ended by the horizon, these are all breaches
 pub lacking_all : (line : Line) (base horizon first n : ℕ)
     → base ≡ week_start first → horizon < week_start (n + 2) → (found : List Breach)
     → AreCollected (LackingBelow line horizon first n) found → AreCollected (IsLacking line base horizon) found

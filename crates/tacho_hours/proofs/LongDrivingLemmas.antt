@@ -1,4 +1,4 @@
--- A range has one breach of too much driving at the most, and has one where more is driven than allowed.
+-- A range has at most one breach of too much driving, and has one only if more is driven than allowed.
 use Rattle.std.proofs.Common.{◌≡◌, ℕ, ◌+◌, ◌<◌, ◌≤◌, sym, ◌∙◌, arith}
 use Rattle.tacho_hours.specs.declared.breach.Breach.{Breach}
 use Rattle.tacho_hours.specs.declared.breach.Kind.{Kind}
@@ -8,7 +8,7 @@ use Rattle.tacho_hours.proofs.DrivingLemmas.{driving_minute_only, driving_reache
 use Rattle.tacho_hours.proofs.OrderLemmas.{same_breach}
 use Rattle.tacho_hours.specs.Breaches.{IsTooMuch}
 
--- from one minute up to another there is one breach of a kind at most
+-- a range has at most one breach of a kind
 pub too_much_only : (line : Line) (kind : Kind) (limit from to : ℕ) (a b : Breach)
     → IsTooMuch line kind limit from to a → IsTooMuch line kind limit from to b → a ≡ b
 too_much_only line kind limit from to a b p q = same_breach a b
@@ -20,14 +20,14 @@ too_much_only line kind limit from to a b p q = same_breach a b
     let f : b.amount + limit ≡ driving line from to = q.over.amount in
     omega arith)
 
--- with no more driving than allowed there is none
+-- if no more is driven than allowed, there is none
 pub too_little : (line : Line) (kind : Kind) (limit from to : ℕ) (breach : Breach)
     → driving line from to ≤ limit → IsTooMuch line kind limit from to breach → ⊥
 too_little line kind limit from to breach few p =
     let m : limit + 1 ≤ driving line from to = driving_reaches line from to (limit + 1) breach.moment p.over.moment in
     omega arith
 
--- with such a breach there is more
+-- if there is such a breach, more is driven than allowed
 pub too_much_reaches : (line : Line) (kind : Kind) (limit from to : ℕ) (breach : Breach)
     → IsTooMuch line kind limit from to breach → limit < driving line from to
 too_much_reaches line kind limit from to breach p =

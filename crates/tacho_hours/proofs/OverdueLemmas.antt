@@ -1,4 +1,4 @@
--- Debts one after the other, and the breaches of those that are overdue.
+-- Going over the debts in order, and the breaches for those that are overdue.
 use Rattle.std.proofs.Common.{◌≡◌, ℕ, ◌<◌, ◌≤◌, List, [], ◌∷◌, ◌++◌, None, sym, ◌∙◌, arith}
 use Rattle.std.specs.List.{Contains}
 use Rattle.tacho_hours.specs.declared.breach.Breach.{Breach}
@@ -12,7 +12,7 @@ use Rattle.tacho_hours.specs.Breaches.{IsOverdue}
 use Rattle.tacho_hours.proofs.OrderLemmas.{same_breach}
 use Rattle.tacho_hours.proofs.ExactlyLemmas.{OfSeen, seen_none, seen_skip, seen_add, exactly_as}
 
--- the breach of one debt
+-- the breach for a debt
 pub record IsBreachOf (horizon : ℕ) (debt : Debt) (breach : Breach) : Type 0 where
   pub kind : breach.kind ≡ B10
   pub unpaid : debt.paid_by ≡ None
@@ -21,22 +21,22 @@ pub record IsBreachOf (horizon : ℕ) (debt : Debt) (breach : Breach) : Type 0 w
   pub since : breach.since ≡ week_start debt.week
   pub amount : breach.amount ≡ debt.amount
 
--- what was found of the debts seen
+-- the breaches found for the debts seen
 abbrev pub OverdueFound : ℕ → List Debt → List Breach → Type 0
 OverdueFound horizon seen found = AreCollected (OfSeen (IsBreachOf horizon) seen) found
 
--- before the first debt
+-- nothing is found before the first debt
 pub overdue_none : (horizon : ℕ) → OverdueFound horizon [] []
 overdue_none horizon = seen_none (IsBreachOf horizon) Apart
 
 module _ (horizon : ℕ) (seen : List Debt) (debt : Debt)
     (found : List Breach) (r : OverdueFound horizon seen found) where
-  -- a debt that isn't due
+  -- a debt that is paid, or whose deadline hasn't been reached
   pub overdue_skip : (debt.paid_by ≡ None → debt.deadline ≤ horizon → ⊥)
       → OverdueFound horizon (seen ++ debt ∷ []) found
   overdue_skip none = seen_skip (IsBreachOf horizon) Apart seen found debt r (λ breach h. none h.unpaid h.due)
 
-  -- a debt that is due
+  -- an unpaid debt whose deadline has been reached
   pub overdue_add : ((other : Debt) → Contains seen other → EarlierWeek other debt) → (breach : Breach)
       → IsBreachOf horizon debt breach → OverdueFound horizon (seen ++ debt ∷ []) (found ++ breach ∷ [])
   overdue_add earlier breach is = seen_add (IsBreachOf horizon) Apart seen found debt breach r is
@@ -50,7 +50,7 @@ module _ (horizon : ℕ) (seen : List Debt) (debt : Debt)
       let same : b.since ≡ breach.since = agree.since in
       omega arith))
 
--- of all debts
+-- after all debts, these are all breaches for overdue debts
 pub overdue_all : (horizon : ℕ) (debts : List Debt) (found : List Breach)
     → OverdueFound horizon debts found → AreCollected (IsOverdue horizon debts) found
 overdue_all horizon debts found =

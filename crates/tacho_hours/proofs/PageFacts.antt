@@ -1,4 +1,4 @@
--- What docs/RULES.md says of its examples, held against the definitions: with another value here this file is refused.
+-- What docs/RULES.md says about its examples, proved from the definitions. With another value in an example, this file is rejected.
 use Rattle.std.proofs.Common.{◌≡◌, ℕ, ◌+◌, ◌-◌, ◌*◌, ◌≤◌, ◌⊎◌, inl, inr, zero}
 use Rattle.std.proofs.Common.{suc, [], ◌∷◌, Some, refl, ap, subst, arith}
 use Rattle.std.specs.List.{Contains}
@@ -14,7 +14,7 @@ use Rattle.tacho_hours.specs.Weeks.{week_start, IsInWeek, Touches}
 use Rattle.tacho_hours.specs.Debts.{minutes_before, share, paid_from}
 use Rattle.tacho_hours.specs.Order.{place_of_kind, Earlier}
 
--- a minute of a day of March 2024, from Monday the 4th on; April goes on with the 32nd
+-- minute n of a day of March 2024, counted from Monday the 4th; day 32 is 1 April
 abbrev pub at : ℕ → ℕ → ℕ
 at day minute = 28491840 + 1440 * (day - 4) + minute
 
@@ -22,7 +22,7 @@ at day minute = 28491840 + 1440 * (day - 4) + minute
 abbrev pub rest_between : ℕ → ℕ → Run
 rest_between start past = record { start = start; past = past }
 
--- who is in a list of one, and of three
+-- the member of a list of one; below, those of a list of three
 pub one_member : {X : Type 0} (a x : X) → Contains (a ∷ []) x → a ≡ x
 one_member a x (zero, within, e) = e
 one_member a x (suc k, within, e) = absurd (omega arith)
@@ -39,20 +39,20 @@ three_members a b c x (suc (suc (suc k)), within, e) = absurd (omega arith)
 pub base_starts_its_week : week_start 2826 ≡ at 4 0
 base_starts_its_week = refl
 
--- a week goes to Sunday 24:00
+-- a week ends on Sunday at 24:00
 pub sunday_is_in_the_week : IsInWeek 2826 (at 10 1439)
 sunday_is_in_the_week = (omega arith, omega arith)
 
 pub monday_is_in_the_next : ¬ (IsInWeek 2826 (at 11 0))
 monday_is_in_the_next (from, before) = omega arith
 
--- what that week owes has to be paid by 1 April 00:00
+-- a debt of that week has to be paid by 1 April 00:00
 pub deadline_is_in_april : week_start (2826 + 4) ≡ at 32 0
 deadline_is_in_april = refl
 
 -- ---- breaks
 
--- the rest before 06:00
+-- the rest that ends at 06:00
 abbrev pub night : Run
 night = rest_between 0 (at 4 360)
 
@@ -72,7 +72,7 @@ fifteen_then_thirty = inr (
   },
 )
 
--- 30 minutes from 08:00 and then 15 from 11:00 are none: the first has no part before it
+-- 30 minutes from 08:00 and then 15 from 11:00 are no break: the 30 minutes have no first part before them
 pub thirty_at_first : ¬ (Completes
     (night ∷ rest_between (at 4 480) (at 4 510) ∷ rest_between (at 4 660) (at 4 675) ∷ [])
     (night ∷ []) (rest_between (at 4 480) (at 4 510)))
@@ -90,7 +90,7 @@ thirty_at_first (inr (enough, first)) =
       | inr (inr is) ↦ let e : at 4 675 ≡ first.part.past = ap (λ (run : Run). run.past) is in omega arith
     ]
 
--- and the second is too short
+-- and the 15 minutes are too short
 pub then_fifteen : ¬ (Completes (night ∷ rest_between (at 4 480) (at 4 510) ∷ rest_between (at 4 660) (at 4 675) ∷ [])
     (night ∷ []) (rest_between (at 4 660) (at 4 675)))
 then_fifteen (inl long) = omega arith
@@ -98,23 +98,23 @@ then_fifteen (inr (enough, first)) = omega arith
 
 -- ---- days
 
--- work from 06:00 to a minute of the 4th, and on from another of the 5th
+-- work from 06:00 to minute `end` of the 4th, and work again from minute `next` of the 5th
 abbrev pub day_to : ℕ → ℕ → DutyDay
 day_to end next = record { start = at 4 360; past = at 4 end; rest = rest_between (at 4 end) (at 5 next) }
 
--- to 19:00, and on at 07:00: a portion of 660
+-- work until 19:00, and again from 07:00: a portion of 660 minutes
 pub portion_from_19 : HasPortion (day_to 1140 420) 660 × ¬ (HasPortion (day_to 1140 420) 661)
 portion_from_19 = (omega arith, λ more. omega arith)
 
--- so a regular rest
+-- this is a regular rest
 pub regular_from_19 : HasRegularRest [] (day_to 1140 420)
 regular_from_19 = inl (omega arith)
 
--- to 21:00: a portion of 540
+-- work until 21:00: a portion of 540 minutes
 pub portion_from_21 : HasPortion (day_to 1260 420) 540 × ¬ (HasPortion (day_to 1260 420) 541)
 portion_from_21 = (omega arith, λ more. omega arith)
 
--- so a reduced rest
+-- this is a reduced rest
 pub reduced_from_21 : HasReducedRest [] (day_to 1260 420)
 reduced_from_21 = record {
   portion = omega arith;
@@ -125,18 +125,18 @@ reduced_from_21 = record {
   short = omega arith;
 }
 
--- and with rest from 12:00 to 15:00 a regular one again
+-- with a rest from 12:00 to 15:00, it is a regular rest
 pub regular_in_two : HasRegularRest (rest_between (at 4 720) (at 4 900) ∷ []) (day_to 1260 420)
 regular_in_two =
     inr (omega arith, (rest_between (at 4 720) (at 4 900), (0, omega arith, refl), omega arith, omega arith))
 
--- ---- weekly rests: the month of the page
+-- ---- weekly rests: the month in docs/RULES.md
 
 -- the last run, from 31 March 17:00 on, has 420 minutes before the horizon
 pub last_run_has_420 : minutes_before (at 32 0) (rest_between (at 31 1020) FAR) ≡ 420
 last_run_has_420 = refl
 
--- and counts as a regular weekly rest
+-- it counts as a regular weekly rest
 pub last_run_is_long : 2700 ≤ minutes_of (rest_between (at 31 1020) FAR)
 last_run_is_long = omega arith
 
@@ -153,25 +153,25 @@ payer_pays_900 = refl
 pub payer_pays_900_of_all : paid_from payer (first_debt ∷ []) ≡ 900
 payer_pays_900_of_all = refl
 
--- another rest pays nothing of it
+-- another rest pays nothing of this debt
 pub other_pays_nothing : share (rest_between (at 26 720) (at 27 960)) first_debt ≡ 0
 other_pays_nothing = refl
 
--- the payer keeps 2700, and its room is the debt exactly
+-- the payer keeps 2700 minutes, and has room for exactly this debt
 pub room_is_the_debt : 2700 + first_debt.amount ≡ minutes_before first_debt.deadline payer
 room_is_the_debt = refl
 
--- it has minutes in the second week and in the third, and none in the fourth
+-- the payer has minutes in the second and third weeks, and none in the fourth
 pub payer_touches_two_weeks : Touches payer 2827 × Touches payer 2828 × ¬ (Touches payer 2829)
 payer_touches_two_weeks = ((omega arith, omega arith), (omega arith, omega arith), λ (from, to). omega arith)
 
--- ---- the list
+-- ---- the order of breaches
 
--- B10 is the tenth kind, behind B9
+-- B10 is the tenth kind, after B9
 pub kinds_have_places : (place_of_kind B9 ≡ 9) × (place_of_kind B10 ≡ 10)
 kinds_have_places = (refl, refl)
 
--- so at one moment B9 stands before B10
+-- so B9 comes before B10 at the same moment
 pub pairs_before_debts : Earlier (record { kind = B9; moment = at 32 0; since = at 18 0; amount = 0 })
     (record { kind = B10; moment = at 32 0; since = at 4 0; amount = 1260 })
 pairs_before_debts = inr (refl, inl (omega arith))

@@ -1,5 +1,4 @@
--- Spans one after the other give the maximal runs of rest, and there is one list of them
--- (`laws::one_list_of_rest_runs`).
+-- Rest runs are found by going over spans in order, and there is one list of them (`laws::one_list_of_rest_runs`).
 use Rattle.std.proofs.Common.{◌≡◌, ◌≢◌, ℕ, ◌+◌, ◌-◌, ◌<◌, ◌≤◌, inl, inr, List, [], ◌∷◌}
 use Rattle.std.proofs.Common.{◌++◌, refl, sym, ap, subst, ◌∙◌, arith}
 use Rattle.std.specs.List.{All, AllPairs, Contains}
@@ -23,18 +22,18 @@ abbrev pub place_of : List Span → ℕ → ℕ
 place_of [] past = past
 place_of (s ∷ spans) past = s.start
 
--- the run between two minutes
+-- a run with this start and this end
 abbrev pub run_of : ℕ → ℕ → Run
 run_of start past = record { start = start; past = past }
 
--- a run is known by its members
+-- a run is determined by its start and its end
 same_run : (r : Run) (start past : ℕ) → r.start ≡ start → r.past ≡ past → r ≡ run_of start past
 same_run r start past e f =
     let one : ℕ → Run = λ x. record { start = x; past = r.past } in
     let two : ℕ → Run = λ x. record { start = start; past = x } in
     ap one e ∙ ap two f
 
--- at rest up to p, with no run ended
+-- at rest up to p, and no run has ended
 pub reached_none : (line : ℕ → Activity) (p : ℕ) → ((m : ℕ) → m < p → line m ≡ Rest) → Reached line [] 0 p
 reached_none line p h = record {
   each = All-nil (λ run. IsRestRun line run);
@@ -46,7 +45,7 @@ reached_none line p h = record {
   below = omega arith;
 }
 
--- more rest
+-- more rest: the current run continues
 pub reached_rest : (line : ℕ → Activity) (runs : List Run) (start p q : ℕ) → Reached line runs start p
     → p < q → ((m : ℕ) → p ≤ m → m < q → line m ≡ Rest) → Reached line runs start q
 reached_rest line runs start p q r more at = record {
@@ -60,7 +59,7 @@ reached_rest line runs start p q r more at = record {
   below = let b : start ≤ p = r.below in omega arith;
 }
 
--- a run that starts in the rest from start on starts there
+-- a run that starts at `start` or later, while the line is at rest, starts at `start`
 starts : (line : ℕ → Activity) (start p : ℕ) (run : Run) → ((m : ℕ) → start ≤ m → m < p → line m ≡ Rest)
     → IsRestRun line run → start ≤ run.start → run.start < p → run.start ≡ start
 starts line start p run resting is above below = elim (cases_lt start run.start) [
@@ -87,7 +86,7 @@ ends line start p run resting is same below far busy =
       ]
     ]
 
--- no rest, where there was none before
+-- a minute without rest, where there was no rest before
 pub reached_busy : (line : ℕ → Activity) (runs : List Run) (start p q : ℕ) → Reached line runs start p
     → start ≡ p → p < q → ((m : ℕ) → p ≤ m → m < q → line m ≢ Rest) → Reached line runs q q
 reached_busy line runs start p q r none more at = record {
@@ -104,7 +103,7 @@ reached_busy line runs start p q r none more at = record {
   below = omega arith;
 }
 
--- no rest, where a run ends
+-- a minute without rest, at which a run ends
 pub reached_gap : (line : ℕ → Activity) (runs : List Run) (start p q : ℕ) → Reached line runs start p → start < p
     → p < q → p < FAR → ((m : ℕ) → p ≤ m → m < q → line m ≢ Rest) → Reached line (runs ++ run_of start p ∷ []) q q
 reached_gap line runs start p q r some more far at =
@@ -133,7 +132,7 @@ reached_gap line runs start p q r some more far at =
       below = omega arith;
     }
 
--- the last run has no end
+-- the end of the line: the last run has no end
 pub reached_end : (line : ℕ → Activity) (runs : List Run) (start past : ℕ) → Reached line runs start past
     → past < FAR → ((m : ℕ) → past ≤ m → line m ≡ Rest) → AreRestRuns line (runs ++ run_of start FAR ∷ [])
 reached_end line runs start past r far after =
@@ -163,7 +162,7 @@ reached_end line runs start past r far after =
       in_order = all_pairs_push Before runs run r.in_order r.ended;
     }
 
--- what the loop keeps, with these spans left
+-- what the loop keeps, with the spans `left` remaining
 pub record Running (spans left : List Span) (past : ℕ) (runs : List Run) (start : ℕ) : Type 0 where
   pub reached : Reached (line_of spans) runs start (place_of left past)
   pub joined : Joined left (place_of left past) past
@@ -177,26 +176,26 @@ line_before (s ∷ spans) base past m (e, some, rest) below =
     let late : m < s.start = omega arith in
     grind (arith, nat_tests)
 
--- the spans left start at the place
+-- the remaining spans start at this place
 pub place_is : (left : List Span) (p past : ℕ) → Joined left p past → place_of left past ≡ p
 place_is [] p past j = sym j
 place_is (s ∷ left) p past j = j.0
 
--- in the first span the line has its activity
+-- in the first span, the line has the span's activity
 pub line_within : (s : Span) (left : List Span) (m : ℕ) → s.start ≤ m
     → m < s.past → line_of (s ∷ left) m ≡ s.mark.activity
 line_within s left m above below = grind (arith, nat_tests)
 
--- behind the first span the others say
+-- after the first span, the line is that of the other spans
 pub line_past : (s : Span) (left : List Span) (m : ℕ) → s.past ≤ m → line_of (s ∷ left) m ≡ line_of left m
 line_past s left m above = grind (arith, nat_tests)
 
--- spans that follow one another end no sooner than they start
+-- spans that follow one another end no earlier than they start
 pub joined_le : (left : List Span) (p past : ℕ) → Joined left p past → p ≤ past
 joined_le [] p past j = omega arith
 joined_le (s ∷ left) p past (e, some, rest) = let h : s.past ≤ past = joined_le left s.past past rest in omega arith
 
--- before the first span
+-- the start of the loop
 pub running_none : (spans : List Span) (base past : ℕ) → Joined spans base past → Running spans spans past [] 0
 running_none spans base past j =
     let e : place_of spans past ≡ base = place_is spans base past j in
@@ -207,10 +206,10 @@ running_none spans base past j =
       ahead = λ m above. refl;
     }
 
--- the step, whatever the span's activity
+-- the step for a span, whatever its activity
 module _ (spans left : List Span) (s : Span) (past : ℕ) (runs : List Run)
     (start : ℕ) (r : Running spans (s ∷ left) past runs start) where
-  -- in the span the line has its activity
+  -- in the span, the line has the span's activity
   at : (m : ℕ) → s.start ≤ m → m < s.past → line_of spans m ≡ s.mark.activity
   at m above below = r.ahead m above ∙ line_within s left m above below
 
@@ -218,18 +217,18 @@ module _ (spans left : List Span) (s : Span) (past : ℕ) (runs : List Run)
   next : place_of left past ≡ s.past
   next = place_is left s.past past r.joined.2
 
-  -- the spans left follow one another
+  -- the remaining spans follow one another
   joined : Joined left (place_of left past) past
   joined = subst (λ (p : ℕ). Joined left p past) (sym next) r.joined.2
 
-  -- and say what the line does from there on
+  -- the remaining spans give the line from there on
   ahead : (m : ℕ) → place_of left past ≤ m → line_of spans m ≡ line_of left m
   ahead m above =
       let some : s.start < s.past = r.joined.1 in
       let e : place_of left past ≡ s.past = next in
       r.ahead m (omega arith) ∙ line_past s left m (omega arith)
 
-  -- a span of rest
+  -- the step for a span of rest
   pub running_rest : s.mark.activity ≡ Rest → Running spans left past runs start
   running_rest e = record {
     reached =
@@ -240,11 +239,11 @@ module _ (spans left : List Span) (s : Span) (past : ℕ) (runs : List Run)
     ahead = ahead;
   }
 
-  -- a span of something else
+  -- the minutes of a span that isn't rest aren't at rest
   busy : s.mark.activity ≢ Rest → (m : ℕ) → s.start ≤ m → m < s.past → line_of spans m ≢ Rest
   busy n m above below e = n (sym (at m above below) ∙ e)
 
-  -- a span of something else behind no rest
+  -- the step for a span that isn't rest, after a span that isn't rest
   pub running_busy : s.mark.activity ≢ Rest → s.start ≤ start → Running spans left past runs s.past
   running_busy n none = record {
     reached = subst (λ (q : ℕ). Reached (line_of spans) runs s.past q) (sym next)
@@ -254,7 +253,7 @@ module _ (spans left : List Span) (s : Span) (past : ℕ) (runs : List Run)
     ahead = ahead;
   }
 
-  -- a span of something else behind a rest
+  -- the step for a span that isn't rest, after rest
   pub running_gap : s.mark.activity ≢ Rest → start < s.start → past < FAR
       → Running spans left past (runs ++ run_of start s.start ∷ []) s.past
   running_gap n some far = record {
@@ -269,16 +268,16 @@ module _ (spans left : List Span) (s : Span) (past : ℕ) (runs : List Run)
     ahead = ahead;
   }
 
--- behind the last span
+-- after the last span
 pub running_end : (spans : List Span) (past : ℕ) (runs : List Run) (start : ℕ)
     → Running spans [] past runs start → past < FAR → AreRestRuns (line_of spans) (runs ++ run_of start FAR ∷ [])
 running_end spans past runs start r far = reached_end (line_of spans) runs start past r.reached far r.ahead
 
--- runs of some minutes are in one order
+-- runs that aren't empty can't be before each other
 pub one_way : (a b : Run) → a.start < a.past → b.start < b.past → Before a b → Before b a → ⊥
 one_way a b some some' before after = omega arith
 
--- runs in order are known by their members
+-- ordered runs are determined by their members
 pub same_runs : (xs ys : List Run) → All (λ (run : Run). run.start < run.past) xs
     → All (λ (run : Run). run.start < run.past) ys → AllPairs Before xs → AllPairs Before ys
     → ((run : Run) → Contains xs run → Contains ys run) → ((run : Run) → Contains ys run → Contains xs run) → xs ≡ ys
@@ -290,12 +289,12 @@ same_runs xs ys some some' order order' f g =
     xs ys (record { each = λ run. (λ h. h, λ h. h); in_order = order })
     (record { each = λ run. (g run, f run); in_order = order' })
 
--- the rest runs of a line
+-- a line has one list of rest runs
 pub one_rest_runs : (line : Line) (runs others : List Run)
     → AreRestRuns line runs → AreRestRuns line others → runs ≡ others
 one_rest_runs line = one_exactly (IsRestRun line) Before (λ a b p q. one_way a b p.some q.some)
 
--- they are runs in order
+-- rest runs are runs in order, none empty
 pub rest_runs_are : (line : Line) (runs : List Run) → AreRestRuns line runs → AreRuns runs
 rest_runs_are line runs are =
     record { some = λ k d within. (at_index (IsRestRun line) Before runs are k d within).some; in_order = are.in_order }

@@ -1,5 +1,5 @@
--- Trusted in part: The breaches of Regulation (EC) 561/2006, Articles 6, 7 and 8 (8(6) and 8(6b) as amended by (EU)
--- 2020/1054), one definition for each kind.
+-- Trusted in part: The breaches of Regulation (EC) 561/2006, Articles 6, 7 and 8 (8(6) and 8(6b) as amended by (EU) 2020/1054), one
+-- definition for each kind.
 use Rattle.std.specs.Prelude.{◌≡◌, ℕ, ◌+◌, ◌-◌, ◌<◌, ◌≤◌, List, Contains, min, None}
 use Rattle.tacho_hours.specs.declared.run.Run.{Run}
 use Rattle.tacho_hours.specs.Runs.{AreRestRuns, Before, AreNeighbours}
@@ -22,18 +22,17 @@ use Rattle.tacho_hours.specs.Limits.{driving_before_break, minutes_of_day, daily
 use Rattle.tacho_hours.specs.Limits.{driving_in_day, driving_in_extended_day, extended_days}
 use Rattle.tacho_hours.specs.Limits.{driving_in_week, driving_in_two_weeks, weekly_rest, six_days}
 
--- more driving than allowed from one minute up to another: the moment is the first driving minute above the limit
+-- more driving than the limit in a range: the moment is the first driving minute above the limit
 abbrev pub IsOver : Line → ℕ → ℕ → ℕ → Breach → Type 0
 IsOver line limit from to breach = IsExcess line limit from to breach.moment breach.amount
 
--- and so a breach of a kind, which is judged from the first of these minutes
+-- a breach of this kind for too much driving in a range, judged from the first minute of the range
 pub record IsTooMuch (line : Line) (kind : Kind) (limit from to : ℕ) (breach : Breach) : Type 0 where
   pub kind_is : breach.kind ≡ kind
   pub over : IsOver line limit from to breach
   pub since : breach.since ≡ from
 
--- Article 7: more than four and a half hours (270 minutes) of driving between
--- neighbouring complete breaks (Article 4(q))
+-- Article 7: more than four and a half hours (270 minutes) of driving between neighbouring complete breaks (Article 4(q))
 pub record IsB1 (line : Line) (breaks : List Run) (breach : Breach) : Type 0 where
   pub a : Run
   pub b : Run
@@ -44,7 +43,7 @@ pub record IsB1 (line : Line) (breaks : List Run) (breach : Breach) : Type 0 whe
   pub over : IsOver line driving_before_break a.past b.start breach
   pub since : IsDrivingMinute line a.past b.start 1 breach.since
 
--- Article 8(2): a daily rest with fewer than nine hours (540 minutes) within the 24 from the day's start
+-- Article 8(2): a daily rest with fewer than nine hours (540 minutes) within the 24 hours from the day's start
 pub record IsB2 (line : Line) (breach : Breach) : Type 0 where
   pub day : DutyDay
   pub duty : IsDuty line day
@@ -106,8 +105,7 @@ pub record IsB7 (line : Line) (breach : Breach) : Type 0 where
   pub over : IsOver line driving_in_two_weeks (week_start week) (week_start (week + 2)) breach
   pub since : breach.since ≡ week_start week
 
--- Article 8(6), second subparagraph: the next weekly rest starts later than six days
--- (8640 minutes) after the end of the last
+-- Article 8(6), second subparagraph: the next weekly rest starts later than six days (8640 minutes) after the end of the last one
 pub record IsB8 (line : Line) (breach : Breach) : Type 0 where
   pub a : Run
   pub b : Run
@@ -117,9 +115,8 @@ pub record IsB8 (line : Line) (breach : Breach) : Type 0 where
   pub late : 0 < breach.amount
   pub amount : breach.moment + breach.amount ≡ b.start
 
--- Articles 8(6), first subparagraph, and 8(9): from the week of the base on, and anew from each week at which the rule
--- failed, the least week up to which no choice of a week for each weekly rest serves; told of that week and the one
--- before it
+-- Articles 8(6), first subparagraph, and 8(9): from the week of the base on, and again from each week at which the rule failed, the first
+-- week up to which no choice of a week for each weekly rest is valid. The breach is for that week and the one before it.
 pub record IsB9 (line : Line) (base horizon : ℕ) (breach : Breach) : Type 0 where
   pub first : ℕ
   pub week : ℕ
@@ -129,7 +126,7 @@ pub record IsB9 (line : Line) (base horizon : ℕ) (breach : Breach) : Type 0 wh
   pub since : breach.since ≡ week_start week
   pub amount : breach.amount ≡ 0
 
--- Article 8(6b): a reduction that nothing compensates, and whose deadline has come
+-- Article 8(6b): a reduction that no rest compensates, and whose deadline has been reached
 pub record IsB10 (horizon : ℕ) (debts : List Debt) (breach : Breach) : Type 0 where
   pub debt : Debt
   pub owed : Contains debts debt
@@ -139,12 +136,12 @@ pub record IsB10 (horizon : ℕ) (debts : List Debt) (breach : Breach) : Type 0 
   pub since : breach.since ≡ week_start debt.week
   pub amount : breach.amount ≡ debt.amount
 
--- a breach of one group of kinds: those of breaks
+-- a breach of the rule on breaks
 abbrev pub IsBreakBreach : Line → List Run → Kind → Breach → Type 0
 IsBreakBreach line breaks B1 breach = IsB1 line breaks breach
 IsBreakBreach line breaks kind breach = ⊥
 
--- those of daily rests and of a day's driving
+-- a breach of the rules on daily rests and on a day's driving
 abbrev pub IsDayBreach : Line → Kind → Breach → Type 0
 IsDayBreach line B2 breach = IsB2 line breach
 IsDayBreach line B3 breach = IsB3 line breach
@@ -152,13 +149,13 @@ IsDayBreach line B4 breach = IsB4 line breach
 IsDayBreach line B5 breach = IsB5 line breach
 IsDayBreach line kind breach = ⊥
 
--- those of driving in a week and in two
+-- a breach of the rules on driving in one week and in two
 abbrev pub IsWeekBreach : Line → Kind → Breach → Type 0
 IsWeekBreach line B6 breach = IsB6 line breach
 IsWeekBreach line B7 breach = IsB7 line breach
 IsWeekBreach line kind breach = ⊥
 
--- those of weekly rests
+-- a breach of the rules on weekly rests
 abbrev pub IsRestBreach : Line → ℕ → ℕ → List Debt → Kind → Breach → Type 0
 IsRestBreach line base horizon debts B8 breach = IsB8 line breach
 IsRestBreach line base horizon debts B9 breach = IsB9 line base horizon breach
@@ -178,7 +175,7 @@ IsBreach line base horizon breaks debts B8 breach = IsB8 line breach
 IsBreach line base horizon breaks debts B9 breach = IsB9 line base horizon breach
 IsBreach line base horizon breaks debts B10 breach = IsB10 horizon debts breach
 
--- the breaches of the rule on breaks
+-- these are the breaches of the rule on breaks
 pub record AreBreakBreaches (line : Line) (found : List Breach) : Type 0 where
   pub runs : List Run
   pub breaks : List Run
@@ -186,27 +183,27 @@ pub record AreBreakBreaches (line : Line) (found : List Breach) : Type 0 where
   pub are_breaks : AreCompleteBreaks runs breaks
   pub exactly : AreBreaches (λ breach. IsBreakBreach line breaks breach.kind breach) found
 
--- those of the rules on days
+-- these are the breaches of the rules on days
 abbrev pub AreDayBreaches : Line → List Breach → Type 0
 AreDayBreaches line found = AreBreaches (λ breach. IsDayBreach line breach.kind breach) found
 
--- and on weeks
+-- these are the breaches of the rules on weeks
 abbrev pub AreWeekBreaches : Line → List Breach → Type 0
 AreWeekBreaches line found = AreBreaches (λ breach. IsWeekBreach line breach.kind breach) found
 
--- those of the rules on weekly rests, with the debts
+-- these are the breaches of the rules on weekly rests, and the debts
 pub record AreRestBreaches (line : Line) (base horizon : ℕ) (found : List Breach) (debts : List Debt) : Type 0 where
   pub are_debts : AreDebts line horizon debts
   pub exactly : AreBreaches (λ breach. IsRestBreach line base horizon debts breach.kind breach) found
 
--- a late weekly rest is a breach
+-- the breach is a late weekly rest
 abbrev pub IsLate : Line → Breach → Type 0
 IsLate line breach = (breach.kind ≡ B8) × IsB8 line breach
 
--- two weeks without their rests are a breach
+-- the breach is that of two neighbouring weeks without the weekly rests that they need
 abbrev pub IsLacking : Line → ℕ → ℕ → Breach → Type 0
 IsLacking line base horizon breach = (breach.kind ≡ B9) × IsB9 line base horizon breach
 
--- a debt that isn't paid in time is a breach
+-- the breach is a debt that isn't paid in time
 abbrev pub IsOverdue : ℕ → List Debt → Breach → Type 0
 IsOverdue horizon debts breach = (breach.kind ≡ B10) × IsB10 horizon debts breach

@@ -1,5 +1,5 @@
--- Trusted: The numbers of Regulation (EC) 561/2006 (8(6) and 8(6b) as amended by (EU) 2020/1054), in minutes where
--- nothing else is said, each with its Article.
+-- Trusted: The numbers of Regulation (EC) 561/2006 (8(6) and 8(6b) as amended by (EU) 2020/1054), each with its Article, in minutes unless
+-- another unit is named.
 use Rattle.std.specs.Prelude.{ℕ}
 
 -- Article 7: a break of 45 minutes; or a first part of 15, and then one of 30
@@ -20,8 +20,8 @@ driving_before_break = 270
 abbrev pub minutes_of_day : ℕ
 minutes_of_day = 1440
 
--- Article 4(g): a regular daily rest of eleven hours; or a first part of three, and then
--- one of nine, which a reduced one has too
+-- Article 4(g): a regular daily rest of eleven hours; or a first part of three, and then one of nine, which is also the length of a reduced
+-- daily rest
 abbrev pub regular_daily_rest : ℕ
 regular_daily_rest = 660
 
@@ -75,7 +75,7 @@ minutes_of_week = 10080
 abbrev pub first_week : ℕ
 first_week = 5760
 
--- What is examined lies from 2000-01-03 00:00 to 2100-01-01 00:00; no Article rules it.
+-- The examined range is from 2000-01-03 00:00 to 2100-01-01 00:00; no Article prescribes this.
 abbrev pub first_base : ℕ
 first_base = 15780960
 

@@ -6,7 +6,7 @@ use Rattle.tacho_hours.specs.Line.{Line}
 use Rattle.tacho_hours.specs.Limits.{daily_rest, regular_weekly_rest}
 use Rattle.tacho_hours.specs.Debts.{IsMainRest}
 
--- what a rest keeps: 45 hours as the main rest of a week (Article 8(6b)), and else nine (Article 8(7))
+-- what a rest keeps: 45 hours as the main rest of a week (Article 8(6b)), otherwise nine (Article 8(7))
 abbrev pub IsKept : Line → ℕ → Run → ℕ → Type 0
 IsKept line horizon rest kept = ((kept ≡ regular_weekly_rest) × ((w : ℕ) × IsMainRest line horizon w rest))
     ⊎ ((kept ≡ daily_rest) × ((w : ℕ) → IsMainRest line horizon w rest → ⊥))

@@ -1,11 +1,11 @@
--- Trusted in part: The order in which a report has its breaches. No Article rules it.
+-- Trusted in part: The order of the breaches in a report. No Article prescribes this.
 use Rattle.std.specs.Prelude.{◌≡◌, ℕ, ◌<◌, ◌⊎◌, List, AllPairs}
 use Rattle.tacho_hours.specs.declared.breach.Breach.{Breach}
 use Rattle.tacho_hours.specs.declared.breach.Kind.{Kind}
 use Rattle.tacho_hours.specs.declared.breach.Kind.TheVariants.{B1, B2, B3, B4, B5, B6, B7, B8, B9, B10}
 use Rattle.tacho_hours.specs.Exactly.{AreExactly}
 
--- a kind's place among the kinds
+-- the place of a kind in the order of kinds
 abbrev pub place_of_kind : Kind → ℕ
 place_of_kind B1 = 1
 place_of_kind B2 = 2
@@ -24,20 +24,20 @@ Earlier a b = (a.moment < b.moment)
     ⊎ ((a.moment ≡ b.moment) × ((place_of_kind a.kind < place_of_kind b.kind)
     ⊎ ((place_of_kind a.kind ≡ place_of_kind b.kind) × (a.since < b.since))))
 
--- two breaches have one place in the order
+-- two breaches have the same place in the order
 pub record Agree (a b : Breach) : Type 0 where
   pub moment : a.moment ≡ b.moment
   pub kind : a.kind ≡ b.kind
   pub since : a.since ≡ b.since
 
--- and two that have not
+-- two breaches don't have the same place
 abbrev pub Apart : Breach → Breach → Type 0
 Apart a b = ¬ (Agree a b)
 
--- no two of them have one place
+-- no two breaches of the list have the same place
 abbrev pub AreApart : List Breach → Type 0
 AreApart found = AllPairs Apart found
 
--- these breaches and no others, each once, in order
+-- exactly these breaches, each once, in order
 abbrev pub AreBreaches : (Breach → Type 0) → List Breach → Type 0
 AreBreaches P found = AreExactly P Earlier found

@@ -6,15 +6,15 @@ use Rattle.tacho_hours.specs.declared.run.TheConstants.{FAR}
 use Rattle.tacho_hours.specs.Exactly.{AreExactly}
 use Rattle.tacho_hours.specs.Line.{Line}
 
--- an uninterrupted break or rest (Articles 4(d) and 4(f)): a maximal run of minutes at rest; the first one has no
--- start, which 0 stands for, and the last one no end, which FAR stands for
+-- an uninterrupted break or rest (Articles 4(d) and 4(f)): a maximal run of minutes at rest. The first one has no start, which is
+-- represented by 0, and the last one has no end, which is represented by FAR.
 pub record IsRestRun (line : Line) (run : Run) : Type 0 where
   pub some : run.start < run.past
   pub rest : (m : ℕ) → run.start ≤ m → m < run.past → line m ≡ Rest
   pub from : (run.start ≡ 0) ⊎ ((m : ℕ) → m + 1 ≡ run.start → line m ≢ Rest)
   pub until : (run.past ≡ FAR) ⊎ (line run.past ≢ Rest)
 
--- one after the other, with a minute between
+-- one run ends before the other starts, with at least a minute between them
 abbrev pub Before : Run → Run → Type 0
 Before a b = a.past < b.start
 
@@ -23,7 +23,7 @@ pub record AreRuns (runs : List Run) : Type 0 where
   pub some : All (λ run. run.start < run.past) runs
   pub in_order : AllPairs Before runs
 
--- how long a run is
+-- the length of a run in minutes
 abbrev pub minutes_of : Run → ℕ
 minutes_of run = run.past - run.start
 
@@ -31,16 +31,16 @@ minutes_of run = run.past - run.start
 abbrev pub AreRestRuns : Line → List Run → Type 0
 AreRestRuns line runs = AreExactly (IsRestRun line) Before runs
 
--- a rest run of so many minutes or more
+-- a rest run of `least` minutes or more
 pub record IsRestOf (line : Line) (least : ℕ) (run : Run) : Type 0 where
   pub rests : IsRestRun line run
   pub enough : least ≤ minutes_of run
 
--- the rest runs of so many minutes or more, in order of time
+-- the rest runs of `least` minutes or more, in order of time
 abbrev pub AreRestsOf : Line → ℕ → List Run → Type 0
 AreRestsOf line least rests = AreExactly (IsRestOf line least) Before rests
 
--- two rest runs of so many minutes or more, and no other such run between them
+-- two rest runs of `least` minutes or more, with no other such run between them
 pub record AreNeighbours (line : Line) (least : ℕ) (a b : Run) : Type 0 where
   pub first : IsRestOf line least a
   pub second : IsRestOf line least b

@@ -1,5 +1,5 @@
--- Private to tacho_hours: What is known of a line's rest runs, breaks and breaches so far, as a pass goes over it: words of
--- passes, and no part of the rules.
+-- Private to tacho_hours: What a pass knows of a line's rest runs, breaks and breaches so far: terms of passes, which are no part of the
+-- rules.
 use Rattle.std.specs.Prelude.{◌≡◌, ◌≢◌, ℕ, ◌+◌, ◌<◌, ◌≤◌, ◌⊎◌, List, All, AllPairs, Contains, Bool, IsTrue}
 use Rattle.tacho_time.specs.declared.span.Activity.TheVariants.{Rest}
 use Rattle.tacho_hours.specs.declared.run.Run.{Run}
@@ -11,7 +11,7 @@ use Rattle.tacho_hours.specs.Runs.{IsRestRun, Before, minutes_of}
 use Rattle.tacho_hours.specs.Breaks.{AreCompleteBreaks}
 use Rattle.tacho_hours.specs.Order.{Apart}
 
--- what is known of a line up to a minute p: the runs that end before start, and rest from start to p
+-- what is known of a line up to minute p: the runs that end before `start`, and that the line is at rest from `start` to p
 pub record Reached (line : Line) (runs : List Run) (start p : ℕ) : Type 0 where
   pub each : All (λ run. IsRestRun line run) runs
   pub all : (run : Run) → IsRestRun line run → run.start < start → Contains runs run
@@ -21,7 +21,7 @@ pub record Reached (line : Line) (runs : List Run) (start p : ℕ) : Type 0 wher
   pub from : (start ≡ 0) ⊎ ((m : ℕ) → m + 1 ≡ start → line m ≢ Rest)
   pub below : start ≤ p
 
--- a first part after each of the breaks so far
+-- there is a first part after all of the breaks so far
 pub record HasShort (seen breaks : List Run) : Type 0 where
   pub part : Run
   pub among : Contains seen part
@@ -34,6 +34,6 @@ pub record Breaking (seen breaks : List Run) (short : Bool) : Type 0 where
   pub set : IsTrue short → HasShort seen breaks
   pub has : HasShort seen breaks → IsTrue short
 
--- these breaches and no others, and no two of them have one place: as they are found, before they are put in order
+-- exactly these breaches, no two of which have the same place: as they are found, before they are put in order
 abbrev pub AreCollected : (Breach → Type 0) → List Breach → Type 0
 AreCollected P found = AreExactly P Apart found

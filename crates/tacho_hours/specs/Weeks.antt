@@ -10,11 +10,11 @@ use Rattle.tacho_hours.specs.Limits.{weekly_rest, minutes_of_week, first_week}
 abbrev pub week_start : ℕ → ℕ
 week_start w = first_week + minutes_of_week * w
 
--- from that minute to before the next week's
+-- the minute is in the week: from the week's first minute to before that of the next week
 abbrev pub IsInWeek : ℕ → ℕ → Type 0
 IsInWeek w m = (week_start w ≤ m) × (m < week_start (w + 1))
 
--- a run has a minute in a week
+-- the run has a minute in the week
 abbrev pub Touches : Run → ℕ → Type 0
 Touches run w = (run.start < week_start (w + 1)) × (week_start w < run.past)
 

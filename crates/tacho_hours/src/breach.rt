@@ -1,6 +1,6 @@
 use tacho_time::Minute;
 
-/// Which rule of Regulation (EC) 561/2006 is broken.
+/// The rule of Regulation (EC) 561/2006 that is broken.
 #[derive(Clone, Copy, Debug, PartialEq, Eq)]
 pub enum Kind {
     /// Article 7: more than four and a half hours of driving without a break.
@@ -17,7 +17,7 @@ pub enum Kind {
     B6,
     /// Article 6(3): more than 90 hours of driving in two weeks.
     B7,
-    /// Article 8(6): a weekly rest that starts later than six days after the last.
+    /// Article 8(6): a weekly rest that starts later than six days after the last one.
     B8,
     /// Articles 8(6) and 8(9): a week up to which no choice of one week for each weekly rest gives each two neighbouring weeks two weekly
     /// rests, one of them regular.
@@ -32,8 +32,8 @@ pub struct Breach {
     pub kind: Kind,
     /// The minute at which the rule is broken.
     pub moment: Minute,
-    /// The first minute of what is judged.
+    /// The first minute of the range that is judged.
     pub since: Minute,
-    /// By how many minutes, or rests (B3), the limit is missed.
+    /// By how many minutes (for B3, rests) the limit is missed.
     pub amount: u32,
 }

@@ -1,5 +1,5 @@
-//! Laws about the rules on driving and rest hours. A law is a function without a body: what it ensures is proved, and
-//! holds for all that it names.
+//! Laws about the rules on driving and rest hours. A law is a function without a body: its `ensures` clause is proved, and holds for all
+//! values that it names.
 
 ghost use Rattle.std.specs.Prelude.{◌≡◌, ℕ, ◌<◌, ◌↔◌, List, All, AllPairs, Contains};
 ghost use Rattle.tacho_time.specs.declared.span.Activity.{Activity as ActivityValue};
@@ -22,13 +22,13 @@ pub fn one_list_of_rest_runs()
         → AreRestRuns line others → runs ≡ others }
 {}
 
-/// Runs, each of a minute or more, have one list of complete breaks.
+/// A list of runs that aren't empty has one list of complete breaks.
 pub fn one_list_of_complete_breaks()
     ensures { (runs breaks others : List RunValue) → All (λ run. run.start < run.past) runs
         → AreCompleteBreaks runs breaks → AreCompleteBreaks runs others → breaks ≡ others }
 {}
 
-/// Lists of breaches in order that have the same breaches are the same.
+/// Ordered lists of breaches with the same members are equal.
 pub fn one_list_of_breaches()
     ensures { (found others : List BreachValue) → AllPairs Earlier found → AllPairs Earlier others
         → ((breach : BreachValue) → Contains found breach ↔ Contains others breach) → found ≡ others }
@@ -66,14 +66,14 @@ pub fn one_list_of_rest_breaches()
         → found ≡ others }
 {}
 
-/// Debts that the rest runs pay in order of time, each run the unpaid ones from the oldest where it has room, have the
-/// payers of the definition, which goes debt by debt; and no others have.
+/// Let the rest runs pay debts in order of time: each run pays the unpaid debts that it has room for, starting from the oldest. The payers
+/// are then exactly those of the definition, which goes debt by debt.
 pub fn paid_by_runs()
     ensures { (line : ℕ → ActivityValue) (horizon : ℕ) (runs : List RunValue) (debts : List DebtValue)
         → AreRestRuns line runs → (ArePaidByRuns line horizon runs debts ↔ AreDebts line horizon debts) }
 {}
 
-/// Whether a day's rest is regular or reduced is told by the rests of three hours or more alone.
+/// Whether a day's rest is regular or reduced depends only on the rests of three hours or more.
 pub fn rest_by_parts()
     ensures regular { (line : ℕ → ActivityValue) (parts : List RunValue) (day : DutyDayValue)
         → AreRestsOf line first_part_of_daily_rest parts → (HasRegularRest parts day ↔ IsRegular line day) }

@@ -1,5 +1,5 @@
-//! The words of the rules on driving and rest hours: rest runs, driving minutes, breaks, duty days, weekly rests,
-//! debts and breaches over an examined line.
+//! The terms of the rules on driving and rest hours: rest runs, driving minutes, breaks, duty days, weekly rests, debts and breaches of an
+//! examined line.
 #![tactic(auto)]
 
 mod breach;

@@ -5,7 +5,7 @@ ghost use Rattle.tacho_hours.specs.Order.{AreApart};
 
 use crate::breach::{Breach, Kind};
 
-/// The place of a kind among the kinds, counted from 1.
+/// Returns the place of a kind in the order of kinds, counted from 1.
 fn place_of(kind: Kind) -> u8
     ensures { result ≡ place_of_kind kind }
 {
@@ -23,8 +23,8 @@ fn place_of(kind: Kind) -> u8
     }
 }
 
-/// Puts breaches in order: by the moment, then the kind, then the first minute of what is judged. Where no two have
-/// one place, each comes before those behind it.
+/// Puts breaches in order: by moment, then by kind, then by the first minute of the range that is judged. If no two of them have the same
+/// place, each is before those after it.
 pub fn put_in_order(found: &mut Vec<Breach>)
     ensures same { (breach : BreachValue) → Contains found.new.items breach ↔ Contains found.old.items breach }
     ensures order { AreApart found.old.items → AllPairs Earlier found.new.items }

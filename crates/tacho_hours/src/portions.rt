@@ -5,8 +5,7 @@ ghost use Rattle.tacho_hours.specs.Limits.{minutes_of_day};
 use crate::days::DutyDay;
 use crate::limits::MINUTES_OF_DAY;
 
-/// Whether the daily rest has so many minutes within 24 hours of the day's start
-/// (Article 8(2) of Regulation (EC) 561/2006).
+/// Returns true if the daily rest has `minutes` minutes within 24 hours of the day's start (Article 8(2) of Regulation (EC) 561/2006).
 pub fn has_portion(day: DutyDay, minutes: u32) -> bool
     requires started { day.start ≤ 68428800 }
     requires ended { day.past ≤ 68428800 }

@@ -1,4 +1,4 @@
--- Why a driver's request looks at his rows alone, and 503 leaves the state.
+-- Why a driver's request depends on the driver's rows alone, and why 503 leaves the state as it was.
 use Rattle.std.proofs.Common.{◌≡◌, ◌≢◌, ◌∙◌, ℕ, Bool, true, false, List, Option, Some, None, Result, Ok, Err, arith, bytes_eq, inl, inr, refl, sym, ap, subst, take}
 use Rattle.httparse.specs.Grammar.{RequestHead}
 use Rattle.httparse.proofs.GrammarLemmas.{request_unique}
@@ -32,7 +32,7 @@ use Rattle.tacho_http.specs.Serve.{ByCaller, ByKeys, ByOwner, ByWhom, DoesWanted
 
 -- ---- 503
 
--- what was told of a task isn't 503
+-- a task that was done isn't answered with 503
 done_is_available : (told : Told) → (done_reply told).status ≡ status.Unavailable → ⊥
 done_is_available (Added line) e = cc
 done_is_available (Line line) e = cc
@@ -45,12 +45,12 @@ module _ (refusals : RefusalsStay) where
   answer_kept t body s (Ok told) after does e = absurd (done_is_available told e)
   answer_kept t body s (Err f) after does e = refusals t body s f after does
 
-  -- or its words were
+  -- or its arguments were
   wanted_kept : (wanted : Wanted) (body : List ℕ) (s : State) (reply : Reply) (after : State) → DoesWanted wanted body s reply after → reply.status ≡ status.Unavailable → after ≡ s
   wanted_kept (Err f) body s reply after h e = h.1
   wanted_kept (Ok t) body s reply after h e = answer_kept t body s h.0 after h.1 (subst (λ (r : Reply). r.status ≡ status.Unavailable) h.2 e)
 
-  -- or its body was cut
+  -- or its body was incomplete
   run_kept : (w : Wish) (n : ℕ) (c : Caller) (rest : List ℕ) (s : State) (reply : Reply) (after : State) → Runs w n c rest s reply after → reply.status ≡ status.Unavailable → after ≡ s
   run_kept w n c rest s reply after (inl h) e = h.1.1
   run_kept w n c rest s reply after (inr h) e = wanted_kept h.1.0 (take n rest) s reply after h.1.2 e
@@ -67,72 +67,72 @@ module _ (refusals : RefusalsStay) where
   want_kept (Err refusal) c h rest s reply after does e = does.1
   want_kept (Ok w) c h rest s reply after does e = body_kept (body_of h w.want) w c rest s reply after does e
 
-  -- whoever asks
+  -- for any caller
   caller_kept : (c : Caller) (h : RequestHead) (rest : List ℕ) (s : State) (reply : Reply) (after : State) → ByCaller c h rest s reply after → reply.status ≡ status.Unavailable → after ≡ s
   caller_kept c h rest s reply after does e = want_kept (wish_of (asker_of c) h.method h.target) c h rest s reply after does e
 
-  -- whosever the key is
+  -- for any owner of the key
   owner_kept : (found : Result (Option ℕ) StoreFault) (h : RequestHead) (rest : List ℕ) (s : State) (reply : Reply) (after : State) → ByOwner found h rest s reply after
       → reply.status ≡ status.Unavailable → after ≡ s
   owner_kept (Ok (Some n)) h rest s reply after does e = caller_kept (caller.Driver n) h rest s reply after does e
   owner_kept (Ok None) h rest s reply after does e = does.1
   owner_kept (Err f) h rest s reply after does e = does.1
 
-  -- the office's or another
+  -- for the office's key or another
   whom_kept : (b : Bool) (key : List ℕ) (h : RequestHead) (rest : List ℕ) (s : State) (reply : Reply) (after : State) → ByWhom b key h rest s reply after
       → reply.status ≡ status.Unavailable → after ≡ s
   whom_kept true key h rest s reply after does e = caller_kept caller.Office h rest s reply after does e
   whom_kept false key h rest s reply after does e = owner_kept (owner key s) h rest s reply after does e
 
-  -- one key or none
+  -- for one key or none
   keys_kept : (office : List ℕ) (key : Option (List ℕ)) (h : RequestHead) (rest : List ℕ) (s : State) (reply : Reply) (after : State) → ByKeys office key h rest s reply after
       → reply.status ≡ status.Unavailable → after ≡ s
   keys_kept office None h rest s reply after does e = does.1
   keys_kept office (Some key) h rest s reply after does e = whom_kept (bytes_eq key office) key h rest s reply after does e
 
-  -- whatever the input
+  -- for any input
   kept : (office input : List ℕ) (s : State) (reply : Reply) (after : State) → Reacts office input s reply after → reply.status ≡ status.Unavailable → after ≡ s
   kept office input s _ _ (headed h rest reply after begins does) e = keys_kept office (key_of h) h rest s reply after does e
   kept office input s _ _ (bad r) e = refl
   kept office input s _ _ (large r) e = refl
   kept office input s _ _ (unavailable h rest key begins k) e = refl
 
-  -- so 503 leaves the state
+  -- so 503 leaves the state as it was
   pub keeps_503 : Keeps503
   keeps_503 office input s reply after r e = kept office input s reply after r e
 
--- ---- what a driver asks for is his
+-- ---- a driver's requests are for the driver's own tasks
 
--- the import of his card
+-- the import of the driver's card
 part_is_his : (n : ℕ) (o : Option Part) (t : Task) → Ok t ≡ by_part o (λ p. task.Import (caller.Driver n) p) → IsHis n t
 part_is_his n None t e = cc
 part_is_his n (Some p) t e = (let same : t ≡ task.Import (caller.Driver n) p = cc in subst (IsHis n) (sym same) refl)
 
--- a task by a day or a month
+-- a task with a day or a month
 time_is_his : (n : ℕ) (read : Result ℕ TimeFault) (make : ℕ → Task) (t : Task) → ((m : ℕ) → IsHis n (make m)) → Ok t ≡ by_time read (λ m. Ok (make m)) → IsHis n t
 time_is_his n (Err f) make t h e = cc
 time_is_his n (Ok m) make t h e = (let same : t ≡ make m = cc in subst (IsHis n) (sym same) (h m))
 
--- the task is wanted
+-- the arguments make this task
 abbrev wants : Task → Wanted
 wants t = Ok t
 
--- a task that is his
+-- a task of the driver
 plain_is_his : (n : ℕ) (t own : Task) → IsHis n own → wants t ≡ wants own → IsHis n t
 plain_is_his n t own h e = (let same : t ≡ own = cc in subst (IsHis n) (sym same) h)
 
--- a file of his
+-- a file of the driver
 number_is_his : (n m : ℕ) (text : List ℕ) (t : Task) → m ≡ n → ByNumber most_number text (λ k w. w ≡ Ok (task.File m k)) (Ok t) → IsHis n t
 number_is_his n m text t same (inl h) = (let none = h.1 in cc)
 number_is_his n m text t same (inr h) = plain_is_his n t (task.File m h.0) same h.2
 
--- a task about the one who asks
+-- a task about the driver who asks
 about_him : (n : ℕ) (driver : List ℕ) (Is : ℕ → Wanted → Type 0) (t : Task) → ((m : ℕ) → m ≡ n → Is m (Ok t) → IsHis n t)
     → ByDriver (caller.Driver n) driver Is (Ok t) → IsHis n t
 about_him n driver Is t h (inl none) = absurd none.0
 about_him n driver Is t h (inr is) = h is.0 is.1 is.2
 
--- what is his own to want makes a task of his
+-- what a driver may ask for makes a task of that driver
 task_is_his : (w : Want) (n : ℕ) (driver word : List ℕ) (t : Task) → is_own w ≡ true → IsTask w (caller.Driver n) driver word (Ok t) → IsHis n t
 task_is_his want.Import n driver word t own is = part_is_his n (part_of word) t is
 task_is_his (want.Reading text) n driver word t own is =
@@ -149,7 +149,7 @@ task_is_his want.Base n driver word t own is = cc
 task_is_his want.Drivers n driver word t own is = cc
 task_is_his (want.MonthOfAll text) n driver word t own is = cc
 
--- a request with a driver's key is his
+-- a request with a driver's key is that driver's request
 own_request : (office key : List ℕ) (h : RequestHead) (rest : List ℕ) (n : ℕ) (s : State) (reply : Reply) (after : State) → key_of h ≡ Some key → bytes_eq key office ≡ false
     → owner key s ≡ Ok (Some n) → ByKeys office (key_of h) h rest s reply after → ByCaller (caller.Driver n) h rest s reply after
 own_request office key h rest n s reply after has other own does =
@@ -157,7 +157,7 @@ own_request office key h rest n s reply after has other own does =
     let y = subst (λ (b : Bool). ByWhom b key h rest s reply after) other x in
     subst (λ (o : Result (Option ℕ) StoreFault). ByOwner o h rest s reply after) own y
 
--- and back
+-- and conversely
 his_request : (office key : List ℕ) (h : RequestHead) (rest : List ℕ) (n : ℕ) (s : State) (reply : Reply) (after : State) → key_of h ≡ Some key → bytes_eq key office ≡ false
     → owner key s ≡ Ok (Some n) → ByCaller (caller.Driver n) h rest s reply after → ByKeys office (key_of h) h rest s reply after
 his_request office key h rest n s reply after has other own does =
@@ -173,14 +173,14 @@ module _ (own_wants : OwnWants) (same_answers : SameAnswers) (others_stay : Othe
       → (left : State) × RepliesOnly r other reply left × (driver_of n after ≡ driver_of n left)
   told_same n s other e r reply after h = (other, (h.0, refl), ap (driver_of n) h.1 ∙ e)
 
-  -- the reply to a task of his
+  -- the reply to a driver's own task
   wanted_same : (n : ℕ) (s other : State) → driver_of n s ≡ driver_of n other → (wanted : Wanted) → ((t : Task) → wanted ≡ Ok t → IsHis n t) → (body : List ℕ) (reply : Reply) (after : State)
       → DoesWanted wanted body s reply after → (left : State) × DoesWanted wanted body other reply left × (driver_of n after ≡ driver_of n left)
   wanted_same n s other e (Err f) his body reply after h = told_same n s other e (reply_to (Err f)) reply after h
   wanted_same n s other e (Ok t) his body reply after h =
       let x = same_answers n t (his t refl) body s other e h.0 after h.1 in (x.0, (h.0, x.1, h.2), x.2)
 
-  -- over its body
+  -- with its body
   run_same : (n : ℕ) (s other : State) → driver_of n s ≡ driver_of n other → (w : Wish) → is_own w.want ≡ true → (k : ℕ) (rest : List ℕ) (reply : Reply) (after : State)
       → Runs w k (caller.Driver n) rest s reply after → (left : State) × Runs w k (caller.Driver n) rest other reply left × (driver_of n after ≡ driver_of n left)
   run_same n s other e w own k rest reply after (inl h) =
@@ -190,14 +190,14 @@ module _ (own_wants : OwnWants) (same_answers : SameAnswers) (others_stay : Othe
       let x = wanted_same n s other e wanted (λ t is. task_is_his w.want n w.driver w.word t own (subst (IsTask w.want (caller.Driver n) w.driver w.word) is h.1.1)) (take k rest) reply after h.1.2 in
       (x.0, inr (h.0, (wanted, h.1.1, x.1)), x.2)
 
-  -- by its length
+  -- with the length of its body
   body_same : (n : ℕ) (s other : State) → driver_of n s ≡ driver_of n other → (w : Wish) → is_own w.want ≡ true → (length : Result ℕ Status) (rest : List ℕ) (reply : Reply) (after : State)
       → WithBody length w (caller.Driver n) rest s reply after
       → (left : State) × WithBody length w (caller.Driver n) rest other reply left × (driver_of n after ≡ driver_of n left)
   body_same n s other e w own (Err refusal) rest reply after h = told_same n s other e (fixed refusal) reply after h
   body_same n s other e w own (Ok k) rest reply after h = run_same n s other e w own k rest reply after h
 
-  -- by what he asks for
+  -- with what it asks for
   want_same : (n : ℕ) (s other : State) → driver_of n s ≡ driver_of n other → (found : Result Wish Status) → ((w : Wish) → found ≡ Ok w → is_own w.want ≡ true)
       → (h : RequestHead) (rest : List ℕ) (reply : Reply) (after : State) → WithWish found (caller.Driver n) h rest s reply after
       → (left : State) × WithWish found (caller.Driver n) h rest other reply left × (driver_of n after ≡ driver_of n left)
@@ -205,13 +205,13 @@ module _ (own_wants : OwnWants) (same_answers : SameAnswers) (others_stay : Othe
   want_same n s other e (Ok w) own h rest reply after does =
       body_same n s other e w (own w refl) (body_of h w.want) rest reply after does
 
-  -- by his key
+  -- with its key
   caller_same : (n : ℕ) (s other : State) → driver_of n s ≡ driver_of n other → (h : RequestHead) (rest : List ℕ) (reply : Reply) (after : State)
       → ByCaller (caller.Driver n) h rest s reply after → (left : State) × ByCaller (caller.Driver n) h rest other reply left × (driver_of n after ≡ driver_of n left)
   caller_same n s other e h rest reply after does =
       want_same n s other e (wish_of asker.Driver h.method h.target) (λ w is. own_wants h.method h.target w is) h rest reply after does
 
-  -- by its head
+  -- with its head
   same_of : (office input : List ℕ) (n : ℕ) (s other : State) → IsFrom office input n s → IsFrom office input n other → driver_of n s ≡ driver_of n other
       → (reply : Reply) (after : State) → Reacts office input s reply after → (left : State) × Reacts office input other reply left × (driver_of n after ≡ driver_of n left)
   same_of office input n s other a b e _ _ (headed h rest reply after begins does) =
@@ -221,13 +221,13 @@ module _ (own_wants : OwnWants) (same_answers : SameAnswers) (others_stay : Othe
   same_of office input n s other a b e _ _ (large r) = (other, large r, e)
   same_of office input n s other a b e _ _ (unavailable h rest key begins k) = (other, unavailable h rest key begins k, e)
 
-  -- the same reply in both
+  -- the same reply in both states
   pub same_reply : SameReply
   same_reply office input n s other a b e reply after r = same_of office input n s other a b e reply after r
 
-  -- no other rows
+  -- ---- no other rows
 
-  -- a task of his changes nobody else's rows
+  -- a driver's own task changes no other driver's rows
   run_others : (n m : ℕ) → m ≢ n → (s : State) (w : Wish) → is_own w.want ≡ true → (k : ℕ) (rest : List ℕ) (reply : Reply) (after : State)
       → Runs w k (caller.Driver n) rest s reply after → driver_of m after ≡ driver_of m s
   run_others n m differ s w own k rest reply after (inl h) = ap (driver_of m) h.1.1
@@ -238,20 +238,20 @@ module _ (own_wants : OwnWants) (same_answers : SameAnswers) (others_stay : Othe
       by_wanted (Err f) his h = ap (driver_of m) h.1
       by_wanted (Ok t) his h = others_stay n t (his t refl) (take k rest) s h.0 after h.1 m differ
 
-  -- whatever its length
+  -- for any length of its body
   body_others : (n m : ℕ) → m ≢ n → (s : State) (w : Wish) → is_own w.want ≡ true → (length : Result ℕ Status) (rest : List ℕ) (reply : Reply) (after : State)
       → WithBody length w (caller.Driver n) rest s reply after → driver_of m after ≡ driver_of m s
   body_others n m differ s w own (Err refusal) rest reply after h = ap (driver_of m) h.1
   body_others n m differ s w own (Ok k) rest reply after h = run_others n m differ s w own k rest reply after h
 
-  -- whatever he asks for
+  -- for anything that it asks for
   want_others : (n m : ℕ) → m ≢ n → (s : State) (found : Result Wish Status) → ((w : Wish) → found ≡ Ok w → is_own w.want ≡ true) → (h : RequestHead) (rest : List ℕ) (reply : Reply) (after : State)
       → WithWish found (caller.Driver n) h rest s reply after → driver_of m after ≡ driver_of m s
   want_others n m differ s (Err refusal) own h rest reply after does = ap (driver_of m) does.1
   want_others n m differ s (Ok w) own h rest reply after does =
       body_others n m differ s w (own w refl) (body_of h w.want) rest reply after does
 
-  -- whatever its head
+  -- for any head
   others_of : (office input : List ℕ) (n : ℕ) (s : State) → IsFrom office input n s → (reply : Reply) (after : State) → Reacts office input s reply after
       → (m : ℕ) → m ≢ n → driver_of m after ≡ driver_of m s
   others_of office input n s a _ _ (headed h rest reply after begins does) m differ =
@@ -261,24 +261,24 @@ module _ (own_wants : OwnWants) (same_answers : SameAnswers) (others_stay : Othe
   others_of office input n s a _ _ (large r) m differ = refl
   others_of office input n s a _ _ (unavailable h rest key begins k) m differ = refl
 
-  -- so nobody else's rows change
+  -- so no other driver's rows change
   pub keeps_others : KeepsOthers
   keeps_others office input n s a reply after r m differ = others_of office input n s a reply after r m differ
 
-  -- one reply
+  -- ---- one reply
 
-  -- a fixed reply is one
+  -- a fixed reply is the only one
   told_once : (s : State) (r : Reply) (p q : Reply) (after left : State) → RepliesOnly r s p after → RepliesOnly r s q left → (p ≡ q) × (after ≡ left)
   told_once s r p q after left h k = (h.0 ∙ sym k.0, h.1 ∙ sym k.1)
 
-  -- the reply to a task of his is one
+  -- the reply to a driver's own task is the only one
   wanted_once : (n : ℕ) (s : State) (wanted : Wanted) → ((t : Task) → wanted ≡ Ok t → IsHis n t) → (body : List ℕ) (p q : Reply) (after left : State)
       → DoesWanted wanted body s p after → DoesWanted wanted body s q left → (p ≡ q) × (after ≡ left)
   wanted_once n s (Err f) his body p q after left h k = told_once s (reply_to (Err f)) p q after left h k
   wanted_once n s (Ok t) his body p q after left h k =
       let x = one_answer n t (his t refl) body s h.0 k.0 after left h.1 k.1 in (h.2 ∙ (ap reply_to x.0 ∙ sym k.2), x.1)
 
-  -- over its body
+  -- with its body
   run_once : (n : ℕ) (s : State) (w : Wish) → is_own w.want ≡ true → (k : ℕ) (rest : List ℕ) (p q : Reply) (after left : State)
       → Runs w k (caller.Driver n) rest s p after → Runs w k (caller.Driver n) rest s q left → (p ≡ q) × (after ≡ left)
   run_once n s w own k rest p q after left (inl h) (inl g) = told_once s (fixed status.BadRequest) p q after left h.1 g.1
@@ -289,20 +289,20 @@ module _ (own_wants : OwnWants) (same_answers : SameAnswers) (others_stay : Othe
       wanted_once n s h.1.0 (λ t is. task_is_his w.want n w.driver w.word t own (subst (IsTask w.want (caller.Driver n) w.driver w.word) is h.1.1)) (take k rest) p q after left h.1.2
       (subst (λ (wanted : Wanted). DoesWanted wanted (take k rest) s q left) (sym same) g.1.2)
 
-  -- by its length
+  -- with the length of its body
   body_once : (n : ℕ) (s : State) (w : Wish) → is_own w.want ≡ true → (length : Result ℕ Status) (rest : List ℕ) (p q : Reply) (after left : State)
       → WithBody length w (caller.Driver n) rest s p after → WithBody length w (caller.Driver n) rest s q left → (p ≡ q) × (after ≡ left)
   body_once n s w own (Err refusal) rest p q after left h k = told_once s (fixed refusal) p q after left h k
   body_once n s w own (Ok size) rest p q after left h k = run_once n s w own size rest p q after left h k
 
-  -- by what he asks for
+  -- with what it asks for
   want_once : (n : ℕ) (s : State) (found : Result Wish Status) → ((w : Wish) → found ≡ Ok w → is_own w.want ≡ true) → (h : RequestHead) (rest : List ℕ) (p q : Reply) (after left : State)
       → WithWish found (caller.Driver n) h rest s p after → WithWish found (caller.Driver n) h rest s q left → (p ≡ q) × (after ≡ left)
   want_once n s (Err refusal) own h rest p q after left x y = told_once s (fixed refusal) p q after left x y
   want_once n s (Ok w) own h rest p q after left x y =
       body_once n s w (own w refl) (body_of h w.want) rest p q after left x y
 
-  -- by its head, which is one
+  -- with its head, which is the only one
   one_of : (office input : List ℕ) (n : ℕ) (s : State) → IsFrom office input n s → (p : Reply) (after : State) → Reacts office input s p after → (q : Reply) (left : State) → Reacts office input s q left
       → p.status ≢ status.Unavailable → q.status ≢ status.Unavailable → (p ≡ q) × (after ≡ left)
   one_of office input n s a _ _ (headed h rest p after begins x) _ _ (headed k more q left starts y) f g =
@@ -319,7 +319,7 @@ module _ (own_wants : OwnWants) (same_answers : SameAnswers) (others_stay : Othe
   one_of office input n s a _ _ (large r) q left y f g = absurd (r.0 a.head a.rest a.begins)
   one_of office input n s a _ _ (unavailable k more key starts has) q left y f g = absurd (f refl)
 
-  -- 503 aside there is one reply
+  -- so there is only one reply, except for 503
   pub one_reply : OneReply
   one_reply office input n s other a b e p after x q left y f g =
       let moved = same_of office input n s other a b e p after x in

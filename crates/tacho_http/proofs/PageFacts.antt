@@ -1,5 +1,5 @@
--- What docs/FORMATS.md says of replies, held against the definitions: with another value here this file is refused. What each of the paths
--- there names stands in RouteVectors.
+-- What docs/FORMATS.md says of replies is what the definitions say: with another value here, this file isn't accepted. RouteVectors has
+-- what the paths of that page name.
 use Rattle.std.proofs.Common.{◌≡◌, [], ◌∷◌, ◌++◌, Ok, Err, codes, map, true, false, refl}
 use Rattle.std.specs.Fmt.{digits}
 use Rattle.tacho_card.specs.declared.fault.CardFault.TheVariants as card
@@ -19,7 +19,7 @@ use Rattle.tacho_http.specs.Reply.{bytes_of_reply, fault_status, fixed, fixed_te
 
 -- ---- the statuses of refusals
 
--- of the archive, S1 to S14
+-- of the archive's refusals, S1 to S14
 pub archive_refuses : map store_status (store.DriverTaken ∷
     store.KeyTaken ∷
     store.HolderTaken ∷
@@ -54,12 +54,12 @@ pub archive_refuses : map store_status (store.DriverTaken ∷
     ∷ status.Unavailable ∷ []
 archive_refuses = refl
 
--- of the words of a path
+-- of bad arguments in a path
 pub words_are_wrong : map fault_status (told.Number ∷ told.Part ∷ told.Time time.Shape ∷ told.Time time.NoSuchDate ∷ told.Time time.OutOfRange ∷ [])
     ≡ status.BadRequest ∷ status.BadRequest ∷ status.BadRequest ∷ status.BadRequest ∷ status.BadRequest ∷ []
 words_are_wrong = refl
 
--- of the rows of a body
+-- of bad rows in a body
 pub rows_are_wrong : map (λ f. fault_status (told.Sheet f)) (sheet.Head ∷ (sheet.Fields 2) ∷ (sheet.Time 2) ∷ (sheet.Order 2)
     ∷ (sheet.LeftOut 2 left_out.Crew) ∷ (sheet.Activity 2) ∷ (sheet.TooLong 2) ∷ sheet.Csv ∷ (sheet.Column column.Holder)
     ∷ (sheet.Text 2 column.Author) ∷ (sheet.Text 2 column.Note) ∷ [])
@@ -94,7 +94,7 @@ fields_too_large = refl
 pub unavailable : fixed_text status.Unavailable ≡ codes "unavailable\n"
 unavailable = refl
 
--- want of memory and a store that failed tell no more
+-- the reply to out of memory, and to a store failure, has only the fixed text
 pub no_memory : reply_to (Err fault.Memory) ≡ fixed status.Unavailable
 no_memory = refl
 
@@ -127,7 +127,7 @@ file_was_added = refl
 pub file_of_his : reply_to (Ok (File (1 ∷ 2 ∷ []))) ≡ record { status = status.Okay; media = media.Octets; body = 1 ∷ 2 ∷ [] }
 file_of_his = refl
 
--- ---- replies that tell that something is done
+-- ---- the statuses of requests that were done
 
 pub done_is_told : map is_done (status.Okay ∷ status.Created ∷ status.BadRequest ∷ status.Forbidden ∷ status.NotFound ∷ status.Conflict ∷ status.Unavailable ∷ [])
     ≡ true ∷ true ∷ false ∷ false ∷ false ∷ false ∷ false ∷ []

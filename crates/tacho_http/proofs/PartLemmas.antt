@@ -1,5 +1,5 @@
--- What the parts in braces take of a path that is UTF-8 is UTF-8 too: each begins at the path's start or behind a byte of
--- the route, and ends before one or with the path.
+-- If a path is UTF-8, the parts in braces match texts that are UTF-8: each begins at the start of the path or after an ASCII byte of the
+-- route, and ends before such a byte or at the end of the path.
 use Rattle.std.proofs.Common.{◌≡◌, ◌+◌, ◌-◌, ◌/◌, ◌<◌, ◌≤◌, ◌⊎◌, inl, inr, ◌∷◌, ◌++◌, ◌==◌, ◌&&◌, ◌||◌, ltb, leb, ℕ, zero, suc, Bool, true, false, cond, List, [], length, drop, take, get_or, Option, None, Some, IfSome, IsUtf8, arith, refl, sym, ap, subst, ◌∙◌}
 use Rattle.std.specs.Str.{IsCharBoundary, chars, is_utf8}
 use Rattle.std.specs.Cmp.Lexicographic.{bytes_decides}
@@ -20,33 +20,33 @@ use Rattle.tacho_http.specs.declared.places.Place.{Place}
 
 -- ---- which paths the tokens of a pattern match
 
--- how many bytes a parameter takes of a path, before these tokens
+-- how many bytes of a path a parameter takes, before these tokens
 abbrev taken : List ℕ → List ℕ → ℕ
 taken [] path = length path
 taken (x ∷ tokens) path = length (segment path) - length (segment (x ∷ tokens))
 
--- a byte stands for itself, and a parameter takes what the tokens behind it leave of the segment
+-- a byte matches itself, and a parameter matches what the tokens after it leave of the segment
 abbrev Matches : List ℕ → List ℕ → Type 0
 Matches [] path = path ≡ []
 Matches (x ∷ tokens) path =
     ((x < 128) × ((rest : List ℕ) × (path ≡ x ∷ rest) × Matches tokens rest))
     ⊎ ((x ≡ param_token) × (length (segment tokens) ≤ length (segment path)) × Matches tokens (drop (taken tokens path) path))
 
--- the tokens end here, or go on with an ASCII byte
+-- there are no more tokens, or the next one is an ASCII byte
 abbrev is_edge : List ℕ → Bool
 is_edge [] = true
 is_edge (x ∷ tokens) = ltb x 128
 
--- each token is an ASCII byte, or a parameter before one or at the end
+-- each token is an ASCII byte, or a parameter followed by an ASCII byte or the end
 abbrev is_plain : List ℕ → Bool
 is_plain [] = true
 is_plain (x ∷ tokens) = (ltb x 128 || (x == param_token && is_edge tokens)) && is_plain tokens
 
--- what a plain pattern begins with
+-- the first token of a plain pattern
 abbrev PlainHead : ℕ → List ℕ → Type 0
 PlainHead x tokens = (x < 128) ⊎ ((x ≡ param_token) × (is_edge tokens ≡ true))
 
--- a plain pattern begins with a byte or a parameter, and the rest is plain
+-- a plain pattern begins with an ASCII byte or a parameter, and its rest is plain
 plain_parts : (x : ℕ) (tokens : List ℕ) → is_plain (x ∷ tokens) ≡ true → PlainHead x tokens × (is_plain tokens ≡ true)
 plain_parts x tokens h = (by (or_cases (ltb x 128) (x == param_token && is_edge tokens) both.0), both.1)
   where
@@ -64,7 +64,7 @@ plain_byte : (x : ℕ) (tokens : List ℕ) → x < 256 → PlainHead x tokens �
 plain_byte x tokens l (inl h) = h
 plain_byte x tokens l (inr h) = absurd (omega (arith, h.0))
 
--- a parameter at the head of a plain pattern stands at the end or before a byte
+-- a parameter at the head of a plain pattern is followed by an ASCII byte or the end
 plain_param : (x : ℕ) (tokens : List ℕ) → x ≡ param_token → PlainHead x tokens → is_edge tokens ≡ true
 plain_param x tokens e (inl h) = absurd (omega (arith, e, h))
 plain_param x tokens e (inr h) = h.1
@@ -74,27 +74,27 @@ plain_catch : (x : ℕ) (tokens : List ℕ) → x ≡ catch_all_token → PlainH
 plain_catch x tokens e (inl h) = omega (arith, e, h)
 plain_catch x tokens e (inr h) = omega (arith, e, h.0)
 
--- before a suffix that isn't empty a parameter takes the path's segment without it
+-- before a suffix that isn't empty, a parameter takes the path's segment without the suffix
 taken_before : (tokens path : List ℕ) → 0 < length (segment tokens)
     → taken tokens path ≡ length (segment path) - length (segment tokens)
 taken_before [] path h = absurd (omega arith)
 taken_before (x ∷ tokens) path h = refl
 
--- behind all of a path only the end matches
+-- at the end of a path, only the end of a pattern matches
 matches_end : (tokens : List ℕ) → is_edge tokens ≡ true → Matches tokens [] → tokens ≡ []
 matches_end [] h m = refl
 matches_end (x ∷ tokens) h (inl m) = cc
 matches_end (x ∷ tokens) h (inr m) = absurd (omega (arith, ltb-true x 128 h, m.0))
 
--- ---- what a path finds among rows, it matches
+-- ---- a path matches the row that it finds
 
 module _ {K : Type 0} (R : K → Type 0) where
-  -- each row is plain, and R holds of its key if the path matches the row
+  -- each row is plain, and R holds for its key if the path matches the row
   abbrev Lead : List ℕ → RowsOf K → Type 0
   Lead path [] = Unit {0}
   Lead path ((tokens, key) ∷ rest) = (is_plain tokens ≡ true) × (Matches tokens path → R key) × Lead path rest
 
-  -- the same of rows that stand behind a parameter which begins where the path does
+  -- likewise for rows after a parameter that begins where the path does
   abbrev Behind : List ℕ → RowsOf K → Type 0
   Behind path [] = Unit {0}
   Behind path ((tokens, key) ∷ rest) =
@@ -102,18 +102,18 @@ module _ {K : Type 0} (R : K → Type 0) where
       × (length (segment tokens) ≤ length (segment path) → Matches tokens (drop (taken tokens path) path) → R key)
       × Behind path rest
 
-  -- the first of two answers
+  -- if R holds for both answers, it holds for the first of them
   either_leads : (a b : Option K) → IfSome a R → IfSome b R → IfSome (or_else a b) R
   either_leads None b h g = g
   either_leads (Some key) b h g = h
 
-  -- R holds of the key of a row that ends where the path does
+  -- R holds for the key of a row that ends where the path does
   own_leads : (rs : RowsOf K) → Lead [] rs → IfSome (own rs) R
   own_leads [] h = tt
   own_leads (([], key) ∷ rest) h = h.1 refl
   own_leads ((x ∷ tokens, key) ∷ rest) h = own_leads rest h.2
 
-  -- the rows that begin as the path does lead on behind its first byte
+  -- likewise for the rows that begin with the path's first byte, after that byte
   step_leads : (b : ℕ) (path : List ℕ) (rs : RowsOf K) → b < 256 → Lead (b ∷ path) rs → Lead path (step b rs)
   step_leads b path [] l h = tt
   step_leads b path (([], key) ∷ rest) l h = step_leads b path rest l h.2
@@ -127,7 +127,7 @@ module _ {K : Type 0} (R : K → Type 0) where
           let ascii : x < 128 = plain_byte x tokens (omega arith) parts.0 in
           (parts.1, λ m. h.1 (inl (ascii, (path, ap (λ y. y ∷ path) (sym is), m))), later)
 
-  -- the rows that begin with a parameter, from behind it on
+  -- likewise for the rows that begin with a parameter, after the parameter
   step_behind : (path : List ℕ) (rs : RowsOf K) → Lead path rs → Behind path (step param_token rs)
   step_behind path [] h = tt
   step_behind path (([], key) ∷ rest) h = step_behind path rest h.2
@@ -152,7 +152,7 @@ module _ {K : Type 0} (R : K → Type 0) where
       by false e later = later
       by true e later = absurd (plain_catch x tokens (eqb-true x catch_all_token e) (plain_parts x tokens h.0).0)
 
-  -- behind a parameter the rows with one suffix lead on where the segment leaves room for just that suffix
+  -- likewise for the rows with one suffix after a parameter, if the segment is at least as long as the suffix
   suffix_leads : (suffix path : List ℕ) (rs : RowsOf K) → 0 < length suffix → length suffix ≤ length (segment path) → Behind path rs
       → Lead (drop (length (segment path) - length suffix) path) (with_suffix suffix rs)
   suffix_leads suffix path [] some room h = tt
@@ -171,7 +171,7 @@ module _ {K : Type 0} (R : K → Type 0) where
           let much : taken tokens path ≡ length (segment path) - length suffix = taken_before tokens path filled ∙ rw is refl in
           (h.0, λ m. h.2 (rw is room) (rw much m), later)
 
-  -- behind a parameter that takes all of the path the rows lead on at its end
+  -- likewise for the rows after a parameter that takes the whole path
   end_leads : (path : List ℕ) (rs : RowsOf K) → Behind path rs → Lead [] rs
   end_leads path [] h = tt
   end_leads path ((tokens, key) ∷ rest) h = (h.0, λ m. by tokens (matches_end tokens h.1 m) h.2, end_leads path rest h.3)
@@ -180,19 +180,19 @@ module _ {K : Type 0} (R : K → Type 0) where
           → (length (segment left) ≤ length (segment path) → Matches left (drop (taken left path) path) → R key) → R key
       by left e go = (rw e at go) (omega arith) (drop_all (length path) path (omega arith))
 
-  -- the longest suffix leaves something of the segment in front of it
+  -- the longest suffix is shorter than the segment
   longest_short : (whole best : List ℕ) (rs : RowsOf K) → (length best ≡ 0) ⊎ (length best < length whole)
       → (length (longest_from whole best rs) ≡ 0) ⊎ (length (longest_from whole best rs) < length whole)
   longest_short whole best [] h = h
   longest_short whole best ((tokens, key) ∷ rest) h =
       longest_short whole (better whole best (segment tokens)) rest (better-short whole best (segment tokens) h)
 
-  -- what is dropped of a path and of the path behind its first byte
+  -- dropping n bytes of a path is dropping n - 1 bytes of its rest
   drop_front : (n b : ℕ) (path : List ℕ) → 0 < n → drop (n - 1) path ≡ drop n (b ∷ path)
   drop_front zero b path h = absurd (omega arith)
   drop_front (suc n) b path h = let less : suc n - 1 ≡ n = omega arith in rw less refl
 
-  -- so the rows that a parameter's step keeps lead on where it goes on
+  -- so the property holds for the rows that a parameter's step keeps, at the place where it continues
   param_leads : (b : ℕ) (path : List ℕ) (rs : RowsOf K) → Behind (b ∷ path) rs
       → Lead (drop ((param_step rs (b ∷ path)).0 - 1) path) (param_step rs (b ∷ path)).1
   unfolding param_step
@@ -225,7 +225,7 @@ module _ {K : Type 0} (R : K → Type 0) where
           let moved = drop_front (length (segment whole) - length longest) b path (omega arith) in
           subst (λ (left : List ℕ). Lead left (with_suffix longest rs)) (sym moved) (suffix_leads longest whole rs some (omega arith) h)
 
-  -- R holds of what a walk over the rows finds
+  -- R holds for what a walk over the rows finds
   seek_leads : (skip : ℕ) (rs : RowsOf K) (path : List ℕ) → IsText path → Lead (drop skip path) rs → IfSome (seek skip rs path) R
   unfolding seek
   seek_leads zero rs [] t h = own_leads rs h
@@ -238,43 +238,43 @@ module _ {K : Type 0} (R : K → Type 0) where
 
 -- ---- a walk along a pattern that the path matches
 
--- one place on in what begins at a place
+-- after the first element of a suffix comes the rest of the suffix
 drop_one : (n : ℕ) (xs rest : List ℕ) (x : ℕ) → drop n xs ≡ x ∷ rest → drop (n + 1) xs ≡ rest
 drop_one n xs rest x e = sym (drop-drop 1 n xs) ∙ ap (drop 1) e
 
--- a place where something begins is within the list
+-- the index of a suffix that isn't empty is within the list
 drop_within : (n : ℕ) (xs rest : List ℕ) (x : ℕ) → drop n xs ≡ x ∷ rest → n < length xs
 drop_within n xs rest x e = omega (arith, ap length e, length-drop n xs)
 
--- and that is the element there
+-- the first element of the suffix is the element at this index
 drop_at : (n : ℕ) (xs rest : List ℕ) (x : ℕ) → drop n xs ≡ x ∷ rest → get_or xs n 0 ≡ x
 drop_at n xs rest x e =
     let same : n + 0 ≡ n = omega arith in
     ap (λ k. get_or xs k 0) (sym same) ∙ sym (get_or-drop n xs 0 0) ∙ ap (λ ys. get_or ys 0 0) e
 
--- a pattern has a parameter there, or ends
+-- the pattern has a parameter here, or ends
 abbrev IsWild : List ℕ → Type 0
 IsWild [] = Unit {0}
 IsWild (x ∷ tokens) = x ≡ param_token
 
--- a route's names are text
+-- the names of a route are UTF-8
 abbrev are_names : List ℕ → List (ℕ × ℕ) → Bool
 are_names text [] = true
 are_names text (name ∷ rest) = is_utf8 (part_of text name.0 name.1) && are_names text rest
 
 module _ (pattern path : List ℕ) (utf8 : IsUtf8 path) where
-  -- these are the tokens from one place on, they match the path from another, and the path may be cut there
+  -- at these indexes the rest of the pattern matches the rest of the path, and the path has a character boundary
   record Meets (tokens : List ℕ) (token at : ℕ) : Type 0 where
     left : drop token pattern ≡ tokens
     edge : IsCharBoundary path at
     plain : is_plain tokens ≡ true
     matches : Matches tokens (drop at path)
 
-  -- the same at a parameter or at the pattern's end
+  -- likewise at a parameter or at the end of the pattern
   abbrev Stands : ℕ × ℕ → Type 0
   Stands w = (tokens : List ℕ) × Meets tokens w.0 w.1 × IsWild tokens
 
-  -- a walk goes past the bytes in front of a parameter
+  -- a walk passes the bytes before a parameter
   past_bytes : (tokens : List ℕ) (token at : ℕ) → Meets tokens token at → Stands (wild_from tokens (length path) token at)
   past_bytes [] token at m = ([], m, tt)
   past_bytes (x ∷ tokens) token at m = by (ltb x param_token) refl m.matches parts.0 (past_bytes tokens (token + 1) (at + 1))
@@ -302,24 +302,24 @@ module _ (pattern path : List ℕ) (utf8 : IsUtf8 path) where
           } in
           subst (λ (n : ℕ). Stands (wild_from tokens (length path) (token + 1) n)) (sym next) (later on)
 
-  -- a byte's place is one where the path may be cut
+  -- the index of an ASCII byte is a character boundary
   edge_before : (x : ℕ) (tokens : List ℕ) (at : ℕ) → x < 128 → Matches (x ∷ tokens) (drop at path) → IsCharBoundary path at
   edge_before x tokens at l (inr k) = absurd (omega (arith, k.0))
   edge_before x tokens at l (inl k) =
       let ascii : get_or path at 0 < 128 = omega (arith, drop_at at path k.1.0 x k.1.1) in
       IsCharBoundary-before_ascii path at (drop_within at path k.1.0 x k.1.1) ascii
 
-  -- the last parameter takes all that is left
+  -- the last parameter takes the rest of the path
   stop_last : (token at : ℕ) → length pattern ≤ token + 1 → wild_stop pattern token path at ≡ length path
   stop_last token at h = grind (arith, nat_tests)
 
-  -- any other leaves what stands behind it in the segment
+  -- any other parameter leaves the rest of the pattern's segment
   stop_before : (token at : ℕ) → token + 1 < length pattern → get_or pattern token 0 ≡ param_token
       → wild_stop pattern token path at ≡ at + length (segment (drop at path)) - length (segment (drop (token + 1) pattern))
   stop_before token at h e = grind (arith, nat_tests)
 
   module _ (short : length pattern < 18446744073709551615) where
-    -- nothing is left of the pattern, nor of the path
+    -- both the pattern and the path are at their ends
     ended : (token at stop : ℕ) → length pattern ≤ token → stop ≡ length path → Meets [] token stop
     ended token at stop h e = record {
       left = drop_all token pattern h;
@@ -328,7 +328,7 @@ module _ (pattern path : List ℕ) (utf8 : IsUtf8 path) where
       matches = rw e (drop_all (length path) path (omega arith));
     }
 
-    -- and past the parameter
+    -- after a parameter
     past_part : (tokens : List ℕ) (token at : ℕ) → Meets tokens token at → IsWild tokens
         → (rest : List ℕ) × Meets rest (after_token token) (wild_stop pattern token path at)
     past_part [] token at m w =
@@ -378,7 +378,7 @@ module _ (pattern path : List ℕ) (utf8 : IsUtf8 path) where
               matches = goes;
             }
 
-    -- what stands between two places where the path may be cut
+    -- the text between two character boundaries is UTF-8
     part_is_text : (start end : ℕ) → IsCharBoundary path start → IsCharBoundary path end → IsUtf8 (part_of path start end)
     part_is_text start end h g = by (leb start end && leb end (length path)) refl
       where
@@ -388,7 +388,7 @@ module _ (pattern path : List ℕ) (utf8 : IsUtf8 path) where
             let order : start ≤ end = grind (arith, nat_tests) in
             IsUtf8-between path start end utf8 order h g
 
-    -- all that a walk tells, where the names are text
+    -- everything that a walk returns is UTF-8, if the names are
     walk_is_text : (text : List ℕ) (names : List (ℕ × ℕ)) (tokens : List ℕ) (token at : ℕ) → are_names text names ≡ true
         → Meets tokens token at → AllText (walk pattern text path names token at)
     walk_is_text text [] tokens token at h m = tt
@@ -403,14 +403,14 @@ module _ (pattern path : List ℕ) (utf8 : IsUtf8 path) where
           walk_is_text text rest p.0 (after_token w.0) (wild_stop pattern w.0 path w.1) named.1 p.1,
         )
 
--- ---- UTF-8 is bytes
+-- ---- UTF-8 consists of bytes
 
--- two lists of bytes, one after the other
+-- two lists of bytes, joined
 text_append : (xs ys : List ℕ) → IsText xs → IsText ys → IsText (xs ++ ys)
 text_append [] ys h g = g
 text_append (x ∷ xs) ys h g = (h.0, text_append xs ys h.1 g)
 
--- a character is told in bytes
+-- a character is encoded in bytes
 bytes_of_char : (c : ℕ) → scalar c ≡ true → IsText (encode c)
 unfolding encode
 bytes_of_char c h = by (ltb c 128) refl (ltb c 2048) refl (ltb c 65536) refl
@@ -433,26 +433,26 @@ bytes_of_char c h = by (ltb c 128) refl (ltb c 2048) refl (ltb c 65536) refl
         let l = below (scalar_cases c h) in
         (omega arith, (omega arith, (omega arith, (omega arith, tt))))
 
--- and so is a text
+-- so is a text
 bytes_of_chars : (cs : List ℕ) → scalars cs ≡ true → IsText (encodes cs)
 bytes_of_chars [] h = tt
 bytes_of_chars (c ∷ cs) h =
     let both = and_parts (scalar c) (scalars cs) h in
     text_append (encode c) (encodes cs) (bytes_of_char c both.0) (bytes_of_chars cs both.1)
 
--- what is UTF-8 is bytes
+-- a UTF-8 text consists of bytes
 utf8_is_bytes : (path : List ℕ) → IsUtf8 path → IsText path
 utf8_is_bytes path u = subst IsText (encodes-chars path u) (bytes_of_chars (chars path) (scalars-chars path u))
 
 -- ---- the table's paths
 
--- a row has its route's pattern, which is plain and no longer than a count, and the route's names are text
+-- a row has its route's pattern, which is plain and not too long, and the route's names are UTF-8
 abbrev is_fit : List ℕ → RouteOf Place → Bool
 is_fit tokens route =
     same_text tokens route.pattern
     && (is_plain tokens && (ltb (length route.pattern) 18446744073709551615 && are_names route.text route.names))
 
--- each row is
+-- each row is fit
 abbrev are_fit : Rows → Bool
 are_fit [] = true
 are_fit ((tokens, route) ∷ rest) = is_fit tokens route && are_fit rest
@@ -464,7 +464,7 @@ record IsRead (path : List ℕ) (route : RouteOf Place) : Type 0 where
   names : are_names route.text route.names ≡ true
   matches : Matches route.pattern path
 
--- it is known of rows that are fit
+-- this holds if the rows are fit
 fit_leads : (path : List ℕ) (rows : Rows) → are_fit rows ≡ true → Lead (IsRead path) path rows
 fit_leads path [] h = tt
 fit_leads path ((tokens, route) ∷ rest) h =
@@ -488,7 +488,7 @@ table_is_fit : are_fit (rows_of_table [] the_table) ≡ true
 unfolding matchit_on_literals rows_of_table is_utf8 chars encode
 table_is_fit = refl
 
--- what the parts in braces take of a valid path is valid UTF-8
+-- the parts in braces match valid UTF-8 in a valid path
 pub parts_are_text : (path : List ℕ) → IsUtf8 path → (route : RouteOf Place) → first (rows_of_table [] the_table) path ≡ Some route
     → AllText (walk route.pattern route.text path route.names 0 0)
 parts_are_text path utf8 route e =

@@ -1,4 +1,4 @@
--- What the functions of a request come to, by what their parts did.
+-- What the functions for requests do, derived from what their parts did.
 use Rattle.std.proofs.Common.{◌≡◌, ◌==◌, ◌||◌, ◌++◌, ◌∙◌, ◌∷◌, if◌then◌else◌, codes, nat_lt, ℕ, List, [], Bool, true, false, Option, Some, None, Result, Ok, Err, bytes_eq, refl, sym, ap, subst, ◌⊎◌, inl, inr, append_assoc}
 use Rattle.std.specs.Io.KnownBytes.{Consumes}
 use Rattle.std.specs.Prelude.{IfOk, IfSome, IsErr, OnOk, MatchResult}
@@ -44,44 +44,44 @@ use Rattle.tacho_http.specs.Serve.{ByCaller, ByKey, ByKeys, ByOwner, ByWhom, Rea
 use Rattle.tacho_http.specs.declared.exchange.IoFault.TheVariants as io
 use Rattle.tacho_http.specs.declared.response.Response.{Response}
 
--- ---- one meaning for another
+-- ---- one meaning implies another
 
--- of a reply
+-- for a reply
 gives_as : (stands : State → Type 0) (leaves : List State → Type 0) (command other : Bool) (s : State) (A B : Reaction) (reply : Reply)
     → (other ≡ true → command ≡ true) → ((reply : Reply) (after : State) → A reply after → B reply after)
     → Gives stands leaves command s A reply → Gives stands leaves other s B reply
 gives_as stands leaves command other s A B reply more h (inl g) = inl (g.0, g.1, h reply g.0 g.2, λ is done. g.3 (more is) done)
 gives_as stands leaves command other s A B reply more h (inr g) = inr g
 
--- or where the reader failed
+-- likewise if the reader failed
 given_as : (stands : State → Type 0) (leaves : List State → Type 0) (command other : Bool) (s : State) (A B : Reaction) (result : Result Response Failed)
     → (other ≡ true → command ≡ true) → ((reply : Reply) (after : State) → A reply after → B reply after)
     → Given stands leaves command s A result → Given stands leaves other s B result
 given_as stands leaves command other s A B (Ok response) more h g = gives_as stands leaves command other s A B (reply_of response) more h g
 given_as stands leaves command other s A B (Err failed) more h g = g
 
--- of what a stop leaves
+-- for the states that a crash may leave
 stops_as : (leaves : List State → Type 0) (past : List State) (A B : Reaction) (reply : Reply)
     → ((reply : Reply) (after : State) → A reply after → B reply after)
     → Stops leaves past A reply → Stops leaves past B reply
 stops_as leaves past A B reply h (inl l) = inl l
 stops_as leaves past A B reply h (inr g) = inr (g.0, g.1, g.2, h g.0 g.1 g.3, g.4)
 
--- or where the reader failed
+-- likewise if the reader failed
 stopped_as : (leaves : List State → Type 0) (past : List State) (A B : Reaction) (result : Result Response Failed)
     → ((reply : Reply) (after : State) → A reply after → B reply after)
     → Stopped leaves past A result → Stopped leaves past B result
 stopped_as leaves past A B (Ok response) h g = stops_as leaves past A B (reply_of response) h g
 stopped_as leaves past A B (Err failed) h g = g
 
--- what is undone by a test is undone by one that fails with it
+-- what counts as undone by one flag does by another that is false with it
 undone_as : (command other : Bool) (result : Result Response Failed) → (other ≡ false → command ≡ false)
     → IsUndone other result → IsUndone command result
 undone_as command other (Ok response) less (inl none) = inl (less none)
 undone_as command other (Ok response) less (inr none) = inr none
 undone_as command other (Err failed) less undone = undone
 
--- where a task gave up, the reply is 503
+-- if memory ran out or the store failed, the reply is 503
 gave_up : (f : Fault) → IsGivenUp f → reply_to (Err f) ≡ fixed status.Unavailable
 gave_up fault.Memory h = refl
 gave_up fault.Device h = absurd h
@@ -109,7 +109,7 @@ gave_up (fault.Told told.TooLarge) h = absurd h
 
 -- ---- the reply to what a task answered
 
--- no refusal tells that something is done
+-- no refusal says that a request was done
 refused : (f : Fault) → is_done (reply_to (Err f)).status ≡ false
 refused fault.Device = refl
 refused fault.Memory = refl
@@ -173,17 +173,17 @@ refused (fault.Told (told.Sheet (sheet.Column a))) = refl
 refused (fault.Told (told.Sheet (sheet.Text a b))) = refl
 refused (fault.Told (told.Sheet sheet.Memory)) = refl
 
--- so that nothing follows of one that does
+-- so a reply to a fault never says so
 never_done : {P : Type 0} (f : Fault) (status : Status) → status ≡ (reply_to (Err f)).status → is_done status ≡ true → P
 never_done f s same done = (let none = refused f in let said = ap is_done same in cc)
 
--- 503 doesn't tell it either
+-- nor does a reply of 503
 not_available : {P : Type 0} (reply : Reply) → reply ≡ fixed status.Unavailable → is_done reply.status ≡ true → P
 not_available reply is done = (let said = ap (λ (r : Reply). is_done r.status) is in cc)
 
 module _ (stands : State → Type 0) (leaves : List State → Type 0) (s : State) (t : Task) (body : List ℕ) (Wants : Reaction)
     (h : (answer : Answer) (after : State) → Does t body s answer after → Wants (reply_to answer) after) where
-  -- of what a command told a stop leaves the state after it alone
+  -- after a command that was done, a crash leaves only the state after it
   replied : (command : Bool) (answer : Answer) → Done stands s (Does t body s) answer
       → (command ≡ true → IsKept stands leaves (Does t body s) answer) → Gives stands leaves command s Wants (reply_to answer)
   replied true (Ok text) d kept = (let k = kept refl in inl (k.0, k.1, h (Ok text) k.0 k.2, λ is done. k.3))
@@ -191,26 +191,26 @@ module _ (stands : State → Type 0) (leaves : List State → Type 0) (s : State
   replied command (Err f) (st, inl d) kept = inl (s, st, h (Err f) s d, λ is done. never_done f _ refl done)
   replied command (Err f) (st, inr g) kept = inr (gave_up f g, st)
 
-  -- what a stop leaves of a task
+  -- the states that a crash may leave, after a task
   stopped : (past : List State) (answer : Answer) → TaskStops leaves past (Does t body s) answer → Stops leaves past Wants (reply_to answer)
   stopped past (Ok text) (inl l) = inl l
   stopped past (Ok text) (inr a) = inr (reply_to (Ok text), a.0, inl refl, h (Ok text) a.0 a.1, a.2)
   stopped past (Err f) (inl l) = inl l
   stopped past (Err f) (inr a) = inr (reply_to a.1.0, a.1.1, inr (gave_up f a.0), h a.1.0 a.1.1 a.1.2, a.1.3)
 
--- what was told, the archive is live behind
+-- if a request was done, the archive is live
 is_live_behind : {P : Type 0} (answer : Answer) → OnOk answer P → is_done (reply_to answer).status ≡ true → P
 is_live_behind (Ok text) live done = live
 is_live_behind (Err f) live done = never_done f _ refl done
 
--- what was told tells that something is done
+-- the reply to a task that was done says so
 told_done : (text : Told) → is_done (reply_to (Ok text)).status ≡ true
 told_done (Added line) = refl
 told_done (Line line) = refl
 told_done (Long text) = refl
 told_done (File bytes) = refl
 
--- so that a task has changed nothing where it is no command, or where the reply doesn't tell that anything is done
+-- so a task changed nothing if it is no command, or if the reply doesn't say that it was done
 changes_nothing : (command : Bool) (answer : Answer) (s : Status) → s ≡ (reply_to answer).status
     → (command ≡ false) ⊎ (is_done s ≡ false) → ChangesNothing command answer
 changes_nothing false answer s same undone = tt
@@ -218,14 +218,14 @@ changes_nothing true (Err f) s same undone = tt
 changes_nothing true (Ok text) s same (inl none) = cc
 changes_nothing true (Ok text) s same (inr none) = (let done = told_done text in let said = ap is_done same in cc)
 
--- ---- what is refused before anything is done
+-- ---- refusals before anything is done
 
--- a refusal that doesn't tell that something is done
+-- a refusal doesn't say that a request was done
 abbrev Refuses : {A : Type 0} → Result A Status → Type 0
 Refuses (Ok x) = Unit {0}
 Refuses (Err refusal) = is_done refusal ≡ false
 
--- a test between two answers
+-- a choice between two answers
 either : {A : Type 0} (b : Bool) (x y : Result A Status) → Refuses x → Refuses y → Refuses (if b then x else y)
 either true x y h k = h
 either false x y h k = k
@@ -240,40 +240,40 @@ refuses_wish : (a : Asker) (m : Option Method) (found : Option Named) → Refuse
 refuses_wish a m None = refl
 refuses_wish a m (Some named) = refuses_granted a named (offered m named.place)
 
--- a length that isn't told, or too large, or of nothing to come
+-- a length that can't be read, is too large, or isn't 0 although no body is taken
 refuses_within : (takes : Bool) (told : Option ℕ) → Refuses (body_within takes told)
 refuses_within takes None = refl
 refuses_within takes (Some n) = either (nat_lt 262144 n) _ _ refl (either (takes || (n == 0)) _ _ tt refl)
 
--- none, one or more of them
+-- no length, one length, or several
 refuses_told : (takes : Bool) (values : List (List ℕ)) → Refuses (body_told takes values)
 refuses_told takes [] = either takes _ _ refl tt
 refuses_told takes (value ∷ []) = refuses_within takes (length_told value)
 refuses_told takes (value ∷ other ∷ more) = refl
 
--- or a coding
+-- or a transfer coding
 refuses_coded : (takes : Bool) (codings lengths : List (List ℕ)) → Refuses (body_coded takes codings lengths)
 refuses_coded takes [] lengths = refuses_told takes lengths
 refuses_coded takes (coding ∷ more) lengths = refl
 
--- what the length of a body is refused with
+-- every refusal of the length of a body
 refuses_length : (m : Option Method) (takes : Bool) (fields : List (List ℕ × List ℕ)) → Refuses (body_length m takes fields)
 refuses_length (Some method.Post) takes fields =
     refuses_coded takes (values_under (codes "transfer-encoding") fields) (values_under (codes "content-length") fields)
 refuses_length (Some method.Get) takes fields = tt
 refuses_length None takes fields = tt
 
--- what is asked for
+-- every refusal of what is asked for
 pub wish_refused : (a : Asker) (m : Option Method) (found : Option Named) (refusal : Status) → Err refusal ≡ wish_at a m found → is_done refusal ≡ false
 wish_refused a m found refusal e = subst (λ (r : Result Wish Status). Refuses r) (sym e) (refuses_wish a m found)
 
--- and how long its body is
+-- every refusal of the length of a body, by the code's result
 pub length_refused : (m : Option Method) (takes : Bool) (fields : List (List ℕ × List ℕ)) (refusal : Status) → Err refusal ≡ body_length m takes fields → is_done refusal ≡ false
 length_refused m takes fields refusal e = subst (λ (r : Result ℕ Status). Refuses r) (sym e) (refuses_length m takes fields)
 
--- ---- what a request asks for, by what its parts are
+-- ---- what a request asks for, from its parts
 
--- by who asks, the method and the path
+-- from the caller, the method and the path
 pub wish_found_by : (c : Caller) (h : RequestHead) (m : Option Method) (text path : List ℕ) (a : Asker) (found : Option Named) (w : Result Wish Status)
     → m ≡ method_of text → a ≡ asker_of c → found ≡ named_at path → text ≡ h.method → path ≡ h.target → w ≡ wish_at a m found
     → wish_of (asker_of c) h.method h.target ≡ w
@@ -282,7 +282,7 @@ wish_found_by c h m text path a found w em ea ef eh et e =
     ∙ (ap (λ (x : Option Method). wish_at (asker_of c) x found) (em ∙ ap method_of eh)
     ∙ ap (λ (x : Option Named). wish_at (asker_of c) (method_of h.method) x) (ef ∙ ap named_at et))))
 
--- how long its body is
+-- the length of its body
 pub length_found : (h : RequestHead) (m : Option Method) (text : List ℕ) (want : Want) (takes : Bool) (fields : List (List ℕ × List ℕ)) (r : Result ℕ Status)
     → m ≡ method_of text → takes ≡ takes_input want → text ≡ h.method → fields ≡ fields_of h → r ≡ body_length m takes fields
     → body_of h want ≡ r
@@ -291,7 +291,7 @@ length_found h m text want takes fields r em et eh ef e =
     ∙ (ap (λ (x : Bool). body_length (method_of h.method) x fields) et
     ∙ ap (λ (x : List (List ℕ × List ℕ)). body_length (method_of h.method) (takes_input want) x) ef)))
 
--- who lacks a body by one description lacks it by another
+-- if the body lacks bytes for one description of the caller, it does for a weaker one
 pub lacks_as : (IsBy IsOther : List ℕ → Caller → Type 0) (h : RequestHead) (behind : List ℕ) (old new : Option (List ℕ))
     → ((key : List ℕ) (c : Caller) → IsBy key c → IsOther key c) → LacksMore IsBy h behind old new → LacksMore IsOther h behind old new
 lacks_as IsBy IsOther h behind old new f l = record {
@@ -310,7 +310,7 @@ lacks_as IsBy IsOther h behind old new f l = record {
   };
 }
 
--- by the key of this caller
+-- for the caller with this key
 pub by_this : (IsOther : List ℕ → Caller → Type 0) (key : List ℕ) (c : Caller) (h : RequestHead) (behind : List ℕ) (old new : Option (List ℕ))
     → IsOther key c → LacksMore (λ by who. (by ≡ key) × (who ≡ c)) h behind old new → LacksMore IsOther h behind old new
 by_this IsOther key c h behind old new is =
@@ -319,14 +319,14 @@ by_this IsOther key c h behind old new is =
 
 -- ---- one function and its parts
 
--- there are bytes that are left
+-- some unread bytes exist
 some_left : (unread : Option (List ℕ)) → (left : List ℕ) × IfSome unread (λ all. left ≡ all)
 some_left None = ([], tt)
 some_left (Some all) = (all, refl)
 
 module _ {K : Type 0} (stands : K → State → Type 0) (is_clean is_live : K → Type 0) (leaves : K → List State → Type 0)
     (is_same : K → K → Type 0) (same_self : IsSameAsItself is_same) where
-  -- one meaning for another
+  -- one meaning implies another
   pub responds_as : (old new : K) (command other : Bool) (unread : Option (List ℕ)) (result : Result Response Failed) (A B : List ℕ → State → Reaction)
       → (other ≡ true → command ≡ true) → (other ≡ false → command ≡ false)
       → ((left : List ℕ) (s : State) (reply : Reply) (after : State) → A left s reply after → B left s reply after)
@@ -342,7 +342,7 @@ module _ {K : Type 0} (stands : K → State → Type 0) (is_clean is_live : K �
     crash = λ c s past st l. stopped_as (leaves new) past (A r.left s) (B r.left s) result (h r.left s) (r.crash c s past st l);
   }
 
-  -- nothing was done, and this reply is wanted, which doesn't tell that anything is
+  -- nothing was done; the reply is one that the request may get, and doesn't say that anything was done
   nothing_of : (keeper : K) (command : Bool) (unread : Option (List ℕ)) (left : List ℕ) → IfSome unread (λ all. left ≡ all)
       → (response : Response) (Wants : List ℕ → State → Reaction)
       → is_done response.status ≡ false → ((s : State) → Wants left s (reply_of response) s)
@@ -357,14 +357,14 @@ module _ {K : Type 0} (stands : K → State → Type 0) (is_clean is_live : K �
     crash = λ c s past st l. inl l;
   }
 
-  -- over whatever is left
+  -- for any unread bytes
   pub nothing : (keeper : K) (command : Bool) (unread : Option (List ℕ)) (response : Response) (Wants : List ℕ → State → Reaction)
       → is_done response.status ≡ false → ((left : List ℕ) (s : State) → Wants left s (reply_of response) s)
       → Responds stands is_clean is_live leaves is_same keeper keeper command unread (Ok response) Wants
   nothing keeper command unread response Wants none h =
       let i = some_left unread in nothing_of keeper command unread i.0 i.1 response Wants none (h i.0)
 
-  -- memory was wanting
+  -- memory ran out
   pub unavailable : (keeper : K) (command : Bool) (unread : Option (List ℕ)) (response : Response) (Wants : List ℕ → State → Reaction) → reply_of response ≡ fixed status.Unavailable
       → Responds stands is_clean is_live leaves is_same keeper keeper command unread (Ok response) Wants
   unavailable keeper command unread response Wants is =
@@ -394,7 +394,7 @@ module _ {K : Type 0} (stands : K → State → Type 0) (is_clean is_live : K �
 
   -- ---- bodies
 
-  -- the input ended before the body
+  -- the input ended before the end of the body
   pub cut_short : (keeper : K) (command : Bool) (unread : Option (List ℕ)) (response : Response) (w : Wish) (n : ℕ) (c : Caller) (behind : List ℕ)
       → reply_of response ≡ fixed status.BadRequest → IsCutShort behind unread n
       → Responds stands is_clean is_live leaves is_same keeper keeper command unread (Ok response)
@@ -403,7 +403,7 @@ module _ {K : Type 0} (stands : K → State → Type 0) (is_clean is_live : K �
       nothing_of keeper command unread cut.left cut.told response (λ left s. Runs w n c (behind ++ left) s)
       (ap (λ (r : Reply). is_done r.status) is) (λ s. inl (cut.short, (is, refl)))
 
-  -- a word of the path is wrong
+  -- an argument in the path is bad
   pub wrong_word : (keeper : K) (command : Bool) (unread : Option (List ℕ)) (response : Response) (w : Wish) (n : ℕ) (c : Caller) (behind body : List ℕ) (f : Fault)
       → reply_of response ≡ reply_to (Err f) → IsBody behind unread n body → IsTask w.want c w.driver w.word (Err f)
       → Responds stands is_clean is_live leaves is_same keeper keeper command unread (Ok response)
@@ -436,9 +436,9 @@ module _ {K : Type 0} (stands : K → State → Type 0) (is_clean is_live : K �
       done_for s answer after does =
           inr (read.long, (Ok t, task, (answer, subst (λ (bytes : List ℕ). Does t bytes s answer after) read.bytes does, refl)))
 
-  -- ---- who asks, and for what
+  -- ---- who asks, and what for
 
-  -- what is asked for is run
+  -- what is asked for was done
   pub by_wish : (old new : K) (command : Bool) (unread : Option (List ℕ)) (result : Result Response Failed) (c : Caller) (h : RequestHead) (behind : List ℕ) (w : Wish) (n : ℕ)
       → (is_post (method_of h.method) ≡ true → command ≡ true) → (is_post (method_of h.method) ≡ false → command ≡ false)
       → wish_of (asker_of c) h.method h.target ≡ Ok w → body_of h w.want ≡ Ok n
@@ -450,7 +450,7 @@ module _ {K : Type 0} (stands : K → State → Type 0) (is_clean is_live : K �
       subst (λ (x : Result Wish Status). WithWish x c h (behind ++ left) s reply after) (sym wanted)
       (subst (λ (x : Result ℕ Status). WithBody x w c (behind ++ left) s reply after) (sym long) does)) r
 
-  -- there is no such place, or nothing at it by this method, or it is another's
+  -- the path names no place, or the place doesn't offer this method, or it is for the other asker
   pub no_wish : (keeper : K) (unread : Option (List ℕ)) (response : Response) (c : Caller) (h : RequestHead) (behind : List ℕ) (refusal : Status)
       → reply_of response ≡ fixed refusal → is_done refusal ≡ false → wish_of (asker_of c) h.method h.target ≡ Err refusal
       → Responds stands is_clean is_live leaves is_same keeper keeper (is_post (method_of h.method)) unread (Ok response) (λ left s. ByCaller c h (behind ++ left) s)
@@ -458,7 +458,7 @@ module _ {K : Type 0} (stands : K → State → Type 0) (is_clean is_live : K �
       nothing keeper (is_post (method_of h.method)) unread response (λ left s. ByCaller c h (behind ++ left) s) (ap (λ (r : Reply). is_done r.status) is ∙ none)
       (λ left s. subst (λ (x : Result Wish Status). WithWish x c h (behind ++ left) s (reply_of response) s) (sym refused) (is, refl))
 
-  -- the length of its body isn't told, or is too large
+  -- the length of the body is missing, bad, or too large
   pub no_length : (keeper : K) (unread : Option (List ℕ)) (response : Response) (c : Caller) (h : RequestHead) (behind : List ℕ) (w : Wish) (refusal : Status)
       → reply_of response ≡ fixed refusal → is_done refusal ≡ false → wish_of (asker_of c) h.method h.target ≡ Ok w → body_of h w.want ≡ Err refusal
       → Responds stands is_clean is_live leaves is_same keeper keeper (is_post (method_of h.method)) unread (Ok response) (λ left s. ByCaller c h (behind ++ left) s)
@@ -479,7 +479,7 @@ module _ {K : Type 0} (stands : K → State → Type 0) (is_clean is_live : K �
 
 module _ {K : Type 0} (stands : K → State → Type 0) (is_clean is_live : K → Type 0) (leaves : K → List State → Type 0)
     (is_same : K → K → Type 0) (same_then : StaysSame is_live is_same) where
-  -- the key is nobody's, or it could not be asked whose it is
+  -- the key is nobody's, or the owner of the key couldn't be looked up
   pub asked_in_vain : (old new : K) (command : Bool) (unread : Option (List ℕ)) (response : Response) (key : List ℕ)
       (Wants : List ℕ → State → Reaction) (found : Result (Option ℕ) StoreFault)
       → is_done response.status ≡ false
@@ -513,7 +513,7 @@ module _ {K : Type 0} (stands : K → State → Type 0) (is_clean is_live : K �
       (λ left s st clean. inl (subst (λ (b : Bool). ByWhom b key h (behind ++ left) s (reply_of response) s) (sym e)
       (subst (λ (o : Result (Option ℕ) StoreFault). ByOwner o h (behind ++ left) s (reply_of response) s) (sym (reads.answer clean s st)) (is, refl))))
 
-  -- it could not be asked whose it is
+  -- the owner of the key couldn't be looked up
   pub by_none : (old new : K) (command : Bool) (unread : Option (List ℕ)) (response : Response) (office key : List ℕ) (h : RequestHead) (behind : List ℕ) (f : StoreFault)
       → reply_of response ≡ fixed status.Unavailable
       → Reads stands is_clean is_live leaves is_same (λ (n : Option ℕ). n) old new (Err f) (owner key)
@@ -522,7 +522,7 @@ module _ {K : Type 0} (stands : K → State → Type 0) (is_clean is_live : K �
       asked_in_vain old new command unread response key (λ left s. ByKey office key h (behind ++ left) s) (Err f) (ap (λ (r : Reply). is_done r.status) is) reads
       (λ left s st clean. inr is)
 
-  -- the key is a driver's, and his request was answered
+  -- the key is a driver's, and the driver's request was answered
   pub asked_for : (old mid new : K) (command : Bool) (unread : Option (List ℕ)) (result : Result Response Failed) (key : List ℕ) (n : ℕ)
       (A B : List ℕ → State → Reaction)
       → Reads stands is_clean is_live leaves is_same (λ (n : Option ℕ). n) old mid (Ok (Some n)) (owner key)
@@ -562,13 +562,13 @@ module _ {K : Type 0} (stands : K → State → Type 0) (is_clean is_live : K �
 
 -- ---- the input
 
--- what is left of an input, and what was given of it before
+-- the input is what was read, followed by the unread bytes
 consumed : (unread left : Option (List ℕ)) (came rest : List ℕ) → Consumes unread left came → IfSome left (λ all. rest ≡ all) → IfSome unread (λ all. came ++ rest ≡ all)
 consumed None left came rest cut told = tt
 consumed (Some x) None came rest cut told = absurd cut
 consumed (Some x) (Some y) came rest cut told = ap (λ (xs : List ℕ). came ++ xs) told ∙ sym cut
 
--- what two reads took
+-- what two reads consumed
 consumed_more : (unread mid left : Option (List ℕ)) (came given : List ℕ) → Consumes unread mid came → Consumes mid left given → Consumes unread left (came ++ given)
 consumed_more None mid left came given cut more = tt
 consumed_more (Some x) None left came given cut more = absurd cut
@@ -576,7 +576,7 @@ consumed_more (Some x) (Some y) None came given cut more = absurd more
 consumed_more (Some x) (Some y) (Some z) came given cut more =
     cut ∙ (ap (λ (xs : List ℕ). came ++ xs) more ∙ sym (append_assoc came given z))
 
--- an input whose head posts, and no other, posts something
+-- if an input posts something, its head's method is POST
 posted_by : (input rest : List ℕ) (h : RequestHead) → BeginsWith 8192 32 input h rest → IsPosted input → is_post (method_of h.method) ≡ true
 posted_by input rest h begins p =
     let same = request_unique input h p.0 rest p.1 begins.reads p.2.reads in
@@ -584,7 +584,7 @@ posted_by input rest h begins p =
 
 module _ {K : Type 0} (stands : K → State → Type 0) (is_clean is_live : K → Type 0) (leaves : K → List State → Type 0) (is_same : K → K → Type 0)
     (same_self : IsSameAsItself is_same) (office : List ℕ) where
-  -- nothing was done, and this reply is one that the input may get, which doesn't tell that anything is
+  -- nothing was done; the reply is one that the input may get, and doesn't say that anything was done
   nothing_answered : (keeper : K) (unread left : Option (List ℕ)) (response : Response) (input : List ℕ) → IfSome unread (λ all. input ≡ all)
       → (command : Bool) → (IsPosted input → command ≡ true) → (command ≡ true → IsPosted input)
       → is_done response.status ≡ false → ((s : State) → Reacts office input s (reply_of response) s)
@@ -604,14 +604,14 @@ module _ {K : Type 0} (stands : K → State → Type 0) (is_clean is_live : K �
     known = λ c s st e. cc;
   }
 
-  -- and that of an input without a head, which posts nothing
+  -- likewise for an input without a head, which posts nothing
   pub headless_answered : (keeper : K) (unread left : Option (List ℕ)) (response : Response) (input : List ℕ) → IfSome unread (λ all. input ≡ all)
       → HasNoHead 8192 32 input → is_done response.status ≡ false → ((s : State) → Reacts office input s (reply_of response) s)
       → Answered stands is_clean is_live leaves is_same keeper keeper office unread left (Ok response)
   headless_answered keeper unread left response input told no_head none h =
       nothing_answered keeper unread left response input told false (λ p. absurd (no_head p.0 p.1 p.2)) (λ is. cc) none h
 
-  -- and that of a head, by what came of its input
+  -- likewise for a head, found from the bytes that came
   pub head_answered : (keeper : K) (unread left : Option (List ℕ)) (response : Response) (came behind : List ℕ) (h : RequestHead) → Consumes unread left came
       → ((more : List ℕ) → BeginsWith 8192 32 (came ++ more) h (behind ++ more))
       → is_done response.status ≡ false → ((more : List ℕ) (s : State) → Reacts office (came ++ more) s (reply_of response) s)
@@ -621,7 +621,7 @@ module _ {K : Type 0} (stands : K → State → Type 0) (is_clean is_live : K �
       nothing_answered keeper unread left response (came ++ i.0) (consumed unread left came i.0 cut i.1) (is_post (method_of h.method))
       (posted_by (came ++ i.0) (behind ++ i.0) h (begins i.0)) (λ is. (h, behind ++ i.0, begins i.0, is)) none (reacts i.0)
 
-  -- the reader failed, and no whole request had come, whoever asks
+  -- the reader failed before a whole request had come, whoever asks
   pub unread_head : (keeper : K) (unread left : Option (List ℕ)) (failed : Failed)
       → ((IsBy : List ℕ → Caller → Type 0) → IsUnfinished IsBy unread left)
       → Answered stands is_clean is_live leaves is_same keeper keeper office unread left (Err failed)
@@ -641,7 +641,7 @@ module _ {K : Type 0} (stands : K → State → Type 0) (is_clean is_live : K �
         known = λ c s st e. part _;
       }
 
-  -- a request with a key was answered by it
+  -- a request with one key was answered
   pub keyed : (old new : K) (key came behind : List ℕ) (h : RequestHead) (unread mid left : Option (List ℕ)) (result : Result Response Failed)
       → key_of h ≡ Some key → Consumes unread mid came → ((more : List ℕ) → BeginsWith 8192 32 (came ++ more) h (behind ++ more))
       → Responds stands is_clean is_live leaves is_same old new (is_post (method_of h.method)) mid result (λ left s. ByKey office key h (behind ++ left) s)
@@ -697,7 +697,7 @@ module _ {K : Type 0} (stands : K → State → Type 0) (is_clean is_live : K �
 
 module _ {K : Type 0} {stands : K → State → Type 0} {is_clean is_live : K → Type 0} {leaves : K → List State → Type 0} {is_same : K → K → Type 0} {old new : K} {office : List ℕ}
     {unread left : Option (List ℕ)} (before after : Option (List ℕ)) where
-  -- the reply went out whole
+  -- the whole reply was written
   pub exchanged_whole : (response : Response) → Answered stands is_clean is_live leaves is_same old new office unread left (Ok response)
       → IsWritten before after (reply_of response)
       → Exchanged stands is_clean is_live leaves is_same old new office unread before after (Ok (record { status = response.status }))
@@ -715,7 +715,7 @@ module _ {K : Type 0} {stands : K → State → Type 0} {is_clean is_live : K �
     crash = a.crash;
   }
 
-  -- or a beginning of it
+  -- a prefix of the reply was written
   pub exchanged_begun : (response : Response) → Answered stands is_clean is_live leaves is_same old new office unread left (Ok response)
       → IsBegun before after (reply_of response)
       → Exchanged stands is_clean is_live leaves is_same old new office unread before after (Err io.Write)
@@ -733,7 +733,7 @@ module _ {K : Type 0} {stands : K → State → Type 0} {is_clean is_live : K �
     crash = a.crash;
   }
 
-  -- or the reader failed, and nothing did
+  -- the reader failed, and nothing was written
   pub exchanged_unread : (result : Result Response Failed) → ((response : Response) → result ≡ Ok response → ⊥) → Answered stands is_clean is_live leaves is_same old new office unread left result
       → after ≡ before → Exchanged stands is_clean is_live leaves is_same old new office unread before after (Err io.Read)
   exchanged_unread (Ok response) none a same = absurd (none response refl)
@@ -751,19 +751,19 @@ module _ {K : Type 0} {stands : K → State → Type 0} {is_clean is_live : K �
     crash = a.crash;
   }
 
-  -- what the reader had given then is no whole request
+  -- what the reader has given is no whole request
   pub left_unfinished : (result : Result Response Failed) → ((response : Response) → result ≡ Ok response → ⊥) → Answered stands is_clean is_live leaves is_same old new office unread left result
       → IsUnfinished (MayAsk office) unread left
   left_unfinished (Ok response) none a = absurd (none response refl)
   left_unfinished (Err failed) none a = a.unfinished refl
 
-  -- nor one by the keys that the archive knows
+  -- nor is it one for the owner of its key in the archive
   pub left_known : (result : Result Response Failed) → ((response : Response) → result ≡ Ok response → ⊥) → Answered stands is_clean is_live leaves is_same old new office unread left result
       → is_clean new → (s : State) → stands old s → IsUnfinished (Asks s office) unread left
   left_known (Ok response) none a = absurd (none response refl)
   left_known (Err failed) none a = λ c s st. a.known c s st refl
 
--- a request without a key, or with more than one
+-- a request without a key, or with more than one, gets 403
 pub unkeyed : (s : State) (office input rest : List ℕ) (h : RequestHead) (reply : Reply) → BeginsWith 8192 32 input h rest → key_of h ≡ None → reply ≡ fixed status.Forbidden
     → Reacts office input s reply s
 unkeyed s office input rest h reply begins has is =

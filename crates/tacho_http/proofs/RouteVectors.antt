@@ -1,4 +1,4 @@
--- What paths name: each of the table's, and some that name nothing.
+-- What paths name: each path of the table, and some that name nothing.
 use Rattle.std.proofs.Common.{◌≡◌, List, ℕ, [], Option, Some, None, codes, refl}
 use Rattle.matchit.proofs.OnLiterals.{matchit_on_literals}
 use Rattle.tacho_desk.specs.declared.want.MonthReading.TheVariants.{Gaps, Sheet, Spans}
@@ -9,7 +9,7 @@ use Rattle.tacho_http.specs.Routes.{Named, named_at, rows_of_table}
 use Rattle.tacho_http.specs.declared.places.Asker.{Asker}
 use Rattle.tacho_http.specs.declared.places.Asker.TheVariants.{Driver, Office}
 
--- a place, with the words of its path
+-- a place, with the arguments in its path
 abbrev names : Asker → Option Want → Option Want → List ℕ → List ℕ → Option Named
 names a get post driver word = Some (record { place = record { asker = a; get = get; post = post }; driver = driver; word = word })
 

@@ -1,4 +1,4 @@
--- A run goes on by one connection.
+-- One more connection continues a run.
 use Rattle.std.proofs.Common.{◌≡◌, ◌∙◌, ◌++◌, ◌+◌, ◌<◌, ℕ, List, [], ◌∷◌, Bool, Option, Result, Ok, Err, true, false, length, take, drop, get_or, refl, sym, subst, inl, inr, arith}
 use Rattle.std.proofs.lemmas.Grind.{drop_more_same}
 use Rattle.std.proofs.lemmas.List.{take_more, take_more_set, drop_more, drop-set-lt}
@@ -13,7 +13,7 @@ use Rattle.tacho_http.specs.declared.exchange.IoFault.{IoFault}
 use Rattle.tacho_http.specs.declared.exchange.IoFault.TheVariants as io
 use Rattle.tacho_http.specs.declared.exchange.Served.{Served}
 
--- one connection more at the end
+-- one more connection at the end
 run_more : {C S : Type 0} (step : C → C → ℕ → S → S → Type 0) (xs ys : List C) (c d : C) (n one : ℕ) (s m t : S) → Run step xs ys n s m → step c d one m t
     → Run step (xs ++ c ∷ []) (ys ++ d ∷ []) (n + one) s t
 run_more step [] [] c d n one s m t r w =
@@ -23,22 +23,22 @@ run_more step (x ∷ xs) [] c d n one s m t r w = absurd r
 run_more step (x ∷ xs) (y ∷ ys) c d n one s m t r w =
     (r.0, r.1 + one, r.2, r.3, run_more step xs ys c d r.1 one r.2 m t r.4 w, (let e = r.5 in omega arith))
 
--- a place that hasn't been changed
+-- an element that hasn't been changed
 pub same_item : {C : Type 0} (xs ys : List C) (i : ℕ) (d : C) → i < length xs → i < length ys → drop i xs ≡ drop i ys → get_or xs i d ≡ get_or ys i d
 same_item xs ys i d h k e = (let a = drop_more xs i d h in let b = drop_more ys i d k in cc)
 
--- the run up to a place, and the connection there
+-- the run up to an index, followed by the connection there
 pub run_next : {C S : Type 0} (step : C → C → ℕ → S → S → Type 0) (old now : List C) (i : ℕ) (e d : C) (n one : ℕ) (s m t : S) → i < length old → i < length now
     → drop i now ≡ drop i old → Run step (take i old) (take i now) n s m → step (get_or now i e) d one m t → Run step (take (i + 1) old) (take (i + 1) (set now i d)) (n + one) s t
 run_next step old now i e d n one s m t h k same r w =
     rw (take_more old i e h, take_more_set now i d k)
     (run_more step (take i old) (take i now) (get_or old i e) d n one s m t r (subst (λ x. step x d one m t) (same_item now old i e k h same) w))
 
--- the places behind it
+-- the connections after it
 pub rest_next : {C : Type 0} (old now : List C) (i : ℕ) (d : C) → drop i now ≡ drop i old → drop (i + 1) (set now i d) ≡ drop (i + 1) old
 rest_next old now i d same = drop-set-lt (i + 1) now i d (omega arith) ∙ drop_more_same now old i same
 
--- how many connections a result counts for
+-- 1 for a connection that was answered, 0 for a fault
 abbrev pub counted : Result Served IoFault → ℕ
 counted (Ok served) = 1
 counted (Err fault) = 0
@@ -49,12 +49,12 @@ not_true true h = absurd (h refl)
 not_true false h = refl
 
 module _ (old new : Option (List ℕ)) (Replies : Reply → Type 0) (Stays : Type 0) (reader_failed writer_failed : Bool) where
-  -- by what is known of its reader and its writer
+  -- from what is known of the reader and the writer
   ended : (n : ℕ) (r w : Bool) → reader_failed ≡ r → writer_failed ≡ w → Ended old new Replies Stays r w n → Ended old new Replies Stays reader_failed writer_failed n
   ended n r w e f x =
       subst (λ (a : Bool). Ended old new Replies Stays a writer_failed n) (sym e) (subst (λ (b : Bool). Ended old new Replies Stays r b n) (sym f) x)
 
-  -- how a connection ended, by what `answer` answered
+  -- how a connection ended, from the result of `answer`
   ended_by : (result : Result Served IoFault) → (IsErrOf result io.Read ↔ (reader_failed ≡ true)) → (IsErrOf result io.Write ↔ (writer_failed ≡ true))
       → (reply : Reply) → IsReplied old new reply result → MatchResult result (λ served. Replies reply) (λ f. (f ≡ io.Write → Replies reply) × (f ≡ io.Read → Stays))
       → Ended old new Replies Stays reader_failed writer_failed (counted result)
@@ -66,7 +66,7 @@ module _ (old new : Option (List ℕ)) (Replies : Reply → Type 0) (Stays : Typ
   ended_by (Err io.Read) e f reply wrote h =
       ended 0 true false (e.0 refl) (not_true writer_failed (λ k. let no_fault = f.1 k in cc)) (refl, h.1 refl, wrote)
 
--- ---- one connection, by what `answer` says of it
+-- ---- one connection, from what `answer` ensures
 
 module _ {K : Type 0} {stands : K → State → Type 0} {is_clean is_live : K → Type 0} {leaves : K → List State → Type 0} {is_same : K → K → Type 0} {before mid : K}
     (office : List ℕ) (unread old new : Option (List ℕ)) (reader_failed writer_failed : Bool) (result : Result Served IoFault)
@@ -96,7 +96,7 @@ module _ {K : Type 0} {stands : K → State → Type 0} {is_clean is_live : K �
         record { input = x.input; told = x.told; ended = ended_by old new _ _ reader_failed writer_failed (Err io.Read) e f x.reply wrote ((λ no. cc), (λ same. refl)) },
       )
 
-  -- and what a stop may leave behind it
+  -- the states that a crash may leave after it
   leaves_by : (s t : State) (past : List State) (done : Bool) → is_done x.reply.status ≡ done → (command : Bool) → x.command ≡ command
       → (x.command ≡ true → is_done x.reply.status ≡ true → leaves mid (t ∷ []))
       → Stops (leaves mid) past (Reacts office x.input s) x.reply
@@ -108,7 +108,7 @@ module _ {K : Type 0} {stands : K → State → Type 0} {is_clean is_live : K �
   leaves_by s t past false is command c kept (inl l) = (past, l, record { one = inl refl; kept = λ p d. cc })
   leaves_by s t past false is command c kept (inr a) = (a.1 ∷ past, a.4, record { one = inr (inr (a.0, a.1, a.2, a.3, refl)); kept = λ p d. cc })
 
-  -- the state after it, with what a stop may leave
+  -- the state after it, with the states that a crash may leave
   pub went_kept : is_clean mid → (a : Kept) → stands before a.state → leaves before a.past
       → (b : Kept) × stands mid b.state × leaves mid b.past × WentKept office unread old new reader_failed writer_failed (counted result) a b
   went_kept clean a st l = by result x.replied e f (x.settled clean a.state st) (x.crash clean a.state a.past st l)
@@ -137,12 +137,12 @@ module _ {K : Type 0} {stands : K → State → Type 0} {is_clean is_live : K �
         record { input = x.input; told = x.told; ended = ended_by old new _ _ reader_failed writer_failed (Err io.Read) e f x.reply wrote ((λ no. cc), (λ same. refl)) },
       )
 
--- an answer counts
+-- an answer counts as one
 pub counts_one : (result : Result Served IoFault) → is_ok result ≡ true → counted result ≡ 1
 counts_one (Ok served) e = refl
 counts_one (Err fault) e = cc
 
--- a fault doesn't
+-- a fault counts as none
 pub counts_none : (result : Result Served IoFault) → is_ok result ≡ false → counted result ≡ 0
 counts_none (Ok served) e = cc
 counts_none (Err fault) e = refl

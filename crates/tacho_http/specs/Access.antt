@@ -1,4 +1,4 @@
--- Trusted: What is a driver's own to ask for, and what posts.
+-- Trusted: What a driver may ask for, and what may be posted.
 use Rattle.std.specs.Prelude.{◌≡◌, ℕ, List, Ok, true}
 use Rattle.tacho_desk.specs.Wants.{is_command, is_own}
 use Rattle.tacho_message.specs.Length.{method_of}
@@ -6,7 +6,7 @@ use Rattle.tacho_http.specs.Asked.{Wish, is_post, wish_of}
 use Rattle.tacho_http.specs.declared.places.Asker.{Asker}
 use Rattle.tacho_http.specs.declared.places.Asker.TheVariants.{Driver}
 
--- whatever a driver's key is granted, by any method at any path, is his own
+-- whatever a driver's key is granted, by any method at any path, is one of the driver's own tasks
 abbrev pub OwnWants : Type 0
 OwnWants = (method path : List ℕ) (w : Wish) → wish_of Driver method path ≡ Ok w → is_own w.want ≡ true
 

@@ -1,4 +1,4 @@
--- Trusted in part: What is left of a request that was answered.
+-- Trusted in part: The effects of a request that was answered.
 use Rattle.std.specs.Prelude.{◌≡◌, ◌<◌, ◌≤◌, ◌⊎◌, ◌++◌, ◌∷◌, Bool, true, false, ℕ, List, [], Option, Some, Result, Ok, Err, IfOk, IfSome, IsErr, MatchResult, bytes_eq, length, take}
 use Rattle.std.specs.Io.KnownBytes.{Appends, Consumes}
 use Rattle.httparse.specs.Grammar.{HasNoRequest, MayBecomeRequest, RequestHead}
@@ -20,41 +20,43 @@ use Rattle.tacho_http.specs.declared.exchange.IoFault.TheVariants as io
 use Rattle.tacho_http.specs.declared.exchange.Served.{Served}
 use Rattle.tacho_http.specs.declared.response.Response.{Response}
 
--- it tells that what was asked for is done
+-- whether a reply with this status says that the request was done
 abbrev pub is_done : Status → Bool
 is_done status.Okay = true
 is_done status.Created = true
 is_done other = false
 
--- The reply is wanted, and the state after it stands; of a command that is done a stop leaves that state and no other. Or the reply
--- is 503, and the state before stands.
+-- the reply is one that the request may get, and the archive has the state after it; if this is a command that was done, a crash leaves
+-- that state and no other. Or the reply is 503, and the archive has the state before.
 abbrev pub Gives : (State → Type 0) → (List State → Type 0) → Bool → State → Reaction → Reply → Type 0
 Gives stands leaves command s Wants reply =
     ((after : State) × stands after × Wants reply after × (command ≡ true → is_done reply.status ≡ true → leaves (after ∷ [])))
     ⊎ ((reply ≡ fixed status.Unavailable) × stands s)
 
--- a stop leaves what could be left before, or also the state after the reply that was given; where that is 503, after some that is wanted
+-- a crash may leave what it could leave before the call, or also the state after the reply, or, if the reply is 503, after some reply that
+-- the request may get
 abbrev pub Stops : (List State → Type 0) → List State → Reaction → Reply → Type 0
 Stops leaves past Wants reply =
     leaves past ⊎ ((other : Reply) × (after : State) × ((other ≡ reply) ⊎ (reply ≡ fixed status.Unavailable)) × Wants other after × leaves (after ∷ past))
 
--- where the reader has failed, the state before stands
+-- likewise; if the reader failed, the archive has the state before
 abbrev pub Given : (State → Type 0) → (List State → Type 0) → Bool → State → Reaction → Result Response Failed → Type 0
 Given stands leaves command s Wants (Ok response) = Gives stands leaves command s Wants (reply_of response)
 Given stands leaves command s Wants (Err failed) = stands s
 
--- and so do the states that a stop could leave
+-- the states that a crash may leave; if the reader failed, those from before the call
 abbrev pub Stopped : (List State → Type 0) → List State → Reaction → Result Response Failed → Type 0
 Stopped leaves past Wants (Ok response) = Stops leaves past Wants (reply_of response)
 Stopped leaves past Wants (Err failed) = leaves past
 
--- nothing was posted, or nothing was done
+-- nothing was posted, or nothing was done, or the reader failed
 abbrev pub IsUndone : Bool → Result Response Failed → Type 0
 IsUndone command (Ok response) = (command ≡ false) ⊎ (is_done response.status ≡ false)
 IsUndone command (Err failed) = Unit {0}
 
--- A call replies as is wanted of bytes that are unread, the reader's, where it tells them, and some where it doesn't, at an archive
--- that has not become clean by it, and is live where something is done. Where nothing is posted, or done, every row stays as it was.
+-- A call replies as `Wants` says for the unread bytes: the reader's, if they are known, otherwise some bytes. If the archive is clean after
+-- the call, it was clean before, and it is live if the request was done. If nothing is posted or nothing is done, every row stays as it
+-- was.
 pub record Responds {K : Type 0} (stands : K → State → Type 0) (is_clean is_live : K → Type 0)
     (leaves : K → List State → Type 0) (is_same : K → K → Type 0) (old new : K) (command : Bool) (unread : Option (List ℕ)) (result : Result Response Failed)
     (Wants : List ℕ → State → Reaction) : Type 0 where
@@ -66,19 +68,19 @@ pub record Responds {K : Type 0} (stands : K → State → Type 0) (is_clean is_
   pub same : IsUndone command result → is_clean new → (s : State) → stands old s → is_same old new
   pub crash : is_clean new → (s : State) (past : List State) → stands old s → leaves old past → Stopped (leaves new) past (Wants left s) result
 
--- ---- what the reader has given
+-- ---- how much of a request was read
 
--- who asks with a key: the office with its own, a driver with another
+-- who may ask with a key: the office with its own, a driver with any other
 abbrev pub MayAsk : List ℕ → List ℕ → Caller → Type 0
 MayAsk office key caller.Office = bytes_eq key office ≡ true
 MayAsk office key (caller.Driver n) = bytes_eq key office ≡ false
 
--- the same of an archive in this state: a driver with the key that is theirs
+-- who asks with a key, by the archive's state: a driver with the driver's own key
 abbrev pub Asks : State → List ℕ → List ℕ → Caller → Type 0
 Asks s office key caller.Office = bytes_eq key office ≡ true
 Asks s office key (caller.Driver n) = (bytes_eq key office ≡ false) × (owner key s ≡ Ok (Some n))
 
--- what the head asks for has a body, and less than all of it has come; who asks is by the key
+-- what the head asks for has a body, and less than all of it has come; the key decides who asks
 pub record LacksBody (IsBy : List ℕ → Caller → Type 0) (h : RequestHead) (rest : List ℕ) : Type 0 where
   pub key : List ℕ
   pub has_key : key_of h ≡ Some key
@@ -90,19 +92,19 @@ pub record LacksBody (IsBy : List ℕ → Caller → Type 0) (h : RequestHead) (
   pub body : body_of h wish.want ≡ Ok count
   pub lacks : length rest < count
 
--- it is no whole request: a head of at most 8,192 bytes that isn't whole, or one without all of its body
+-- the bytes are no whole request: fewer than 8,192 bytes that may become a head, or a head without all of its body
 abbrev pub IsPartOf : (List ℕ → Caller → Type 0) → List ℕ → Type 0
 IsPartOf IsBy given =
     ((length given < 8192) × HasNoRequest given × MayBecomeRequest given)
     ⊎ ((h : RequestHead) × (rest : List ℕ) × BeginsWith 8192 32 given h rest × LacksBody IsBy h rest)
 
--- what the reader has given since is no whole request
+-- what the reader has given since then is no whole request
 pub record IsUnfinished (IsBy : List ℕ → Caller → Type 0) (old new : Option (List ℕ)) : Type 0 where
   pub given : List ℕ
   pub came : Consumes old new given
   pub part : IsPartOf IsBy given
 
--- what it has given since isn't all of the body that the request of a head is to have, of which this came with the head
+-- together with the bytes that came after the head, what the reader has given since then is less than the body
 pub record LacksMore (IsBy : List ℕ → Caller → Type 0) (h : RequestHead) (behind : List ℕ) (old new : Option (List ℕ)) : Type 0 where
   pub given : List ℕ
   pub came : Consumes old new given
@@ -110,18 +112,18 @@ pub record LacksMore (IsBy : List ℕ → Caller → Type 0) (h : RequestHead) (
 
 -- ---- one request, one reply
 
--- a request that posts something: a command
+-- the input is a POST, which only commands are
 abbrev pub IsPosted : List ℕ → Type 0
 IsPosted input = (h : RequestHead) × (rest : List ℕ) × BeginsWith 8192 32 input h rest × (is_post (method_of h.method) ≡ true)
 
--- The reply is one that the input may get, and the state after it stands; of a command that is done a stop leaves that state and no
--- other.
+-- the reply is one that the input may get, and the archive has the state after it; if this is a command that was done, a crash leaves that
+-- state and no other
 abbrev pub Answers : (State → Type 0) → (List State → Type 0) → Bool → List ℕ → List ℕ → State → Reply → Type 0
 Answers stands leaves command office input s reply =
     (after : State) × stands after × Reacts office input s reply after × (command ≡ true → is_done reply.status ≡ true → leaves (after ∷ []))
 
--- A request was read from a reader and answered, over an input that is the reader's, where it tells its bytes, and some input where it
--- doesn't; or the reader failed, and the state before stands. Where nothing is posted, or done, every row stays as it was.
+-- A request was read from a reader and answered; the input is the reader's, if its bytes are known, otherwise some input. Or the reader
+-- failed, and the archive has the state before. If nothing is posted or nothing is done, every row stays as it was.
 pub record Answered {K : Type 0} (stands : K → State → Type 0) (is_clean is_live : K → Type 0)
     (leaves : K → List State → Type 0) (is_same : K → K → Type 0) (old new : K) (office : List ℕ) (unread left : Option (List ℕ)) (result : Result Response Failed) : Type 0 where
   pub input : List ℕ
@@ -138,32 +140,33 @@ pub record Answered {K : Type 0} (stands : K → State → Type 0) (is_clean is_
   pub unfinished : IsErr result → IsUnfinished (MayAsk office) unread left
   pub known : is_clean new → (s : State) → stands old s → IsErr result → IsUnfinished (Asks s office) unread left
 
--- all of a reply was written, or a beginning of it
+-- the whole reply was written; and below, a prefix of it
 abbrev pub IsWritten : Option (List ℕ) → Option (List ℕ) → Reply → Type 0
 IsWritten old new reply = Appends old new (bytes_of_reply reply)
 
 abbrev pub IsBegun : Option (List ℕ) → Option (List ℕ) → Reply → Type 0
 IsBegun old new reply = (n : ℕ) × (n ≤ length (bytes_of_reply reply)) × Appends old new (take n (bytes_of_reply reply))
 
--- the reply went out whole, with its status told; or a beginning of it, where the writer failed; or the reader failed, and nothing was written
+-- the whole reply was written, and its status is returned; or the writer failed, and a prefix was written; or the reader failed, and
+-- nothing was written
 abbrev pub IsReplied : Option (List ℕ) → Option (List ℕ) → Reply → Result Served IoFault → Type 0
 IsReplied old new reply (Ok served) = (reply.status ≡ served.status) × IsWritten old new reply
 IsReplied old new reply (Err io.Write) = IsBegun old new reply
 IsReplied old new reply (Err io.Read) = new ≡ old
 
--- it was answered; or the reader failed, and the state before stands
+-- the request was answered; or the reader failed, and the archive has the state before
 abbrev pub Settles : (State → Type 0) → (List State → Type 0) → Bool → List ℕ → List ℕ → State → Reply → Result Served IoFault → Type 0
 Settles stands leaves command office input s reply (Ok served) = Answers stands leaves command office input s reply
 Settles stands leaves command office input s reply (Err io.Write) = Answers stands leaves command office input s reply
 Settles stands leaves command office input s reply (Err io.Read) = stands s
 
--- a stop leaves what could be left before, or also the state after the reply; where the reader failed, what could be left before
+-- a crash may leave what it could leave before the call, or also the state after the reply; if the reader failed, only the former
 abbrev pub StopsAt : (List State → Type 0) → List State → List ℕ → List ℕ → State → Reply → Result Served IoFault → Type 0
 StopsAt leaves past office input s reply (Ok served) = Stops leaves past (Reacts office input s) reply
 StopsAt leaves past office input s reply (Err io.Write) = Stops leaves past (Reacts office input s) reply
 StopsAt leaves past office input s reply (Err io.Read) = leaves past
 
--- the reader failed; or nothing was posted, or nothing was done
+-- the reader failed, or nothing was posted, or nothing was done
 abbrev pub IsUndoneBy : Bool → Reply → Result Served IoFault → Type 0
 IsUndoneBy command reply (Err io.Read) = Unit {0}
 IsUndoneBy command reply result = (command ≡ false) ⊎ (is_done reply.status ≡ false)
@@ -173,8 +176,8 @@ abbrev pub HasRead : Result Served IoFault → Type 0
 HasRead (Err io.Read) = ⊥
 HasRead result = Unit {0}
 
--- One request was read and one reply written, over an input that is the reader's, where it tells its bytes, and some input where it
--- doesn't. Where nothing is posted, or done, every row stays as it was.
+-- One request was read and one reply written; the input is the reader's, if its bytes are known, otherwise some input. If nothing is posted
+-- or nothing is done, every row stays as it was.
 pub record Exchanged {K : Type 0} (stands : K → State → Type 0) (is_clean is_live : K → Type 0)
     (leaves : K → List State → Type 0) (is_same : K → K → Type 0) (old new : K) (office : List ℕ) (unread before after : Option (List ℕ))
     (result : Result Served IoFault) : Type 0 where

@@ -19,25 +19,25 @@ abbrev pub asker_of : Caller → Asker
 asker_of caller.Office = Office
 asker_of (caller.Driver n) = Driver
 
--- what is wanted, with the words of the path
+-- what is asked for, with the arguments in the path
 pub record Wish : Type 0 where
   pub want : Want
   pub driver : List ℕ
   pub word : List ℕ
 
--- what is asked for at a place, if anything is
+-- what a place offers for a method, if anything
 abbrev pub offered : Option Method → Place → Option Want
 offered None place = None
 offered (Some method.Get) place = place.get
 offered (Some method.Post) place = place.post
 
--- whether it is his who asks
+-- the place is for this asker
 abbrev pub same_asker : Asker → Asker → Bool
 same_asker Office Office = true
 same_asker Driver Driver = true
 same_asker a b = false
 
--- 405, or 403, or what is asked for
+-- 405, 403, or what is asked for
 abbrev pub granted : Asker → Named → Option Want → Result Wish Status
 granted a named None = Err status.MethodNotAllowed
 granted a named (Some want) =
@@ -51,12 +51,12 @@ wish_at a m (Some named) = granted a named (offered m named.place)
 abbrev pub wish_of : Asker → List ℕ → List ℕ → Result Wish Status
 wish_of a text path = wish_at a (method_of text) (named_at path)
 
--- a request that posts something: a command
+-- the method is POST, by which only commands are asked for
 abbrev pub is_post : Option Method → Bool
 is_post (Some method.Post) = true
 is_post other = false
 
--- what the code has found
+-- what the code found
 abbrev pub wish_found : Result Asked Status → Result Wish Status
 wish_found (Ok asked) = Ok (record { want = asked.want; driver = asked.driver.now; word = asked.word.now })
 wish_found (Err refusal) = Err refusal

@@ -1,4 +1,4 @@
--- Trusted in part: The replies: what is told of a request, with the status and the kind of body.
+-- Trusted in part: The replies: what a request is answered, with the status and the type of the body.
 use Rattle.std.specs.Prelude.{ℕ, List, [], Ok, Err, codes}
 use Rattle.tacho_card.specs.declared.fault.CardFault.TheVariants as card
 use Rattle.tacho_state.specs.declared.fault.StoreFault.{StoreFault}
@@ -24,14 +24,14 @@ pub record Reply : Type 0 where
   pub media : MediaType
   pub body : List ℕ
 
--- what is written
+-- the bytes that are written
 abbrev pub bytes_of_reply : Reply → List ℕ
 bytes_of_reply r = reply_bytes r.status r.media r.body
 
 abbrev pub text_reply : Status → List ℕ → Reply
 text_reply s text = record { status = s; media = media.Text; body = text }
 
--- the body where no fault has a line
+-- the body of a reply that isn't the line of a fault or the text of a task
 abbrev pub fixed_text : Status → List ℕ
 fixed_text status.BadRequest = codes "bad request\n"
 fixed_text status.Forbidden = codes "forbidden\n"
@@ -49,7 +49,7 @@ fixed_text status.UnprocessableEntity = []
 abbrev pub fixed : Status → Reply
 fixed s = text_reply s (fixed_text s)
 
--- what refused a request: the words of a path, the archive, or the rows of its body
+-- the status of the archive's refusals; below, also of bad arguments in a path and of bad rows in a body
 abbrev pub store_status : StoreFault → Status
 store_status store.DriverTaken = status.Conflict
 store_status store.KeyTaken = status.Conflict
@@ -79,7 +79,7 @@ fault_status (told.Store f) = store_status f
 fault_status (told.Sheet sheet.Memory) = status.Unavailable
 fault_status (told.Sheet f) = status.UnprocessableEntity
 
--- the fault's line; but of want of memory and of a store that failed no more is told than that
+-- the line of the fault, unless the status is 503 (out of memory, a failed store, an old schema): then the fixed text
 abbrev pub told_reply : Status → ToldFault → Reply
 told_reply status.Unavailable f = fixed status.Unavailable
 told_reply s f = text_reply s (fault_line f)
@@ -89,7 +89,7 @@ fault_reply (fault.Told f) = told_reply (fault_status f) f
 fault_reply fault.Device = fixed status.Unavailable
 fault_reply fault.Memory = fixed status.Unavailable
 
--- 201 where something was added
+-- 201 if something was added
 abbrev pub done_reply : Told → Reply
 done_reply (Added line) = text_reply status.Created line
 done_reply (Line line) = text_reply status.Okay line
@@ -100,7 +100,7 @@ abbrev pub reply_to : Answer → Reply
 reply_to (Ok told) = done_reply told
 reply_to (Err f) = fault_reply f
 
--- ---- what holds a reply
+-- ---- the reply in a value of the code
 
 abbrev pub body_bytes : Body → List ℕ
 body_bytes (body.Fixed text) = text.now

@@ -18,11 +18,11 @@ use Rattle.tacho_http.specs.declared.places.Asker.TheVariants.{Driver, Office}
 abbrev pub TableRow : Type 0
 TableRow = List ℕ × Place
 
--- a path, who may ask there, and for what by GET and by POST
+-- a path, who may ask there, and what a GET and a POST ask for
 abbrev pub table_row : List ℕ → Asker → Option Want → Option Want → TableRow
 table_row path a get post = (path, record { asker = a; get = get; post = post })
 
--- what the office may ask for, and what a driver may: nothing else is answered to either
+-- what the office may ask for, and what a driver may; no other path is answered
 abbrev pub the_table : List TableRow
 the_table =
     table_row (codes "/drivers") Office None (Some Register)
@@ -49,7 +49,7 @@ the_table =
 abbrev pub Rows : Type 0
 Rows = RowsOf (RouteOf Place)
 
--- a router's rows with one more route, where its text is one
+-- the rows of a router with one more route, if the text of the route is valid
 abbrev pub with_read : Rows → Place → Result Scan InsertError → Rows
 with_read rows place (Ok s) = placed (s.pattern, route_from s place) rows
 with_read rows place (Err e) = rows
@@ -57,20 +57,20 @@ with_read rows place (Err e) = rows
 abbrev pub with_route : Rows → TableRow → Rows
 with_route rows row = with_read rows row.1 (parse_route row.0)
 
--- and with those of a table, in turn
+-- with the routes of a table, in order
 unfoldable pub rows_of_table : Rows → List TableRow → Rows
 rows_of_table rows [] = rows
 rows_of_table rows (row ∷ table) = rows_of_table (with_route rows row) table
 
 -- ---- what a path names
 
--- its place, the number of a driver, and the other word: a part, a number, a day or a month; each empty where its route has none
+-- the place, the number of a driver, and the other argument (a part, a number, a day or a month); each is empty if the route has none
 pub record Named : Type 0 where
   pub place : Place
   pub driver : List ℕ
   pub word : List ℕ
 
--- what the parts in braces of a route took of a path, by their names
+-- the texts that match the parts in braces of a route, by name
 abbrev pub parts_of : RouteOf Place → List ℕ → List (List ℕ × List ℕ)
 parts_of route path = walk route.pattern route.text path route.names 0 0
 

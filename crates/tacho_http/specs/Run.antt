@@ -6,41 +6,41 @@ use Rattle.tacho_http.specs.Answer.{IsBegun, IsPosted, IsWritten, is_done}
 use Rattle.tacho_http.specs.Reply.{Reply, fixed}
 use Rattle.tacho_http.specs.Serve.{Reacts}
 
--- how a connection ended, by whether its reader failed, and its writer: it was answered, and counts; or the writer alone failed, within the
--- reply; or the reader alone did, and nothing was written
+-- how a connection ended: it was answered, and counts; or only the writer failed, during the reply; or only the reader failed, and nothing
+-- was written
 abbrev pub Ended : Option (List ℕ) → Option (List ℕ) → (Reply → Type 0) → Type 0 → Bool → Bool → ℕ → Type 0
 Ended old new Replies Stays false false count = (count ≡ 1) × ((reply : Reply) × Replies reply × IsWritten old new reply)
 Ended old new Replies Stays false true count = (count ≡ 0) × ((reply : Reply) × Replies reply × IsBegun old new reply)
 Ended old new Replies Stays true false count = (count ≡ 0) × Stays × (new ≡ old)
 Ended old new Replies Stays true true count = ⊥
 
--- A connection was answered over the bytes of its reader, where that tells them, and over some bytes where it doesn't: by a reply that
--- they may get, with the state after it; where the reader failed, nothing changed.
+-- a connection was answered: the input is the reader's, if its bytes are known, otherwise some bytes; the reply is one that the input may
+-- get, and leads to the state after it; if the reader failed, nothing changed
 pub record Went (office : List ℕ) (unread old new : Option (List ℕ)) (reader_failed writer_failed : Bool) (count : ℕ) (s t : State) : Type 0 where
   pub input : List ℕ
   pub told : IfSome unread (λ all. input ≡ all)
   pub ended : Ended old new (λ reply. Reacts office input s reply t) (t ≡ s) reader_failed writer_failed count
 
--- a state, and those of which a stop may leave one
+-- a state, and the states of which a crash may leave one
 pub record Kept : Type 0 where
   pub state : State
   pub past : List State
 
--- what a stop may leave behind a reply: what could be left before, or also the state after it, or, behind 503, that after some other reply;
--- behind a command that is done that state alone
+-- the states that a crash may leave after a reply: those from before, or also the state after the reply, or, after 503, the state after
+-- some other reply; after a command that was done, only the state after it
 pub record Leaves (office input : List ℕ) (s : State) (reply : Reply) (t : State) (past future : List State) : Type 0 where
   pub one : (future ≡ past) ⊎ ((future ≡ t ∷ []) ⊎ ((other : Reply) × (after : State) × ((other ≡ reply) ⊎ (reply ≡ fixed status.Unavailable))
       × Reacts office input s other after × (future ≡ after ∷ past)))
   pub kept : IsPosted input → is_done reply.status ≡ true → future ≡ t ∷ []
 
--- the same with what a stop may leave
+-- likewise with the states that a crash may leave
 pub record WentKept (office : List ℕ) (unread old new : Option (List ℕ)) (reader_failed writer_failed : Bool) (count : ℕ) (a b : Kept) : Type 0 where
   pub input : List ℕ
   pub told : IfSome unread (λ all. input ≡ all)
   pub ended : Ended old new (λ reply. Reacts office input a.state reply b.state × Leaves office input a.state reply b.state a.past b.past) (b ≡ a)
       reader_failed writer_failed count
 
--- each in order, from the state that the one before left, and how many of them count
+-- the connections in order, each from the state that the one before left, and the number of those that count
 abbrev pub Run : {C S : Type 0} → (C → C → ℕ → S → S → Type 0) → List C → List C → ℕ → S → S → Type 0
 Run step [] [] n s t = (n ≡ 0) × (t ≡ s)
 Run {S = S} step (c ∷ cs) (d ∷ ds) n s t = (one : ℕ) × (rest : ℕ) × (m : S) × step c d one s m × Run step cs ds rest m t × (n ≡ one + rest)

@@ -24,27 +24,27 @@ use Rattle.tacho_http.specs.Reply.{Reply, fixed, reply_to}
 abbrev pub Reaction : Type 1
 Reaction = Reply → State → Type 0
 
--- no more is done than this reply
+-- this reply, and nothing else is done
 abbrev pub RepliesOnly : Reply → State → Reaction
 RepliesOnly told s reply after = (reply ≡ told) × (after ≡ s)
 
 -- ---- the checks in their order
 
--- 400 where a word is wrong, or the reply to what the task answers
+-- 400 if an argument is bad, otherwise the reply to what the task answers
 abbrev pub DoesWanted : Wanted → List ℕ → State → Reaction
 DoesWanted (Err f) body s = RepliesOnly (reply_to (Err f)) s
 DoesWanted (Ok t) body s = λ reply after. (answer : Answer) × Does t body s answer after × (reply ≡ reply_to answer)
 
--- 400 where the input ends before the body does; nothing behind the body is looked at
+-- 400 if the input ends before the end of the body; bytes after the body are ignored
 abbrev pub Bodied : ℕ → List ℕ → State → (List ℕ → Reaction) → Reaction
 Bodied n rest s With reply after =
     ((length rest < n) × RepliesOnly (fixed status.BadRequest) s reply after) ⊎ ((n ≤ length rest) × With (take n rest) reply after)
 
--- what is asked for, its words read from left to right, over its body
+-- what is asked for is done with its body; its arguments are read from left to right
 abbrev pub Runs : Wish → ℕ → Caller → List ℕ → State → Reaction
 Runs w n c rest s = Bodied n rest s (λ body reply after. (wanted : Wanted) × IsTask w.want c w.driver w.word wanted × DoesWanted wanted body s reply after)
 
--- 400, 411 or 413
+-- 400, 411 or 413 if the length of the body is refused
 abbrev pub WithBody : Result ℕ Status → Wish → Caller → List ℕ → State → Reaction
 WithBody (Err refusal) w c rest s = RepliesOnly (fixed refusal) s
 WithBody (Ok n) w c rest s = Runs w n c rest s
@@ -53,7 +53,7 @@ WithBody (Ok n) w c rest s = Runs w n c rest s
 abbrev pub body_of : RequestHead → Want → Result ℕ Status
 body_of h want = body_length (method_of h.method) (takes_input want) (fields_of h)
 
--- 404, 405 or 403
+-- 404, 405 or 403 if what is asked for is refused
 abbrev pub WithWish : Result Wish Status → Caller → RequestHead → List ℕ → State → Reaction
 WithWish (Err refusal) c h rest s = RepliesOnly (fixed refusal) s
 WithWish (Ok w) c h rest s = WithBody (body_of h w.want) w c rest s
@@ -62,12 +62,12 @@ WithWish (Ok w) c h rest s = WithBody (body_of h w.want) w c rest s
 abbrev pub ByCaller : Caller → RequestHead → List ℕ → State → Reaction
 ByCaller c h rest s = WithWish (wish_of (asker_of c) h.method h.target) c h rest s
 
--- 403 where the key is nobody's
+-- 403 if the key is nobody's
 abbrev pub ByOwner : Result (Option ℕ) StoreFault → RequestHead → List ℕ → State → Reaction
 ByOwner (Ok (Some n)) h rest s = ByCaller (caller.Driver n) h rest s
 ByOwner other h rest s = RepliesOnly (fixed status.Forbidden) s
 
--- the office's key is looked at first
+-- the office's key is checked first
 abbrev pub ByWhom : Bool → List ℕ → RequestHead → List ℕ → State → Reaction
 ByWhom true key h rest s = ByCaller caller.Office h rest s
 ByWhom false key h rest s = ByOwner (owner key s) h rest s
@@ -75,13 +75,13 @@ ByWhom false key h rest s = ByOwner (owner key s) h rest s
 abbrev pub ByKey : List ℕ → List ℕ → RequestHead → List ℕ → State → Reaction
 ByKey office key h rest s = ByWhom (bytes_eq key office) key h rest s
 
--- 403 where there is not exactly one key
+-- 403 unless there is exactly one key
 abbrev pub ByKeys : List ℕ → Option (List ℕ) → RequestHead → List ℕ → State → Reaction
 ByKeys office None h rest s = RepliesOnly (fixed status.Forbidden) s
 ByKeys office (Some key) h rest s = ByKey office key h rest s
 
--- The replies that an input may get, each with the state after it: by its head; or, where it has none of at most 8,192 bytes and
--- 32 fields, 400 or 431; or 503 for want of memory or a store that failed, where there is a head and exactly one key.
+-- The replies that an input may get, each with the state after it: by its head; or 400 or 431, if it has no head of at most 8,192 bytes and
+-- 32 fields; or 503, if it has a head with exactly one key, and memory runs out or the store fails.
 pub data Reacts (office input : List ℕ) (s : State) : Reply → State → Type 0 where
   headed : (h : RequestHead) (rest : List ℕ) (reply : Reply) (after : State) → BeginsWith 8192 32 input h rest → ByKeys office (key_of h) h rest s reply after
       → Reacts office input s reply after

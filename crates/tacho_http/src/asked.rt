@@ -6,7 +6,7 @@ use tacho_desk::Want;
 use tacho_message::{Method, Status};
 use tacho_state::Caller;
 
-/// What is asked for, with the words of the path.
+/// What is asked for, with the arguments in the path.
 #[derive(Clone, Copy, Debug)]
 pub(crate) struct Asked<'p> {
     pub want: Want,
@@ -24,14 +24,14 @@ pub(crate) fn asker_of(caller: Caller) -> Asker
     }
 }
 
-/// Whether two who ask are the same.
+/// True if both are the office, or both are a driver.
 fn is_same(a: Asker, b: Asker) -> bool
     ensures { result ≡ same_asker a b }
 {
     a == b
 }
 
-/// What is asked for at a place by a method, if anything is.
+/// What a place offers for a method, if anything.
 fn offered_at(method: Option<Method>, place: Place) -> Option<Want>
     ensures { result ≡ offered method place }
 {
@@ -42,8 +42,8 @@ fn offered_at(method: Option<Method>, place: Place) -> Option<Want>
     }
 }
 
-/// What is asked for: 404 where the path names no place, 405 where the method is none of the place's, 403 where it is another's who
-/// asks.
+/// Finds what is asked for. Fails with 404 if the path names no place, with 405 if the place doesn't offer the method, and with 403 if the
+/// place is for the other asker.
 pub(crate) fn asked_of<'p>(
     asker: Asker,
     method: Option<Method>,

@@ -21,7 +21,7 @@ use tacho_message::{BodyFault, Method, Request, Status, body_length_of, read_bod
 use tacho_state::{Caller, Keeper};
 use tacho_time::{Failed, Source};
 
-/// Answers a request by its key: the office's, which is looked at first, or a driver's.
+/// Answers a request by its key: the office's, which is checked first, or a driver's.
 pub(crate) fn by_key<K: Keeper, R: Source>(
     alloc: Global,
     keeper: &mut K,
@@ -52,7 +52,7 @@ pub(crate) fn by_key<K: Keeper, R: Source>(
     }
 }
 
-/// Answers a request of a caller: by its path, its method, whose the path is, and its fields.
+/// Answers a caller's request. Checks its path, its method, for whom the path is, and its fields.
 fn by_caller<K: Keeper, R: Source>(
     alloc: Global,
     keeper: &mut K,
@@ -84,7 +84,7 @@ fn by_caller<K: Keeper, R: Source>(
     }
 }
 
-/// Answers what a caller asks for, over a body of so many bytes, the first of which came behind the head.
+/// Does what a caller asks for, with a body of `count` bytes. The first bytes of the body came after the head.
 fn run<K: Keeper, R: Source>(
     alloc: Global,
     keeper: &mut K,

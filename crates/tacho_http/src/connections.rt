@@ -1,4 +1,4 @@
-//! Connections, one after the other.
+//! Connections, answered in sequence.
 
 ghost use Rattle.std.specs.Prelude.{◌≡◌, false, All};
 ghost use Rattle.tacho_state.specs.State.{State};
@@ -9,7 +9,7 @@ use std::alloc::Global;
 use tacho_state::Keeper;
 use tacho_time::{Sink, Source};
 
-/// Answers connections in order, and says how many ended without a fault of their devices: after a fault it goes on.
+/// Answers connections in order, and returns how many ended without a fault of their reader or writer. Continues after such a fault.
 pub fn answer_all<K: Keeper, R: Source, W: Sink>(
     alloc: Global,
     keeper: &mut K,
@@ -20,8 +20,8 @@ pub fn answer_all<K: Keeper, R: Source, W: Sink>(
     ensures clean { K.is_clean keeper.new → K.is_clean keeper.old }
     ensures run { K.is_clean keeper.new → (s : State) → K.stands keeper.old s → (t : State) × K.stands keeper.new t × Run
         (λ c d. Went office_key.now (R.unread c.0) (W.written c.1) (W.written d.1) (R.has_failed d.0) (W.has_failed d.1)) connections.old connections.new result s t }
-    // The same with what a stop may leave: behind each connection the states before and after it, and behind a command that is done the
-    // state after it alone.
+    // Likewise with the states that a crash may leave: after each connection those before and after it, and after a command that was done
+    // only the state after it.
     ensures crash { K.is_clean keeper.new → (a : Kept) → K.stands keeper.old a.state → K.leaves keeper.old a.past
         → (b : Kept) × K.stands keeper.new b.state × K.leaves keeper.new b.past × Run
         (λ c d. WentKept office_key.now (R.unread c.0) (W.written c.1) (W.written d.1) (R.has_failed d.0) (W.has_failed d.1)) connections.old connections.new result a b }

@@ -12,7 +12,7 @@ use tacho_message::{HeadFault, Status, read_head, request_of, write_reply};
 use tacho_state::Keeper;
 use tacho_time::{Failed, Sink, Source};
 
-/// How many bytes a head has at the most, and how many fields.
+/// The most bytes that a head can have, and the most fields.
 const HEAD_LIMIT: usize = 8_192;
 
 const FIELD_LIMIT: usize = 32;
@@ -20,19 +20,19 @@ const FIELD_LIMIT: usize = 32;
 /// Which device failed.
 #[derive(Clone, Copy, Debug, PartialEq, Eq)]
 pub enum IoFault {
-    /// The reader, before anything was written or changed.
+    /// The reader failed before anything was written or changed.
     Read,
-    /// The writer: the request has acted, and a beginning of its reply went out.
+    /// The writer failed: the request was acted on, and a prefix of its reply was written.
     Write,
 }
 
-/// What was replied.
+/// The reply that was written.
 #[derive(Clone, Copy, Debug, PartialEq, Eq)]
 pub struct Served {
     pub status: Status,
 }
 
-/// Reads a request, its head into these buffers, and does what it asks for.
+/// Reads a request, with its head in these buffers, and does what it asks for.
 fn respond_in<K: Keeper, R: Source>(
     alloc: Global,
     keeper: &mut K,
@@ -76,8 +76,8 @@ fn respond<K: Keeper, R: Source>(
     respond_in(alloc, keeper, office_key, reader, &mut buffer, &mut fields)
 }
 
-/// Answers one request at an archive: reads its head, and its body where it asks for something that has one, acts, and writes one reply. A command that
-/// is replied to with 200 or 201 is kept.
+/// Answers one request at an archive. Reads its head, and its body if what it asks for has one, acts, and writes one reply. A command that
+/// is answered with 200 or 201 is durable.
 pub fn answer<K: Keeper, R: Source, W: Sink>(
     alloc: Global,
     keeper: &mut K,
@@ -88,12 +88,12 @@ pub fn answer<K: Keeper, R: Source, W: Sink>(
     requires reader { R.has_failed reader.old ≡ false }
     requires writer { W.has_failed writer.old ≡ false }
     ensures clean { K.is_clean keeper.new → K.is_clean keeper.old }
-    // The reply is one that the input may get, whole, or a beginning of it where the writer failed.
+    // The reply is one that the input may get. It was written whole, or, if the writer failed, in part.
     ensures exchanged { Exchanged K.stands K.is_clean K.is_live K.leaves K.is_same keeper.old keeper.new office_key.now (R.unread reader.old)
         (W.written writer.old) (W.written writer.new) result }
-    // Where the reader failed, it was asked for no more than the request lacked: its head, or the body of what it asks for.
+    // If the reader failed, it had not given a whole request: its head, or the body of what it asks for, was incomplete.
     ensures unfinished { result ≡ Err IoFault.Read → IsUnfinished (MayAsk office_key.now) (R.unread reader.old) (R.unread reader.new) }
-    // So the body of a request whose key is nobody's isn't asked for.
+    // So the body of a request isn't read if its key is nobody's.
     ensures known { K.is_clean keeper.new → (s : State) → K.stands keeper.old s → result ≡ Err IoFault.Read
         → IsUnfinished (Asks s office_key.now) (R.unread reader.old) (R.unread reader.new) }
     ensures read { IsErrOf result IoFault.Read ↔ (R.has_failed reader.new ≡ true) }

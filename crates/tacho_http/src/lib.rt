@@ -1,4 +1,4 @@
-//! Requests to an archive over HTTP/1.1 and their replies: who may ask for what, and what is answered.
+//! Requests to an archive over HTTP/1.1, and their replies: who may ask for what, and what is answered.
 #![tactic(auto)]
 
 mod asked;

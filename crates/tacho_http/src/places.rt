@@ -16,11 +16,11 @@ use tacho_desk::Want::{
 pub(crate) enum Asker {
     /// The office, for all drivers.
     Office,
-    /// A driver, for himself.
+    /// A driver, for their own data.
     Driver,
 }
 
-/// What stands at a path: who may ask there, and for what by GET and by POST.
+/// What a path offers: who may ask there, and what a GET and a POST ask for.
 #[derive(Clone, Copy, Debug, PartialEq, Eq)]
 pub(crate) struct Place {
     pub asker: Asker,
@@ -28,11 +28,11 @@ pub(crate) struct Place {
     pub post: Option<Want>,
 }
 
-/// A path, who may ask there, and for what by GET and by POST.
+/// A path, who may ask there, and what a GET and a POST ask for.
 type Row = (&'static str, Asker, Option<Want>, Option<Want>);
 
-/// The paths. A part in braces stands for one part of a path that isn't empty: the number of a driver, or the other word, a part of a
-/// card file, a number, a day or a month.
+/// The paths. A part in braces matches one part of a path that isn't empty: the number of a driver, or the other argument, which is a part
+/// of a card file, a number, a day or a month.
 static TABLE: [Row; 19] = [
     ("/drivers", Office, None, Some(Register)),
     ("/cards/{word}", Office, None, Some(Import)),
@@ -85,14 +85,14 @@ static TABLE: [Row; 19] = [
     ("/me/files/{word}", Driver, Some(File), None),
 ];
 
-/// Adds a path.
+/// Adds a path to a router.
 fn add(router: &mut Router<Place>, text: &str, place: Place) -> Result<(), InsertError>
     ensures { OnOk result (router.new ≡ with_route router.old (text.now, place)) }
 {
     router.insert(text, place)
 }
 
-/// The paths of a table.
+/// Makes a router of the paths in a table.
 fn routes_of(alloc: Global, table: &[Row]) -> Result<Router<Place>, InsertError>
     ensures { IfOk result (λ r. r ≡ rows_of_table [] (map (λ row. table_row row.0.now row.1 row.2 row.3) table.now)) }
 {
@@ -108,14 +108,14 @@ fn routes_of(alloc: Global, table: &[Row]) -> Result<Router<Place>, InsertError>
     Ok(router)
 }
 
-/// The paths, ready to be asked for.
+/// Makes the router of all paths.
 pub(crate) fn routes(alloc: Global) -> Result<Router<Place>, InsertError>
     ensures { IfOk result (λ r. r ≡ rows_of_table [] the_table) }
 {
     routes_of(alloc, TABLE.as_slice())
 }
 
-/// What a path names: its place, the number of a driver, and the other word, each empty where its route has none.
+/// What a path names: the place, the number of a driver, and the other argument. Each is empty if the route has none.
 #[derive(Clone, Copy, Debug)]
 pub(crate) struct Found<'p> {
     pub place: Place,
@@ -123,7 +123,7 @@ pub(crate) struct Found<'p> {
     pub word: &'p str,
 }
 
-/// What the part in braces with this name took of a path, or an empty text.
+/// The text that matches the part in braces with this name, or an empty text.
 fn part_of<'p>(params: &Params<'_, 'p>, name: &str) -> &'p str
     requires { AllText (walk params.now.pattern.now params.now.text.now params.now.path.now params.now.names.now 0 0) }
     ensures { result.now ≡ or_empty (named name.now (walk params.now.pattern.now params.now.text.now params.now.path.now params.now.names.now 0 0)) }
@@ -134,7 +134,7 @@ fn part_of<'p>(params: &Params<'_, 'p>, name: &str) -> &'p str
     }
 }
 
-/// What a path names.
+/// Finds what a path names.
 pub(crate) fn find<'p>(router: &Router<Place>, path: &'p str) -> Option<Found<'p>>
     requires { router.now ≡ rows_of_table [] the_table }
     ensures { option_map (λ f. record { place = f.place; driver = f.driver.now; word = f.word.now }) result ≡ named_at path.now }

@@ -11,16 +11,16 @@ use tacho_state::StoreFault;
 /// The body of a reply.
 #[derive(Drop)]
 pub enum Body {
-    /// A text that is always the same.
+    /// A fixed text.
     Fixed(&'static [u8]),
-    /// The line of a fault. It took no memory.
+    /// The line of a fault. Allocates no memory.
     Line(FaultLine),
-    /// What was told of a task.
+    /// The text of a task that was done.
     Told(Text),
 }
 
 impl Body {
-    /// Its bytes.
+    /// The bytes of the body.
     pub(crate) fn bytes(&self) -> &[u8]
         ensures { result.now ≡ body_bytes self.now }
     {
@@ -40,7 +40,7 @@ pub struct Response {
     pub body: Body,
 }
 
-/// The body of a status where no fault has a line.
+/// The fixed text of a status.
 fn text_of(status: Status) -> &'static [u8]
     ensures { result.now ≡ fixed_text status }
 {
@@ -57,7 +57,7 @@ fn text_of(status: Status) -> &'static [u8]
     }
 }
 
-/// The reply of a status, where no fault has a line. It takes no memory.
+/// The reply with the fixed text of a status. Allocates no memory.
 pub(crate) fn fixed(status: Status) -> Response
     ensures { reply_of result ≡ fixed_reply status }
 {
@@ -68,7 +68,7 @@ pub(crate) fn fixed(status: Status) -> Response
     }
 }
 
-/// The status of a refusal of the archive.
+/// The status of an archive's refusal.
 fn status_of_store(fault: &StoreFault) -> Status
     ensures { result ≡ store_status fault.now }
 {
@@ -106,7 +106,8 @@ fn status_of(fault: &ToldFault) -> Status
     }
 }
 
-/// The reply to a fault: its line; but of want of memory and of a store that failed no more than that. It takes no memory.
+/// The reply to a fault: the fault's line, unless the status is 503 (such as out of memory, or a store failure): then the fixed text.
+/// Allocates no memory.
 pub(crate) fn refusal(fault: Fault) -> Response
     ensures { reply_of result ≡ fault_reply fault }
 {
@@ -123,7 +124,7 @@ pub(crate) fn refusal(fault: Fault) -> Response
     }
 }
 
-/// The reply to what was told of a task: 201 where something was added. It takes no memory.
+/// The reply to a task that was done: 201 if something was added. Allocates no memory.
 fn done(text: Text) -> Response
     ensures { reply_of result ≡ done_reply (told_of text) }
 {

@@ -23,7 +23,7 @@ const PATH: &str = "tacho_keeper_cases_test/archive.db";
 /// How many entries of the same hours a test makes.
 const SAME: u32 = 1_000;
 
-/// The archive that a store has.
+/// Adopts the archive of a store.
 pub(crate) fn adopted<S: Alter + Drop>(conn: Connection<S>) -> Result<Archive<S>, StoreFault>
     requires { conn.in_transaction ≡ false }
 {
@@ -33,7 +33,7 @@ pub(crate) fn adopted<S: Alter + Drop>(conn: Connection<S>) -> Result<Archive<S>
     }
 }
 
-/// An archive that is made in a store.
+/// Makes an archive in a store.
 pub(crate) fn created<S: Alter + Drop>(conn: Connection<S>) -> Result<Archive<S>, StoreFault>
     requires { conn.in_transaction ≡ false }
 {
@@ -43,7 +43,7 @@ pub(crate) fn created<S: Alter + Drop>(conn: Connection<S>) -> Result<Archive<S>
     }
 }
 
-/// The connection that a refusal, which has to be this one, hands back.
+/// Returns the connection that a refusal hands back. Asserts that it is the expected refusal.
 pub(crate) fn handed_back<S: Alter + Drop>(
     rt: &impl Abort,
     made: Result<Archive<S>, (StoreFault, Connection<S>)>,
@@ -77,7 +77,7 @@ fn rows_over_an_archive(rt: HostRuntime) -> Result<(), Fail> {
     Ok(())
 }
 
-/// Takes steps over an archive, and others over the one that is adopted from its store then.
+/// Takes steps on an archive, closes it, and takes the other steps on the archive that is adopted from its store.
 fn take_in_two<S: Alter + Drop>(
     rt: &impl Abort,
     alloc: Global,
@@ -90,8 +90,7 @@ fn take_in_two<S: Alter + Drop>(
     take(rt, alloc, &mut adopted(archive.close())?, row, after)
 }
 
-/// Takes a row's steps over archives, each of which is closed and adopted again before another one
-/// of the steps.
+/// Takes a row's steps on archives; each archive is closed and adopted again before another one of the steps.
 fn take_reopened(rt: &impl Abort, alloc: Global, row: &str, steps: &[Step]) -> Result<(), Fail> {
     for place in 0..=steps.len() {
         let (before, after) = steps.split_at(place);
@@ -108,7 +107,7 @@ fn rows_over_an_archive_that_is_adopted_again(rt: HostRuntime) -> Result<(), Fai
     Ok(())
 }
 
-/// Makes an archive in a store, takes steps over it, and hands the store back.
+/// Makes an archive in a store, takes steps on it, and returns the store.
 fn created_and_taken<S: Alter + Drop>(
     rt: &impl Abort,
     alloc: Global,
@@ -123,7 +122,7 @@ fn created_and_taken<S: Alter + Drop>(
     Ok(archive.close())
 }
 
-/// Takes steps over the archive that a store has, and hands the store back.
+/// Takes steps on the archive of a store, and returns the store.
 fn adopted_and_taken<S: Alter + Drop>(
     rt: &impl Abort,
     alloc: Global,
@@ -138,7 +137,7 @@ fn adopted_and_taken<S: Alter + Drop>(
     Ok(archive.close())
 }
 
-/// Makes an archive in a file, takes steps over it, and closes the file.
+/// Makes an archive in a file, takes steps on it, and closes the file.
 fn create_and_take<D: Disk + Drop>(
     rt: &impl Abort,
     alloc: Global,
@@ -152,7 +151,7 @@ fn create_and_take<D: Disk + Drop>(
     Ok(())
 }
 
-/// Takes steps over the archive that a file has, and closes the file.
+/// Takes steps on the archive of a file, and closes the file.
 fn adopt_and_take<D: Disk + Drop>(
     rt: &impl Abort,
     alloc: Global,
@@ -181,7 +180,7 @@ fn rows_over_a_file_that_is_opened_again(rt: HostRuntime) -> Result<(), Fail> {
     Ok(())
 }
 
-/// An archive in whose store another can't be made, and is there behind that.
+/// Asserts that no second archive can be made in an archive's store, and that the first is still there after the attempt.
 fn assert_not_made_twice<S: Alter + Drop>(
     rt: &impl Abort,
     alloc: Global,
@@ -199,7 +198,7 @@ fn an_archive_is_not_made_twice(rt: HostRuntime) -> Result<(), Fail> {
     assert_not_made_twice(&rt, rt.alloc(), open_memory(rt.alloc())?)
 }
 
-/// A store without tables, in which an archive is made when none was adopted.
+/// Asserts that no archive is adopted from a store without tables, and that one can then be made in it.
 fn assert_made_later<S: Alter + Drop>(
     rt: &impl Abort,
     alloc: Global,
@@ -217,7 +216,7 @@ fn a_store_without_tables_has_no_archive(rt: HostRuntime) -> Result<(), Fail> {
     assert_made_later(&rt, rt.alloc(), conn)
 }
 
-/// A store that is given a table.
+/// Adds a table to a store.
 fn with_table<S: Alter + Drop>(
     rt: &impl Abort,
     mut conn: Connection<S>,
@@ -241,7 +240,7 @@ fn assert_tables<S: Alter + Drop>(
     Ok(())
 }
 
-/// A store that is given a table, in which no archive is made or adopted then.
+/// Adds a table to a store, and asserts that no archive is made in it or adopted from it.
 fn assert_left_alone<S: Alter + Drop>(rt: &impl Abort, conn: Connection<S>) -> Result<(), Fail> {
     let conn = with_table(rt, conn)?;
     let conn = handed_back(rt, Archive::create(conn), StoreFault::Store)?;
@@ -254,7 +253,7 @@ fn a_store_with_other_tables_has_no_archive(rt: HostRuntime) -> Result<(), Fail>
     assert_left_alone(&rt, Connection::open_in_memory(rt.alloc())?)
 }
 
-/// A store whose tables had this version, and a statement has changed it.
+/// Asserts the version of a store's tables, and changes it with a statement.
 fn with_version<S: Alter + Drop>(
     rt: &impl Abort,
     mut conn: Connection<S>,
@@ -271,7 +270,7 @@ fn with_version<S: Alter + Drop>(
     Ok(conn)
 }
 
-/// An archive whose tables get another version, with which they are left alone, and then their own again.
+/// Sets the version of an archive's tables to another one, asserts that they are left alone, and sets it back.
 fn assert_of_its_version<S: Alter + Drop>(
     rt: &impl Abort,
     alloc: Global,
@@ -293,7 +292,7 @@ fn tables_of_another_version_are_left_alone(rt: HostRuntime) -> Result<(), Fail>
     assert_of_its_version(&rt, rt.alloc(), open_memory(rt.alloc())?)
 }
 
-/// Enters the same hours many times, and withdraws them in another order: they are held until the last.
+/// Enters the same hours many times, and withdraws them in another order. Asserts that they are held until the last is withdrawn.
 fn withdraw_one_by_one<K: Keeper>(
     rt: &impl Abort,
     alloc: Global,
@@ -307,7 +306,7 @@ fn withdraw_one_by_one<K: Keeper>(
     }
     let held = Step::Holds(17, &[(0, 300, Activity::Rest)]);
     for place in 0..SAME {
-        // Each number comes once, as 387 and the count have no divisor in common.
+        // Each number comes exactly once, because 387 and the count have no common divisor.
         let withdraw = Step::Withdraw(17, place * 387 % SAME + 1, Ok(()));
         take(rt, alloc, keeper, row, &[held, withdraw])?;
     }

@@ -1,4 +1,4 @@
-//! Tests of archives by the calls of `Keeper`: what each answers that keeps what this promises.
+//! Tests of archives through `Keeper`: what an archive answers, however it is kept.
 #![tactic(auto)]
 
 #[cfg(test)]

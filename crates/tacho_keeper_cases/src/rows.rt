@@ -1,4 +1,4 @@
-//! Rows: what an archive without drivers answers, step by step.
+//! Rows: lists of steps, each with the expected answer, for an archive that has no drivers at first.
 
 use crate::step::Standing::{Kept, Withdrawn};
 use crate::step::Step::{
@@ -20,26 +20,26 @@ use tacho_time::Activity;
 /// The holder of Anna's card.
 const ANNAS_HOLDER: [u8; 15] = *b"\x0dD1234567890123";
 
-/// That of Bert's.
+/// The holder of Bert's card.
 const BERTS_HOLDER: [u8; 15] = *b"\x0dD1234567890124";
 
 /// The identification of Anna's card.
 pub(crate) const ANNA: &str = "05200000110d44313233343536373839303132333030";
 
-/// That of Bert's.
+/// The identification of Bert's card.
 const BERT: &str = "05200000110d44313233343536373839303132343030";
 
 /// The head of a block of activity data of the first generation, of 40 bytes.
 pub(crate) const FIRST: &str = "0504000028";
 
-/// That of the second one.
+/// The head of a block of activity data of the second generation, of 40 bytes.
 const SECOND: &str = "0504020028";
 
 /// Activity data from Monday 00:00 to Tuesday 08:00.
 pub(crate) const DAY: &str =
     "000000140000001465e50f0000010000000011e019fe23fc0014001065e6608000020000000011e0";
 
-/// Activity data of the same time, which are others from Monday 08:00 on, and all Tuesday.
+/// Activity data of the same time, which differ from Monday 08:00 on, and all Tuesday.
 const OTHER_DAY: &str =
     "000000140000001465e50f0000010000000011ea1a0823f20014001065e6608000020000080011e0";
 
@@ -88,7 +88,7 @@ const BOTH_MORNINGS: Pieces = &[
 /// What `SATURDAY` gives.
 const THE_SATURDAY: Pieces = &[(7200, 7680, Activity::Rest), (7680, 7800, Activity::Work)];
 
-/// Two entries: Monday's first five hours, and the hour behind them.
+/// Two entries: Monday's first five hours, and the hour after them.
 const NIGHT_AND_WAIT: Listed = &[
     (1, 0, 300, Activity::Rest, Kept),
     (2, 300, 360, Activity::Available, Kept),
@@ -141,7 +141,7 @@ const EMPTY_DATA_ARE_REPEATED: &[Step] = &[
     Lacks(17, 1, Code::S10),
 ];
 
-/// What was given before isn't added again, and what wasn't is.
+/// What was given before isn't added again; what wasn't given before is added.
 const A_PART_OF_THE_DAY_IS_REPEATED: &[Step] = &[
     REGISTER_ANNA,
     Adds(Caller::Office, Part::Both, &[ANNA, MORNING], 17, 1),
@@ -214,7 +214,7 @@ const THE_LEAST_CONTRADICTION_IS_NAMED: &[Step] = &[
     Holds(17, BOTH_MORNINGS),
 ];
 
-/// A file whose generations contradict each other is taken by one of them.
+/// A file whose generations contradict each other is accepted if only one of them is read.
 const ONE_OF_TWO_GENERATIONS_IS_ADDED: &[Step] = &[
     REGISTER_ANNA,
     Refuses(
@@ -240,7 +240,7 @@ const ONE_OF_TWO_GENERATIONS_IS_ADDED: &[Step] = &[
     Has(17, 1, &[ANNA, FIRST, DAY, SECOND, OTHER_DAY]),
 ];
 
-/// A file is taken by one generation and then by the other, where that gives more.
+/// A file is read by one generation and then by the other, if that gives more.
 const EACH_PART_OF_A_FILE_IS_ADDED: &[Step] = &[
     REGISTER_ANNA,
     Adds(
@@ -282,7 +282,7 @@ const EACH_PART_OF_A_FILE_IS_ADDED: &[Step] = &[
     Lacks(17, 3, Code::S10),
 ];
 
-/// A file that was taken by both generations adds nothing by either.
+/// A file that was read by both generations adds nothing if it is read by either.
 const BOTH_PARTS_ARE_ADDED_AT_ONCE: &[Step] = &[
     REGISTER_ANNA,
     Adds(
@@ -308,7 +308,7 @@ const BOTH_PARTS_ARE_ADDED_AT_ONCE: &[Step] = &[
     Lacks(17, 2, Code::S10),
 ];
 
-/// Each driver has his own files, numbers and timeline.
+/// Each driver has their own files, numbers and timeline.
 const FILES_OF_TWO_DRIVERS_INTERLEAVE: &[Step] = &[
     REGISTER_BERT,
     REGISTER_ANNA,
@@ -331,7 +331,7 @@ const FILES_OF_TWO_DRIVERS_INTERLEAVE: &[Step] = &[
     Lacks(18, 2, Code::S10),
 ];
 
-/// Of what one driver's files gave nothing counts for another.
+/// What one driver's files gave doesn't count for another driver.
 const ONE_FILE_GIVES_TWO_DRIVERS_THE_SAME: &[Step] = &[
     REGISTER_ANNA,
     REGISTER_BERT,
@@ -342,7 +342,7 @@ const ONE_FILE_GIVES_TWO_DRIVERS_THE_SAME: &[Step] = &[
     Holds(18, THE_DAY),
 ];
 
-/// A registration's first fault is answered: S1, S2, S3, S9.
+/// A registration is refused with its first fault: S1, S2, S3, S9.
 const REGISTRATIONS_ARE_REFUSED: &[Step] = &[
     REGISTER_ANNA,
     Register(17, ANNAS_HOLDER, "anna-key-1", 1, Err(Code::S1)),
@@ -364,7 +364,7 @@ const DRIVERS_ARE_REBASED: &[Step] = &[
     Register(17, ANNAS_HOLDER, "anna-key-1", 0, Err(Code::S1)),
 ];
 
-/// An import is for the driver whose card it is: S4, S5.
+/// An import is for the driver who owns the card: S4, S5.
 const A_CARD_HAS_ITS_OWNER: &[Step] = &[
     REGISTER_ANNA,
     Refuses(Caller::Office, Part::Both, &[BERT, FIRST, DAY], Code::S4),
@@ -415,7 +415,7 @@ const A_FILES_FAULT_COMES_FIRST: &[Step] = &[
     Lacks(17, 1, Code::S10),
 ];
 
-/// Readings of drivers and downloads that there are not: S4, S10.
+/// Readings of unknown drivers and downloads: S4, S10.
 const WHAT_IS_UNKNOWN_IS_NOT_READ: &[Step] = &[
     HasNoLine(17, Code::S4),
     REGISTER_ANNA,
@@ -428,7 +428,7 @@ const WHAT_IS_UNKNOWN_IS_NOT_READ: &[Step] = &[
     HasNoLine(0, Code::S4),
 ];
 
-/// Hours that contradict a file stand in its way until they are withdrawn: S6, S8.
+/// A file that contradicts hours is refused until they are withdrawn: S6, S8.
 const HOURS_GIVE_WAY_TO_A_FILE: &[Step] = &[
     REGISTER_ANNA,
     Enter(
@@ -476,7 +476,7 @@ const ENTRIES_OVERLAP: &[Step] = &[
     ),
 ];
 
-/// Entries don't count for whether a file is repeated, nor their numbers for its own.
+/// Entries don't count for whether a file is repeated, and their numbers are separate from downloads'.
 const A_FILE_OF_ENTERED_HOURS_IS_ADDED: &[Step] = &[
     REGISTER_ANNA,
     Enter(17, DAY_HOURS, Ok((1, 4))),
@@ -500,7 +500,7 @@ const A_FILE_OF_ENTERED_HOURS_IS_ADDED: &[Step] = &[
     ),
 ];
 
-/// A batch without lines takes no number.
+/// A batch without lines uses no number.
 const NO_HOURS_ARE_ENTERED: &[Step] = &[
     REGISTER_ANNA,
     Enter(17, NO_HOURS, Ok((1, 0))),
@@ -520,7 +520,7 @@ const NO_HOURS_ARE_ENTERED: &[Step] = &[
     ),
 ];
 
-/// A batch goes in whole or not at all, and takes no number where it doesn't: S6.
+/// All of a batch is entered or none; a refused batch uses no number: S6.
 const A_BATCH_THAT_CONTRADICTS_CHANGES_NOTHING: &[Step] = &[
     REGISTER_ANNA,
     Adds(Caller::Office, Part::Both, &[ANNA, FIRST, DAY], 17, 1),
@@ -558,7 +558,7 @@ const A_BATCH_THAT_CONTRADICTS_CHANGES_NOTHING: &[Step] = &[
     Enter(17, NIGHT_HOURS, Ok((3, 1))),
 ];
 
-/// Hours that agree with a file are joined with it, and it keeps what it gave.
+/// Hours that agree with a file are joined with it; what the file gave stays when they are withdrawn.
 const HOURS_AGREE_WITH_A_FILE: &[Step] = &[
     REGISTER_ANNA,
     Adds(Caller::Office, Part::Both, &[ANNA, FIRST, DAY], 17, 1),
@@ -594,7 +594,7 @@ const HOURS_AGREE_WITH_A_FILE: &[Step] = &[
     Holds(17, THE_DAY),
 ];
 
-/// Entries and drivers that there are not: S4, S7.
+/// Unknown entries and drivers: S4, S7.
 const UNKNOWN_ENTRIES_ARE_NOT_WITHDRAWN: &[Step] = &[
     Enter(17, NO_HOURS, Err(Code::S4)),
     Withdraw(17, 1, Err(Code::S4)),
@@ -615,7 +615,7 @@ const UNKNOWN_ENTRIES_ARE_NOT_WITHDRAWN: &[Step] = &[
     Lists(17, &[(1, 0, 300, Activity::Rest, Kept)]),
 ];
 
-/// Each driver has his own entries and numbers.
+/// Each driver has their own entries and numbers.
 const ENTRIES_OF_TWO_DRIVERS_INTERLEAVE: &[Step] = &[
     REGISTER_BERT,
     REGISTER_ANNA,
@@ -643,7 +643,7 @@ const ENTRIES_OF_TWO_DRIVERS_INTERLEAVE: &[Step] = &[
     ),
 ];
 
-/// Each driver has his name, and who isn't registered has neither a name nor a report: S4.
+/// Each driver has their name. A driver who isn't registered has no name and no report: S4.
 const DRIVERS_HAVE_THEIR_NAMES: &[Step] = &[
     HasNoName(17, Code::S4),
     HasNoReport(17, Code::S4),
@@ -659,7 +659,7 @@ const DRIVERS_HAVE_THEIR_NAMES: &[Step] = &[
     HasNoReport(4_294_967_295, Code::S4),
 ];
 
-/// A key is of the driver who was registered with these very bytes, and any other bytes are of nobody.
+/// A key belongs to the driver who was registered with exactly these bytes; other bytes belong to nobody.
 const KEYS_ARE_OF_THEIR_DRIVERS: &[Step] = &[
     IsOf(b"anna-key-1", None),
     REGISTER_ANNA,
@@ -677,7 +677,7 @@ const KEYS_ARE_OF_THEIR_DRIVERS: &[Step] = &[
     IsOf(b"anna-key-1\xff", None),
 ];
 
-/// A report is from the driver's base on: the eight and a half hours of driving of `DAY` have no break after four and a half.
+/// A report begins at the driver's base: the eight and a half hours of driving in `DAY` have no break after four and a half.
 const A_REPORT_IS_FROM_THE_BASE: &[Step] = &[
     REGISTER_ANNA,
     Reports(17, 0, &[]),
@@ -696,7 +696,7 @@ const A_REPORT_IS_FROM_THE_BASE: &[Step] = &[
     Reports(17, 1020, &[(Kind::B1, 780)]),
 ];
 
-/// A report is of what is held now: five hours of driving without a break are withdrawn, and were work.
+/// A report is of what is held now: five hours of driving without a break are withdrawn, and work is entered in their place.
 const A_WITHDRAWAL_CHANGES_THE_REPORT: &[Step] = &[
     REGISTER_ANNA,
     REGISTER_BERT,

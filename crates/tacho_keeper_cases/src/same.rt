@@ -1,7 +1,8 @@
 use std::fmt::Debug;
 use std::process::Abort;
 
-/// Ends the test where what was found isn't what is wanted, and tells both. It takes much less to prove than a comparison in place.
+/// Ends the test, and prints both values, if the value that was found isn't the expected one. This takes much less to prove than a
+/// comparison in place.
 pub(crate) fn assert_same<T: PartialEq + Debug + Drop>(rt: &impl Abort, found: T, wanted: T) {
     assert!(rt; found == wanted, "{found:?}, and not {wanted:?}");
 }

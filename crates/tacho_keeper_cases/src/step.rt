@@ -1,4 +1,4 @@
-//! Steps: what an archive is told or asked, and what it has to answer, whichever archive it is.
+//! Steps: what an archive is asked to do, and what it has to answer, whatever archive it is.
 
 ghost use Rattle.tacho_state.specs.Registration.{IsReadDay};
 
@@ -19,15 +19,15 @@ const MONDAY: u32 = 19_786;
 /// A card file's blocks, in hexadecimal digits.
 pub(crate) type Blocks = &'static [&'static str];
 
-/// Spans of a driver who is alone: each from a minute to before another one, counted from Monday 00:00.
+/// Spans of a driver who is alone: each from a minute to before another one. Minutes are counted from Monday 00:00.
 pub(crate) type Pieces = &'static [(u16, u16, Activity)];
 
-/// Whether an entry gives its hours.
+/// Whether an entry was withdrawn.
 #[derive(Clone, Copy)]
 pub(crate) enum Standing {
-    /// It does.
+    /// The entry gives its hours.
     Kept,
-    /// It was withdrawn.
+    /// The entry was withdrawn.
     Withdrawn,
 }
 
@@ -37,11 +37,11 @@ pub(crate) type Listed = &'static [(u32, u16, u16, Activity, Standing)];
 /// Breaches of the rules: the kind and the moment of each, a minute counted from Monday 00:00.
 pub(crate) type Breaches = &'static [(Kind, u16)];
 
-/// A stretch: its Monday, its horizon and why it is there, where what isn't examined after it ends, and how many breaches it has.
-/// Minutes are counted from Monday 00:00.
+/// A stretch: its Monday, its horizon and the cause, the end of the range after it that isn't examined, and the number of breaches. Minutes
+/// are counted from Monday 00:00.
 pub(crate) type Judged = (u16, u16, Cause, Option<u16>, usize);
 
-/// Why an archive refuses, by its code. Minutes are counted from Monday 00:00.
+/// Why an archive refuses, by code. Minutes are counted from Monday 00:00.
 #[derive(Clone, Copy)]
 pub(crate) enum Code {
     /// The driver's number is taken.
@@ -50,11 +50,11 @@ pub(crate) enum Code {
     S2,
     /// The card's holder is taken.
     S3,
-    /// No driver has the number, or the card's holder.
+    /// No driver has this number, or the card's holder.
     S4,
-    /// It is another's card.
+    /// The card is another driver's.
     S5,
-    /// This minute would have two marks, and none before it.
+    /// The least minute that would have two marks.
     S6(u16),
     /// No entry has the number.
     S7,
@@ -64,34 +64,34 @@ pub(crate) enum Code {
     S9,
     /// No download has the number.
     S10,
-    /// There is no number for it any more.
+    /// No number is left.
     S14,
     /// S11: the block at this offset goes past the file's end.
     C1(usize),
     /// S11: the file has no identification.
     C3,
-    /// S11: it has no activity data of the part.
+    /// S11: the file has no activity data of the part.
     C6,
-    /// S11: it gives this minute two marks, and none before it.
+    /// S11: the least minute to which the file gives two marks.
     C14(u16),
 }
 
-/// What an archive is told or asked, and what it has to answer.
+/// What an archive is asked to do, and what it has to answer.
 #[derive(Clone, Copy)]
 pub(crate) enum Step {
-    /// A driver is registered: his number, his card's holder, his key, and how many days after Monday he is examined from.
+    /// A driver is registered: their number, their card's holder, their key, and how many days after Monday their base is.
     Register(u32, [u8; 15], &'static str, u8, Result<(), Code>),
-    /// An import of a file of these blocks by a part makes it that download of that driver.
+    /// A file of these blocks, from which this part is read, is added as the driver's download with this number: driver, number.
     Adds(Caller, Part, Blocks, u32, u32),
-    /// An import does nothing: the driver's downloads give all before.
+    /// An import does nothing, because the driver's downloads already give everything.
     Repeats(Caller, Part, Blocks, u32),
     /// An import is refused.
     Refuses(Caller, Part, Blocks, Code),
-    /// The hours of a text of CSV are entered for a driver: the number of the first, and how many there are.
+    /// The hours in a CSV text are entered for a driver. The answer is the first entry's number, and how many there are.
     Enter(u32, &'static str, Result<(u32, u32), Code>),
     /// An entry of a driver is withdrawn.
     Withdraw(u32, u32, Result<(), Code>),
-    /// A driver is examined from another day.
+    /// A driver's base is set to another day.
     Rebase(u32, u8, Result<(), Code>),
     /// A key is of this driver, or of none.
     IsOf(&'static [u8], Option<u32>),
@@ -103,30 +103,31 @@ pub(crate) enum Step {
     Lists(u32, Listed),
     /// A driver has a download with this number: a file of these blocks.
     Has(u32, u32, Blocks),
-    /// A driver is examined up to this minute, counted from Monday 00:00 and not held, and has exactly these breaches, and no debts.
+    /// A driver is examined up to this minute, which isn't held, and has exactly these breaches and no debts. Minutes are counted from
+    /// Monday 00:00.
     Reports(u32, u16, Breaches),
     /// A driver has exactly these stretches.
     Stretches(u32, &'static [Judged]),
-    /// What a driver holds in a range is exactly these spans, and they have exactly these stretches. The range is from a minute to before
-    /// another one, counted from Monday 00:00.
+    /// A driver holds exactly these spans in a range, and has exactly these stretches. The range goes from a minute to before another one,
+    /// counted from Monday 00:00.
     InRange(u32, (u16, u16), Pieces, &'static [Judged]),
-    /// Of a driver no name is read.
+    /// The reading of a driver's name is refused.
     HasNoName(u32, Code),
-    /// Of a driver no timeline is read.
+    /// The reading of a driver's timeline is refused.
     HasNoLine(u32, Code),
-    /// Of a driver no entries are read.
+    /// The reading of a driver's entries is refused.
     HasNoEntries(u32, Code),
-    /// Of a driver there is no report.
+    /// The reading of a driver's report is refused.
     HasNoReport(u32, Code),
-    /// Of a driver there are no stretches.
+    /// The reading of a driver's stretches is refused.
     HasNoStretches(u32, Code),
-    /// Of a driver there is nothing in a range, and there are no stretches.
+    /// The reading of a range and of a driver's stretches is refused.
     HasNoRange(u32, (u16, u16), Code),
-    /// Of a driver no download with this number is read.
+    /// The reading of a driver's download with this number is refused.
     Lacks(u32, u32, Code),
 }
 
-/// Takes steps of a row, and asserts the answer to each.
+/// Takes a row's steps, and asserts the answer to each.
 pub(crate) fn take<K: Keeper>(
     rt: &impl Abort,
     alloc: Global,
@@ -271,7 +272,7 @@ fn take_refused<K: Keeper>(
     Ok(())
 }
 
-/// A command was answered as is wanted.
+/// Asserts that a command was answered as expected.
 fn assert_answered<T: PartialEq + Drop>(
     rt: &impl Abort,
     place: &str,
@@ -281,7 +282,7 @@ fn assert_answered<T: PartialEq + Drop>(
     assert!(rt; answer == wanted, "{place}");
 }
 
-/// What a batch of hours has to be answered, by the number of the first and how many there are.
+/// Returns the expected answer of a batch, from the number of the first entry and how many there are.
 fn entered(wanted: Result<(u32, u32), Code>) -> Result<Entered, StoreFault> {
     match wanted {
         Ok((first, count)) => Ok(Entered { first, count }),
@@ -289,7 +290,7 @@ fn entered(wanted: Result<(u32, u32), Code>) -> Result<Entered, StoreFault> {
     }
 }
 
-/// A timeline is that of pieces.
+/// Asserts that a timeline has exactly these pieces.
 fn assert_held(
     rt: &impl Abort,
     alloc: Global,
@@ -302,7 +303,7 @@ fn assert_held(
     Ok(())
 }
 
-/// What a timeline holds from a minute to before another one is that of pieces.
+/// Asserts that a timeline has exactly these pieces from a minute to before another one.
 fn assert_held_within(
     rt: &impl Abort,
     alloc: Global,
@@ -317,7 +318,7 @@ fn assert_held_within(
     Ok(())
 }
 
-/// Entries are those of a list.
+/// Asserts that entries are those of a list.
 fn assert_listed(rt: &impl Abort, place: &str, found: &[Entry], listed: Listed) {
     assert!(rt; found.len() == listed.len(), "{place}");
     for (entry, wanted) in found.iter().zip(listed) {
@@ -325,7 +326,7 @@ fn assert_listed(rt: &impl Abort, place: &str, found: &[Entry], listed: Listed) 
     }
 }
 
-/// An entry is one of a list, which the office has entered and said nothing of.
+/// True if an entry is this one of a list, the office is its author, and its note is empty.
 fn is_listed(entry: &Entry, wanted: (u32, u16, u16, Activity, Standing)) -> bool {
     let (number, start, past, activity, standing) = wanted;
     let line = &entry.line;
@@ -336,7 +337,7 @@ fn is_listed(entry: &Entry, wanted: (u32, u16, u16, Activity, Standing)) -> bool
         && (line.author(), line.note()) == ("office", "")
 }
 
-/// A download is a file of blocks.
+/// Asserts that a download is a file of these blocks.
 fn assert_read(
     rt: &impl Abort,
     alloc: Global,
@@ -349,7 +350,7 @@ fn assert_read(
     Ok(())
 }
 
-/// A report ends at a minute that is not held, and has breaches and no debts.
+/// Asserts that a report ends at a minute that isn't held, and has these breaches and no debts.
 fn assert_reported(
     rt: &impl Abort,
     alloc: Global,
@@ -373,7 +374,7 @@ fn assert_reported(
     Ok(())
 }
 
-/// Stretches are those of a list.
+/// Asserts that stretches are those of a list.
 fn assert_judged(rt: &impl Abort, place: &str, found: &[Stretch], judged: &[Judged]) {
     assert!(rt; found.len() == judged.len(), "{place}");
     for (stretch, wanted) in found.iter().zip(judged) {
@@ -381,7 +382,7 @@ fn assert_judged(rt: &impl Abort, place: &str, found: &[Stretch], judged: &[Judg
     }
 }
 
-/// A stretch is one of a list.
+/// True if a stretch is this one of a list.
 fn is_judged(stretch: &Stretch, wanted: Judged) -> bool {
     let (monday, until, cause, unseen, breaches) = wanted;
     let horizon = Horizon {
@@ -394,7 +395,7 @@ fn is_judged(stretch: &Stretch, wanted: Judged) -> bool {
         && stretch.unseen == unseen.map(minute_of)
 }
 
-/// The kinds and the moments of breaches.
+/// Returns the kinds and the moments of breaches.
 fn moments_of(alloc: Global, breaches: Breaches) -> Result<Vec<(Kind, Minute)>, Fail> {
     let mut moments = Vec::new(alloc);
     for &(kind, moment) in breaches {
@@ -403,12 +404,12 @@ fn moments_of(alloc: Global, breaches: Breaches) -> Result<Vec<(Kind, Minute)>, 
     Ok(moments)
 }
 
-/// A reading was refused by a code.
+/// Asserts that a reading was refused with this code.
 fn assert_refused(rt: &impl Abort, place: &str, fault: Option<StoreFault>, code: Code) {
     assert!(rt; fault == Some(refusal_of(code)), "{place}");
 }
 
-/// A driver as he is registered. His name has his number.
+/// Makes a driver's registration. The name contains the number.
 fn driver(
     alloc: Global,
     number: u32,
@@ -421,7 +422,7 @@ fn driver(
     Ok(Driver::new(number, holder, key, day_of(day), name)?)
 }
 
-/// The bytes of blocks.
+/// Returns the bytes of blocks.
 pub(crate) fn file(alloc: Global, blocks: &[&str]) -> Result<Vec<u8>, Fail> {
     let mut bytes = Vec::new(alloc);
     for block in blocks {
@@ -430,7 +431,7 @@ pub(crate) fn file(alloc: Global, blocks: &[&str]) -> Result<Vec<u8>, Fail> {
     Ok(bytes)
 }
 
-/// The spans of pieces.
+/// Returns the spans of pieces.
 fn spans_of(alloc: Global, pieces: Pieces) -> Result<Vec<Span>, Fail> {
     let mut spans = Vec::new(alloc);
     for &(start, past, activity) in pieces {
@@ -446,7 +447,7 @@ fn spans_of(alloc: Global, pieces: Pieces) -> Result<Vec<Span>, Fail> {
     Ok(spans)
 }
 
-/// The refusal that has a code.
+/// Returns the refusal with this code.
 fn refusal_of(code: Code) -> StoreFault {
     match code {
         Code::S1 => StoreFault::DriverTaken,
@@ -467,17 +468,17 @@ fn refusal_of(code: Code) -> StoreFault {
     }
 }
 
-/// The range from a minute that is so many after Monday 00:00 to before another one.
+/// Returns the range between two minutes that are counted from Monday 00:00.
 fn range_of(range: (u16, u16)) -> (Minute, Minute) {
     (minute_of(range.0), minute_of(range.1))
 }
 
-/// The minute that is so many after Monday 00:00.
+/// Returns the minute that is this many minutes after Monday 00:00.
 fn minute_of(minutes: u16) -> Minute {
     Minute::new(MONDAY * 1440 + u32::from(minutes))
 }
 
-/// The day that is so many after Monday.
+/// Returns the day that is this many days after Monday.
 fn day_of(days: u8) -> Day
     ensures { IsReadDay result }
 {

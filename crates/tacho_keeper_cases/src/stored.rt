@@ -1,4 +1,4 @@
-//! What an archive makes of rows that were written into its tables beside it.
+//! What an archive answers if rows were written into its tables by other means.
 
 ghost use Rattle.std.specs.Prelude.{◌≤◌};
 
@@ -19,7 +19,7 @@ use tacho_time::{Activity, Mark, Minute, Span};
 /// The first minute of Monday 2024-03-04.
 const MONDAY: u32 = 28_491_840;
 
-/// A row of minutes that are counted from that Monday on.
+/// Makes a row whose minutes are counted from that Monday.
 fn row(start: u32, past: u32, mark: u32) -> StoredSpan
     requires start { start ≤ 10000 }
     requires past { past ≤ 10000 }
@@ -31,7 +31,7 @@ fn row(start: u32, past: u32, mark: u32) -> StoredSpan
     }
 }
 
-/// What the card file `DAY` gives.
+/// Returns the rows of what the card file `DAY` gives.
 fn rows_of_day() -> [StoredSpan; 4] {
     [
         row(0, 480, 0),
@@ -41,7 +41,7 @@ fn rows_of_day() -> [StoredSpan; 4] {
     ]
 }
 
-/// A span of such minutes.
+/// Makes a span whose minutes are counted from that Monday.
 fn span(start: u32, past: u32, activity: Activity, crew: bool) -> Span
     requires start { start ≤ 10000 }
     requires past { past ≤ 10000 }
@@ -53,7 +53,7 @@ fn span(start: u32, past: u32, activity: Activity, crew: bool) -> Span
     }
 }
 
-/// An archive that is given a driver, and these rows of what his downloads give and of what he holds.
+/// Registers a driver in an archive, and adds these rows of what their downloads give and of what they hold.
 fn filled<S: Alter + Drop>(
     rt: &impl Abort,
     alloc: Global,
@@ -70,7 +70,7 @@ fn filled<S: Alter + Drop>(
     Ok(adopted(conn)?)
 }
 
-/// The same of one in memory.
+/// Makes such an archive in memory.
 fn archive_of(
     rt: &impl Abort,
     alloc: Global,
@@ -113,7 +113,7 @@ fn rows_that_no_archive_writes_are_refused(rt: HostRuntime) -> Result<(), Fail> 
     Ok(())
 }
 
-/// What the import of the day answers, where the tables have these rows.
+/// Returns the answer to an import of the day, if the tables have these rows.
 fn imported(
     rt: &impl Abort,
     alloc: Global,

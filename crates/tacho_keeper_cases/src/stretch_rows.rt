@@ -1,4 +1,4 @@
-//! Rows of stretches: after gaps, crew and withdrawals, and beside what is held in a range.
+//! Rows of stretches: after gaps, crew and withdrawals, and read together with what is held in a range.
 
 use crate::rows::{ANNA, DAY, FIRST, REGISTER_ANNA, REGISTER_BERT};
 use crate::step::Step::{
@@ -16,7 +16,7 @@ const CREW_ON_MONDAY: &str = "0504000014000000000000001065ee4980000100005800012c
 /// A block of Thursday to 20:00: rest, and from 06:00 on driving and work with a second driver.
 const CREW_ON_THURSDAY: &str = "0504000018000000000000001465e903800001000000005968538404b0";
 
-/// Who isn't registered has no stretches (S4); and where nothing is held, the one stretch ends where it begins.
+/// A driver who isn't registered has no stretches (S4). If nothing is held, the one stretch ends where it begins.
 pub(crate) const STRETCHES_OF_NOTHING: &[Step] = &[
     HasNoStretches(17, Code::S4),
     REGISTER_ANNA,
@@ -28,7 +28,7 @@ pub(crate) const STRETCHES_OF_NOTHING: &[Step] = &[
     Stretches(17, &[(10_080, 10_080, Cause::Unknown, None, 0)]),
 ];
 
-/// What is held before the base doesn't count: from another one, the 271 minutes of driving have no break.
+/// What is held before the base doesn't count: from another base, the 271 minutes of driving have no break.
 pub(crate) const STRETCHES_ARE_FROM_THE_BASE: &[Step] = &[
     REGISTER_ANNA,
     Enter(
@@ -45,7 +45,7 @@ pub(crate) const STRETCHES_ARE_FROM_THE_BASE: &[Step] = &[
     Stretches(17, &[(0, 631, Cause::Unknown, None, 1)]),
 ];
 
-/// After a gap a stretch begins at the next Monday, and before there is one, all that is held is unseen.
+/// After a gap, a stretch begins at the next Monday. Until such a Monday is held, all that is held after the gap is unseen.
 pub(crate) const A_STRETCH_BEGINS_AFTER_A_GAP: &[Step] = &[
     REGISTER_ANNA,
     REGISTER_BERT,
@@ -111,7 +111,7 @@ pub(crate) const GAPS_END_NEAR_A_MONDAY: &[Step] = &[
         Ok((4, 1)),
     ),
     Stretches(17, &[(0, 720, Cause::Unknown, Some(10_800), 0)]),
-    // A Monday's first minute alone is a stretch.
+    // A Monday whose first minute alone is held is a stretch.
     Enter(
         17,
         "start,past,activity\n2024-03-18 00:00,2024-03-18 00:01,work\n",
@@ -148,7 +148,7 @@ pub(crate) const A_HORIZON_IS_AT_A_MONDAY: &[Step] = &[
     ),
 ];
 
-/// A span has the next Monday in its middle: of 691 minutes of driving 331 are on that day.
+/// The next Monday is in the middle of a span: of 691 minutes of driving, 331 are on that day.
 pub(crate) const A_MONDAY_IS_WITHIN_WORK: &[Step] = &[
     REGISTER_ANNA,
     Enter(
@@ -293,8 +293,8 @@ pub(crate) const A_WITHDRAWAL_CHANGES_THE_STRETCHES: &[Step] = &[
     Stretches(17, &[(0, 0, Cause::Unknown, None, 0)]),
 ];
 
-/// What is held in a range is read with the stretches: after the base, around it and before it, also where the base lies in a row, and
-/// in a gap.
+/// What is held in a range is read together with the stretches: in a range after the base, around it and before it. The base may also be
+/// within a row or in a gap.
 pub(crate) const A_RANGE_IS_READ_WITH_THE_STRETCHES: &[Step] = &[
     HasNoRange(17, (0, 10_080), Code::S4),
     REGISTER_ANNA,
@@ -353,7 +353,7 @@ pub(crate) const A_RANGE_IS_READ_WITH_THE_STRETCHES: &[Step] = &[
         ],
     ),
     HasNoRange(18, (0, 10_080), Code::S4),
-    // The base lies in the rest.
+    // The base is within the rest.
     Rebase(17, 7, Ok(())),
     InRange(
         17,
@@ -376,7 +376,7 @@ pub(crate) const A_RANGE_IS_READ_WITH_THE_STRETCHES: &[Step] = &[
         &[(20_160, 20_431, Activity::Drive)],
         &[(10_080, 20_431, Cause::Unknown, None, 1)],
     ),
-    // The base lies after what is held.
+    // The base is after what is held.
     Rebase(17, 28, Ok(())),
     InRange(
         17,

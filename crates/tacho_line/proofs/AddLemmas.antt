@@ -1,4 +1,4 @@
--- What is added to a canonical list, between the spans around it.
+-- Adding spans to a canonical list: the added spans, between the spans around them.
 use Rattle.std.proofs.Common.{◌≡◌, ℕ, zero, suc, ◌+◌, ◌-◌, ◌<◌, ◌≤◌, ◌⊎◌, inl, inr, nat_lt, nat_le, Bool, true, false, cond, List, [], ◌∷◌, ◌++◌, length, take, drop, slice_index_or, slice_range, Option, Some, None, refl, sym, ap, ◌∙◌, subst, arith}
 use Rattle.std.proofs.Common.{Global}
 use Rattle.std.proofs.lemmas.Bool.Decides.{nat_tests}
@@ -19,7 +19,7 @@ use Rattle.tacho_line.specs.Join.{ShareNone, EitherGives, ending_before, ending_
 use Rattle.tacho_line.proofs.LineLemmas.{held_given, given_held}
 use Rattle.tacho_line.proofs.MergeLemmas.{IsBefore, IsApart, append_gives, front_gives, back_gives, canonical_join, front_is_canonical, back_is_canonical, parts_before, parts_apart, split_list, front_part, rest_part}
 
--- ---- where the minutes of the parts are
+-- ---- which minutes the parts give
 
 ending_minutes : (a : ℕ) (xs : List Span) (m : ℕ) (k : Mark) → Gives (ending_before a xs) m k → m + 1 < a
 ending_minutes a [] m k g = absurd g
@@ -40,7 +40,7 @@ starting_minutes b (s ∷ ss) m k h g = go (nat_le s.start b) refl g (starting_m
   go true e x more = more x
   go false e x more = kept (grind (arith, nat_tests)) x
 
--- the minutes of canonical spans are from the first start to before the last past
+-- the minutes of canonical spans are from the first start to before the last end
 pub first_bound : (xs : List Span) (m : ℕ) (k : Mark) (d : Span) → IsCanonical xs → Gives xs m k → (slice_index_or xs 0 d).start ≤ m
 first_bound [] m k d h g = absurd g
 first_bound (s ∷ ss) m k d h (inl c) = c.0.0
@@ -56,7 +56,7 @@ last_bound (s ∷ t ∷ ts) (suc n) m k d h e (inl c) =
     let l = last_bound (t ∷ ts) n t.start t.mark d h.2 (omega (arith, e)) (first_given t ts h.2.0) in omega (arith, l, h.1.0, c.0.1)
 last_bound (s ∷ t ∷ ts) (suc n) m k d h e (inr g) = last_bound (t ∷ ts) n m k d h.2 (omega (arith, e)) g
 
--- ---- the list around what is merged
+-- ---- the list around the merged part
 
 either_front : (front middle back spans : List Span) (m : ℕ) (k : Mark) → EitherGives middle spans m k → EitherGives (front ++ (middle ++ back)) spans m k
 either_front front middle back spans m k (inl g) = inl (back_gives front (middle ++ back) m k (front_gives middle back m k g))
@@ -68,7 +68,7 @@ module _ (front middle back spans merged : List Span) (a b : ℕ)
     (behind : (m : ℕ) (k : Mark) → Gives back m k → b < m)
     (within : (m : ℕ) (k : Mark) → Gives spans m k → IsWithin a b m)
     (run : IsCanonicalOf (EitherGives middle spans) merged) where
-  -- a merged minute, as of the middle or the spans
+  -- a minute of the merged part is given by the middle or by the spans
   abbrev sides : (m : ℕ) (k : Mark) → Gives merged m k → EitherGives middle spans m k
   sides m k g = (run.same m k).0 g
 
@@ -135,12 +135,12 @@ module _ (front middle back spans merged : List Span) (a b : ℕ)
 
 -- ---- the line
 
--- a list is what comes before a range, what touches it, and the rest
+-- a list consists of the spans before a range, those that overlap or touch it, and the rest
 parts : (a b : ℕ) (line : List Span) → line ≡ ending_before a line ++ (starting_by b (ending_from a line) ++ starting_behind b (ending_from a line))
 parts a b line =
     split_list (λ s. nat_lt s.past a) line ∙ ap (λ x. ending_before a line ++ x) (split_list (λ s. nat_le s.start b) (ending_from a line))
 
--- what is held of a canonical list, with other spans
+-- what a canonical list and spans give is what the list holds together with the spans
 either_together : (line spans : List Span) (m : ℕ) (k : Mark) → IsCanonical line → EitherGives line spans m k → Together line spans m k
 either_together line spans m k h (inl g) = inl (given_held line m k h g)
 either_together line spans m k h (inr g) = inr g
@@ -169,7 +169,7 @@ added_is line spans merged n a b first last h c l from to run =
     run in
     either_is line spans _ h (subst (λ (x : List Span). IsCanonicalOf (EitherGives x spans) (front ++ (merged ++ back))) (sym whole) all)
 
--- the part of a line that the spans meet shares nothing with them
+-- the part of a line around the spans gives none of their minutes
 pub part_apart : (line spans : List Span) (a b : ℕ) → IsCanonical line → AreNotHeld line spans → ShareNone (starting_by b (ending_from a line)) spans
 part_apart line spans a b h new m j k x y =
     let given = rest_part (λ s. nat_lt s.past a) line m j (front_part (λ s. nat_le s.start b) (ending_from a line) m j x) in
@@ -183,14 +183,14 @@ pub part_canonical : (line : List Span) (a b : ℕ) → IsCanonical line → IsC
 part_canonical line a b h =
     front_is_canonical (starting_by b (ending_from a line)) (starting_behind b (ending_from a line)) (subst IsCanonical (split_list (λ s. nat_le s.start b) (ending_from a line)) (back_is_canonical (ending_before a line) (ending_from a line) (subst IsCanonical (split_list (λ s. nat_lt s.past a) line) h)))
 
--- nothing is added by no spans
+-- adding no spans changes nothing
 pub none_added : (line : List Span) → IsCanonical line → IsCanonicalOf (Together line []) line
 none_added line h = either_is line [] line h (record { canonical = h; same = (λ m k. ((λ g. inl g), λ g. only m k g)) }) where
   only : (m : ℕ) (k : Mark) → EitherGives line [] m k → Gives line m k
   only m k (inl g) = g
   only m k (inr g) = absurd g
 
--- the list with the merged spans in place of those that they were merged with
+-- the list in which the merged spans replace those that were merged
 pub spans_added : (line spans merged new : List Span) (first last : Span) → IsCanonical line → IsCanonical spans → slice_get spans 0 ≡ Some first → slice_get spans (length spans - 1) ≡ Some last
     → IsCanonicalOf (EitherGives (starting_by last.past (ending_from first.start line)) spans) merged
     → new ≡ ending_before first.start line ++ (merged ++ starting_behind last.past (ending_from first.start line)) → IsCanonicalOf (Together line spans) new
@@ -201,7 +201,7 @@ spans_added line spans merged new first last h c from to run e =
     subst (IsCanonicalOf (Together line spans)) (sym e)
     (added_is line spans merged (length spans - 1) first.start last.past first last h c (omega (arith, some)) (ap (λ (s : Span). s.start) own) (ap (λ (s : Span). s.past) end) run)
 
--- the items of a vector that an iterator over it yields
+-- an iterator over a vector yields its items
 pub vec_items_yielded : (merged items : List Span) (s t u : IntoIter Span Global) → into_iter_items s ≡ merged → into_iter_len s ≡ length merged → Yields into_iter_steps s items t → into_iter_steps t None u → items ≡ merged
 vec_items_yielded merged items s t u e l y n = sym (map-id items) ∙ items_from_drains items (t, y, λ _. (u, n)) (YieldsList-from_vec merged e l)
 
@@ -209,7 +209,7 @@ pub no_first_get : (xs : List Span) → slice_get xs 0 ≡ None → xs ≡ []
 no_first_get [] e = refl
 no_first_get (s ∷ ss) e = cc
 
--- the spans that are merged, as places of the line
+-- the places found are those of the spans that are merged
 pub part_is : (line one two : List Span) (i j a b : ℕ) → one ≡ line → two ≡ line → slice_range one i j ≡ starting_by b (ending_from a one) → take (j - i) (drop i two) ≡ starting_by b (ending_from a line)
 part_is line one two i j a b e f h =
     ap (λ (x : List Span). slice_range x i j) (f ∙ sym e) ∙ h ∙ ap (λ x. starting_by b (ending_from a x)) e

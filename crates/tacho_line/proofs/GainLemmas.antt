@@ -1,4 +1,4 @@
--- What spans give that a line lacks.
+-- What spans give that a line doesn't hold.
 use Rattle.std.proofs.Common.{◌≡◌, ◌≢◌, ℕ, ◌+◌, ◌<◌, ◌≤◌, ◌⊎◌, inl, inr, nat_lt, nat_le, Bool, true, false, cond, List, [], ◌∷◌, ◌++◌, Option, Some, None, map, refl, sym, ap, ◌∙◌, subst, arith, unwrap_or}
 use Rattle.std.proofs.lemmas.Iterator.Adapters.{position_from-zero}
 use Rattle.std.specs.List.{position, position_from}
@@ -29,9 +29,9 @@ position_empty place (s ∷ ss) = ap (λ o. cond (is_empty s) (Some place) o) (p
 pub position_is : (xs : List Span) → position is_empty xs ≡ first_empty xs
 position_is xs = position_from-zero is_empty xs ∙ position_empty 0 xs
 
--- ---- what held spans lack of one run
+-- ---- what is new of one run
 
--- gaps, with a mark
+-- gaps as spans with a mark
 abbrev marked : Mark → List Gap → List Span
 marked mark [] = []
 marked mark (g ∷ gaps) = record { start = g.start; past = g.past; mark = mark } ∷ marked mark gaps
@@ -91,7 +91,7 @@ gives_run held r m k h (inl c) e =
     (gaps_marked r.mark _ m k (((run_gaps held r h).lacking m).1 (c.0, e)) c.1)
 gives_run held r m k h (inr c) e = absurd c
 
--- ---- what held spans lack of runs
+-- ---- what is new of several runs
 
 pub lacking_gives : (held runs : List Span) (m : ℕ) (k : Mark) → IsCanonical held → Gives (lacking_of held runs) m k → Gives runs m k × (mark_at held m ≡ None)
 lacking_gives held [] m k h g = absurd g
@@ -116,9 +116,9 @@ lacking_canonical held (r ∷ runs) h c =
     (λ m n j k x y. parts_before (r ∷ []) runs c m n j k (run_gives held r m j h x).0 (lacking_gives held runs n k h y).0)
     (λ m k x y. parts_apart (r ∷ []) runs c m k (run_gives held r m k h x).0 (lacking_gives held runs (m + 1) k h y).0)
 
--- ---- the first minute of a property
+-- ---- the first minute with a property
 
--- the first minute that has it, or none has
+-- the first minute with the property, or none has it
 abbrev First : (ℕ → Type 0) → Option ℕ → Type 0
 First P (Some m) = P m × ((n : ℕ) → n < m → P n → ⊥)
 First P None = (n : ℕ) → P n → ⊥
@@ -132,11 +132,11 @@ first_same P Q None f g h = λ n q. h n (g n q)
 abbrev Clashes : List Span → List Span → ℕ → Type 0
 Clashes xs ys m = (j : Mark) × (k : Mark) × Gives xs m j × Gives ys m k × (j ≢ k)
 
--- one minute has no two marks
+-- a minute of a line has only one mark
 two_marks : (o : Option Mark) (a b : Mark) → o ≡ Some a → o ≡ Some b → a ≡ b
 two_marks o a b e f = cc
 
--- a span that overlaps a run, with another mark
+-- the first span that overlaps a run has another mark
 other_mark : (r s : Span) (ss : List Span) → r.start < r.past → IsCanonical (s ∷ ss) → r.start < s.past → s.start < r.past → s.mark ≢ r.mark → First (Clashes (s ∷ ss) (r ∷ [])) (Some (later_of s.start r.start))
 other_mark r s ss full h a b d =
     let l = later_facts s.start r.start in (
@@ -151,7 +151,7 @@ other_mark r s ss full h a b d =
       early n lt j k x y =
           let least = later_least s.start r.start n (later s.start (s ∷ ss) n j (canonical_from s ss h) x) (from_run n k y) in absurd (omega (arith, least, lt))
 
--- a span that overlaps a run, with its mark
+-- the first span that overlaps a run has the same mark, so it doesn't clash
 same_clashes : (r s : Span) (ss : List Span) (n : ℕ) → s.mark ≡ r.mark → Clashes (s ∷ ss) (r ∷ []) n → Clashes ss (r ∷ []) n
 same_clashes r s ss n e c = go c.0 c.1 c.2 c.3 c.4 where
   go : (j k : Mark) → Gives (s ∷ ss) n j → Gives (r ∷ []) n k → j ≢ k → Clashes ss (r ∷ []) n
@@ -175,7 +175,7 @@ part_given line start past m k g = rest_part (λ s. nat_le s.past start) line m 
 given_part : (line : List Span) (start past m : ℕ) (k : Mark) → IsCanonical line → IsWithin start past m → Gives line m k → Gives (overlap line start past) m k
 given_part line start past m k h w g = held_given (overlap line start past) m k (overlap_holds line start past m h w ∙ given_held line m k h g)
 
--- the minutes of one run
+-- the minutes that one run gives
 of_run : (r : Span) (m : ℕ) (k : Mark) → Gives (r ∷ []) m k → IsWithin r.start r.past m
 of_run r m k (inl c) = c.0
 of_run r m k (inr c) = absurd c
@@ -192,7 +192,7 @@ one_run : (r : Span) (runs : List Span) (m : ℕ) (k : Mark) → Gives (r ∷ []
 one_run r runs m k (inl c) = inl c
 one_run r runs m k (inr c) = absurd c
 
--- a clash with a run or with a later one
+-- a clash with runs is one with the first run or with a later one
 some_run : (line runs : List Span) (r : Span) (n : ℕ) → Clashes line (r ∷ runs) n → Clashes line (r ∷ []) n ⊎ Clashes line runs n
 some_run line runs r n c = go c.1 c.3 c.4 where
   go : (k : Mark) → Gives (r ∷ runs) n k → c.0 ≢ k → Clashes line (r ∷ []) n ⊎ Clashes line runs n
@@ -226,7 +226,7 @@ first_clash line (r ∷ runs) h c =
 clash_together : (line runs spans : List Span) (m : ℕ) → IsCanonical line → ((k : Mark) → Gives runs m k → Gives spans m k) → Clashes line runs m → Conflicts (Together line spans) m
 clash_together line runs spans m h same c = (c.0, c.1, inl (given_held line m c.0 h c.2), inr (same c.1 c.3), c.4)
 
--- where the spans have no two marks at a minute, it is the line that has another one
+-- if the spans don't have two marks for a minute, a second mark for it comes from the line
 together_clash : (line runs spans : List Span) (m : ℕ) → ((k : Mark) → Gives spans m k → Gives runs m k) → (Conflicts (Gives spans) m → ⊥) → Conflicts (Together line spans) m → Clashes line runs m
 together_clash line runs spans m same alone c = go c.0 c.1 c.2 c.3 c.4 where
   go : (a b : Mark) → Together line spans m a → Together line spans m b → a ≢ b → Clashes line runs m
@@ -235,12 +235,12 @@ together_clash line runs spans m same alone c = go c.0 c.1 c.2 c.3 c.4 where
   go a b (inr x) (inl y) d = (b, a, held_given line m b y, same a x, λ e. d (sym e))
   go a b (inr x) (inr y) d = absurd (alone (a, b, x, y, d))
 
--- a canonical list has no minute with two marks
+-- a set that has a canonical list has no minute with two marks
 no_conflict : (P : ℕ → Mark → Type 0) (runs : List Span) (m : ℕ) → IsCanonicalOf P runs → Conflicts P m → ⊥
 no_conflict P runs m r c =
     c.4 (two_marks (mark_at runs m) c.0 c.1 (given_held runs m c.0 r.canonical ((r.same m c.0).1 c.2)) (given_held runs m c.1 r.canonical ((r.same m c.1).1 c.3)))
 
--- the first minute of a line and spans that agree
+-- the first minute with two marks of a line and spans, if the spans alone have none
 agreed_first : (line spans runs : List Span) → IsCanonical line → IsCanonicalOf (Gives spans) runs → First (Conflicts (Together line spans)) (conflict_of line runs)
 agreed_first line spans runs h r =
     first_same (Clashes line runs) (Conflicts (Together line spans)) (conflict_of line runs)
@@ -251,7 +251,7 @@ agreed_first line spans runs h r =
 pub agreed_fault : (line spans runs : List Span) (m : ℕ) → IsCanonical line → IsCanonicalOf (Gives spans) runs → first_empty spans ≡ None → conflict_of line runs ≡ Some m → IsGainFault line spans (Contradiction m)
 agreed_fault line spans runs m h r full e = (full, subst (First (Conflicts (Together line spans))) e (agreed_first line spans runs h r))
 
--- a mark and none
+-- an option isn't both a mark and none
 mark_or_none : (o : Option Mark) (a : Mark) → o ≡ Some a → o ≡ None → ⊥
 mark_or_none o a e f = cc
 
@@ -268,9 +268,9 @@ gains_are line spans runs gains h r full e f = subst (AreGains line spans) (sym 
   };
 })
 
--- ---- spans that don't agree
+-- ---- spans that contradict each other
 
--- before the first minute with two marks
+-- what the spans give before their first minute with two marks
 module _ (line spans : List Span) (least : ℕ) (h : IsCanonical line) (c : IsFirstConflict (Gives spans) least) where
   abbrev early : List Span
   early = map (cut_to 0 least) spans
@@ -281,7 +281,7 @@ module _ (line spans : List Span) (least : ℕ) (h : IsCanonical line) (c : IsFi
   given_early : (n : ℕ) (k : Mark) → Gives early n k → (n < least) × Gives spans n k
   given_early n k g = let d = cuts_give 0 least spans n k g in (d.0.1, d.1)
 
-  -- they agree there
+  -- before this minute they have no two marks
   early_agree : (n : ℕ) → Conflicts (Gives early) n → ⊥
   early_agree n d =
       let a = given_early n d.0 d.2 in

@@ -1,4 +1,4 @@
--- A range has one list of gaps: gaps are seen as spans that all have one mark, of which there is one canonical list.
+-- A range has one list of gaps. Gaps are treated as spans that all have the same mark, and spans have one canonical list.
 use Rattle.std.proofs.Common.{◌≡◌, ℕ, inl, inr, false, List, [], ◌∷◌, refl, sym, ap, ◌∙◌, arith, map}
 use Rattle.tacho_time.specs.declared.span.Activity.TheVariants.{Rest}
 use Rattle.tacho_time.specs.declared.span.Mark.{Mark}
@@ -8,7 +8,7 @@ use Rattle.tacho_time.proofs.CanonicalLemmas.{one_list}
 use Rattle.tacho_line.specs.declared.gap.Gap.{Gap}
 use Rattle.tacho_line.specs.Line.{InGaps, BeginsBehind, AreApart, AreGaps}
 
--- the one mark, a gap as a span that has it, and the gap of a span
+-- a fixed mark; a gap as a span with this mark; a span as a gap
 abbrev one_mark : Mark
 one_mark = record { activity = Rest; crew = false }
 
@@ -18,12 +18,12 @@ as_span g = record { start = g.start; past = g.past; mark = one_mark }
 abbrev as_gap : Span → Gap
 as_gap s = record { start = s.start; past = s.past }
 
--- gaps are those of their spans
+-- gaps, turned into spans and back, are the same
 gaps_again : (gaps : List Gap) → map as_gap (map as_span gaps) ≡ gaps
 gaps_again [] = refl
 gaps_again (g ∷ gaps) = ap (λ gs. g ∷ gs) (gaps_again gaps)
 
--- gaps that are apart are a canonical list of spans
+-- gaps that are apart are canonical as spans
 goes_on : (g : Gap) (gaps : List Gap) → BeginsBehind g gaps → GoesOn (as_span g) (map as_span gaps)
 goes_on g [] h = tt
 goes_on g (next ∷ gaps) h = (omega (arith, h), λ touch. absurd (omega (arith, h, touch)))
@@ -32,7 +32,7 @@ canonical : (gaps : List Gap) → AreApart gaps → IsCanonical (map as_span gap
 canonical [] h = tt
 canonical (g ∷ gaps) h = (h.0, goes_on g gaps h.1, canonical gaps h.2)
 
--- their spans give the minutes of the gaps, with the one mark
+-- as spans, gaps give their minutes the fixed mark
 given : (gaps : List Gap) (m : ℕ) (mark : Mark) → Gives (map as_span gaps) m mark → InGaps gaps m × (one_mark ≡ mark)
 given [] m mark h = absurd h
 given (g ∷ gaps) m mark (inl h) = (inl h.0, h.1)
@@ -43,7 +43,7 @@ gives [] m mark h e = absurd h
 gives (g ∷ gaps) m mark (inl h) e = inl (h, e)
 gives (g ∷ gaps) m mark (inr h) e = inr (gives gaps m mark h e)
 
--- what one list of gaps gives, the other one gives
+-- if one list of gaps has the minutes of another, it gives the same as spans
 other_gives : (gaps others : List Gap) → ((m : ℕ) → InGaps gaps m → InGaps others m) → (m : ℕ) (mark : Mark) → Gives (map as_span gaps) m mark → Gives (map as_span others) m mark
 other_gives gaps others same m mark h = let of = given gaps m mark h in gives others m mark (same m of.0) of.1
 

@@ -1,4 +1,4 @@
--- What a pass over spans finds as their horizon.
+-- The horizon that a pass over spans finds.
 use Rattle.std.proofs.Common.{◌≡◌, ℕ, ◌<◌, ◌≤◌, ◌⊎◌, inl, inr, nat_lt, nat_le, Bool, true, false, cond, List, [], ◌∷◌, Option, refl, sym, subst, arith}
 use Rattle.std.proofs.lemmas.Bool.Decides.{nat_tests}
 use Rattle.tacho_time.specs.declared.span.Span.{Span}
@@ -13,7 +13,7 @@ use Rattle.tacho_line.specs.Walk.{horizon_from}
 use Rattle.tacho_line.proofs.SearchLemmas.{rest_canonical, EndsBehind, behind_ends, next_ends}
 use Rattle.tacho_line.proofs.LineLemmas.{first_holds, rest_holds, none_before, canonical_from, behind_holds}
 
--- the rest of a walk, behind a span that is single
+-- after a single span that has the base, the horizon of the rest is that of all
 walk_on : (base : ℕ) (s : Span) (ss : List Span) (h : Horizon) → s.start < s.past → s.start ≤ base → base < s.past → s.mark.crew ≡ false → IsHorizon ss s.past h → IsHorizon (s ∷ ss) base h
 walk_on base s ss h full from to single more = record {
   from = (let l = more.from in omega (arith, l, to));

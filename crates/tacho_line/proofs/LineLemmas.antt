@@ -1,4 +1,4 @@
--- What a canonical list gives each minute.
+-- The mark that a canonical list gives a minute.
 use Rattle.std.proofs.Common.{◌≡◌, ℕ, ◌<◌, ◌≤◌, inl, inr, ◌↔◌, ◌&&◌, nat_lt, nat_le, Bool, true, false, cond, List, [], ◌∷◌, Some, None, refl, sym, ap, ◌∙◌, subst, arith}
 use Rattle.std.proofs.lemmas.Bool.Decides.{nat_tests}
 use Rattle.tacho_time.specs.declared.span.Span.{Span}
@@ -30,7 +30,7 @@ test_within a b m h = (grind (arith, nat_tests), grind (arith, nat_tests))
 pub first_holds : (s : Span) (ss : List Span) (m : ℕ) → s.start ≤ m → m < s.past → mark_at (s ∷ ss) m ≡ Some s.mark
 first_holds s ss m h l = ap (λ b. cond b (Some s.mark) (mark_at ss m)) (within_test s.start s.past m h l)
 
--- a minute behind the first span
+-- a minute after the first span
 pub rest_holds : (s : Span) (ss : List Span) (m : ℕ) → s.past ≤ m → mark_at (s ∷ ss) m ≡ mark_at ss m
 rest_holds s ss m h = ap (λ b. cond b (Some s.mark) (mark_at ss m)) (over_test s.start s.past m h)
 
@@ -38,7 +38,7 @@ rest_holds s ss m h = ap (λ b. cond b (Some s.mark) (mark_at ss m)) (over_test 
 before_first : (s : Span) (ss : List Span) (m : ℕ) → m < s.start → mark_at (s ∷ ss) m ≡ mark_at ss m
 before_first s ss m h = ap (λ b. cond b (Some s.mark) (mark_at ss m)) (under_test s.start s.past m h)
 
--- nothing is held before the first start
+-- no minute before the first start is held
 pub none_before : (n : ℕ) (xs : List Span) (m : ℕ) → StartsFrom n xs → m < n → mark_at xs m ≡ None
 none_before n [] m h l = refl
 none_before n (s ∷ ss) m h l = before_first s ss m (omega (arith, h.0, l)) ∙ none_before s.start ss m h.2 (omega (arith, h.0, l))
@@ -46,7 +46,7 @@ none_before n (s ∷ ss) m h l = before_first s ss m (omega (arith, h.0, l)) ∙
 pub canonical_from : (s : Span) (ss : List Span) → IsCanonical (s ∷ ss) → StartsFrom s.start (s ∷ ss)
 canonical_from s ss h = (omega arith, h.0, starts_lower s.start s.past ss (omega (arith, h.0)) (canonical_starts s ss h))
 
--- ---- what is held is what is given
+-- ---- what a line holds is what its spans give
 
 pub held_given : (xs : List Span) (m : ℕ) (k : Mark) → Holds xs m k → Gives xs m k
 held_given [] m k h = cc
@@ -63,9 +63,9 @@ given_held (s ∷ ss) m k h (inr g) = rest_holds s ss m (later s.past ss m k (ca
 pub line_map : (line : List Span) (m : ℕ) (mark : Mark) → IsCanonical line → Holds line m mark ↔ Gives line m mark
 line_map line m mark h = (held_given line m mark, given_held line m mark h)
 
--- ---- searches leave what they look for
+-- ---- searches keep the spans that they look for
 
--- spans that end by the base hold no minute from it on
+-- spans that end at or before the base don't hold any minute from the base on
 pub behind_holds : (base : ℕ) (xs : List Span) (m : ℕ) → base ≤ m → mark_at (behind base xs) m ≡ mark_at xs m
 behind_holds base [] m l = refl
 behind_holds base (s ∷ ss) m l = go (nat_le s.past base) refl (behind_holds base ss m l) where
@@ -73,7 +73,7 @@ behind_holds base (s ∷ ss) m l = go (nat_le s.past base) refl (behind_holds ba
   go true e more = let over : s.past ≤ base = grind (arith, nat_tests) in more ∙ sym (rest_holds s ss m (omega (arith, over, l)))
   go false e more = refl
 
--- spans that start from the past on hold no minute before it
+-- spans that start at or after `past` don't hold any minute before it
 pub before_holds : (past : ℕ) (xs : List Span) (m : ℕ) → IsCanonical xs → m < past → mark_at (before past xs) m ≡ mark_at xs m
 before_holds past [] m h l = refl
 before_holds past (s ∷ ss) m h l = go (nat_lt s.start past) refl (before_holds past ss m h.2 l) where
@@ -86,7 +86,7 @@ before_holds past (s ∷ ss) m h l = go (nat_lt s.start past) refl (before_holds
 pub overlap_holds : (xs : List Span) (start past m : ℕ) → IsCanonical xs → IsWithin start past m → mark_at (overlap xs start past) m ≡ mark_at xs m
 overlap_holds xs start past m h w = before_holds past (behind start xs) m (rest_canonical (λ s. nat_le s.past start) xs h) w.1 ∙ behind_holds start xs m w.0
 
--- the first span that ends behind a minute
+-- the first span that ends after a minute
 pub behind_first : (m : ℕ) (xs : List Span) (s : Span) (ss : List Span) → behind m xs ≡ s ∷ ss → m < s.past
 behind_first m [] s ss e = cc
 behind_first m (t ∷ ts) s ss e = go (nat_le t.past m) refl e (behind_first m ts s ss) where
@@ -97,7 +97,7 @@ behind_first m (t ∷ ts) s ss e = go (nat_le t.past m) refl e (behind_first m t
       let same : t ≡ s = cc in
       subst (λ (x : Span). m < x.past) same under
 
--- ---- the mark that a search finds
+-- ---- the mark found by a search
 
 pub found_mark : (m : ℕ) (xs : List Span) (s : Span) (ss : List Span) → behind m xs ≡ s ∷ ss → s.start ≤ m → mark_at xs m ≡ Some s.mark
 found_mark m xs s ss e l =

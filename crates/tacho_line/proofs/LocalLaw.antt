@@ -1,4 +1,4 @@
--- What spans gain against a line is what they gain against its slice around them.
+-- The gains of spans against a line are their gains against the line's slice around them.
 use Rattle.std.proofs.Common.{◌≡◌, ℕ, ◌≤◌, inl, inr, ◌↔◌, List, [], ◌∷◌, ◌++◌, Option, None, Some, refl, sym, ◌∙◌, arith}
 use Rattle.std.proofs.lemmas.List.Elements.{All-head, All-tail}
 use Rattle.tacho_time.specs.declared.span.Span.{Span}
@@ -8,9 +8,9 @@ use Rattle.tacho_line.specs.Line.{mark_at, IsWithin, HoldsWithin, Together, IsNe
 use Rattle.tacho_line.specs.Local.{AreWithin}
 use Rattle.tacho_line.proofs.LineLemmas.{held_given, given_held}
 
--- ---- one mark near and in the whole line
+-- ---- the slice and the whole line have the same marks
 
--- in the range the slice has the line's mark
+-- in the range, the slice has the line's marks
 same_mark : (line near : List Span) (start past m : ℕ) → IsCanonicalOf (HoldsWithin line start past) near → IsWithin start past m → mark_at near m ≡ mark_at line m
 same_mark line near start past m is within = go (mark_at near m) refl where
   some : (k : Mark) → mark_at line m ≡ Some k → mark_at near m ≡ Some k
@@ -24,7 +24,7 @@ same_mark line near start past m is within = go (mark_at near m) refl where
   go (Some k) e = e ∙ sym ((is.same m k).0 (held_given near m k e)).1
   go None e = e ∙ none (mark_at line m) refl e ∙ refl
 
--- spans within a range give no minute out of it
+-- spans within a range give no minute outside of it
 given_within : (start past : ℕ) (spans : List Span) (m : ℕ) (k : Mark) → AreWithin start past spans → Gives spans m k → IsWithin start past m
 given_within start past [] m k h g = absurd g
 given_within start past (s ∷ ss) m k h (inl g) = let first = All-head (λ (x : Span). (start ≤ x.start) × (x.past ≤ past)) s ss h in (omega (arith, first.0, g.0.0), omega (arith, first.1, g.0.1))
@@ -32,22 +32,22 @@ given_within start past (s ∷ ss) m k h (inr g) = given_within start past ss m 
 
 -- ---- contradictions
 
--- a line holds a minute with one mark, so where it has two together with spans, the spans give it
+-- a line has only one mark for a minute, so if a line and spans have two marks for it, the spans give it one
 conflict_given : (line spans : List Span) (m : ℕ) → Conflicts (Together line spans) m → (k : Mark) × Gives spans m k
 conflict_given line spans m (a, b, inr g, other, differ) = (a, g)
 conflict_given line spans m (a, b, inl h, inr g, differ) = (b, g)
 conflict_given line spans m (a, b, inl h, inl k, differ) = let same : a ≡ b = cc in absurd (differ same)
 
--- what lines with one mark at a minute give together with spans
+-- if two lines have the same mark for a minute, they give it the same together with spans
 moved : (line other spans : List Span) (m : ℕ) (k : Mark) → mark_at line m ≡ mark_at other m → Together line spans m k → Together other spans m k
 moved line other spans m k e (inl h) = inl (sym e ∙ h)
 moved line other spans m k e (inr g) = inr g
 
--- so a minute has two marks in both or in none
+-- so a minute has two marks in both cases or in neither
 conflict_moved : (line other spans : List Span) (m : ℕ) → mark_at line m ≡ mark_at other m → Conflicts (Together line spans) m → Conflicts (Together other spans) m
 conflict_moved line other spans m e c = (c.0, c.1, moved line other spans m c.0 e c.2, moved line other spans m c.1 e c.3, c.4)
 
--- near and in the whole line
+-- likewise for the slice and the whole line
 near_conflict : (line near spans : List Span) (start past m : ℕ) → IsCanonicalOf (HoldsWithin line start past) near → AreWithin start past spans → Conflicts (Together near spans) m ↔ Conflicts (Together line spans) m
 near_conflict line near spans start past m is h = (
   λ c. conflict_moved near line spans m (at (conflict_given near spans m c)) c,
@@ -56,7 +56,7 @@ near_conflict line near spans start past m is h = (
   at : (k : Mark) × Gives spans m k → mark_at near m ≡ mark_at line m
   at g = same_mark line near start past m is (given_within start past spans m g.0 h g.1)
 
--- the least one is the same
+-- the least minute with two marks is the same
 pub near_contradiction : (line near spans : List Span) (start past m : ℕ) → IsCanonicalOf (HoldsWithin line start past) near → AreWithin start past spans → IsFirstConflict (Together near spans) m ↔ IsFirstConflict (Together line spans) m
 near_contradiction line near spans start past m is h =
     let both = λ (n : ℕ). near_conflict line near spans start past n is h in (
@@ -66,7 +66,7 @@ near_contradiction line near spans start past m is h =
 
 -- ---- gains
 
--- what is new near and in the whole line
+-- the same is new against the slice and against the whole line
 near_new : (line near spans : List Span) (start past m : ℕ) (k : Mark) → IsCanonicalOf (HoldsWithin line start past) near → AreWithin start past spans → IsNew near spans m k ↔ IsNew line spans m k
 near_new line near spans start past m k is h = (
   λ n. (n.0, sym (at n.0) ∙ n.1),
@@ -92,16 +92,16 @@ near_gains line near spans gains start past is h =
       },
     )
 
--- ---- a list taken out of others
+-- ---- a list removed from between others
 
--- what the lists on both sides give
+-- what the lists on both sides give is also given with the list between them
 sides : (before list after : List Span) (m : ℕ) (k : Mark) → Gives (before ++ after) m k → Gives (before ++ (list ++ after)) m k
 sides [] [] after m k g = g
 sides [] (s ∷ ss) after m k g = inr (sides [] ss after m k g)
 sides (b ∷ bs) list after m k (inl g) = inl g
 sides (b ∷ bs) list after m k (inr g) = inr (sides bs list after m k g)
 
--- what is given, and not by the list between
+-- what is given, but not by the list between them, is given by the lists on both sides
 outside : (before list after : List Span) (m : ℕ) (k : Mark) → ¬ (Gives list m k) → Gives (before ++ (list ++ after)) m k → Gives (before ++ after) m k
 outside [] [] after m k apart g = g
 outside [] (s ∷ ss) after m k apart (inl g) = absurd (apart (inl g))
@@ -109,6 +109,6 @@ outside [] (s ∷ ss) after m k apart (inr g) = outside [] ss after m k (λ x. a
 outside (b ∷ bs) list after m k apart (inl g) = inl g
 outside (b ∷ bs) list after m k apart (inr g) = inr (outside bs list after m k apart g)
 
--- a minute that a list doesn't have is as it was without the list
+-- a minute that a list doesn't give is given the same without that list
 pub taken_out : (before list after : List Span) (m : ℕ) (k : Mark) → ¬ (Gives list m k) → Gives (before ++ (list ++ after)) m k ↔ Gives (before ++ after) m k
 taken_out before list after m k apart = (outside before list after m k apart, sides before list after m k)

@@ -1,4 +1,4 @@
--- What two lists of spans give as one.
+-- What two lists of spans give as one list.
 use Rattle.std.proofs.Common.{◌≡◌, ℕ, ◌+◌, ◌-◌, ◌<◌, ◌≤◌, ◌⊎◌, inl, inr, ◌&&◌, ◌==◌, nat_lt, Bool, true, false, cond, List, [], ◌∷◌, ◌++◌, refl, sym, ap, ◌∙◌, subst, arith}
 use Rattle.std.proofs.lemmas.Bool.Decides.{nat_tests}
 use Rattle.tacho_time.specs.declared.span.Span.{Span}
@@ -10,13 +10,13 @@ use Rattle.tacho_line.specs.Search.{front_of, rest_of, before}
 use Rattle.tacho_line.proofs.SearchLemmas.{rest_canonical, front_canonical}
 use Rattle.tacho_line.specs.Join.{ShareNone, EitherGives, StartsBehind, AreInOrder, starting_from, in_order, touches, joined_from, joined}
 
--- ---- lists one behind the other
+-- ---- one list after another
 
--- each minute of the one is before each of the other
+-- each minute of one list is before each minute of the other
 abbrev pub IsBefore : List Span → List Span → Type 0
 IsBefore xs ys = (m n : ℕ) (j k : Mark) → Gives xs m j → Gives ys n k → m < n
 
--- they touch nowhere with one mark
+-- where the lists touch, they have different marks
 abbrev pub IsApart : List Span → List Span → Type 0
 IsApart xs ys = (m : ℕ) (k : Mark) → Gives xs m k → Gives ys (m + 1) k → ⊥
 
@@ -37,11 +37,11 @@ pub back_gives : (xs ys : List Span) (m : ℕ) (k : Mark) → Gives ys m k → G
 back_gives [] ys m k g = g
 back_gives (s ∷ ss) ys m k g = inr (back_gives ss ys m k g)
 
--- the last minute of a span
+-- a span gives its last minute its mark
 last_given : (s : Span) → s.start < s.past → Gives (s ∷ []) (s.past - 1) s.mark
 last_given s h = inl ((omega (arith, h), omega (arith, h)), refl)
 
--- ---- canonical lists one behind the other
+-- ---- one canonical list after another
 
 goes_on_one : (s : Span) (ys : List Span) → s.start < s.past → IsCanonical ys → IsBefore (s ∷ []) ys → IsApart (s ∷ []) ys → GoesOn s ys
 goes_on_one s [] h c b a = tt
@@ -82,7 +82,7 @@ parts_apart (s ∷ ss) ys h m k (inl c) y =
     ends_there s (ss ++ ys) h (inr (subst (λ (n : ℕ). Gives (ss ++ ys) n s.mark) ends (subst (λ (d : Mark). Gives (ss ++ ys) (m + 1) d) (sym c.1) given)))
 parts_apart (s ∷ ss) ys h m k (inr x) y = parts_apart ss ys h.2 m k x y
 
--- ---- spans in order, one behind the other
+-- ---- spans in order, one list after another
 
 starts_behind_one : (s : Span) (ys : List Span) → s.start < s.past → AreInOrder ys → IsBefore (s ∷ []) ys → StartsBehind s ys
 starts_behind_one s [] h c b = tt
@@ -108,7 +108,7 @@ split_list p (s ∷ ss) = go (p s) (split_list p ss) where
   go true e = ap (λ x. s ∷ x) e
   go false e = refl
 
--- a minute of the spans that start before another one is before it, or they have that one
+-- a minute of spans that start before minute a is before a, or these spans also give a
 early_minutes : (a : ℕ) (xs : List Span) (m : ℕ) (k : Mark) → Gives (before a xs) m k → (m < a) ⊎ Gives (before a xs) a k
 early_minutes a [] m k g = absurd g
 early_minutes a (s ∷ ss) m k g = go (nat_lt s.start a) refl g (early_minutes a ss m k) where
@@ -125,7 +125,7 @@ early_minutes a (s ∷ ss) m k g = go (nat_lt s.start a) refl g (early_minutes a
   go true e (inr g) more = other (more g)
   go false e g more = absurd g
 
--- the others start from it on
+-- the other spans start at minute a or later
 late_minutes : (a : ℕ) (xs : List Span) (m : ℕ) (k : Mark) → IsCanonical xs → Gives (starting_from a xs) m k → a ≤ m
 late_minutes a [] m k h g = absurd g
 late_minutes a (s ∷ ss) m k h g = go (nat_lt s.start a) refl g (late_minutes a ss m k h.2) where
@@ -137,14 +137,14 @@ late_minutes a (s ∷ ss) m k h g = go (nat_lt s.start a) refl g (late_minutes a
   go true e x more = more x
   go false e x more = kept (grind (arith, nat_tests)) x
 
--- a minute from a span's start on that it lacks is behind it
+-- a minute at or after a span's start that isn't in the span is after it
 behind_span : (s : Span) (m : ℕ) (k : Mark) → s.start ≤ m → (Covers s m → ⊥) → s.past ≤ m
 behind_span s m k l shared = go (lt_or_le m s.past) where
   go : (m < s.past) ⊎ (s.past ≤ m) → s.past ≤ m
   go (inl x) = absurd (shared (l, x))
   go (inr x) = x
 
--- ---- both lists in the order of their starts
+-- ---- two lists in the order of their starts
 
 pub front_part : (p : Span → Bool) (xs : List Span) (m : ℕ) (k : Mark) → Gives (front_of p xs) m k → Gives xs m k
 front_part p xs m k g = subst (λ (l : List Span). Gives l m k) (sym (split_list p xs)) (front_gives (front_of p xs) (rest_of p xs) m k g)
@@ -183,7 +183,7 @@ gives_order held (s ∷ ss) m k g =
 order_is : (held spans : List Span) → IsCanonical held → IsCanonical spans → ShareNone held spans → AreInOrder (in_order held spans)
 order_is held [] h c shared = canonical_in_order held h
 order_is held (s ∷ ss) h c shared = go (order_is (starting_from s.start held) ss (rest_canonical (λ x. nat_lt x.start s.start) held h) c.2 (λ m j k x y. shared m j k (rest_part (λ x. nat_lt x.start s.start) held m j x) (inr y))) where
-  -- what comes after the span is behind it
+  -- the minutes that come after the span in the list are after it
   behind_it : (n : ℕ) (k : Mark) → Gives (in_order (starting_from s.start held) ss) n k → s.past ≤ n
   behind_it n k g = side (order_gives (starting_from s.start held) ss n k g) where
     side : EitherGives (starting_from s.start held) ss n k → s.past ≤ n
@@ -210,14 +210,14 @@ order_is held (s ∷ ss) h c shared = go (order_is (starting_from s.start held) 
       (order_join (s ∷ []) (in_order (starting_from s.start held) ss) (c.0, tt, tt) more one_before)
       (λ m n j k x y. let a = early m j x in let b = from_it n k y in omega (arith, a, b))
 
--- ---- spans that touch, made one
+-- ---- joining spans that touch
 
--- runs that begin as a span does
+-- the first run has the start and the mark of the span
 abbrev BeginsAs : Span → List Span → Type 0
 BeginsAs last [] = ⊥
 BeginsAs last (t ∷ ts) = (t.start ≡ last.start) × (t.mark ≡ last.mark)
 
--- the runs from a span on
+-- what the runs from a span on have to be
 abbrev Runs : Span → List Span → List Span → Type 0
 Runs last ss out = IsCanonical out × GiveSame out (last ∷ ss) × BeginsAs last out
 

@@ -1,4 +1,4 @@
--- Values that the page on timelines prints, by computation: the line drawn there.
+-- Values that the page on timelines prints, by computation: the line that is drawn there.
 use Rattle.std.proofs.Common.{◌≡◌, List, [], ◌∷◌, false, None, Some, refl}
 use Rattle.tacho_time.specs.declared.span.Activity.TheVariants.{Rest, Work, Drive}
 use Rattle.tacho_time.specs.declared.span.Span.{Span}
@@ -14,7 +14,7 @@ drawn =
     ∷ record { start = 1200; past = 1440; mark = record { activity = Rest; crew = false } }
     ∷ []
 
--- a span has its first minute, and not the one at its past
+-- a span has its first minute, but not the minute `past`
 last_of_work : mark_at drawn 509 ≡ Some (record { activity = Work; crew = false })
 last_of_work = refl
 
@@ -24,13 +24,13 @@ first_of_drive = refl
 nothing : mark_at drawn 1020 ≡ None
 nothing = refl
 
--- its gap, and its horizon
+-- the gap and the horizon of the line
 one_gap : gaps_from 480 1440 drawn ≡ record { start = 1020; past = 1200 } ∷ []
 one_gap = refl
 
 unknown : horizon_from 480 drawn ≡ record { minute = 1020; cause = Unknown }
 unknown = refl
 
--- L2: the second of these is empty
+-- L2: the second of these spans is empty
 second : first_empty (record { start = 480; past = 510; mark = record { activity = Work; crew = false } } ∷ record { start = 510; past = 510; mark = record { activity = Work; crew = false } } ∷ []) ≡ Some 1
 second = refl

@@ -1,4 +1,4 @@
--- What passes over the spans of a range make of them.
+-- What passes over the spans of a range find.
 use Rattle.std.proofs.Common.{◌≡◌, ℕ, ◌<◌, ◌≤◌, ◌⊎◌, inl, inr, nat_lt, nat_le, Bool, true, false, cond, List, [], ◌∷◌, ◌++◌, map, None, refl, sym, ◌∙◌, subst, arith}
 use Rattle.std.proofs.lemmas.Bool.Decides.{nat_tests}
 use Rattle.tacho_time.specs.declared.span.Span.{Span}
@@ -14,22 +14,22 @@ use Rattle.tacho_line.proofs.LineLemmas.{first_holds, rest_holds, none_before, c
 
 -- ---- spans that overlap a range
 
--- each span has a minute of the range, if it is not empty
+-- each span overlaps the range, if the range isn't empty
 abbrev pub Meet : ℕ → ℕ → List Span → Type 0
 Meet start past [] = Unit {0}
 Meet start past (s ∷ ss) = (start < s.past) × (s.start < past) × Meet start past ss
 
--- a later minute is met by no more
+-- spans that overlap a range also overlap one that starts earlier
 meet_less : (a b past : ℕ) (xs : List Span) → a ≤ b → Meet b past xs → Meet a past xs
 meet_less a b past [] l h = tt
 meet_less a b past (s ∷ ss) l h = (omega (arith, l, h.0), h.1, meet_less a b past ss l h.2)
 
--- they meet a later start too, where the first does
+-- spans that overlap a range also overlap one that starts later, if the first span does
 meet_again : (a b past : ℕ) (xs : List Span) → IsCanonical xs → EndsBehind b xs → Meet a past xs → Meet b past xs
 meet_again a b past [] h e w = tt
 meet_again a b past (s ∷ ss) h e w = (e, w.1, meet_less b s.past past ss (omega (arith, e)) (meet_again a s.past past ss h.2 (next_ends s ss h) w.2))
 
--- spans behind the first one meet what is left behind it
+-- spans after the first one overlap the range after it
 next_meet : (s : Span) (past : ℕ) (ss : List Span) (a : ℕ) → IsCanonical (s ∷ ss) → Meet a past ss → Meet s.past past ss
 next_meet s past ss a h e = meet_again a s.past past ss h.2 (next_ends s ss h) e
 
@@ -67,7 +67,7 @@ earlier_facts a b = (grind (arith, nat_tests), grind (arith, nat_tests))
 earlier_above : (a b m : ℕ) → m < a → m < b → m < earlier_of a b
 earlier_above a b m h l = grind (arith, nat_tests)
 
--- a cut span covers the minutes of the range that the span covers
+-- a span, cut to a range, covers the minutes of the range that the span covers
 cut_covers : (start past : ℕ) (s : Span) (m : ℕ) → Covers (cut_to start past s) m → Covers s m × IsWithin start past m
 cut_covers start past s m c =
     let a = later_facts s.start start in
@@ -114,7 +114,7 @@ slice_is xs start past h l =
 
 -- ---- gaps
 
--- no gap begins before a minute
+-- no gap begins before minute m
 abbrev GapsFrom : ℕ → List Gap → Type 0
 GapsFrom m [] = Unit {0}
 GapsFrom m (g ∷ gaps) = m ≤ g.start
@@ -133,7 +133,7 @@ gaps_start m past (s ∷ ss) h e = go (nat_lt m s.start) (gaps_from s.past past 
   go true gaps g = omega arith
   go false gaps g = later_gaps gaps g
 
--- a gap before gaps behind a span
+-- a gap that ends at a span, before gaps after that span
 begins_behind : (m : ℕ) (s : Span) (gaps : List Gap) → s.start < s.past → GapsFrom s.past gaps → BeginsBehind (record { start = m; past = s.start }) gaps
 begins_behind m s [] h g = tt
 begins_behind m s (next ∷ gaps) h g = omega (arith, h, g)
@@ -148,7 +148,7 @@ gaps_apart m past (s ∷ ss) h e = go (nat_lt m s.start) refl (gaps_from s.past 
   go true t gaps g more = (grind (arith, nat_tests), begins_behind m s gaps h.0 g, more)
   go false t gaps g more = more
 
--- the minutes of one gap
+-- a minute of a list of gaps is in its first gap or in the others
 in_between : (a b m : ℕ) (gaps : List Gap) → InGaps (gap_between a b ++ gaps) m → IsWithin a b m ⊎ InGaps gaps m
 in_between a b m gaps = go (nat_lt a b) where
   go : (t : Bool) → InGaps (cond t (record { start = a; past = b } ∷ []) [] ++ gaps) m → IsWithin a b m ⊎ InGaps gaps m
@@ -175,7 +175,7 @@ gap_last a b m w = go (nat_lt a b) refl where
   go true e = inl w
   go false e = let l : b ≤ a = grind (arith, nat_tests) in absurd (omega (arith, l, w.0, w.1))
 
--- what the gaps have is lacking
+-- the spans don't hold any minute of the gaps
 pub gaps_lack : (m past : ℕ) (xs : List Span) → IsCanonical xs → Meet m past xs → (n : ℕ) → InGaps (gaps_from m past xs) n → IsWithin m past n × (mark_at xs n ≡ None)
 gaps_lack m past [] h e n g = (last_gap m past n g, refl)
 gaps_lack m past (s ∷ ss) h e n g = go (in_between m s.start n (gaps_from s.past past ss) g) (gaps_lack s.past past ss h.2 (next_meet s past ss m h e.2) n) where
@@ -183,7 +183,7 @@ gaps_lack m past (s ∷ ss) h e n g = go (in_between m s.start n (gaps_from s.pa
   go (inl w) more = ((w.0, omega (arith, w.1, e.1)), none_before s.start (s ∷ ss) n (canonical_from s ss h) w.1)
   go (inr i) more = let d = more i in ((omega (arith, e.0, d.0.0), d.0.1), rest_holds s ss n d.0.0 ∙ d.1)
 
--- what is lacking is in the gaps
+-- each minute that the spans don't hold is in a gap
 pub lack_gaps : (m past : ℕ) (xs : List Span) → (n : ℕ) → IsWithin m past n → mark_at xs n ≡ None → InGaps (gaps_from m past xs) n
 lack_gaps m past [] n w e = gap_last m past n w
 lack_gaps m past (s ∷ ss) n w e = between_in m s.start n (gaps_from s.past past ss) (go (lt_or_le n s.start) (lt_or_le n s.past) (lack_gaps s.past past ss n)) where

@@ -1,4 +1,4 @@
--- What a search in a canonical list finds.
+-- What searches in a canonical list find.
 use Rattle.std.proofs.Common.{◌≡◌, ℕ, zero, suc, ◌+◌, ◌<◌, ◌≤◌, nat_lt, nat_le, Bool, true, false, cond, List, [], ◌∷◌, length, take, drop, slice_index_or, slice_range, refl, sym, ap, ◌∙◌, arith}
 use Rattle.std.proofs.lemmas.Bool.Decides.{nat_tests}
 use Rattle.std.specs.List.Sorted.{IsPartitionPoint, IsPartitionedBy, IsNonDecreasingBy}
@@ -7,15 +7,15 @@ use Rattle.tacho_time.specs.Spans.{GoesOn, IsCanonical, StartsFrom}
 use Rattle.tacho_time.proofs.CanonicalLemmas.{canonical_starts}
 use Rattle.tacho_line.specs.Search.{front_of, rest_of, behind}
 
--- ---- spans rise by their starts and by their ends
+-- ---- starts increase along the list, and so do ends
 
--- each span behind a minute starts no earlier
+-- each span of a list in order starts at its first minute or later
 at_place : (n : ℕ) (xs : List Span) → StartsFrom n xs → (j : ℕ) (d : Span) → j < length xs → (n ≤ (slice_index_or xs j d).start) × ((slice_index_or xs j d).start < (slice_index_or xs j d).past)
 at_place n [] h j d l = absurd (omega (arith, l))
 at_place n (s ∷ ss) h zero d l = (h.0, h.1)
 at_place n (s ∷ ss) h (suc j) d l = let more = at_place s.start ss h.2 j d (omega (arith, l)) in (omega (arith, h.0, more.0), more.1)
 
--- a span before spans that rise
+-- a span prepended to spans with larger values keeps the values increasing
 rises : (f : Span → ℕ) (s : Span) (ss : List Span) → ((j : ℕ) (d : Span) → j < length ss → f s ≤ f (slice_index_or ss j d)) → IsNonDecreasingBy f ss → IsNonDecreasingBy f (s ∷ ss)
 rises f s ss low up zero zero d a b = omega arith
 rises f s ss low up zero (suc j) d a b = low j d (omega (arith, b))
@@ -32,16 +32,16 @@ pasts_rise [] h = λ i j d a b. absurd (omega (arith, b))
 pasts_rise (s ∷ ss) h =
     rises (λ x. x.past) s ss (λ j d l. let p = at_place s.past ss (canonical_starts s ss h) j d l in omega (arith, p.0, p.1)) (pasts_rise ss h.2)
 
--- a test of numbers that rise turns once
+-- in a list of increasing values, those below a limit come first
 pub parted_below : (f : Span → ℕ) (xs : List Span) (m : ℕ) → IsNonDecreasingBy f xs → IsPartitionedBy (λ s. nat_lt (f s) m) xs
 parted_below f xs m up i j d a b h = let l = up i j d a b in grind (arith, nat_tests)
 
 pub parted_up_to : (f : Span → ℕ) (xs : List Span) (m : ℕ) → IsNonDecreasingBy f xs → IsPartitionedBy (λ s. nat_le (f s) m) xs
 parted_up_to f xs m up i j d a b h = let l = up i j d a b in grind (arith, nat_tests)
 
--- ---- where a test turns
+-- ---- the partition point of a test
 
--- the part of a partition point's fact that is about the tail
+-- a partition point of a list, other than its start, gives one of the tail
 tail_point : (p : Span → Bool) (s : Span) (ss : List Span) (i : ℕ) → IsPartitionPoint (λ y. p y ≡ true) (λ y. p y ≡ false) (s ∷ ss) (suc i) → IsPartitionPoint (λ y. p y ≡ true) (λ y. p y ≡ false) ss i
 tail_point p s ss i h = ((λ k d a b. h.0 (suc k) d (omega arith) (omega (arith, b))), (λ k d a b. h.1 (suc k) d (omega (arith, a)) (omega (arith, b))))
 
@@ -92,9 +92,9 @@ pub no_first : (xs : List Span) → length xs < 1 → xs ≡ []
 no_first [] l = refl
 no_first (t ∷ ts) l = absurd (omega (arith, l))
 
--- ---- spans that end behind a minute
+-- ---- spans that end after a minute
 
--- the first span does, and so the later ones
+-- the first span ends after the minute, and so do later ones
 abbrev pub EndsBehind : ℕ → List Span → Type 0
 EndsBehind m [] = Unit {0}
 EndsBehind m (s ∷ ss) = m < s.past

@@ -1,4 +1,4 @@
--- Trusted in part: Two lists of spans made into one.
+-- Trusted in part: Merging two lists of spans into one.
 use Rattle.std.specs.Prelude.{ℕ, ◌&&◌, ◌==◌, ◌<◌, ◌≤◌, ◌⊎◌, nat_lt, nat_le, Bool, List, [], ◌∷◌, ◌++◌, if◌then◌else◌}
 use Rattle.tacho_time.specs.declared.span.Span.{Span}
 use Rattle.tacho_time.specs.declared.span.Mark.{Mark}
@@ -14,17 +14,17 @@ ShareNone xs ys = (m : ℕ) (j k : Mark) → Gives xs m j → Gives ys m k → �
 abbrev pub EitherGives : List Span → List Span → ℕ → Mark → Type 0
 EitherGives xs ys m k = Gives xs m k ⊎ Gives ys m k
 
--- in order, disjoint and none empty; two that touch may have one mark
+-- the list starts at the span's end or later
 abbrev pub StartsBehind : Span → List Span → Type 0
 StartsBehind s [] = Unit {0}
 StartsBehind s (t ∷ ts) = s.past ≤ t.start
 
--- the same of a whole list
+-- in order, disjoint, none empty; two that touch may have the same mark
 abbrev pub AreInOrder : List Span → Type 0
 AreInOrder [] = Unit {0}
 AreInOrder (s ∷ ss) = (s.start < s.past) × StartsBehind s ss × AreInOrder ss
 
--- the spans that start from a minute on
+-- the spans that start at minute m or later
 abbrev pub starting_from : ℕ → List Span → List Span
 starting_from m spans = rest_of (λ s. nat_lt s.start m) spans
 
@@ -33,34 +33,34 @@ abbrev pub in_order : List Span → List Span → List Span
 in_order held [] = held
 in_order held (s ∷ ss) = before s.start held ++ s ∷ in_order (starting_from s.start held) ss
 
--- a span goes on where another ends, with its mark
+-- the span starts where the last one ends, and has the same mark
 abbrev pub touches : Span → Span → Bool
 touches last s = (last.past == s.start) && same_mark s.mark last.mark
 
--- spans, of which those that touch with one mark are made one
+-- the spans, with those joined that touch and have the same mark
 abbrev pub joined_from : Span → List Span → List Span
 joined_from last [] = last ∷ []
 joined_from last (s ∷ ss) = if touches last s then joined_from (record last { past = s.past }) ss else last ∷ joined_from s ss
 
--- the same of a whole list
+-- likewise for a list that may be empty
 abbrev pub joined : List Span → List Span
 joined [] = []
 joined (s ∷ ss) = joined_from s ss
 
--- ---- around what is added
+-- ---- the list around the added spans
 
 -- the spans that end before a minute
 abbrev pub ending_before : ℕ → List Span → List Span
 ending_before start spans = front_of (λ s. nat_lt s.past start) spans
 
--- the others
+-- the other spans, starting with the first that ends at this minute or later
 abbrev pub ending_from : ℕ → List Span → List Span
 ending_from start spans = rest_of (λ s. nat_lt s.past start) spans
 
--- the spans that start by a minute
+-- the spans that start at or before a minute
 abbrev pub starting_by : ℕ → List Span → List Span
 starting_by past spans = front_of (λ s. nat_le s.start past) spans
 
--- the others
+-- the other spans, starting with the first that starts after this minute
 abbrev pub starting_behind : ℕ → List Span → List Span
 starting_behind past spans = rest_of (λ s. nat_le s.start past) spans

@@ -1,18 +1,18 @@
--- Private to tacho_line: The spans that some minutes meet, of a list in order.
+-- Private to tacho_line: The spans of an ordered list that overlap some minutes.
 use Rattle.std.specs.Prelude.{ℕ, nat_lt, nat_le, Bool, List, [], ◌∷◌, if◌then◌else◌}
 use Rattle.tacho_time.specs.declared.span.Span.{Span}
 
--- the spans up to the first that fails the test
+-- the spans before the first one that fails the test
 abbrev pub front_of : (Span → Bool) → List Span → List Span
 front_of p [] = []
 front_of p (s ∷ ss) = if p s then s ∷ front_of p ss else []
 
--- and those from it on
+-- the first span that fails the test, and those after it
 abbrev pub rest_of : (Span → Bool) → List Span → List Span
 rest_of p [] = []
 rest_of p (s ∷ ss) = if p s then rest_of p ss else s ∷ ss
 
--- the spans that end behind a minute
+-- the spans that end after a minute
 abbrev pub behind : ℕ → List Span → List Span
 behind m spans = rest_of (λ s. nat_le s.past m) spans
 
@@ -20,6 +20,6 @@ behind m spans = rest_of (λ s. nat_le s.past m) spans
 abbrev pub before : ℕ → List Span → List Span
 before m spans = front_of (λ s. nat_lt s.start m) spans
 
--- the spans with a minute of the range
+-- the spans that overlap a range
 abbrev pub overlap : List Span → ℕ → ℕ → List Span
 overlap spans start past = before past (behind start spans)

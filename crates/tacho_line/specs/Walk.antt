@@ -1,11 +1,11 @@
--- Trusted in part: What one pass over spans in order makes of them.
+-- Trusted in part: What one pass over spans in order finds.
 use Rattle.std.specs.Prelude.{ℕ, nat_lt, List, [], ◌∷◌, ◌++◌, if◌then◌else◌}
 use Rattle.tacho_time.specs.declared.span.Span.{Span}
 use Rattle.tacho_line.specs.declared.gap.Gap.{Gap}
 use Rattle.tacho_line.specs.declared.horizon.Cause.TheVariants.{Unknown, Crew}
 use Rattle.tacho_line.specs.declared.horizon.Horizon.{Horizon}
 
--- the first minute from one on that the spans lack, or give as crew
+-- the first minute from m on that the spans don't hold, or that is crew
 abbrev pub horizon_from : ℕ → List Span → Horizon
 horizon_from m [] = record { minute = m; cause = Unknown }
 horizon_from m (s ∷ ss) =
@@ -13,11 +13,11 @@ horizon_from m (s ∷ ss) =
     else (if s.mark.crew then record { minute = m; cause = Crew }
     else horizon_from s.past ss)
 
--- the gap between two minutes, if there is one
+-- the gap between two minutes, if it isn't empty
 abbrev pub gap_between : ℕ → ℕ → List Gap
 gap_between start past = if nat_lt start past then record { start = start; past = past } ∷ [] else []
 
--- what the spans lack, to a minute
+-- the gaps of the spans from minute m to before `past`
 abbrev pub gaps_from : ℕ → ℕ → List Span → List Gap
 gaps_from m past [] = gap_between m past
 gaps_from m past (s ∷ ss) = gap_between m s.start ++ gaps_from s.past past ss
@@ -30,6 +30,6 @@ later_of a b = if nat_lt a b then b else a
 abbrev pub earlier_of : ℕ → ℕ → ℕ
 earlier_of a b = if nat_lt a b then a else b
 
--- the part of a span that lies in a range
+-- a span cut to a range
 abbrev pub cut_to : ℕ → ℕ → Span → Span
 cut_to start past s = record { start = later_of s.start start; past = earlier_of s.past past; mark = s.mark }

@@ -10,7 +10,7 @@ use crate::slice::cut_all;
 use std::alloc::{AllocError, Global};
 use tacho_time::{Mark, Minute, Span, SpanFault, canonical_spans};
 
-/// The canonical list of what spans give that a line lacks, or why there is none.
+/// Returns the canonical list of what spans give that a line doesn't hold, or why there is none.
 pub(crate) fn gains_of(alloc: Global, line: &[Span], spans: &[Span]) -> Result<Vec<Span>, LineFault>
     requires { IsCanonical line.now }
     ensures { MatchResult result (λ gains. AreGains line.now spans.now gains.items) (IsGainFault line.now spans.now) }
@@ -28,14 +28,14 @@ pub(crate) fn gains_of(alloc: Global, line: &[Span], spans: &[Span]) -> Result<V
     Ok(lacking(alloc, line, &runs)?)
 }
 
-/// The place of the first empty span.
+/// Returns the place of the first empty span.
 fn first_empty(spans: &[Span]) -> Option<usize>
     ensures { result ≡ position is_empty spans.now }
 {
     spans.iter().position(|span| span.past <= span.start)
 }
 
-/// The fault of spans together with a line, where they have a fault themselves.
+/// Returns the fault of a line and spans together, if the spans alone have a fault.
 fn fault_with(alloc: Global, line: &[Span], spans: &[Span], fault: SpanFault) -> LineFault
     requires line { IsCanonical line.now }
     requires fault { IsFirstFault (Gives spans.now) fault }
@@ -50,7 +50,7 @@ fn fault_with(alloc: Global, line: &[Span], spans: &[Span], fault: SpanFault) ->
     }
 }
 
-/// The least minute with two marks of a line and spans together, from that of the spans.
+/// Returns the least minute for which a line and spans together have two marks. `minute` is the least one for the spans alone.
 fn least_conflict(
     alloc: Global,
     line: &[Span],
@@ -66,7 +66,7 @@ fn least_conflict(
     Ok(first_conflict(line, &runs).unwrap_or(minute))
 }
 
-/// The first minute at which a line and runs have two marks.
+/// Returns the first minute for which a line and runs have two marks.
 fn first_conflict(line: &[Span], runs: &[Span]) -> Option<Minute>
     requires { IsCanonical line.now }
     ensures { result ≡ conflict_of line.now runs.now }
@@ -79,7 +79,7 @@ fn first_conflict(line: &[Span], runs: &[Span]) -> Option<Minute>
     None
 }
 
-/// The first minute of a run at which spans that overlap it have another mark.
+/// Returns the first minute of a run for which spans that overlap it have another mark.
 fn conflict_with(held: &[Span], run: &Span) -> Option<Minute>
     ensures { result ≡ conflict_in run.now held.now }
 {
@@ -91,7 +91,7 @@ fn conflict_with(held: &[Span], run: &Span) -> Option<Minute>
     None
 }
 
-/// What held spans lack of runs.
+/// Returns the parts of runs that held spans don't cover.
 fn lacking(alloc: Global, held: &[Span], runs: &[Span]) -> Result<Vec<Span>, AllocError>
     requires { IsCanonical held.now }
     ensures { IfOk result (λ gains. gains.items ≡ lacking_of held.now runs.now) }
@@ -103,7 +103,7 @@ fn lacking(alloc: Global, held: &[Span], runs: &[Span]) -> Result<Vec<Span>, All
     Ok(gains)
 }
 
-/// Adds what held spans lack of a run that they overlap.
+/// Appends the parts of a run that the held spans don't cover. They all overlap the run.
 fn add_new(gains: &mut Vec<Span>, held: &[Span], run: &Span) -> Result<(), AllocError>
     ensures { OnOk result (gains.new.items ≡ gains.old.items ++ new_from run.now.mark run.now.start run.now.past held.now) }
 {
@@ -115,7 +115,7 @@ fn add_new(gains: &mut Vec<Span>, held: &[Span], run: &Span) -> Result<(), Alloc
     add_span(gains, from, run.past, run.mark)
 }
 
-/// Adds the span between two minutes, if it is not empty.
+/// Appends the span between two minutes, unless it is empty.
 fn add_span(
     gains: &mut Vec<Span>,
     start: Minute,

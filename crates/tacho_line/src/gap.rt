@@ -7,16 +7,16 @@ use crate::search::overlap;
 use std::alloc::{AllocError, Global};
 use tacho_time::{Minute, Span};
 
-/// The minutes from `start` to before `past`, which a line lacks.
+/// The minutes from `start` to before `past`, none of which a line holds.
 #[derive(Clone, Copy, Debug, PartialEq, Eq)]
 pub struct Gap {
-    /// Its first minute.
+    /// The gap's first minute.
     pub start: Minute,
-    /// The first minute behind it.
+    /// The first minute after the gap.
     pub past: Minute,
 }
 
-/// The maximal runs of minutes from a start to before a past that spans in order lack.
+/// Returns the gaps of spans in order, within a range.
 pub(crate) fn gaps_of(
     alloc: Global,
     spans: &[Span],
@@ -29,7 +29,7 @@ pub(crate) fn gaps_of(
     gaps_between(alloc, overlap(spans, start, past), start, past)
 }
 
-/// The same of spans that overlap the range.
+/// Likewise for spans that all overlap the range.
 fn gaps_between(
     alloc: Global,
     spans: &[Span],
@@ -48,7 +48,7 @@ fn gaps_between(
     Ok(gaps)
 }
 
-/// Adds the gap between two minutes, if there is one.
+/// Appends the gap between two minutes, if it isn't empty.
 fn add_gap(gaps: &mut Vec<Gap>, start: Minute, past: Minute) -> Result<(), AllocError>
     ensures { OnOk result (gaps.new.items ≡ gaps.old.items ++ gap_between start past) }
 {

@@ -6,25 +6,25 @@ ghost use Rattle.tacho_line.specs.Walk.{horizon_from};
 use crate::search::behind;
 use tacho_time::{Minute, Span};
 
-/// Why the examination of a line stops.
+/// Why the examination of a line ends.
 #[derive(Clone, Copy, Debug, PartialEq, Eq)]
 pub enum Cause {
     /// The minute isn't held.
     Unknown,
-    /// The minute is held as crew.
+    /// The minute is held and is crew.
     Crew,
 }
 
-/// The first minute that isn't held, or is held as crew.
+/// The first minute that isn't held or is crew.
 #[derive(Clone, Copy, Debug, PartialEq, Eq)]
 pub struct Horizon {
     /// The minute.
     pub minute: Minute,
-    /// Whether it isn't held, or is held as crew.
+    /// Whether the minute isn't held or is crew.
     pub cause: Cause,
 }
 
-/// The first minute from the base on that spans in order lack, or give as crew.
+/// Returns the first minute from the base on that spans in order don't hold, or that is crew.
 pub(crate) fn horizon_of(spans: &[Span], base: Minute) -> Horizon
     requires { IsCanonical spans.now }
     ensures { IsHorizon spans.now base result }
@@ -32,7 +32,7 @@ pub(crate) fn horizon_of(spans: &[Span], base: Minute) -> Horizon
     first_break(behind(spans, base), base)
 }
 
-/// The same of spans that end behind the base.
+/// Likewise for spans that all end after the base.
 fn first_break(spans: &[Span], base: Minute) -> Horizon
     ensures { result ≡ horizon_from base spans.now }
 {
@@ -52,7 +52,7 @@ fn first_break(spans: &[Span], base: Minute) -> Horizon
     unknown(minute)
 }
 
-/// A horizon at a minute that isn't held.
+/// Returns a horizon at a minute that isn't held.
 fn unknown(minute: Minute) -> Horizon
     ensures { result ≡ record { minute = minute; cause = Cause.Unknown } }
 {

@@ -1,4 +1,4 @@
-//! Laws about timelines. A law is a function without a body: what it ensures is proved, and holds for all that it names.
+//! Laws about timelines. A law is a function without a body: its `ensures` clause is proved, and holds for all values that it names.
 
 ghost use Rattle.std.specs.Prelude.{◌≡◌, ◌++◌, ℕ, ◌↔◌, List};
 ghost use Rattle.tacho_time.specs.Spans.{Gives, IsCanonical, IsCanonicalOf, IsFirstConflict};
@@ -8,7 +8,7 @@ ghost use Rattle.tacho_line.specs.declared.gap.Gap.{Gap as GapValue};
 ghost use Rattle.tacho_line.specs.Line.{Holds, AreGaps, AreGains, HoldsWithin, Together};
 ghost use Rattle.tacho_line.specs.Local.{AreWithin};
 
-/// A line gives each minute at most one mark: the one that its spans give.
+/// A line gives each minute at most one mark, and this is the mark that its spans give.
 pub fn line_is_a_map()
     ensures { (line : List Span) (m : ℕ) (mark : Mark) → IsCanonical line → Holds line m mark ↔ Gives line m mark }
 {}
@@ -18,8 +18,8 @@ pub fn one_list_of_gaps()
     ensures { (line : List Span) (start past : ℕ) (gaps others : List GapValue) → AreGaps line start past gaps → AreGaps line start past others → gaps ≡ others }
 {}
 
-/// Near is enough: the gains of spans, and their first contradiction, are the same against a line and against what the line
-/// holds in any range that has the spans. A list that is taken out of others changes no minute that it doesn't give.
+/// The spans near the new ones are enough: the gains of spans, and their first contradiction, are the same against a line and against what
+/// the line holds in any range that contains the spans. Removing a list from between others changes no minute that the list doesn't give.
 pub fn local()
     ensures gains { (line near spans gains : List Span) (start past : ℕ) → IsCanonicalOf (HoldsWithin line start past) near → AreWithin start past spans
         → AreGains near spans gains ↔ AreGains line spans gains }

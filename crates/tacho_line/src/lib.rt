@@ -1,4 +1,4 @@
-//! Timelines: which minutes of a driver are held, and with which mark.
+//! Timelines: which minutes of a driver are held, and with which marks.
 #![tactic(auto)]
 
 mod gains;

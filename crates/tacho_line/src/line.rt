@@ -17,13 +17,13 @@ use thiserror::Error;
 /// Why spans can't be added to a line.
 #[derive(Clone, Copy, Debug, PartialEq, Eq, Error)]
 pub enum LineFault {
-    /// L1: the least minute that has two marks in the line and the spans together.
+    /// L1: the least minute for which the line and the spans together have two marks.
     #[error("two marks at {0}")]
     Contradiction(Minute),
-    /// L2: the span at this place in the list, counted from 0, has no minute: the first such one.
+    /// L2: the place of the first empty span in the list, counted from 0.
     #[error("the span at {0} is empty")]
     EmptySpan(usize),
-    /// There was no memory.
+    /// Out of memory.
     #[error("no memory")]
     Memory,
 }
@@ -53,8 +53,8 @@ impl From<SpanFault> for LineFault {
     }
 }
 
-/// A driver's timeline: a finite map from minutes to marks, kept as the canonical list of its spans. Minutes are
-/// those of UTC, and a span has its minutes from `start` to before `past`.
+/// A driver's timeline: a finite map from minutes to marks, kept as the canonical list of its spans. Minutes are UTC, and a span has the
+/// minutes from `start` to before `past`.
 #[derive(Drop)]
 pub struct Line {
     spans: Vec<Span>,
@@ -73,7 +73,7 @@ impl Model for Line {
 }
 
 impl Line {
-    /// A line that holds nothing. It takes the allocator for all that it will hold, and no memory yet.
+    /// Returns a line that holds nothing. The line keeps the allocator for later, and allocates no memory yet.
     pub fn empty(alloc: Global) -> Line
         ensures { result ≡ [] }
     {
@@ -82,7 +82,7 @@ impl Line {
         }
     }
 
-    /// Its spans, as a canonical list: in order, disjoint, none empty, and two that touch have different marks.
+    /// Returns the line's spans as a canonical list: in order, disjoint, none empty; two that touch have different marks.
     pub fn spans(&self) -> &[Span]
         ensures value { result.now ≡ self.now }
         ensures canonical { IsCanonical self.now }
@@ -90,43 +90,44 @@ impl Line {
         &self.spans
     }
 
-    /// The mark of a minute, if it is held.
+    /// Returns the mark of a minute, if the minute is held.
     pub fn at(&self, minute: Minute) -> Option<Mark>
         ensures { result ≡ mark_at self.now minute }
     {
         search::mark_at(&self.spans, minute)
     }
 
-    /// The first minute from the base on that isn't held, or is held as crew, and which of the two.
+    /// Returns the first minute from the base on that isn't held or is crew, and which of the two.
     pub fn horizon(&self, base: Minute) -> Horizon
         ensures { IsHorizon self.now base result }
     {
         horizon_of(&self.spans, base)
     }
 
-    /// What it holds in the minutes from a start to before a past, as a canonical list.
+    /// Returns what the line holds from `start` to before `past`, as a canonical list.
     pub fn slice(&self, alloc: Global, start: Minute, past: Minute) -> Result<Vec<Span>, AllocError>
         ensures { IfOk result (λ spans. IsCanonicalOf (HoldsWithin self.now start past) spans.items) }
     {
         slice_of(alloc, &self.spans, start, past)
     }
 
-    /// Its spans that have a minute from a start to before a past, in order. The first and the last may go beyond; their
-    /// parts within the range (`cut`) are what `slice` copies.
+    /// Returns the line's spans that overlap the range from `start` to before `past`, in order. The first and the last may extend beyond
+    /// it; `slice` copies their parts within the range (`cut`).
     pub fn meeting(&self, start: Minute, past: Minute) -> &[Span]
         ensures { IsCanonicalOf (HoldsWithin self.now start past) (map (cut_to start past) result.now) }
     {
         meeting(&self.spans, start, past)
     }
 
-    /// The maximal runs of minutes from a start to before a past that it lacks, in order.
+    /// Returns the maximal ranges of minutes from `start` to before `past` that the line doesn't hold, in order.
     pub fn gaps(&self, alloc: Global, start: Minute, past: Minute) -> Result<Vec<Gap>, AllocError>
         ensures { IfOk result (λ gaps. AreGaps self.now start past gaps.items) }
     {
         gaps_of(alloc, &self.spans, start, past)
     }
 
-    /// Adds canonical spans, of which it holds no minute, as `gains` gives them. Without memory it stays as it was.
+    /// Adds canonical spans, such as those that `gains` returns. The line may not hold any of their minutes yet. If memory runs out, the
+    /// line stays as it was.
     pub fn add(&mut self, spans: &[Span]) -> Result<(), AllocError>
         requires canonical { IsCanonical spans.now }
         requires new { AreNotHeld self.old spans.now }
@@ -137,8 +138,8 @@ impl Line {
         add_to(&mut self.spans, spans)
     }
 
-    /// The canonical list of what spans give that it doesn't hold. They may overlap it and each other, in any order.
-    /// Where one is empty (L2) or a minute has two marks (L1), there is none.
+    /// Returns the canonical list of what spans give that the line doesn't hold. The spans may overlap the line and each other, and may
+    /// come in any order. If a span is empty (L2) or a minute has two marks (L1), there is no such list.
     pub fn gains(&self, alloc: Global, spans: &[Span]) -> Result<Vec<Span>, LineFault>
         ensures { MatchResult result (λ gains. AreGains self.now spans.now gains.items) (IsGainFault self.now spans.now) }
     {

@@ -7,7 +7,7 @@ ghost use Rattle.tacho_line.specs.Join.{ShareNone, EitherGives, ending_before, e
 use std::alloc::{AllocError, Global};
 use tacho_time::{Minute, Span};
 
-/// Adds canonical spans to a canonical list that holds none of their minutes.
+/// Adds canonical spans to a canonical list that doesn't hold any of their minutes.
 pub(crate) fn add_to(line: &mut Vec<Span>, spans: &[Span]) -> Result<(), AllocError>
     requires line { IsCanonical line.old.items }
     requires canonical { IsCanonical spans.now }
@@ -25,7 +25,7 @@ pub(crate) fn add_to(line: &mut Vec<Span>, spans: &[Span]) -> Result<(), AllocEr
     Ok(())
 }
 
-/// Between which places of a list the spans stand that overlap or touch a range.
+/// Returns the places of the spans that overlap or touch a range: that of the first one, and that after the last one.
 fn places_around(line: &[Span], start: Minute, past: Minute) -> (usize, usize)
     requires { IsCanonical line.now }
     ensures within { (result.0 ≤ result.1) × (result.1 ≤ length line.now) }
@@ -38,7 +38,7 @@ fn places_around(line: &[Span], start: Minute, past: Minute) -> (usize, usize)
     (first, first + count)
 }
 
-/// The canonical list of what two canonical lists give, which share no minute.
+/// Returns the canonical list of what two canonical lists give. The lists have no minute in common.
 fn merge(alloc: Global, held: &[Span], spans: &[Span]) -> Result<Vec<Span>, AllocError>
     requires held { IsCanonical held.now }
     requires spans { IsCanonical spans.now }
@@ -49,7 +49,7 @@ fn merge(alloc: Global, held: &[Span], spans: &[Span]) -> Result<Vec<Span>, Allo
     joined(alloc, &ordered)
 }
 
-/// The spans of both lists in the order of their starts.
+/// Returns the spans of both lists in the order of their starts.
 fn in_order(alloc: Global, held: &[Span], spans: &[Span]) -> Result<Vec<Span>, AllocError>
     requires { IsCanonical held.now }
     ensures { IfOk result (λ ordered. ordered.items ≡ in_order_of held.now spans.now) }
@@ -66,7 +66,7 @@ fn in_order(alloc: Global, held: &[Span], spans: &[Span]) -> Result<Vec<Span>, A
     Ok(ordered)
 }
 
-/// The spans that start before a minute, and the others.
+/// Splits spans into those that start before a minute and the others.
 fn split_at_start(spans: &[Span], minute: Minute) -> (&[Span], &[Span])
     requires { IsCanonical spans.now }
     ensures earlier { result.0.now ≡ before minute spans.now }
@@ -76,7 +76,7 @@ fn split_at_start(spans: &[Span], minute: Minute) -> (&[Span], &[Span])
     spans.split_at(spans.partition_point(|span| span.start < minute))
 }
 
-/// Spans in order, of which those that touch with one mark are made one.
+/// Joins spans that touch and have the same mark.
 fn joined(alloc: Global, spans: &[Span]) -> Result<Vec<Span>, AllocError>
     ensures { IfOk result (λ runs. runs.items ≡ joined_of spans.now) }
 {
@@ -97,7 +97,7 @@ fn joined(alloc: Global, spans: &[Span]) -> Result<Vec<Span>, AllocError>
     Ok(runs)
 }
 
-/// Whether a span goes on where another ends, with its mark.
+/// Returns true if a span starts where the last one ends and has the same mark.
 fn touches(last: &Span, span: &Span) -> bool
     ensures { result ≡ touches_with last.now span.now }
 {

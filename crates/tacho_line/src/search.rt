@@ -5,7 +5,7 @@ ghost use Rattle.tacho_line.specs.Search.{behind as behind_of, before as before_
 
 use tacho_time::{Mark, Minute, Span};
 
-/// The spans that end behind a minute.
+/// Returns the spans that end after a minute.
 pub(crate) fn behind(spans: &[Span], minute: Minute) -> &[Span]
     requires { IsCanonical spans.now }
     ensures { result.now ≡ behind_of minute spans.now }
@@ -14,7 +14,7 @@ pub(crate) fn behind(spans: &[Span], minute: Minute) -> &[Span]
     &spans[first..]
 }
 
-/// The spans that start before a minute.
+/// Returns the spans that start before a minute.
 pub(crate) fn before(spans: &[Span], minute: Minute) -> &[Span]
     requires { IsCanonical spans.now }
     ensures { result.now ≡ before_of minute spans.now }
@@ -23,7 +23,7 @@ pub(crate) fn before(spans: &[Span], minute: Minute) -> &[Span]
     &spans[..past]
 }
 
-/// The spans that have a minute from a start to before a past.
+/// Returns the spans that overlap the range from `start` to before `past`.
 pub(crate) fn overlap(spans: &[Span], start: Minute, past: Minute) -> &[Span]
     requires { IsCanonical spans.now }
     ensures { result.now ≡ overlap_of spans.now start past }
@@ -31,7 +31,7 @@ pub(crate) fn overlap(spans: &[Span], start: Minute, past: Minute) -> &[Span]
     before(behind(spans, start), past)
 }
 
-/// The mark that spans in order give a minute.
+/// Returns the mark that spans in order give a minute.
 pub(crate) fn mark_at(spans: &[Span], minute: Minute) -> Option<Mark>
     requires { IsCanonical spans.now }
     ensures { result ≡ mark_of spans.now minute }

@@ -8,7 +8,7 @@ use crate::search::overlap;
 use std::alloc::{AllocError, Global};
 use tacho_time::{Minute, Span};
 
-/// Of spans in order those that have a minute from a start to before a past. The first and the last may go beyond.
+/// Returns the spans, from spans in order, that overlap a range. The first and the last may extend beyond it.
 pub(crate) fn meeting(spans: &[Span], start: Minute, past: Minute) -> &[Span]
     requires { IsCanonical spans.now }
     ensures { IsCanonicalOf (HoldsWithin spans.now start past) (map (cut_to start past) result.now) }
@@ -19,7 +19,7 @@ pub(crate) fn meeting(spans: &[Span], start: Minute, past: Minute) -> &[Span]
     overlap(spans, start, past)
 }
 
-/// What spans in order give in the minutes from a start to before a past.
+/// Returns what spans in order give from `start` to before `past`.
 pub(crate) fn slice_of(
     alloc: Global,
     spans: &[Span],
@@ -32,7 +32,7 @@ pub(crate) fn slice_of(
     cut_all(alloc, meeting(spans, start, past), start, past)
 }
 
-/// The parts of spans that lie in a range.
+/// Cuts spans to a range.
 pub(crate) fn cut_all(
     alloc: Global,
     spans: &[Span],
@@ -47,7 +47,7 @@ pub(crate) fn cut_all(
         .collect(alloc)
 }
 
-/// The part of a span from a start to before a past, where it has a minute there.
+/// Cuts a span to the range from `start` to before `past`. If the span doesn't overlap the range, the result has no minute.
 pub fn cut(span: &Span, start: Minute, past: Minute) -> Span
     ensures { result ≡ cut_to start past span.now }
 {

@@ -1,4 +1,4 @@
--- The fields of a name among one more field, and the number of one more digit.
+-- The values of a name with one more field, and a number with one more digit.
 use Rattle.std.proofs.lemmas.Bool.Decides.{nat_tests}
 use Rattle.std.proofs.lemmas.List.{append-nil}
 use Rattle.std.proofs.Common.{◌≡◌, ◌-◌, drop, ◌<◌, ◌≤◌, ◌+◌, ◌*◌, ◌^◌, ◌++◌, ◌∷◌, ◌∙◌, ℕ, true, false, List, [], length, map, take, get_or, refl, ap, arith, cond, lit<, suc, zero}
@@ -12,7 +12,7 @@ use Rattle.std.proofs.lemmas.List.{map-append}
 use Rattle.httparse.specs.Spans.{header_bytes}
 use Rattle.httparse.specs.declared.spans.HeaderSpan.{HeaderSpan}
 
--- the values of two lists of fields, one behind the other
+-- the values in two joined lists of fields
 pub values_under-append : (name : List ℕ) (a b : List (List ℕ × List ℕ)) → values_under name (a ++ b) ≡ values_under name a ++ values_under name b
 values_under-append name [] b = refl
 values_under-append name (x ∷ a) b = elim (same_name x.0 name) as (λ t. cond t (x.1 ∷ values_under name (a ++ b)) (values_under name (a ++ b)) ≡ cond t (x.1 ∷ values_under name a) (values_under name a) ++ values_under name b) [
@@ -20,36 +20,36 @@ values_under-append name (x ∷ a) b = elim (same_name x.0 name) as (λ t. cond 
   | false ↦ values_under-append name a b
 ]
 
--- the value of digits behind others
+-- the value of digits, followed by one more digit
 pub digits_value_after-append : (n : ℕ) (a : List ℕ) (c : ℕ) → digits_value_after 10 n (a ++ c ∷ []) ≡ digits_value_after 10 n a * 10 + digit_value c
 digits_value_after-append n [] c = refl
 digits_value_after-append n (x ∷ a) c = digits_value_after-append (n * 10 + digit_value x) a c
 
--- a power of ten within twelve digits
+-- a power of ten below 10 ^ 12
 pub short_power : (i : ℕ) → i < 12 → 10 ^ i ≤ 100000000000
 short_power i h = pow-le-pow_right {n = 10} (lit< tt) {i = i} {j = 11} (omega arith)
 
--- one digit more
+-- with one more digit, a number of at most twelve digits still fits 64 bits
 pub ten_more : (value digit i n : ℕ) → i < n → value < 10 ^ i → n ≤ 12 → digit < 10 → value * 10 + digit < 18446744073709551616
 ten_more value digit i n lt small short d = let p = short_power i (omega arith) in omega arith
 
--- a digit among digits
+-- a byte of a text of digits is a digit
 pub digit_at : (text : List ℕ) (i : ℕ) → i < length text → all_ascii_digits (drop i text) ≡ true → get_or text i 0 - 48 < 10
 digit_at [] i h d = absurd (omega arith)
 digit_at (x ∷ text) zero h d = grind (arith, nat_tests)
 digit_at (x ∷ text) (suc i) h d = digit_at text i (omega arith) d
 
--- the values of the fields so far, and of one more
+-- a field with the name adds its value
 pub one_named : (name : List ℕ) (pairs : List (List ℕ × List ℕ)) (pair : List ℕ × List ℕ) → same_name pair.0 name ≡ true
     → values_under name (pairs ++ pair ∷ []) ≡ values_under name pairs ++ pair.1 ∷ []
 one_named name pairs pair e = values_under-append name pairs (pair ∷ []) ∙ ap (λ t. values_under name pairs ++ cond t (pair.1 ∷ []) []) e
 
--- a field of another name adds no value
+-- a field with another name adds no value
 pub none_named : (name : List ℕ) (pairs : List (List ℕ × List ℕ)) (pair : List ℕ × List ℕ) → same_name pair.0 name ≡ false
     → values_under name (pairs ++ pair ∷ []) ≡ values_under name pairs
 none_named name pairs pair e = values_under-append name pairs (pair ∷ []) ∙ ap (λ t. values_under name pairs ++ cond t (pair.1 ∷ []) []) e ∙ append-nil (values_under name pairs)
 
--- one field more
+-- the pairs of the fields so far, and of one more
 pub more_pairs : (buf : List ℕ) (fields : List HeaderSpan) (i : ℕ) (d : HeaderSpan) → i < length fields
     → map (header_bytes buf) (take (i + 1) fields) ≡ map (header_bytes buf) (take i fields) ++ header_bytes buf (get_or fields i d) ∷ []
 more_pairs buf fields i d h = rw (take_more fields i d h) (map-append (header_bytes buf) (take i fields) (get_or fields i d ∷ []))

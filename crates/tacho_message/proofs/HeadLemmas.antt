@@ -1,4 +1,4 @@
--- What the parser says of the bytes that came, for the whole input.
+-- What the parser's answer for the bytes so far means for the whole input.
 use Rattle.std.proofs.Common.{◌≡◌, ◌<◌, ◌≤◌, ◌-◌, ◌++◌, ℕ, List, [], Option, Some, None, Result, Ok, Err, length, take, refl, sym, subst, inl, inr, arith, append_assoc, length-append}
 use Rattle.std.proofs.lemmas.Grind.{common_steps}
 use Rattle.std.specs.Io.KnownBytes.{Consumes, IsAtEnd, Keeps}
@@ -11,21 +11,21 @@ use Rattle.tacho_message.specs.Head.{HasNoHead, IsRefused, IsUnfinished}
 use Rattle.tacho_message.specs.declared.head.HeadFault.TheVariants.{Bad, Read, TooLarge}
 use Rattle.tacho_message.proofs.ReadLemmas.{consumed_kept, ended_begins, some_begins, take-append-more}
 
--- the first n bytes of a head and more, where the head has no more than those
+-- the first n bytes of an input that begins with a head of at most n bytes
 pub take-head : (n : ℕ) (h : RequestHead) (rest input : List ℕ) → input ≡ print_request h ++ rest → length (print_request h) ≤ n
     → take n input ≡ print_request h ++ take (n - length (print_request h)) rest
 take-head n h rest input e le = rw e (take-append-more n (n - length (print_request h)) (print_request h) rest (omega arith))
 
--- there is no head where as many bytes as may be have none
+-- if the first `limit` bytes have no head, the input has none within the limits
 pub none_in_full : (limit room : ℕ) (input : List ℕ) → HasNoRequest (take limit input) → HasNoHead limit room input
 none_in_full limit room input none h rest b =
     none h (take (limit - length (print_request h)) rest) (b.reads.0, take-head limit h rest input b.reads.1 b.size)
 
--- nor in an input that has none
+-- if the whole input has no head, it has none within the limits
 pub none_in_ended : (limit room : ℕ) (input : List ℕ) → HasNoRequest input → HasNoHead limit room input
 none_in_ended limit room input none h rest b = none h rest b.reads
 
--- nor where any would have too many fields
+-- if each head would have too many fields, the input has none within the limits
 pub none_in_overflow : (limit room : ℕ) (came left input : List ℕ) → input ≡ came ++ left → RequestOverflows room came → HasNoHead limit room input
 none_in_overflow limit room came left input e over h rest b =
     let reads = rw e at b.reads in
@@ -33,17 +33,17 @@ none_in_overflow limit room came left input e over h rest b =
     let le : length h.fields ≤ room = b.fields in
     absurd (omega arith)
 
--- what can never be a head can't with more behind it
+-- if no continuation of some bytes is a head, the same is true with more bytes after them
 pub never-more : (came x : List ℕ) → NeverHasRequest came → NeverHasRequest (came ++ x)
 never-more came x never more = rw append_assoc (never (x ++ more))
 
--- and what has too many fields has them with more behind it
+-- if some bytes have too many fields, they still do with more bytes after them
 pub exceeds-more : (room : ℕ) (came x : List ℕ) → RequestExceeds room came → RequestExceeds room (came ++ x)
 exceeds-more room came x (front, rest, e, h, reads, lt) = (front, rest ++ x, rw (e, append_assoc) refl, h, reads, lt)
 
--- ---- the refusals of a reader, over what is known of its input
+-- ---- why a reader's input is refused
 
--- the front of an input is what came, and some more
+-- the first bytes of an input are those that came, followed by some of the rest
 take_all_of : (limit : ℕ) (came left input : List ℕ) → input ≡ came ++ left → length came ≤ limit → take limit input ≡ came ++ take (limit - length came) left
 take_all_of limit came left input e le = rw e (take-append-more limit (limit - length came) came left (omega arith))
 
@@ -63,7 +63,7 @@ refuse_many limit room known left came le cut over exceeds =
       );
     }
 
--- no bytes that follow make a head of it
+-- no continuation is a head
 pub refuse_never : (limit room : ℕ) (known left : Option (List ℕ)) (came : List ℕ)
     → length came ≤ limit → Consumes known left came
     → RequestOverflows room came → NeverHasRequest came
@@ -79,7 +79,7 @@ refuse_never limit room known left came le cut over never =
       );
     }
 
--- as many bytes as may be, and more are wanted
+-- the buffer is full, and a head would need more bytes
 pub refuse_full : (limit room : ℕ) (known left : Option (List ℕ)) (came : List ℕ)
     → length came ≡ limit → Consumes known left came
     → HasNoRequest came → MayBecomeRequest came
@@ -104,17 +104,17 @@ refuse_ended limit room known left after came lt cut none_read end none more = r
   refused = (none_in_ended limit room came none, inl (lt, none, more));
 }
 
--- where the reader failed, any input is refused so, and what came is no head yet
+-- if the reader failed, every input may be refused with `Read`
 refuse_unread : (limit room : ℕ) (known : Option (List ℕ)) → IsRefused limit room known Read
 refuse_unread limit room None = record { input = []; told = tt; refused = tt }
 refuse_unread limit room (Some all) = record { input = all; told = refl; refused = tt }
 
--- so what an answer of a reader that failed says holds
+-- so a result that is `Read` satisfies what is promised of a fault
 pub refused_unread : (limit room : ℕ) (known : Option (List ℕ)) (result : Result Head HeadFault) → IsErrAnd result (λ f. f ≡ Read) → IfErr result (IsRefused limit room known)
 refused_unread limit room known (Ok head) h = tt
 refused_unread limit room known (Err f) h = subst (IsRefused limit room known) (sym h) (refuse_unread limit room known)
 
--- a read that failed took nothing more
+-- if a read fails, what came is no head yet
 pub unfinished : (limit : ℕ) (known left after : Option (List ℕ)) (came : List ℕ)
     → length came < limit → Consumes known left came → Keeps left after
     → HasNoRequest came → MayBecomeRequest came → IsUnfinished limit known after

@@ -1,4 +1,4 @@
--- What docs/FORMATS.md says of requests and replies, held against the definitions: with another value here this file is refused.
+-- What docs/FORMATS.md says of requests and replies is what the definitions say: with another value here, this file isn't accepted.
 use Rattle.std.proofs.Common.{◌≡◌, [], ◌∷◌, Ok, Err, Some, None, codes, true, false, refl}
 use Rattle.std.specs.Fmt.{digits}
 use Rattle.tacho_message.specs.Length.{body_length, method_of}

@@ -6,11 +6,11 @@ use Rattle.std.specs.Str.Parse.{digits_value}
 use Rattle.tacho_message.specs.declared.fields.Values.{Values}
 use Rattle.tacho_message.specs.declared.fields.Values.TheVariants as values
 
--- the same name, in whatever case of ASCII letters
+-- the names are equal, ignoring the case of ASCII letters
 abbrev pub same_name : List ℕ → List ℕ → Bool
 same_name a b = bytes_eq (map to_ascii_lowercase a) (map to_ascii_lowercase b)
 
--- the values of the fields of a name, in order
+-- the values of the fields with a name, in order
 abbrev pub values_under : List ℕ → List (List ℕ × List ℕ) → List (List ℕ)
 values_under name [] = []
 values_under name (field ∷ fields) =
@@ -22,11 +22,11 @@ AreValues found values.None = found ≡ []
 AreValues found (values.One value) = found ≡ value.now ∷ []
 AreValues found values.Many = 1 < length found
 
--- one more
+-- the values, followed by one more
 abbrev pub WithValue : List ℕ → Values → Values → Type 0
 WithValue value old new = (found : List (List ℕ)) → AreValues found old → AreValues (found ++ value ∷ []) new
 
--- the length that 1 to 12 digits tell
+-- the length that 1 to 12 digits give
 abbrev pub length_told : List ℕ → Option ℕ
 length_told text =
     if nat_lt 0 (length text) && (nat_le (length text) 12 && all_ascii_digits text) then Some (digits_value 10 text) else None

@@ -1,4 +1,4 @@
--- Trusted: The head of a request (RFC 9112, in the grammar of httparse): which one an input begins with, and why it has none.
+-- Trusted: The head of a request (RFC 9112, in the grammar of httparse): with which head an input begins, and why it has none.
 use Rattle.std.specs.Prelude.{◌≡◌, ◌<◌, ◌≤◌, ◌⊎◌, ℕ, List, Option, IfSome, length, take, ⊤}
 use Rattle.std.specs.Io.KnownBytes.{Consumes}
 use Rattle.httparse.specs.Grammar.{RequestHead, print_request, ReadsRequest, HasNoRequest, NeverHasRequest, MayBecomeRequest}
@@ -8,7 +8,7 @@ use Rattle.httparse.specs.declared.spans.RequestSpans.{RequestSpans}
 use Rattle.tacho_message.specs.declared.head.HeadFault.{HeadFault}
 use Rattle.tacho_message.specs.declared.head.HeadFault.TheVariants.{Bad, TooLarge, Read}
 
--- the input begins with this head, of at most so many bytes and fields
+-- the input begins with this head, which has at most `limit` bytes and `room` fields
 pub record BeginsWith (limit room : ℕ) (input : List ℕ) (h : RequestHead) (rest : List ℕ) : Type 0 where
   pub reads : ReadsRequest input h rest
   pub size : length (print_request h) ≤ limit
@@ -18,13 +18,13 @@ pub record BeginsWith (limit room : ℕ) (input : List ℕ) (h : RequestHead) (r
 abbrev pub HasNoHead : ℕ → ℕ → List ℕ → Type 0
 HasNoHead limit room input = (h : RequestHead) (rest : List ℕ) → BeginsWith limit room input h rest → ⊥
 
--- so many bytes came and more are wanted, or there are too many fields
+-- `limit` bytes came and a head needs more, or there are too many fields
 abbrev pub IsTooLarge : ℕ → ℕ → List ℕ → Type 0
 IsTooLarge limit room input =
     ((limit ≤ length input) × HasNoRequest (take limit input) × MayBecomeRequest (take limit input))
     ⊎ RequestExceeds room (take limit input)
 
--- the input ended while more bytes are wanted, or none can make a head of it
+-- the input ended before the end of a head, or no continuation is a head
 abbrev pub IsBad : ℕ → ℕ → List ℕ → Type 0
 IsBad limit room input =
     ((length input < limit) × HasNoRequest input × MayBecomeRequest input)
@@ -36,13 +36,13 @@ Refuses limit room input Bad = HasNoHead limit room input × IsBad limit room in
 Refuses limit room input TooLarge = HasNoHead limit room input × IsTooLarge limit room input
 Refuses limit room input Read = ⊤
 
--- an input that is refused: the reader's, where it tells its bytes, and some input where it doesn't
+-- an input that is refused: the reader's unread bytes if they are known, otherwise some input
 pub record IsRefused (limit room : ℕ) (unread : Option (List ℕ)) (fault : HeadFault) : Type 0 where
   pub input : List ℕ
   pub told : IfSome unread (λ all. input ≡ all)
   pub refused : Refuses limit room input fault
 
--- what the reader has given is no head yet, and there is room for more of one
+-- what the reader has given so far is no head yet, and there is room for more of one
 pub record IsUnfinished (limit : ℕ) (old new : Option (List ℕ)) : Type 0 where
   pub given : List ℕ
   pub came : Consumes old new given
@@ -50,6 +50,6 @@ pub record IsUnfinished (limit : ℕ) (old new : Option (List ℕ)) : Type 0 whe
   pub none : HasNoRequest given
   pub more : MayBecomeRequest given
 
--- the spans lie in the bytes, and are those of a head
+-- the spans lie within the bytes, and are those of a head
 abbrev pub IsHeadAt : List ℕ → ℕ → List HeaderSpan → RequestSpans → Type 0
 IsHeadAt bytes room fields spans = IsRequestWithin bytes fields spans × ((h : RequestHead) × IsRequestAt bytes fields spans h)

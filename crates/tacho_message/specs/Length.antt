@@ -1,4 +1,4 @@
--- Trusted: The method of a request, and how many bytes of a body it has.
+-- Trusted: The method of a request, and the length of its body.
 use Rattle.std.specs.Prelude.{◌==◌, ◌||◌, ℕ, Bool, List, [], ◌∷◌, Option, Some, None, Result, Ok, Err, bytes_eq, codes, nat_lt, if◌then◌else◌}
 use Rattle.tacho_message.specs.Fields.{length_told, values_under}
 use Rattle.tacho_message.specs.declared.method.Method.{Method}
@@ -13,20 +13,20 @@ method_of text =
 
 -- ---- the length of the body
 
--- 400, or 413; one that is not empty where nothing is to come: 400
+-- 400 if the length can't be read, 413 if it is too large, and 400 if it isn't 0 although no body is taken
 abbrev pub body_within : Bool → Option ℕ → Result ℕ Status
 body_within takes None = Err status.BadRequest
 body_within takes (Some n) =
     if nat_lt 262144 n then Err status.PayloadTooLarge
     else (if takes || (n == 0) then Ok n else Err status.BadRequest)
 
--- by the values of `content-length`: none, where nothing is to come, or 411; one; or more, 400
+-- no value of `content-length`: 0 if no body is taken, otherwise 411; one value: its length; more: 400
 abbrev pub body_told : Bool → List (List ℕ) → Result ℕ Status
 body_told takes [] = if takes then Err status.LengthRequired else Ok 0
 body_told takes (value ∷ []) = body_within takes (length_told value)
 body_told takes (value ∷ other ∷ more) = Err status.BadRequest
 
--- a `transfer-encoding`, whatever it says: 400
+-- any `transfer-encoding`: 400
 abbrev pub body_coded : Bool → List (List ℕ) → List (List ℕ) → Result ℕ Status
 body_coded takes [] lengths = body_told takes lengths
 body_coded takes (coding ∷ more) lengths = Err status.BadRequest
@@ -34,7 +34,7 @@ body_coded takes (coding ∷ more) lengths = Err status.BadRequest
 abbrev pub posted : Bool → List (List ℕ × List ℕ) → Result ℕ Status
 posted takes fields = body_coded takes (values_under (codes "transfer-encoding") fields) (values_under (codes "content-length") fields)
 
--- how many bytes of a body are read; of a GET none, whatever its fields say
+-- how many bytes of a body are read; for other methods than POST none, whatever the fields say
 abbrev pub body_length : Option Method → Bool → List (List ℕ × List ℕ) → Result ℕ Status
 body_length (Some method.Post) takes fields = posted takes fields
 body_length other takes fields = Ok 0

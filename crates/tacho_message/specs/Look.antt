@@ -1,4 +1,4 @@
--- Private to tacho_message: What the bytes that came so far are.
+-- Private to tacho_message: What the bytes so far are.
 use Rattle.std.specs.Prelude.{ℕ, List}
 use Rattle.httparse.specs.Grammar.{HasNoRequest, NeverHasRequest, MayBecomeRequest}
 use Rattle.httparse.specs.Spans.{RequestExceeds, RequestOverflows}

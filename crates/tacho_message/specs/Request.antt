@@ -1,4 +1,4 @@
--- Trusted: A request as it is handed on: the parts of its head, and what came behind it.
+-- Trusted: A request as it is passed on: the parts of its head, and the bytes that came after it.
 use Rattle.std.specs.Prelude.{◌≡◌, All, List, [], ◌∷◌, Option, Some, None, codes, length, map, ℕ}
 use Rattle.httparse.specs.Grammar.{RequestHead}
 use Rattle.httparse.specs.Spans.{IsHeaderWithin, header_bytes, name_and_value}
@@ -16,12 +16,12 @@ pub record IsRequest (r : Request) (h : RequestHead) : Type 0 where
   pub within : All (IsHeaderWithin (length r.buffer.now)) r.fields.now
   pub fields : map (header_bytes r.buffer.now) r.fields.now ≡ fields_of h
 
--- the only one of some values
+-- the value, if there is exactly one
 abbrev pub only_of : List (List ℕ) → Option (List ℕ)
 only_of [] = None
 only_of (value ∷ []) = Some value
 only_of (value ∷ other ∷ more) = None
 
--- the value of the only field `x-key`
+-- the value of the field `x-key`, if there is exactly one
 abbrev pub key_of : RequestHead → Option (List ℕ)
 key_of h = only_of (values_under (codes "x-key") (fields_of h))

@@ -8,11 +8,11 @@ use tacho_time::{Failed, Source};
 /// Why a body was not read.
 #[derive(Clone, Copy, Debug, PartialEq, Eq)]
 pub enum BodyFault {
-    /// The input ended before the body.
+    /// The input ended before the end of the body.
     Ended,
     /// The reader failed.
     Read,
-    /// There was no memory.
+    /// Out of memory.
     Memory,
 }
 
@@ -36,7 +36,7 @@ impl From<Failed> for BodyFault {
     }
 }
 
-/// Reads a body of so many bytes, the first of which came behind the head, and asks the reader for no more.
+/// Reads a body of `count` bytes. Its first bytes, which came after the head, are in `behind`. Doesn't read beyond the body.
 pub fn read_body<R: Source>(
     alloc: Global,
     reader: &mut R,
@@ -45,10 +45,10 @@ pub fn read_body<R: Source>(
 ) -> Result<Vec<u8>, BodyFault>
     requires { R.has_failed reader.old ≡ false }
     ensures body { IfOk result (λ body. IsBody behind.now (R.unread reader.old) count body.items) }
-    // No more than the body was taken.
+    // No more than the body was consumed.
     ensures taken { IfOk result (λ body. Consumes (R.unread reader.old) (R.unread reader.new) (drop (length behind.now) body.items)) }
     ensures ended { result ≡ Err BodyFault.Ended → IsCutShort behind.now (R.unread reader.old) count }
-    // Where the reader failed, it was asked for no more than the body lacked.
+    // If the reader failed, it had given fewer bytes than the body needed.
     ensures lacks { result ≡ Err BodyFault.Read → Lacks behind.now (R.unread reader.old) (R.unread reader.new) count }
     ensures failed { IsErrOf result BodyFault.Read ↔ (R.has_failed reader.new ≡ true) }
 {
@@ -60,7 +60,7 @@ pub fn read_body<R: Source>(
     Ok(body)
 }
 
-/// Fills a buffer with the next bytes, and asks the reader for no more than these.
+/// Fills a buffer with the next bytes, and doesn't read beyond them.
 fn fill<R: Source>(reader: &mut R, buffer: &mut [u8]) -> Result<(), BodyFault>
     requires { R.has_failed reader.old ≡ false }
     ensures read { OnOk result (Consumes (R.unread reader.old) (R.unread reader.new) buffer.new) }

@@ -6,19 +6,19 @@ ghost use Rattle.tacho_message.specs.Fields.{values_under, same_name, AreValues,
 
 use httparse::spans::HeaderSpan;
 
-/// The values of the fields of one name.
+/// The values of the fields with one name.
 #[derive(Clone, Copy, Debug)]
 pub enum Values<'b> {
     /// There is no such field.
     None,
-    /// There is one.
+    /// There is exactly one.
     One(&'b [u8]),
-    /// There are more.
+    /// There are several.
     Many,
 }
 
 impl<'b> Values<'b> {
-    /// These and one more.
+    /// Adds one more value.
     fn and(self, value: &'b [u8]) -> Values<'b>
         ensures { WithValue value.now self.entry result }
     {
@@ -30,14 +30,14 @@ impl<'b> Values<'b> {
     }
 }
 
-/// Whether two names are the same in whatever case of ASCII letters.
+/// True if two names are equal, ignoring the case of ASCII letters.
 fn is_named(name: &[u8], wanted: &[u8]) -> bool
     ensures { result ≡ same_name name.now wanted.now }
 {
     name.eq_ignore_ascii_case(wanted)
 }
 
-/// The values of the fields of a name, in whatever case of ASCII letters.
+/// Finds the values of the fields with a name, ignoring the case of ASCII letters.
 pub fn values_of<'b>(buffer: &'b [u8], fields: &[HeaderSpan], name: &[u8]) -> Values<'b>
     requires { All (IsHeaderWithin (length buffer.now)) fields.now }
     ensures { AreValues (values_under name.now (map (header_bytes buffer.now) fields.now)) result }
@@ -51,7 +51,7 @@ pub fn values_of<'b>(buffer: &'b [u8], fields: &[HeaderSpan], name: &[u8]) -> Va
     found
 }
 
-/// Whether a text has no byte but digits.
+/// True if all bytes of a text are digits.
 fn are_digits(text: &[u8]) -> bool
     ensures { result ≡ all_ascii_digits text.now }
 {
@@ -63,7 +63,7 @@ fn are_digits(text: &[u8]) -> bool
     true
 }
 
-/// The number of digits.
+/// The number that digits give.
 fn number_of_digits(text: &[u8]) -> u64
     requires digits { all_ascii_digits text.now ≡ true }
     requires short { length text.now ≤ 12 }
@@ -76,7 +76,7 @@ fn number_of_digits(text: &[u8]) -> u64
     value
 }
 
-/// The length that the value of a field `content-length` tells: 1 to 12 digits.
+/// The length that the value of a field `content-length` gives: 1 to 12 digits.
 pub fn length_of(text: &[u8]) -> Option<u64>
     ensures { result ≡ length_told text.now }
 {

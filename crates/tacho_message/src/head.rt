@@ -10,9 +10,9 @@ use tacho_time::{Failed, Source};
 /// Why an input has no head.
 #[derive(Clone, Copy, Debug, PartialEq, Eq)]
 pub enum HeadFault {
-    /// 400: the input ended, or no bytes that follow can make a head of it.
+    /// 400: the input ended before the end of a head, or no continuation is a head.
     Bad,
-    /// 431: there is no end of a head in as many bytes as there is room for, or there are more fields.
+    /// 431: the head doesn't end within the buffer, or it has more fields than there is room for.
     TooLarge,
     /// The reader failed.
     Read,
@@ -31,17 +31,17 @@ impl From<Failed> for HeadFault {
 /// What the bytes so far are.
 #[derive(Clone, Copy, Debug)]
 enum Look {
-    /// A head, and maybe bytes behind it.
+    /// A head, and possibly bytes after it.
     Complete(RequestSpans),
-    /// The beginning of a head, or of none: more bytes tell.
+    /// Possibly the beginning of a head: more bytes are needed.
     More,
-    /// No bytes that follow make a head of them.
+    /// No continuation is a head.
     Never,
-    /// A head of more fields than there is room for.
+    /// A head with more fields than there is room for.
     TooMany,
 }
 
-/// Looks for a head at the front of bytes.
+/// Looks for a head at the start of some bytes.
 fn look_at(bytes: &[u8], fields: &mut [HeaderSpan]) -> Look
     ensures { IsLook bytes.now (length fields.old) fields.new result }
 {
@@ -53,17 +53,17 @@ fn look_at(bytes: &[u8], fields: &mut [HeaderSpan]) -> Look
     }
 }
 
-/// Where the parts of a request's head lie in a buffer.
+/// Where the parts of a request's head are in a buffer.
 #[derive(Clone, Copy, Debug)]
 pub struct Head {
     /// Method, target, version and fields.
     pub spans: RequestSpans,
-    /// How many bytes of the buffer were read: the head's, and maybe some behind it.
+    /// How many bytes of the buffer were read: the head, and possibly some bytes after it.
     pub filled: usize,
 }
 
-/// Reads the head of a request into a buffer, its fields' places into another, and asks the reader for no more once the head is
-/// there. The lengths of the two are the most that a head may have. It takes no memory.
+/// Reads the head of a request into one buffer, and the places of its fields into another. Doesn't ask the reader for more once the head is
+/// complete. The lengths of the two buffers limit the head. Allocates no memory.
 pub fn read_head<R: Source>(
     reader: &mut R,
     buffer: &mut [u8],
@@ -74,7 +74,7 @@ pub fn read_head<R: Source>(
     ensures head { IfOk result (λ head. IsHeadAt (take head.filled buffer.new) (length fields.old) fields.new head.spans) }
     ensures read { IfOk result (λ head. Consumes (R.unread reader.old) (R.unread reader.new) (take head.filled buffer.new)) }
     ensures refused { IfErr result (IsRefused (length buffer.old) (length fields.old) (R.unread reader.old)) }
-    // Where the reader failed, it was asked for no more than a head lacked.
+    // If the reader failed, it had not given a complete head yet.
     ensures unfinished { result ≡ Err HeadFault.Read → IsUnfinished (length buffer.old) (R.unread reader.old) (R.unread reader.new) }
     ensures failed { IsErrOf result HeadFault.Read ↔ (R.has_failed reader.new ≡ true) }
 {

@@ -8,11 +8,11 @@ use crate::method::Method;
 use crate::reply::Status;
 use httparse::spans::HeaderSpan;
 
-/// How many bytes a body has at the most.
+/// The most bytes that a body can have.
 const BODY_LIMIT: u64 = 262_144;
 
-/// The length of a body by the one value of `content-length`: 400 where it tells none, 413 above 262,144, and 400 where nothing is
-/// to come and something is.
+/// The length of a body by the only value of `content-length`: 400 if it gives none, 413 above 262,144, and 400 if it isn't 0 although no
+/// body is taken.
 fn length_within(takes_body: bool, value: &[u8]) -> Result<u64, Status>
     ensures { result ≡ body_within takes_body (length_told value.now) }
 {
@@ -29,7 +29,7 @@ fn length_within(takes_body: bool, value: &[u8]) -> Result<u64, Status>
     }
 }
 
-/// The length of a body that is posted, by the fields of its request.
+/// The length of a posted body, by the fields of its request.
 fn posted_length(takes_body: bool, buffer: &[u8], fields: &[HeaderSpan]) -> Result<u64, Status>
     requires { All (IsHeaderWithin (length buffer.now)) fields.now }
     ensures { result ≡ posted takes_body (map (header_bytes buffer.now) fields.now) }
@@ -53,8 +53,8 @@ fn posted_length(takes_body: bool, buffer: &[u8], fields: &[HeaderSpan]) -> Resu
     }
 }
 
-/// How many bytes of a body are to be read, at most 262,144, by whether what is asked for takes one: 400, 411 or 413 where its request
-/// doesn't tell. Of a GET none are, whatever its fields say.
+/// How many bytes of a body to read, at most 262,144. `takes_body` says whether the request may have a body. Fails with 400, 411 or 413 if
+/// the fields don't give a valid length. For a GET it is 0, whatever its fields say.
 pub fn body_length_of(
     method: Option<Method>,
     takes_body: bool,

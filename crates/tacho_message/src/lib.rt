@@ -1,4 +1,4 @@
-//! HTTP/1.1 for one request a connection, as bytes: the head of a request, its fields, its body, and the reply.
+//! HTTP/1.1, one request per connection, as bytes: the head of a request, its fields, its body, and the reply.
 #![tactic(auto)]
 
 mod body;

@@ -9,7 +9,7 @@ impl Method {
     ghost use Rattle.std.specs.Prelude.{◌≡◌};
     ghost use Rattle.tacho_message.specs.Length.{method_of};
 
-    /// The method that a text names, if it is one of the two.
+    /// Reads the name of a method: `GET` or `POST`.
     pub fn read(text: &[u8]) -> Option<Method>
         ensures { result ≡ method_of text.now }
     {

@@ -7,10 +7,10 @@ use arrayvec::ArrayVec;
 use itoa::Buffer;
 use tacho_time::{Failed, Sink, write_all};
 
-/// How many bytes the head of a reply has at the most.
+/// The most bytes that the head of a reply can have.
 const ROOM: usize = 256;
 
-/// What a reply says of its request.
+/// The status of a reply.
 #[derive(Clone, Copy, Debug, PartialEq, Eq)]
 pub enum Status {
     Okay,
@@ -28,7 +28,7 @@ pub enum Status {
 }
 
 impl Status {
-    /// Its number and its phrase.
+    /// The status code and its phrase.
     fn line(self) -> &'static [u8]
         ensures text { result.now ≡ status_line self }
         ensures short { length result.now ≤ 35 }
@@ -50,17 +50,17 @@ impl Status {
     }
 }
 
-/// What a body is.
+/// The type of a body.
 #[derive(Clone, Copy, Debug, PartialEq, Eq)]
 pub enum MediaType {
-    /// A text of UTF-8.
+    /// Text in UTF-8.
     Text,
     /// The bytes of a file.
     Octets,
 }
 
 impl MediaType {
-    /// Its name.
+    /// The name of the media type.
     fn name(self) -> &'static [u8]
         ensures text { result.now ≡ media_type self }
         ensures short { length result.now ≤ 25 }
@@ -99,7 +99,7 @@ fn head_of(status: Status, media: MediaType, length: usize) -> ArrayVec<u8, ROOM
     head
 }
 
-/// Writes a reply, and takes no memory. A writer that fails was given a beginning of it.
+/// Writes a reply. Allocates no memory. If the writer fails, it was given a prefix of the reply.
 pub fn write_reply<W: Sink>(
     writer: &mut W,
     status: Status,

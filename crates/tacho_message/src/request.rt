@@ -8,20 +8,20 @@ ghost use Rattle.tacho_message.specs.Request.{IsRequest, only_of};
 use crate::fields::{Values, values_of};
 use httparse::spans::{HeaderSpan, RequestSpans};
 
-/// The parts of a request's head, and the bytes that came behind it.
+/// The parts of a request's head, and the bytes that came after it.
 #[derive(Clone, Copy, Debug)]
 pub struct Request<'b> {
     pub method: &'b [u8],
-    /// The target as it stands: nothing in it is decoded.
+    /// The target as it was sent: nothing in it is decoded.
     pub path: &'b str,
-    /// What came, in which the fields lie.
+    /// The bytes that came, which contain the fields.
     pub buffer: &'b [u8],
     pub fields: &'b [HeaderSpan],
-    /// What came behind the head: the beginning of the body, if there is one.
+    /// The bytes that came after the head: the beginning of the body, if there is one.
     pub behind: &'b [u8],
 }
 
-/// The request of a head that was read into a buffer.
+/// Makes a request of a head that was read into a buffer.
 pub fn request_of<'b>(
     buffer: &'b [u8],
     fields: &'b [HeaderSpan],
@@ -41,7 +41,7 @@ pub fn request_of<'b>(
 }
 
 impl<'b> Request<'b> {
-    /// The value of the field `x-key`, where there is exactly one.
+    /// The value of the field `x-key`, if there is exactly one.
     pub fn key(&self) -> Option<&'b [u8]>
         requires { All (IsHeaderWithin (length self.now.buffer.now)) self.now.fields.now }
         ensures { option_map (λ key. key.now) result ≡ only_of (values_under (codes "x-key") (map (header_bytes self.now.buffer.now) self.now.fields.now)) }

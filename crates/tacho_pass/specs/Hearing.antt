@@ -1,4 +1,4 @@
--- Private to tacho_pass: A pass that hears the rest runs for a rule, and what it has found.
+-- Private to tacho_pass: A pass that finds the rest runs for a rule, and what it has found.
 use Rattle.std.specs.Prelude.{◌≡◌, ℕ, true, false, List}
 use Rattle.tacho_time.specs.declared.span.Span.{Span}
 use Rattle.tacho_pass.specs.declared.found.Found.{Found}
@@ -7,16 +7,15 @@ use Rattle.tacho_pass.specs.declared.judge.Hearing.{Hearing}
 use Rattle.tacho_pass.specs.Found.{own_of, own_debts}
 
 module _ {J : Type 0} {g : Ghosts J} where
-  -- the minute up to which it was fed
+  -- the pass was fed up to this minute
   abbrev pub IsHeardTo : Hearing J g → ℕ → Type 0
   IsHeardTo h place = h.runs.place ≡ place
 
-  -- memory was refused, and nothing is found any more
+  -- memory ran out, and nothing further is found
   abbrev pub IsRefused : Hearing J g → Type 0
   IsRefused h = h.failed ≡ true
 
-  -- no memory was refused, and what the rule keeps stands, with its own breaches and debts so far, for the spans from
-  -- the base on
+  -- memory didn't run out, and the state of the rule, with its own breaches and debts so far, represents the spans from the base on
   abbrev pub IsHearingOf : Hearing J g → Found → ℕ → List Span → Type 0
   IsHearingOf h found base spans =
       (h.failed ≡ false)

@@ -19,16 +19,16 @@ use Rattle.tacho_hours.proofs.OrderLemmas.{same_breach}
 use Rattle.tacho_plain.proofs.RunsLemmas.{no_run, none_at_between, neighbours_at}
 use Rattle.tacho_plain.specs.BreakBreaches.{IsLongPeriod}
 
--- the breach between the break at a place and the one before
+-- the breach between the break at a place and the break before it
 pub record IsLongAt (line : Line) (breaks : List Run) (place : ℕ) (breach : Breach) : Type 0 where
   pub within : place < length breaks
   pub long : IsLongPeriod line (get_or breaks (place - 1) no_run).past (get_or breaks place no_run).start breach
 
--- what the loop has found at n
+-- the loop has found the breaches between the first n breaks
 abbrev pub Found : Line → List Run → ℕ → List Breach → Type 0
 Found line breaks n found = AreExactly (OfBelow (IsLongAt line breaks) 1 n) Earlier found
 
--- between two minutes there is one breach at most
+-- between two minutes there is at most one breach
 only : (line : Line) (from to : ℕ) (a b : Breach) → IsLongPeriod line from to a → IsLongPeriod line from to b → a ≡ b
 only line from to a b p q = same_breach a b
     (p.kind ∙ sym q.kind)
@@ -39,7 +39,7 @@ only line from to a b p q = same_breach a b
     let f : b.amount + 270 ≡ driving line from to = q.over.amount in
     omega arith)
 
--- no other kind is a breach of the rule on breaks
+-- a breach of the rule on breaks has kind B1
 is_first : (line : Line) (breaks : List Run) (kind : Kind) (breach : Breach)
     → IsBreakBreach line breaks kind breach → kind ≡ B1
 is_first line breaks B1 breach h = refl
@@ -58,10 +58,10 @@ pub found_none : (line : Line) (breaks : List Run) → Found line breaks 1 []
 found_none line breaks = below_none (IsLongAt line breaks) Earlier 1
 
 module _ (line : Line) (breaks : List Run) (are : AreRuns breaks) where
-  -- the step from n breaks to one more
+  -- one step of the loop, from n breaks to n + 1
   module _ (n : ℕ) (found : List Breach) (r : Found line breaks n found)
       (some : 1 ≤ n) (within : n < length breaks) where
-    -- no breach before the break at n
+    -- there is no breach before the break at n
     pub found_skip : driving line (get_or breaks (n - 1) no_run).past (get_or breaks n no_run).start ≤ 270
         → Found line breaks (n + 1) found
     found_skip few = below_skip (IsLongAt line breaks) Earlier 1 n found some r
@@ -71,7 +71,7 @@ module _ (line : Line) (breaks : List Run) (are : AreRuns breaks) where
         (get_or breaks n no_run).start 271 breach.moment h.long.over.moment in
         omega arith)
 
-    -- a breach before the break at n
+    -- there is a breach before the break at n
     pub found_add : (breach : Breach)
         → IsLongPeriod line (get_or breaks (n - 1) no_run).past (get_or breaks n no_run).start breach
         → Found line breaks (n + 1) (found ++ breach ∷ [])
@@ -87,7 +87,7 @@ module _ (line : Line) (breaks : List Run) (are : AreRuns breaks) where
         let d : (get_or breaks (n - 1) no_run).past ≤ new.moment = long.over.moment.above in
         inl (omega arith)))
 
-  -- a place gives two neighbours
+  -- a breach at a place is one between two neighbours
   by_neighbours : (k : ℕ) (breach : Breach) → 1 ≤ k → IsLongAt line breaks k breach → IsB1 line breaks breach
   by_neighbours k breach one h =
       let in' : k < length breaks = h.within in
@@ -104,7 +104,7 @@ module _ (line : Line) (breaks : List Run) (are : AreRuns breaks) where
         since = h.long.since;
       }
 
-  -- two neighbours have a place
+  -- a breach between two neighbours is one at a place
   by_place : (n : ℕ) (breach : Breach) → length breaks ≤ n → breach.kind ≡ B1
       → IsB1 line breaks breach → OfBelow (IsLongAt line breaks) 1 n breach
   by_place n breach most kind h =
@@ -124,7 +124,7 @@ module _ (line : Line) (breaks : List Run) (are : AreRuns breaks) where
         };
       }
 
-  -- at the last break all breaches are found
+  -- after the last break, all breaches are found
   pub found_all : (n : ℕ) (found : List Breach) → Found line breaks n found → length breaks ≤ n
       → AreBreaches (λ breach. IsBreakBreach line breaks breach.kind breach) found
   found_all n found r most =

@@ -11,7 +11,7 @@ use Rattle.tacho_hours.specs.Breaks.{AreCompleteBreaks}
 use Rattle.tacho_hours.specs.SoFar.{Breaking}
 use Rattle.tacho_hours.proofs.BreaksLemmas.{breaking_add, breaking_short, breaking_stay, breaks_last}
 
--- at the index i of a loop: what was seen is before the run there
+-- in a loop at index i, the runs that were seen are before the run at i
 later_at : (xs : List Run) (i : ℕ) (d : Run) → i < length xs → AllPairs Before xs
     → (x : Run) → Contains (take i xs) x → Before x (get_or xs i d)
 later_at xs i d within order x (k, below, is) =
@@ -20,7 +20,7 @@ later_at xs i d within order x (k, below, is) =
     let f : get_or xs k x ≡ get_or xs k d = get_or_default xs k x d (omega arith) in
     subst (λ (y : Run). Before y (get_or xs i d)) (sym f ∙ sym e ∙ is) (order k i d (omega arith) within)
 
--- what was seen lasts some minutes
+-- each run that was seen has a minute
 each_at : (xs : List Run) (i : ℕ) → i ≤ length xs → All (λ (x : Run). x.start < x.past) xs
     → (x : Run) → Contains (take i xs) x → x.start < x.past
 each_at xs i within all x h =
@@ -29,15 +29,15 @@ each_at xs i within all x h =
 module _ (xs : List Run) (i : ℕ) (d : Run) (within : i < length xs)
     (order : AllPairs Before xs) (all : All (λ (x : Run). x.start < x.past) xs)
     (breaks : List Run) (short : Bool) (r : Breaking (take i xs) breaks short) where
-  -- the run there lasts some minutes
+  -- the run at i has a minute
   lasts : (get_or xs i d).start < (get_or xs i d).past
   lasts = all i d within
 
-  -- it is seen next
+  -- it is the next to be seen
   more : take (i + 1) xs ≡ take i xs ++ get_or xs i d ∷ []
   more = take_more xs i d within
 
-  -- the three steps, at the index
+  -- the run at i completes a break
   pub add_here : (45 ≤ minutes_of (get_or xs i d)) ⊎ ((30 ≤ minutes_of (get_or xs i d)) × IsTrue short)
       → Breaking (take (i + 1) xs) (breaks ++ get_or xs i d ∷ []) false
   add_here c =
@@ -45,7 +45,7 @@ module _ (xs : List Run) (i : ℕ) (d : Run) (within : i < length xs)
       (breaking_add (take i xs) breaks short (get_or xs i d) r
       (later_at xs i d within order) lasts (each_at xs i (omega arith) all) c)
 
-  -- a run of 15 minutes at the index
+  -- the run at i completes no break, but is a first part of 15 minutes or more
   pub short_here : ((45 ≤ minutes_of (get_or xs i d)) ⊎ ((30 ≤ minutes_of (get_or xs i d)) × IsTrue short) → ⊥)
       → 15 ≤ minutes_of (get_or xs i d) → Breaking (take (i + 1) xs) breaks true
   short_here fails enough =
@@ -53,7 +53,7 @@ module _ (xs : List Run) (i : ℕ) (d : Run) (within : i < length xs)
       (breaking_short (take i xs) breaks short (get_or xs i d) r
       (later_at xs i d within order) lasts (each_at xs i (omega arith) all) fails enough)
 
-  -- a shorter one at the index
+  -- the run at i is shorter than 15 minutes, and completes no break
   pub stay_here : ((45 ≤ minutes_of (get_or xs i d)) ⊎ ((30 ≤ minutes_of (get_or xs i d)) × IsTrue short) → ⊥)
       → minutes_of (get_or xs i d) < 15 → Breaking (take (i + 1) xs) breaks short
   stay_here fails few =
@@ -61,6 +61,6 @@ module _ (xs : List Run) (i : ℕ) (d : Run) (within : i < length xs)
       (breaking_stay (take i xs) breaks short (get_or xs i d) r
       (later_at xs i d within order) lasts (each_at xs i (omega arith) all) fails few)
 
--- they are runs in order
+-- complete breaks are runs in order
 pub breaks_are : (runs breaks : List Run) → AreRuns runs → AreCompleteBreaks runs breaks → AreRuns breaks
 breaks_are runs breaks all are = record { some = breaks_last runs breaks are all.some; in_order = are.in_order }

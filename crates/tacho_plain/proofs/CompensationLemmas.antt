@@ -26,7 +26,7 @@ use Rattle.tacho_plain.proofs.RunsLemmas.{rests_are}
 use Rattle.tacho_hours.proofs.MainRestLemmas.{one_week}
 use Rattle.tacho_plain.proofs.MainRestLemmas.{one_start, known_most}
 
--- what is kept, by the definition
+-- `IsKept` agrees with the definition of what a rest keeps
 pub keeps_is : (line : Line) (horizon : ℕ) (rest : Run) (kept : ℕ)
     → IsKept line horizon rest kept → Keeps line horizon rest kept
 keeps_is line horizon rest kept k = record {
@@ -34,7 +34,7 @@ keeps_is line horizon rest kept k = record {
   other = λ none. elim k [ inl as_main ↦ absurd (none as_main.1.0 as_main.1.1) | inr as_other ↦ as_other.0 ];
 }
 
--- is one number
+-- what a rest keeps is unique
 pub kept_only : (line : Line) (horizon : ℕ) (rest : Run) (kept other : ℕ)
     → IsKept line horizon rest kept → Keeps line horizon rest other → kept ≡ other
 kept_only line horizon rest kept other k keeps = elim k [
@@ -42,7 +42,7 @@ kept_only line horizon rest kept other k keeps = elim k [
   | inr as_other ↦ as_other.0 ∙ sym (keeps.other as_other.1)
 ]
 
--- and no fewer than nine hours
+-- a rest keeps at least nine hours
 pub kept_least : (line : Line) (horizon : ℕ) (rest : Run) (kept : ℕ) → Keeps line horizon rest kept → 540 ≤ kept
 kept_least line horizon rest kept keeps = elim (cases_lt kept 540) [
   | inl fewer ↦ absurd (
@@ -51,18 +51,18 @@ kept_least line horizon rest kept keeps = elim (cases_lt kept 540) [
   | inr enough ↦ enough
 ]
 
--- the test of room
+-- if the test of room passes, there is room
 pub room_yes : (amount minutes kept paid : ℕ) → 0 < amount
     → amount ≤ (minutes - kept) - paid → kept + paid + amount ≤ minutes
 room_yes amount minutes kept paid some fits = omega arith
 
--- the other way
+-- if there is room, the test passes
 pub room_no : (amount minutes kept paid : ℕ) → kept + paid + amount ≤ minutes → amount ≤ (minutes - kept) - paid
 room_no amount minutes kept paid fits = omega arith
 
--- what lies among the rests of so many minutes
+-- facts about weekly rests
 module _ (line : Line) (weekly : List Run) (are : AreRestsOf line 1440 weekly) (horizon : ℕ) where
-  -- a main rest lies among the weekly rests
+  -- a main rest is one of the weekly rests
   pub main_among : (w : ℕ) (main : Run) → IsMainRest line horizon w main → Contains weekly main
   main_among w main is = (are.each main).1 (record {
     rests = is.candidate.rests;
@@ -90,13 +90,13 @@ module _ (line : Line) (weekly : List Run) (are : AreRestsOf line 1440 weekly) (
     ]
   ]
 
-  -- a main rest that its week owes for is too short
+  -- the minutes of a main rest and the amount that its week owes are together 45 hours
   pub owes_lacks : (w amount : ℕ) (main : Run) → IsMainRest line horizon w main
       → Owes line horizon w amount → minutes_of main + amount ≡ 2700
   owes_lacks w amount main is owes =
       ap (λ (x : Run). minutes_of x + amount) (main_only w main owes.main is owes.is) ∙ owes.lacks
 
--- the last run of a line is one
+-- the last run of a line is unique
 pub last_only : (line : Line) (last other : Run) → IsLastRun line last
     → IsRestRun line other → other.past ≡ FAR → other.start ≡ last.start
 last_only line last other is rests no_end =
@@ -111,11 +111,11 @@ last_only line last other is rests no_end =
       ]
     ]
 
--- the rests that may pay a debt: those that have minutes between the main rest's end and the deadline
+-- the rests that may pay a debt: those that have a minute between the main rest's end and the deadline
 module _ (line : Line) (daily weekly : List Run) (are : AreRestsOf line 540 daily)
     (of_weeks : AreRestsOf line 1440 weekly) (horizon : ℕ) (earlier : List Debt)
     (debt : Debt) (main : Run) (is : IsMainRest line horizon debt.week main) where
-  -- a rest of which nine hours are known is one of them
+  -- a rest with at least nine hours before the horizon is one of the daily rests
   daily_among : (run : Run) → IsRestRun line run → 540 ≤ minutes_before horizon run → Contains daily run
   daily_among run rests enough =
       (are.each run).1
@@ -124,7 +124,7 @@ module _ (line : Line) (daily weekly : List Run) (are : AreRestsOf line 540 dail
         enough = let m : minutes_before horizon run ≤ minutes_of run = known_most horizon run in omega arith;
       })
 
-  -- who can pay is one of them
+  -- a rest that can pay is one of the rests that may pay
   pub payer_among : (run : Run) → 0 < debt.amount → CanPay line horizon earlier debt run
       → Contains daily run × (run.start < debt.deadline) × (main.past < run.past)
   payer_among run some can =
@@ -138,7 +138,7 @@ module _ (line : Line) (daily weekly : List Run) (are : AreRestsOf line 540 dail
       let before : minutes_before (min horizon debt.deadline) run ≤ minutes_before horizon run = omega arith in
       (daily_among run can.rests (omega arith), omega arith, omega arith)
 
-  -- and one of them is after the main rest
+  -- such a rest comes after the main rest
   pub payer_after : (run : Run) → Contains daily run → main.past < run.past → Before main run
   payer_after run in' late =
       let rests : IsRestRun line run = ((are.each run).0 in').rests in
@@ -161,7 +161,7 @@ module _ (line : Line) (daily weekly : List Run) (are : AreRestsOf line 540 dail
         ]
       ]
 
--- of rests in order, one that is before another was seen before it
+-- in an ordered list of rests, a rest that is before the one at i was seen before it
 pub sooner_seen : (rests : List Run) → AllPairs Before rests → (i : ℕ)
     → i < length rests → (get_or rests i no_run).start < (get_or rests i no_run).past
     → (run : Run) → run.start < run.past → Contains rests run
@@ -185,7 +185,7 @@ sooner_seen rests order i within some run lasts (k, within', is) before =
       ])
     ]
 
--- a debt is settled by the payer that was found for it
+-- a debt is settled with the payer that was found for it
 pub settled_as : (line : Line) (horizon : ℕ) (earlier : List Debt) (debt : Debt) (payer : Option ℕ)
     → MatchOption payer ((run : Run) → CanPay line horizon earlier debt run → ⊥)
     (λ start. Pays line horizon earlier debt start)
@@ -207,7 +207,7 @@ settled_as line horizon earlier debt (Some start) pays = record {
       debt run (record { week = refl; amount = refl; deadline = refl }) can);
 }
 
--- the debts of the main rests that were seen, each settled given those before it
+-- the debts of the main rests that were seen, each settled after those before it
 pub record AreSettled (line : Line) (horizon : ℕ) (seen : List Run) (debts : List Debt) : Type 0 where
   pub owed : (w amount : ℕ)
       → ((main : Run) × Contains seen main × IsMainRest line horizon w main × Owes line horizon w amount)
@@ -216,7 +216,7 @@ pub record AreSettled (line : Line) (horizon : ℕ) (seen : List Run) (debts : L
   pub in_order : AllPairs EarlierWeek debts
   pub settled : (i : ℕ) (debt : Debt) → slice_get debts i ≡ Some debt → IsSettled line horizon (take i debts) debt
 
--- before the first
+-- before the first rest
 pub settled_none : (line : Line) (horizon : ℕ) → AreSettled line horizon [] []
 settled_none line horizon = record {
   owed = λ w amount. (
@@ -232,7 +232,7 @@ settled_none line horizon = record {
 -- the next rest
 module _ (line : Line) (horizon : ℕ) (weekly : List Run) (are : AreRestsOf line 1440 weekly)
     (seen : List Run) (debts : List Debt) (rest : Run) (r : AreSettled line horizon seen debts) where
-  -- that leaves no debt
+  -- it leaves no debt
   pub settled_skip : ((w amount : ℕ) → IsMainRest line horizon w rest → Owes line horizon w amount → ⊥)
       → AreSettled line horizon (seen ++ rest ∷ []) debts
   settled_skip none = record {
@@ -250,7 +250,7 @@ module _ (line : Line) (horizon : ℕ) (weekly : List Run) (are : AreRestsOf lin
     settled = r.settled;
   }
 
-  -- that leaves one
+  -- it leaves a debt
   pub settled_add : ((run : Run) → Contains seen run → Before run rest) → IsRestRun line rest
       → (debt : Debt) → IsDebtOf line horizon rest debt → IsSettled line horizon debts debt
       → AreSettled line horizon (seen ++ rest ∷ []) (debts ++ debt ∷ [])
@@ -327,7 +327,7 @@ module _ (line : Line) (horizon : ℕ) (weekly : List Run) (are : AreRestsOf lin
     ];
   }
 
--- behind the last
+-- after the last rest, these are the debts
 pub settled_all : (line : Line) (horizon : ℕ) (weekly : List Run) → AreRestsOf line 1440 weekly
     → (debts : List Debt) → AreSettled line horizon weekly debts → AreDebts line horizon debts
 settled_all line horizon weekly are debts r = record {

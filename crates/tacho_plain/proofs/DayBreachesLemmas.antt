@@ -1,4 +1,4 @@
--- The breaches of daily rests and of days' driving together are those of days (`days`).
+-- The breaches of daily rests and of a day's driving are together those of the rules on days (`days`).
 use Rattle.std.proofs.Common.{◌≡◌, ◌≢◌, ℕ, ◌+◌, ◌-◌, ◌<◌, ◌≤◌, ◌⊎◌, inl, inr, List, ◌++◌}
 use Rattle.std.proofs.Common.{length, get_or, length-append, refl, sym, ap, subst, ◌∙◌, arith}
 use Rattle.std.specs.Prelude.{◌↔◌}
@@ -24,7 +24,7 @@ use Rattle.tacho_hours.proofs.RunsLemmas.{line_before}
 use Rattle.tacho_plain.specs.DayBreaches.{IsInTime, AreTheDays, IsRestKind, IsDriveKind}
 use Rattle.tacho_hours.proofs.DrivingLemmas.{line_behind}
 
--- an earlier breach has another place
+-- a breach that is ordered before another has a different place
 apart_if : (a b : Breach) → Earlier a b → Agree a b → ⊥
 apart_if a b h g =
     let m : a.moment ≡ b.moment = g.moment in
@@ -47,7 +47,7 @@ all_of P found h = record {
 
 module _ (P Q : Breach → Type 0) (xs ys : List Breach) (p : AreCollected P xs)
     (q : AreCollected Q ys) (differ : (a b : Breach) → P a → Q b → Agree a b → ⊥) where
-  -- two of the joined lists have different places
+  -- two breaches of the joined lists have different places
   join_apart : (i j : ℕ) (d : Breach) → i < j → j < length (xs ++ ys)
       → Agree (get_or (xs ++ ys) i d) (get_or (xs ++ ys) j d) → ⊥
   join_apart i j d below within g =
@@ -79,7 +79,7 @@ module _ (P Q : Breach → Type 0) (xs ys : List Breach) (p : AreCollected P xs)
             ]
       ]
 
-  -- two lists joined
+  -- the joined lists are the breaches of either kind
   pub all_join : AreCollected (λ b. P b ⊎ Q b) (xs ++ ys)
   all_join = record {
     each = λ b. (
@@ -95,7 +95,7 @@ module _ (P Q : Breach → Type 0) (xs ys : List Breach) (p : AreCollected P xs)
     in_order = join_apart;
   }
 
--- the rules on daily rests
+-- the breaches of the rules on daily rests
 pub rests_join : (line : Line) (xs ys : List Breach) → AreBreaches (λ b. (b.kind ≡ B2) × IsB2 line b) xs
     → AreBreaches (λ b. (b.kind ≡ B3) × IsB3 line b) ys → AreCollected (IsRestKind line) (xs ++ ys)
 rests_join line xs ys p q =
@@ -103,7 +103,7 @@ rests_join line xs ys p q =
     (all_of (λ b. (b.kind ≡ B2) × IsB2 line b) xs p) (all_of (λ b. (b.kind ≡ B3) × IsB3 line b) ys q)
     (λ a b (k, h) (k', h') g. (let e : B2 ≡ B3 = sym k ∙ (g.kind ∙ k') in cc))
 
--- the rules on a day's driving
+-- the breaches of the rules on a day's driving
 pub drives_join : (line : Line) (xs ys : List Breach) → AreBreaches (λ b. (b.kind ≡ B4) × IsB4 line b) xs
     → AreBreaches (λ b. (b.kind ≡ B5) × IsB5 line b) ys → AreCollected (IsDriveKind line) (xs ++ ys)
 drives_join line xs ys p q =
@@ -111,7 +111,7 @@ drives_join line xs ys p q =
     (all_of (λ b. (b.kind ≡ B4) × IsB4 line b) xs p) (all_of (λ b. (b.kind ≡ B5) × IsB5 line b) ys q)
     (λ a b (k, h) (k', h') g. (let e : B4 ≡ B5 = sym k ∙ (g.kind ∙ k') in cc))
 
--- the kinds of the rules on daily rests are others than those on driving
+-- breaches of daily rests and of a day's driving have different kinds
 kinds_differ : (line : Line) (a b : Breach) → IsRestKind line a → IsDriveKind line b → Agree a b → ⊥
 kinds_differ line a b p q g = elim p [
   | inl short ↦ elim q [
@@ -124,12 +124,12 @@ kinds_differ line a b p q g = elim p [
   ]
 ]
 
--- both
+-- all breaches of the rules on days
 pub days_join : (line : Line) (xs ys : List Breach) → AreCollected (IsRestKind line) xs
     → AreCollected (IsDriveKind line) ys → AreCollected (λ b. IsRestKind line b ⊎ IsDriveKind line b) (xs ++ ys)
 days_join line xs ys p q = all_join (IsRestKind line) (IsDriveKind line) xs ys p q (kinds_differ line)
 
--- a breach of the rules on days is of one of the kinds
+-- a breach of the rules on days has one of these kinds
 of_kind : (line : Line) (kind : Kind) (b : Breach) → IsDayBreach line kind b
     → (((kind ≡ B2) × IsB2 line b) ⊎ ((kind ≡ B3) × IsB3 line b))
     ⊎ (((kind ≡ B4) × IsB4 line b) ⊎ ((kind ≡ B5) × IsB5 line b))
@@ -144,7 +144,7 @@ of_kind line B8 b h = absurd h
 of_kind line B9 b h = absurd h
 of_kind line B10 b h = absurd h
 
--- and the other way
+-- a breach of one of these kinds is a breach of the rules on days
 from_kind : (line : Line) (b : Breach) → IsRestKind line b ⊎ IsDriveKind line b → IsDayBreach line b.kind b
 from_kind line b h = elim h [
   | inl rest ↦ elim rest [
@@ -157,7 +157,7 @@ from_kind line b h = elim h [
   ]
 ]
 
--- the same breaches in order are those of the rules on days
+-- these breaches, put in order, are those of the rules on days
 pub days_exactly : (line : Line) (xs ys : List Breach) → AreCollected (λ b. IsRestKind line b ⊎ IsDriveKind line b) xs
     → ((b : Breach) → Contains ys b ↔ Contains xs b) → AllPairs Earlier ys → AreDayBreaches line ys
 days_exactly line xs ys all same order = record {
@@ -168,7 +168,7 @@ days_exactly line xs ys all same order = record {
   in_order = order;
 }
 
--- of days in time, those that are duty days are in time
+-- if all duty days are in time, so are those that satisfy `P`
 pub times_of : (line : Line) (P : DutyDay → Type 0) (days some : List DutyDay)
     → AreDutyDays line days → ((x : DutyDay) → Contains days x → IsInTime x) → AreTheDays P some
     → ((x : DutyDay) → P x → IsDuty line x) → All (λ (x : DutyDay). IsInTime x) some
@@ -177,16 +177,16 @@ times_of line P days some are times those duty k d within =
     ((are.each (get_or some k d)).1
     (duty (get_or some k d) ((those.each (get_or some k d)).0 (Contains-get_or some k d within))))
 
--- what is not at rest lies among the spans
+-- minutes that aren't at rest are within the examined spans
 module _ (spans : List Span) (base past : ℕ) (x : IsExamined spans base past) where
-  -- behind the base
+  -- so they are at or after the start of week 0
   after_base : (m : ℕ) → line_of spans m ≢ Rest → 5760 ≤ m
   after_base m busy = elim (cases_lt m base) [
     | inl lt ↦ absurd (busy (line_before spans base past m x.joined lt))
     | inr ge ↦ let b : 15780960 ≤ base = x.base_is.from in omega arith
   ]
 
-  -- before the horizon
+  -- and before the end of 2099
   pub before_past : (m : ℕ) → line_of spans m ≢ Rest → m < 68374080
   before_past m busy = elim (cases_lt m past) [
     | inl lt ↦ let b : past ≤ 68374080 = x.within in omega arith
@@ -214,7 +214,7 @@ module _ (spans : List Span) (base past : ℕ) (x : IsExamined spans base past) 
       ] in
       record { from = omega arith; some = omega arith; ended = omega arith; rests = p; enough = omega arith }
 
-  -- and so are all duty days
+  -- so are all duty days
   pub times_all : (days : List DutyDay) → AreDutyDays (line_of spans) days → All (λ (d : DutyDay). IsInTime d) days
   times_all days are k d within =
       duty_in_time (get_or days k d) ((are.each (get_or days k d)).0 (Contains-get_or days k d within))

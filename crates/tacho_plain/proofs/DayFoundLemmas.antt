@@ -1,5 +1,4 @@
--- What a loop over duty days finds, a breach of a day at the most: short daily rests,
--- and days of long driving (`days`).
+-- What a loop over duty days finds, with at most one breach for each day: short daily rests, and days of long driving (`days`).
 use Rattle.std.proofs.Common.{◌≡◌, ℕ, ◌+◌, ◌<◌, ◌≤◌, inl, inr, List, [], ◌∷◌, ◌++◌}
 use Rattle.std.proofs.Common.{length, get_or, take, sym, subst, ◌∙◌, arith, min}
 use Rattle.std.specs.List.{AllPairs, Contains}
@@ -23,15 +22,15 @@ use Rattle.tacho_plain.specs.DailyDriving.{IsLongDay}
 use Rattle.tacho_hours.proofs.LongDrivingLemmas.{too_much_only}
 use Rattle.tacho_hours.proofs.OrderLemmas.{same_breach}
 
--- what an index behind the list gives
+-- the result of an index past the end of the list
 abbrev pub no_day : DutyDay
 no_day = record { start = 0; past = 0; rest = record { start = 0; past = 0 } }
 
--- the breaches of the days seen
+-- the breaches of the days that were seen
 abbrev pub DayFound : (DutyDay → Breach → Type 0) → List DutyDay → List Breach → Type 0
 DayFound P seen found = AreExactly (OfSeen P seen) Earlier found
 
--- a day has one breach at most, and its moment is in the day
+-- a day has at most one breach, and its moment is within the day or its rest
 pub record IsOfDays (P : DutyDay → Breach → Type 0) : Type 0 where
   pub only : (day : DutyDay) (a b : Breach) → P day a → P day b → a ≡ b
   pub from : (day : DutyDay) (b : Breach) → P day b → day.start ≤ b.moment
@@ -44,7 +43,7 @@ module _ (P : DutyDay → Breach → Type 0) (is : IsOfDays P) where
 
   module _ (xs : List DutyDay) (i : ℕ) (within : i < length xs) (order : AllPairs EarlierDay xs)
       (found : List Breach) (r : DayFound P (take i xs) found) where
-    -- one more breach, at an index
+    -- the day at i has a breach
     pub found_add_at : (new : Breach) → P (get_or xs i no_day) new → DayFound P (take (i + 1) xs) (found ++ new ∷ [])
     found_add_at new p =
         rw (take_more xs i no_day within)
@@ -57,12 +56,12 @@ module _ (P : DutyDay → Breach → Type 0) (is : IsOfDays P) where
         let c : (get_or xs i no_day).start ≤ new.moment = is.from (get_or xs i no_day) new p in
         inl (omega arith))))
 
-    -- no breach at an index
+    -- the day at i has no breach
     pub found_skip_at : ((b : Breach) → P (get_or xs i no_day) b → ⊥) → DayFound P (take (i + 1) xs) found
     found_skip_at none =
         rw (take_more xs i no_day within) (seen_skip P Earlier (take i xs) found (get_or xs i no_day) r none)
 
-  -- the breaches of all days
+  -- after the last day, these are all breaches
   pub found_exactly : (Q : Breach → Type 0) (xs : List DutyDay) (i : ℕ) (found : List Breach)
       → length xs ≤ i → DayFound P (take i xs) found
       → ((day : DutyDay) (b : Breach) → P day b → Q b)
@@ -73,11 +72,11 @@ module _ (P : DutyDay → Breach → Type 0) (is : IsOfDays P) where
       (λ b. (λ h. to h.item b h.of, λ q. let (x, in', h) = back b q in record { item = x; among = in'; of = h }))
       all
 
--- a short rest of a duty day
+-- the breach of a duty day's short rest
 abbrev pub ShortOf : Line → DutyDay → Breach → Type 0
 ShortOf line day breach = IsDuty line day × IsInTime day × IsShortRest day breach
 
--- has one breach
+-- a day has at most one such breach
 pub short_is : (line : Line) → IsOfDays (ShortOf line)
 short_is line = record {
   only = λ day a b (d, t, p) (d', t', q). same_breach a b (p.kind ∙ sym q.kind)
@@ -96,12 +95,12 @@ short_is line = record {
       ]);
 }
 
--- of the kind, and back
+-- it is a breach of B2
 pub short_to : (line : Line) (day : DutyDay) (b : Breach) → ShortOf line day b → (b.kind ≡ B2) × IsB2 line b
 short_to line day b (d, t, p) =
     (p.kind, record { day = day; duty = d; short = p.short; moment = p.moment; since = p.since; amount = p.amount })
 
--- from the rule to a day
+-- each breach of B2 is that of some duty day
 pub short_back : (line : Line) (days : List DutyDay) → AreDutyDays line days
     → ((x : DutyDay) → Contains days x → IsInTime x) → (b : Breach)
     → (b.kind ≡ B2) × IsB2 line b → (day : DutyDay) × Contains days day × ShortOf line day b
@@ -116,15 +115,15 @@ short_back line days are times b (k, h) =
       ),
     )
 
--- a long day, of a kind and above a limit
+-- the breach of a day with more driving than a limit, with this kind
 abbrev pub LongOf : Line → Kind → ℕ → DutyDay → Breach → Type 0
 LongOf line kind limit day breach = IsInTime day × IsLongDay line kind limit day breach
 
--- a long day of a duty day
+-- the breach B4 of a duty day
 abbrev pub B4Of : Line → DutyDay → Breach → Type 0
 B4Of line day breach = IsDuty line day × IsInTime day × IsLongDay line B4 600 day breach
 
--- in the day
+-- its moment is before the day's rest ends
 pub long_before : (line : Line) (kind : Kind) (limit : ℕ) (day : DutyDay) (b : Breach)
     → IsInTime day → IsLongDay line kind limit day b → b.moment < day.rest.past
 long_before line kind limit day b t p =
@@ -132,7 +131,7 @@ long_before line kind limit day b t p =
     let r : day.past + 540 ≤ day.rest.past = t.enough in
     omega arith
 
--- has one breach
+-- a day has at most one such breach
 pub b4_is : (line : Line) → IsOfDays (B4Of line)
 b4_is line = record {
   only = λ day a b (d, t, p) (d', t', q). too_much_only line B4 600 day.start day.past a b p q;
@@ -140,11 +139,11 @@ b4_is line = record {
   until = λ day b (d, t, p). long_before line B4 600 day b t p;
 }
 
--- of the kind, and back
+-- it is a breach of B4
 pub b4_to : (line : Line) (day : DutyDay) (b : Breach) → B4Of line day b → (b.kind ≡ B4) × IsB4 line b
 b4_to line day b (d, t, p) = (p.kind_is, record { day = day; duty = d; over = p.over; since = p.since })
 
--- from the rule to a day
+-- each breach of B4 is that of some duty day
 pub b4_back : (line : Line) (days : List DutyDay) → AreDutyDays line days
     → ((x : DutyDay) → Contains days x → IsInTime x) → (b : Breach)
     → (b.kind ≡ B4) × IsB4 line b → (day : DutyDay) × Contains days day × B4Of line day b

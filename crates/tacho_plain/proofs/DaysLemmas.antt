@@ -1,5 +1,5 @@
--- Duty days lie between neighbouring rests of nine hours (`long_rests`, `duty_days`); which of the rests of three hours
--- lie within one (`has_run_between`).
+-- Duty days are between neighbouring rests of nine hours (`long_rests`, `duty_days`); which rests of three hours are within a duty day
+-- (`has_run_between`).
 use Rattle.std.proofs.Common.{◌≡◌, ℕ, ◌+◌, ◌-◌, ◌<◌, ◌≤◌, ◌⊎◌, inl, inr, List, [], ◌∷◌, ◌++◌, length}
 use Rattle.std.proofs.Common.{get_or, length-append, true, false, refl, sym, ap, subst, ◌∙◌, arith}
 use Rattle.std.specs.Prelude.{◌↔◌, IsTrue}
@@ -19,11 +19,11 @@ use Rattle.tacho_plain.proofs.KeptLemmas.{AreKept}
 use Rattle.tacho_hours.proofs.ExactlyLemmas.{at_index}
 use Rattle.tacho_plain.proofs.RunsLemmas.{no_run, none_at_between, neighbours_at, rests_are}
 
--- what an index behind a list of days gives
+-- the result of an index past the end of a list of days
 abbrev pub no_day : DutyDay
 no_day = record { start = 0; past = 0; rest = no_run }
 
--- the runs of so many minutes that were kept are the rests of so many
+-- the runs of at least `least` minutes that were kept are the rests of at least `least` minutes
 pub rests_of : (line : Line) (runs rests : List Run) (least : ℕ) → AreRestRuns line runs
     → AreKept Run Before (λ run. least ≤ minutes_of run) runs rests → AreRestsOf line least rests
 rests_of line runs rests least are kept = record {
@@ -35,17 +35,17 @@ rests_of line runs rests least are kept = record {
   in_order = kept.in_order;
 }
 
--- the day between two rests
+-- the duty day between two rests
 abbrev pub day_of : Run → Run → DutyDay
 day_of last rest = record { start = last.past; past = rest.start; rest = rest }
 
--- the days between the first n rests
+-- the duty days between the first n rests
 pub record DaysBelow (rests : List Run) (n : ℕ) (days : List DutyDay) : Type 0 where
   pub many : length days + 1 ≡ n
   pub within : (n ≡ 1) ⊎ (n ≤ length rests)
   pub each : (k : ℕ) → k + 1 < n → get_or days k no_day ≡ day_of (get_or rests k no_run) (get_or rests (k + 1) no_run)
 
--- no day below the second rest
+-- before the second rest there is no day
 pub days_none : (rests : List Run) → DaysBelow rests 1 []
 days_none rests = record { many = omega arith; within = inl refl; each = λ k below. absurd (omega arith) }
 
@@ -77,9 +77,9 @@ days_add rests n days some within r last rest e' f' =
       ];
     }
 
--- neighbours among the rests of so many minutes
+-- neighbours among the rests of at least `least` minutes
 module _ (line : Line) (least : ℕ) (rests : List Run) (are : AreRestsOf line least rests) where
-  -- a place and the next are neighbours
+  -- the rests at i and i + 1 are neighbours
   pub next_are_neighbours : (i : ℕ) → i + 1 < length rests
       → AreNeighbours line least (get_or rests i no_run) (get_or rests (i + 1) no_run)
   next_are_neighbours i within = record {
@@ -90,14 +90,14 @@ module _ (line : Line) (least : ℕ) (rests : List Run) (are : AreRestsOf line l
         none_at_between rests (rests_are line least rests are) i within c ((are.each c).1 is) after before;
   }
 
-  -- neighbours are at a place and the next
+  -- neighbours are at i and i + 1 for some i
   pub neighbours_are_next : (a b : Run) → AreNeighbours line least a b
       → (i : ℕ) × (i + 1 < length rests) × (a ≡ get_or rests i no_run) × (b ≡ get_or rests (i + 1) no_run)
   neighbours_are_next a b h =
       neighbours_at rests (rests_are line least rests are) a b ((are.each a).1 h.first) ((are.each b).1 h.second)
       h.before (λ c in' after before. h.between c ((are.each c).0 in') after before)
 
--- a day is known by its members
+-- a day's members determine it
 pub same_day : (day : DutyDay) (last rest : Run) → day.start ≡ last.past
     → day.past ≡ rest.start → day.rest ≡ rest → day ≡ day_of last rest
 same_day day last rest e f g =
@@ -121,7 +121,7 @@ module _ (line : Line) (rests : List Run) (are : AreRestsOf line 540 rests) (n :
         past = refl;
       })
 
-  -- all days are found
+  -- after the last rest, all days are found
   pub days_all : AreDutyDays line days
   days_all = record {
     each = λ day. (
@@ -163,12 +163,12 @@ module _ (line : Line) (rests : List Run) (are : AreRestsOf line 540 rests) (n :
         omega arith);
   }
 
--- the first n runs have ended by a minute, and the others haven't
+-- the first n runs have ended by a minute, and the others have not
 abbrev pub HaveEnded : List Run → ℕ → ℕ → Type 0
 HaveEnded runs minute n =
     IsPartitionPoint (λ (x : Run). leb x.past minute ≡ true) (λ (x : Run). leb x.past minute ≡ false) runs n
 
--- in order, no run starts before an earlier one
+-- in an ordered list, no run starts before an earlier one
 pub starts_rise : (runs : List Run) → All (λ (x : Run). x.start < x.past) runs → AllPairs Before runs
     → (i k : ℕ) (d : Run) → i ≤ k → k < length runs → (get_or runs i d).start ≤ (get_or runs k d).start
 starts_rise runs some order i k d le within = elim (cases_lt i k) [
@@ -182,7 +182,7 @@ starts_rise runs some order i k d le within = elim (cases_lt i k) [
       omega arith
 ]
 
--- nor ends before one
+-- no run ends before an earlier one
 pub pasts_rise : (runs : List Run) → All (λ (x : Run). x.start < x.past) runs → AllPairs Before runs
     → (i k : ℕ) (d : Run) → i ≤ k → k < length runs → (get_or runs i d).past ≤ (get_or runs k d).past
 pasts_rise runs some order i k d le within = elim (cases_lt i k) [
@@ -201,11 +201,11 @@ abbrev pub IsCut : List Run → ℕ → ℕ → Type 0
 IsCut runs from n =
     IsPartitionPoint (λ (x : Run). ltb x.start from ≡ true) (λ (x : Run). ltb x.start from ≡ false) runs n
 
--- one of the runs between two minutes
+-- one of the runs is between two minutes
 abbrev pub HasBetween : List Run → ℕ → ℕ → Type 0
 HasBetween runs from to = (run : Run) × Contains runs run × (from ≤ run.start) × (run.past ≤ to)
 
--- a run that starts late enough is at the cut or behind it
+-- a run that starts at `from` or later is at the partition point or after it
 behind_cut : (runs : List Run) (from n k : ℕ) → IsCut runs from n
     → k < length runs → from ≤ (get_or runs k no_run).start → n ≤ k
 behind_cut runs from n k cut within late = elim (cases_lt k n) [
@@ -216,7 +216,7 @@ behind_cut runs from n k cut within late = elim (cases_lt k n) [
   | inr ge ↦ ge
 ]
 
--- at the cut is the first that may lie between
+-- the run at the partition point is the first that may be between the two minutes
 pub first_between : (runs : List Run) → All (λ (x : Run). x.start < x.past) runs
     → AllPairs Before runs → (from to n : ℕ) → IsCut runs from n → n < length runs
     → IsTrue (leb (get_or runs n no_run).past to) ↔ HasBetween runs from to
@@ -237,7 +237,7 @@ first_between runs some order from to n cut within = (
       le-leb (get_or runs n no_run).past to (omega arith)),
 )
 
--- with none at the cut there is none
+-- if no run is at the partition point, none is between
 pub none_between : (runs : List Run) (from to n : ℕ) → IsCut runs from n
     → length runs ≤ n → IsTrue (ltb n (length runs)) ↔ HasBetween runs from to
 none_between runs from to n cut none = (

@@ -1,5 +1,5 @@
--- Driving minutes are counted span by span (`driving_minutes`) up to the k-th (`driving_minute`, and so
--- `excess_between`), from the first span on that hasn't ended (`ended_by`).
+-- Driving minutes are counted span by span (`driving_minutes`) up to the k-th one (`driving_minute`, `excess_between`), from the first span
+-- on that hasn't ended (`ended_by`).
 use Rattle.std.proofs.Common.{◌≡◌, ◌≢◌, ℕ, zero, suc, ◌+◌, ◌-◌, ◌<◌, ◌≤◌, inl, inr, List}
 use Rattle.std.proofs.Common.{[], ◌∷◌, length, take, drop, get_or, refl, sym, ap, subst}
 use Rattle.std.proofs.Common.{◌∙◌, arith, min, max}
@@ -15,19 +15,19 @@ use Rattle.tacho_hours.proofs.RunsLemmas.{place_of, place_is, line_within, line_
 use Rattle.tacho_hours.proofs.DrivingLemmas.{driving_all, driving_before, driving_le, driving_none}
 use Rattle.tacho_hours.proofs.DrivingLemmas.{driving_run, line_behind}
 
--- what is left of the spans says what the line does from there on
+-- the remaining spans determine the line from their first minute on
 pub record Left (spans left : List Span) (past : ℕ) : Type 0 where
   pub joined : Joined left (place_of left past) past
   pub ahead : (m : ℕ) → place_of left past ≤ m → line_of spans m ≡ line_of left m
 
--- all spans are left
+-- before the first span, all spans remain
 pub left_all : (spans : List Span) (base past : ℕ) → Joined spans base past → Left spans spans past
 left_all spans base past j = record {
   joined = subst (λ (p : ℕ). Joined spans p past) (sym (place_is spans base past j)) j;
   ahead = λ m above. refl;
 }
 
--- one span less is left
+-- after the next span, one span fewer remains
 pub left_next : (spans left : List Span) (s : Span) (past : ℕ) → Left spans (s ∷ left) past → Left spans left past
 left_next spans left s past r =
     let e : place_of left past ≡ s.past = place_is left s.past past r.joined.2 in
@@ -37,12 +37,12 @@ left_next spans left s past r =
       ahead = λ m above. r.ahead m (omega arith) ∙ line_past s left m (omega arith);
     }
 
--- in the first span the line has its activity
+-- in the first remaining span, the line has the span's activity
 pub left_at : (spans left : List Span) (s : Span) (past : ℕ) → Left spans (s ∷ left) past
     → (m : ℕ) → s.start ≤ m → m < s.past → line_of spans m ≡ s.mark.activity
 left_at spans left s past r m above below = r.ahead m above ∙ line_within s left m above below
 
--- n is the count so far
+-- n is the number of driving minutes so far
 pub record Counted (spans left : List Span) (past from to n : ℕ) : Type 0 where
   pub rest : Left spans left past
   pub count : n ≡ driving (line_of spans) from (min to (place_of left past))
@@ -64,11 +64,11 @@ counted_none spans base past from to j =
     record { rest = left_all spans base past j; count = omega (arith, f, g) }
 
 module _ (spans left : List Span) (s : Span) (past from to n : ℕ) (r : Counted spans (s ∷ left) past from to n) where
-  -- the next place is the span's end
+  -- the next span starts where this one ends
   next : place_of left past ≡ s.past
   next = place_is left s.past past r.rest.joined.2
 
-  -- a span that is not driving
+  -- a span that isn't driving adds nothing
   pub counted_idle : s.mark.activity ≢ Drive → Counted spans left past from to n
   counted_idle idle =
       let line = line_of spans in
@@ -78,7 +78,7 @@ module _ (spans left : List Span) (s : Span) (past from to n : ℕ) (r : Counted
       (λ i a b d. idle (sym (left_at spans left s past r.rest i (omega arith) (omega arith)) ∙ d)) in
       record { rest = left_next spans left s past r.rest; count = rw next (r.count ∙ sym e) }
 
-  -- a span without a minute between the two
+  -- a span without a minute in the range adds nothing
   pub counted_outside : min s.past to ≤ max s.start from → Counted spans left past from to n
   counted_outside out =
       let line = line_of spans in
@@ -93,7 +93,7 @@ module _ (spans left : List Span) (s : Span) (past from to n : ℕ) (r : Counted
       ] in
       record { rest = left_next spans left s past r.rest; count = rw next (r.count ∙ sym e) }
 
-  -- where the span's part begins, nothing more has been counted
+  -- n counts the driving minutes up to where the span's part in the range begins
   begun : max s.start from < min s.past to → n ≡ driving (line_of spans) from (max s.start from)
   begun some = elim (cases_lt s.start from) [
     | inl lt ↦
@@ -105,11 +105,11 @@ module _ (spans left : List Span) (s : Span) (past from to n : ℕ) (r : Counted
     | inr ge ↦ let h : min to s.start ≡ max s.start from = omega arith in r.count ∙ ap (driving (line_of spans) from) h
   ]
 
-  -- the span's part is driving
+  -- the part of a driving span is driving
   drive_at : s.mark.activity ≡ Drive → (i : ℕ) → max s.start from ≤ i → i < min s.past to → line_of spans i ≡ Drive
   drive_at d i a b = left_at spans left s past r.rest i (omega arith) (omega arith) ∙ d
 
-  -- a driving span's part is counted
+  -- the part of a driving span is added to the count
   pub counted_drive : s.mark.activity ≡ Drive → max s.start from < min s.past to
       → Counted spans left past from to (n + (min s.past to - max s.start from))
   counted_drive d some =
@@ -122,7 +122,7 @@ module _ (spans left : List Span) (s : Span) (past from to n : ℕ) (r : Counted
       rw same (omega (arith, e, b)) in
       record { rest = left_next spans left s past r.rest; count = rw next f }
 
-  -- a minute of the part, by its ordinal
+  -- the ordinals of the driving minutes in the part
   pub counted_at : s.mark.activity ≡ Drive → max s.start from < min s.past to
       → (j : ℕ) → j < min s.past to - max s.start from
       → IsDrivingMinute (line_of spans) from to (n + j + 1) (max s.start from + j)
@@ -138,7 +138,7 @@ module _ (spans left : List Span) (s : Span) (past from to n : ℕ) (r : Counted
         earlier = omega (arith, e, b);
       }
 
--- behind the last span all is counted
+-- after the last span, all driving minutes are counted
 pub counted_end : (spans : List Span) (past from to n : ℕ)
     → Counted spans [] past from to n → n ≡ driving (line_of spans) from to
 counted_end spans past from to n r = elim (cases_lt past to) [
@@ -151,13 +151,13 @@ counted_end spans past from to n r = elim (cases_lt past to) [
   | inr ge ↦ let h : min to past ≡ to = omega arith in r.count ∙ ap (driving (line_of spans) from) h
 ]
 
--- at a span that starts at the end or behind it all is counted
+-- at a span that starts at the end of the range or later, all are counted
 pub counted_enough : (spans left : List Span) (s : Span) (past from to n : ℕ)
     → Counted spans (s ∷ left) past from to n → to ≤ s.start → n ≡ driving (line_of spans) from to
 counted_enough spans left s past from to n r late =
     let h : min to s.start ≡ to = omega arith in r.count ∙ ap (driving (line_of spans) from) h
 
--- the spans that ended before the first minute count for nothing
+-- spans that ended before the range add nothing
 pub counted_behind : (spans left : List Span) (past from to k : ℕ) → Counted spans left past from to 0
     → All (λ (s : Span). s.past ≤ from) (take k left) → Counted spans (drop k left) past from to 0
 counted_behind spans left past from to zero r ended = r
@@ -167,7 +167,7 @@ counted_behind spans (s ∷ left) past from to (suc k) r ended =
     let rest : All (λ (x : Span). x.past ≤ from) (take k left) = λ i d within. ended (suc i) d (omega arith) in
     counted_behind spans left past from to k (counted_outside spans left s past from to 0 r (omega arith)) rest
 
--- where a loop over the spans behind the first k begins
+-- where a loop over the spans after the first k begins
 pub counted_from : (spans : List Span) (base past from to k : ℕ)
     → Joined spans base past → All (λ (s : Span). s.past ≤ from) (take k spans)
     → Counted spans (take (length spans - k) (drop k spans)) past from to 0
@@ -177,7 +177,7 @@ counted_from spans base past from to k j ended =
     take_all (length spans - k) (drop k spans) (omega arith) in
     rw f (counted_behind spans spans past from to k (counted_none spans base past from to j) ended)
 
--- at the index i of a loop, where the item is s
+-- in a loop at index i, with the span s
 pub counted_here : (spans later : List Span) (i : ℕ) (s : Span) (past from to n : ℕ)
     → i < length later → s ≡ get_or later i s → Counted spans (drop i later) past from to n
     → Counted spans (s ∷ drop (i + 1) later) past from to n
@@ -186,14 +186,14 @@ counted_here spans later i s past from to n within is r =
     drop_more later i s within ∙ ap (λ (x : Span). x ∷ drop (i + 1) later) (sym is) in
     subst (λ (left : List Span). Counted spans left past from to n) e r
 
--- where the loop ends all is counted
+-- when the loop ends, all driving minutes are counted
 pub counted_over : (spans later : List Span) (i past from to n : ℕ) → length later ≤ i
     → Counted spans (drop i later) past from to n → n ≡ driving (line_of spans) from to
 counted_over spans later i past from to n over r =
     counted_end spans past from to n
     (subst (λ (left : List Span). Counted spans left past from to n) (drop_all i later over) r)
 
--- a count is no more than the minutes up to the line's end
+-- the count is at most `to`
 pub counted_le : (spans left : List Span) (past from to n : ℕ) → Counted spans left past from to n → n ≤ to
 counted_le spans left past from to n r =
     let e : driving (line_of spans) from (min to (place_of left past)) ≤ min to (place_of left past) =
@@ -201,7 +201,7 @@ counted_le spans left past from to n r =
     let f : n ≡ driving (line_of spans) from (min to (place_of left past)) = r.count in
     omega arith
 
--- each span ends behind the place where the first starts
+-- each span ends after the start of the first span
 later_ends : (spans : List Span) (base past i : ℕ) (d : Span)
     → Joined spans base past → i < length spans → base < (get_or spans i d).past
 later_ends [] base past i d j within = absurd (omega arith)
@@ -211,7 +211,7 @@ later_ends (s ∷ spans) base past (suc i) d j within =
     let b : base < s.past = j.1 in
     omega arith
 
--- spans that follow one another end in their order
+-- spans that follow one another end in order
 pub ends_rise : (spans : List Span) (base past i k : ℕ) (d : Span) → Joined spans base past
     → i ≤ k → k < length spans → (get_or spans i d).past ≤ (get_or spans k d).past
 ends_rise [] base past i k d j le within = absurd (omega arith)

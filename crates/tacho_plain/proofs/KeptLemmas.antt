@@ -1,4 +1,4 @@
--- Those of a list that hold, kept one after the other (`long_rests`, `reduced_days`, `extended_days`).
+-- The elements of a list that satisfy a property, kept one after another (`long_rests`, `reduced_days`, `extended_days`).
 use Rattle.std.proofs.Common.{◌≡◌, ℕ, ◌+◌, ◌<◌, ◌⊎◌, ◌↔◌, inl, inr, List, []}
 use Rattle.std.proofs.Common.{◌∷◌, ◌++◌, length, get_or, take, refl, sym, subst, ◌∙◌, arith}
 use Rattle.std.specs.List.{AllPairs, Contains}
@@ -7,24 +7,24 @@ use Rattle.std.proofs.lemmas.List.Elements.{Contains-push, Contains-append_left,
 use Rattle.tacho_hours.specs.Exactly.{AreExactly}
 use Rattle.tacho_hours.proofs.ExactlyLemmas.{exactly_add, exactly_as, exactly_none, exactly_skip}
 
--- of those that were seen, those that hold are kept, in order
+-- those of the elements seen so far that satisfy `P` are kept, in order
 abbrev pub AreKept : (A : Type 0) → (A → A → Type 0) → (A → Type 0) → List A → List A → Type 0
 AreKept A R P seen kept = AreExactly (λ x. Contains seen x × P x) R kept
 
 module _ (A : Type 0) (R : A → A → Type 0) (P : A → Type 0) where
-  -- of none that hold
+  -- if no element satisfies `P`, none is kept
   pub kept_nothing : (seen : List A) → ((x : A) → Contains seen x → P x → ⊥) → AreKept A R P seen []
   kept_nothing seen none = exactly_none (λ x. Contains seen x × P x) R (λ x h. none x h.0 h.1)
 
-  -- before the first
+  -- before the first element
   pub kept_none : AreKept A R P [] []
   kept_none = kept_nothing [] (λ x h holds. let (k, within, is) = h in omega arith)
 
-  -- one more
+  -- the next element, if it satisfies `P`
   Here : A → A → Type 0
   Here x y = (x ≡ y) × P y
 
-  -- is seen
+  -- once it is seen, the elements that satisfy `P` are the earlier ones and this one
   kept_more : (seen : List A) (x y : A) → ((Contains seen y × P y) ⊎ Here x y) ↔ (Contains (seen ++ x ∷ []) y × P y)
   unfolding Here
   kept_more seen x y = (
@@ -35,7 +35,7 @@ module _ (A : Type 0) (R : A → A → Type 0) (P : A → Type 0) where
     λ h. elim (Contains-push_cases seen x y h.0) [ inl old ↦ inl (old, h.1) | inr same ↦ inr (same, h.1) ],
   )
 
-  -- one more that holds
+  -- an element that satisfies `P` is kept
   pub kept_add : (seen kept : List A) (x : A) → AreKept A R P seen kept
       → ((y : A) → Contains seen y → R y x) → P x → AreKept A R P (seen ++ x ∷ []) (kept ++ x ∷ [])
   unfolding Here
@@ -44,7 +44,7 @@ module _ (A : Type 0) (R : A → A → Type 0) (P : A → Type 0) where
       (λ y. Contains (seen ++ x ∷ []) y × P y) R (kept ++ x ∷ []) (kept_more seen x)
       (exactly_add (λ y. Contains seen y × P y) (Here x) R kept x r (refl, holds) (λ y h. h.0) (λ y h. later y h.0))
 
-  -- one more that doesn't hold
+  -- an element that doesn't is skipped
   pub kept_skip : (seen kept : List A) (x : A) → AreKept A R P seen kept
       → (P x → ⊥) → AreKept A R P (seen ++ x ∷ []) kept
   unfolding Here
@@ -53,7 +53,7 @@ module _ (A : Type 0) (R : A → A → Type 0) (P : A → Type 0) where
       (λ y. Contains (seen ++ x ∷ []) y × P y) R kept (kept_more seen x)
       (exactly_skip (λ y. Contains seen y × P y) (Here x) R kept r (λ y h. fails (subst P (sym h.0) h.1)))
 
-  -- what was seen of a list in order is before the one at the index
+  -- in an ordered list, the elements that were seen are before the one at i
   pub seen_before : (xs : List A) (i : ℕ) (d : A) → i < length xs
       → AllPairs R xs → (x : A) → Contains (take i xs) x → R x (get_or xs i d)
   seen_before xs i d within order x (k, below, is) =
@@ -64,12 +64,12 @@ module _ (A : Type 0) (R : A → A → Type 0) (P : A → Type 0) where
 
   module _ (xs : List A) (i : ℕ) (d : A) (within : i < length xs)
       (order : AllPairs R xs) (kept : List A) (r : AreKept A R P (take i xs) kept) where
-    -- one more that holds, at an index
+    -- the element at i satisfies `P`, and is kept
     pub kept_add_at : P (get_or xs i d) → AreKept A R P (take (i + 1) xs) (kept ++ get_or xs i d ∷ [])
     kept_add_at holds =
         rw (take_more xs i d within)
         (kept_add (take i xs) kept (get_or xs i d) r (seen_before xs i d within order) holds)
 
-    -- one more that doesn't hold, at an index
+    -- the element at i doesn't, and is skipped
     pub kept_skip_at : (P (get_or xs i d) → ⊥) → AreKept A R P (take (i + 1) xs) kept
     kept_skip_at fails = rw (take_more xs i d within) (kept_skip (take i xs) kept (get_or xs i d) r fails)

@@ -1,4 +1,4 @@
--- The last rest run of an examined line has no end, and its rests start in time and touch some week (`rests`).
+-- The last rest run of an examined line has no end; the line's rests start by the end of 2099 and touch some week (`rests`).
 use Rattle.std.proofs.Common.{◌≡◌, ℕ, ◌-◌, ◌<◌, ◌≤◌, inl, inr, List}
 use Rattle.std.proofs.Common.{length, get_or, sym, ap, ◌∙◌, arith}
 use Rattle.std.proofs.lemmas.Bool.{cases_lt}
@@ -21,7 +21,7 @@ use Rattle.tacho_plain.specs.RestBreaches.{IsLastRun}
 use Rattle.tacho_plain.proofs.DayBreachesLemmas.{before_past}
 
 module _ (spans : List Span) (base past : ℕ) (x : IsExamined spans base past) where
-  -- a rest run of an examined line starts by its horizon
+  -- a rest run of an examined line starts by the end of 2099
   pub starts_early : (run : Run) → IsRestRun (line_of spans) run → run.start ≤ 68374080
   starts_early run is = elim is.from [
     | inl zero' ↦ omega arith
@@ -34,14 +34,14 @@ module _ (spans : List Span) (base past : ℕ) (x : IsExamined spans base past) 
     ]
   ]
 
-  -- a run has no end that rests at the horizon
+  -- a rest run that goes past the horizon has no end
   no_end : (run : Run) → IsRestRun (line_of spans) run → past < run.past → run.past ≡ FAR
   no_end run is late = elim is.until [
     | inl far ↦ far
     | inr busy ↦ absurd (busy (line_behind spans base past run.past x.joined (omega arith)))
   ]
 
-  -- there is such a run
+  -- there is a rest run without an end
   far_run : (run : Run) × IsRestRun (line_of spans) run × (run.past ≡ FAR)
   far_run =
       let w : past ≤ 68374080 = x.within in
@@ -50,11 +50,11 @@ module _ (spans : List Span) (base past : ℕ) (x : IsExamined spans base past) 
       (c.run, c.rests, no_end c.run c.rests c.to)
 
   module _ (runs : List Run) (are : AreRestRuns (line_of spans) runs) where
-    -- there are runs
+    -- there is at least one rest run
     pub some_run : 0 < length runs
     some_run = let (run, is, far) = far_run in let (k, within, e) = (are.each run).1 is in omega arith
 
-    -- the last of all has no end
+    -- the last one has no end
     pub last_is_last : (d : Run) → IsLastRun (line_of spans) (get_or runs (length runs - 1) d)
     last_is_last d =
         let (run, is, far) = far_run in
@@ -81,7 +81,7 @@ module _ (spans : List Span) (base past : ℕ) (x : IsExamined spans base past) 
         let from : 15780960 ≤ base = x.base_is.from in
         weeks_by (line_of spans) runs are (λ m early. line_before spans base past m x.joined (omega arith))
 
-  -- its rests of so many minutes are in time
+  -- the rests of at least `least` minutes are in time
   pub rests_in_time : (least : ℕ) (rests : List Run) → AreRestsOf (line_of spans) least rests → AreInTime rests
   rests_in_time least rests are = record {
     some = (rests_are (line_of spans) least rests are).some;

@@ -15,7 +15,7 @@ use Rattle.tacho_hours.specs.Breaches.{IsLate}
 use Rattle.tacho_hours.proofs.OrderLemmas.{same_breach}
 use Rattle.tacho_hours.proofs.ExactlyLemmas.{OfBelow, below_none, below_skip, below_add, exactly_as}
 
--- the breach of a rest that starts more than six days after another
+-- the breach of a rest that starts more than six days after the end of another
 pub record IsLateBehind (a b : Run) (breach : Breach) : Type 0 where
   pub kind_is : breach.kind ≡ B8
   pub moment : breach.moment ≡ a.past + 8640
@@ -23,7 +23,7 @@ pub record IsLateBehind (a b : Run) (breach : Breach) : Type 0 where
   pub late : 0 < breach.amount
   pub amount : breach.moment + breach.amount ≡ b.start
 
--- between two rests there is one such breach at most
+-- there is at most one such breach for two rests
 only : (a b : Run) (x y : Breach) → IsLateBehind a b x → IsLateBehind a b y → x ≡ y
 only a b x y p q = same_breach x y
     (p.kind_is ∙ sym q.kind_is)
@@ -36,23 +36,23 @@ only a b x y p q = same_breach x y
     let h : y.moment ≡ a.past + 8640 = q.moment in
     omega arith)
 
--- the breach of the rest at a place, behind the one before
+-- the breach of the rest at a place, after the one before it
 pub record IsLateAt (weekly : List Run) (place : ℕ) (breach : Breach) : Type 0 where
   pub within : place < length weekly
   pub late : IsLateBehind (get_or weekly (place - 1) no_run) (get_or weekly place no_run) breach
 
--- and of the rests at the places below n
+-- the breaches of the rests at places below n
 abbrev pub LateBelow : List Run → ℕ → Breach → Type 0
 LateBelow weekly n breach = OfBelow (IsLateAt weekly) 1 n breach
 
--- no breach below the second rest
+-- before the second rest there is no breach
 pub late_none : (weekly : List Run) → AreCollected (LateBelow weekly 1) []
 late_none weekly = below_none (IsLateAt weekly) Apart 1
 
--- the step from n rests to one more
+-- one step of the loop, from n rests to n + 1
 module _ (weekly : List Run) (x : AreInTime weekly) (n : ℕ) (some : 1 ≤ n) (within : n < length weekly)
     (found : List Breach) (r : AreCollected (LateBelow weekly n) found) where
-  -- the rest at n starts no later than six days after the one before
+  -- the rest at n starts at most six days after the end of the one before
   pub late_skip : (get_or weekly n no_run).start ≤ (get_or weekly (n - 1) no_run).past + 8640
       → AreCollected (LateBelow weekly (n + 1)) found
   late_skip soon = below_skip (IsLateAt weekly) Apart 1 n found some r
@@ -77,7 +77,7 @@ module _ (weekly : List Run) (x : AreInTime weekly) (n : ℕ) (some : 1 ≤ n) (
       x.some (n - 1) no_run (omega arith) in
       omega arith))
 
--- at the last rest all breaches are found
+-- after the last rest, all breaches are found
 pub late_all : (line : Line) (weekly : List Run) → AreRestsOf line 1440 weekly → (n : ℕ) → length weekly ≤ n
     → (found : List Breach) → AreCollected (LateBelow weekly n) found → AreCollected (IsLate line) found
 late_all line weekly are n most found r = exactly_as (LateBelow weekly n) (IsLate line) Apart found (λ breach. (

@@ -16,17 +16,17 @@ use Rattle.tacho_plain.specs.MainRests.{IsBetter}
 use Rattle.tacho_plain.proofs.RunsLemmas.{rests_are}
 use Rattle.tacho_hours.proofs.MainRestLemmas.{one_week}
 
--- one more that holds
+-- one more element satisfies `P`
 pub all_more : {A : Type 0} (P : A → Type 0) (xs : List A) (i : ℕ) (d : A)
     → i < length xs → All P (take i xs) → P (get_or xs i d) → All P (take (i + 1) xs)
 all_more P xs i d within all holds = rw (take_more xs i d within) (All-push P (take i xs) (get_or xs i d) all holds)
 
--- what holds up to the end holds of each
+-- if all elements up to the end satisfy `P`, each of the list does
 pub all_seen : {A : Type 0} (P : A → Type 0) (xs : List A) (i : ℕ)
     → length xs ≤ i → All P (take i xs) → (x : A) → Contains xs x → P x
 all_seen P xs i end all x in' = All-contains P xs x (subst (λ (ys : List _). All P ys) (take_all i xs end) all) in'
 
--- runs in order that start at one minute are one
+-- in an ordered list, runs with the same start are equal
 pub one_start : (runs : List Run) → All (λ (x : Run). x.start < x.past) runs → AllPairs Before runs
     → (a b : Run) → Contains runs a → Contains runs b → a.start ≡ b.start → a ≡ b
 one_start runs some order a b (i, within, is) (k, within', is') same =
@@ -48,11 +48,11 @@ one_start runs some order a b (i, within, is) (k, within', is') same =
       ]
     ]
 
--- a run has no more minutes before a minute than in all
+-- a run has at most as many minutes before a minute as in all
 pub known_most : (end : ℕ) (run : Run) → minutes_before end run ≤ minutes_of run
 known_most end run = omega arith
 
--- a test that fails
+-- the negated test passes iff `P` does not hold
 pub not_test : (P : Type 0) (b : Bool) → (IsTrue b ↔ P) → (IsTrue (not b) → P → ⊥) × ((P → ⊥) → IsTrue (not b))
 not_test P true e = (λ h p. (let f : false ≡ true = h in cc), λ n. absurd (n (e.0 refl)))
 not_test P false e = (λ h p. (let f : false ≡ true = e.1 p in cc), λ n. refl)
@@ -68,7 +68,7 @@ module _ (line : Line) (weekly : List Run) (are : AreRestsOf line 1440 weekly)
         enough = let m : minutes_before horizon run ≤ minutes_of run = known_most horizon run in omega arith;
       })
 
-  -- a rest that none of its week outdoes is the main one
+  -- a rest that no rest of its week is better than is the main rest
   pub main_yes : (w : ℕ) → IsInWeek w rest.start → 1440 ≤ minutes_before horizon rest
       → ((other : Run) → Contains weekly other → IsInWeek w other.start → IsBetter horizon other rest → ⊥)
       → IsMainRest line horizon w rest
@@ -90,7 +90,7 @@ module _ (line : Line) (weekly : List Run) (are : AreRestsOf line 1440 weekly)
     ];
   }
 
-  -- none of its week outdoes a main rest
+  -- no rest of the week is better than its main rest
   pub main_best : (w : ℕ) → IsMainRest line horizon w rest → (other : Run)
       → Contains weekly other → IsInWeek w other.start → IsBetter horizon other rest → ⊥
   main_best w main other in' week better =
@@ -121,7 +121,7 @@ module _ (line : Line) (weekly : List Run) (are : AreRestsOf line 1440 weekly)
         ]
       ]
 
-  -- in the week of its start
+  -- a main rest is that of the week in which it starts
   pub main_in : (w v : ℕ) → IsMainRest line horizon w rest → IsInWeek v rest.start → IsMainRest line horizon v rest
   main_in w v main week =
       subst (λ (u : ℕ). IsMainRest line horizon u rest) (one_week w v rest.start main.candidate.week week) main

@@ -1,5 +1,4 @@
--- Which breach it is of its week or since the last weekly rest: a day's driving and a reduced
--- rest that come too often (`days`).
+-- The ordinals of breaches: the extended days of a week, and the reduced rests since a weekly rest, that come too often (`days`).
 use Rattle.std.proofs.Common.{◌≡◌, ℕ, ◌+◌, ◌-◌, ◌<◌, ◌≤◌, ◌⊎◌, inl, inr, List}
 use Rattle.std.proofs.Common.{length, get_or, take, refl, sym, ap, subst, ◌∙◌, arith}
 use Rattle.std.specs.List.{All, AllPairs, Contains}
@@ -27,7 +26,7 @@ use Rattle.tacho_hours.proofs.LongDrivingLemmas.{too_much_only}
 use Rattle.tacho_hours.proofs.ExactlyLemmas.{so_many_only, so_many_as}
 use Rattle.tacho_plain.proofs.TallyLemmas.{Tallied, IsTallied, AreKeys, tally_counts}
 
--- a duty day has minutes, and its rest too
+-- a duty day has a minute, and so has its rest
 duty_lasts : (line : Line) (day : DutyDay) → IsDuty line day
     → (day.start < day.rest.start) × (day.rest.start < day.rest.past)
 duty_lasts line day d =
@@ -40,11 +39,11 @@ duty_lasts line day d =
 one_way : (line : Line) (x y : DutyDay) → IsDuty line x → IsDuty line y → EarlierDay x y → EarlierDay y x → ⊥
 one_way line x y d e before after = let (s, t) = duty_lasts line x d in let (u, v) = duty_lasts line y e in omega arith
 
--- the week of a day's start
+-- the week in which the day starts
 abbrev pub InWeek : DutyDay → ℕ → Type 0
 InWeek day w = IsInWeek w day.start
 
--- weeks rise with the days
+-- later days have later weeks, or the same
 pub week_keys : (line : Line) → AreKeys (IsLongDuty line) InWeek
 week_keys line = record {
   rise = λ x y a b m n early (from, before) (from', before').
@@ -52,11 +51,11 @@ week_keys line = record {
   one = λ x a b m (from, before) (from', before'). omega arith;
 }
 
--- the extended days of a week up to one
+-- the extended days of a week, up to this day
 abbrev pub ExtendedUpTo : Line → ℕ → DutyDay → DutyDay → Type 0
 ExtendedUpTo line week day other = IsExtended line week other × (other.start ≤ day.start)
 
--- a third or later extended day of its week
+-- the breach of a third or later extended day of its week
 pub record B5Of (line : Line) (day : DutyDay) (breach : Breach) : Type 0 where
   pub time : IsInTime day
   pub week : ℕ
@@ -66,7 +65,7 @@ pub record B5Of (line : Line) (day : DutyDay) (breach : Breach) : Type 0 where
   pub many : 2 < ordinal
   pub long : IsLongDay line B5 540 day breach
 
--- has one breach
+-- a day has at most one such breach
 pub b5_is : (line : Line) → IsOfDays (B5Of line)
 b5_is line = record {
   only = λ day a b p q. too_much_only line B5 540 day.start day.past a b p.long q.long;
@@ -74,7 +73,7 @@ b5_is line = record {
   until = λ day b p. long_before line B5 540 day b p.time p.long;
 }
 
--- of the kind, and back
+-- it is a breach of B5
 pub b5_to : (line : Line) (day : DutyDay) (b : Breach) → B5Of line day b → (b.kind ≡ B5) × IsB5 line b
 b5_to line day b p = (
   p.long.kind_is,
@@ -90,7 +89,7 @@ b5_to line day b p = (
   },
 )
 
--- from the rule to a day
+-- each breach of B5 is that of some day
 pub b5_back : (line : Line) (days : List DutyDay) → AreTheDays (IsLongDuty line) days
     → ((x : DutyDay) → Contains days x → IsInTime x) → (b : Breach)
     → (b.kind ≡ B5) × IsB5 line b → (day : DutyDay) × Contains days day × B5Of line day b
@@ -113,7 +112,7 @@ b5_back line days are times b (k, h) =
 module _ (line : Line) (xs : List DutyDay) (are : AreTheDays (IsLongDuty line) xs)
     (times : All (λ (x : DutyDay). IsInTime x) xs) (i : ℕ) (within : i < length xs)
     (key count : ℕ) (r : Tallied InWeek (take (i + 1) xs) key count) where
-  -- is the extended days up to this one
+  -- it counts the extended days of the week up to this day
   extended_counts : AreSoMany (ExtendedUpTo line key (get_or xs i no_day)) EarlierDay count
   extended_counts =
       so_many_as (IsTallied (IsLongDuty line) InWeek key (get_or xs i no_day))
@@ -124,7 +123,7 @@ module _ (line : Line) (xs : List DutyDay) (are : AreTheDays (IsLongDuty line) x
       ))
       (tally_counts (IsLongDuty line) InWeek (week_keys line) xs are times i within key count r)
 
-  -- a third or later one
+  -- the day is the third extended one, or a later one
   pub b5_add : InWeek (get_or xs i no_day) key → 2 < count → (b : Breach)
       → IsLongDay line B5 540 (get_or xs i no_day) b → B5Of line (get_or xs i no_day) b
   b5_add in' many b long =
@@ -140,7 +139,7 @@ module _ (line : Line) (xs : List DutyDay) (are : AreTheDays (IsLongDuty line) x
         long = long;
       }
 
-  -- no third
+  -- the day isn't the third
   pub b5_few : InWeek (get_or xs i no_day) key → count ≤ 2 → (b : Breach) → B5Of line (get_or xs i no_day) b → ⊥
   b5_few in' few b p =
       let m : IsLongDuty line (get_or xs i no_day) =
@@ -160,16 +159,16 @@ pub record IsLast (line : Line) (day : DutyDay) (weekly : Run) : Type 0 where
   pub before : Before weekly day.rest
   pub last : (run : Run) → IsWeeklyRest line run → Before weekly run → Before run day.rest → ⊥
 
--- ends at the key
+-- the end of the last weekly rest before the day's rest is the key
 abbrev pub SinceWeekly : Line → DutyDay → ℕ → Type 0
 SinceWeekly line day k = (weekly : Run) × IsLast line day weekly × (weekly.past ≡ k)
 
--- the reduced rests behind a weekly rest, up to a day's
+-- the reduced rests after a weekly rest, up to this day's
 abbrev pub ReducedUpTo : Line → Run → DutyDay → DutyDay → Type 0
 ReducedUpTo line weekly day other =
     IsReduced line other × Before weekly other.rest × (other.rest.start ≤ day.rest.start)
 
--- a fourth or later reduced rest
+-- the breach of a fourth or later reduced rest
 pub record B3Of (line : Line) (day : DutyDay) (breach : Breach) : Type 0 where
   pub time : IsInTime day
   pub weekly : Run
@@ -183,7 +182,7 @@ pub record B3Of (line : Line) (day : DutyDay) (breach : Breach) : Type 0 where
   pub since : breach.since ≡ weekly.past
   pub amount : breach.amount + 3 ≡ ordinal
 
--- of the kind, and back
+-- it is a breach of B3
 pub b3_to : (line : Line) (day : DutyDay) (b : Breach) → B3Of line day b → (b.kind ≡ B3) × IsB3 line b
 b3_to line day b p = (
   p.kind,
@@ -203,7 +202,7 @@ b3_to line day b p = (
   },
 )
 
--- from the rule to a day
+-- each breach of B3 is that of some day
 pub b3_back : (line : Line) (days : List DutyDay) → AreTheDays (IsReduced line) days
     → ((x : DutyDay) → Contains days x → IsInTime x) → (b : Breach)
     → (b.kind ≡ B3) × IsB3 line b → (day : DutyDay) × Contains days day × B3Of line day b
@@ -228,7 +227,7 @@ b3_back line days are times b (k, h) =
 
 -- over the rest runs of a line
 module _ (line : Line) (runs : List Run) (all : AreRestRuns line runs) where
-  -- two runs are one, or one is before the other
+  -- two runs are equal, or one is before the other
   three_ways : (a b : Run) → IsRestRun line a → IsRestRun line b → Before a b ⊎ ((a ≡ b) ⊎ Before b a)
   three_ways a b p q =
       let none : Run = record { start = 0; past = 0 } in
@@ -250,7 +249,7 @@ module _ (line : Line) (runs : List Run) (all : AreRestRuns line runs) where
         ]
       ]
 
-  -- a rest before the daily rest ends by the day's start
+  -- a rest of nine hours before the daily rest ends by the day's start
   ends_by_start : (day : DutyDay) (run : Run) → IsDuty line day
       → IsRestOf line 540 run → Before run day.rest → run.past ≤ day.start
   ends_by_start day run d h before =
@@ -266,11 +265,11 @@ module _ (line : Line) (runs : List Run) (all : AreRestRuns line runs) where
         ]
       ]
 
-  -- a weekly rest is long enough for a daily rest
+  -- a weekly rest is also a rest of nine hours
   weekly_is : (run : Run) → IsWeeklyRest line run → IsRestOf line 540 run
   weekly_is run h = record { rests = h.rests; enough = let e : 1440 ≤ minutes_of run = h.enough in omega arith }
 
-  -- rests are in the order of the days
+  -- the rests of later days are later
   rests_rise : (a b : DutyDay) → IsDuty line a → IsDuty line b → a.start ≤ b.start → a.rest.start ≤ b.rest.start
   rests_rise a b d e le = elim (cases_lt b.rest.start a.rest.start) [
     | inl lt ↦
@@ -287,7 +286,7 @@ module _ (line : Line) (runs : List Run) (all : AreRestRuns line runs) where
     | inr ge ↦ ge
   ]
 
-  -- and the days in the order of the rests
+  -- the days of later rests are later
   days_rise : (a b : DutyDay) → IsDuty line a → IsDuty line b → a.rest.start ≤ b.rest.start → a.start ≤ b.start
   days_rise a b d e le =
       let s : a.start ≡ d.last.past = d.start in
@@ -295,7 +294,7 @@ module _ (line : Line) (runs : List Run) (all : AreRestRuns line runs) where
       let f : d.last.past ≤ b.start = ends_by_start b d.last e d.neighbours.first (omega arith) in
       omega arith
 
-  -- the last weekly rests rise with the rests
+  -- a later rest's last weekly rest ends no earlier
   last_rises : (x y : DutyDay) (v w : Run) → x.rest.start ≤ y.rest.start
       → IsLast line x v → IsLast line y w → v.past ≤ w.past
   last_rises x y v w le p q = elim (three_ways v w p.rest.rests q.rest.rests) [
@@ -306,7 +305,7 @@ module _ (line : Line) (runs : List Run) (all : AreRestRuns line runs) where
     ]
   ]
 
-  -- a day has one
+  -- a day has at most one last weekly rest
   last_only : (x : DutyDay) (v w : Run) → IsLast line x v → IsLast line x w → v ≡ w
   last_only x v w p q = elim (three_ways v w p.rest.rests q.rest.rests) [
     | inl before ↦ absurd (p.last w q.rest before q.before)
@@ -316,7 +315,7 @@ module _ (line : Line) (runs : List Run) (all : AreRestRuns line runs) where
     ]
   ]
 
-  -- so they are keys
+  -- so the ends of these weekly rests are keys
   pub weekly_keys : AreKeys (IsReduced line) (SinceWeekly line)
   weekly_keys = record {
     rise = λ x y a b m n early (v, p, e) (w, q, f).
@@ -331,7 +330,7 @@ module _ (line : Line) (runs : List Run) (all : AreRestRuns line runs) where
         omega arith);
   }
 
-  -- a day has one breach
+  -- a day has at most one such breach
   pub b3_is : IsOfDays (B3Of line)
   b3_is = record {
     only = λ day a b p q.
@@ -356,7 +355,7 @@ module _ (line : Line) (runs : List Run) (all : AreRestRuns line runs) where
   }
 
   module _ (weeklies : List Run) (rests : AreRestsOf line 1440 weeklies) where
-    -- no weekly rest has ended
+    -- if no weekly rest has ended by the day's start, the day has no key
     pub b3_none : (day : DutyDay) → IsDuty line day
         → All (λ (run : Run). day.start < run.past) weeklies → (k : ℕ) → SinceWeekly line day k → ⊥
     b3_none day d none k (w, p, e) =
@@ -365,7 +364,7 @@ module _ (line : Line) (runs : List Run) (all : AreRestRuns line runs) where
         let early : w.past ≤ day.start = ends_by_start day w d (weekly_is w p.rest) p.before in
         omega arith
 
-    -- the last to have ended is the key
+    -- the end of the last weekly rest that has ended by the day's start is the key
     pub b3_key : (day : DutyDay) (k : ℕ) → IsDuty line day → IsLastEnd weeklies day.start k → SinceWeekly line day k
     b3_key day k d h =
         let (s, t) = duty_lasts line day d in
@@ -393,7 +392,7 @@ module _ (line : Line) (runs : List Run) (all : AreRestRuns line runs) where
     here : IsReduced line (get_or xs i no_day)
     here = (are.each (get_or xs i no_day)).0 (Contains-get_or xs i no_day within)
 
-    -- the reduced rests up to this one
+    -- it counts the reduced rests up to this day's
     reduced_counts : (weekly : Run) → IsLast line (get_or xs i no_day) weekly → weekly.past ≡ key
         → AreSoMany (ReducedUpTo line weekly (get_or xs i no_day)) EarlierDay count
     reduced_counts weekly last e =
@@ -420,7 +419,7 @@ module _ (line : Line) (runs : List Run) (all : AreRestRuns line runs) where
         ))
         (tally_counts (IsReduced line) (SinceWeekly line) weekly_keys xs are times i within key count r)
 
-    -- a fourth or later one
+    -- the rest is the fourth reduced one, or a later one
     pub b3_add : SinceWeekly line (get_or xs i no_day) key → 3 < count
         → (b : Breach) → b.kind ≡ B3 → b.moment ≡ (get_or xs i no_day).rest.start
         → b.since ≡ key → b.amount + 3 ≡ count → B3Of line (get_or xs i no_day) b
@@ -438,7 +437,7 @@ module _ (line : Line) (runs : List Run) (all : AreRestRuns line runs) where
       amount = amount;
     }
 
-    -- no fourth
+    -- the rest isn't the fourth
     pub b3_few : SinceWeekly line (get_or xs i no_day) key → count ≤ 3
         → (b : Breach) → B3Of line (get_or xs i no_day) b → ⊥
     b3_few (w, p, e) few b q =
@@ -452,12 +451,12 @@ module _ (line : Line) (runs : List Run) (all : AreRestRuns line runs) where
         let m : 3 < q.ordinal = q.many in
         omega arith
 
--- where none has
+-- no run has ended by the minute
 pub end_none : (runs : List Run) (minute n : ℕ) → HaveEnded runs minute n
     → n ≡ 0 → All (λ (run : Run). minute < run.past) runs
 end_none runs minute n cut e k d within = leb-false (get_or runs k d).past minute (cut.1 k d (omega arith) within)
 
--- where one has
+-- some run has ended by the minute
 pub end_some : (runs : List Run) (minute n : ℕ) → All (λ (x : Run). x.start < x.past) runs → AllPairs Before runs
     → HaveEnded runs minute n → n ≤ length runs → 0 < n → IsLastEnd runs minute (get_or runs (n - 1) no_run).past
 end_some runs minute n some order cut bound one = record {

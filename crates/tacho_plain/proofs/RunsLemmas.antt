@@ -1,4 +1,4 @@
--- The loop over spans takes one after the other (`rest_runs`); rest runs by their places, and which are neighbours.
+-- The loop over spans (`rest_runs`); rest runs by their places, and which of them are neighbours.
 use Rattle.std.proofs.Common.{◌≡◌, ℕ, ◌+◌, ◌<◌, inl, inr, List, ◌∷◌}
 use Rattle.std.proofs.Common.{length, get_or, drop, sym, ap, subst, ◌∙◌, arith}
 use Rattle.std.specs.List.{Contains}
@@ -12,7 +12,7 @@ use Rattle.tacho_hours.specs.Runs.{IsRestOf, AreRestsOf, AreRuns, Before}
 use Rattle.tacho_hours.proofs.ExactlyLemmas.{at_index}
 use Rattle.tacho_hours.proofs.RunsLemmas.{Running}
 
--- at the index i of a loop, where the item is s
+-- in a loop at index i, with the span s
 pub running_here : (spans : List Span) (i : ℕ) (s : Span) (past : ℕ) (runs : List Run) (start : ℕ)
     → i < length spans → s ≡ get_or spans i s → Running spans (drop i spans) past runs start
     → Running spans (s ∷ drop (i + 1) spans) past runs start
@@ -21,24 +21,24 @@ running_here spans i s past runs start within is r =
     drop_more spans i s within ∙ ap (λ (x : Span). x ∷ drop (i + 1) spans) (sym is) in
     subst (λ (left : List Span). Running spans left past runs start) e r
 
--- and so are those of so many minutes
+-- the rests of at least `least` minutes are runs in order
 pub rests_are : (line : Line) (least : ℕ) (rests : List Run) → AreRestsOf line least rests → AreRuns rests
 rests_are line least rests are = record {
   some = λ k d within. (at_index (IsRestOf line least) Before rests are k d within).rests.some;
   in_order = are.in_order;
 }
 
--- what an index behind a list of runs gives
+-- the result of an index past the end of a list of runs
 abbrev pub no_run : Run
 no_run = record { start = 0; past = 0 }
 
--- places and neighbours, among runs in order
+-- places and neighbours in an ordered list of runs
 module _ (runs : List Run) (are : AreRuns runs) where
-  -- the place of one of them
+  -- each run has a place
   place_of_run : (run : Run) → Contains runs run → (i : ℕ) × (i < length runs) × (run ≡ get_or runs i no_run)
   place_of_run run (i, within, e) = (i, within, sym e ∙ get_or_default runs i run no_run within)
 
-  -- one that starts after another is behind it
+  -- a run that starts after another has a later place
   behind : (i k : ℕ) → i < length runs → k < length runs → Before (get_or runs i no_run) (get_or runs k no_run) → i < k
   behind i k within within' before =
       let one : (get_or runs i no_run).start < (get_or runs i no_run).past = are.some i no_run within in
@@ -57,7 +57,7 @@ module _ (runs : List Run) (are : AreRuns runs) where
         ])
       ]
 
-  -- between a place and the next there is none
+  -- no run is between the runs at i and i + 1
   pub none_at_between : (i : ℕ) → i + 1 < length runs → (c : Run) → Contains runs c
       → Before (get_or runs i no_run) c → Before c (get_or runs (i + 1) no_run) → ⊥
   none_at_between i within c in' after before =
@@ -67,7 +67,7 @@ module _ (runs : List Run) (are : AreRuns runs) where
       behind k (i + 1) below within (subst (λ (x : Run). Before x (get_or runs (i + 1) no_run)) e before) in
       omega arith
 
-  -- two with none between are at a place and the next
+  -- two runs without a run between them are at i and i + 1 for some i
   pub neighbours_at : (a b : Run) → Contains runs a → Contains runs b
       → Before a b → ((c : Run) → Contains runs c → Before a c → Before c b → ⊥)
       → (i : ℕ) × (i + 1 < length runs) × (a ≡ get_or runs i no_run) × (b ≡ get_or runs (i + 1) no_run)

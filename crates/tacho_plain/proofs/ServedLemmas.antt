@@ -1,4 +1,4 @@
--- The loop over weeks finds those up to which no choice of a week for each weekly rest serves (`lacking_weeks`).
+-- The loop over weeks finds those up to which no choice of weeks for the weekly rests can serve (`lacking_weeks`).
 use Rattle.std.proofs.Common.{◌≡◌, ℕ, ◌+◌, ◌<◌, ◌≤◌, inl, inr, List, [], ◌∷◌, ◌++◌, refl, sym, subst, arith}
 use Rattle.tacho_hours.specs.declared.breach.Breach.{Breach}
 use Rattle.tacho_hours.specs.declared.breach.Kind.TheVariants.{B9}
@@ -13,7 +13,7 @@ use Rattle.tacho_hours.proofs.LackingWeekLemmas.{serves_less, LackingBelow}
 use Rattle.tacho_hours.proofs.LackingWeekLemmas.{lacking_none, lacking_skip, lacking_add, lacking_all}
 use Rattle.tacho_choice.specs.Weeks.{first_of, IsInWeeks}
 
--- nothing is asked of one week
+-- a single week can always be served
 pub one_serves : (line : Line) (a : ℕ) → IsInWeeks line → CanServe line a a
 one_serves line a is = record {
   week_of = first_of;
@@ -24,14 +24,14 @@ one_serves line a is = record {
   each = λ w above below. absurd (omega arith);
 }
 
--- the weeks up to one are judged: from where on it is kept, that it is kept up to this one, and the breaches so far
+-- the weeks up to `u` are judged: the rule is kept from `start` up to `u`, and the breaches so far are found
 pub record AreJudged (line : Line) (horizon first start u : ℕ) (found : List Breach) : Type 0 where
   pub starts : IsStart (CanServe line) (EndedBy horizon) first (serves_less line) start
   pub within : start ≤ u
   pub serves : CanServe line start u
   pub collected : AreCollected (LackingBelow line horizon first u) found
 
--- the first week
+-- before the second week
 pub judged_first : (line : Line) (horizon first start u : ℕ) → start ≡ first → u ≡ first → IsInWeeks line
     → AreJudged line horizon first start u []
 judged_first line horizon first start u e f is =
@@ -56,7 +56,7 @@ module _ (line : Line) (horizon first start u : ℕ) (found : List Breach)
             omega arith
       ]
 
-  -- one more, up to which some choice serves
+  -- the next week, up to which some choice serves
   pub judged_on : (at next : ℕ) → at ≡ u + 1 → next ≡ u + 1 → CanServe line start at
       → AreJudged line horizon first start next found
   judged_on at next e f serves =
@@ -70,7 +70,7 @@ module _ (line : Line) (horizon first start u : ℕ) (found : List Breach)
             r.starts r.within r.serves more h.fails);
       })
 
-  -- one more, up to which none does
+  -- the next week, up to which no choice serves
   pub judged_anew : (at next : ℕ) → at ≡ u + 1 → next ≡ u + 1 → IsInWeeks line → (CanServe line start at → ⊥)
       → week_start (u + 2) ≤ horizon → (new : Breach) → new.kind ≡ B9 → new.moment ≡ week_start (u + 2)
       → new.since ≡ week_start u → new.amount ≡ 0 → AreJudged line horizon first at next (found ++ new ∷ [])
@@ -87,7 +87,7 @@ module _ (line : Line) (horizon first start u : ℕ) (found : List Breach)
             (record { kind_is = kind; fails = fails; moment = moment; since = since; amount = amount });
       }))
 
-  -- where the week behind has not ended, all are found
+  -- if the week after `u` has not ended by the horizon, all breaches are found
   pub judged_all : (base : ℕ) → base ≡ week_start first → horizon < week_start (u + 2)
       → AreCollected (IsLacking line base horizon) found
   judged_all base monday late = lacking_all line base horizon first u monday late found r.collected

@@ -14,20 +14,20 @@ use Rattle.tacho_hours.proofs.ExactlyLemmas.{so_many_as}
 use Rattle.tacho_plain.specs.DayBreaches.{IsInTime, AreTheDays}
 use Rattle.tacho_plain.proofs.DayFoundLemmas.{no_day}
 
--- how many of the days seen have the key, which is the last
+-- how many of the days that were seen have the key `key`, which is the latest
 pub record Tallied (K : DutyDay → ℕ → Type 0) (seen : List DutyDay) (key count : ℕ) : Type 0 where
   pub tally : AreSoMany (λ other. Contains seen other × K other key) EarlierDay count
   pub few : count ≤ length seen
   pub latest : (other : DutyDay) (k : ℕ) → Contains seen other → K other k → k ≤ key
   pub known : (key ≡ 0) ⊎ ((other : DutyDay) × Contains seen other × K other key)
 
--- of the days, those up to one by their starts
+-- the days with this key that satisfy `M`, up to this day by their starts
 pub record IsTallied (M : DutyDay → Type 0) (K : DutyDay → ℕ → Type 0) (key : ℕ) (day other : DutyDay) : Type 0 where
   pub holds : M other
   pub has : K other key
   pub upto : other.start ≤ day.start
 
--- keys rise with the days, and a day has one
+-- later days have greater keys, or the same, and each day has at most one
 pub record AreKeys (M : DutyDay → Type 0) (K : DutyDay → ℕ → Type 0) : Type 0 where
   pub rise : (x y : DutyDay) (a b : ℕ) → M x → M y → EarlierDay x y → K x a → K y b → a ≤ b
   pub one : (x : DutyDay) (a b : ℕ) → M x → K x a → K x b → a ≡ b
@@ -64,7 +64,7 @@ module _ (M : DutyDay → Type 0) (K : DutyDay → ℕ → Type 0) (keys : AreKe
     }
 
     module _ (k : ℕ) (is : K day k) (mine : M day) where
-      -- a day's key is not above a later one's
+      -- no day so far has a greater key than this day
       upto : (x : DutyDay) (a : ℕ) → Contains (seen ++ day ∷ []) x → K x a → a ≤ k
       upto x a in' has = elim (Contains-push_cases seen day x in') [
         | inl old ↦ keys.rise x day a k (hold x old) mine (later x old) has is
@@ -72,7 +72,7 @@ module _ (M : DutyDay → Type 0) (K : DutyDay → ℕ → Type 0) (keys : AreKe
             let e : a ≡ k = keys.one day a k mine (subst (λ (z : DutyDay). K z a) (sym same) has) is in omega arith
       ]
 
-      -- one more with the key
+      -- one more day with the same key
       tally_same : (n : ℕ) → key ≡ k → n ≡ count + 1 → Tallied K (seen ++ day ∷ []) k n
       tally_same n e f =
           let had : AreKept DutyDay EarlierDay (λ x. K x k) seen r.tally.all =
@@ -90,7 +90,7 @@ module _ (M : DutyDay → Type 0) (K : DutyDay → ℕ → Type 0) (keys : AreKe
             known = inr (day, Contains-push seen day, is);
           }
 
-      -- the first with a key
+      -- the first day with a key
       tally_other : (n : ℕ) → key ≢ k → n ≡ 1 → Tallied K (seen ++ day ∷ []) k n
       tally_other n ne f =
           let none : (x : DutyDay) → Contains seen x → K x k → ⊥ = λ x in' has.
@@ -113,7 +113,7 @@ module _ (M : DutyDay → Type 0) (K : DutyDay → ℕ → Type 0) (keys : AreKe
             known = inr (day, Contains-push seen day, is);
           }
 
-      -- a day with its key
+      -- a day with a key is added
       pub tally_next : (n : ℕ) → (key ≡ k → n ≡ count + 1) → (key ≢ k → n ≡ 1) → Tallied K (seen ++ day ∷ []) k n
       tally_next n same other = elim (cases_lt key k) [
         | inl lt ↦ let ne : key ≢ k = omega arith in tally_other n ne (other ne)
@@ -123,10 +123,10 @@ module _ (M : DutyDay → Type 0) (K : DutyDay → ℕ → Type 0) (keys : AreKe
         ]
       ]
 
-  -- over a list of days, at an index
+  -- in a list of days, at an index
   module _ (xs : List DutyDay) (are : AreTheDays M xs)
       (times : All (λ (x : DutyDay). IsInTime x) xs) (i : ℕ) (within : i < length xs) where
-    -- an earlier index is an earlier day
+    -- days that start no later than the day at i have indices up to i
     low_index : (j : ℕ) → j < length xs → (get_or xs j no_day).start ≤ (get_or xs i no_day).start → j < i + 1
     low_index j in' le = elim (cases_lt i j) [
       | inl lt ↦
@@ -138,7 +138,7 @@ module _ (M : DutyDay → Type 0) (K : DutyDay → ℕ → Type 0) (keys : AreKe
       | inr ge ↦ omega arith
     ]
 
-    -- and the other way
+    -- days with indices up to i start no later than the day at i
     high_index : (j : ℕ) → j < i + 1 → (get_or xs j no_day).start ≤ (get_or xs i no_day).start
     high_index j below = elim (cases_lt j i) [
       | inl lt ↦
@@ -154,14 +154,14 @@ module _ (M : DutyDay → Type 0) (K : DutyDay → ℕ → Type 0) (keys : AreKe
           omega arith
     ]
 
-    -- what was seen holds
+    -- each day that was seen satisfies `M`
     pub seen_holds : (n : ℕ) (x : DutyDay) → n ≤ length xs → Contains (take n xs) x → M x
     seen_holds n x most (j, below, is) =
         let l : length (take n xs) ≡ n = length-take-le n xs most in
         let e : get_or (take n xs) j x ≡ get_or xs j x = get_or-take n xs j x (omega arith) in
         (are.each x).0 (j, omega arith, sym e ∙ is)
 
-    -- the tally counts the days up to this one
+    -- the tally counts the days with this key up to this day
     pub tally_counts : (key count : ℕ) → Tallied K (take (i + 1) xs) key count
         → AreSoMany (IsTallied M K key (get_or xs i no_day)) EarlierDay count
     tally_counts key count r =
@@ -187,7 +187,7 @@ module _ (M : DutyDay → Type 0) (K : DutyDay → ℕ → Type 0) (keys : AreKe
         ))
         r.tally
 
-    -- the tally at the next index
+    -- the day at i has a key, and is tallied
     pub tally_at : (key count k n : ℕ) → Tallied K (take i xs) key count → K (get_or xs i no_day) k
         → (key ≡ k → n ≡ count + 1) → (key ≢ k → n ≡ 1) → Tallied K (take (i + 1) xs) k n
     tally_at key count k n r is same other =
@@ -197,7 +197,7 @@ module _ (M : DutyDay → Type 0) (K : DutyDay → ℕ → Type 0) (keys : AreKe
         (seen_before DutyDay EarlierDay M xs i no_day within are.in_order)
         (λ x h. seen_holds i x (omega arith) h) k is mine n same other)
 
-    -- where the day has no key
+    -- the day at i has no key, and is skipped
     pub tally_skip_at : (key count : ℕ) → Tallied K (take i xs) key count
         → ((k : ℕ) → K (get_or xs i no_day) k → ⊥) → Tallied K (take (i + 1) xs) key count
     tally_skip_at key count r none =
@@ -206,7 +206,7 @@ module _ (M : DutyDay → Type 0) (K : DutyDay → ℕ → Type 0) (keys : AreKe
         (seen_before DutyDay EarlierDay M xs i no_day within are.in_order)
         (λ x h. seen_holds i x (omega arith) h) none)
 
--- days begin a minute later each
+-- each day starts at least a minute after the one before
 pub index_below : (xs : List DutyDay) → AllPairs EarlierDay xs
     → All (λ (x : DutyDay). IsInTime x) xs → (i : ℕ) → i < length xs → i ≤ (get_or xs i no_day).start
 index_below xs order times zero within = omega arith
@@ -219,7 +219,7 @@ index_below xs order times (suc i) within =
     let b : (get_or xs i no_day).past + 540 ≤ (get_or xs i no_day).rest.past = t.enough in
     omega arith
 
--- a tally is below the number of minutes
+-- a tally's count is at most 68374080
 pub tally_fits : (K : DutyDay → ℕ → Type 0) (xs : List DutyDay)
     → AllPairs EarlierDay xs → All (λ (x : DutyDay). IsInTime x) xs → (i key count : ℕ)
     → i < length xs → Tallied K (take i xs) key count → count ≤ 68374080

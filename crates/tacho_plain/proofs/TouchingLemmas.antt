@@ -1,4 +1,4 @@
--- The rests that have a minute in a range stand together in their list (`rests`).
+-- The rests that have a minute in a range are a contiguous part of their list (`rests`).
 use Rattle.std.proofs.Common.{◌≡◌, ℕ, ◌+◌, ◌-◌, ◌<◌, ◌≤◌, inl, inr, List, length, get_or}
 use Rattle.std.proofs.Common.{take, drop, true, false, sym, ap, subst, ◌∙◌, arith}
 use Rattle.std.specs.Prelude.{◌↔◌}
@@ -13,7 +13,7 @@ use Rattle.tacho_plain.proofs.RunsLemmas.{no_run}
 use Rattle.tacho_plain.proofs.DaysLemmas.{HaveEnded}
 use Rattle.tacho_plain.specs.Rests.{AreInTime}
 
--- the first n start before a minute, and the others don't
+-- the first n rests start before a minute, and the others don't
 abbrev pub HaveStarted : List Run → ℕ → ℕ → Type 0
 HaveStarted rests minute n =
     IsPartitionPoint (λ (s : Run). ltb s.start minute ≡ true) (λ (s : Run). ltb s.start minute ≡ false) rests n
@@ -21,7 +21,7 @@ HaveStarted rests minute n =
 module _ (rests : List Run) (x : AreInTime rests) (from to first past : ℕ) (range : from ≤ to)
     (ended : HaveEnded rests from first) (started : HaveStarted rests to past)
     (bound : first ≤ length rests) (bound' : past ≤ length rests) where
-  -- those that have ended have started
+  -- the rests that have ended by `from` have started before `to`
   pub in_range : first ≤ past
   in_range = elim (cases_lt past first) [
     | inl lt ↦ absurd (
@@ -34,18 +34,18 @@ module _ (rests : List Run) (x : AreInTime rests) (from to first past : ℕ) (ra
     | inr ge ↦ ge
   ]
 
-  -- how many there are
+  -- the length of the part
   part_length : length (take (past - first) (drop first rests)) ≡ past - first
   part_length =
       let l : length (drop first rests) ≡ length rests - first = length-drop first rests in
       length-take-le (past - first) (drop first rests) (omega arith)
 
-  -- what stands at a place
+  -- the rest at a place of the part
   part_at : (k : ℕ) (d : Run) → k < past - first
       → get_or (take (past - first) (drop first rests)) k d ≡ get_or rests (first + k) d
   part_at k d within = get_or-take (past - first) (drop first rests) k d within ∙ get_or-drop first rests k d
 
-  -- those between have a minute in the range
+  -- each rest of the part has a minute in the range
   part_to : (run : Run) → Contains (take (past - first) (drop first rests)) run
       → Contains rests run × (run.start < to) × (from < run.past)
   part_to run (k, within, is) =
@@ -62,7 +62,7 @@ module _ (rests : List Run) (x : AreInTime rests) (from to first past : ℕ) (ra
       subst (λ (z : Run). Contains rests z × (z.start < to) × (from < z.past))
       e (Contains-get_or rests (first + k) no_run (omega arith), a, b)
 
-  -- and no others have
+  -- each rest that has a minute in the range is in the part
   part_from : (run : Run) → Contains rests run → run.start < to
       → from < run.past → Contains (take (past - first) (drop first rests)) run
   part_from run (i, within, is) early late =
@@ -89,7 +89,7 @@ module _ (rests : List Run) (x : AreInTime rests) (from to first past : ℕ) (ra
       part_at (i - first) run (omega arith) ∙ ap (λ (n : ℕ). get_or rests n run) back ∙ is in
       (i - first, omega arith, f)
 
-  -- so these are those with a minute in the range
+  -- so the part is the rests that have a minute in the range
   pub part_each : (run : Run)
       → Contains (take (past - first) (drop first rests)) run
       ↔ (Contains rests run × (run.start < to) × (from < run.past))

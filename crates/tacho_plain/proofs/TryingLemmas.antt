@@ -1,5 +1,5 @@
--- Whether some choice serves weeks and leaves the last of them so is told by what is left of the week before it, and
--- each of the ten outcomes is tried (`can_leave`, `can_serve`).
+-- Whether a choice serves weeks and leaves the last of them with an outcome depends on the outcomes of the week before. All ten outcomes
+-- are tried (`can_leave`, `can_serve`).
 use Rattle.std.proofs.Common.{◌≡◌, ◌≢◌, ℕ, ◌+◌, ◌-◌, ◌<◌, ◌≤◌, inl, inr, Bool, true, List}
 use Rattle.std.proofs.Common.{length, get_or, sym, subst, arith}
 use Rattle.std.specs.Prelude.{◌↔◌, ◌&&◌, not}
@@ -16,11 +16,11 @@ use Rattle.tacho_choice.proofs.OutcomesLemmas.{place_below, place_only}
 use Rattle.tacho_choice.proofs.SeenLemmas.{asks_is, seen_whole}
 use Rattle.tacho_plain.specs.Choices.{AreWeeksOf}
 
--- of the outcomes at the first n places none is such
+-- none of the first n outcomes satisfies `P`
 abbrev pub NoneBelow : (Outcome → Type 0) → ℕ → Type 0
 NoneBelow P n = (outcome : Outcome) → place_of outcome < n → P outcome → ⊥
 
--- nor is the next
+-- the next outcome doesn't either
 pub none_below : (P : Outcome → Type 0) (n : ℕ) (next : Outcome) → place_of next ≡ n → (P next → ⊥)
     → NoneBelow P n → NoneBelow P (n + 1)
 none_below P n next at fails none outcome below is = elim (cases_lt (place_of outcome) n) [
@@ -30,7 +30,7 @@ none_below P n next at fails none outcome below is = elim (cases_lt (place_of ou
       fails (subst P (place_only outcome next same) is)
 ]
 
--- and so none of the ten
+-- so none of the ten does
 pub none_of_ten : (P : Outcome → Type 0) (n : ℕ) → 10 ≤ n → NoneBelow P n → (outcome : Outcome) → P outcome → ⊥
 none_of_ten P n all none outcome is =
     none outcome (let below : place_of outcome < 10 = place_below outcome in omega arith) is
@@ -42,7 +42,7 @@ module _ (line : Line) (start : ℕ) (weeks : List WeekOfRests) (is : IsInWeeks 
       let early : start + length weeks ≤ 6788 = are.early in
       seen_whole line (start + i) (get_or weeks i week_none) (omega arith) (are.each i within)
 
-  -- what is left of the first week
+  -- the outcomes of the first week
   pub leave_first : (first at : ℕ) (left : Outcome) → at < length weeks → at ≡ first
       → CanReach line (start + first) (start + at) left ↔ IsFirst (get_or weeks at week_none).rests left
   leave_first first at left within same =
@@ -50,7 +50,7 @@ module _ (line : Line) (start : ℕ) (weeks : List WeekOfRests) (is : IsInWeeks 
       same
       (start_law line (start + at) (get_or weeks at week_none).rests left is (are.each at within).rests)
 
-  -- and of each week behind it
+  -- the outcomes of each later week, from those of the week before
   pub leave_next : (first at : ℕ) (left : Outcome) (asks : Bool) → at < length weeks → first ≤ at → at ≢ first
       → asks ≡ (not (get_or weeks (at - 1) week_none).whole && not (get_or weeks at week_none).whole)
       → CanReach line (start + first) (start + at) left
@@ -72,7 +72,7 @@ module _ (line : Line) (start : ℕ) (weeks : List WeekOfRests) (is : IsInWeeks 
       (reach_law line (start + first) u old.rests new.rests asks left is
       (omega arith) (are.each (at - 1) (omega arith)).rests here.rests pair)
 
-  -- some choice serves where it leaves some outcome
+  -- some choice serves iff some outcome can be reached
   pub serve_where : (first at : ℕ) → at < length weeks
       → CanServe line (start + first) (start + at)
       ↔ ((left : Outcome) × CanReach line (start + first) (start + at) left)

@@ -21,7 +21,7 @@ use Rattle.tacho_hours.proofs.RunsLemmas.{line_before}
 use Rattle.tacho_hours.proofs.LongDrivingLemmas.{too_much_only, too_little}
 use Rattle.tacho_plain.specs.WeekBreaches.{IsLongWeek, IsLongPair, IsOfWeeks, AreOfWeeks}
 
--- what holds after a week's own breach
+-- the breaches of the earlier weeks, and the week's own breach
 abbrev pub WithWeek : (ℕ → Activity) → ℕ → ℕ → List Breach → Type 0
 WithWeek line first n found = AreCollected (λ breach. IsOfWeeks line first n breach ⊎ IsLongWeek line n breach) found
 
@@ -31,21 +31,21 @@ weeks_none line first = exactly_none (λ breach. IsOfWeeks line first first brea
     let a : first ≤ h.week = h.from in let b : h.week < first = h.before in omega arith)
 
 module _ (line : ℕ → Activity) (first n : ℕ) (found : List Breach) where
-  -- a breach of an earlier week is judged from an earlier minute
+  -- the breach of an earlier week has an earlier since
   earlier_since : (breach : Breach) → IsOfWeeks line first n breach → breach.since < week_start n
   earlier_since breach h = let b : h.week < n = h.before in elim h.is [
     | inl one ↦ let e : breach.since ≡ week_start h.week = one.since in omega arith
     | inr two ↦ let e : breach.since ≡ week_start h.week = two.since in omega arith
   ]
 
-  -- no breach of the week
+  -- the week has no breach of its own
   pub week_skip : AreOfWeeks line first n found
       → driving line (week_start n) (week_start (n + 1)) ≤ 3360 → WithWeek line first n found
   week_skip r few =
       exactly_skip (λ breach. IsOfWeeks line first n breach) (λ breach. IsLongWeek line n breach) Apart
       found r (λ breach h. too_little line B6 3360 (week_start n) (week_start (n + 1)) breach few h)
 
-  -- the breach of the week
+  -- the week has a breach of its own
   pub week_add : (new : Breach) → AreOfWeeks line first n found
       → IsLongWeek line n new → WithWeek line first n (found ++ new ∷ [])
   week_add new r is =
@@ -57,11 +57,11 @@ module _ (line : ℕ → Activity) (first n : ℕ) (found : List Breach) where
       let c : new.since ≡ week_start n = is.since in
       omega arith)
 
-  -- after both
+  -- a breach of the earlier weeks, of this week, or of this week and the next
   Both : Breach → Type 0
   Both breach = (IsOfWeeks line first n breach ⊎ IsLongWeek line n breach) ⊎ IsLongPair line n breach
 
-  -- the next week's beginning
+  -- these are the breaches of the weeks before the next one
   both_next : first ≤ n → (breach : Breach) → Both breach ↔ IsOfWeeks line first (n + 1) breach
   unfolding Both
   both_next some breach = (
@@ -89,7 +89,7 @@ module _ (line : ℕ → Activity) (first n : ℕ) (found : List Breach) where
     ],
   )
 
-  -- no breach of the two weeks
+  -- this week and the next have no breach
   pub pair_skip : first ≤ n → WithWeek line first n found
       → driving line (week_start n) (week_start (n + 2)) ≤ 5400 → AreOfWeeks line first (n + 1) found
   unfolding Both
@@ -98,7 +98,7 @@ module _ (line : ℕ → Activity) (first n : ℕ) (found : List Breach) where
       (λ breach. IsLongPair line n breach) Apart found r
       (λ breach h. too_little line B7 5400 (week_start n) (week_start (n + 2)) breach few h))
 
-  -- the breach of the two weeks
+  -- this week and the next have a breach
   pub pair_add : (new : Breach) → first ≤ n → WithWeek line first n found
       → IsLongPair line n new → AreOfWeeks line first (n + 1) (found ++ new ∷ [])
   unfolding Both
@@ -116,7 +116,7 @@ module _ (line : ℕ → Activity) (first n : ℕ) (found : List Breach) where
         | inr one ↦ let e : B6 ≡ B7 = sym one.kind_is ∙ (agree.kind ∙ is.kind_is) in cc
       ]))
 
--- a driving minute is on the examined line
+-- a driving minute is within the examined spans
 pub drives_between : (spans : List Span) (base past m from to k : ℕ) → IsExamined spans base past
     → IsDrivingMinute (line_of spans) from to k m → (base ≤ m) × (m < past)
 drives_between spans base past m from to k x h = (
@@ -138,7 +138,7 @@ drives_between spans base past m from to k x h = (
 
 module _ (spans : List Span) (base past first end : ℕ) (x : IsExamined spans base past)
     (from : week_start (first + 1) ≡ base) (past_end : past ≤ week_start end) where
-  -- a breach of the rules on weeks is of one of the weeks
+  -- a breach of the rules on weeks is one of these weeks
   in_weeks : (kind : Kind) (breach : Breach) → breach.kind ≡ kind
       → IsWeekBreach (line_of spans) kind breach → IsOfWeeks (line_of spans) first end breach
   in_weeks B6 breach e h =
@@ -178,7 +178,7 @@ module _ (spans : List Span) (base past first end : ℕ) (x : IsExamined spans b
   in_weeks B9 breach e h = absurd h
   in_weeks B10 breach e h = absurd h
 
-  -- and the other way round
+  -- a breach of one of these weeks is a breach of the rules on weeks
   of_rules : (breach : Breach) → IsOfWeeks (line_of spans) first end breach
       → IsWeekBreach (line_of spans) breach.kind breach
   of_rules breach h = elim h.is [
@@ -190,7 +190,7 @@ module _ (spans : List Span) (base past first end : ℕ) (x : IsExamined spans b
         subst (λ (kind : Kind). IsWeekBreach (line_of spans) kind breach) (sym two.kind_is) is
   ]
 
-  -- put in order, the breaches of these weeks are all
+  -- the breaches of these weeks, put in order, are all
   pub weeks_all : (found others : List Breach) → AreOfWeeks (line_of spans) first end found
       → ((breach : Breach) → Contains others breach ↔ Contains found breach)
       → AllPairs Earlier others → AreWeekBreaches (line_of spans) others

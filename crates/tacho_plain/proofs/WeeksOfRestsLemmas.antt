@@ -1,4 +1,4 @@
--- A week, as the weekly rests that touch it are seen one by one (`week_of_rests`), and weeks one after the other.
+-- A week is built from the weekly rests that touch it, one by one (`week_of_rests`); weeks follow one another.
 use Rattle.std.proofs.Common.{◌≡◌, ℕ, ◌+◌, ◌<◌, ◌≤◌, ◌⊎◌, inl, inr, List, [], ◌∷◌, ◌++◌}
 use Rattle.std.proofs.Common.{length, get_or, take, sym, subst, arith}
 use Rattle.std.specs.Prelude.{◌↔◌}
@@ -18,15 +18,15 @@ use Rattle.tacho_plain.proofs.KeptLemmas.{seen_before}
 use Rattle.tacho_plain.proofs.RunsLemmas.{no_run}
 
 module _ (rests : List Run) (w : ℕ) where
-  -- the week, by the first n of the rests
+  -- the week, from the first n rests
   abbrev pub SeenWeek : ℕ → WeekOfRests → Type 0
   SeenWeek n week = IsWeekOfRests (λ rest. Contains (take n rests) rest) w week
 
-  -- by none
+  -- from no rest
   pub seen_week_none : SeenWeek 0 week_none
   seen_week_none = seen_none (λ rest. Contains (take 0 rests) rest) w (λ rest (k, within, is). omega arith)
 
-  -- by one more
+  -- from one rest more
   module _ (i : ℕ) (within : i < length rests) where
     one_more : (rest : Run) → (Contains (take i rests) rest ⊎ (rest ≡ get_or rests i no_run))
         ↔ Contains (take (i + 1) rests) rest
@@ -57,7 +57,7 @@ module _ (rests : List Run) (w : ℕ) where
         omega arith))
         (omega arith) seen)
 
-  -- by all that touch it
+  -- from all rests that touch it
   pub seen_week_all : (line : Line) (weekly : List Run) (n : ℕ) (week : WeekOfRests) → AreRestsOf line 1440 weekly
       → IsInWeeks line → ((rest : Run) → Contains rests rest
       ↔ (Contains weekly rest × (rest.start < week_start (w + 1)) × (week_start w < rest.past)))
@@ -73,11 +73,11 @@ module _ (rests : List Run) (w : ℕ) where
       ))
       seen
 
--- the weeks from a number on: before the first
+-- the weeks from a number on, before the first one
 pub weeks_none : (line : Line) (first : ℕ) → first ≤ 6788 → AreWeeksOf line first []
 weeks_none line first early = record { each = λ i within. absurd (omega arith); early = omega arith }
 
--- and with one more
+-- one week more
 pub weeks_more : (line : Line) (first next : ℕ) (weeks : List WeekOfRests) (week : WeekOfRests) → next ≤ 6787
     → first + length weeks ≡ next → IsWeekOfRests (IsWeeklyRest line) next week → AreWeeksOf line first weeks
     → AreWeeksOf line first (weeks ++ week ∷ [])

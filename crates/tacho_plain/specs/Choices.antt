@@ -1,12 +1,12 @@
--- Private to tacho_plain: The weeks for which the choices of a week for each weekly rest are tried (Regulation (EC)
--- 561/2006, Articles 8(6), first subparagraph, and 8(9)).
+-- Private to tacho_plain: The weeks for which all choices of a week for each weekly rest are tried (Regulation (EC) 561/2006, Articles
+-- 8(6), first subparagraph, and 8(9)).
 use Rattle.std.specs.Prelude.{ℕ, ◌+◌, ◌<◌, ◌≤◌, List, length, slice_index_or}
 use Rattle.tacho_hours.specs.Line.{Line}
 use Rattle.tacho_hours.specs.Weeks.{IsWeeklyRest}
 use Rattle.tacho_choice.specs.declared.week.WeekOfRests.{WeekOfRests}
 use Rattle.tacho_choice.specs.Weeks.{IsWeekOfRests, week_none}
 
--- the weeks of a line from a number on, each by the weekly rests that touch it, up to the last week that is numbered
+-- the weeks of a line from a number on, each built from the weekly rests that touch it, up to the last numbered week
 pub record AreWeeksOf (line : Line) (start : ℕ) (weeks : List WeekOfRests) : Type 0 where
   pub each : (i : ℕ) → i < length weeks
       → IsWeekOfRests (IsWeeklyRest line) (start + i) (slice_index_or weeks i week_none)

@@ -1,4 +1,4 @@
--- Private to tacho_plain: Words of the rules on daily rests (Regulation (EC) 561/2006, Articles 8(2) and 8(4)).
+-- Private to tacho_plain: Terms of the rules on daily rests (Regulation (EC) 561/2006, Articles 8(2) and 8(4)).
 use Rattle.std.specs.Prelude.{◌≡◌, ℕ, ◌+◌, ◌-◌, ◌≤◌, List, Contains, min}
 use Rattle.tacho_hours.specs.declared.run.Run.{Run}
 use Rattle.tacho_hours.specs.declared.days.DutyDay.{DutyDay}
@@ -15,7 +15,7 @@ pub record IsShortRest (day : DutyDay) (breach : Breach) : Type 0 where
   pub since : breach.since ≡ day.start
   pub amount : breach.amount + min day.rest.past (day.start + minutes_of_day) ≡ daily_rest + day.past
 
--- the last of the runs to end by a minute ends there
+-- the last of the runs that have ended by `minute` ended at `ended`
 pub record IsLastEnd (runs : List Run) (minute ended : ℕ) : Type 0 where
   pub run : Run
   pub among : Contains runs run

@@ -1,5 +1,5 @@
--- Private to tacho_plain: Words of the pass over duty days: breaches of daily rests (Regulation (EC) 561/2006, Articles 8(2) and
--- 8(4)) and of a day's driving (Article 6(1)).
+-- Private to tacho_plain: Terms of the pass over duty days: breaches of daily rests (Regulation (EC) 561/2006, Articles 8(2) and 8(4)) and
+-- of a day's driving (Article 6(1)).
 use Rattle.std.specs.Prelude.{◌≡◌, ◌+◌, ◌<◌, ◌≤◌, ◌⊎◌, List}
 use Rattle.tacho_hours.specs.declared.days.DutyDay.{DutyDay}
 use Rattle.tacho_hours.specs.declared.breach.Breach.{Breach}
@@ -22,7 +22,7 @@ pub record IsInTime (day : DutyDay) : Type 0 where
   pub rests : day.past ≡ day.rest.start
   pub enough : day.past + daily_rest ≤ day.rest.past
 
--- the days that hold, in order of time
+-- the days that satisfy `P`, in order of time
 abbrev pub AreTheDays : (DutyDay → Type 0) → List DutyDay → Type 0
 AreTheDays P days = AreExactly P EarlierDay days
 

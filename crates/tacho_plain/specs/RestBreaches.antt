@@ -1,4 +1,4 @@
--- Private to tacho_plain: Words of the pass over weekly rests (Regulation (EC) 561/2006, Articles 8(6b) and 8(7); 8(6b) as amended by (EU)
+-- Private to tacho_plain: Terms of the pass over weekly rests (Regulation (EC) 561/2006, Articles 8(6b) and 8(7); 8(6b) as amended by (EU)
 -- 2020/1054).
 use Rattle.std.specs.Prelude.{◌≡◌, ℕ, ◌+◌, ◌≤◌}
 use Rattle.tacho_hours.specs.declared.run.Run.{Run}
@@ -16,7 +16,7 @@ pub record IsLastRun (line : Line) (run : Run) : Type 0 where
   pub no_end : run.past ≡ FAR
   pub early : run.start ≤ latest
 
--- the debt of the week whose main rest it is, but for who pays (Article 8(6b))
+-- the debt of the week of a main rest, except for its payer (Article 8(6b))
 pub record IsDebtOf (line : Line) (horizon : ℕ) (main : Run) (debt : Debt) : Type 0 where
   pub is : IsMainRest line horizon debt.week main
   pub owes : Owes line horizon debt.week debt.amount

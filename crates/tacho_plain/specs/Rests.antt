@@ -1,10 +1,10 @@
--- Private to tacho_plain: Words of the passes over rests in order of time.
+-- Private to tacho_plain: Terms of the passes over rests in order of time.
 use Rattle.std.specs.Prelude.{◌<◌, ◌≤◌, List, All, AllPairs}
 use Rattle.tacho_hours.specs.declared.run.Run.{Run}
 use Rattle.tacho_hours.specs.Limits.{latest}
 use Rattle.tacho_hours.specs.Runs.{Before}
 
--- rests in order of time, none empty, that start by 2100
+-- the rests are in order of time, none is empty, and each starts by the end of 2099
 pub record AreInTime (rests : List Run) : Type 0 where
   pub some : All (λ run. run.start < run.past) rests
   pub in_order : AllPairs Before rests

@@ -1,5 +1,5 @@
--- Private to tacho_plain: Words of the pass over weeks: driving in a week and in two neighbouring weeks
--- (Regulation (EC) 561/2006, Articles 6(2) and 6(3)).
+-- Private to tacho_plain: Terms of the pass over weeks: driving in a week and in two neighbouring weeks (Regulation (EC) 561/2006, Articles
+-- 6(2) and 6(3)).
 use Rattle.std.specs.Prelude.{ℕ, ◌+◌, ◌<◌, ◌≤◌, ◌⊎◌, List}
 use Rattle.tacho_hours.specs.declared.breach.Breach.{Breach}
 use Rattle.tacho_hours.specs.declared.breach.Kind.TheVariants.{B6, B7}
@@ -17,13 +17,13 @@ IsLongWeek line w breach = IsTooMuch line B6 driving_in_week (week_start w) (wee
 abbrev pub IsLongPair : Line → ℕ → Breach → Type 0
 IsLongPair line w breach = IsTooMuch line B7 driving_in_two_weeks (week_start w) (week_start (w + 2)) breach
 
--- a breach of a week from one number up to another
+-- a breach of one of the weeks from `first` to before `end`
 pub record IsOfWeeks (line : Line) (first end : ℕ) (breach : Breach) : Type 0 where
   pub week : ℕ
   pub from : first ≤ week
   pub before : week < end
   pub is : IsLongWeek line week breach ⊎ IsLongPair line week breach
 
--- the breaches of the weeks from one number up to another
+-- the breaches of the weeks from `first` to before `end`
 abbrev pub AreOfWeeks : Line → ℕ → ℕ → List Breach → Type 0
 AreOfWeeks line first end found = AreCollected (λ breach. IsOfWeeks line first end breach) found

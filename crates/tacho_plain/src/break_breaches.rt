@@ -16,7 +16,7 @@ use tacho_hours::limits::DRIVING_BEFORE_BREAK;
 use tacho_hours::{Breach, Kind, Run};
 use tacho_time::{Minute, Span};
 
-/// The breach from `from` to before `to`, where too many minutes there are driving.
+/// Returns the breach from `from` to before `to`, if there are too many driving minutes.
 fn breach_between(examined: &Examined<'_>, from: u32, to: u32) -> Option<Breach>
     requires { IsExamined examined.now.spans.now examined.now.base examined.now.past }
     ensures { MatchOption result
@@ -33,7 +33,7 @@ fn breach_between(examined: &Examined<'_>, from: u32, to: u32) -> Option<Breach>
     })
 }
 
-/// The breaches between neighbouring complete breaks, in order of time.
+/// Finds the breaches between neighbouring complete breaks, in order of time.
 fn long_periods(
     alloc: Global,
     examined: &Examined<'_>,
@@ -55,7 +55,7 @@ fn long_periods(
     Ok(found)
 }
 
-/// The breaches of the rule on breaks (Article 7) from `base` to before `past`, in order of time.
+/// Returns the breaches of the rule on breaks (Article 7) from `base` to before `past`, in order of time.
 pub fn breaks(
     alloc: Global,
     spans: &[Span],

@@ -7,15 +7,14 @@ use std::alloc::{AllocError, Global};
 use tacho_hours::Run;
 use tacho_hours::limits::{FIRST_PART_OF_BREAK, LAST_PART_OF_BREAK, WHOLE_BREAK};
 
-/// Whether a run of so many minutes completes a break, after a first part or without one.
+/// True if a run of this many minutes completes a break, with or without a first part before it.
 fn completes(minutes: u32, has_first_part: bool) -> bool
     ensures { IsTrue result ↔ ((whole_break ≤ minutes) ⊎ ((last_part_of_break ≤ minutes) × IsTrue has_first_part)) }
 {
     minutes >= WHOLE_BREAK || (minutes >= LAST_PART_OF_BREAK && has_first_part)
 }
 
-/// The complete breaks among rest runs, in order of time: 45 minutes, or 15 and then 30
-/// (Article 7 of Regulation (EC) 561/2006).
+/// Returns the complete breaks among rest runs, in order of time: 45 minutes, or 15 and then 30 (Article 7 of Regulation (EC) 561/2006).
 pub fn complete_breaks(alloc: Global, runs: &[Run]) -> Result<Vec<Run>, AllocError>
     requires { AreRuns runs.now }
     ensures { IfOk result (λ breaks. AreCompleteBreaks runs.now breaks.items) }

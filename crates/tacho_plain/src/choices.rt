@@ -15,7 +15,7 @@ use tacho_choice::{Outcome, WeekOfRests, WeeklyRests};
 use tacho_hours::Run;
 use tacho_time::{Week, first_minute};
 
-/// A week, by the weekly rests that touch it.
+/// Returns a week, built from the weekly rests that touch it.
 fn week_of_rests(weekly: &[Run], number: u32) -> WeekOfRests
     requires in_time { AreInTime weekly.now }
     requires early { number ≤ 6786 }
@@ -32,7 +32,7 @@ fn week_of_rests(weekly: &[Run], number: u32) -> WeekOfRests
     week
 }
 
-/// The weeks from one number to before another, each by the weekly rests that touch it.
+/// Returns the weeks from one number to before another, each built from the weekly rests that touch it.
 pub fn weeks_of_rests(
     alloc: Global,
     weekly: &[Run],
@@ -53,7 +53,7 @@ pub fn weeks_of_rests(
     Ok(weeks)
 }
 
-/// Whether a week is left so, by whether the rest over its start is counted before.
+/// True if the week can have the outcome `left`, where `before` says whether the rest over its start is counted before.
 fn is_left(week: WeeklyRests, before: bool, left: Outcome) -> bool
     ensures { IsTrue result ↔ ((may week before left.crossing ≡ true)
         × (left.counted ≡ counted_of week before left.crossing)) }
@@ -65,29 +65,29 @@ fn is_left(week: WeeklyRests, before: bool, left: Outcome) -> bool
     week.allows(before, left.crossing) && outcome.place() == left.place()
 }
 
-/// Whether a week can be left so behind what is left of the week before.
+/// True if a week can have the outcome `left` after the outcome `old` of the week before.
 fn is_next(week: WeeklyRests, asks: bool, old: Outcome, left: Outcome) -> bool
     ensures { IsTrue result ↔ IsNext week asks old left }
 {
     is_left(week, old.crossing, left) && (!asks || old.counted.serves(left.counted))
 }
 
-/// Whether the first week can be left so, of which nothing is asked with the week before.
+/// True if the first week can have the outcome `left`. Nothing is asked of it together with the week before.
 fn is_first(week: WeeklyRests, left: Outcome) -> bool
     ensures { IsTrue result ↔ IsFirst week left }
 {
     is_left(week, false, left) || (week.entering.is_some() && is_left(week, true, left))
 }
 
-/// Whether something is asked of a week and the next: where neither is wholly at rest.
+/// True if something is asked of a week and the next one together: neither is wholly at rest.
 fn is_asked(week: WeekOfRests, next: WeekOfRests) -> bool
     ensures { result ≡ (not week.whole && not next.whole) }
 {
     !week.whole && !next.whole
 }
 
-/// Whether some choice serves the weeks from one place to another and leaves the last of them so: each outcome of the
-/// week before is tried, and so back to the first.
+/// True if some choice serves the weeks from one place to another and leaves the last of them with the outcome `left`. It tries each
+/// outcome of the week before, and so on back to the first week.
 fn can_leave(weeks: &[WeekOfRests], first: usize, at: usize, left: Outcome) -> bool
     requires range { first ≤ at }
     requires within { at < length weeks.now }
@@ -108,7 +108,7 @@ fn can_leave(weeks: &[WeekOfRests], first: usize, at: usize, left: Outcome) -> b
     false
 }
 
-/// Whether some choice serves the weeks from one place to another (Articles 8(6), first subparagraph, and 8(9)).
+/// True if some choice serves the weeks from one place to another (Articles 8(6), first subparagraph, and 8(9)).
 pub fn can_serve(weeks: &[WeekOfRests], first: usize, at: usize) -> bool
     requires range { first ≤ at }
     requires within { at < length weeks.now }

@@ -18,8 +18,8 @@ use tacho_hours::limits::{REGULAR_WEEKLY_REST, WEEKS_TO_PAY};
 use tacho_hours::{Breach, Debt, Kind, Run, known_minutes};
 use tacho_time::{Minute, Week, first_minute, week_of};
 
-/// The debt of the week whose main rest a rest is, with no payer, where the rest is too short and the last run starts
-/// in a later week (Article 8(6b)). `weekly` are the weekly rests.
+/// Returns the debt, without a payer, of the week whose main rest `rest` is, if the rest is too short and the last run starts in a later
+/// week (Article 8(6b)). `weekly` are the weekly rests.
 fn debt_of(weekly: &[Run], horizon: u32, last: Run, rest: Run) -> Option<Debt>
     requires in_time { AreInTime weekly.now }
     requires early { rest.start ≤ latest }
@@ -46,7 +46,7 @@ fn debt_of(weekly: &[Run], horizon: u32, last: Run, rest: Run) -> Option<Debt>
     })
 }
 
-/// What a rest pays of a debt.
+/// Returns how many minutes of a debt a rest pays.
 fn share_of(rest: Run, debt: &Debt) -> u32
     ensures { result ≡ share rest debt.now }
 {
@@ -56,7 +56,7 @@ fn share_of(rest: Run, debt: &Debt) -> u32
     }
 }
 
-/// What is left of so many minutes of a rest beside the debts that it pays.
+/// Returns what remains of `minutes` of a rest after the debts that it pays.
 fn left_of(minutes: u32, rest: Run, debts: &[Debt]) -> u32
     ensures { result ≡ minutes - paid_from rest debts.now }
 {
@@ -67,7 +67,7 @@ fn left_of(minutes: u32, rest: Run, debts: &[Debt]) -> u32
     left
 }
 
-/// Whether a rest has room for a debt, beside what it keeps and what it pays of earlier ones (Article 8(6b)).
+/// True if a rest has room for a debt, in addition to what it keeps and what it pays of earlier debts (Article 8(6b)).
 fn has_room(weekly: &[Run], horizon: u32, earlier: &[Debt], debt: &Debt, rest: Run) -> bool
     requires in_time { AreInTime weekly.now }
     requires early { rest.start ≤ latest }
@@ -83,8 +83,8 @@ fn has_room(weekly: &[Run], horizon: u32, earlier: &[Debt], debt: &Debt, rest: R
     debt.amount <= left_of(room, rest, earlier)
 }
 
-/// The first minute of the first rest after a debt's main rest that can pay it, where `daily` are the rests of nine
-/// hours or more, and `earlier` the debts of earlier weeks with their payers.
+/// Returns the first minute of the first rest after a debt's main rest that can pay the debt. `daily` are the rests of nine hours or more,
+/// and `earlier` the debts of earlier weeks with their payers.
 fn payer_of(
     daily: &[Run],
     weekly: &[Run],
@@ -111,8 +111,8 @@ fn payer_of(
     None
 }
 
-/// The debts by week, each with its payer, where `daily` are the rests of nine hours or more, `weekly` those of 24, and
-/// `last` is the last of all (Article 8(6b)).
+/// Returns the debts ordered by week, each with its payer (Article 8(6b)). `daily` are the rests of nine hours or more, `weekly` those of
+/// 24, and `last` is the last rest run.
 pub(crate) fn debts_of(
     alloc: Global,
     daily: &[Run],
@@ -138,14 +138,14 @@ pub(crate) fn debts_of(
     Ok(debts)
 }
 
-/// Whether nothing pays a debt and its deadline has come.
+/// True if nothing pays a debt and its deadline has been reached.
 fn is_overdue(debt: &Debt, horizon: u32) -> bool
     ensures { IsTrue result ↔ ((debt.now.paid_by ≡ NoPayer) × (debt.now.deadline ≤ horizon)) }
 {
     debt.paid_by.is_none() && debt.deadline.number() <= horizon
 }
 
-/// The breaches of debts that nothing pays and whose deadline has come, by week (Article 8(6b)).
+/// Finds the breaches of debts that nothing pays and whose deadline has been reached, ordered by week (Article 8(6b)).
 pub(crate) fn overdue(
     alloc: Global,
     debts: &[Debt],

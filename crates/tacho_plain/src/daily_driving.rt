@@ -16,7 +16,7 @@ use tacho_hours::limits::{DRIVING_IN_DAY, DRIVING_IN_EXTENDED_DAY, EXTENDED_DAYS
 use tacho_hours::{Breach, DutyDay, Kind};
 use tacho_time::{Minute, week_of};
 
-/// The breach of a day with too many driving minutes (Article 6(1)).
+/// Returns the breach of a day, if it has too many driving minutes (Article 6(1)).
 fn long_day(examined: &Examined<'_>, day: DutyDay, kind: Kind, limit: u32) -> Option<Breach>
     requires examined { IsExamined examined.now.spans.now examined.now.base examined.now.past }
     requires in_time { IsInTime day }
@@ -33,7 +33,7 @@ fn long_day(examined: &Examined<'_>, day: DutyDay, kind: Kind, limit: u32) -> Op
     })
 }
 
-/// The breaches of days with more driving than an extended day may have, in order of time (Article 6(1)).
+/// Finds the breaches of days with more driving than an extended day may have, in order of time (Article 6(1)).
 fn long_days(
     alloc: Global,
     examined: &Examined<'_>,
@@ -54,7 +54,7 @@ fn long_days(
     Ok(found)
 }
 
-/// The days with more driving than a day that isn't extended may have, in order of time (Article 6(1)).
+/// Returns the days with more driving than a day that isn't extended may have, in order of time (Article 6(1)).
 fn extended_days(
     alloc: Global,
     examined: &Examined<'_>,
@@ -73,7 +73,7 @@ fn extended_days(
     Ok(extended)
 }
 
-/// The breaches of a third or later extended day of a week, in order of time (Article 6(1)).
+/// Finds the breaches of the third and later extended days of a week, in order of time (Article 6(1)).
 fn often_extended(
     alloc: Global,
     examined: &Examined<'_>,
@@ -98,7 +98,7 @@ fn often_extended(
     Ok(found)
 }
 
-/// The breaches of the rules on a day's driving (Article 6(1)), in no order.
+/// Finds the breaches of the rules on a day's driving (Article 6(1)), in any order.
 pub(crate) fn of_driving(
     alloc: Global,
     examined: &Examined<'_>,

@@ -21,7 +21,7 @@ use tacho_hours::limits::{
 use tacho_hours::{Breach, DutyDay, Kind, Run, has_portion};
 use tacho_time::Minute;
 
-/// The breach of a day whose rest is too short (Article 8(2)).
+/// Returns the breach of a day, if its rest is too short (Article 8(2)).
 fn short_rest(day: DutyDay) -> Option<Breach>
     requires { IsInTime day }
     ensures { MatchOption result (HasPortion day daily_rest) (λ breach. IsShortRest day breach) }
@@ -38,7 +38,7 @@ fn short_rest(day: DutyDay) -> Option<Breach>
     })
 }
 
-/// The breaches of days whose rest is too short, in order of time (Article 8(2)).
+/// Finds the breaches of days whose rest is too short, in order of time (Article 8(2)).
 fn short_rests(alloc: Global, days: &[DutyDay]) -> Result<Vec<Breach>, AllocError>
     requires { All (λ day. IsInTime day) days.now }
     ensures { IfOk result (λ found. (line : Line) → AreDutyDays line days.now
@@ -53,7 +53,7 @@ fn short_rests(alloc: Global, days: &[DutyDay]) -> Result<Vec<Breach>, AllocErro
     Ok(found)
 }
 
-/// The days whose rest is reduced, in order of time, where `parts` are the rests of three hours or more (Article 4(g)).
+/// Returns the days whose rest is reduced, in order of time (Article 4(g)). `parts` are the rests of three hours or more.
 fn reduced_days(alloc: Global, days: &[DutyDay], parts: &[Run]) -> Result<Vec<DutyDay>, AllocError>
     requires in_time { All (λ day. IsInTime day) days.now }
     requires parts { AreRuns parts.now }
@@ -70,7 +70,7 @@ fn reduced_days(alloc: Global, days: &[DutyDay], parts: &[Run]) -> Result<Vec<Du
     Ok(reduced)
 }
 
-/// Where the last of the rests ends that have ended by a minute, if one has.
+/// Returns the end of the last rest that has ended by a minute, if there is one.
 fn last_end(rests: &[Run], minute: u32) -> Option<u32>
     requires { AreRuns rests.now }
     ensures { MatchOption result
@@ -84,7 +84,7 @@ fn last_end(rests: &[Run], minute: u32) -> Option<u32>
     Some(rests[ended - 1].past)
 }
 
-/// The breaches of a fourth or later reduced rest since the last weekly rest, in order of time (Article 8(4)).
+/// Finds the breaches of the fourth and later reduced rests since the last weekly rest, in order of time (Article 8(4)).
 fn often_reduced(
     alloc: Global,
     reduced: &[DutyDay],
@@ -117,7 +117,7 @@ fn often_reduced(
     Ok(found)
 }
 
-/// The breaches of the rules on daily rests (Article 8(2) and (4)), in no order.
+/// Finds the breaches of the rules on daily rests (Article 8(2) and (4)), in any order.
 pub(crate) fn of_rests(
     alloc: Global,
     runs: &[Run],

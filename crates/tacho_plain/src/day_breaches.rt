@@ -11,8 +11,7 @@ use std::alloc::{AllocError, Global};
 use tacho_hours::{Breach, put_in_order};
 use tacho_time::{Minute, Span};
 
-/// The breaches of the rules on days (Article 6(1), Article 8(2) and (4)) from `base` to before `past`, in order of
-/// time.
+/// Returns the breaches of the rules on days (Article 6(1), Article 8(2) and (4)) from `base` to before `past`, in order of time.
 pub fn days(
     alloc: Global,
     spans: &[Span],

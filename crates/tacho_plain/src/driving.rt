@@ -6,7 +6,7 @@ use crate::examined::Examined;
 use tacho_pass::is_drive;
 use tacho_time::Minute;
 
-/// How many of the first spans have ended by a minute.
+/// Returns how many of the first spans have ended by a minute.
 fn ended_by(examined: &Examined<'_>, minute: u32) -> usize
     requires { IsExamined examined.now.spans.now examined.now.base examined.now.past }
     ensures within { result ≤ length examined.now.spans.now }
@@ -17,7 +17,7 @@ fn ended_by(examined: &Examined<'_>, minute: u32) -> usize
         .partition_point(|span| span.past.number() <= minute)
 }
 
-/// How many minutes from `from` to before `to` are driving.
+/// Returns the number of driving minutes from `from` to before `to`.
 pub fn driving_minutes(examined: &Examined<'_>, from: u32, to: u32) -> u32
     requires { IsExamined examined.now.spans.now examined.now.base examined.now.past }
     ensures { result ≡ driving (line_of examined.now.spans.now) from to }
@@ -39,7 +39,7 @@ pub fn driving_minutes(examined: &Examined<'_>, from: u32, to: u32) -> u32
     count
 }
 
-/// The k-th driving minute from `from` to before `to`, counted from 1, if there are as many.
+/// Returns the k-th driving minute from `from` to before `to`, counted from 1, if there are that many.
 pub fn driving_minute(examined: &Examined<'_>, from: u32, to: u32, k: u32) -> Option<u32>
     requires examined { IsExamined examined.now.spans.now examined.now.base examined.now.past }
     requires first { 0 < k }
@@ -72,12 +72,12 @@ pub fn driving_minute(examined: &Examined<'_>, from: u32, to: u32, k: u32) -> Op
 pub struct Excess {
     /// The first driving minute above the limit.
     pub moment: Minute,
-    /// By how many minutes the driving is more.
+    /// The number of driving minutes above the limit.
     pub amount: u32,
 }
 
-/// What is driven from `from` to before `to` above a limit in minutes, if it is more
-/// (Articles 6 and 7 of Regulation (EC) 561/2006).
+/// Returns the driving from `from` to before `to` above a limit in minutes, if there is more (Articles 6 and 7 of Regulation (EC)
+/// 561/2006).
 pub fn excess_between(examined: &Examined<'_>, from: u32, to: u32, limit: u32) -> Option<Excess>
     requires { IsExamined examined.now.spans.now examined.now.base examined.now.past }
     ensures { MatchOption result

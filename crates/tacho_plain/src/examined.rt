@@ -1,6 +1,6 @@
 use tacho_time::{Minute, Span};
 
-/// What is examined: spans that follow one another from a Monday, `base`, to before the horizon, `past`.
+/// An examined line: spans that follow one another from `base`, a Monday, to before `past`, the horizon.
 #[derive(Clone, Copy, Debug)]
 pub struct Examined<'a> {
     pub spans: &'a [Span],

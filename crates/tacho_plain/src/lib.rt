@@ -1,4 +1,4 @@
-//! Each rule by itself, over all spans and rest runs: what the scan is tested beside.
+//! Each rule separately, over all spans and rest runs. The scan is tested against these passes.
 #![tactic(auto)]
 
 mod break_breaches;

@@ -13,7 +13,7 @@ use tacho_hours::limits::{DAILY_REST, FIRST_WEEK, REGULAR_WEEKLY_REST, WEEKLY_RE
 use tacho_hours::{Run, known_minutes};
 use tacho_time::{Minute, Week, first_minute, week_of};
 
-/// The rests that have a minute from `from` to before `to`.
+/// Returns the rests that have a minute from `from` to before `to`.
 pub fn touching(rests: &[Run], from: u32, to: u32) -> &[Run]
     requires in_time { AreInTime rests.now }
     requires range { from ≤ to }
@@ -26,7 +26,7 @@ pub fn touching(rests: &[Run], from: u32, to: u32) -> &[Run]
     &rests[first..past]
 }
 
-/// Whether a rest has more minutes before the horizon than another one, or as many and starts earlier.
+/// True if a rest has more minutes before the horizon than another one, or as many and starts earlier.
 fn is_better(rest: Run, other: Run, horizon: u32) -> bool
     ensures { IsTrue result ↔ IsBetter horizon rest other }
 {
@@ -35,7 +35,7 @@ fn is_better(rest: Run, other: Run, horizon: u32) -> bool
     least < minutes || (least == minutes && rest.start < other.start)
 }
 
-/// Whether one of the weekly rests that start in a week is better than a rest.
+/// True if one of the weekly rests that start in a week is better than a rest.
 fn is_outdone(weekly: &[Run], horizon: u32, week: Week, rest: Run) -> bool
     requires in_time { AreInTime weekly.now }
     requires early { week ≤ 6787 }
@@ -52,8 +52,8 @@ fn is_outdone(weekly: &[Run], horizon: u32, week: Week, rest: Run) -> bool
     false
 }
 
-/// Whether a rest is the main rest of the week in which it starts, where `weekly` are the weekly rests: of those with
-/// 24 hours before the horizon the one with the most minutes there, and of equals the earliest (Article 8(6b)).
+/// True if a rest is the main rest of the week in which it starts: of the rests with 24 hours before the horizon, the one with the most
+/// minutes before it, and of equals the earliest (Article 8(6b)). `weekly` are the weekly rests.
 pub fn is_main(weekly: &[Run], horizon: u32, rest: Run) -> bool
     requires in_time { AreInTime weekly.now }
     requires early { rest.start ≤ latest }
@@ -67,7 +67,7 @@ pub fn is_main(weekly: &[Run], horizon: u32, rest: Run) -> bool
     !is_outdone(weekly, horizon, week_of(Minute::new(rest.start)), rest)
 }
 
-/// What a rest keeps of its minutes: 45 hours as the main rest of its week, and else 9 hours (Article 8(7)).
+/// Returns what a rest keeps of its minutes: 45 hours if it is the main rest of its week, else 9 hours (Article 8(7)).
 pub fn kept_minutes(weekly: &[Run], horizon: u32, rest: Run) -> u32
     requires in_time { AreInTime weekly.now }
     requires early { rest.start ≤ latest }

@@ -6,7 +6,7 @@ ghost use Rattle.tacho_hours.specs.Days.{HasRegularRest, HasReducedRest};
 use tacho_hours::limits::{DAILY_REST, REGULAR_DAILY_REST, WEEKLY_REST};
 use tacho_hours::{DutyDay, Run, has_portion};
 
-/// Whether one of the runs lies between two minutes.
+/// True if one of the runs is between two minutes.
 fn has_run_between(runs: &[Run], from: u32, to: u32) -> bool
     requires { AreRuns runs.now }
     ensures { IsTrue result ↔ ((run : RunValue) × Contains runs.now run × (from ≤ run.start) × (run.past ≤ to)) }
@@ -15,8 +15,8 @@ fn has_run_between(runs: &[Run], from: u32, to: u32) -> bool
     first < runs.len() && runs[first].past <= to
 }
 
-/// Whether the daily rest is regular, where `parts` are the rests of three hours or more
-/// (Article 4(g) of Regulation (EC) 561/2006).
+/// True if the daily rest of a duty day is regular (Article 4(g) of Regulation (EC) 561/2006). `parts` are the rests of three hours or
+/// more.
 pub fn is_regular(day: DutyDay, parts: &[Run]) -> bool
     requires started { day.start ≤ 68428800 }
     requires ended { day.past ≤ 68428800 }
@@ -27,8 +27,8 @@ pub fn is_regular(day: DutyDay, parts: &[Run]) -> bool
         || (has_portion(day, DAILY_REST) && has_run_between(parts, day.start, day.past))
 }
 
-/// Whether the daily rest of a duty day is reduced, where `parts` are the rests of three hours or more
-/// (Article 4(g) and Article 8(4) of Regulation (EC) 561/2006).
+/// True if the daily rest of a duty day is reduced (Article 4(g) and Article 8(4) of Regulation (EC) 561/2006). `parts` are the rests of
+/// three hours or more.
 pub fn is_reduced(day: DutyDay, parts: &[Run]) -> bool
     requires started { day.start ≤ 68428800 }
     requires ended { day.past ≤ 68428800 }

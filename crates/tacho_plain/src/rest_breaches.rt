@@ -18,7 +18,7 @@ use tacho_hours::{Breach, Kind, Run, put_in_order};
 use tacho_pass::Found;
 use tacho_time::{Minute, Span, Week, first_minute, week_of};
 
-/// The breaches of weekly rests that start too late (Article 8(6)), in order of time.
+/// Finds the breaches of weekly rests that start too late (Article 8(6)), in order of time.
 fn late_rests(alloc: Global, weekly: &[Run]) -> Result<Vec<Breach>, AllocError>
     requires { AreInTime weekly.now }
     ensures { IfOk result (λ found. (line : Line) → AreRestsOf line weekly_rest weekly.now
@@ -41,8 +41,8 @@ fn late_rests(alloc: Global, weekly: &[Run]) -> Result<Vec<Breach>, AllocError>
     Ok(found)
 }
 
-/// The breaches of weeks up to which no choice of a week for each weekly rest serves, week by week, and anew from each
-/// week at which none did (Articles 8(6), first subparagraph, and 8(9)).
+/// Finds the weeks up to which no choice of a week for each weekly rest serves, week by week, and starts again from each week at which none
+/// did (Articles 8(6), first subparagraph, and 8(9)).
 fn lacking_weeks(
     alloc: Global,
     weekly: &[Run],
@@ -76,8 +76,8 @@ fn lacking_weeks(
     Ok(found)
 }
 
-/// The breaches of the rules on weekly rests (Article 8(6) and (6b)) from `base` to before `past`, in order of time,
-/// and the debts by week, each with its payer.
+/// Returns the breaches of the rules on weekly rests (Article 8(6) and (6b)) from `base` to before `past`, in order of time, and the debts
+/// ordered by week, each with its payer.
 pub fn rests(alloc: Global, spans: &[Span], base: Minute, past: Minute) -> Result<Found, AllocError>
     requires { IsExamined spans.now base past }
     ensures { IfOk result (λ found. AreRestBreaches

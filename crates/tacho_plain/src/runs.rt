@@ -7,7 +7,7 @@ use std::alloc::{AllocError, Global};
 use tacho_hours::{FAR, Run};
 use tacho_pass::is_rest;
 
-/// The rest runs of the line of spans from `base` to `past`, in order of time.
+/// Returns the rest runs of the line of spans from `base` to `past`, in order of time.
 pub fn rest_runs(alloc: Global, examined: &Examined<'_>) -> Result<Vec<Run>, AllocError>
     requires { IsExamined examined.now.spans.now examined.now.base examined.now.past }
     ensures { IfOk result (λ runs. AreRestRuns (line_of examined.now.spans.now) runs.items) }

@@ -1,14 +1,14 @@
 ghost use Rattle.std.specs.Prelude.{◌≡◌, ◌≢◌, ◌+◌, ◌≤◌};
 ghost use Rattle.tacho_hours.specs.Limits.{latest};
 
-/// How many days so far have one key, as their week.
+/// How many days so far have one key, such as their week.
 #[derive(Clone, Copy)]
 pub(crate) struct Tally {
     pub(crate) key: u32,
     pub(crate) count: u32,
 }
 
-/// The tally with one more day, which counts anew at another key.
+/// Returns the tally with one more day. The count starts again if the key differs.
 pub(crate) fn counted(tally: Tally, key: u32) -> Tally
     requires { tally.count ≤ latest }
     ensures key { result.key ≡ key }

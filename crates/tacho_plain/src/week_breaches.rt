@@ -11,7 +11,7 @@ use tacho_hours::limits::{DRIVING_IN_TWO_WEEKS, DRIVING_IN_WEEK};
 use tacho_hours::{Breach, Kind, put_in_order};
 use tacho_time::{Minute, Span, Week, first_minute, week_of};
 
-/// The breach from `since` to before `to`, where more than `most` minutes there are driving.
+/// Returns the breach from `since` to before `to`, if more than `most` minutes are driving.
 fn breach_between(
     examined: &Examined<'_>,
     kind: Kind,
@@ -33,7 +33,7 @@ fn breach_between(
     })
 }
 
-/// The breaches of the weeks from one number to before another, each with the week after it, week by week.
+/// Finds the breaches of the weeks from one number to before another, each week alone and with the next one, week by week.
 fn breaches_of_weeks(
     alloc: Global,
     examined: &Examined<'_>,
@@ -62,8 +62,8 @@ fn breaches_of_weeks(
     Ok(found)
 }
 
-/// The breaches of the rules on driving in a week and in two (Article 6(2) and (3)) from `base` to before `past`,
-/// in order of time. Each week is judged with the one after it, and the week before the base with the base's.
+/// Returns the breaches of the rules on driving in a week and in two (Article 6(2) and (3)) from `base` to before `past`, in order of time.
+/// Each week is judged together with the next one, and the week before the base with the base's week.
 pub fn weeks(
     alloc: Global,
     spans: &[Span],

@@ -1,4 +1,4 @@
--- Of a driver's rows those that begin from where the first near one does are all that are near.
+-- A driver's rows that are near a range are those that begin from where the first near row does to before the range's end.
 use Rattle.std.proofs.Common.{◌≡◌, ◌∙◌, ℕ, ◌<◌, ◌≤◌, ◌⊎◌, inl, inr, ◌==◌, ◌&&◌, Bool, true, false, cond, not, List, [], ◌∷◌, map, filter, Option, Some, None, refl, sym, ap, subst, arith}
 use Rattle.std.specs.Prelude.{nat_lt, nat_le, MatchOption}
 use Rattle.std.specs.List.{AllByRecursion}
@@ -22,13 +22,13 @@ use Rattle.tacho_reading.proofs.NearRowLemmas.{card_kept, held_kept}
 
 -- ---- rows that are apart
 
--- none is empty
+-- no row is empty
 full_in : (xs : List SpanRow) (x : SpanRow) → AreApart xs → Has xs x → x.start < x.past
 full_in [] x h c = absurd c
 full_in (y ∷ ys) x h (inl e) = subst (λ (z : SpanRow). z.start < z.past) (sym e) h.0
 full_in (y ∷ ys) x h (inr c) = full_in ys x h.2 c
 
--- and two of them are one, or one ends before the other begins
+-- two rows are the same, or one ends before the other begins
 beside : (xs : List SpanRow) (x r : SpanRow) → AreApart xs → Has xs x → Has xs r → (x ≡ r) ⊎ AreAside x r
 beside [] x r h c d = absurd c
 beside (y ∷ ys) x r h (inl e) (inl f) = inl (e ∙ sym f)
@@ -39,9 +39,9 @@ beside (y ∷ ys) x r h (inr c) (inl f) = inr (subst (λ (z : SpanRow). AreAside
   turned (inr a) = inl a
 beside (y ∷ ys) x r h (inr c) (inr d) = beside ys x r h.2 c d
 
--- ---- what begins, and what is near
+-- ---- rows that begin in a range, and rows that are near it
 
--- a row that begins late enough and ends late enough is near where it begins early enough
+-- of rows that begin at `from` or later and end after the range's start, exactly those that begin before the range's end are near it
 late : (from start past : ℕ) (x : SpanRow) → from ≤ x.start → start < x.past
     → (nat_le from x.start && nat_lt x.start past) ≡ (nat_lt x.start past && nat_lt start x.past)
 late from start past x after reaches = go (nat_le from x.start) (nat_lt x.start past) (nat_lt start x.past) one two where
@@ -63,7 +63,7 @@ late from start past x after reaches = go (nat_le from x.start) (nat_lt x.start 
   go true v false e f = absurd (let wrong = f in cc)
   go false v w e f = absurd (let wrong = e in cc)
 
--- and one that begins and ends too early isn't
+-- a row that begins before `from` and ends by the range's start isn't near the range
 early : (from start past : ℕ) (x : SpanRow) → x.start < from → x.past ≤ start
     → (nat_le from x.start && nat_lt x.start past) ≡ (nat_lt x.start past && nat_lt start x.past)
 early from start past x before ends = go (nat_le from x.start) (nat_lt x.start past) (nat_lt start x.past) one two where
@@ -81,11 +81,11 @@ early from start past x before ends = go (nat_le from x.start) (nat_lt x.start p
 
 -- ---- where the first near row begins
 
--- by the latest row that begins before a range, each row that begins from there on and before the range's end is near it
+-- row `x` is near the range iff it begins from `from` to before the range's end
 abbrev pub IsFrom : ℕ → ℕ → ℕ → SpanRow → Type 0
 IsFrom start past from x = (nat_le from x.start && nat_lt x.start past) ≡ (nat_lt x.start past && nat_lt start x.past)
 
--- where no row begins before the range
+-- if no row begins before the range, `from` is the range's start
 from_none : (start past : ℕ) (xs : List SpanRow) → AreApart xs → filter (λ r. nat_lt r.start start) xs ≡ []
     → (x : SpanRow) → Has xs x → IsFrom start past start x
 from_none start past xs h none x c = go (nat_lt x.start start) refl where
@@ -99,7 +99,7 @@ from_none start past xs h none x c = go (nat_lt x.start start) refl where
       let after : start ≤ a = grind (arith, nat_tests) in
       late start start past x after (omega (arith, after, full))
 
--- where one does: the latest of these reaches into the range, or it doesn't
+-- if some row does, `from` follows from the latest such row, which may reach into the range
 from_some : (start past : ℕ) (xs : List SpanRow) (r : SpanRow) → AreApart xs → Has (filter (λ r. nat_lt r.start start) xs) r
     → AllByRecursion (λ (x : SpanRow). x.start ≤ r.start) (filter (λ r. nat_lt r.start start) xs)
     → (x : SpanRow) → Has xs x → IsFrom start past (near_from start past (Some (span_of r))) x
@@ -156,7 +156,7 @@ from_some start past xs r h one latest x c = go (nat_lt r.start past && nat_lt s
 
 -- ---- the rows of a driver
 
--- a test of a driver's rows
+-- filtering the rows by driver and by another test filters the driver's rows by that test
 own_filter : (n : ℕ) (q : SpanRow → Bool) (rows : List SpanRow) → filter (λ r. (r.driver == n) && q r) rows ≡ filter q (rows_of n rows)
 own_filter n q [] = refl
 own_filter n q (r ∷ rows) = go (r.driver == n) (own_filter n q rows) where
@@ -173,11 +173,11 @@ own_filter n q (r ∷ rows) = go (r.driver == n) (own_filter n q rows) where
   go false e = e
 
 module _ (n start past : ℕ) (rows : List SpanRow) (apart : AreApart (rows_of n rows)) where
-  -- those before the range are his
+  -- the rows before the range are the driver's rows before it
   before_own : filter (is_before n start) rows ≡ filter (λ r. nat_lt r.start start) (rows_of n rows)
   before_own = own_filter n (λ r. nat_lt r.start start) rows
 
-  -- by the latest of them
+  -- with the latest row before the range, `near_from` is such a `from`
   pub from_found : (b : Option StoredSpan) → MatchOption b (filter (is_before n start) rows ≡ [])
       (λ s. (r : SpanRow) × IsLatest r (filter (is_before n start) rows) × (s ≡ span_of r))
       → (x : SpanRow) → Has (rows_of n rows) x → IsFrom start past (near_from start past b) x
@@ -189,7 +189,7 @@ module _ (n start past : ℕ) (rows : List SpanRow) (apart : AreApart (rows_of n
       (subst (λ (ys : List SpanRow). Has ys r) before_own (has_contained (filter (is_before n start) rows) r latest.one))
       (subst (λ (ys : List SpanRow). AllByRecursion (λ (x : SpanRow). x.start ≤ r.start) ys) before_own at_most) x c)
 
-  -- the rows that begin from there on are those that are near
+  -- the rows that begin from there on are those that are near the range
   begun_near : (b : Option StoredSpan) → MatchOption b (filter (is_before n start) rows ≡ [])
       (λ s. (r : SpanRow) × IsLatest r (filter (is_before n start) rows) × (s ≡ span_of r))
       → AllByRecursion (λ x. is_begun n (near_from start past b) past x ≡ is_near n start past x) rows
@@ -199,14 +199,14 @@ module _ (n start past : ℕ) (rows : List SpanRow) (apart : AreApart (rows_of n
     go x c true e = from_found b h x (has_kept (is_of n) rows x c e)
     go x c false e = refl
 
-  -- so these are read
+  -- so the rows that were read are those near the range
   pub read_begun : (b : Option StoredSpan) (found : List StoredSpan) → MatchOption b (filter (is_before n start) rows ≡ [])
       (λ s. (r : SpanRow) × IsLatest r (filter (is_before n start) rows) × (s ≡ span_of r))
       → IsPermutation (map span_of (filter (is_begun n (near_from start past b) past) rows)) found → IsReadNear rows n start past found
   read_begun b found h p = subst (λ (ys : List SpanRow). IsPermutation (map span_of ys) found)
       (filter_same (is_begun n (near_from start past b) past) (is_near n start past) rows (begun_near b h)) p
 
-  -- and the others are left
+  -- the rows that remain after these are deleted are those that aren't near it
   pub left_begun : (b : Option StoredSpan) → MatchOption b (filter (is_before n start) rows ≡ [])
       (λ s. (r : SpanRow) × IsLatest r (filter (is_before n start) rows) × (s ≡ span_of r))
       → filter (λ r. not (is_begun n (near_from start past b) past r)) rows ≡ filter (λ r. not (is_near n start past r)) rows
@@ -219,7 +219,7 @@ module _ (n start past : ℕ) (rows : List SpanRow) (apart : AreApart (rows_of n
 
 -- ---- rows of disjoint spans
 
--- spans that share no minute are aside
+-- of two spans that share no minute, one ends before the other begins
 aside_of : (r x : SpanRow) → r.start < r.past → x.start < x.past → ShareNone (row_span r ∷ []) (row_span x ∷ []) → AreAside r x
 aside_of r x full_r full_x share = go (nat_le r.past x.start) (nat_le x.past r.start) refl refl where
   a : ℕ
@@ -245,7 +245,7 @@ aside_of r x full_r full_x share = go (nat_le r.past x.start) (nat_le x.past r.s
   go false true p q = inr (grind (arith, nat_tests))
   go false false p q = absurd (both (grind (arith, nat_tests)) (grind (arith, nat_tests)) (nat_le a c) refl)
 
--- a row whose span shares no minute with those of others is beside them
+-- a row whose span shares no minute with the spans of others lies before or after each of them
 asides_of : (n : ℕ) (r : SpanRow) (rows : List SpanRow) → r.start < r.past → ShareNone (row_span r ∷ []) (spans_of n rows)
     → AreDisjoint (spans_of n rows) → AllByRecursion (AreAside r) (rows_of n rows)
 asides_of n r [] full share h = tt
@@ -260,7 +260,7 @@ asides_of n r (x ∷ rows) full share h = go (x.driver == n) share h (asides_of 
     first m k (inr g) = absurd g
   go false share h more = more share h
 
--- rows of disjoint spans are apart
+-- rows of disjoint spans have no minute in common
 apart_of : (n : ℕ) (rows : List SpanRow) → AreDisjoint (spans_of n rows) → AreApart (rows_of n rows)
 apart_of n [] h = tt
 apart_of n (r ∷ rows) h = go (r.driver == n) h (apart_of n rows) where
@@ -269,7 +269,7 @@ apart_of n (r ∷ rows) h = go (r.driver == n) h (apart_of n rows) where
   go true h more = (h.0, asides_of n r rows h.0 h.1 h.2, more h.2)
   go false h more = more h
 
--- so are a driver's rows in an archive's tables
+-- so a driver's rows in an archive's tables have no minute in common
 pub card_apart : (t : Tables) (s : State) (n : ℕ) (d : Driver) → TablesStandFor t s → driver_of n s ≡ Some d → AreApart (rows_of n t.card_spans)
 card_apart t s n d of is = apart_of n t.card_spans (card_kept t s n d of is).disjoint
 

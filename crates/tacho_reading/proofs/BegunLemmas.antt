@@ -1,4 +1,4 @@
--- Where a reading of a driver's rows begins.
+-- The start from which a driver's rows are read.
 use Rattle.std.proofs.Common.{◌≡◌, ◌∙◌, ℕ, ◌+◌, ◌*◌, ◌<◌, ◌==◌, ◌&&◌, Bool, true, false, cond, List, [], filter, Option, Some, None, refl, sym, ap, subst, arith}
 use Rattle.std.specs.Prelude.{min, nat_lt, nat_le, MatchOption}
 use Rattle.std.proofs.lemmas.Bool.Decides.{nat_tests}
@@ -22,7 +22,7 @@ module _ (n base : ℕ) (rows : List SpanRow) (apart : AreApart (rows_of n rows)
   Latest b = MatchOption b (filter (is_before n base) rows ≡ [])
       (λ s. (r : SpanRow) × IsLatest r (filter (is_before n base) rows) × (s ≡ span_of r))
 
-  -- where the rows begin that are near a range doesn't depend on the range's end
+  -- the start of the rows near a range doesn't depend on the range's end
   near_same : (past : ℕ) (b : Option StoredSpan) → base < past → Latest b
       → near_from base past b ≡ near_from base (base + 1) b
   near_same past None m none = refl
@@ -46,7 +46,7 @@ module _ (n base : ℕ) (rows : List SpanRow) (apart : AreApart (rows_of n rows)
         early : (past : ℕ) → base < past → nat_lt s.start past ≡ true
         early past m = let a = s.start in let l : a < base = before in grind (arith, nat_tests)
 
-  -- a row begins from there on where it ends behind the base
+  -- a row begins from there on iff it ends after the base
   begins_behind : (b : Option StoredSpan) → Latest b → (x : SpanRow) → Has (rows_of n rows) x
       → nat_le (near_from base (base + 1) b) x.start ≡ nat_lt base x.past
   begins_behind b h x c =
@@ -61,7 +61,7 @@ module _ (n base : ℕ) (rows : List SpanRow) (apart : AreApart (rows_of n rows)
         whole false v true e f = f
         whole u v false e f = absurd (let wrong = e in cc)
 
-  -- so these rows are those that end behind the base
+  -- so the rows that begin from there on are those that end after the base
   onward_behind : (b : Option StoredSpan) → Latest b
       → filter (is_onward n (near_from base (base + 1) b)) rows ≡ filter (is_behind n base) rows
   onward_behind b h = filter_same (is_onward n (near_from base (base + 1) b)) (is_behind n base) rows
@@ -71,7 +71,7 @@ module _ (n base : ℕ) (rows : List SpanRow) (apart : AreApart (rows_of n rows)
         go x c true e = begins_behind b h x (has_kept (is_of n) rows x c e)
         go x c false e = refl
 
--- the reading begins where the first row does that ends after the base, or after a minute that is earlier
+-- the start is that of the first row that ends after the base, or after a minute that is earlier
 pub is_begun : (db : Trees) (n : ℕ) (s : State) (d : Driver) (it : StoredDriver) (base from minute start : ℕ)
     (b : Option StoredSpan) → driver_of n s ≡ Some d → IsStored it d
     → base ≡ 1440 * it.base → minute ≡ min base from → start ≡ near_from minute (minute + 1) b

@@ -1,4 +1,4 @@
--- Downloads by their numbers, in the tables and in the state.
+-- Downloads by number, in the tables and in the state.
 use Rattle.std.proofs.Common.{◌≡◌, ◌≢◌, ℕ, ◌+◌, ◌<◌, ◌==◌, ◌&&◌, ◌⊎◌, inl, inr, ◌↔◌, Bool, true, false, cond, List, [], ◌∷◌, ◌++◌, Some, None, Ok, length, filter, refl, sym, ap, ◌∙◌, subst, arith}
 use Rattle.std.specs.List.{Contains}
 use Rattle.std.proofs.lemmas.List.{append-nil}
@@ -12,15 +12,15 @@ use Rattle.tacho_reading.proofs.RowLemmas.{eq_self, eq_not, eq_true}
 use Rattle.tacho_reading.proofs.DriverRowLemmas.{first_or_rest, none_there}
 use Rattle.tacho_reading.proofs.StateLemmas.{found_number, found_of}
 
--- the row of a number, whoever's it is
+-- the row has this number, whatever its driver
 abbrev has_own_number : ℕ → DownloadRow → Bool
 has_own_number number r = r.number == number
 
--- the row of a download with a number
+-- the row of a download with this number
 abbrev pub download_row : ℕ → ℕ → Download → DownloadRow
 download_row n i d = record { driver = n; number = i; part = d.part; file = d.file }
 
--- a driver's download is found among his
+-- a driver's download with a number is the row of the driver's rows that has it
 among_own : (n number : ℕ) (rows : List DownloadRow)
     → filter (is_download n number) rows ≡ filter (has_own_number number) (downloads_of n rows)
 among_own n number [] = refl
@@ -31,7 +31,7 @@ among_own n number (r ∷ rows) = go (r.driver == n) (among_own n number rows) w
   go true e = ap (λ (x : List DownloadRow). cond (r.number == number) (r ∷ x) x) e
   go false e = e
 
--- rows of later numbers have another one
+-- the rows of later numbers don't have this number
 later_rows : (n i number : ℕ) (ds : List Download) → number < i → filter (has_own_number number) (download_rows n i ds) ≡ []
 later_rows n i number [] l = refl
 later_rows n i number (d ∷ ds) l =
@@ -39,7 +39,7 @@ later_rows n i number (d ∷ ds) l =
     ap (λ b. cond b (download_row n i d ∷ more) more) (eq_not i number (λ f. absurd (omega (arith, f, l))))
     ∙ later_rows n (i + 1) number ds (omega (arith, l))
 
--- without a row of the number there is no such download
+-- if no row has the number, there is no such download
 rows_none : (n i number : ℕ) (ds : List Download) → filter (has_own_number number) (download_rows n i ds) ≡ []
     → download_from i number ds ≡ None
 rows_none n i number [] e = refl
@@ -51,7 +51,7 @@ rows_none n i number (d ∷ ds) e = go (i == number) e (rows_none n (i + 1) numb
   go true f more = cc
   go false f more = more f
 
--- and without the download no row
+-- if there is no such download, no row has the number
 none_rows : (n i number : ℕ) (ds : List Download) → download_from i number ds ≡ None
     → filter (has_own_number number) (download_rows n i ds) ≡ []
 none_rows n i number [] e = refl
@@ -63,7 +63,7 @@ none_rows n i number (d ∷ ds) e = go (i == number) e (none_rows n (i + 1) numb
   go true f more = cc
   go false f more = more f
 
--- the row of the number has the download's file
+-- a row with the number has the download's file
 row_file : (n i number : ℕ) (ds : List Download) (row : DownloadRow) → Contains (filter (has_own_number number) (download_rows n i ds)) row
     → file_of (download_from i number ds) ≡ Ok row.file
 row_file n i number [] row h = absurd (none_there row h)
@@ -83,7 +83,7 @@ row_file n i number (d ∷ ds) row h = go (i == number) refl h (row_file n (i + 
     either (inr f) = absurd (none_there row (subst (λ (rows : List DownloadRow). Contains rows row) none f))
   go false o w more = more w
 
--- a driver's rows that have a number are those of his downloads
+-- a driver's rows with a number are rows of the driver's downloads
 numbered_rows : (t : Tables) (s : State) (n number : ℕ) (d : Driver) → TablesStandFor t s → driver_of n s ≡ Some d
     → filter (is_download n number) t.downloads ≡ filter (has_own_number number) (download_rows n 1 d.downloads)
 numbered_rows t s n number d h k =
@@ -92,23 +92,23 @@ numbered_rows t s n number d h k =
     (subst (λ (j : ℕ). downloads_of j t.downloads ≡ download_rows j 1 d.downloads) (found_number n s d k)
     (found_of t n s d k h.each).downloads)
 
--- without a row of the number the driver has no such download
+-- the driver has no such download iff no row has the number
 pub download_none : (t : Tables) (s : State) (n number : ℕ) (d : Driver) → TablesStandFor t s → driver_of n s ≡ Some d
     → (filter (is_download n number) t.downloads ≡ []) ↔ (download_from 1 number d.downloads ≡ None)
 download_none t s n number d h k =
     let rows = numbered_rows t s n number d h k in
     (λ e. rows_none n 1 number d.downloads (sym rows ∙ e), λ e. rows ∙ none_rows n 1 number d.downloads e)
 
--- a row of the number has his download's file
+-- a row with the number has the file of the driver's download
 pub download_some : (t : Tables) (s : State) (n number : ℕ) (d : Driver) (row : DownloadRow) → TablesStandFor t s → driver_of n s ≡ Some d
     → Contains (filter (is_download n number) t.downloads) row
     → file_of (download_from 1 number d.downloads) ≡ Ok row.file
 download_some t s n number d row h k w = row_file n 1 number d.downloads row
     (subst (λ (rows : List DownloadRow). Contains rows row) (numbered_rows t s n number d h k) w)
 
--- ---- one more download
+-- ---- a download is added
 
--- its row comes behind the others
+-- its row comes after the others
 pub rows_append : (n i : ℕ) (ds : List Download) (x : Download)
     → download_rows n i (ds ++ x ∷ []) ≡ download_rows n i ds ++ download_row n (i + length ds) x ∷ []
 rows_append n i [] x = ap (λ (k : ℕ). download_row n k x ∷ []) (omega arith)
@@ -117,14 +117,14 @@ rows_append n i (d ∷ ds) x =
     ap (λ (y : List DownloadRow). download_row n i d ∷ y) (rows_append n (i + 1) ds x)
     ∙ ap (λ (k : ℕ). download_row n i d ∷ (download_rows n (i + 1) ds ++ download_row n k x ∷ [])) e
 
--- it is its driver's
+-- the row is one of its driver's
 pub own_added : (n : ℕ) (rows : List DownloadRow) (r : DownloadRow) → r.driver ≡ n
     → downloads_of n (rows ++ r ∷ []) ≡ downloads_of n rows ++ r ∷ []
 own_added n rows r e =
     filter-append (λ (x : DownloadRow). x.driver == n) rows (r ∷ [])
     ∙ ap (λ b. downloads_of n rows ++ cond b (r ∷ []) []) (subst (λ (k : ℕ). (k == n) ≡ true) (sym e) (eq_self n))
 
--- and nobody else's
+-- the row isn't another driver's
 pub other_added : (j n : ℕ) (rows : List DownloadRow) (r : DownloadRow) → r.driver ≡ n → j ≢ n
     → downloads_of j (rows ++ r ∷ []) ≡ downloads_of j rows
 other_added j n rows r e d =

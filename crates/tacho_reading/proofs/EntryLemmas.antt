@@ -1,4 +1,4 @@
--- Entries by their numbers, in the tables and in the state.
+-- Entries by number, in the tables and in the state.
 use Rattle.std.proofs.Common.{◌≡◌, ℕ, ◌+◌, ◌<◌, ◌==◌, ◌&&◌, ◌⊎◌, inl, inr, ◌↔◌, Bool, true, false, cond, List, [], ◌∷◌, Some, None, filter, refl, sym, ap, ◌∙◌, subst, arith}
 use Rattle.std.specs.List.{Contains}
 use Rattle.tacho_state.specs.State.{Entry, Driver, State, driver_of, entry_from}
@@ -9,11 +9,11 @@ use Rattle.tacho_reading.proofs.RowLemmas.{eq_not, eq_true}
 use Rattle.tacho_reading.proofs.DriverRowLemmas.{first_or_rest, none_there}
 use Rattle.tacho_reading.proofs.StateLemmas.{found_number, found_of}
 
--- the row of a number, whoever's it is
+-- the row has this number, whatever its driver
 abbrev has_own_number : ℕ → EntryRow → Bool
 has_own_number number r = r.number == number
 
--- a driver's entry is found among his
+-- a driver's entry with a number is the row of the driver's rows that has it
 among_own : (n number : ℕ) (rows : List EntryRow)
     → filter (is_entry n number) rows ≡ filter (has_own_number number) (entries_of n rows)
 among_own n number [] = refl
@@ -24,7 +24,7 @@ among_own n number (r ∷ rows) = go (r.driver == n) (among_own n number rows) w
   go true e = ap (λ (x : List EntryRow). cond (r.number == number) (r ∷ x) x) e
   go false e = e
 
--- rows of later numbers have another one
+-- the rows of later numbers don't have this number
 later_rows : (n i number : ℕ) (es : List Entry) → number < i → filter (has_own_number number) (entry_rows n i es) ≡ []
 later_rows n i number [] l = refl
 later_rows n i number (e ∷ es) l =
@@ -32,7 +32,7 @@ later_rows n i number (e ∷ es) l =
     ap (λ b. cond b (entry_row n i e ∷ more) more) (eq_not i number (λ f. absurd (omega (arith, f, l))))
     ∙ later_rows n (i + 1) number es (omega (arith, l))
 
--- without a row of the number there is no such entry
+-- if no row has the number, there is no such entry
 rows_none : (n i number : ℕ) (es : List Entry) → filter (has_own_number number) (entry_rows n i es) ≡ []
     → entry_from i number es ≡ None
 rows_none n i number [] f = refl
@@ -44,7 +44,7 @@ rows_none n i number (e ∷ es) f = go (i == number) f (rows_none n (i + 1) numb
   go true f more = cc
   go false f more = more f
 
--- and without the entry no row
+-- if there is no such entry, no row has the number
 none_rows : (n i number : ℕ) (es : List Entry) → entry_from i number es ≡ None
     → filter (has_own_number number) (entry_rows n i es) ≡ []
 none_rows n i number [] f = refl
@@ -56,7 +56,7 @@ none_rows n i number (e ∷ es) f = go (i == number) f (none_rows n (i + 1) numb
   go true f more = cc
   go false f more = more f
 
--- the row of the number is that of the entry
+-- a row with the number is that of the entry
 row_entry : (n i number : ℕ) (es : List Entry) (row : EntryRow)
     → Contains (filter (has_own_number number) (entry_rows n i es)) row
     → (e : Entry) × (entry_from i number es ≡ Some e) × (row ≡ entry_row n number e)
@@ -84,26 +84,26 @@ row_entry n i number (x ∷ es) row h = go (i == number) refl h (row_entry n (i 
     either (inr f) = absurd (none_there row (subst (λ (rows : List EntryRow). Contains rows row) none f))
   go false o w more = more w
 
--- a driver's rows are those of his entries
+-- a driver's rows are those of the driver's entries
 pub entry_all : (t : Tables) (s : State) (n : ℕ) (d : Driver) → TablesStandFor t s → driver_of n s ≡ Some d
     → entries_of n t.entries ≡ entry_rows n 1 d.entries
 entry_all t s n d h k = subst (λ (j : ℕ). entries_of j t.entries ≡ entry_rows j 1 d.entries) (found_number n s d k)
     (found_of t n s d k h.each).entries
 
--- and those that have a number too
+-- a driver's rows with a number are rows of the driver's entries
 numbered_rows : (t : Tables) (s : State) (n number : ℕ) (d : Driver) → TablesStandFor t s → driver_of n s ≡ Some d
     → filter (is_entry n number) t.entries ≡ filter (has_own_number number) (entry_rows n 1 d.entries)
 numbered_rows t s n number d h k =
     among_own n number t.entries ∙ ap (λ (x : List EntryRow). filter (has_own_number number) x) (entry_all t s n d h k)
 
--- without a row of the number the driver has no such entry
+-- the driver has no such entry iff no row has the number
 pub entry_none : (t : Tables) (s : State) (n number : ℕ) (d : Driver) → TablesStandFor t s → driver_of n s ≡ Some d
     → (filter (is_entry n number) t.entries ≡ []) ↔ (entry_from 1 number d.entries ≡ None)
 entry_none t s n number d h k =
     let rows = numbered_rows t s n number d h k in
     (λ e. rows_none n 1 number d.entries (sym rows ∙ e), λ e. rows ∙ none_rows n 1 number d.entries e)
 
--- a row of the number is that of his entry
+-- a row with the number is that of the driver's entry
 pub entry_some : (t : Tables) (s : State) (n number : ℕ) (d : Driver) (row : EntryRow) → TablesStandFor t s → driver_of n s ≡ Some d
     → Contains (filter (is_entry n number) t.entries) row
     → (e : Entry) × (entry_from 1 number d.entries ≡ Some e) × (row ≡ entry_row n number e)

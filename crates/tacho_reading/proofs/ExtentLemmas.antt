@@ -1,4 +1,4 @@
--- The minutes of canonical spans lie from the start of the first to before the past of the last.
+-- The minutes of canonical spans go from the start of the first span to before the past of the last.
 use Rattle.std.proofs.Common.{◌≡◌, ◌-◌, ◌≤◌, ◌<◌, List, length, Some, subst, arith}
 use Rattle.std.specs.List.{slice_get}
 use Rattle.std.proofs.lemmas.Option.{slice_get_within, get_or_from_slice_get}
@@ -7,7 +7,7 @@ use Rattle.tacho_time.specs.Spans.{IsCanonical}
 use Rattle.tacho_line.proofs.AddLemmas.{first_bound, last_bound}
 use Rattle.tacho_state.specs.Disjoint.{AreInRange}
 
--- the range from the first span's start to the last one's past has them all
+-- all minutes of the spans are within that range
 pub in_range : (spans : List Span) (first last : Span) → IsCanonical spans → slice_get spans 0 ≡ Some first
     → slice_get spans (length spans - 1) ≡ Some last → AreInRange first.start last.past spans
 in_range spans first last h from to m k g =

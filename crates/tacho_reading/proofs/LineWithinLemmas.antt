@@ -1,4 +1,4 @@
--- The line of a driver's rows near a range has the marks that he holds there.
+-- The line of a driver's rows near a range has the marks that the driver holds in it.
 use Rattle.std.proofs.Common.{◌≡◌, ◌⊎◌, ℕ, List, map, Option, Some, Result, Ok, Err, IfErr, IfOk, sym, ap, subst}
 use Rattle.std.specs.Prelude.{IfSome}
 use Rattle.sqlite.specs.Tree.{Trees}
@@ -22,11 +22,11 @@ use Rattle.tacho_reading.proofs.NearRowLemmas.{held_kept, read_line}
 use Rattle.tacho_reading.proofs.TimelineLemmas.{gave_up, same_option}
 use Rattle.tacho_reading.specs.Apart.{AreApart, rows_of}
 
--- rows of a table that were read near a range
+-- these rows of a table were read near a range
 abbrev pub AreRead : (Tables → List SpanRow) → Trees → ℕ → ℕ → ℕ → List StoredSpan → Type 0
 AreRead get db n a b found = (t : Tables) → HasTables db t → AreApart (rows_of n (get t)) → IsReadNear (get t) n a b found
 
--- one list of rows
+-- the line of the rows near a range agrees within it with what the driver holds
 pub agreed_of : (t : Tables) (s : State) (n : ℕ) (d : Driver) (a b : ℕ) (helds : List StoredSpan) (line : List Span) → TablesStandFor t s
     → driver_of n s ≡ Some d → IsReadNear t.held n a b helds → IsCanonicalOf (Gives (map stored_span helds)) line
     → AgreeWithin a b line (held_spans d)
@@ -45,7 +45,7 @@ unfolding StandsFor
 agreed db s n d a b helds line (t, stand, of) is read =
     agreed_of t s n d a b helds line of is (read t stand (held_apart t s n d of is))
 
--- so it is one of what he holds in the range
+-- so it is the line of what the driver holds in the range
 pub range_told : (db : Trees) (s : State) (n : ℕ) (d : Driver) (a b : ℕ) (helds : List StoredSpan) (r : Result (List Span) StoreFault)
     → StandsFor db s → driver_of n s ≡ Some d → AreRead (λ t. t.held) db n a b helds
     → IfOk r (IsCanonicalOf (Gives (map stored_span helds))) → IfOk r (IsHeldWithin n a b s)
@@ -54,7 +54,7 @@ range_told db s n d a b helds (Ok line) stands is read canonical =
     (agreed db s n d a b helds line stands is read canonical)
 range_told db s n d a b helds (Err f) stands is read canonical = tt
 
--- there is a driver to tell of, or the call gave up
+-- there is a driver to report on, or the call gave up
 pub range_answers : (n : ℕ) (s : State) (d : Driver) (r : Result (List Span) StoreFault) → driver_of n s ≡ Some d
     → IfErr r (λ f. (f ≡ Memory) ⊎ (f ≡ Store)) → Answers (λ _. tt) r (reported n s)
 range_answers n s d (Ok line) is up = ap (told_of (λ d. Ok tt)) is

@@ -1,4 +1,4 @@
--- A driver's entries are listed by their numbers.
+-- A driver's entries are listed in the order of their numbers.
 use Rattle.std.proofs.Common.{◌≡◌, ◌∙◌, ℕ, ◌+◌, ◌<◌, ◌⊎◌, ◌==◌, Bool, true, false, cond, not, List, [], ◌∷◌, map, filter, Ordering, Less, Some, Result, Ok, Err, IfOk, IfErr, refl, sym, ap, subst, arith}
 use Rattle.std.specs.Cmp.{IsTotalOrder}
 use Rattle.std.specs.List.{AllByRecursion}
@@ -25,7 +25,7 @@ use Rattle.tacho_reading.proofs.TimelineLemmas.{gave_up}
 
 -- ---- order
 
--- stored entries are ordered by their numbers
+-- the order of stored entries by number
 abbrev by_number : ListedEntry → ListedEntry → Ordering
 by_number x y = nat_cmp x.number y.number
 
@@ -36,11 +36,11 @@ total = record {
   congr = λ x y z. nat_cmp_total.congr x.number y.number z.number;
 }
 
--- a smaller number is before a greater one
+-- a smaller number comes before a greater one
 less_is : (i j : ℕ) → i < j → nat_cmp i j ≡ Less
 less_is i j h = grind (arith, nat_tests)
 
--- the numbers of a driver's rows rise
+-- the numbers of a driver's rows increase
 rows_above : (n i j : ℕ) (es : List Entry) → i < j
     → AllByRecursion (λ (x : ListedEntry). nat_cmp i x.number ≡ Less) (map listed_entry (entry_rows n j es))
 rows_above n i j [] h = tt
@@ -52,19 +52,19 @@ rows_rise n i (e ∷ es) = (rows_above n i (i + 1) es (omega arith), rows_rise n
 
 -- ---- rows as entries
 
--- an activity has its number
+-- an activity's number gives the activity
 activity_is : (a : Activity) → numbered_activity (activity_number a) ≡ a
 activity_is Rest = refl
 activity_is Available = refl
 activity_is Work = refl
 activity_is Drive = refl
 
--- and a mark of a withdrawal is one
+-- the number that marks a withdrawn entry gives the mark
 flag_is : (b : Bool) → not (cond b 1 0 == 0) ≡ b
 flag_is true = refl
 flag_is false = refl
 
--- an entry by a number, of these hours and withdrawn or not
+-- the listed entry with this number, the hours of `Entry`, this activity, and withdrawn or not
 listed_with : ℕ → Entry → Activity → Bool → Listed
 listed_with i e a w = record {
   number = i;
@@ -88,7 +88,7 @@ rows_listed n i (e ∷ es) =
 
 -- ---- what is read
 
--- a driver's rows, by their numbers, are listed as his entries
+-- a driver's rows ordered by number are listed as the driver's entries
 pub entries_told : (db : Trees) (n : ℕ) (s : State) (d : Driver) (found : List ListedEntry) → StandsFor db s → driver_of n s ≡ Some d
     → ((a : Tables) → HasTables db a → IsPermutation (map listed_entry (filter (is_entry_of n) a.entries)) found)
     → ((a : Tables) → HasTables db a → IsSorted by_number found) → map listed_as found ≡ numbered_from 1 d.entries
@@ -98,7 +98,7 @@ entries_told db n s d found (t, stand, of) is same sorted =
     subst (λ (x : List EntryRow). IsPermutation (map listed_entry x) found) (entry_all t s n d of is) (same t stand) in
     ap (map listed_as) (sorted_unique by_number total _ found (rows_rise n 1 d.entries) rows (sorted t stand)) ∙ rows_listed n 1 d.entries
 
--- they are answered, or the call gave up
+-- these entries are answered, or the call gave up
 pub entries_answer : {V : Type 0} (items : V → List Listed) (n : ℕ) (s : State) (d : Driver) (r : Result V StoreFault) → driver_of n s ≡ Some d
     → IfOk r (λ v. items v ≡ numbered_from 1 d.entries) → IfErr r (λ f. (f ≡ Memory) ⊎ (f ≡ Store)) → Answers items r (listed n s)
 entries_answer items n s d (Ok v) is told up = rw is (ap Ok (sym told))

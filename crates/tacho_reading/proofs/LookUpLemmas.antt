@@ -1,4 +1,4 @@
--- What look-ups find, by the state that the tables stand for.
+-- What look-ups find, in terms of the state that the tables represent.
 use Rattle.std.proofs.Common.{◌≡◌, ◌∙◌, ℕ, List, [], filter, false, Option, Some, None, Result, Ok, Err, sym, ap, subst}
 use Rattle.std.specs.Prelude.{Contains, MatchOption, is_some, ok_or, IsErr, IsErrAnd}
 use Rattle.sqlite.specs.Tree.{Trees}
@@ -13,7 +13,7 @@ use Rattle.tacho_reading.specs.Standing.{StandsFor, driver_columns}
 use Rattle.tacho_reading.specs.Finding.{Refuses, IsStored, IsDriver}
 use Rattle.tacho_reading.proofs.DriverRowLemmas.{number_none, number_some, key_none, key_some, holder_none, holder_some}
 
--- the number is the driver's, and finds him
+-- this is the driver's number, and the state finds the driver by it
 pub record IsNumberOf (s : State) (n : ℕ) (d : Driver) : Type 0 where
   pub number : n ≡ d.number
   pub found : driver_of n s ≡ Some d
@@ -41,7 +41,7 @@ number_found db s n (Some it) (t, stand, is) h =
       },
     )
 
--- a look-up by key finds his number
+-- a look-up by key finds the driver's number
 pub key_found : (db : Trees) (s : State) (key : List ℕ) (found : Option ℕ) → StandsFor db s
     → ((a : Tables) → HasTables db a → MatchOption found (filter (has_secret key) a.drivers ≡ [])
     (λ n. (r : DriverRow) × Contains (filter (has_secret key) a.drivers) r × (n ≡ r.driver)))
@@ -53,7 +53,7 @@ key_found db s key (Some n) (t, stand, is) h =
     let d = key_some t s key found.0 is found.1 in
     (d.0, d.1, found.2 ∙ ap (λ (r : DriverRow). r.driver) d.2)
 
--- a look-up by holder finds his number
+-- a look-up by holder finds the driver's number
 pub holder_found : (db : Trees) (s : State) (holder : List ℕ) (found : Option ℕ) → StandsFor db s
     → ((a : Tables) → HasTables db a → MatchOption found (filter (has_holder holder) a.drivers ≡ [])
     (λ n. (r : DriverRow) × Contains (filter (has_holder holder) a.drivers) r × (n ≡ r.driver)))
@@ -66,14 +66,14 @@ holder_found db s holder (Some n) (t, stand, is) h =
     let number : n ≡ d.0.number = found.2 ∙ ap (λ (r : DriverRow). r.driver) d.3 in
     (d.0, d.1, record { number = number; found = ap (λ m. driver_of m s) number ∙ d.2 })
 
--- where nothing was found
+-- if nothing was found, the fact for nothing holds
 pub not_found : {X : Type 0} (found : Option X) (P : Type 0) (Q : X → Type 0) → is_some found ≡ false → MatchOption found P Q → P
 not_found None P Q is h = h
 not_found (Some x) P Q is h = absurd (let e = is in cc)
 
 -- ---- the driver with a number, or S4
 
--- what a look-up by number comes to
+-- the result of a look-up by number, with S4 if nothing was found
 pub driver_found : (n : ℕ) (s : State) (found : Option StoredDriver)
     → MatchOption found (driver_of n s ≡ None) (λ it. (d : Driver) × (driver_of n s ≡ Some d) × IsStored it d)
     → IsDriver s n (ok_or found UnknownDriver)
@@ -81,12 +81,12 @@ unfolding IsDriver
 driver_found n s None h = h
 driver_found n s (Some it) h = h
 
--- the driver who is there
+-- the driver that a look-up has found
 pub the_driver : (n : ℕ) (s : State) (it : StoredDriver) → IsDriver s n (Ok it) → (d : Driver) × (driver_of n s ≡ Some d) × IsStored it d
 unfolding IsDriver
 the_driver n s it h = h
 
--- a step that answers S4 where nobody has the number is refused as the look-up was
+-- a step that answers S4 if nobody has the number is refused as the look-up was
 pub unknown_refuses : {A : Type 0} (n : ℕ) (s : State) (fault : StoreFault) (told : Result A StoreFault)
     → (driver_of n s ≡ None → told ≡ Err UnknownDriver) → IsDriver s n (Err fault) → Refuses fault told
 unfolding IsDriver
@@ -95,7 +95,7 @@ unknown_refuses n s Memory told none h = tt
 unknown_refuses n s Store told none h = tt
 unknown_refuses n s fault told none h = absurd h
 
--- a fault that is handed on answers what it refuses
+-- a fault that is passed on is the step's answer, or the call gave up
 pub handed_on : {A B : Type 0} (view : A → B) (fault : StoreFault) (r : Result A StoreFault) (told : Result B StoreFault)
     → Refuses fault told → IsErr r × IsErrAnd r (λ found. found ≡ fault) → Answers view r told
 handed_on view fault (Ok x) told h e = let wrong = e.0 in cc

@@ -1,4 +1,4 @@
--- What is read near a range gives what the driver's rows give there.
+-- What the rows read near a range give there is what the driver's rows give there.
 use Rattle.std.proofs.Common.{◌≡◌, ℕ, suc, ◌⊎◌, inl, inr, List, [], ◌∷◌, Some, map, filter, refl, sym, subst, arith}
 use Rattle.std.specs.List.{Contains}
 use Rattle.std.specs.List.Sorted.{IsPermutation}
@@ -16,7 +16,7 @@ use Rattle.tacho_reading.proofs.RowLemmas.{near_spans}
 use Rattle.tacho_reading.proofs.DriverRowLemmas.{first_or_rest, none_there}
 use Rattle.tacho_reading.proofs.StateLemmas.{found_number, found_of}
 
--- what a list of spans gives is given by one of them
+-- a pair that a list of spans gives is given by one of them
 giver : (xs : List Span) (m : ℕ) (k : Mark) → Gives xs m k → (s : Span) × Contains xs s × Covers s m × (s.mark ≡ k)
 giver [] m k g = absurd g
 giver (s ∷ ss) m k (inl c) = (s, (0, omega arith, refl), c.0, c.1)
@@ -25,7 +25,7 @@ giver (s ∷ ss) m k (inr g) =
     let l = it.1.1 in
     (it.0, (suc it.1.0, omega (arith, l), it.1.2), it.2, it.3)
 
--- and what one of them gives the list gives
+-- a pair that one of the spans gives is given by the list
 given_by : (xs : List Span) (m : ℕ) (k : Mark) (s : Span) → Contains xs s → Covers s m → s.mark ≡ k → Gives xs m k
 given_by [] m k s h c e = absurd (none_there s h)
 given_by (x ∷ xs) m k s h c e = go (first_or_rest x s xs h) (λ w. given_by xs m k s w c e) where
@@ -33,7 +33,7 @@ given_by (x ∷ xs) m k s h c e = go (first_or_rest x s xs h) (λ w. given_by xs
   go (inl f) more = inl (subst (λ (y : Span). Covers y m × (y.mark ≡ k)) (sym f) (c, e))
   go (inr f) more = inr (more f)
 
--- spans in another order give the same
+-- spans in another order give the same pairs
 pub permuted_gives : (xs ys : List Span) (m : ℕ) (k : Mark) → IsPermutation xs ys → Gives xs m k → Gives ys m k
 permuted_gives xs ys m k p g =
     let it = giver xs m k g in
@@ -57,12 +57,12 @@ read_line rows n a b found line p h =
       );
     }
 
--- a driver's card spans keep what he is given
+-- a driver's card spans keep what the driver is given
 pub card_kept : (t : Tables) (s : State) (n : ℕ) (d : Driver) → TablesStandFor t s → driver_of n s ≡ Some d
     → Keeps (spans_of n t.card_spans) (Given d)
 card_kept t s n d h k = subst (λ (j : ℕ). Keeps (spans_of j t.card_spans) (Given d)) (found_number n s d k)
     (found_of t n s d k h.each).card_spans
 
--- and his held rows what he holds
+-- a driver's held rows keep what the driver holds
 pub held_kept : (t : Tables) (s : State) (n : ℕ) (d : Driver) → TablesStandFor t s → driver_of n s ≡ Some d → Keeps (spans_of n t.held) (Held d)
 held_kept t s n d h k = subst (λ (j : ℕ). Keeps (spans_of j t.held) (Held d)) (found_number n s d k) (found_of t n s d k h.each).held

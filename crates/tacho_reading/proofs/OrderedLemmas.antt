@@ -1,4 +1,4 @@
--- The order of a table's rows means nothing.
+-- The order of a table's rows doesn't matter.
 use Rattle.std.proofs.Common.{List}
 use Rattle.std.specs.List.Sorted.{IsPermutation}
 use Rattle.std.proofs.lemmas.List.Sorted.{IsPermutation-sym, IsPermutation-map}
@@ -11,13 +11,13 @@ use Rattle.tacho_tables.proofs.Stored.{stands_shuffled}
 use Rattle.tacho_tables.proofs.Numbered.{numbered_shuffled}
 use Rattle.tacho_reading.specs.Standing.{SameRows}
 
--- stored rows that stand for a list stand for it in another order
+-- stored rows that represent a list also represent it in another order
 shuffled : {X : Type 0} (columns : X → Row) (rows : List Row) (all other : List X) → IsPermutation all other → AreRowsOf columns rows all
     → AreRowsOf columns rows other
 shuffled columns rows all other same s = stands_shuffled columns rows all other s
     (IsPermutation-map columns other all (IsPermutation-sym all other same))
 
--- and so do all five tables
+-- likewise for all five tables
 pub any_order_stands : (db : Trees) (t u : Tables) → SameRows t u → HasTables db t → HasTables db u
 any_order_stands db t u same s = record {
   layout = s.layout;

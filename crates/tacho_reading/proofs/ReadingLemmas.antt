@@ -1,4 +1,4 @@
--- What readings answer, by what look-ups find.
+-- What readings answer, from what look-ups find.
 use Rattle.std.proofs.Common.{◌≡◌, ◌∙◌, ℕ, List, [], filter, Option, Some, None, Result, Ok, Err, refl, sym, ap}
 use Rattle.std.specs.Prelude.{MatchOption, Contains, ok_or}
 use Rattle.sqlite.specs.Tree.{Trees}
@@ -12,18 +12,18 @@ use Rattle.tacho_tables.specs.Tables.{Tables, HasTables, is_download}
 use Rattle.tacho_reading.specs.Standing.{StandsFor}
 use Rattle.tacho_reading.proofs.DownloadLemmas.{download_none, download_some}
 
--- S4
+-- S4: there is no such driver
 pub nobody : {A : Type 0} (n : ℕ) (s : State) (f : Driver → Result A StoreFault) → driver_of n s ≡ None
     → told_of f (driver_of n s) ≡ Err UnknownDriver
 nobody n s f none = ap (told_of f) none
 
--- the driver whose key it is, if there is one
+-- the number of the driver with this key, if there is one
 pub owner_told : (key : List ℕ) (s : State) (found : Option ℕ)
     → MatchOption found (keyed key s ≡ None) (λ n. (d : Driver) × (keyed key s ≡ Some d) × (n ≡ d.number)) → owner key s ≡ Ok found
 owner_told key s None none = rw none refl
 owner_told key s (Some n) (d, is, number) = rw (is, number) refl
 
--- S10, or the file
+-- S10, or the bytes of the file
 pub file_told : {X : Type 0} (items : X → List ℕ) (db : Trees) (n number : ℕ) (s : State) (found : Option X) (d : Driver)
     → driver_of n s ≡ Some d → StandsFor db s
     → ((a : Tables) → HasTables db a → MatchOption found (filter (is_download n number) a.downloads ≡ [])

@@ -1,4 +1,4 @@
--- A driver's name and his report, by what is stored of him and by what a scan took of his rows.
+-- A driver's name and report, from the driver's stored row and from what a scan took of their span rows.
 use Rattle.std.proofs.Common.{◌≡◌, ◌∙◌, ◌↔◌, inl, inr, ℕ, suc, ◌*◌, ◌<◌, ◌≤◌, ◌==◌, ◌&&◌, Bool, true, false, cond, List, [], ◌∷◌, ◌++◌, map, filter, Option, None, Some, Ok, refl, sym, ap, subst, arith, add-one}
 use Rattle.std.specs.Prelude.{IfSome, min, string_bytes, nat_lt, nat_le}
 use Rattle.std.specs.Option.{option_map_or}
@@ -41,7 +41,7 @@ use Rattle.tacho_reading.specs.Standing.{StandsFor, row_span, spans_of}
 use Rattle.tacho_reading.specs.Taken.{cut, cuts, AreWhole, StopsBefore, AreFed}
 use Rattle.tacho_reading.proofs.NearRowLemmas.{permuted_gives, held_kept}
 
--- the name that is stored is the driver's
+-- the stored name is the driver's
 pub name_told : (n : ℕ) (s : State) (d : Driver) (it : StoredDriver) → driver_of n s ≡ Some d → IsStored it d
     → named n s ≡ Ok (string_bytes it.name)
 name_told n s d it is stored = rw is (ap Ok (sym stored.name))
@@ -52,7 +52,7 @@ somebody n s d is = ap (told_of (λ d. Ok tt)) is
 
 -- ---- what spans give
 
--- what is left of spans from a base on gives what they give from there on
+-- spans cut at a base give what the spans give from the base on
 cuts_given : (base : ℕ) (spans : List Span) (m : ℕ) (k : Mark) → Gives (cuts base spans) m k
     → Gives spans m k × (base ≤ m)
 cuts_given base [] m k g = absurd g
@@ -67,7 +67,7 @@ cuts_given base (s ∷ spans) m k g = go (nat_le s.past base) g (cuts_given base
   go false (inl c) more = let at = started (nat_lt s.start base) refl c.0.0 in (inl ((at.0, c.0.1), c.1), at.1)
   go false (inr g) more = (inr (more g).0, (more g).1)
 
--- and where that ends they end
+-- if the cut spans end at `past`, the spans give no minute from there on
 given_before : (base from past : ℕ) (spans : List Span) (m : ℕ) (k : Mark) → Joined (cuts base spans) from past
     → base ≤ past → Gives spans m k → m < past
 given_before base from past [] m k j le g = absurd g
@@ -89,7 +89,7 @@ given_before base from past (s ∷ spans) m k j le g = go (nat_le s.past base) r
           let h : m < ends = c.0.1 in omega (arith, l, h)
       go false e j (inr g) more = more s.past j.2 g
 
--- spans that follow one another have each minute from the first to the last
+-- spans that follow one another give each minute from the first to the last
 covered : (spans : List Span) (from past m : ℕ) → Joined spans from past → from ≤ m → m < past
     → All (λ s. s.mark.crew ≡ false) spans
     → (k : Mark) × Gives spans m k × (k.crew ≡ false)
@@ -101,7 +101,7 @@ covered (s ∷ spans) from past m j above below single = elim (cases_lt m s.past
       (more.0, inr more.1, more.2)
 ]
 
--- and no minute before
+-- they give no minute before the first
 given_from : (spans : List Span) (from past m : ℕ) (k : Mark) → Joined spans from past → Gives spans m k → from ≤ m
 given_from [] from past m k j g = absurd g
 given_from (s ∷ spans) from past m k j (inl c) =
@@ -109,7 +109,7 @@ given_from (s ∷ spans) from past m k j (inl c) =
 given_from (s ∷ spans) from past m k j (inr g) =
     let l : s.past ≤ m = given_from spans s.past past m k j.2 g in let f : from < s.past = j.1 in omega arith
 
--- their line has the activity that they give
+-- the line of such spans has the activity that they give
 line_given : (spans : List Span) (from past m : ℕ) (k : Mark) → Joined spans from past → Gives spans m k
     → line_of spans m ≡ k.activity
 line_given [] from past m k j g = absurd g
@@ -117,9 +117,9 @@ line_given (s ∷ spans) from past m k j (inl c) = line_within s spans m c.0.0 c
 line_given (s ∷ spans) from past m k j (inr g) =
     line_past s spans m (given_from spans s.past past m k j.2 g) ∙ line_given spans s.past past m k j.2 g
 
--- ---- rows in the order of their starts
+-- ---- rows ordered by start
 
--- no row begins before one that is ahead of it
+-- no row begins before one that comes earlier in the list
 abbrev Rise : List SpanRow → Type 0
 Rise [] = Unit {0}
 Rise (r ∷ rows) = AllByRecursion (λ (x : SpanRow). r.start ≤ x.start) rows × Rise rows
@@ -160,7 +160,7 @@ given_later n (x ∷ rows) m k h (inr g) = given_later n rows m k h.1 g
 
 -- ---- the horizon
 
--- why it is where it is
+-- why the horizon is at this minute
 cause_is : (held taken : List Span) (minute : ℕ) (cause : Cause) (others : List SpanRow)
     → ((k : Mark) → ¬ Gives taken minute k)
     → ((k : Mark) → Gives (taken ++ map row_span others) minute k ↔ (mark_at held minute ≡ Some k)) → Rise others
@@ -188,13 +188,13 @@ cause_is held taken minute Crew (x ∷ others) none gives rise stops =
     subst IsCrew (sym ((gives (row_span x).mark).0 (back_gives taken (map row_span (x ∷ others)) minute
     (row_span x).mark (inl (stops.0, refl))))) stops.1
 
--- rows up to the horizon, and the others, of a driver who holds what they give from the base on
+-- The rows up to the horizon, and the others. Together they give, from the base on, what the driver holds.
 module _ (held : List Span) (base : ℕ) (h : Horizon) (taken others : List SpanRow)
     (whole : AreWhole base base h.minute (map row_span taken))
     (stops : StopsBefore h (map row_span others)) (rise : Rise others)
     (gives : (m : ℕ) (k : Mark) → base ≤ m → Gives (map row_span taken ++ map row_span others) m k ↔
     (mark_at held m ≡ Some k)) where
-  -- what is left of those up to the horizon
+  -- the spans of the rows up to the horizon, cut at the base
   abbrev left : List Span
   left = cuts base (map row_span taken)
 
@@ -206,7 +206,7 @@ module _ (held : List Span) (base : ℕ) (h : Horizon) (taken others : List Span
       let c = cuts_given base (map row_span taken) m k g in
       (gives m k c.1).0 (front_gives (map row_span taken) (map row_span others) m k c.0)
 
-  -- the horizon is his
+  -- it is the driver's horizon
   horizon_is : IsHorizon held base h
   horizon_is = record {
     from = from;
@@ -219,7 +219,7 @@ module _ (held : List Span) (base : ℕ) (h : Horizon) (taken others : List Span
         (λ k. gives h.minute k from) rise stops;
   }
 
-  -- their line is the examined one
+  -- the line of these spans is the examined line
   as_examined : (m : ℕ) → line_of left m ≡ examined held base h.minute m
   as_examined m = elim (cases_lt m base) [
     | inl before ↦
@@ -239,7 +239,7 @@ module _ (held : List Span) (base : ℕ) (h : Horizon) (taken others : List Span
     ]
   ]
 
-  -- so what a scan finds of them is his report
+  -- so what a scan finds from them is the driver's report
   pub report_found : (report : Report) → IsBase base → report.horizon ≡ h
       → (IsExamined left base h.minute → AreFindings (line_of left) base h.minute report.breaches.items
       report.debts.items)
@@ -259,7 +259,7 @@ module _ (held : List Span) (base : ℕ) (h : Horizon) (taken others : List Span
 
 -- ---- the driver's rows
 
--- from the base on his rows that end behind it give what all his rows give
+-- from the base on, the driver's rows that end after it give what all the driver's rows give
 pub behind_gives : (n base m : ℕ) (k : Mark) (rows : List SpanRow) → base ≤ m
     → Gives (map row_span (filter (is_behind n base) rows)) m k ↔ Gives (spans_of n rows) m k
 behind_gives n base m k [] le = (λ g. g, λ g. g)
@@ -289,7 +289,7 @@ behind_gives n base m k (r ∷ rows) le = go (r.driver == n) (nat_lt base r.past
         right (inr g) = more.1 g
       go false b e more = more
 
--- so what a scan found of them is his report
+-- so what a scan found from these rows is the driver's report
 pub report_told : (db : Trees) (n from : ℕ) (s : State) (b : Beginning) (h : Horizon) (scan : Scan) (was : Found)
     (fed : Scan) (found : Found) (report : Report)
     → StandsFor db s → IsBegun db n from s b → b.base ≤ from → IsBase b.base → IsScanOf scan was b.base []

@@ -1,4 +1,4 @@
--- Rows of a driver, and the spans that they stand for.
+-- Rows of a driver, and the spans that they represent.
 use Rattle.std.proofs.Common.{◌≡◌, ◌≢◌, ℕ, ◌==◌, ◌&&◌, Bool, true, false, cond, List, [], ◌∷◌, ◌++◌, map, filter, refl, sym, ap, ◌∙◌, arith, lit<}
 use Rattle.std.specs.List.{All, slice_index_or}
 use Rattle.std.proofs.lemmas.Bool.Decides.{nat_tests}
@@ -15,11 +15,11 @@ use Rattle.tacho_reading.specs.Standing.{IsMark, mark_number, numbered_mark, row
 
 -- ---- numbers
 
--- a number is equal to itself
+-- a number equals itself
 pub eq_self : (n : ℕ) → (n == n) ≡ true
 eq_self n = grind (arith, nat_tests)
 
--- numbers that differ don't pass the test
+-- different numbers fail the test
 pub eq_not : (j n : ℕ) → j ≢ n → (j == n) ≡ false
 eq_not j n d = go (j == n) refl where
   go : (b : Bool) → (j == n) ≡ b → b ≡ false
@@ -36,7 +36,7 @@ eq_false j n e f = let g : (j == n) ≡ true = grind (arith, nat_tests) in cc
 
 -- ---- marks
 
--- a mark's number is that mark's
+-- a mark's number gives the mark
 mark_back : (a : Activity) (c : Bool) → numbered_mark (mark_number (record { activity = a; crew = c })) ≡ record { activity = a; crew = c }
 mark_back Rest true = refl
 mark_back Rest false = refl
@@ -47,11 +47,11 @@ mark_back Work false = refl
 mark_back Drive true = refl
 mark_back Drive false = refl
 
--- the row of a span stands for that span
+-- the row of a span gives that span
 span_back : (n : ℕ) (s : Span) → row_span (span_row n s) ≡ s
 span_back n s = ap (λ (k : Mark). record { start = s.start; past = s.past; mark = k }) (mark_back s.mark.activity s.mark.crew)
 
--- a mark's number is a number that a mark has
+-- a mark's number is below 8
 mark_below : (a : Activity) (c : Bool) → IsMark (mark_number (record { activity = a; crew = c }))
 mark_below Rest true = lit< tt
 mark_below Rest false = lit< tt
@@ -64,7 +64,7 @@ mark_below Drive false = lit< tt
 
 -- ---- rows and spans
 
--- the spans of rows that are joined
+-- the spans of joined lists of rows
 spans_append : (n : ℕ) (xs ys : List SpanRow) → spans_of n (xs ++ ys) ≡ spans_of n xs ++ spans_of n ys
 spans_append n [] ys = refl
 spans_append n (r ∷ xs) ys = go (r.driver == n) (spans_append n xs ys) where
@@ -74,7 +74,7 @@ spans_append n (r ∷ xs) ys = go (r.driver == n) (spans_append n xs ys) where
   go true e = ap (λ (x : List Span). row_span r ∷ x) e
   go false e = e
 
--- the spans of a driver's rows that were made of spans
+-- the spans of rows that were made from a driver's spans
 spans_rows : (n : ℕ) (spans : List Span) → spans_of n (map (span_row n) spans) ≡ spans
 spans_rows n [] = refl
 spans_rows n (s ∷ ss) =
@@ -82,7 +82,7 @@ spans_rows n (s ∷ ss) =
     ∙ ap (λ (x : Span). x ∷ spans_of n (map (span_row n) ss)) (span_back n s)
     ∙ ap (λ (x : List Span). s ∷ x) (spans_rows n ss)
 
--- and another driver has none of them
+-- another driver has none of these spans
 spans_other : (j n : ℕ) (spans : List Span) → j ≢ n → spans_of j (map (span_row n) spans) ≡ []
 spans_other j n [] d = refl
 spans_other j n (s ∷ ss) d =
@@ -90,17 +90,17 @@ spans_other j n (s ∷ ss) d =
     (eq_not n j (λ e. d (sym e)))
     ∙ spans_other j n ss d
 
--- rows of a driver that are added are his
+-- rows added for a driver are that driver's
 pub added_own : (n : ℕ) (rows : List SpanRow) (spans : List Span) → spans_of n (rows ++ map (span_row n) spans) ≡ spans_of n rows ++ spans
 added_own n rows spans = spans_append n rows (map (span_row n) spans) ∙ ap (λ (x : List Span). spans_of n rows ++ x) (spans_rows n spans)
 
--- and nobody else's
+-- rows added for a driver aren't another driver's
 pub added_other : (j n : ℕ) (rows : List SpanRow) (spans : List Span) → j ≢ n
     → spans_of j (rows ++ map (span_row n) spans) ≡ spans_of j rows
 added_other j n rows spans d = spans_append j rows (map (span_row n) spans)
     ∙ ap (λ (x : List Span). spans_of j rows ++ x) (spans_other j n spans d) ∙ append-nil (spans_of j rows)
 
--- rows of spans that are added have numbers of marks
+-- rows of spans that are added have the numbers of marks
 pub added_marks : (n : ℕ) (rows : List SpanRow) (spans : List Span) → All (λ r. IsMark r.mark) rows
     → All (λ r. IsMark r.mark) (rows ++ map (span_row n) spans)
 added_marks n rows spans h = All-append (λ r. IsMark r.mark) rows (map (span_row n) spans) h
@@ -108,7 +108,7 @@ added_marks n rows spans h = All-append (λ r. IsMark r.mark) rows (map (span_ro
 
 -- ---- rows near a range
 
--- a driver's rows near a range stand for his spans near it
+-- a driver's rows near a range represent the driver's spans near it
 pub near_spans : (n a b : ℕ) (rows : List SpanRow)
     → map stored_span (map span_of (filter (is_near n a b) rows)) ≡ disjoint.near a b (spans_of n rows)
 near_spans n a b [] = refl

@@ -1,4 +1,4 @@
--- What a connection still sees after a call that changes nothing.
+-- What a connection sees after a call that changes nothing.
 use Rattle.std.proofs.Common.{sym, subst}
 use Rattle.sqlite.specs.Effect.{Database}
 use Rattle.sqlite.specs.State.{State as Sqlite, IsUnchanged}
@@ -6,11 +6,11 @@ use Rattle.tacho_state.specs.State.{State}
 use Rattle.tacho_tables.specs.Tables.{IsArchive}
 use Rattle.tacho_reading.specs.Standing.{StandsFor}
 
--- an archive
+-- the connection still sees an archive
 pub still_archive : (old new : Sqlite) → IsUnchanged old new → IsArchive old.now → IsArchive new.now
 still_archive old new same = subst IsArchive (sym same.0.now_is)
 
--- the same tables, which stand for the same state
+-- the connection still sees the same tables, which represent the same state
 pub still_seen : (old new : Sqlite) (s : State) → IsUnchanged old new → IsArchive old.now → StandsFor old.now.trees s
     → IsArchive new.now × StandsFor new.now.trees s
 still_seen old new s same schema stands =

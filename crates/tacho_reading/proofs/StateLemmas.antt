@@ -1,4 +1,4 @@
--- One driver of a state is changed, and his rows with him.
+-- One driver of a state changes, and the rows of that driver change too.
 use Rattle.std.proofs.Common.{◌≡◌, ◌≢◌, ℕ, ◌==◌, Bool, true, false, cond, List, [], ◌∷◌, Some, map, refl, sym, ap, ◌∙◌, subst}
 use Rattle.tacho_time.specs.declared.span.Span.{Span}
 use Rattle.tacho_state.specs.Disjoint.{Keeps}
@@ -8,14 +8,14 @@ use Rattle.tacho_tables.specs.Tables.{Tables}
 use Rattle.tacho_reading.specs.Standing.{driver_columns, downloads_of, entries_of, spans_of, RowsStandFor, RowsStandForEach, HasNot, HasNoKey, HasNoHolder, AreDistinct, AreKnown, AreMarked, TablesStandFor}
 use Rattle.tacho_reading.proofs.RowLemmas.{eq_true, eq_false}
 
--- the rows of one driver are the same in both
+-- both tables have the same rows of this driver
 pub record SameOfDriver (n : ℕ) (t u : Tables) : Type 0 where
   pub downloads : downloads_of n u.downloads ≡ downloads_of n t.downloads
   pub entries : entries_of n u.entries ≡ entries_of n t.entries
   pub card_spans : spans_of n u.card_spans ≡ spans_of n t.card_spans
   pub held : spans_of n u.held ≡ spans_of n t.held
 
--- a driver whose rows are the same
+-- tables with the same rows of a driver still represent the driver
 moved : (t u : Tables) (d : Driver) → SameOfDriver d.number t u → RowsStandFor t d → RowsStandFor u d
 moved t u d s h = record {
   downloads = s.downloads ∙ h.downloads;
@@ -26,12 +26,12 @@ moved t u d s h = record {
   held = subst (λ (x : List Span). Keeps x (Held d)) (sym s.held) h.held;
 }
 
--- drivers of other numbers than the changed one
+-- likewise for all drivers with other numbers than the changed one
 moved_each : (t u : Tables) (n : ℕ) (s : State) → HasNot n s → ((j : ℕ) → j ≢ n → SameOfDriver j t u) → RowsStandForEach t s → RowsStandForEach u s
 moved_each t u n [] o f h = tt
 moved_each t u n (d ∷ s) o f h = (moved t u d (f d.number o.0) h.0, moved_each t u n s o.1 f h.1)
 
--- a driver who was found by a number has it
+-- a driver who is found by a number has this number
 pub found_number : (n : ℕ) (s : State) (d : Driver) → driver_of n s ≡ Some d → d.number ≡ n
 found_number n [] d e = cc
 found_number n (x ∷ s) d e = go (x.number == n) refl e (found_number n s d) where
@@ -39,7 +39,7 @@ found_number n (x ∷ s) d e = go (x.number == n) refl e (found_number n s d) wh
   go true o f more = let same : x ≡ d = cc in ap (λ (y : Driver). y.number) (sym same) ∙ eq_true x.number n o
   go false o f more = more f
 
--- and the tables stand for him
+-- the tables represent the driver who is found
 pub found_of : (t : Tables) (n : ℕ) (s : State) (d : Driver) → driver_of n s ≡ Some d → RowsStandForEach t s → RowsStandFor t d
 found_of t n [] d e h = cc
 found_of t n (x ∷ s) d e h = go (x.number == n) e (λ f. found_of t n s d f h.1) where
@@ -47,15 +47,15 @@ found_of t n (x ∷ s) d e h = go (x.number == n) e (λ f. found_of t n s d f h.
   go true f more = let same : x ≡ d = cc in subst (RowsStandFor t) same h.0
   go false f more = more f
 
--- the first driver has the number
+-- if the first driver has the number, it is the driver who is found
 found_head : (n : ℕ) (x old : Driver) (s : State) → driver_of n (x ∷ s) ≡ Some old → (x.number == n) ≡ true → x ≡ old
 found_head n x old s e t = let same : Some x ≡ Some old = sym (ap (λ b. cond b (Some x) (driver_of n s)) t) ∙ e in cc
 
--- the first driver has another number
+-- if the first driver has another number, the search continues
 found_tail : (n : ℕ) (x old : Driver) (s : State) → driver_of n (x ∷ s) ≡ Some old → (x.number == n) ≡ false → driver_of n s ≡ Some old
 found_tail n x old s e t = sym (ap (λ b. cond b (Some x) (driver_of n s)) t) ∙ e
 
--- a number that was found is there
+-- a number by which a driver is found is in the state
 pub found_not : (n : ℕ) (s : State) (d : Driver) → driver_of n s ≡ Some d → HasNot n s → ⊥
 found_not n [] d e h = cc
 found_not n (x ∷ s) d e h = go (x.number == n) refl e (λ f. found_not n s d f h.1) where
@@ -63,9 +63,9 @@ found_not n (x ∷ s) d e h = go (x.number == n) refl e (λ f. found_not n s d f
   go true o f more = h.0 (eq_true x.number n o)
   go false o f more = more f
 
--- ---- one driver put in the place of another one
+-- ---- a driver is put in place of another
 
--- no new number comes
+-- no new number is added
 has_put : (n : ℕ) (d : Driver) (s : State) → HasNot n s → HasNot n (put d s)
 has_put n d [] h = tt
 has_put n d (x ∷ s) h = go (x.number == d.number) refl (has_put n d s h.1) where
@@ -73,7 +73,7 @@ has_put n d (x ∷ s) h = go (x.number == d.number) refl (has_put n d s h.1) whe
   go true o more = ((λ e. h.0 (eq_true x.number d.number o ∙ e)), h.1)
   go false o more = (h.0, more)
 
--- and none goes
+-- no number is removed
 put_has : (n : ℕ) (d : Driver) (s : State) → HasNot n (put d s) → HasNot n s
 put_has n d [] h = tt
 put_has n d (x ∷ s) h = go (x.number == d.number) refl h (put_has n d s) where
@@ -82,7 +82,7 @@ put_has n d (x ∷ s) h = go (x.number == d.number) refl h (put_has n d s) where
   go true o w more = ((λ e. w.0 (sym (eq_true x.number d.number o) ∙ e)), w.1)
   go false o w more = (w.0, more w.1)
 
--- no new key comes
+-- no new key is added
 no_key_put : (key : List ℕ) (n : ℕ) (d old : Driver) (s : State) → driver_of n s ≡ Some old → d.number ≡ n → d.key ≡ old.key
     → HasNoKey key s → HasNoKey key (put d s)
 no_key_put key n d old [] e k same h = tt
@@ -94,7 +94,7 @@ no_key_put key n d old (x ∷ s) e k same h = go (x.number == d.number) refl (λ
       ((λ g. h.0 (ap (λ (y : Driver). y.key) (found_head n x old s e here) ∙ sym same ∙ g)), h.1)
   go false o more = (h.0, more (found_tail n x old s e (subst (λ (j : ℕ). (x.number == j) ≡ false) k o)))
 
--- no new holder comes
+-- no new holder is added
 no_holder_put : (holder : List ℕ) (n : ℕ) (d old : Driver) (s : State) → driver_of n s ≡ Some old → d.number ≡ n → d.holder ≡ old.holder
     → HasNoHolder holder s → HasNoHolder holder (put d s)
 no_holder_put holder n d old [] e k same h = tt
@@ -129,7 +129,7 @@ distinct_put n d old (x ∷ s) e k same h = go (x.number == d.number) refl (λ w
       let tail = found_tail n x old s e (subst (λ (j : ℕ). (x.number == j) ≡ false) k o) in
       (has_put x.number d s h.0, no_key_put x.key n d old s tail k same.key h.1, no_holder_put x.holder n d old s tail k same.holder h.2, more tail)
 
--- the tables stand for each driver
+-- the tables represent each driver
 each_put : (t u : Tables) (n : ℕ) (d : Driver) (s : State) → d.number ≡ n → AreDistinct s → RowsStandForEach t s → RowsStandFor u d
     → ((j : ℕ) → j ≢ n → SameOfDriver j t u) → RowsStandForEach u (put d s)
 each_put t u n d [] e k h own f = tt
@@ -138,7 +138,7 @@ each_put t u n d (x ∷ s) e k h own f = go (x.number == d.number) refl (each_pu
   go true o more = (own, moved_each t u n s (subst (λ (m : ℕ). HasNot m s) (eq_true x.number d.number o ∙ e) k.0) f h.1)
   go false o more = (moved t u x (f x.number (λ g. eq_false x.number d.number o (g ∙ sym e))) h.0, more)
 
--- no row comes without its driver
+-- no row is without its driver
 known_put : (t u : Tables) (n : ℕ) (d old : Driver) (s : State) → driver_of n s ≡ Some old → AreKnown t s
     → ((j : ℕ) → j ≢ n → SameOfDriver j t u) → AreKnown u (put d s)
 known_put t u n d old s e h f = record {
@@ -150,7 +150,7 @@ known_put t u n d old s e h f = record {
   other : (j : ℕ) → HasNot j s → j ≢ n
   other j w g = found_not n s old e (subst (λ (m : ℕ). HasNot m s) g w)
 
--- one driver is changed, and his rows with him; no other row is
+-- if one driver changes, and no rows but that driver's, the tables represent the new state
 pub put_is : (t u : Tables) (n : ℕ) (d old : Driver) (s : State) → TablesStandFor t s → driver_of n s ≡ Some old → d.number ≡ n → SamePerson d old
     → u.drivers ≡ map driver_columns (put d s) → RowsStandFor u d → ((j : ℕ) → j ≢ n → SameOfDriver j t u) → AreMarked u
     → TablesStandFor u (put d s)
@@ -164,7 +164,7 @@ put_is t u n d old s h e k same r own f marked = record {
 
 -- ---- rows of drivers
 
--- an update leaves the rows of others
+-- an update that changes only one driver's row keeps the rows of the others
 others_stay : (f : DriverRow → DriverRow) (n : ℕ) (s : State) → ((x : DriverRow) → x.driver ≢ n → f x ≡ x) → HasNot n s
     → map f (map driver_columns s) ≡ map driver_columns s
 others_stay f n [] h o = refl
@@ -172,7 +172,7 @@ others_stay f n (x ∷ s) h o =
     ap (λ (y : DriverRow). y ∷ map f (map driver_columns s)) (h (driver_columns x) o.0)
     ∙ ap (λ (y : List DriverRow). driver_columns x ∷ y) (others_stay f n s h o.1)
 
--- and makes the new driver's row of the old one's
+-- it turns the old driver's row into the new driver's
 pub rows_put : (f : DriverRow → DriverRow) (n : ℕ) (d old : Driver) (s : State) → driver_of n s ≡ Some old → d.number ≡ n → AreDistinct s
     → f (driver_columns old) ≡ driver_columns d → ((x : DriverRow) → x.driver ≢ n → f x ≡ x)
     → map f (map driver_columns s) ≡ map driver_columns (put d s)

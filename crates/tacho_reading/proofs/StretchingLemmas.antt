@@ -1,4 +1,4 @@
--- What a pass over stretches takes of a driver's rows, what it finds of them, and what the rows give that were kept of a range.
+-- What a pass over stretches takes of a driver's rows and finds from them, and what the rows kept for a range give.
 use Rattle.std.proofs.Common.{◌≡◌, ◌∙◌, ◌↔◌, inl, inr, ℕ, ◌*◌, ◌<◌, ◌≤◌, Bool, true, false, cond, List, [], ◌∷◌, ◌++◌, map, filter, Option, None, Some, pos, Result, Ok, Err, OnOk, refl, sym, ap, subst, append-nil, append_assoc}
 use Rattle.std.specs.Prelude.{◌==◌, ◌&&◌, IfSome, min, nat_lt}
 use Rattle.std.specs.List.Sorted.{IsPermutation}
@@ -45,11 +45,11 @@ use Rattle.tacho_reading.proofs.TakenLemmas.{HasGivenNext, IsSteady, given_none,
 
 -- ---- the loop
 
--- nothing was taken yet
+-- no spans were taken
 taken_on_none : (pass : StretchPass) → HasTakenOn pass pass []
 taken_on_none pass = record { fed = λ base before is. subst (IsPassOf pass base) (sym (append-nil before)) is }
 
--- spans, and then others
+-- spans were taken, and then others
 taken_on_then : (was mid pass : StretchPass) (xs ys : List Span) → HasTakenOn was mid xs → HasTakenOn mid pass ys
     → HasTakenOn was pass (xs ++ ys)
 taken_on_then was mid pass xs ys h k = record {
@@ -77,11 +77,11 @@ module _ {S : Type 0} (g : Ghosts S) (old mid new : Held S) (start past : ℕ) (
     (h : IsTaking g old mid start past was pass before near)
     (early : HasCleanDisk (state g new) → HasCleanDisk (state g mid))
     (same : HasCleanDisk (state g new) → IsUnchanged (state g mid) (state g new)) where
-  -- the connection is steady
+  -- the connection is still steady
   pub taking_steady : HasCleanDisk (state g new) → IsSteady (state g old) (state g new)
   taking_steady clean = steady_then (state g old) (state g mid) (state g new) (h.given (early clean)).0 (same clean)
 
-  -- one more
+  -- one more row is taken
   pub taking_more : (row : StoredSpan) (next : StretchPass) (after : List StoredSpan)
       → (HasCleanDisk (state g new) → GivesNext g mid new (Some row)) → HasTakenOn pass next (stored_span row ∷ [])
       → after ≡ near ++ filter (is_stored_near start past) (row ∷ []) → IsTaking g old new start past was next before after
@@ -96,7 +96,7 @@ module _ {S : Type 0} (g : Ghosts S) (old mid new : Held S) (start past : ℕ) (
     given = λ clean. (taking_steady clean, given_more g old mid new h.spans row (h.given (early clean)).1 (gives clean));
   }
 
-  -- no more rows
+  -- the query has no further row
   pub taking_ended : GivesNext g mid new None → HasCleanDisk (state g new) → HasTakenRows g old new start past was pass before near
   taking_ended moves clean = record {
     spans = h.spans;
@@ -113,7 +113,7 @@ module _ {S : Type 0} (g : Ghosts S) (driver first start past : ℕ) (all : List
     (before : List StoredSpan)
     (archive : IsArchive (state g old).now) (stands : AreRowsOf span_columns ((state g old).now.trees 10) all)
     (given : HasGiven g onward_text (Int (pos driver) ∷ Int (pos first) ∷ []) old []) where
-  -- a pass that took the rows of the query took the driver's
+  -- a pass that took the query's rows took the driver's rows
   took_held : (pass : StretchPass) (near : List StoredSpan) → HasTakenRows g old new start past was pass before near
       → HasTakenHeld driver first start past all was pass before near
   took_held pass near t =
@@ -134,7 +134,7 @@ module _ {S : Type 0} (g : Ghosts S) (driver first start past : ℕ) (all : List
         none_left taken [] shown e none = sym (e ∙ append-nil taken)
         none_left taken (x ∷ others) shown e none = absurd (let wrong = none in cc)
 
-  -- where it did
+  -- likewise if the call succeeded
   pub took_all : {U : Type 0} (r : Result U StoreFault) (pass : StretchPass) (near : List StoredSpan)
       → OnOk r (HasTakenRows g old new start past was pass before near)
       → OnOk r (HasTakenHeld driver first start past all was pass before near)
@@ -143,7 +143,7 @@ module _ {S : Type 0} (g : Ghosts S) (driver first start past : ℕ) (all : List
 
 -- ---- the stretches of what a driver holds
 
--- a span of a line that gives a minute a mark, gives it one
+-- a line that gives a minute a mark has a mark there
 given_some : (line : List Span) (m : ℕ) (k : Mark) → Gives line m k → (j : Mark) × (mark_at line m ≡ Some j)
 given_some [] m k g = absurd g
 given_some (s ∷ line) m k g = go (covers s m) refl g (given_some line m k) where
@@ -155,7 +155,7 @@ given_some (s ∷ line) m k g = go (covers s m) refl g (given_some line m k) whe
       absurd (let wrong : covers s m ≡ true = grind (arith, nat_tests) in let no = sym e ∙ wrong in cc)
   go false e (inr g) more = more g
 
--- a line that gives each minute what another one holds has its marks
+-- if a line gives each minute exactly what another holds, both have the same marks
 marks_are : (line other : List Span) (m : ℕ) → ((k : Mark) → Gives line m k ↔ (mark_at other m ≡ Some k)) → mark_at line m ≡ mark_at other m
 marks_are line other m same = go (mark_at line m) refl (mark_at other m) refl where
   go : (a : Option Mark) → mark_at line m ≡ a → (b : Option Mark) → mark_at other m ≡ b → mark_at line m ≡ mark_at other m
@@ -163,7 +163,7 @@ marks_are line other m same = go (mark_at line m) refl (mark_at other m) refl wh
   go None e None f = e ∙ sym f
   go None e (Some k) f = absurd (let some = given_some line m k ((same k).1 f) in let wrong = sym e ∙ some.1 in cc)
 
--- what a pass found of the driver's rows are the stretches of what they hold
+-- what a pass found from the driver's rows are the stretches of what the driver holds
 pub stretches_told : (db : Trees) (n start past : ℕ) (s : State) (b : Beginning) (was pass : StretchPass) (before near : List StoredSpan)
     (found : List Judged) → StandsFor db s → IsBegun db n start s b → IsPassOf was b.base []
     → ((t : Tables) → HasTables db t → HasTakenHeld n b.start start past t.held was pass before near)
@@ -193,7 +193,7 @@ stretches_told db n start past s b was pass before near found (t, stand, of) beg
 
 -- ---- what a driver holds in a range
 
--- of the driver's rows that end after a minute, where a range doesn't begin before it, those in the range are all of theirs
+-- if the range doesn't begin before `first`, the rows in it that end after `first` are all rows in it
 near_after : (n first start past : ℕ) (rows : List SpanRow) → first ≤ start
     → filter (λ (r : SpanRow). is_stored_near start past (span_of r)) (filter (is_behind n first) rows)
     ≡ filter (is_near n start past) rows
@@ -223,7 +223,7 @@ near_after n first start past (r ∷ rows) le = go (r.driver == n) (nat_lt first
   go true false none more = more ∙ ap (λ (b : Bool). cond b (r ∷ near) near) (sym (none refl))
   go false l none more = more
 
--- so the rows that were kept are the driver's rows in the range
+-- so the rows that were kept are the driver's rows near the range
 near_read : (n first start past : ℕ) (rows onward : List SpanRow) → first ≤ start
     → IsPermutation (filter (is_behind n first) rows) onward
     → IsReadNear rows n start past (filter (is_stored_near start past) (map span_of onward))
@@ -235,7 +235,7 @@ near_read n first start past rows onward le same =
     subst (IsPermutation (map span_of (filter (is_near n start past) rows))) (sym (filter-map (is_stored_near start past) span_of onward))
     (IsPermutation-map span_of (filter (is_near n start past) rows) (filter near onward) kept)
 
--- and their line is what they hold there
+-- their line is what the driver holds in the range
 pub line_told : (db : Trees) (n start past : ℕ) (s : State) (b : Beginning) (was pass : StretchPass) (before near : List StoredSpan)
     (line : List Span) → StandsFor db s → IsBegun db n start s b → before ≡ []
     → ((t : Tables) → HasTables db t → HasTakenHeld n b.start start past t.held was pass before near)

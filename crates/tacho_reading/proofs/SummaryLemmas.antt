@@ -1,4 +1,4 @@
--- All drivers are listed by their numbers.
+-- All drivers are listed in the order of their numbers.
 use Rattle.std.proofs.Common.{◌≡◌, ◌∙◌, ◌⊎◌, List, [], ◌∷◌, map, Result, Ok, Err, IfOk, IfErr, refl, sym, ap, subst}
 use Rattle.std.specs.List.Sorted.{IsPermutation}
 use Rattle.std.specs.Ordering.{is_lt, nat_cmp}
@@ -24,7 +24,7 @@ all_summarized : (s : State) → map summarized (map listed_driver (map driver_c
 all_summarized [] = refl
 all_summarized (d ∷ s) = ap (λ (xs : List Summary). summary_of d ∷ xs) (all_summarized s)
 
--- the drivers of the tables are those of the state
+-- the drivers that are listed from the tables are those of the state
 are_summaries : (t : Tables) (s : State) (found : List ListedDriver) → t.drivers ≡ map driver_columns s → AreListed t.drivers found
     → AreSummaries s (map summarized found)
 are_summaries t s found is l = record {
@@ -45,7 +45,7 @@ drivers_told items db s rows (Ok v) (t, stand, of) read is =
     subst (AreSummaries s) (sym is) (are_summaries t s (map told_driver rows) of.drivers (read t stand))
 drivers_told items db s rows (Err f) (t, stand, of) read is = tt
 
--- the call answers, or it gave up
+-- the call answered, or it gave up
 pub drivers_answer : {V : Type 0} (r : Result V StoreFault) → IfErr r (λ f. (f ≡ Memory) ⊎ (f ≡ Store))
     → Answers {B = Unit {0}} (λ _. tt) r (Ok tt)
 drivers_answer {V = V} (Ok v) up = refl

@@ -45,7 +45,7 @@ use Rattle.tacho_reading.specs.Taken.{cut, cuts, HasTaken, StopsAt, AreTold, Has
 
 -- ---- spans
 
--- what is left of two lists
+-- cutting two joined lists is cutting each
 cuts_append : (base : ℕ) (xs ys : List Span) → cuts base (xs ++ ys) ≡ cuts base xs ++ cuts base ys
 cuts_append base [] ys = refl
 cuts_append base (s ∷ xs) ys = go (nat_le s.past base) (cuts_append base xs ys) where
@@ -55,13 +55,13 @@ cuts_append base (s ∷ xs) ys = go (nat_le s.past base) (cuts_append base xs ys
   go true e = e
   go false e = ap (λ (x : List Span). cut base s ∷ x) e
 
--- lists that follow one another
+-- joined lists follow one another if each does and the second begins where the first ends
 joined_append : (xs ys : List Span) (from mid past : ℕ) → Joined xs from mid → Joined ys mid past
     → Joined (xs ++ ys) from past
 joined_append [] ys from mid past h k = subst (λ (m : ℕ). Joined ys m past) (sym h) k
 joined_append (s ∷ xs) ys from mid past h k = (h.0, h.1, joined_append xs ys s.past mid past h.2 k)
 
--- nothing was taken yet
+-- no spans were taken
 pub taken_none : (base : ℕ) (scan : Scan) (found : Found) → IsAt scan base → base ≤ 68374080
     → HasTaken base base base [] scan found scan found
 taken_none base scan found at early = record {
@@ -71,7 +71,7 @@ taken_none base scan found at early = record {
   fed = λ before is. subst (IsScanOf scan found base) (sym (append-nil before)) is;
 }
 
--- nor of a span that ends by the base
+-- a span that ends by the base leaves the scan as it was
 pub taken_behind : (base minute : ℕ) (s : Span) (scan : Scan) (found : Found) → IsAt scan minute → minute ≤ 68374080
     → s.past ≤ base → HasTaken base minute minute (s ∷ []) scan found scan found
 taken_behind base minute s scan found at early behind =
@@ -87,13 +87,13 @@ taken_behind base minute s scan found at early behind =
       fed = λ before is. rw none (subst (IsScanOf scan found base) (sym (append-nil before)) is);
     }
 
--- what is left of a span that ends behind the base
+-- the cut of a span that ends after the base
 cuts_one : (base : ℕ) (s : Span) → base < s.past → cuts base (s ∷ []) ≡ cut base s ∷ []
 cuts_one base s behind =
     let not : nat_le s.past base ≡ false = grind (arith, nat_tests) in
     rw not refl
 
--- one span that begins where the scan stands, and ends behind the base
+-- a span that ends after the base and, cut at it, begins at the scan's minute is taken
 pub taken_one : (base minute : ℕ) (s part : Span) (old : Scan) (was : Found) (new : Scan) (found : Found)
     → part ≡ cut base s → s.start < s.past → base < s.past → s.past ≤ 68374080 → part.start ≡ minute
     → part.mark.crew ≡ false → IsAt new part.past → Appends is_any true was found
@@ -117,7 +117,7 @@ taken_one base minute s part old was new found is some behind within from single
       fed = λ before r. rw left (fed base before r);
     }
 
--- spans, and then others
+-- spans are taken, and then others
 taken_then : (base from mid past : ℕ) (xs ys : List Span) (one : Scan) (a : Found) (two : Scan) (b : Found)
     (three : Scan) (c : Found)
     → HasTaken base from mid xs one a two b → HasTaken base mid past ys two b three c
@@ -142,7 +142,7 @@ taken_then base from mid past xs ys one a two b three c h k =
 
 -- ---- rows
 
--- one more row that tells a span
+-- one more row that shows a span
 told_more : (rows : List Row) (spans : List StoredSpan) (row : Row) (s : StoredSpan) → AreTold rows spans → Tells row s
     → AreTold (rows ++ row ∷ []) (spans ++ s ∷ [])
 told_more [] [] row s h t = (t, tt)
@@ -150,17 +150,17 @@ told_more [] (x ∷ spans) row s h t = absurd h
 told_more (r ∷ rows) [] row s h t = absurd h
 told_more (r ∷ rows) (x ∷ spans) row s h t = (h.0, told_more rows spans row s h.1 t)
 
--- a query that had given some rows has given these after them
+-- a query that had given some rows has now given these as well
 abbrev pub HasGivenNext : {S : Type 0} → Ghosts S → Held S → Held S → List StoredSpan → Type 0
 HasGivenNext g old new spans = (sql : List ℕ) (params : Row) (given : List Row) → HasGiven g sql params old given
     → (rows : List Row) × AreTold rows spans × HasGiven g sql params new (given ++ rows)
 
 module _ {S : Type 0} (g : Ghosts S) (old : Held S) where
-  -- no row was given yet
+  -- no further row is given
   pub given_none : HasGivenNext g old old []
   given_none sql params given it = ([], tt, subst (HasGiven g sql params old) (sym (append-nil given)) it)
 
-  -- one more
+  -- one more row is given
   pub given_more : (mid new : Held S) (spans : List StoredSpan) (s : StoredSpan) → HasGivenNext g old mid spans
       → GivesNext g mid new (Some s)
       → HasGivenNext g old new (spans ++ s ∷ [])
@@ -174,7 +174,7 @@ module _ {S : Type 0} (g : Ghosts S) (old : Held S) where
 
 -- ---- the connection
 
--- nothing happens to it in no step
+-- if nothing happens, a crash may leave only what it could leave before
 pub survives_self : (s : State) → Survives s s (λ _. ⊥)
 survives_self s = record {
   clean = omega arith;
@@ -186,7 +186,7 @@ survives_self s = record {
   crash = λ _ db h. inl h;
 }
 
--- it was open if it is, and sees what it saw
+-- if the connection is open now, it was open before; it sees the same data
 pub record IsSteady (old new : State) : Type 0 where
   pub was_open : IsTrue new.is_open → IsTrue old.is_open
   pub now_is : new.now ≡ old.now
@@ -202,18 +202,18 @@ steady_then old mid new h k = record {
   committed_is = k.0.committed_is ∙ h.committed_is;
 }
 
--- so it is kept, also by one more step
+-- such a connection is kept, also after one more step
 pub kept_then : (old mid new : State) → IsSteady old mid → IsKept mid new → IsKept old new
 kept_then old mid new h k = record {
   was_open = λ o. h.was_open (k.was_open o);
   same = λ o settled. k.same o (h.now_is ∙ settled ∙ sym h.committed_is) ∙ h.now_is;
 }
 
--- ---- over a connection that is in no transaction
+-- ---- a connection outside a transaction
 
 module _ {S A : Type 0} (g : Ghosts S) (old : Held S) (mode : old.in_transaction ≡ false)
     (settled : IsTrue (state g old).is_open → (state g old).now ≡ (state g old).committed) where
-  -- the query could not begin
+  -- the query did not begin
   pub settled_where_refused : (new : Held S) (fault : StoreFault) → IsAsked g old new
       → ReadsSettled {A = A} g (Err fault) old new
   settled_where_refused new fault asked = record {
@@ -225,7 +225,7 @@ module _ {S A : Type 0} (g : Ghosts S) (old : Held S) (mode : old.in_transaction
     survives = asked.survives;
   }
 
-  -- its rows were read
+  -- the rows of the query were read
   pub settled_where_read : (driver start : ℕ) (mid new : MutBor (Held S)) (r : Result A StoreFault)
       → BeginsOnward g old mid.now driver start → ReadsRows g r mid new → ReadsSettled g r old new.now
   settled_where_read driver start mid new r begun reads =
@@ -247,7 +247,7 @@ module _ {S A : Type 0} (g : Ghosts S) (old : Held S) (mode : old.in_transaction
 
 -- ---- the loop
 
--- the rows so far were taken, up to a minute
+-- the rows so far were taken, up to `minute`
 pub record IsFeeding {S : Type 0} (g : Ghosts S) (old now : Held S) (base minute : ℕ) (scan : Scan) (was : Found)
     (fed : Scan) (found : Found) : Type 0 where
   pub spans : List StoredSpan
@@ -255,7 +255,7 @@ pub record IsFeeding {S : Type 0} (g : Ghosts S) (old now : Held S) (base minute
   pub from : base ≤ minute
   pub given : HasCleanDisk (state g now) → IsSteady (state g old) (state g now) × HasGivenNext g old now spans
 
--- none at first
+-- no rows yet
 pub feeding_none : {S : Type 0} (g : Ghosts S) (old : Held S) (base : ℕ) (scan : Scan) (found : Found) → IsAt scan base
     → base ≤ 68374080
     → IsFeeding g old old base base scan found scan found
@@ -271,11 +271,11 @@ module _ {S : Type 0} (g : Ghosts S) (old mid new : Held S) (base minute : ℕ) 
     (h : IsFeeding g old mid base minute scan was fed found) (early : HasCleanDisk (state g new)
     → HasCleanDisk (state g mid))
     (same : HasCleanDisk (state g new) → IsUnchanged (state g mid) (state g new)) where
-  -- the connection is steady
+  -- the connection is still steady
   pub feeding_steady : HasCleanDisk (state g new) → IsSteady (state g old) (state g new)
   feeding_steady clean = steady_then (state g old) (state g mid) (state g new) (h.given (early clean)).0 (same clean)
 
-  -- one more
+  -- one more row is taken
   pub feeding_more : (row : StoredSpan) (past : ℕ) (then : Scan) (has : Found)
       → (HasCleanDisk (state g new) → GivesNext g mid new (Some row))
       → HasTaken base minute past (stored_span row ∷ []) fed found then has
@@ -295,7 +295,7 @@ module _ {S : Type 0} (g : Ghosts S) (old mid new : Held S) (base minute : ℕ) 
     );
   }
 
-  -- no more rows
+  -- the query has no further row
   pub feeding_ended : GivesNext g mid new None → HasCleanDisk (state g new)
       → HasFed g old new base scan was fed found (record { minute = minute; cause = Unknown })
   feeding_ended moves clean = record {
@@ -315,7 +315,7 @@ module _ {S : Type 0} (g : Ghosts S) (old mid new : Held S) (base minute : ℕ) 
         );
   }
 
-  -- a row that stops the scan
+  -- a row stops the scan
   pub feeding_stopped : (row : StoredSpan) (cause : Cause) → GivesNext g mid new (Some row)
       → StopsAt minute cause (stored_span row) → HasCleanDisk (state g new)
       → HasFed g old new base scan was fed found (record { minute = minute; cause = cause })
@@ -330,7 +330,7 @@ module _ {S : Type 0} (g : Ghosts S) (old mid new : Held S) (base minute : ℕ) 
         );
   }
 
--- what a fault leaves of it: a row that was refused, or the store
+-- what a fault leaves of the scan, when a row is refused or the store fails
 module _ {S : Type 0} (g : Ghosts S) (old now : Held S) (base minute : ℕ) (scan : Scan) (was : Found) (fed : Scan)
     (found : Found) (h : IsFeeding g old now base minute scan was fed found) where
   taken_some : HasTakenSome base scan was fed found
@@ -356,7 +356,7 @@ head_is e = cc
 tail_is : {A : Type 0} {x y : A} {xs ys : List A} → x ∷ xs ≡ y ∷ ys → xs ≡ ys
 tail_is e = cc
 
--- a row that shows a span tells it
+-- a row that shows a span shows the span of this driver's row
 pub told_row : (r : Row) (s : StoredSpan) (x : SpanRow) → Tells r s → r ≡ span_shown x → s ≡ span_of x
 told_row r s x t e =
     let start = same_number s.start x.start (sym t.start ∙ ap (λ (z : Row). column z 0) e) in
@@ -368,7 +368,7 @@ told_row r s x t e =
       same_number : (a b : ℕ) → ◌≡◌ {A = Value} (Int (pos a)) (Int (pos b)) → a ≡ b
       same_number a b e = cc
 
--- rows that tell spans, and others, are those of driver's rows
+-- rows that show spans, followed by others, are those of driver's rows, followed by others
 pub told_split : (rows tail : List Row) (spans : List StoredSpan) (shown : List SpanRow) → AreTold rows spans
     → rows ++ tail ≡ map span_shown shown
     → (taken : List SpanRow) × (others : List SpanRow) × (shown ≡ taken ++ others) × (spans ≡ map span_of taken) ×
@@ -392,7 +392,7 @@ module _ {S : Type 0} (g : Ghosts S) (driver start base : ℕ) (all : List SpanR
     (archive : IsArchive (state g old).now) (same : IsTrue (state g new).is_open
     → (state g new).now ≡ (state g old).now) (stands : AreRowsOf span_columns ((state g old).now.trees 10) all)
     (given : HasGiven g onward_text (Int (pos driver) ∷ Int (pos start) ∷ []) old []) where
-  -- by what the rows show
+  -- from what the rows show
   fed_of : (h : Horizon) (f : HasFed g old new base scan was fed found h) (rows tail : List Row) (shown : List SpanRow)
       → AreTold rows f.spans
       → rows ++ tail ≡ map span_shown shown → AreOnward driver start all shown
@@ -409,13 +409,13 @@ module _ {S : Type 0} (g : Ghosts S) (driver start base : ℕ) (all : List SpanR
         stops = stops split.1 split.4;
       }
 
-  -- nothing is behind the last row
+  -- no row comes after the last one
   ends_all : (h : Horizon) → h.cause ≡ Unknown → (others : List SpanRow) → [] ≡ map span_shown others
       → StopsBefore h (map row_span others)
   ends_all h cause [] e = cause
   ends_all h cause (x ∷ others) e = absurd (let wrong = e in cc)
 
-  -- and behind the taken ones comes the row that stops
+  -- after the rows that were taken comes the row that stops the scan
   stops_there : (h : Horizon) (row : Row) (tail : List Row) (next : StoredSpan) → Tells row next
       → StopsAt h.minute h.cause (stored_span next)
       → (others : List SpanRow) → row ∷ tail ≡ map span_shown others → StopsBefore h (map row_span others)
@@ -423,7 +423,7 @@ module _ {S : Type 0} (g : Ghosts S) (driver start base : ℕ) (all : List SpanR
   stops_there h row tail next tells stops (x ∷ others) e =
       subst (λ (s : StoredSpan). StopsAt h.minute h.cause (stored_span s)) (told_row row next x tells (head_is e)) stops
 
-  -- a scan that was fed the rows of the query was fed the driver's
+  -- a scan that was fed the query's rows was fed the driver's rows
   was_fed : (h : Horizon) → IsTrue (state g new).is_open → HasFed g old new base scan was fed found h
       → AreFed driver start base all scan was fed found h
   was_fed h live f =
@@ -442,7 +442,7 @@ module _ {S : Type 0} (g : Ghosts S) (driver start base : ℕ) (all : List SpanR
             (stops_there h more.0 some.0 more.1 more.2 more.3)
       ]
 
-  -- where it was
+  -- likewise if the call succeeded
   pub are_fed : (r : Result Horizon StoreFault) → OnOk r (IsTrue (state g new).is_open)
       → IfOk r (HasFed g old new base scan was fed found)
       → IfOk r (AreFed driver start base all scan was fed found)

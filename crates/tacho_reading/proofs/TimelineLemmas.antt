@@ -1,4 +1,4 @@
--- The line of all held rows of a driver is what he holds.
+-- The line of all of a driver's held rows is what the driver holds.
 use Rattle.std.proofs.Common.{◌≡◌, ◌∙◌, ◌⊎◌, inl, inr, ℕ, ◌==◌, ◌↔◌, Bool, true, false, cond, List, [], ◌∷◌, map, filter, Option, Some, None, Result, Ok, Err, IfOk, IfErr, IsErr, IsErrAnd, refl, sym, ap, subst}
 use Rattle.std.specs.List.Sorted.{IsPermutation}
 use Rattle.std.proofs.lemmas.List.Sorted.{IsPermutation-sym, IsPermutation-map}
@@ -20,7 +20,7 @@ use Rattle.tacho_tables.specs.Tables.{Tables, HasTables, is_of, span_of}
 use Rattle.tacho_reading.specs.Standing.{StandsFor, spans_of, stored_span, row_span}
 use Rattle.tacho_reading.proofs.NearRowLemmas.{permuted_gives, held_kept}
 
--- the rows of a driver stand for his spans
+-- the rows of a driver represent the driver's spans
 own_spans : (n : ℕ) (rows : List SpanRow) → map stored_span (map span_of (filter (is_of n) rows)) ≡ spans_of n rows
 own_spans n [] = refl
 own_spans n (r ∷ rows) = go (r.driver == n) (own_spans n rows) where
@@ -30,13 +30,13 @@ own_spans n (r ∷ rows) = go (r.driver == n) (own_spans n rows) where
   go true e = ap (λ (x : List Span). row_span r ∷ x) e
   go false e = e
 
--- two options that have the same values are one
+-- two options with the same values are equal
 pub same_option : {X : Type 0} (a b : Option X) → ((x : X) → (a ≡ Some x) ↔ (b ≡ Some x)) → a ≡ b
 same_option None None same = refl
 same_option None (Some x) same = (same x).1 refl
 same_option (Some x) b same = sym ((same x).0 refl)
 
--- the line gives each minute the mark that he holds it with
+-- the line gives each minute the mark with which the driver holds it
 line_is : (d : Driver) (helds line : List Span) → IsCanonicalOf (Gives helds) line
     → ((m : ℕ) (k : Mark) → Gives helds m k ↔ (held_mark d m ≡ Some k)) → (m : ℕ) → mark_at line m ≡ held_mark d m
 line_is d helds line of held m = same_option (mark_at line m) (held_mark d m) (λ k.
@@ -45,7 +45,7 @@ line_is d helds line of held m = same_option (mark_at line m) (held_mark d m) (�
     let kept = held m k in
     (λ e. kept.0 (given.0 (map.0 e)), λ e. map.1 (given.1 (kept.1 e))))
 
--- so the line of all his rows, in any order, is his timeline
+-- so the line of all the driver's rows, in any order, is the driver's timeline
 pub line_told : (db : Trees) (n : ℕ) (s : State) (d : Driver) (found : List StoredSpan) (line : List Span) → StandsFor db s
     → driver_of n s ≡ Some d
     → ((a : Tables) → HasTables db a → IsPermutation (map span_of (filter (is_of n) a.held)) found)
@@ -62,13 +62,13 @@ line_told db n s d found line (t, stand, of) is read canonical =
     (λ g. held.0 (kept.0 (permuted_gives _ _ m k (IsPermutation-sym _ _ rows) g)), λ e. permuted_gives _ _ m k rows (kept.1 (held.1 e))))
     in λ i m. each m i
 
--- a call that gave up answers as any step does
+-- a call that gave up meets every step's answer
 pub gave_up : {A B : Type 0} (view : A → B) (f : StoreFault) (told : Result B StoreFault) → (f ≡ Memory) ⊎ (f ≡ Store)
     → Answers view (Err f) told
 gave_up view f told (inl e) = subst (λ g. Answers view (Err g) told) (sym e) tt
 gave_up view f told (inr e) = subst (λ g. Answers view (Err g) told) (sym e) tt
 
--- whoever hands the fault on gave up too, and so didn't answer
+-- a caller that passes such a fault on gave up too
 pub gave_up_as : {A B : Type 0} (view : A → B) (f : StoreFault) (r : Result A StoreFault) (told : Result B StoreFault)
     → (f ≡ Memory) ⊎ (f ≡ Store) → IsErr r × IsErrAnd r (λ found. found ≡ f) → Answers view r told
 gave_up_as view f (Ok x) told up e = let wrong = e.0 in cc

@@ -1,15 +1,15 @@
--- Private to tacho_reading: A driver's rows of spans, and where those begin that have a minute in a range.
+-- Private to tacho_reading: A driver's rows of spans, and the start of those that have a minute in a range.
 use Rattle.std.specs.Prelude.{ℕ, ◌<◌, ◌≤◌, ◌⊎◌, ◌&&◌, nat_lt, List, [], ◌∷◌, filter, Option, Some, None, if◌then◌else◌}
 use Rattle.std.specs.List.{AllByRecursion}
 use Rattle.tacho_tables.specs.declared.rows.StoredSpan.{StoredSpan}
 use Rattle.tacho_tables.specs.Rows.{SpanRow}
 use Rattle.tacho_tables.specs.Tables.{is_of}
 
--- the one ends before the other begins
+-- one of the rows ends before the other begins
 abbrev pub AreAside : SpanRow → SpanRow → Type 0
 AreAside r x = (r.past ≤ x.start) ⊎ (x.past ≤ r.start)
 
--- none is empty, and no two have a minute in common
+-- no row is empty, and no two rows have a minute in common
 abbrev pub AreApart : List SpanRow → Type 0
 AreApart [] = Unit {0}
 AreApart (r ∷ rows) = (r.start < r.past) × AllByRecursion (AreAside r) rows × AreApart rows
@@ -18,7 +18,7 @@ AreApart (r ∷ rows) = (r.start < r.past) × AllByRecursion (AreAside r) rows �
 abbrev pub rows_of : ℕ → List SpanRow → List SpanRow
 rows_of n rows = filter (is_of n) rows
 
--- where the first row begins that has a minute in a range, by the latest row that begins before the range
+-- the start of the first row that has a minute in the range, computed from the latest row that begins before the range
 abbrev pub near_from : ℕ → ℕ → Option StoredSpan → ℕ
 near_from start past None = start
 near_from start past (Some s) = if (nat_lt s.start past && nat_lt start s.past) then s.start else start

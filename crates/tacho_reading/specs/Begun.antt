@@ -1,4 +1,4 @@
--- Private to tacho_reading: Where a reading of a driver's rows begins.
+-- Private to tacho_reading: The start from which a driver's rows are read.
 use Rattle.std.specs.Prelude.{◌≡◌, ℕ, ◌*◌, ◌==◌, ◌&&◌, min, nat_lt, Bool, filter, Some}
 use Rattle.sqlite.specs.Tree.{Trees}
 use Rattle.tacho_state.specs.State.{Driver, State, driver_of}
@@ -7,12 +7,12 @@ use Rattle.tacho_tables.specs.Tables.{Tables, HasTables, is_onward}
 use Rattle.tacho_reading.specs.declared.reading.Beginning.{Beginning}
 use Rattle.tacho_reading.specs.Standing.{TablesStandFor}
 
--- a row of the driver that ends behind a minute
+-- a row of the driver that ends after a minute
 abbrev pub is_behind : ℕ → ℕ → SpanRow → Bool
 is_behind driver minute r = (r.driver == driver) && nat_lt minute r.past
 
--- the driver is examined from the base on, and their rows that begin from the start on are those that end after the base, or after a
--- minute that is earlier
+-- `b.base` is the first minute of the driver's base. The driver's rows that begin at `b.start` or later are those that end after the base,
+-- or after minute `from` if that is earlier.
 pub record IsBegun (db : Trees) (n from : ℕ) (s : State) (b : Beginning) : Type 0 where
   pub driver : Driver
   pub is : driver_of n s ≡ Some driver

@@ -1,4 +1,4 @@
--- Private to tacho_reading: What a call of an archive does within a transaction, in terms of the state that the tables stand for.
+-- Private to tacho_reading: What a call on an archive does within a transaction, in terms of the state that the tables represent.
 use Rattle.std.specs.Prelude.{◌≡◌, ℕ, Result, OnOk, IsTrue}
 use Rattle.std.specs.Borrow.{MutBor}
 use Rattle.sqlite.specs.State.{HasCleanDisk, IsUnchanged, KeepsCommit}
@@ -15,14 +15,14 @@ use Rattle.tacho_reading.specs.Standing.{StandsFor, KeepsRowsOf}
 
 module _ {S : Type 0} (g : Ghosts S) (old new : MutBor (Held S)) where
   module _ {A : Type 0} (result : Result A StoreFault) where
-    -- Whatever it does: nothing is committed, only an open store answers, and no file is refused.
+    -- This holds whatever the call does: nothing is committed, only an open store answers, and the result isn't the fault of a card file.
     pub record Goes : Type 0 where
       pub stays : Stays g old new
       pub keeps : HasCleanDisk (state g new.now) → IsArchive (state g old.now).now → KeepsCommit (state g old.now) (state g new.now)
       pub live : HasCleanDisk (state g new.now) → IsAnswered result → IsTrue (state g old.now).is_open
       pub of_no_file : IsOfNoFile result
 
-    -- A reading whose answer is a fact of the tables and of the state.
+    -- A reading whose answer is a fact about the tables and the state.
     pub record Tells (fact : Trees → State → Type 0) : Type 0 where
       pub goes : Goes
       pub same : HasCleanDisk (state g new.now) → IsArchive (state g old.now).now
@@ -30,8 +30,8 @@ module _ {S : Type 0} (g : Ghosts S) (old new : MutBor (Held S)) where
       pub told : HasCleanDisk (state g new.now) → IsArchive (state g old.now).now
           → (s : State) → StandsFor (state g old.now).now.trees s → fact (state g old.now).now.trees s
 
-    -- It answers as a step does, and where it answers Ok the tables stand for the state after that, and have the same rows of each
-    -- driver of whom the step says nothing new.
+    -- The call answers as the step does. If it answers Ok, the tables represent the step's state, and have the same rows of each driver
+    -- that the step doesn't change.
     pub record Steps {B : Type 0} (view : A → B) (step : State → Turn B) : Type 0 where
       pub goes : Goes
       pub answer : HasCleanDisk (state g new.now) → IsArchive (state g old.now).now
@@ -44,7 +44,7 @@ module _ {S : Type 0} (g : Ghosts S) (old new : MutBor (Held S)) where
           → (n : ℕ) → driver_of n (step s).after ≡ driver_of n s
           → OnOk result (KeepsRowsOf n (state g old.now).now.trees (state g new.now).now.trees)
 
-    -- The same of a step that what was found before it decides.
+    -- Likewise for a step that depends on a value `p` that was found before it, for which `given p` holds.
     pub record StepsGiven {B P : Type 0} (given : P → Trees → State → Type 0) (view : A → B) (step : P → State → Turn B) : Type 0 where
       pub stays : Stays g old new
       pub keeps : HasCleanDisk (state g new.now) → IsArchive (state g old.now).now → KeepsCommit (state g old.now) (state g new.now)
@@ -60,7 +60,7 @@ module _ {S : Type 0} (g : Ghosts S) (old new : MutBor (Held S)) where
           → (n : ℕ) → driver_of n (step p s).after ≡ driver_of n s
           → OnOk result (KeepsRowsOf n (state g old.now).now.trees (state g new.now).now.trees)
 
-  -- A change of tables of which something is given.
+  -- A change of the tables, for tables for which `given` holds.
   pub record ChangesWhere {A E : Type 0} (result : Result A E) (given : Tables → Type 0) (step : Tables → Tables) : Type 0 where
     pub stays : Stays g old new
     pub keeps : HasCleanDisk (state g new.now) → IsArchive (state g old.now).now → KeepsCommit (state g old.now) (state g new.now)

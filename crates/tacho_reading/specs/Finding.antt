@@ -1,17 +1,17 @@
--- Private to tacho_reading: What look-ups find, in terms of the state: a driver by his number, or that a call gave up.
+-- Private to tacho_reading: What look-ups find, in terms of the state: a driver by number, or that a call gave up.
 use Rattle.std.specs.Prelude.{◌≡◌, ℕ, length, Some, None, Result, Ok, Err, string_bytes}
 use Rattle.tacho_state.specs.declared.fault.StoreFault.{StoreFault}
 use Rattle.tacho_state.specs.declared.fault.StoreFault.TheVariants.{Memory, Store, UnknownDriver}
 use Rattle.tacho_state.specs.State.{Driver, State, driver_of}
 use Rattle.tacho_tables.specs.declared.rows.StoredDriver.{StoredDriver}
 
--- the fault is the step's, or a call gave up
+-- the fault is the step's answer, or the call gave up
 abbrev pub Refuses : {A : Type 0} → StoreFault → Result A StoreFault → Type 0
 Refuses Memory told = Unit {0}
 Refuses Store told = Unit {0}
 Refuses fault told = told ≡ Err fault
 
--- what is stored of the driver
+-- the stored row is that of the driver
 pub record IsStored (it : StoredDriver) (d : Driver) : Type 0 where
   pub number : it.number ≡ d.number
   pub holder : it.holder.items ≡ d.holder
@@ -20,7 +20,7 @@ pub record IsStored (it : StoredDriver) (d : Driver) : Type 0 where
   pub downloads : it.downloads ≡ length d.downloads
   pub entries : it.entries ≡ length d.entries
 
--- the driver with the number is there, and so stored; or nobody has it: S4; or a call gave up
+-- the result is the stored row of the driver with this number; or S4, if nobody has it; or the call gave up
 unfoldable pub IsDriver : State → ℕ → Result StoredDriver StoreFault → Type 0
 IsDriver s n (Ok it) = (d : Driver) × (driver_of n s ≡ Some d) × IsStored it d
 IsDriver s n (Err UnknownDriver) = driver_of n s ≡ None

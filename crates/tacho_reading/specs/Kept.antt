@@ -1,4 +1,4 @@
--- Trusted in part: What a connection holds of an archive.
+-- Trusted in part: What a connection sees of an archive.
 use Rattle.std.specs.Prelude.{◌≡◌, ◌⊎◌, ℕ, List, [], ◌∷◌, Result, IsTrue}
 use Rattle.sqlite.specs.Tree.{Trees}
 use Rattle.sqlite.specs.State.{State as Sqlite, HasCleanDisk}
@@ -13,7 +13,7 @@ use Rattle.tacho_tables.specs.Schema.{no_schema}
 use Rattle.tacho_tables.specs.Tables.{IsArchive}
 use Rattle.tacho_reading.specs.Standing.{StandsFor, KeepsRowsOf}
 
--- this is true of one of the states
+-- the fact holds for one of the states
 abbrev pub IsOfOne : (State → Type 0) → List State → Type 0
 IsOfOne fact [] = ⊥
 IsOfOne fact (s ∷ states) = fact s ⊎ IsOfOne fact states
@@ -22,33 +22,33 @@ IsOfOne fact (s ∷ states) = fact s ⊎ IsOfOne fact states
 abbrev pub IsBlank : Sqlite → Type 0
 IsBlank c = c.now.schema ≡ no_schema
 
--- it sees an archive's tables, and they stand for the state
+-- the connection sees an archive's tables, and they represent the state
 abbrev pub Sees : Sqlite → State → Type 0
 Sees c s = IsArchive c.now × StandsFor c.now.trees s
 
--- it does while it is open: of a connection that a failure has shut nothing is said
+-- likewise, while the connection is open; if a failure has shut it, nothing is said
 abbrev pub SeesWhileOpen : Sqlite → State → Type 0
 SeesWhileOpen c s = IsTrue c.is_open → Sees c s
 
--- whatever a stop now leaves is an archive's database, and stands for one of these states
+-- whatever a crash may leave now is an archive's database, and represents one of these states
 abbrev pub LeavesOneOf : Sqlite → List State → Type 0
 LeavesOneOf c states = (db : Trees) → c.may_leave db → IsOfOne (StandsFor db) states
 
--- it gave up: there was no memory, or the store failed
+-- the call gave up: it ran out of memory, or the store failed
 abbrev pub IsGivenUp : StoreFault → Type 0
 IsGivenUp Memory = Unit {0}
 IsGivenUp Store = Unit {0}
 IsGivenUp fault = ⊥
 
--- the second sees what the first did, row for row, while it is open
+-- the second connection sees the same rows as the first, while it is open
 abbrev pub IsSame : Sqlite → Sqlite → Type 0
 IsSame a b = IsTrue b.is_open → b.now ≡ a.now
 
--- of one driver the second sees the rows that the first does, while it is open
+-- the second connection sees the same rows of one driver as the first, while it is open
 abbrev pub IsSameOf : ℕ → Sqlite → Sqlite → Type 0
 IsSameOf n a b = IsTrue b.is_open → KeepsRowsOf n a.now.trees b.now.trees
 
--- what a call does over a connection, where its tables are those of an archive
+-- what a call does on a connection whose tables are an archive's
 module _ {S : Type 0} (g : Ghosts S) {A B : Type 0} (view : A → B) (old new : Held S) (result : Result A StoreFault) where
   abbrev pub ActsOn : (State → Turn B) → Type 0
   ActsOn step = Acts (λ (h : Held S). SeesWhileOpen (state g h)) (λ h. HasCleanDisk (state g h)) (λ h. IsTrue (state g h).is_open)

@@ -1,4 +1,4 @@
--- Trusted in part: What the archive's tables stand for: rows by driver, and the state of all drivers.
+-- Trusted in part: What the archive's tables represent: rows by driver, and the state of all drivers.
 use Rattle.std.specs.Prelude.{◌≡◌, ◌≢◌, ℕ, ◌+◌, ◌==◌, ◌<◌, ◌≤◌, ◌⊎◌, nat_lt, All, true, false, List, [], ◌∷◌, length, map, filter, not, IsPermutation, Ok, if◌then◌else◌}
 use Rattle.sqlite.specs.Tree.{Trees}
 use Rattle.tacho_time.specs.declared.span.Span.{Span}
@@ -36,7 +36,7 @@ numbered_mark n =
     if nat_lt n 4 then record { activity = numbered_activity n; crew = false }
     else record { activity = (if n == 4 then Rest else (if n == 5 then Available else (if n == 6 then Work else Drive))); crew = true }
 
--- the numbers that marks have: a number above them is read as a mark too, and is the number of none
+-- the numbers of marks; a greater number is read as a mark too, but is no mark's number
 abbrev pub IsMark : ℕ → Type 0
 IsMark n = n < 8
 
@@ -54,7 +54,7 @@ abbrev pub spans_of : ℕ → List SpanRow → List Span
 spans_of n [] = []
 spans_of n (r ∷ rows) = if r.driver == n then row_span r ∷ spans_of n rows else spans_of n rows
 
--- the rows of his downloads and of his entries, numbered from a number on
+-- the rows of a driver's downloads and entries; the first has number `i`
 abbrev pub download_rows : ℕ → ℕ → List Download → List DownloadRow
 download_rows n i [] = []
 download_rows n i (d ∷ ds) = record { driver = n; number = i; part = d.part; file = d.file } ∷ download_rows n (i + 1) ds
@@ -75,7 +75,7 @@ abbrev pub entry_rows : ℕ → ℕ → List Entry → List EntryRow
 entry_rows n i [] = []
 entry_rows n i (e ∷ es) = entry_row n i e ∷ entry_rows n (i + 1) es
 
--- his own row: the columns downloads and entries count the numbers that were given out
+-- a driver's own row: the columns downloads and entries count the numbers that were given out
 abbrev pub driver_columns : Driver → DriverRow
 driver_columns d = record { driver = d.number; holder = d.holder; secret = d.key; base = d.base; name = d.name; downloads = length d.downloads; entries = length d.entries }
 
@@ -85,15 +85,16 @@ downloads_of n rows = filter (λ r. r.driver == n) rows
 abbrev pub entries_of : ℕ → List EntryRow → List EntryRow
 entries_of n rows = filter (λ r. r.driver == n) rows
 
--- ---- what the tables stand for
+-- ---- what the tables represent
 
--- each download's spans are what its file tells by its part
+-- each download's spans are what its file gives for its part
 abbrev pub AreRead : List Download → Type 0
 AreRead [] = Unit {0}
 AreRead (d ∷ ds) =
     ((part : Part) × (holder : List ℕ) × (part_number part ≡ d.part) × FileTells part d.file (Ok (record { holder = holder; spans = d.spans }))) × AreRead ds
 
--- the rows of one driver: card_spans give exactly what his downloads give, and held exactly what he holds, each in disjoint rows
+-- the rows of one driver: `card_spans` give exactly what the driver's downloads give, and `held` exactly what the driver holds, each in
+-- disjoint rows
 pub record RowsStandFor (t : Tables) (d : Driver) : Type 0 where
   pub downloads : downloads_of d.number t.downloads ≡ download_rows d.number 1 d.downloads
   pub read : AreRead d.downloads
@@ -106,7 +107,7 @@ abbrev pub RowsStandForEach : Tables → State → Type 0
 RowsStandForEach t [] = Unit {0}
 RowsStandForEach t (d ∷ s) = RowsStandFor t d × RowsStandForEach t s
 
--- no driver of the state has the number, the key, or the holder
+-- no driver of the state has this number, this key, or this holder
 abbrev pub HasNot : ℕ → State → Type 0
 HasNot n [] = Unit {0}
 HasNot n (d ∷ s) = (d.number ≢ n) × HasNot n s
@@ -119,24 +120,24 @@ abbrev pub HasNoHolder : List ℕ → State → Type 0
 HasNoHolder holder [] = Unit {0}
 HasNoHolder holder (d ∷ s) = (d.holder ≢ holder) × HasNoHolder holder s
 
--- no two drivers have one number, one key or one holder
+-- no two drivers have the same number, the same key or the same holder
 abbrev pub AreDistinct : State → Type 0
 AreDistinct [] = Unit {0}
 AreDistinct (d ∷ s) = HasNot d.number s × HasNoKey d.key s × HasNoHolder d.holder s × AreDistinct s
 
--- no row is without its driver
+-- each row belongs to a driver of the state
 pub record AreKnown (t : Tables) (s : State) : Type 0 where
   pub downloads : (n : ℕ) → HasNot n s → downloads_of n t.downloads ≡ []
   pub entries : (n : ℕ) → HasNot n s → entries_of n t.entries ≡ []
   pub card_spans : (n : ℕ) → HasNot n s → spans_of n t.card_spans ≡ []
   pub held : (n : ℕ) → HasNot n s → spans_of n t.held ≡ []
 
--- the rows of both tables of spans have numbers of marks
+-- the rows of both tables of spans have the numbers of marks
 pub record AreMarked (t : Tables) : Type 0 where
   pub card_spans : All (λ r. IsMark r.mark) t.card_spans
   pub held : All (λ r. IsMark r.mark) t.held
 
--- the tables stand for the state
+-- the tables represent the state
 pub record TablesStandFor (t : Tables) (s : State) : Type 0 where
   pub drivers : t.drivers ≡ map driver_columns s
   pub distinct : AreDistinct s
@@ -144,11 +145,11 @@ pub record TablesStandFor (t : Tables) (s : State) : Type 0 where
   pub known : AreKnown t s
   pub marked : AreMarked t
 
--- what is stored stands for the state
+-- the stored rows represent the state
 unfoldable pub StandsFor : Trees → State → Type 0
 StandsFor db s = (t : Tables) × HasTables db t × TablesStandFor t s
 
--- of one driver both have the same rows
+-- the two tables have the same rows of one driver
 pub record HaveSameRowsOf (n : ℕ) (t u : Tables) : Type 0 where
   pub drivers : filter (has_number n) t.drivers ≡ filter (has_number n) u.drivers
   pub downloads : downloads_of n t.downloads ≡ downloads_of n u.downloads
@@ -156,18 +157,18 @@ pub record HaveSameRowsOf (n : ℕ) (t u : Tables) : Type 0 where
   pub entries : entries_of n t.entries ≡ entries_of n u.entries
   pub held : filter (is_of n) t.held ≡ filter (is_of n) u.held
 
--- what is stored before and after has the same rows of one driver
+-- the rows stored before and after are the same for one driver
 unfoldable pub KeepsRowsOf : ℕ → Trees → Trees → Type 0
 KeepsRowsOf n db next = (t : Tables) × (u : Tables) × HasTables db t × HasTables next u × HaveSameRowsOf n t u
 
--- what is stored after stands for the state after, and has the same rows of each driver of whom that says the same
+-- the rows stored after represent the state after, and are the same for each driver that is the same in both states
 pub record Follows (db next : Trees) (s after : State) : Type 0 where
   pub stands : StandsFor next after
   pub others : (n : ℕ) → driver_of n after ≡ driver_of n s → KeepsRowsOf n db next
 
 -- ---- rows in another order, and rows that were read
 
--- the same rows in another order
+-- the tables have the same rows, in any order
 pub record SameRows (t u : Tables) : Type 0 where
   pub drivers : IsPermutation t.drivers u.drivers
   pub downloads : IsPermutation t.downloads u.downloads
@@ -175,39 +176,39 @@ pub record SameRows (t u : Tables) : Type 0 where
   pub entries : IsPermutation t.entries u.entries
   pub held : IsPermutation t.held u.held
 
--- both numbers are of minutes: 68428800 is the last number of one
+-- both numbers are minutes: 68428800 is the last minute
 pub record AreMinutes (from until : ℕ) : Type 0 where
   pub start : from ≤ 68428800
   pub past : until ≤ 68428800
 
--- a stored span that an archive writes: its numbers are of minutes and of a mark
+-- a stored span that an archive can have written: its numbers are minutes and a mark
 pub record IsFit (s : StoredSpan) : Type 0 where
   pub minutes : AreMinutes s.start s.past
   pub mark : IsMark s.mark
 
--- a stored entry that can be listed: its numbers are of minutes, and its texts within their limits
+-- a stored entry that can be listed: its numbers are minutes, and its texts are within their limits
 pub record IsListed (it : ListedEntry) : Type 0 where
   pub minutes : AreMinutes it.start it.past
   pub author : IsName it.author
   pub note : IsNote it.note
 
--- a stored span as a span
+-- the span of a stored span
 abbrev pub stored_span : StoredSpan → Span
 stored_span s = record { start = s.start; past = s.past; mark = numbered_mark s.mark }
 
--- stored rows that have no line: not all of them are fit, or they contradict
+-- stored rows that have no line: some row isn't fit, or two of them contradict
 abbrev pub AreFaulty : List StoredSpan → Type 0
 AreFaulty rows = (¬ All IsFit rows) ⊎ ((minute : ℕ) × IsFirstConflict (Gives (map stored_span rows)) minute)
 
--- what is read near a range, in some order
+-- the rows that are read near a range, in any order
 abbrev pub IsReadNear : List SpanRow → ℕ → ℕ → ℕ → List StoredSpan → Type 0
 IsReadNear rows n start past found = IsPermutation (map span_of (filter (is_near n start past) rows)) found
 
--- and of the entries that are not withdrawn
+-- the entries that aren't withdrawn and are read near a range, in any order
 abbrev pub IsKeptNear : List EntryRow → ℕ → ℕ → ℕ → List StoredSpan → Type 0
 IsKeptNear rows n start past found = IsPermutation (map entry_span_of (filter (is_kept_near n start past) rows)) found
 
--- an entry as it is listed
+-- a stored entry as it is listed
 abbrev pub listed_as : ListedEntry → Listed
 listed_as it = record {
   number = it.number;
@@ -215,10 +216,10 @@ listed_as it = record {
   withdrawn = not (it.withdrawn == 0);
 }
 
--- a driver as he is listed
+-- a stored driver as they are listed
 abbrev pub summarized : ListedDriver → Summary
 summarized d = record { number = d.driver; holder = d.holder; base = d.base; downloads = d.downloads; entries = d.entries; name = d.name }
 
--- his base is the number of a day: 47520 is the last
+-- the driver's base is the number of a day: 47520 is the last
 abbrev pub HasDay : ListedDriver → Type 0
 HasDay d = d.base ≤ 47520

@@ -1,4 +1,4 @@
--- Private to tacho_reading: What a pass over stretches takes of a driver's rows, which come one at a time, and which of them are kept.
+-- Private to tacho_reading: What a pass over stretches takes of a driver's rows, which come one at a time, and which rows are kept.
 use Rattle.std.specs.Prelude.{◌≡◌, ℕ, List, ◌++◌, ◌&&◌, nat_lt, Bool, filter, map}
 use Rattle.sqlite.specs.Held.{Held, state}
 use Rattle.sqlite.specs.Given.{HasGiven}
@@ -15,7 +15,7 @@ use Rattle.tacho_tables.specs.Tables.{span_of}
 use Rattle.tacho_reading.specs.Standing.{row_span, stored_span}
 use Rattle.tacho_reading.specs.Taken.{AreTold}
 
--- a pass took these spans after those that it had taken
+-- the pass took these spans, after those that it had taken before
 pub record HasTakenOn (was pass : StretchPass) (spans : List Span) : Type 0 where
   pub fed : (base : ℕ) (before : List Span) → IsPassOf was base before → IsPassOf pass base (before ++ spans)
 
@@ -23,8 +23,8 @@ pub record HasTakenOn (was pass : StretchPass) (spans : List Span) : Type 0 wher
 abbrev pub is_stored_near : ℕ → ℕ → StoredSpan → Bool
 is_stored_near start past s = nat_lt s.start past && nat_lt start s.past
 
--- it took the spans of all rows that a query had left, and those that have a minute in a range were kept after the rows that were kept
--- before
+-- the pass took the spans of all remaining rows of a query; the rows that have a minute in the range were kept, after the rows that were
+-- kept before
 pub record HasTakenRows {S : Type 0} (g : Ghosts S) (old new : Held S) (start past : ℕ) (was pass : StretchPass)
     (before near : List StoredSpan) : Type 0 where
   pub spans : List StoredSpan
@@ -34,7 +34,7 @@ pub record HasTakenRows {S : Type 0} (g : Ghosts S) (old new : Held S) (start pa
       → (rows : List Row) × AreTold rows spans
       × (last : Held S) × ((state g last).now ≡ (state g old).now) × Shown sql params (state g last) (state g new) (given ++ rows)
 
--- it took the driver's rows that begin from a minute on, in order, and those that have a minute in a range were kept
+-- the pass took the driver's rows that begin at `first` or later, in order; those that have a minute in the range were kept
 pub record HasTakenHeld (driver first start past : ℕ) (rows : List SpanRow) (was pass : StretchPass)
     (before near : List StoredSpan) : Type 0 where
   pub onward : List SpanRow

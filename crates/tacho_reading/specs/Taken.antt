@@ -31,22 +31,22 @@ use Rattle.tacho_reading.specs.declared.feeding.Step.TheVariants.{On, Stop}
 
 -- ---- spans from a base on
 
--- a span without what lies before the base
+-- a span without its minutes before the base
 abbrev pub cut : ℕ → Span → Span
 cut base s = record { start = (if nat_lt s.start base then base else s.start); past = s.past; mark = s.mark }
 
--- spans without what lies before the base: of one that ends by it nothing is left
+-- spans without their minutes before the base; a span that ends by the base is dropped
 abbrev pub cuts : ℕ → List Span → List Span
 cuts base [] = []
 cuts base (s ∷ spans) = if nat_le s.past base then cuts base spans else cut base s ∷ cuts base spans
 
--- what is left of them goes from one minute to another without a gap, and no part of it is crew
+-- cut at the base, the spans go from one minute to another without a gap, and none is crew
 pub record AreWhole (base from past : ℕ) (spans : List Span) : Type 0 where
   pub joined : Joined (cuts base spans) from past
   pub single : All (λ s. s.mark.crew ≡ false) (cuts base spans)
   pub within : past ≤ latest
 
--- and a scan was fed it: what it found comes behind what was found
+-- a scan was fed these cut spans: its new findings are added after the earlier ones
 pub record HasTaken (base from past : ℕ) (spans : List Span) (old : Scan) (was : Found) (new : Scan)
     (found : Found) : Type 0 where
   pub whole : AreWhole base from past spans
@@ -54,29 +54,29 @@ pub record HasTaken (base from past : ℕ) (spans : List Span) (old : Scan) (was
   pub grown : Appends is_any true was found
   pub fed : (before : List Span) → IsScanOf old was base before → IsScanOf new found base (before ++ cuts base spans)
 
--- ---- where it stops
+-- ---- where a scan stops
 
--- a span behind a gap, or one that is crew: the minute is the horizon, and this is why
+-- a span after a gap, or a span that is crew: `minute` is the horizon, and this is the cause
 abbrev pub StopsAt : ℕ → Cause → Span → Type 0
 StopsAt minute Unknown s = minute < s.start
 StopsAt minute Crew s = Covers s minute × (s.mark.crew ≡ true)
 
--- what one row does to a scan that stands at a minute: it is taken up to another, or it stops the scan
+-- what one row does to a scan that is at `minute`: the scan takes it up to another minute, or the row stops the scan
 abbrev pub IsStepOf : ℕ → ℕ → StoredSpan → Scan → Found → Scan → Found → Step → Type 0
 IsStepOf base minute row old was new found (On past) =
     HasTaken base minute past (stored_span row ∷ []) old was new found
 IsStepOf base minute row old was new found (Stop cause) =
     StopsAt minute cause (stored_span row) × (new ≡ old) × (found ≡ was)
 
--- a row that an archive writes, of some minutes by the end of 2099, and what is left of it begins at the minute or later
+-- a row that an archive can have written: it isn't empty, ends by the end of 2099, and, cut at the base, begins at `minute` or later
 pub record CanFollow (base minute : ℕ) (row : StoredSpan) : Type 0 where
   pub fit : IsFit row
   pub some : row.start < row.past
   pub within : row.past ≤ latest
   pub from : minute ≤ (cut base (stored_span row)).start
 
--- what a row leaves that it refuses: for want of memory a scan that has failed, and what was found first; of a row that
--- cannot follow all as it was
+-- what a refused row leaves. If memory ran out, the scan has failed, and the earlier findings are still there. If the row can't follow,
+-- nothing has changed.
 abbrev pub IsRefusalOf : ℕ → ℕ → StoredSpan → Scan → Found → Scan → Found → StoreFault → Type 0
 IsRefusalOf base minute row old was new found Memory = HasFailed new × Appends is_any true was found
 IsRefusalOf base minute row old was new found Store = (¬ CanFollow base minute row) × (new ≡ old) × (found ≡ was)
@@ -84,14 +84,14 @@ IsRefusalOf base minute row old was new found fault = ⊥
 
 -- ---- the rows of a query
 
--- each row tells the span in its place
+-- each row shows the span in its place
 abbrev pub AreTold : List Row → List StoredSpan → Type 0
 AreTold [] [] = Unit {0}
 AreTold [] (s ∷ spans) = ⊥
 AreTold (r ∷ rows) [] = ⊥
 AreTold (r ∷ rows) (s ∷ spans) = Tells r s × AreTold rows spans
 
--- the rows so far are all that the query has; or it has given one more, which stops a scan at the horizon
+-- the rows so far are all rows of the query; or it has given one more, which stops a scan at the horizon
 abbrev pub HasStopped : {S : Type 0} → Ghosts S → List ℕ → Row → Held S → Held S → List Row → Horizon → Type 0
 HasStopped {S = S} g sql params old new rows h =
     ((h.cause ≡ Unknown) × (last : Held S) × ((state g last).now ≡ (state g old).now)
@@ -99,7 +99,7 @@ HasStopped {S = S} g sql params old new rows h =
     ⊎ ((row : Row) × (next : StoredSpan) × Tells row next × StopsAt h.minute h.cause (stored_span next)
     × HasGiven g sql params new (rows ++ row ∷ []))
 
--- a scan took the spans of the rows that came next, from the base to the horizon, and there it stopped
+-- a scan took the spans of the next rows, from the base to the horizon, and stopped there
 pub record HasFed {S : Type 0} (g : Ghosts S) (old new : Held S) (base : ℕ) (scan : Scan) (was : Found) (fed : Scan)
     (found : Found) (h : Horizon) : Type 0 where
   pub spans : List StoredSpan
@@ -109,12 +109,12 @@ pub record HasFed {S : Type 0} (g : Ghosts S) (old new : Held S) (base : ℕ) (s
 
 -- ---- a driver's rows
 
--- what comes behind the horizon is nothing, or begins with what stops a scan there
+-- nothing comes after the horizon, or the first span after it stops a scan there
 abbrev pub StopsBefore : Horizon → List Span → Type 0
 StopsBefore h [] = h.cause ≡ Unknown
 StopsBefore h (s ∷ spans) = StopsAt h.minute h.cause s
 
--- of the driver's rows that begin from a start on, in order, a scan took those up to the horizon, from the base on
+-- of the driver's rows that begin at `start` or later, in order, a scan took those from the base up to the horizon
 pub record AreFed (driver start base : ℕ) (rows : List SpanRow) (scan : Scan) (was : Found) (fed : Scan) (found : Found)
     (h : Horizon) : Type 0 where
   pub taken : List SpanRow
@@ -123,30 +123,30 @@ pub record AreFed (driver start base : ℕ) (rows : List SpanRow) (scan : Scan) 
   pub took : HasTaken base base h.minute (map row_span taken) scan was fed found
   pub stops : StopsBefore h (map row_span others)
 
--- ---- whatever a reading answers
+-- ---- after any result of a reading
 
 -- a scan has taken some spans from the base on
 abbrev pub HasTakenSome : ℕ → Scan → Found → Scan → Found → Type 0
 HasTakenSome base old was new found =
     (past : ℕ) × (spans : List Span) × HasTaken base base past spans old was new found
 
--- what a fault leaves of it: where the store failed it has taken some spans and is as good as it was; and so it is for
--- want of memory, or it has failed, and what it found comes behind what was found
+-- What a fault leaves of a scan. If the store failed, the scan has taken some spans and can continue. If memory ran out, this holds too, or
+-- the scan has failed and its new findings are added after the earlier ones.
 abbrev pub IsLeftAt : ℕ → Scan → Found → Scan → Found → StoreFault → Type 0
 IsLeftAt base old was new found Memory =
     (HasFailed new × Appends is_any true was found) ⊎ HasTakenSome base old was new found
 IsLeftAt base old was new found Store = HasTakenSome base old was new found
 IsLeftAt base old was new found fault = ⊥
 
--- where it has taken what came it stands at the horizon; a fault leaves what it took before
+-- a scan that succeeded is at the horizon; a fault leaves what the scan took before
 pub record EndsAt (base : ℕ) (old : Scan) (was : Found) (new : Scan) (found : Found)
     (result : Result Horizon StoreFault) : Type 0 where
   pub at : IfOk result (λ horizon. IsAt new horizon.minute)
   pub left : IfErr result (IsLeftAt base old was new found)
 
 module _ {S A : Type 0} (g : Ghosts S) (result : Result A StoreFault) where
-  -- Of the rows of a query: it is the same connection, what is open was so before and sees what it saw, and a stop
-  -- leaves what it could leave before.
+  -- A call on the rows of a query. It is the same connection. If it is open now, it was open before and sees the same data. A crash may
+  -- leave only states that it could leave before.
   pub record ReadsRows (old new : MutBor (Held S)) : Type 0 where
     pub same_reference : new.ghost_name ≡ old.ghost_name
     pub live : HasCleanDisk (state g new.now) → OnOk result (IsTrue (state g new.now).is_open)
@@ -154,8 +154,8 @@ module _ {S A : Type 0} (g : Ghosts S) (result : Result A StoreFault) where
     pub mode : old.now.in_transaction ≡ false → new.now.in_transaction ≡ false
     pub survives : Survives (state g old.now) (state g new.now) (λ _. ⊥)
 
-  -- Of a connection that is in no transaction, and stays so: what is open was so before and sees what it saw, a clean
-  -- disk was clean before, and a stop leaves what it could leave before.
+  -- A call on a connection outside a transaction, which stays outside. If it is open now, it was open before and sees the same data. A disk
+  -- that is clean now was clean before. A crash may leave only states that it could leave before.
   pub record ReadsSettled (old new : Held S) : Type 0 where
     pub autocommit : new.in_transaction ≡ false
     pub live : HasCleanDisk (state g new) → OnOk result (IsTrue (state g new).is_open)

@@ -4,7 +4,7 @@ ghost use Rattle.tacho_reading.specs.Faults.{store_fault};
 use tacho_state::StoreFault;
 use tacho_tables::TableFault;
 
-/// Why a call of an archive does nothing after a call on the tables that did nothing.
+/// Converts a fault of a call on the tables to the fault of a call on the archive.
 pub fn store_fault(fault: TableFault) -> StoreFault
     ensures { result ≡ store_fault fault }
 {

@@ -19,16 +19,16 @@ use tacho_state::StoreFault;
 use tacho_tables::{StoredSpan, held, next_span};
 use tacho_time::{Minute, Span};
 
-/// What one row does to a scan.
+/// The effect of one row on a scan.
 #[derive(Clone, Copy)]
 pub enum Step {
-    /// It was taken, and the scan stands at this minute.
+    /// The row was taken; the scan is now at this minute.
     On(Minute),
-    /// It stops the scan where it stood.
+    /// The row stops the scan at the minute where it was.
     Stop(Cause),
 }
 
-/// A span without what lies before the base.
+/// Returns a span without its minutes before the base.
 fn cut(span: Span, base: Minute) -> Span
     ensures { result ≡ cut base span }
 {
@@ -42,8 +42,8 @@ fn cut(span: Span, base: Minute) -> Span
     span
 }
 
-/// Feeds a scan that stands at a minute the span of one row, without what lies before the base. A row that no archive
-/// writes, or that begins before the minute, is a fault of the store, and nothing has changed.
+/// Feeds a scan, which is at `minute`, the span of one row, cut at the base. A row that no archive writes, or that begins before `minute`,
+/// is a store failure, and then nothing has changed.
 fn take(
     row: &StoredSpan,
     base: Minute,
@@ -80,9 +80,9 @@ fn take(
     Ok(Step::On(past))
 }
 
-/// Feeds a scan that stands at the base the spans of the next rows of a query on start, past and mark, without what
-/// lies before the base, up to the horizon: where the rows end, or the next one begins behind a gap or is crew. At a
-/// fault the scan has failed for want of memory, or stands behind the rows that it took.
+/// Feeds a scan, which is at the base, the spans of the next rows of a query on start, past and mark, cut at the base, up to the horizon:
+/// where the rows end, or where the next row begins after a gap or is crew. After a fault, the scan has failed (out of memory), or it is at
+/// the end of the rows that it took.
 pub fn feed_rows<S: Alter>(
     rows: &mut Rows<'_, S>,
     base: Minute,
@@ -113,9 +113,9 @@ pub fn feed_rows<S: Alter>(
     Err(StoreFault::Store)
 }
 
-/// Feeds a scan that stands at the base what a driver holds from there on, up to the horizon. Of his rows that begin
-/// from the start on it reads no more than it takes and the one behind. At a fault the scan has failed for want of
-/// memory, or stands behind the rows that it took.
+/// Feeds a scan, which is at the base, what a driver holds from there up to the horizon. It reads the driver's rows that begin at `start`
+/// or later, and at most one row more than it takes. After a fault, the scan has failed (out of memory), or it is at the end of the rows
+/// that it took.
 pub fn feed_held<S: Alter>(
     conn: &mut Connection<S>,
     driver: u32,

@@ -6,7 +6,7 @@ use sqlite::{Alter, Transaction};
 use tacho_state::StoreFault;
 use tacho_tables::{StoredDriver, drivers};
 
-/// The driver with a number: S4.
+/// Reads the driver with this number: S4.
 #[tactic(auto, unfolding(crate::specs::Finding::IsDriver))]
 pub fn driver_with<S: Alter>(
     tx: &mut Transaction<'_, S>,

@@ -1,5 +1,5 @@
-//! Laws about what the archive's tables stand for. A law is a function without a body: what it ensures is proved, and
-//! holds for all that it names.
+//! Laws about what the archive's tables represent. A law is a function without a body: what it ensures is proved for all values of its
+//! variables.
 
 ghost use Rattle.std.specs.Prelude.{◌≡◌, ◌↔◌, ℕ, List, [], None, Some, Ok, map, filter, Contains};
 ghost use Rattle.sqlite.specs.Tree.{Trees};
@@ -13,12 +13,12 @@ ghost use Rattle.tacho_tables.specs.Rows.{DriverRow, DownloadRow, EntryRow, Span
 ghost use Rattle.tacho_tables.specs.Tables.{Tables, HasTables, has_number, has_secret, has_holder, is_download, is_entry, is_entry_of};
 ghost use Rattle.tacho_reading.specs.Standing.{TablesStandFor, SameRows, spans_of, driver_columns, entry_row, entry_rows, stored_span, IsReadNear};
 
-/// What is stored stands for lists of rows in any order.
+/// Stored rows represent lists of rows in any order.
 pub fn any_order()
     ensures { (db : Trees) (t u : Tables) → SameRows t u → HasTables db t → HasTables db u }
 {}
 
-/// A driver is found in the tables by his number as in the state.
+/// A driver is found by number in the tables exactly as in the state.
 pub fn drivers_are_found()
     ensures none { (t : Tables) (s : State) (n : ℕ) → TablesStandFor t s
         → (filter (has_number n) t.drivers ≡ []) ↔ (driver_of n s ≡ None) }
@@ -27,7 +27,7 @@ pub fn drivers_are_found()
         → (d : Driver) × (driver_of n s ≡ Some d) × (row ≡ driver_columns d) }
 {}
 
-/// And by his key.
+/// A driver is found by key in the tables exactly as in the state.
 pub fn keys_are_found()
     ensures none { (t : Tables) (s : State) (key : List ℕ) → TablesStandFor t s
         → (filter (has_secret key) t.drivers ≡ []) ↔ (keyed key s ≡ None) }
@@ -36,7 +36,7 @@ pub fn keys_are_found()
         → (d : Driver) × (keyed key s ≡ Some d) × (row ≡ driver_columns d) }
 {}
 
-/// And by his card's holder.
+/// A driver is found by their card's holder in the tables exactly as in the state.
 pub fn holders_are_found()
     ensures none { (t : Tables) (s : State) (holder : List ℕ) → TablesStandFor t s
         → (filter (has_holder holder) t.drivers ≡ []) ↔ (holding holder s ≡ None) }
@@ -45,7 +45,7 @@ pub fn holders_are_found()
         → (d : Driver) × (holding holder s ≡ Some d) × (driver_of d.number s ≡ Some d) × (row ≡ driver_columns d) }
 {}
 
-/// A driver's rows keep what his downloads give, and what he holds.
+/// A driver's rows keep what the driver's downloads give, and what the driver holds.
 pub fn rows_are_kept()
     ensures card { (t : Tables) (s : State) (n : ℕ) (d : Driver) → TablesStandFor t s → driver_of n s ≡ Some d
         → Keeps (spans_of n t.card_spans) (Given d) }
@@ -53,14 +53,14 @@ pub fn rows_are_kept()
         → Keeps (spans_of n t.held) (Held d) }
 {}
 
-/// What is read near a range is what the driver's rows keep there; and with the whole range, all that they keep.
+/// The line of the rows read near a range is the line of the driver's spans near it.
 pub fn rows_are_near()
     ensures { (rows : List SpanRow) (n start past : ℕ) (found : List StoredValue) (line : List Span)
         → IsReadNear rows n start past found → IsCanonicalOf (Gives (map stored_span found)) line
         → IsCanonicalOf (Gives (near start past (spans_of n rows))) line }
 {}
 
-/// Downloads are found in the tables by their numbers as in the state.
+/// Downloads are found by number in the tables exactly as in the state.
 pub fn downloads_are_found()
     ensures none { (t : Tables) (s : State) (n number : ℕ) (d : Driver) → TablesStandFor t s → driver_of n s ≡ Some d
         → (filter (is_download n number) t.downloads ≡ []) ↔ (download_from 1 number d.downloads ≡ None) }
@@ -70,7 +70,7 @@ pub fn downloads_are_found()
         → file_of (download_from 1 number d.downloads) ≡ Ok row.file }
 {}
 
-/// Entries are found in the tables by their numbers as in the state.
+/// Entries are found by number in the tables exactly as in the state.
 pub fn entries_are_found()
     ensures none { (t : Tables) (s : State) (n number : ℕ) (d : Driver) → TablesStandFor t s → driver_of n s ≡ Some d
         → (filter (is_entry n number) t.entries ≡ []) ↔ (entry_from 1 number d.entries ≡ None) }

@@ -1,5 +1,5 @@
-//! What the archive's tables stand for, and what is read of them: whose a key is, what a driver's cards told, what he
-//! holds, and the report of it.
+//! The state that the archive's tables represent, and readings of it: whose a key is, the drivers, their names, downloads and entries, what
+//! they hold, and their reports and stretches.
 #![tactic(auto)]
 
 pub mod fault;

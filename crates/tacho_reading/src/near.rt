@@ -1,5 +1,5 @@
-//! The rows of a driver near a range: those that have a minute in it, each whole. No row's minutes are another one's,
-//! so that at most one of them begins before the range, and the others are found by where they begin.
+//! The rows of a driver near a range: those that have a minute in it; they aren't cut to it. No two rows share a minute, so at most one of
+//! them begins before the range. The others are found by their starts.
 
 ghost use Rattle.std.specs.Prelude.{◌≡◌};
 ghost use Rattle.tacho_tables.specs.Calls.{Finds};
@@ -11,7 +11,7 @@ use sqlite::{Alter, Transaction};
 use std::alloc::Global;
 use tacho_tables::{SpanTable, StoredSpan, TableFault, spans};
 
-/// Where the first row near a range begins, by the latest row that begins before the range.
+/// Returns where the first row near a range begins, from the latest row that begins before the range.
 pub fn first_start(before: Option<StoredSpan>, start: u32, past: u32) -> u32
     ensures { result ≡ near_from start past before }
 {
@@ -21,7 +21,7 @@ pub fn first_start(before: Option<StoredSpan>, start: u32, past: u32) -> u32
     }
 }
 
-/// What a driver's downloads give near a range, or what he holds there.
+/// Reads a driver's rows near a range: what their downloads give there, or what they hold there.
 pub fn rows_near<S: Alter>(
     alloc: Global,
     tx: &mut Transaction<'_, S>,

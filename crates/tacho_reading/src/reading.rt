@@ -31,7 +31,7 @@ use tacho_stretches::{Stretch, StretchPass};
 use tacho_tables::{SpanTable, downloads, drivers, entries, held, opening, spans};
 use tacho_time::Minute;
 
-/// The driver whose key this is, within a transaction.
+/// Reads the number of the driver with this key, within a transaction.
 fn who_in<S: Alter>(tx: &mut Transaction<'_, S>, key: &[u8]) -> Result<Option<u32>, StoreFault>
     ensures { Tells S.Store tx.old.conn tx.new.conn result
         (λ _ s. Answers (λ found. found) result (owner key.now s)) }
@@ -39,7 +39,7 @@ fn who_in<S: Alter>(tx: &mut Transaction<'_, S>, key: &[u8]) -> Result<Option<u3
     drivers::number_by_secret(tx, key).map_err(store_fault)
 }
 
-/// The driver whose key this is, if there is one.
+/// Reads the number of the driver with this key, if there is one.
 pub fn who<S: Alter>(conn: &mut Connection<S>, key: &[u8]) -> Result<Option<u32>, StoreFault>
     requires { conn.old.in_transaction ≡ false }
     ensures autocommit { conn.new.in_transaction ≡ false }
@@ -55,7 +55,7 @@ pub fn who<S: Alter>(conn: &mut Connection<S>, key: &[u8]) -> Result<Option<u32>
     }
 }
 
-/// All drivers, within a transaction.
+/// Reads all drivers, within a transaction.
 fn drivers_in<S: Alter>(
     alloc: Global,
     tx: &mut Transaction<'_, S>,
@@ -67,7 +67,7 @@ fn drivers_in<S: Alter>(
     summaries_of(alloc, rows)
 }
 
-/// All drivers, the lower number first.
+/// Reads all drivers, the lowest number first.
 pub fn drivers<S: Alter>(
     alloc: Global,
     conn: &mut Connection<S>,
@@ -88,7 +88,7 @@ pub fn drivers<S: Alter>(
     }
 }
 
-/// A driver's name, within a transaction: S4.
+/// Reads a driver's name, within a transaction: S4.
 fn name_in<S: Alter>(tx: &mut Transaction<'_, S>, driver: u32) -> Result<String, StoreFault>
     ensures { Tells S.Store tx.old.conn tx.new.conn result
         (λ _ s. Answers (λ name. string_bytes name) result (named driver s)) }
@@ -97,7 +97,7 @@ fn name_in<S: Alter>(tx: &mut Transaction<'_, S>, driver: u32) -> Result<String,
     Ok(stored.name)
 }
 
-/// A driver's name: S4.
+/// Reads a driver's name: S4.
 pub fn name<S: Alter>(conn: &mut Connection<S>, driver: u32) -> Result<String, StoreFault>
     requires { conn.old.in_transaction ≡ false }
     ensures autocommit { conn.new.in_transaction ≡ false }
@@ -113,7 +113,7 @@ pub fn name<S: Alter>(conn: &mut Connection<S>, driver: u32) -> Result<String, S
     }
 }
 
-/// The bytes of a driver's download, within a transaction: S4, S10.
+/// Reads the bytes of a driver's download, within a transaction: S4, S10.
 fn download_in<S: Alter>(
     tx: &mut Transaction<'_, S>,
     driver: u32,
@@ -127,7 +127,7 @@ fn download_in<S: Alter>(
     file.ok_or(StoreFault::UnknownDownload)
 }
 
-/// The bytes of a driver's download: S4, S10.
+/// Reads the bytes of a driver's download: S4, S10.
 pub fn download<S: Alter>(
     conn: &mut Connection<S>,
     driver: u32,
@@ -147,7 +147,7 @@ pub fn download<S: Alter>(
     }
 }
 
-/// A driver's timeline, within a transaction: S4.
+/// Reads a driver's timeline, within a transaction: S4.
 fn line_in<S: Alter>(
     alloc: Global,
     tx: &mut Transaction<'_, S>,
@@ -161,7 +161,7 @@ fn line_in<S: Alter>(
     line_of_stored(alloc, &rows)
 }
 
-/// A driver's timeline: S4.
+/// Reads a driver's timeline: S4.
 pub fn line<S: Alter>(
     alloc: Global,
     conn: &mut Connection<S>,
@@ -181,7 +181,7 @@ pub fn line<S: Alter>(
     }
 }
 
-/// What a driver holds in a range, within a transaction: S4. The rows near the range alone are read.
+/// Reads what a driver holds in a range, within a transaction: S4. Reads only the rows near the range.
 fn line_within_in<S: Alter>(
     alloc: Global,
     tx: &mut Transaction<'_, S>,
@@ -205,7 +205,7 @@ fn line_within_in<S: Alter>(
     line_of_stored(alloc, &rows)
 }
 
-/// What a driver holds in a range: S4.
+/// Reads what a driver holds in a range: S4.
 pub fn line_within<S: Alter>(
     alloc: Global,
     conn: &mut Connection<S>,
@@ -229,7 +229,7 @@ pub fn line_within<S: Alter>(
     }
 }
 
-/// A driver's entries, within a transaction: S4.
+/// Reads a driver's entries, within a transaction: S4.
 fn entries_in<S: Alter>(
     alloc: Global,
     tx: &mut Transaction<'_, S>,
@@ -243,7 +243,7 @@ fn entries_in<S: Alter>(
     listed_entries(alloc, rows)
 }
 
-/// A driver's entries by their numbers: S4.
+/// Reads a driver's entries, ordered by number: S4.
 pub fn entries<S: Alter>(
     alloc: Global,
     conn: &mut Connection<S>,
@@ -263,17 +263,17 @@ pub fn entries<S: Alter>(
     }
 }
 
-/// Where a reading of a driver's rows begins.
+/// Where to begin to read a driver's rows.
 #[derive(Clone, Copy)]
 pub struct Beginning {
     /// The first minute that is examined.
     pub base: Minute,
-    /// Where the first of the rows begins that are read, or a minute up to there.
+    /// The start of the first row to be read, or an earlier minute.
     pub start: u32,
 }
 
-/// Where a reading of the rows begins that end after a driver's base, or after a minute that is earlier, within a transaction: S4. S12
-/// where the base is no Monday from 2000-01-03 to the end of 2099: no archive has such a base.
+/// Finds where the rows begin that end after a driver's base, or after minute `from` if that is earlier, within a transaction: S4. Returns
+/// S12 if the base isn't a Monday from 2000-01-03 to the end of 2099: no archive has such a base.
 fn begin_in<S: Alter>(
     tx: &mut Transaction<'_, S>,
     driver: u32,
@@ -295,7 +295,7 @@ fn begin_in<S: Alter>(
     })
 }
 
-/// Where a reading of the rows begins that end after a driver's base, or after a minute that is earlier: S4.
+/// Finds where the rows begin that end after a driver's base, or after minute `from` if that is earlier: S4.
 fn begin<S: Alter>(
     conn: &mut Connection<S>,
     driver: u32,
@@ -318,7 +318,7 @@ fn begin<S: Alter>(
     }
 }
 
-/// The report of a driver from their base on: S4. Their rows are read one at a time, from the base on and up to the horizon.
+/// Returns the report of a driver from their base: S4. Reads the driver's rows one at a time, from the base up to the horizon.
 pub fn report<S: Alter>(
     alloc: Global,
     conn: &mut Connection<S>,
@@ -337,7 +337,7 @@ pub fn report<S: Alter>(
     Ok(scan.finish(horizon, found)?)
 }
 
-/// The stretches of a driver from their base on: S4. Their rows are read one at a time, each once, from the base on.
+/// Returns the stretches of a driver from their base: S4. Reads the driver's rows one at a time, each once, from the base on.
 pub fn stretches<S: Alter>(
     alloc: Global,
     conn: &mut Connection<S>,
@@ -354,8 +354,8 @@ pub fn stretches<S: Alter>(
     Ok(found)
 }
 
-/// What a driver holds in a range, and their stretches: S4. Their rows are read one at a time, each once, from the base on, or from the
-/// range on where that is earlier. Those that have a minute in the range are kept.
+/// Returns what a driver holds in a range, and the driver's stretches: S4. Reads the driver's rows one at a time, each once, from the base
+/// on, or from the range on if that is earlier. Keeps the rows that have a minute in the range.
 pub fn line_and_stretches<S: Alter>(
     alloc: Global,
     conn: &mut Connection<S>,

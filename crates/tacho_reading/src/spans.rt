@@ -12,13 +12,13 @@ use tacho_state::{DriverSummary, Entry, EntryLine, StoreFault, line_of};
 use tacho_tables::{StoredDriver, StoredEntry, StoredSpan};
 use tacho_time::{Activity, Day, Mark, Minute, Span, SpanFault};
 
-/// The last number of a minute.
+/// The last minute's number.
 const LAST: u32 = 68_428_800;
 
-/// The last number of a day.
+/// The last day's number.
 const LAST_DAY: u32 = 47_520;
 
-/// The number of what a driver does: 0 rest, 1 available, 2 work, 3 drive.
+/// Returns the number of an activity: 0 rest, 1 available, 2 work, 3 drive.
 fn number_of_activity(activity: Activity) -> u32
     ensures value { result ≡ activity_number activity }
     ensures bound { result < 4 }
@@ -31,14 +31,14 @@ fn number_of_activity(activity: Activity) -> u32
     }
 }
 
-/// The number of a mark: that of what the driver does, and 4 more for crew.
+/// Returns the number of a mark: that of its activity, plus 4 for crew.
 fn number_of(mark: Mark) -> u32
     ensures { result ≡ mark_number mark }
 {
     number_of_activity(mark.activity) + if mark.crew { 4 } else { 0 }
 }
 
-/// What a driver does, by its number: above 2 he drives.
+/// Returns the activity with this number; every number above 2 is drive.
 fn activity_of(number: u32) -> Activity
     ensures { result ≡ numbered_activity number }
 {
@@ -50,7 +50,7 @@ fn activity_of(number: u32) -> Activity
     }
 }
 
-/// The mark with this number; marks have the numbers to 7.
+/// Returns the mark with this number; the numbers of marks end at 7.
 fn mark_of(number: u32) -> Option<Mark>
     ensures some { IfSome result (λ mark. mark ≡ numbered_mark number) }
     ensures none { IsNone result ↔ (8 ≤ number) }
@@ -64,7 +64,7 @@ fn mark_of(number: u32) -> Option<Mark>
     })
 }
 
-/// The minute with this number, if there is one.
+/// Returns the minute with this number, if there is one.
 pub fn minute_of(number: u32) -> Option<Minute>
     ensures some { IfSome result (λ minute. minute ≡ number) }
     ensures none { IsNone result ↔ (LAST < number) }
@@ -75,7 +75,7 @@ pub fn minute_of(number: u32) -> Option<Minute>
     Some(Minute::new(number))
 }
 
-/// The span of a stored row, where an archive writes such a row.
+/// Returns the span of a stored row, if an archive can have written the row.
 pub fn span_of(row: &StoredSpan) -> Option<Span>
     ensures some { IfSome result (λ span. span ≡ stored_span row.now) }
     ensures none { IsNone result ↔ (¬ IsFit row.now) }
@@ -87,7 +87,7 @@ pub fn span_of(row: &StoredSpan) -> Option<Span>
     })
 }
 
-/// The spans of stored rows; a row that no archive writes is a fault of the store.
+/// Returns the spans of stored rows. A row that no archive writes is a store failure.
 pub fn spans_of(alloc: Global, rows: &[StoredSpan]) -> Result<Vec<Span>, StoreFault>
     ensures spans { IfOk result (λ spans. spans.items ≡ map stored_span rows.now) }
     ensures fault { IfErr result (λ fault. OrMemory StoreFault.Memory fault (fault ≡ StoreFault.Store)) }
@@ -103,7 +103,7 @@ pub fn spans_of(alloc: Global, rows: &[StoredSpan]) -> Result<Vec<Span>, StoreFa
     Ok(spans)
 }
 
-/// The fault of stored rows whose spans have that fault.
+/// Returns the fault of stored rows, from the fault of their spans.
 pub fn fault_of_rows(fault: SpanFault) -> StoreFault
     ensures { OrMemory StoreFault.Memory result
         ((result ≡ StoreFault.Store) × ((minute : ℕ) × (fault ≡ SpanFault.Contradiction minute))) }
@@ -114,8 +114,8 @@ pub fn fault_of_rows(fault: SpanFault) -> StoreFault
     }
 }
 
-/// The line of stored rows, in any order; a row that no archive writes (a minute past 68,428,800, a mark over 7), or
-/// two that contradict, is a fault of the store.
+/// Returns the line of stored rows, in any order. A row that no archive writes (a minute past 68,428,800, a mark over 7), or two rows that
+/// contradict, are a store failure.
 pub fn line_of_stored(alloc: Global, rows: &[StoredSpan]) -> Result<Line, StoreFault>
     ensures line { IfOk result (λ line. IsCanonicalOf (Gives (map stored_span rows.now)) line) }
     ensures fault { IfErr result (λ fault. OrMemory StoreFault.Memory fault (fault ≡ StoreFault.Store)) }
@@ -128,7 +128,7 @@ pub fn line_of_stored(alloc: Global, rows: &[StoredSpan]) -> Result<Line, StoreF
     }
 }
 
-/// The entry of a stored row, where an archive writes such a row.
+/// Returns the entry of a stored row, if an archive can have written the row.
 fn listed_entry(row: StoredEntry) -> Option<Entry>
     ensures some { IfSome result (λ entry. entry ≡ listed_as (told_entry row)) }
     ensures none { IsNone result ↔ (¬ IsListed (told_entry row)) }
@@ -146,7 +146,7 @@ fn listed_entry(row: StoredEntry) -> Option<Entry>
     })
 }
 
-/// The entries of stored rows; a row that no archive writes is a fault of the store.
+/// Returns the entries of stored rows. A row that no archive writes is a store failure.
 pub fn listed_entries(alloc: Global, rows: Vec<StoredEntry>) -> Result<Vec<Entry>, StoreFault>
     ensures entries { IfOk result (λ entries. entries.items ≡ map listed_as (map told_entry rows.items)) }
     ensures fault { IfErr result (λ fault. OrMemory StoreFault.Memory fault (fault ≡ StoreFault.Store)) }
@@ -162,7 +162,7 @@ pub fn listed_entries(alloc: Global, rows: Vec<StoredEntry>) -> Result<Vec<Entry
     Ok(entries)
 }
 
-/// The day with this number, if there is one.
+/// Returns the day with this number, if there is one.
 fn day_of(number: u32) -> Option<Day>
     ensures some { IfSome result (λ day. day ≡ number) }
     ensures none { IsNone result ↔ (LAST_DAY < number) }
@@ -173,7 +173,7 @@ fn day_of(number: u32) -> Option<Day>
     Some(Day::new(number))
 }
 
-/// What is listed of a stored driver, where an archive writes such a row.
+/// Returns what is listed of a stored driver, if an archive can have written the row.
 fn summary_of(row: StoredDriver) -> Option<DriverSummary>
     ensures some { IfSome result (λ summary. told_summary summary ≡ summarized (told_driver row)) }
     ensures none { IsNone result ↔ (¬ HasDay (told_driver row)) }
@@ -188,7 +188,7 @@ fn summary_of(row: StoredDriver) -> Option<DriverSummary>
     })
 }
 
-/// What is listed of stored drivers; a row that no archive writes is a fault of the store.
+/// Returns what is listed of stored drivers. A row that no archive writes is a store failure.
 pub fn summaries_of(
     alloc: Global,
     rows: Vec<StoredDriver>,
@@ -207,7 +207,7 @@ pub fn summaries_of(
     Ok(drivers)
 }
 
-/// A span as it is stored.
+/// Returns the stored form of a span.
 pub fn stored_row(span: &Span) -> StoredSpan
     ensures { (n : ℕ) → row_of n result ≡ span_row n span.now }
 {
@@ -218,7 +218,7 @@ pub fn stored_row(span: &Span) -> StoredSpan
     }
 }
 
-/// Spans as they are stored.
+/// Returns the stored form of spans.
 pub fn stored(alloc: Global, spans: &[Span]) -> Result<Vec<StoredSpan>, AllocError>
     ensures { IfOk result (λ rows. (n : ℕ) → map (row_of n) rows.items ≡ map (span_row n) spans.now) }
 {
@@ -229,7 +229,7 @@ pub fn stored(alloc: Global, spans: &[Span]) -> Result<Vec<StoredSpan>, AllocErr
     Ok(rows)
 }
 
-/// From the first minute of spans to before their past, or from 0 to before 0 where there are none.
+/// Returns the range from the first minute of canonical spans to before the past of the last, or 0 and 0 if there are none.
 pub fn range_of(spans: &[Span]) -> (u32, u32)
     requires { IsCanonical spans.now }
     ensures { AreInRange result.0 result.1 spans.now }

@@ -1,4 +1,4 @@
-//! A pass over stretches that is fed what a driver holds, one row at a time. The rows that have a minute in a range are kept beside it.
+//! A pass over stretches that is fed what a driver holds, one row at a time. The rows that have a minute in a range are kept as well.
 
 ghost use Rattle.std.specs.Prelude.{◌≡◌, ◌++◌, ◌∷◌, [], false, filter, OnOk, IfErr};
 ghost use Rattle.sqlite.specs.State.{HasCleanDisk};
@@ -18,8 +18,7 @@ use tacho_stretches::StretchPass;
 use tacho_tables::{StoredSpan, held, next_span};
 use tacho_time::Minute;
 
-/// Takes the span of one row. A row that no archive writes, or that begins before the last one ended, is a fault of the
-/// store.
+/// Feeds the pass the span of one row. A row that no archive writes, or that begins before the last one ended, is a store failure.
 fn take(row: &StoredSpan, pass: &mut StretchPass) -> Result<(), StoreFault>
     ensures took { OnOk result (HasTakenOn pass.old pass.new (stored_span row.now ∷ [])) }
     ensures refused { IfErr result IsGivenUp }
@@ -34,7 +33,7 @@ fn take(row: &StoredSpan, pass: &mut StretchPass) -> Result<(), StoreFault>
     Ok(())
 }
 
-/// Keeps a row that has a minute in a range.
+/// Keeps a row if it has a minute in a range.
 fn keep(
     row: &StoredSpan,
     start: Minute,
@@ -49,7 +48,7 @@ fn keep(
     Ok(())
 }
 
-/// Takes the spans of the rows that are left of a query on start, past and mark, and keeps the rows that have a minute in a range.
+/// Feeds the pass the spans of the remaining rows of a query on start, past and mark, and keeps the rows that have a minute in a range.
 fn take_rows<S: Alter>(
     rows: &mut Rows<'_, S>,
     start: Minute,
@@ -73,8 +72,8 @@ fn take_rows<S: Alter>(
     Err(StoreFault::Store)
 }
 
-/// Takes what a driver holds, of the rows that begin from the first minute on, and keeps the rows that have a minute in the range. Each
-/// row is read once.
+/// Feeds the pass what a driver holds, from the rows that begin at `first` or later, and keeps the rows that have a minute in the range.
+/// Each row is read once.
 pub fn take_held<S: Alter>(
     conn: &mut Connection<S>,
     driver: u32,

@@ -35,7 +35,7 @@ use Rattle.tacho_rests.specs.Choices.{IsLastSeen}
 use Rattle.tacho_rests.specs.Choices.{IsAtFirst, IsBehind, AreChoices}
 use Rattle.tacho_rests.proofs.ClosingLemmas.{some_left, closed_anew, closed_on, none_on, fails_on}
 
--- the breaches of the weeks before one, by the number of the week
+-- the breaches for the weeks before week n, by the number of the week
 before_is : (line : Line) (horizon first n : ℕ) → first ≤ n → (breach : Breach)
     → LackingBelow line horizon first n breach ↔ IsLackingBefore line (week_start first) horizon n breach
 before_is line horizon first n some breach = (
@@ -86,7 +86,7 @@ from_before line horizon first n some found r =
     exactly_as (IsLackingBefore line (week_start first) horizon n) (LackingBelow line horizon first n) Apart found
     (λ breach. ((before_is line horizon first n some breach).1, (before_is line horizon first n some breach).0)) r
 
--- where no weekly rest starts, all stays
+-- if no weekly rest starts, nothing changes
 last_keep : (line : Line) (start later w : ℕ) (last : Option Run) → start ≤ later
     → ((x : Run) → IsRestOf line 1440 x → x.start < later → x.start < start)
     → MatchOption last ((x : Run) → IsSeen line start x → ⊥) (λ rest. IsLastSeen line start w rest)
@@ -111,7 +111,7 @@ choices_keep line horizon first start later w current last rested outcomes own f
   behind = s.behind;
 }
 
--- the next weekly rest, where the weeks before its own have been closed
+-- the next weekly rest, after the weeks before its week have been closed
 pub choices_rest : (line : Line) → IsInWeeks line → (horizon first start later w : ℕ) (current : WeekOfRests)
     (last : Option Run) (rested : Bool) (outcomes : List Bool) (own : List Breach) (rest : Run)
     → IsRestOf line 1440 rest → start ≤ rest.start → rest.start < later
@@ -144,7 +144,7 @@ choices_rest line weeks horizon first start later w current last rested outcomes
       behind = s.behind;
     }
 
--- of rests of which the last starts before a week, only that one has a minute there
+-- if the last rest starts before a week, no other of the rests has a minute in that week
 last_alone : (line : Line) → IsInWeeks line → (start w : ℕ) (last : Option Run)
     → MatchOption last ((x : Run) → IsSeen line start x → ⊥) (λ rest. IsLastSeen line start w rest)
     → IsWeekOfRests (IsSeen line start) (w + 1) (week_of_last (w + 1) last)
@@ -182,7 +182,7 @@ module _ (line : Line) (weeks : IsInWeeks line) (horizon first start w : ℕ) (c
     (s : AreChoices line horizon first start w current last rested outcomes own)
     (early : week_start (w + 1) < FAR) (ended : week_start (w + 1) ≤ horizon)
     (all : (x : Run) → IsRestOf line 1440 x → x.start < week_start (w + 1) → x.start < start) where
-  -- they are all of the line's
+  -- the rests seen are all weekly rests of the line with a minute in this week
   all_seen : IsWeekOfRests (IsWeeklyRest line) w current
   all_seen = seen_agree (IsSeen line start) (IsWeeklyRest line) w current
       (λ x a b. (
@@ -197,7 +197,7 @@ module _ (line : Line) (weeks : IsInWeeks line) (horizon first start w : ℕ) (c
   wholly = seen_whole line w current early all_seen
 
   module _ (next : List Bool) (more : List Breach) (j : IsJudged w current rested outcomes next more) where
-    -- the first week of all
+    -- the first week
     first_behind : IsAtFirst first w rested outcomes own → IsBehind line horizon first (w + 1) current.whole next
         (own ++ more)
     first_behind at =
@@ -227,7 +227,7 @@ module _ (line : Line) (weeks : IsInWeeks line) (horizon first start w : ℕ) (c
           }
         ]
 
-    -- a week behind a closed one
+    -- a week after a closed one
     module _ (b : IsBehind line horizon first w rested outcomes own) where
       next_week : IsWeekOf line (b.u + 1) current.rests
       next_week = subst (λ (v : ℕ). IsWeekOf line v current.rests) (sym b.here) here
@@ -310,7 +310,7 @@ module _ (line : Line) (weeks : IsInWeeks line) (horizon first start w : ℕ) (c
             }
       ]
 
-    -- is closed
+    -- the week is closed
     pub choices_close : AreChoices line horizon first start (w + 1) (week_of_last (w + 1) last) last current.whole
         next (own ++ more)
     choices_close = record {
@@ -319,7 +319,7 @@ module _ (line : Line) (weeks : IsInWeeks line) (horizon first start w : ℕ) (c
       behind = inr (elim s.behind [ inl at ↦ first_behind at | inr b ↦ next_behind b ]);
     }
 
--- when all weeks that are over have been closed
+-- after all weeks that have ended were closed, all breaches are found
 pub choices_all : (line : Line) (base horizon first start w : ℕ) (current : WeekOfRests) (last : Option Run)
     (rested : Bool) (outcomes : List Bool) (own : List Breach) → base ≡ week_start first → horizon < week_start (w + 1)
     → AreChoices line horizon first start w current last rested outcomes own
@@ -335,7 +335,7 @@ choices_all line base horizon first start w current last rested outcomes own mon
       (from_before line horizon first b.u b.from own b.found)
 ]
 
--- all are of the kind
+-- all breaches have the kind B9
 pub judged_kinds : (w : ℕ) (week : WeekOfRests) (rested : Bool) (old next : List Bool) (more : List Breach)
     → IsJudged w week rested old next more → All (λ (y : Breach). IsTrue (is_b9 y.kind)) more
 judged_kinds w week rested old next more (inl served) =

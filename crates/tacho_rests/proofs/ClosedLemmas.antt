@@ -1,4 +1,4 @@
--- A week that is closed: its main rest, what it owes, and the turns of its rests (specs/Paying, closed).
+-- A closed week: its main rest, what it owes, and the turns of its rests (specs/Paying, closed).
 use Rattle.std.proofs.Common.{◌≡◌, ◌≢◌, ℕ, suc, ◌+◌, ◌-◌, ◌<◌, ◌≤◌, ◌⊎◌, inl, inr, Bool, true, false, Option, None}
 use Rattle.std.proofs.Common.{Some, List, [], ◌∷◌, ◌++◌, length, refl, sym, ap, subst, ◌∙◌, arith, min, nat_le, nat_lt}
 use Rattle.std.proofs.Common.{if◌then◌else◌}
@@ -29,7 +29,7 @@ use Rattle.tacho_rests.specs.Paying.{push_few, takes, pay_all, longer, longest, 
 use Rattle.tacho_rests.proofs.TurnsLemmas.{before_turn, first_is, turns_pay, turns_add, turns_end}
 use Rattle.tacho_rests.proofs.PayingLemmas.{IsOpen, shares_none, pay_turns, skip_turns}
 
--- there is room
+-- if there is room, an item is appended
 pub push_room : {A : Type 0} (most : ℕ) (xs : List A) (x : A) → length xs < most → push_few most xs x ≡ xs ++ x ∷ []
 push_room most xs x room = let e : nat_lt (length xs) most ≡ true = grind (arith, nat_tests) in rw e refl
 
@@ -37,7 +37,7 @@ either : (b : Bool) (xs ys : List Debt) (n : ℕ) → length xs ≡ n → length
 either true xs ys n e f = e
 either false xs ys n e f = f
 
--- as many debts as before
+-- a turn doesn't change the number of debts
 pub length_pay : (rest : Run) (end spent : ℕ) (debts : List Debt) → length (pay_all rest end spent debts) ≡ length debts
 length_pay rest end spent [] = refl
 length_pay rest end spent (debt ∷ debts) =
@@ -46,7 +46,7 @@ length_pay rest end spent (debt ∷ debts) =
     (debt ∷ pay_all rest end spent debts) (suc (length debts))
     (ap suc (length_pay rest end (spent + debt.amount) debts)) (ap suc (length_pay rest end spent debts))
 
--- of these rests the longest, or none has a day
+-- the longest of these rests, if one of them has a day or more
 record IsLongest (end : ℕ) (rests : List Run) (main : Run) : Type 0 where
   among : Contains rests main
   enough : 1440 ≤ minutes_before end main
@@ -124,7 +124,7 @@ best_next end seen main rest false e before is =
       ];
     }
 
--- one more rest
+-- with one more rest
 best_more : (end : ℕ) (seen : List Run) (main : Option Run) (rest : Run)
     → ((x : Run) → Contains seen x → x.start < rest.start) → IsBest end seen main
     → IsBest end (seen ++ rest ∷ []) (longer end main rest)
@@ -133,7 +133,7 @@ best_more end seen None rest before is = best_first end seen rest (nat_le 1440 (
 best_more end seen (Some main) rest before is =
     best_next end seen main rest (nat_lt (minutes_before end main) (minutes_before end rest)) refl before is
 
--- and all
+-- with all rests
 best_all : (end : ℕ) (seen rests : List Run) (main : Option Run) → AllPairs StartsBefore rests
     → ((x y : Run) → Contains seen x → Contains rests y → x.start < y.start) → IsBest end seen main
     → IsBest end (seen ++ rests) (longest end main rests)
@@ -157,7 +157,7 @@ best_of end rests order = best_all end [] rests None order (λ x y (k, within, i
 module _ (line : Line) (horizon end w b e : ℕ) (rests : List Run) (debts : List Debt)
     (t : AreTurns line horizon b e rests debts) (of : IsWeekOf line w b e)
     (known : (run : Run) → Contains rests run → min run.past end ≡ min run.past horizon) where
-  -- a candidate of the week is here
+  -- each candidate of the week is among the rests
   here : (run : Run) → IsCandidate line horizon w run → Contains rests run
   here run c =
       let in' : (b ≤ run.start) × (run.start < e) = of.whole run c.rests c.week in
@@ -194,7 +194,7 @@ module _ (line : Line) (horizon end w b e : ℕ) (rests : List Run) (debts : Lis
             omega arith;
       }
 
-  -- what is found is the main rest
+  -- the rest that is found is the main rest
   pub main_found : IsMainOf line horizon w (longest end None rests)
   main_found = main_of (longest end None rests) (best_of end rests t.in_order)
 
@@ -215,7 +215,7 @@ one_main line horizon w runs are a b p q = elim (cases_lt a.start b.start) [
   ]
 ]
 
--- what is owed for a main rest of a week that is over
+-- the week is over: the last rest run starts in a later week
 pub record IsWeekOver (line : Line) (w : ℕ) : Type 0 where
   pub last : Run
   pub is : IsRestRun line last
@@ -257,7 +257,7 @@ debt_found line horizon w runs are over None none = λ amount owes. none owes.ma
 debt_found line horizon w runs are over (Some main) is =
     debt_if line horizon w runs are over main is (nat_lt (minutes_of main) 2700) refl
 
--- a rest pays nothing of debts that it hasn't touched
+-- a rest pays nothing of debts if it pays nothing of each
 paid_none : (rest : Run) (debts : List Debt) → ((debt : Debt) → Contains debts debt → share rest debt ≡ 0)
     → paid_from rest debts ≡ 0
 paid_none rest [] none = refl
@@ -276,7 +276,7 @@ in_right [] ys x in' = in'
 in_right (z ∷ xs) ys x in' =
     let rest : Contains (xs ++ ys) x = in_right xs ys x in' in (suc rest.0, omega arith, rest.2)
 
--- the turn of the first rest of a week that has all its rests
+-- the turn of the first rest, in a week that has all its rests
 one_start : (main : Option Run) (a b : Run) → is_main main a ≡ true → is_main main b ≡ true → a.start ≡ b.start
 one_start None a b e f = absurd (let g : false ≡ true = e in cc)
 one_start (Some m) a b e f =
@@ -284,7 +284,7 @@ one_start (Some m) a b e f =
     let h : m.start ≡ b.start = grind (arith, nat_tests) in
     omega arith
 
--- debts of different weeks are no more than the weeks
+-- debts of different weeks are at most as many as the weeks
 pub few_weeks : (debts : List Debt) (a b : ℕ) → AllPairs EarlierWeek debts
     → ((debt : Debt) → Contains debts debt → (a ≤ debt.week) × (debt.week < b)) → a ≤ b → length debts + a ≤ b
 few_weeks [] a b order of from = omega arith
@@ -298,7 +298,7 @@ few_weeks (x ∷ xs) a b order of from =
     (omega arith, (of debt (contains_tail x xs debt in')).1))) (omega arith) in
     omega arith
 
--- in order behind others
+-- the second part of an ordered list is ordered
 pub order_right : (xs ys : List Debt) → AllPairs EarlierWeek (xs ++ ys) → AllPairs EarlierWeek ys
 order_right [] ys order = order
 order_right (x ∷ xs) ys order = order_right xs ys (tail_order EarlierWeek x (xs ++ ys) order)
@@ -306,7 +306,7 @@ order_right (x ∷ xs) ys order = order_right xs ys (tail_order EarlierWeek x (x
 module _ (line : Line) (horizon end w : ℕ) (runs : List Run) (are : AreRestRuns line runs) (main : Option Run)
     (of_week : IsMainOf line horizon w main) (owed : Option Debt) (owes : IsOwedOf line horizon w owed)
     (due : List Debt) (come : (debt : Debt) → Contains due debt → debt.deadline ≤ week_start w) where
-  -- it is a main rest, or none
+  -- a rest is the main rest of the week, or isn't
   kept_as : (rest : Run) → IsRestRun line rest → IsInWeek w rest.start → (main' : Option Run)
       → IsMainOf line horizon w main' → (i : Bool) → is_main main' rest ≡ i
       → ((i ≡ true) × IsMainRest line horizon w rest) ⊎ ((i ≡ false) × ((v : ℕ) → IsMainRest line horizon v rest → ⊥))
@@ -360,7 +360,7 @@ module _ (line : Line) (horizon end w : ℕ) (runs : List Run) (are : AreRestRun
           untouched = untouched debt all;
         }
 
-    -- what it pays
+    -- what the rest pays in its turn
     pays : (kept : ℕ) → IsKept line horizon rest kept
         → AfterRun line horizon rest [] (due ++ queue) (due ++ pay_all rest end kept queue)
     pays kept is =
@@ -374,7 +374,7 @@ module _ (line : Line) (horizon end w : ℕ) (runs : List Run) (are : AreRestRun
         (subst (λ (n : ℕ). AfterRun line horizon rest due queue (pay_all rest end n queue)) same
         (pay_turns line horizon end rest rests kept is known due queue is_open))
 
-    -- in one week
+    -- a rest is the main rest of only one week
     same_week : (v : ℕ) → IsMainRest line horizon v rest → v ≡ w
     same_week v is = one_week v w rest.start is.candidate.week week
 
@@ -427,7 +427,7 @@ module _ (line : Line) (horizon end w : ℕ) (runs : List Run) (are : AreRestRun
           (pays 540 (inr (refl, is.1))) (λ v amount is' owes'. is.1 v is')
     ]
 
-  -- where the main rest has had its turn, nothing is asked of room any more
+  -- after the turn of the main rest, no more room is needed
   room_next : (rest later : Run) (queue : List Debt) (i : Bool) → is_main main rest ≡ i → rest.start < later.start
       → is_main main later ≡ true → length queue < 4
       → length (if i then option_map_or (λ (debt : Debt). push_few 4 (pay_all rest end 2700 queue) debt) owed

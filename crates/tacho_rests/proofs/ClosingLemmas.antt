@@ -1,4 +1,4 @@
--- A closed week: what the choices that serve since a start leave of it, from what they leave of the week before
+-- A closed week: the outcomes that choices leave of it, if they are valid since a start, computed from those of the week before
 -- (specs/Choices, IsClosed).
 use Rattle.std.proofs.Common.{◌≡◌, ℕ, ◌+◌, ◌<◌, ◌≤◌, ◌⊎◌, inl, inr, refl, sym, ap, ◌∙◌, arith, Bool, true, false}
 use Rattle.std.proofs.Common.{List, Option, Some, None}
@@ -39,7 +39,7 @@ may_either : (through before after : Bool) (starting : Option Bool) → through 
 may_either through before after starting h = rw h refl
 
 module _ (line : Line) (is : IsInWeeks line) (horizon first : ℕ) where
-  -- up to the first week nothing is asked
+  -- from a week to itself, nothing is required
   serve_none : (a : ℕ) → CanServe line a a
   serve_none a = (can_serve_is line is a a).1 (record {
     week_of = last_of;
@@ -85,7 +85,7 @@ module _ (line : Line) (is : IsInWeeks line) (horizon first : ℕ) where
     ),
   )
 
-  -- a week that choices start from: some outcome is left of it, and these are
+  -- a week from which choices start: some outcome is left of it, and these are the outcomes
   module _ (a : ℕ) (week : WeeklyRests) (here : IsWeekOf line a week) (next : List Bool)
       (step : IsStep week false ANY next) where
     each_anew : (s : Outcome) → Holds next s ↔ CanReach line a a s
@@ -113,7 +113,7 @@ module _ (line : Line) (is : IsInWeeks line) (horizon first : ℕ) where
       is_week = here;
     }
 
-  -- a week behind a closed one
+  -- a week after a closed one
   module _ (u : ℕ) (rested : Bool) (outcomes : List Bool) (r : IsClosed line horizon first u rested outcomes)
       (week : WeeklyRests) (here : IsWeekOf line (u + 1) week)
       (whole : Bool) (wholly : (whole ≡ true) ↔ IsWhollyAtRest line (u + 1)) (next : List Bool)
@@ -129,7 +129,7 @@ module _ (line : Line) (is : IsInWeeks line) (horizon first : ℕ) where
     serves_on : (s : Outcome) → Holds next s → CanServe line r.start (u + 1)
     serves_on s some = (serve_law line r.start (u + 1) week is here).1 (s, (each_next s).0 some)
 
-    -- is served, and no breach
+    -- some choice is valid up to this week, so there is no breach
     pub closed_on : (s : Outcome) → Holds next s → IsClosed line horizon first (u + 1) whole next
     closed_on s some = record {
       start = r.start;
@@ -147,7 +147,7 @@ module _ (line : Line) (is : IsInWeeks line) (horizon first : ℕ) where
         none_at (CanServe line) (EndedBy horizon) first (serves_less line) r.start u r.starts r.within r.serves
         (serves_on s some)
 
-    -- or it isn't
+    -- or no choice is valid up to this week
     pub fails_on : ((s : Outcome) → Holds next s → ⊥) → EndedBy horizon (u + 1)
         → Fails (CanServe line) (EndedBy horizon) first (u + 1)
     fails_on none ended =

@@ -1,4 +1,4 @@
--- The rest run that a span ends, if it ends one (tacho_pass, specs/Heard).
+-- The rest run that ends where a span starts, if there is one (tacho_pass, specs/Heard).
 use Rattle.std.proofs.Common.{◌≡◌, ℕ, ◌<◌, ◌≤◌, Bool, true, false, None, Some, refl, arith, nat_lt, if◌then◌else◌}
 use Rattle.std.proofs.lemmas.Bool.Decides.{nat_tests}
 use Rattle.tacho_time.specs.declared.span.Span.{Span}
@@ -6,7 +6,7 @@ use Rattle.tacho_hours.specs.declared.run.Run.{Run}
 use Rattle.tacho_hours.proofs.RunsLemmas.{run_of}
 use Rattle.tacho_pass.specs.Heard.{is_rest, run_before}
 
--- what a run that a span ends is
+-- what is known of this run
 run_if : (start : ℕ) (s : Span) (run : Run) (b g : Bool) → nat_lt start s.start ≡ g
     → (if b then None else (if g then Some (run_of start s.start) else None)) ≡ Some run
     → (b ≡ false) × (start < s.start) × (run_of start s.start ≡ run)

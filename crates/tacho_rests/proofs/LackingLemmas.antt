@@ -1,4 +1,4 @@
--- Choices of a week for each weekly rest stand for the spans, span by span (specs/Lacking).
+-- Choices of a week for each weekly rest represent the spans, span by span (specs/Lacking).
 use Rattle.std.proofs.Common.{◌≡◌, ◌≢◌, ℕ, ◌+◌, ◌<◌, ◌≤◌, ◌⊎◌, inl, inr, Bool, true, false, None, Some, List}
 use Rattle.std.proofs.Common.{[], ◌∷◌, ◌++◌, refl, sym, ap, subst, ◌∙◌, arith, nat_lt, if◌then◌else◌}
 use Rattle.std.proofs.lemmas.Bool.{cases_lt}
@@ -27,7 +27,7 @@ use Rattle.tacho_rests.specs.Lacking.{IsChoosing, LackingStands, LackingDefined}
 use Rattle.tacho_rests.proofs.ChoicesLemmas.{choices_keep}
 use Rattle.tacho_rests.proofs.HeardLemmas.{run_some, none_if}
 
--- rest runs of a line that is at rest before a base, which is behind the first minute of week 0
+-- the weekly rests of a line that is at rest before its base, which is after the first minute of week 0, have minutes in weeks
 in_weeks_by : (line : Line) (runs : List Run) (spans : List Span) (base place : ℕ) → AreRestRuns line runs
     → Joined spans base place → 5760 < base → Continues line spans place → IsInWeeks line
 in_weeks_by line runs spans base place are joined behind c =
@@ -35,7 +35,7 @@ in_weeks_by line runs spans base place are joined behind c =
     in_weeks line runs are
     (λ m early. c m (omega arith) ∙ line_before spans base place m joined (omega arith))
 
--- a span more
+-- one more span
 module _ (spans : List Span) (s : Span) (base start : ℕ) (p : Choices) (own : List Breach) (owed : List Debt)
     (r : LackingStands p start s.start own owed base spans) (some : s.start < s.past) where
   joined : Joined (spans ++ s ∷ []) base s.past
@@ -91,7 +91,7 @@ module _ (spans : List Span) (s : Span) (base start : ℕ) (p : Choices) (own : 
           until = inr (busy e s.start (omega arith) some);
         }
 
-    -- where no weekly rest ends
+    -- no weekly rest ends at the span
     keep : is_rest s.mark.activity ≡ false → (start < s.start → minutes_of (run_of start s.start) < 1440)
         → IsChoosing line r.first s.past s.past p own
     keep e short =
@@ -117,7 +117,7 @@ module _ (spans : List Span) (s : Span) (base start : ℕ) (p : Choices) (own : 
               ]) (before.choices horizon last_run l);
         }
 
-    -- where one ends
+    -- a weekly rest ends at the span
     more : is_rest s.mark.activity ≡ false → start < s.start → 1440 ≤ minutes_of (run_of start s.start)
         → (q : Choices) (own' : List Breach)
         → ((line : Line) (horizon first later : ℕ) → IsInWeeks line → start ≤ horizon
@@ -166,7 +166,7 @@ module _ (spans : List Span) (s : Span) (base start : ℕ) (p : Choices) (own : 
         kept = λ line runs are c. keep line runs are c e (λ gap. absurd (omega arith));
       }
 
-  -- where no run ends
+  -- no rest run ends at the span
   pub choices_fed_none : run_before start s ≡ None
       → LackingStands p (start_after start s) s.past own owed base (spans ++ s ∷ [])
   choices_fed_none is = none_by (is_rest s.mark.activity) refl is
@@ -174,7 +174,7 @@ module _ (spans : List Span) (s : Span) (base start : ℕ) (p : Choices) (own : 
   after_busy : is_rest s.mark.activity ≡ false → start_after start s ≡ s.past
   after_busy e = rw e refl
 
-  -- where a short one ends
+  -- a rest run ends at the span that isn't a weekly rest
   pub choices_fed_short : (run : Run) → run_before start s ≡ Some run → minutes_of run < 1440
       → LackingStands p (start_after start s) s.past own owed base (spans ++ s ∷ [])
   choices_fed_short run is short =
@@ -190,7 +190,7 @@ module _ (spans : List Span) (s : Span) (base start : ℕ) (p : Choices) (own : 
         kept = λ line runs are c. keep line runs are c of.0 (λ gap. (omega arith));
       })
 
-  -- and where a weekly rest does
+  -- a weekly rest ends at the span
   pub choices_fed_more : (run : Run) → run_before start s ≡ Some run → 1440 ≤ minutes_of run
       → (q : Choices) (own' : List Breach)
       → ((line : Line) (horizon first later : ℕ) → IsInWeeks line → run.start ≤ horizon
@@ -217,7 +217,7 @@ module _ (spans : List Span) (s : Span) (base start : ℕ) (p : Choices) (own : 
             → AreChoices line horizon first later q.week q.current q.last q.rested q.outcomes own') (sym of.2) law);
       })
 
--- at the end
+-- the end of the line
 module _ (spans : List Span) (base past start : ℕ) (p : Choices) (own : List Breach) (owed : List Debt)
     (r : LackingStands p start past own owed base spans) (x : IsExamined spans base past)
     (all : (rs : List Run) × AreRestRuns (line_of spans) rs) where

@@ -20,7 +20,7 @@ use Rattle.tacho_hours.proofs.ExactlyLemmas.{exactly_as, exactly_skip, exactly_a
 use Rattle.tacho_pass.specs.Found.{listed}
 use Rattle.tacho_rests.specs.Lateness.{late_of, IsLateBefore, IsLastRest, IsLateSoFar}
 
--- where no weekly rest starts, all stays
+-- if no weekly rest starts, nothing changes
 pub late_keep : (line : Line) (start next : ℕ) (end : Option ℕ) (own : List Breach) → start ≤ next
     → ((x : Run) → IsRestOf line 1440 x → x.start < next → x.start < start) → IsLateSoFar line start end own
     → IsLateSoFar line next end own
@@ -50,7 +50,7 @@ late_keep line start next end own from none s = record {
 module _ (line : Line) (runs : List Run) (are : AreRestRuns line runs) (start next : ℕ) (rest : Run)
     (is : IsRestOf line 1440 rest) (from : start ≤ rest.start) (below : rest.start < next)
     (only : (x : Run) → IsRestOf line 1440 x → x.start < next → (x.start < start) ⊎ (x ≡ rest)) where
-  -- a breach of this rest
+  -- a late start of this rest
   Here : Breach → Type 0
   Here breach = (kind : breach.kind ≡ B8) × (h : IsB8 line breach) × (h.b ≡ rest)
 
@@ -86,7 +86,7 @@ module _ (line : Line) (runs : List Run) (are : AreRestRuns line runs) (start ne
     ];
   }
 
-  -- behind a rest
+  -- after an earlier weekly rest
   module _ (p : ℕ) (last : IsLastRest line start p) where
     apart : Before last.rest rest
     apart =
@@ -109,7 +109,7 @@ module _ (line : Line) (runs : List Run) (are : AreRestRuns line runs) (start ne
           ]);
     }
 
-    -- it is the last one
+    -- the neighbour before this rest is the last weekly rest
     one_last : (a : Run) → AreNeighbours line 1440 a rest → a ≡ last.rest
     one_last a n =
         let apart' : a.past < rest.start = n.before in
@@ -212,7 +212,7 @@ module _ (line : Line) (runs : List Run) (are : AreRestRuns line runs) (start ne
       → IsLateSoFar line next (Some rest.past) (own ++ listed (late_of end rest))
   late_next end own s = record { last = last_here; found = found_next end own s.last s.found }
 
--- behind the last run
+-- after the last run, all breaches are found
 pub late_all : (line : Line) (start : ℕ) (end : Option ℕ) (own : List Breach)
     → ((x : Run) → IsRestRun line x → x.start < start) → IsLateSoFar line start end own
     → AreCollected (λ breach. IsLate line breach) own

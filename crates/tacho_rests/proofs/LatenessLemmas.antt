@@ -1,4 +1,4 @@
--- What is kept of late weekly rests stands for the spans, span by span (specs/Lateness).
+-- The state of the rule on late weekly rests represents the spans, span by span (specs/Lateness).
 use Rattle.std.proofs.Common.{◌≡◌, ◌≢◌, ℕ, ◌+◌, ◌-◌, ◌<◌, ◌≤◌, ◌⊎◌, inl, inr, Bool, true, false, Option, None, Some}
 use Rattle.std.proofs.Common.{List, [], ◌∷◌, ◌++◌, refl, sym, ap, subst, ◌∙◌, arith, nat_le, nat_lt, if◌then◌else◌}
 use Rattle.std.specs.Prelude.{IsTrue}
@@ -28,7 +28,7 @@ use Rattle.tacho_rests.specs.Lateness.{late_of, late_run, end_after, IsLateSoFar
 use Rattle.tacho_rests.proofs.LateRestLemmas.{late_keep, late_next, late_all}
 use Rattle.tacho_rests.proofs.HeardLemmas.{run_some, none_if}
 
--- a run's breach and end
+-- the breach of a run, and the end of the last weekly rest after it
 module _ (line : Line) (runs : List Run) (are : AreRestRuns line runs) (start next : ℕ) (run : Run)
     (is : IsRestRun line run) (from : run.start ≡ start) (below : run.start < next)
     (only : (x : Run) → IsRestRun line x → x.start < next → (x.start < start) ⊎ (x.start ≡ start)) where
@@ -58,7 +58,7 @@ module _ (line : Line) (runs : List Run) (are : AreRestRuns line runs) (start ne
       → IsLateSoFar line next (end_after end run) (own ++ listed (late_run end run))
   late_run_next end own s = run_if end own (nat_le 1440 (minutes_of run)) refl s
 
--- a span more
+-- one more span
 module _ (spans : List Span) (s : Span) (base start : ℕ) (late : Late) (own : List Breach) (owed : List Debt)
     (r : LateStands late start s.start own owed base spans) (some : s.start < s.past) where
   joined : Joined (spans ++ s ∷ []) base s.past
@@ -140,7 +140,7 @@ module _ (spans : List Span) (s : Span) (base start : ℕ) (late : Late) (own : 
       let empty : s.start ≤ start = none_if start s (nat_lt start s.start) refl is in
       record { none = r.none; joined = joined; kept = λ line runs are c. none line runs are c e empty }
 
-  -- where no run ends
+  -- no rest run ends at the span
   pub late_fed_none : run_before start s ≡ None
       → LateStands late (start_after start s) s.past own owed base (spans ++ s ∷ [])
   late_fed_none is = none_by (is_rest s.mark.activity) refl is
@@ -148,7 +148,7 @@ module _ (spans : List Span) (s : Span) (base start : ℕ) (late : Late) (own : 
   after_busy : is_rest s.mark.activity ≡ false → start_after start s ≡ s.past
   after_busy e = rw e refl
 
-  -- where one ends
+  -- a rest run ends at the span
   pub late_fed : (run : Run) → run_before start s ≡ Some run
       → LateStands (record { end = end_after late.end run }) (start_after start s) s.past
       (own ++ listed (late_run late.end run)) owed base (spans ++ s ∷ [])
@@ -164,7 +164,7 @@ module _ (spans : List Span) (s : Span) (base start : ℕ) (late : Late) (own : 
         kept = λ line runs are c. ends line runs are c of.0 of.1;
       }))
 
--- at the end
+-- the end of the line
 module _ (spans : List Span) (base past start : ℕ) (late : Late) (own : List Breach) (owed : List Debt)
     (r : LateStands late start past own owed base spans) (x : IsExamined spans base past)
     (all : (rs : List Run) × AreRestRuns (line_of spans) rs) where
@@ -185,7 +185,7 @@ module _ (spans : List Span) (base past start : ℕ) (late : Late) (own : List B
         at_end.so_far);
   }
 
--- all are of the kind
+-- all breaches have the kind B8
 of_if : (p : ℕ) (run : Run) (b : Bool)
     → All (λ (y : Breach). IsTrue (is_b8 y.kind))
     (listed (if b then Some (record { kind = B8; moment = p + 8640; since = p; amount = run.start - (p + 8640) })

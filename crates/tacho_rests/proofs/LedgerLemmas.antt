@@ -1,4 +1,4 @@
--- What the ledger keeps, rest after rest (specs/Turns, IsLedger).
+-- The state of the ledger, rest by rest (specs/Turns, IsLedger).
 use Rattle.std.proofs.Common.{◌≡◌, ◌≢◌, ℕ, ◌+◌, ◌<◌, ◌≤◌, inl, inr, Bool, true, false, List, [], ◌++◌, refl, sym, ap}
 use Rattle.std.proofs.Common.{ap₂, ◌∙◌, arith, nat_le, if◌then◌else◌}
 use Rattle.std.proofs.lemmas.Bool.{cases_lt}
@@ -17,7 +17,7 @@ use Rattle.tacho_rests.proofs.OverdueOfLemmas.{overdue_append, overdue_same}
 use Rattle.tacho_rests.proofs.SoFarLemmas.{next_short, next_long, next_week, next_after, last_week, all_due}
 
 module _ (line : Line) (horizon : ℕ) (last : Run) (l : IsLineTo line horizon last) where
-  -- the next week's ledger
+  -- the ledger of the next week
   pub ledger_later : (e w : ℕ) (rests : List Run) (debts : List Debt) (own : List Breach) (owed : List Debt) (run : Run)
       (v : ℕ) → IsLedger line horizon e w rests debts own owed → IsNext line e run → IsInWeek v run.start → w ≢ v
       → IsOpened line horizon run v [] (closed FAR true w rests debts)
@@ -68,7 +68,7 @@ module _ (line : Line) (horizon : ℕ) (last : Run) (l : IsLineTo line horizon l
   ledger_rest w rests debts own owed run o week =
       rest_if o.e w rests debts own owed run o.ledger o.next week (nat_le 540 (minutes_of run)) refl
 
-  -- and behind the last
+  -- the ledger after the last rest
   pub ledger_last : (w : ℕ) (rests : List Run) (debts : List Debt) (own : List Breach) (owed : List Debt)
       → IsLedger line horizon (last.start + 1) w rests debts own owed → IsInWeek w last.start
       → IsOwed line horizon
@@ -90,7 +90,7 @@ module _ (line : Line) (horizon : ℕ) (last : Run) (l : IsLineTo line horizon l
             ∙ sym (overdue_append horizon (owed ++ due_of (week_start w) debts) (closed horizon false w rests debts));
       }
 
--- a run is known by its members
+-- the run from `start` on without an end
 pub same_run : (run : Run) (start : ℕ) → run.start ≡ start → run.past ≡ FAR → record { start = start; past = FAR } ≡ run
 same_run run start e f =
     let one : ℕ → Run = λ x. record { start = x; past = FAR } in

@@ -1,4 +1,4 @@
--- The breaches of debts as they are put to what is found (specs/Paying, overdue_of).
+-- The breaches of debts as they are put (specs/Paying, overdue_of).
 use Rattle.std.proofs.Common.{◌≡◌, ℕ, zero, suc, ◌<◌, ◌≤◌, Bool, true, false, Option, None, Some, List, [], ◌∷◌, ◌++◌}
 use Rattle.std.proofs.Common.{refl, sym, ap, ap₂, subst, ◌∙◌, arith, nat_le, if◌then◌else◌, ◌&&◌}
 use Rattle.std.specs.Prelude.{IsTrue}
@@ -17,7 +17,7 @@ use Rattle.tacho_hours.proofs.OverdueLemmas.{OverdueFound, overdue_none, overdue
 use Rattle.tacho_pass.specs.Kinds.{is_b10}
 use Rattle.tacho_rests.specs.Paying.{overdue_breach, is_overdue, overdue_of}
 
--- all are of the kind
+-- all breaches have the kind B10
 kinds_if : (b : Bool) (x : Breach) (xs : List Breach) → is_b10 x.kind ≡ true
     → All (λ (y : Breach). IsTrue (is_b10 y.kind)) xs
     → All (λ (y : Breach). IsTrue (is_b10 y.kind)) (if b then x ∷ xs else xs)
@@ -28,7 +28,7 @@ pub overdue_kinds : (by : ℕ) (debts : List Debt) → All (λ (x : Breach). IsT
 overdue_kinds by [] = All-nil (λ (x : Breach). IsTrue (is_b10 x.kind))
 overdue_kinds by (x ∷ xs) = kinds_if (is_overdue by x) (overdue_breach x) (overdue_of by xs) refl (overdue_kinds by xs)
 
--- of debts and others
+-- the breaches of debts followed by other debts
 more_if : (b : Bool) (x : Breach) (xs ys : List Breach)
     → (if b then x ∷ (xs ++ ys) else xs ++ ys) ≡ (if b then x ∷ xs else xs) ++ ys
 more_if true x xs ys = refl
@@ -41,7 +41,7 @@ overdue_append by (x ∷ xs) others =
     ap (λ (ys : List Breach). if is_overdue by x then overdue_breach x ∷ ys else ys) (overdue_append by xs others)
     ∙ more_if (is_overdue by x) (overdue_breach x) (overdue_of by xs) (overdue_of by others)
 
--- where all deadlines have come, by a later minute too
+-- if all deadlines have been reached, a later minute gives the same breaches
 pub overdue_same : (by end : ℕ) (debts : List Debt) → by ≤ end
     → ((debt : Debt) → Contains debts debt → debt.deadline ≤ by) → overdue_of by debts ≡ overdue_of end debts
 overdue_same by end [] le due = refl
@@ -54,7 +54,7 @@ overdue_same by end (x ∷ xs) le due =
     ap₂ (λ (b : Bool) (ys : List Breach). if option_map_or (λ start. false) x.paid_by true && b then overdue_breach x ∷ ys
     else ys) (one ∙ sym two) others
 
--- debts as the code finds their breaches
+-- going over the debts in order, as the code does
 has_next : (xs : List Debt) (x : Debt) (ys : List Debt) → Contains (xs ++ x ∷ ys) x
 has_next [] x ys = (0, omega arith, refl)
 has_next (z ∷ xs) x ys = let rest : Contains (xs ++ x ∷ ys) x = has_next xs x ys in (suc rest.0, omega arith, rest.2)
@@ -111,7 +111,7 @@ overdue_rest horizon seen (debt ∷ debts) found order r =
     (subst (λ (ds : List Debt). OverdueFound horizon ds ((found ++ here) ++ overdue_of horizon debts))
     (append_assoc seen (debt ∷ []) debts) rest)
 
--- these are the breaches of debts
+-- these are exactly the breaches of the debts
 pub overdue_are : (horizon : ℕ) (debts : List Debt)
     → AllPairs EarlierWeek debts → AreCollected (IsOverdue horizon debts) (overdue_of horizon debts)
 overdue_are horizon debts order =

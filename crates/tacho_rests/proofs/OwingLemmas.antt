@@ -1,4 +1,4 @@
--- A ledger of debts stands for the spans, span by span (specs/Owing).
+-- A ledger of debts represents the spans, span by span (specs/Owing).
 use Rattle.std.proofs.Common.{◌≡◌, ◌≢◌, ℕ, ◌+◌, ◌-◌, ◌<◌, ◌≤◌, inl, inr, Bool, true, false, None, Some, List, [], ◌∷◌}
 use Rattle.std.proofs.Common.{◌++◌, refl, sym, ap, subst, ◌∙◌, arith, nat_lt, if◌then◌else◌}
 use Rattle.std.specs.List.{Contains}
@@ -27,7 +27,7 @@ use Rattle.tacho_rests.proofs.SoFarLemmas.{so_far_none}
 use Rattle.tacho_rests.proofs.OverdueOfLemmas.{overdue_are}
 use Rattle.tacho_rests.proofs.HeardLemmas.{run_some, none_if}
 
--- a span more
+-- one more span
 module _ (spans : List Span) (s : Span) (base start : ℕ) (books : Ledger) (own : List Breach) (owed : List Debt)
     (r : OwingStands books start s.start own owed base spans) (some : s.start < s.past) where
   joined : Joined (spans ++ s ∷ []) base s.past
@@ -83,7 +83,7 @@ module _ (spans : List Span) (s : Span) (base start : ℕ) (books : Ledger) (own
       let none : s.start ≤ start = none_if start s (nat_lt start s.start) refl is in
       record { joined = joined; kept = λ line c. skip line c e (λ gap. absurd (omega arith)) }
 
-  -- where no run ends
+  -- no rest run ends at the span
   pub fed_none : run_before start s ≡ None
       → OwingStands books (start_after start s) s.past own owed base (spans ++ s ∷ [])
   fed_none is = none_by (is_rest s.mark.activity) refl is
@@ -91,7 +91,7 @@ module _ (spans : List Span) (s : Span) (base start : ℕ) (books : Ledger) (own
   after_busy : is_rest s.mark.activity ≡ false → start_after start s ≡ s.past
   after_busy e = rw e refl
 
-  -- where the first run ends
+  -- the first rest run ends at the span
   pub fed_first : (run : Run) → run_before start s ≡ Some run → run.start < 5760
       → OwingStands books (start_after start s) s.past own owed base (spans ++ s ∷ [])
   fed_first run is early =
@@ -103,7 +103,7 @@ module _ (spans : List Span) (s : Span) (base start : ℕ) (books : Ledger) (own
         kept = λ line c. skip line c of.0 (λ gap. first_run line c (omega arith));
       })
 
-  -- where another ends
+  -- another rest run ends at the span
   pub fed_next : (run : Run) → run_before start s ≡ Some run → 5760 ≤ run.start
       → (after : Ledger) (own' : List Breach) (owed' : List Debt)
       → ((line : Line) (horizon : ℕ) (last : Run) (e : ℕ) → IsLineTo line horizon last → IsNext line e run
@@ -173,7 +173,7 @@ first_none : (xs ys : List Debt) → xs ++ ys ≡ [] → xs ≡ []
 first_none [] ys e = refl
 first_none (x ∷ xs) ys e = absurd (let f : x ∷ (xs ++ ys) ≡ [] = e in cc)
 
--- at the end
+-- the end of the line
 module _ (spans : List Span) (base past start : ℕ) (books : Ledger) (own : List Breach) (owed : List Debt)
     (r : OwingStands books start past own owed base spans) (x : IsExamined spans base past) where
   at_end : IsOwing (line_of spans) start past books own owed
@@ -193,7 +193,7 @@ module _ (spans : List Span) (base past start : ℕ) (books : Ledger) (own : Lis
         (overdue_are past owed' is.are_debts.are_owed.in_order);
   }
 
-  -- behind the last run
+  -- after the last run
   pub ends_at : (own' : List Breach) (owed' : List Debt) → 5760 ≤ start
       → ((line : Line) (last : Run) (e : ℕ) → IsLineTo line past last → last.start ≡ start → IsNext line e last
       → IsLedger line past e books.week (rests_in books.rests) (debts_in books.debts) own owed
@@ -208,7 +208,7 @@ module _ (spans : List Span) (base past start : ℕ) (books : Ledger) (own : Lis
       (law (line_of spans) (run_of start FAR) at_end.e line_is refl
       (last_next spans base past x start at_end.e at_end.heard from) last_ledger)
 
-  -- where nothing but rest is there
+  -- the line is only rest
   pub ends_none : start < 5760 → OwingDefined own owed base past spans
   ends_none early =
       let first : start ≡ 0 = elim at_end.heard.since [

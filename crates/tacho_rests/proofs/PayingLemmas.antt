@@ -20,13 +20,13 @@ same_branches : (b : Bool) (debts : List Debt) → (if b then debts else debts) 
 same_branches true debts = refl
 same_branches false debts = refl
 
--- the turns of rests pay nothing where there is no debt
+-- if there is no debt, the turns of rests pay nothing
 pub turns_none : (end : ℕ) (main : Option Run) (rests : List Run) → turns end main None rests [] ≡ []
 turns_none end main [] = refl
 turns_none end main (rest ∷ rests) =
     ap (turns end main None rests) (same_branches (is_main main rest) []) ∙ turns_none end main rests
 
--- a debt that a rest may pay: its main rest is before, and the rest hasn't had its turn
+-- a debt that a rest may pay: the debt's main rest is before it, and the rest hasn't had its turn yet
 pub record IsOpen (line : Line) (horizon : ℕ) (rest : Run) (debt : Debt) : Type 0 where
   pub some : 0 < debt.amount
   pub main : Run
@@ -34,13 +34,13 @@ pub record IsOpen (line : Line) (horizon : ℕ) (rest : Run) (debt : Debt) : Typ
   pub before : Before main rest
   pub untouched : share rest debt ≡ 0
 
--- what is paid before a rest's turn isn't paid by it
+-- a rest pays nothing of a debt that was paid before the rest's turn
 pub share_none : (line : Line) (horizon b : ℕ) (earlier : List Debt) (debt : Debt) (rest : Run) (p : Option ℕ)
     → b ≤ rest.start → IsDone line horizon b earlier debt p → share rest (record debt { paid_by = p }) ≡ 0
 share_none line horizon b earlier debt rest None from done = refl
 share_none line horizon b earlier debt rest (Some s) from (early, pays) = grind (arith, nat_tests)
 
--- nor of any debts
+-- likewise for all debts
 pub shares_none : (line : Line) (horizon b : ℕ) (earlier debts : List Debt) (rest : Run) → b ≤ rest.start
     → AreDone line horizon b earlier debts → (debt : Debt) → Contains debts debt → share rest debt ≡ 0
 shares_none line horizon b earlier [] rest from done debt (k, within, is) = absurd (omega arith)
@@ -49,7 +49,7 @@ shares_none line horizon b earlier (x ∷ xs) rest from (one, others) debt (zero
 shares_none line horizon b earlier (x ∷ xs) rest from (one, others) debt (suc k, within, is) =
     shares_none line horizon b (earlier ++ x ∷ []) xs rest from others debt (k, omega arith, is)
 
--- a debt whose deadline has come isn't paid
+-- a rest doesn't pay a debt whose deadline has been reached
 pub due_pays_none : (line : Line) (horizon : ℕ) (earlier : List Debt) (debt : Debt) (rest : Run)
     → debt.deadline ≤ rest.start → CanPay line horizon earlier debt rest → ⊥
 due_pays_none line horizon earlier debt rest due can =
@@ -82,7 +82,7 @@ fits_no : (amount minutes kept paid : ℕ) → nat_le amount (minutes - (kept + 
 fits_no amount minutes kept paid e fits =
     let f : minutes - (kept + paid) < amount = grind (arith, nat_tests) in omega arith
 
--- a rest that is judged up to one minute as up to the horizon
+-- a rest that has the same minutes before `end` as before the horizon
 module _ (line : Line) (horizon end : ℕ) (rest : Run) (rests : IsRestRun line rest) (kept : ℕ)
     (k : IsKept line horizon rest kept) (known : min rest.past end ≡ min rest.past horizon) where
   room_same : (d : ℕ) → minutes_before (min end d) rest ≡ minutes_before (min horizon d) rest
@@ -151,7 +151,7 @@ module _ (line : Line) (horizon end : ℕ) (rest : Run) (rests : IsRestRun line 
   paid_share : (debt : Debt) → share rest (record debt { paid_by = Some rest.start }) ≡ debt.amount
   paid_share debt = grind (arith, nat_tests)
 
-  -- of one debt
+  -- the step for one debt
   pay_turn : (earlier : List Debt) (debt : Debt) (debts : List Debt) (b : Bool)
       → takes rest end (kept + paid_from rest earlier) debt ≡ b → IsOpen line horizon rest debt
       → ((after : Debt)
@@ -182,7 +182,7 @@ module _ (line : Line) (horizon end : ℕ) (rest : Run) (rests : IsRestRun line 
             (others debt),
       )
 
-  -- the turn of the rest
+  -- the turn of the rest over all debts
   pub pay_turns : (earlier debts : List Debt) → ((debt : Debt) → Contains debts debt → IsOpen line horizon rest debt)
       → AfterRun line horizon rest earlier debts (pay_all rest end (kept + paid_from rest earlier) debts)
   pay_turns earlier [] all = tt
@@ -195,7 +195,7 @@ module _ (line : Line) (horizon end : ℕ) (rest : Run) (rests : IsRestRun line 
       (all debt (0, omega arith, refl))
       (λ after. pay_turns (earlier ++ after ∷ []) debts (λ d in'. all d (suc in'.0, omega arith, in'.2))))
 
-  -- behind debts that are due
+  -- debts that are due stay as they are
   pub skip_turns : (earlier due debts after : List Debt)
       → ((debt : Debt) → Contains due debt → debt.deadline ≤ rest.start)
       → AfterRun line horizon rest (earlier ++ due) debts after

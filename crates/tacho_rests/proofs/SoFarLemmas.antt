@@ -1,4 +1,4 @@
--- Week after week, what is known of the rests and the debts so far (specs/Turns, IsSoFar).
+-- What is known of the rests and the debts so far, week by week (specs/Turns, IsSoFar).
 use Rattle.std.proofs.Common.{◌≡◌, ℕ, zero, suc, ◌+◌, ◌-◌, ◌*◌, ◌<◌, ◌≤◌, ◌⊎◌, inl, inr, Bool, true, false, Option}
 use Rattle.std.proofs.Common.{None, List, [], ◌∷◌, ◌++◌, length, get_or, refl, sym, ap, subst, ◌∙◌, arith, min, nat_le}
 use Rattle.std.proofs.Common.{if◌then◌else◌}
@@ -26,7 +26,7 @@ use Rattle.tacho_rests.proofs.TurnsLemmas.{Quiet, kept_until, kept_all}
 use Rattle.tacho_rests.proofs.ClosedLemmas.{push_room, main_found, debt_found, turns_all, few_weeks, order_right}
 use Rattle.tacho_rests.proofs.ClosedLemmas.{IsWeekOver, in_right}
 
--- no more than 19 rests of nine hours start in a week
+-- at most 19 rests of nine hours start in a week
 few_rests : (line : Line) (rests : List Run) (a b : ℕ) → AllPairs StartsBefore rests
     → ((run : Run) → Contains rests run
     → IsRestRun line run × (540 ≤ minutes_of run) × (a ≤ run.start) × (run.start < b))
@@ -47,7 +47,7 @@ few_rests line (x ∷ xs) a b order of from =
     (is.0, is.1, omega arith, is.3))) (omega arith) in
     omega arith
 
--- debts in order are those that are due, and then the others
+-- splitting ordered debts into those that are due and the others
 none_due : (by : ℕ) (debts : List Debt) → ((debt : Debt) → Contains debts debt → by < debt.deadline)
     → (due_of by debts ≡ []) × (open_of by debts ≡ debts)
 none_due by [] later = (refl, refl)
@@ -79,7 +79,7 @@ split_due by [] order deadlines = refl
 split_due by (x ∷ xs) order deadlines = split_if by x xs (nat_le x.deadline by) refl order deadlines
     (split_due by xs (tail_order EarlierWeek x xs order) (λ d in'. deadlines d (contains_tail x xs d in')))
 
--- what is due is, and what isn't is not
+-- each debt is on the right side
 due_if : (by : ℕ) (x : Debt) (ds : List Debt) (b : Bool) → nat_le x.deadline by ≡ b
     → ((debt : Debt) → Contains ds debt → debt.deadline ≤ by) → (debt : Debt) → Contains (if b then x ∷ ds else ds) debt
     → debt.deadline ≤ by
@@ -113,7 +113,7 @@ come_both w (x ∷ due) debts come debt (suc k, within, is) =
 
 -- a line up to its horizon
 module _ (line : Line) (horizon : ℕ) (last : Run) (l : IsLineTo line horizon last) where
-  -- the open debts at a week's start are of the three weeks before
+  -- the open debts at the start of a week are those of the three weeks before
   few_open : (w : ℕ) (due debts : List Debt) → AreDebtsBefore line horizon (week_start w) (due ++ debts)
       → length (open_of (week_start w) debts) < 4
   few_open w due debts k =
@@ -139,7 +139,7 @@ module _ (line : Line) (horizon : ℕ) (last : Run) (l : IsLineTo line horizon l
       (omega arith, omega arith))) (omega arith) in
       omega arith
 
-  -- a week with all its rests
+  -- a week is closed with all its rests
   pub close_week : (e w : ℕ) (rests : List Run) (due debts : List Debt) (end : ℕ) (over : Bool)
       → IsSoFar line horizon e w rests due debts
       → ((run : Run) → IsRestRun line run → IsInWeek w run.start → run.start < e)
@@ -173,17 +173,17 @@ module _ (line : Line) (horizon : ℕ) (last : Run) (l : IsLineTo line horizon l
       (λ run in'. (let is = (t.each run).0 in' in (is.2, omega arith), known run in'))
       (λ run in' is. few_open w due debts t.kept)
 
-  -- what the next run of the week does
+  -- the next run of the week
   module _ (e w : ℕ) (rests : List Run) (due debts : List Debt) (s : IsSoFar line horizon e w rests due debts)
       (run : Run) (n : IsNext line e run) (week : IsInWeek w run.start) where
-    -- a run that starts by then is it, or one before it
+    -- a run that starts at or before the start of the next run is that run or an earlier one
     by_next : (x : Run) → IsRestRun line x → x.start < run.start + 1 → (x ≡ run) ⊎ (x.start < e)
     by_next x rests' below = elim (cases_lt x.start run.start) [
       | inl sooner ↦ inr (n.none x rests' sooner)
       | inr here ↦ inl (one_run line horizon l.runs l.are x run rests' n.rests (omega arith))
     ]
 
-    -- with fewer than nine hours
+    -- a run of fewer than nine hours
     pub next_short : minutes_of run < 540 → IsSoFar line horizon (run.start + 1) w rests due debts
     next_short short = record {
       turns = record {
@@ -218,7 +218,7 @@ module _ (line : Line) (horizon : ℕ) (last : Run) (l : IsLineTo line horizon l
         (is.0, is.1, is.2, omega arith))) (omega arith) in
         omega arith
 
-    -- with nine hours or more
+    -- a run of nine hours or more
     pub next_long : 540 ≤ minutes_of run → IsSoFar line horizon (run.start + 1) w (push_few 19 rests run) due debts
     next_long long =
         subst (λ (rs : List Run). IsSoFar line horizon (run.start + 1) w rs due debts)
@@ -275,7 +275,7 @@ module _ (line : Line) (horizon : ℕ) (last : Run) (l : IsLineTo line horizon l
     come = λ debt (k, within, same). absurd (omega arith);
   }
 
-  -- a week that is over when a run of a later week comes
+  -- a week is over once a run of a later week comes
   module _ (e w : ℕ) (rests : List Run) (due debts : List Debt) (s : IsSoFar line horizon e w rests due debts)
       (run : Run) (n : IsNext line e run) (v : ℕ) (week : IsInWeek v run.start) (later : w < v) where
     over : IsWeekOver line w
@@ -338,7 +338,7 @@ module _ (line : Line) (horizon : ℕ) (last : Run) (l : IsLineTo line horizon l
           omega arith);
     }
 
-  -- the last week, with the last run
+  -- the last week, which has the last run
   pub last_week : (w : ℕ) (rests : List Run) (due debts : List Debt)
       → IsSoFar line horizon (last.start + 1) w rests due debts → IsInWeek w last.start
       → AreDebts line horizon ((due ++ due_of (week_start w) debts) ++ closed horizon false w rests debts)

@@ -19,7 +19,7 @@ use Rattle.tacho_hours.proofs.ByRunsLemmas.{bare, bare_alike, bare_at, bare_leng
 use Rattle.tacho_hours.proofs.ByRunsLemmas.{run_done, run_bare, are_settled}
 use Rattle.tacho_rests.specs.Turns.{OwesBefore, AreDebtsBefore, StartsBefore, AreTurns, IsNewDebt}
 
--- what is kept is no fewer than nine hours
+-- a rest keeps at least nine hours
 pub kept_least : (line : Line) (horizon : ℕ) (rest : Run) (kept : ℕ) → Keeps line horizon rest kept → 540 ≤ kept
 kept_least line horizon rest kept keeps = elim (cases_lt kept 540) [
   | inl fewer ↦ absurd (let e : kept ≡ 540 = keeps.other (λ w main. let f : kept ≡ 2700 = keeps.main w main in
@@ -37,7 +37,7 @@ short_pays_none line horizon earlier debt run short can =
     let most : minutes_before (min horizon debt.deadline) run ≤ minutes_of run = omega arith in
     omega arith
 
--- no run from one minute to before another has nine hours
+-- no run of nine hours starts from minute b to before c
 abbrev pub Quiet : Line → ℕ → ℕ → Type 0
 Quiet line b c = (run : Run) → IsRestRun line run → b ≤ run.start → run.start < c → minutes_of run < 540
 
@@ -50,7 +50,7 @@ done_quiet line horizon b c earlier debt None from quiet nobody = λ run before 
 ]
 done_quiet line horizon b c earlier debt (Some start) from quiet (early, pays) = (omega arith, pays)
 
--- of all debts
+-- likewise for all debts
 are_done_quiet : (line : Line) (horizon b c : ℕ) (earlier debts : List Debt) → b ≤ c → Quiet line b c
     → AreDone line horizon b earlier debts → AreDone line horizon c earlier debts
 are_done_quiet line horizon b c earlier [] from quiet done = tt
@@ -59,7 +59,7 @@ are_done_quiet line horizon b c earlier (debt ∷ debts) from quiet (one, others
   are_done_quiet line horizon b c (earlier ++ debt ∷ []) debts from quiet others,
 )
 
--- one more
+-- likewise with one more debt
 are_done_push : (line : Line) (horizon b : ℕ) (earlier debts : List Debt) (debt : Debt)
     → AreDone line horizon b earlier debts → IsDone line horizon b (earlier ++ debts) debt debt.paid_by
     → AreDone line horizon b earlier (debts ++ debt ∷ [])
@@ -79,7 +79,7 @@ main_long line horizon w main is =
     let most : minutes_before horizon main ≤ minutes_of main = omega arith in
     omega arith
 
--- where no run of nine hours starts, the debts stay
+-- if no run of nine hours starts, the debts stay the same
 pub kept_until : (line : Line) (horizon b c : ℕ) (debts : List Debt) → b ≤ c → Quiet line b c
     → AreDebtsBefore line horizon b debts → AreDebtsBefore line horizon c debts
 kept_until line horizon b c debts from quiet k = record {
@@ -105,7 +105,7 @@ kept_until line horizon b c debts from quiet k = record {
   done = are_done_quiet line horizon b c [] debts from quiet k.done;
 }
 
--- debts that are the same but for who pays them
+-- debts that are equal except for their payers
 module _ (line : Line) (horizon b : ℕ) (xs ys : List Debt) (same : map bare xs ≡ map bare ys) where
   bare_deadlines : ((debt : Debt) → Contains xs debt → debt.deadline ≡ week_start (debt.week + 4)) → (debt : Debt)
       → Contains ys debt → debt.deadline ≡ week_start (debt.week + 4)
@@ -141,7 +141,7 @@ module _ (line : Line) (horizon : ℕ) (runs : List Run) (are : AreRestRuns line
   done : AreDone line horizon (run.start + 1) [] after
   done = run_done line horizon runs are run [] [] before after rests (agree_same run.start []) turn k.done
 
-  -- a main rest that starts by then is this run, or one before it
+  -- a main rest that starts at or before this run is this run or an earlier one
   by_then : (w amount : ℕ) (o : OwesBefore line horizon (run.start + 1) w amount)
       → (o.main ≡ run) ⊎ OwesBefore line horizon run.start w amount
   by_then w amount o =
@@ -156,7 +156,7 @@ module _ (line : Line) (horizon : ℕ) (runs : List Run) (are : AreRestRuns line
       let before : o.main.start < run.start = o.before in
       record { main = o.main; is = o.is; before = omega arith; owes = o.owes }
 
-  -- that leaves no debt
+  -- a run that leaves no debt
   pub kept_turn : ((w amount : ℕ) → IsMainRest line horizon w run → Owes line horizon w amount → ⊥)
       → AreDebtsBefore line horizon (run.start + 1) after
   kept_turn none = record {
@@ -172,7 +172,7 @@ module _ (line : Line) (horizon : ℕ) (runs : List Run) (are : AreRestRuns line
     done = done;
   }
 
-  -- that leaves one
+  -- a run that leaves a debt
   pub kept_add : (debt : Debt) → debt.paid_by ≡ None → IsNewDebt line horizon run debt
       → ((w amount : ℕ) → IsMainRest line horizon w run → Owes line horizon w amount
       → (w ≡ debt.week) × (amount ≡ debt.amount))
@@ -239,7 +239,7 @@ module _ (line : Line) (horizon : ℕ) (runs : List Run) (are : AreRestRuns line
         omega arith)));
   }
 
--- the first of the rests that are left
+-- the first of the remaining rests
 module _ (line : Line) (horizon : ℕ) (runs : List Run) (are : AreRestRuns line runs) (b e : ℕ) (run : Run)
     (left : List Run) (before : List Debt) (t : AreTurns line horizon b e (run ∷ left) before) where
   pub first_is : IsRestRun line run × (540 ≤ minutes_of run) × (b ≤ run.start) × (run.start < e)
@@ -263,11 +263,11 @@ module _ (line : Line) (horizon : ℕ) (runs : List Run) (are : AreRestRuns line
         ]
   ]
 
-  -- up to its turn
+  -- the debts up to its turn
   pub before_turn : AreDebtsBefore line horizon run.start before
   before_turn = kept_until line horizon b run.start before first_is.2 quiet t.kept
 
-  -- after its turn
+  -- the remaining rests after its turn
   others : (after : List Debt) → AreDebtsBefore line horizon (run.start + 1) after
       → AreTurns line horizon (run.start + 1) e left after
   others after k = record {
@@ -289,14 +289,14 @@ module _ (line : Line) (horizon : ℕ) (runs : List Run) (are : AreRestRuns line
     below = let last : run.start < e = first_is.3 in omega arith;
   }
 
-  -- a turn of a run that leaves no debt
+  -- the turn of a run that leaves no debt
   pub turns_pay : (after : List Debt) → AfterRun line horizon run [] before after
       → ((w amount : ℕ) → IsMainRest line horizon w run → Owes line horizon w amount → ⊥)
       → AreTurns line horizon (run.start + 1) e left after
   turns_pay after turn none =
       others after (kept_turn line horizon runs are run first_is.0 before after before_turn turn none)
 
-  -- and of one that leaves one
+  -- the turn of a run that leaves a debt
   pub turns_add : (after : List Debt) → AfterRun line horizon run [] before after → (debt : Debt) → debt.paid_by ≡ None
       → IsNewDebt line horizon run debt
       → ((w amount : ℕ) → IsMainRest line horizon w run → Owes line horizon w amount
@@ -306,7 +306,7 @@ module _ (line : Line) (horizon : ℕ) (runs : List Run) (are : AreRestRuns line
       others (after ++ debt ∷ [])
       (kept_add line horizon runs are run first_is.0 before after before_turn turn debt unpaid new only)
 
--- no rest of nine hours is left
+-- no rest of nine hours remains
 no_more : (line : Line) (horizon b e : ℕ) (debts : List Debt) → AreTurns line horizon b e [] debts → Quiet line b e
 no_more line horizon b e debts t x rests from below = elim (cases_lt (minutes_of x) 540) [
   | inl short ↦ short
@@ -315,12 +315,12 @@ no_more line horizon b e debts t x rests from below = elim (cases_lt (minutes_of
       omega arith)
 ]
 
--- behind the last turn
+-- after the last turn
 pub turns_end : (line : Line) (horizon b e : ℕ) (debts : List Debt) → AreTurns line horizon b e [] debts
     → AreDebtsBefore line horizon e debts
 turns_end line horizon b e debts t = kept_until line horizon b e debts t.below (no_more line horizon b e debts t) t.kept
 
--- behind the last run are the debts
+-- after the last run, these are the debts of the line
 pub kept_all : (line : Line) (horizon b : ℕ) (debts : List Debt) → ((run : Run) → IsRestRun line run → run.start < b)
     → AreDebtsBefore line horizon b debts → AreDebts line horizon debts
 kept_all line horizon b debts all k = record {

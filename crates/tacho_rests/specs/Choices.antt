@@ -1,5 +1,5 @@
--- Private to tacho_rests: Choices of a week for each weekly rest, rest by rest and week by week (Regulation (EC)
--- 561/2006, Articles 8(6), first subparagraph, and 8(9)).
+-- Private to tacho_rests: Choices of a week for each weekly rest, rest by rest and week by week (Regulation (EC) 561/2006, Articles 8(6),
+-- first subparagraph, and 8(9)).
 use Rattle.std.specs.Prelude.{◌≡◌, ℕ, ◌+◌, ◌-◌, ◌<◌, ◌≤◌, ◌⊎◌, ◌↔◌, ◌&&◌, not, Bool, true, false, List, [], ◌∷◌}
 use Rattle.std.specs.Prelude.{Option, None, Some, MatchOption}
 use Rattle.tacho_hours.specs.declared.run.Run.{Run}
@@ -20,38 +20,38 @@ use Rattle.tacho_choice.specs.declared.weekly_rests.WeeklyRests.{WeeklyRests}
 use Rattle.tacho_choice.specs.Step.{Holds, IsNext}
 use Rattle.tacho_choice.specs.Weeks.{IsWeekOf, IsWeekOfRests, CanReach, week_none, week_with}
 
--- the breach of a week and the one before it, up to which no choice serves
+-- the breach for a week and the one before it, if no choice is valid up to the week
 abbrev pub unserved_breach : ℕ → Breach
 unserved_breach w = record { kind = B9; moment = week_start (w + 1); since = week_start (w - 1); amount = 0 }
 
--- a week with the last rest alone
+-- a week with only the last rest
 abbrev pub week_of_last : ℕ → Option Run → WeekOfRests
 week_of_last w None = week_none
 week_of_last w (Some rest) = week_with w rest week_none
 
--- the outcomes of a week are those behind the outcomes of the week before
+-- the outcomes of a week are exactly those reached from the outcomes of the week before
 abbrev pub IsStep : WeeklyRests → Bool → List Bool → List Bool → Type 0
 IsStep week asks old next =
     (new : Outcome) → Holds next new ↔ ((before : Outcome) × (Holds old before × IsNext week asks before new))
 
--- and one is left
+-- and some outcome is left
 abbrev pub IsServedStep : WeekOfRests → Bool → List Bool → List Bool → Type 0
 IsServedStep week rested old next =
     IsStep week.rests (not rested && not week.whole) old next × ((left : Outcome) × Holds next left)
 
--- or none is
+-- or no outcome is left
 abbrev pub IsUnservedStep : WeekOfRests → Bool → List Bool → Type 0
 IsUnservedStep week rested old =
     (next : List Bool)
     × (IsStep week.rests (not rested && not week.whole) old next × ((left : Outcome) → Holds next left → ⊥))
 
--- a week is closed: it is served; or it isn't, its breach is told, and choices are made anew
+-- a week is closed: some choice is valid up to it; or none is, there is a breach, and choices start again from this week
 abbrev pub IsJudged : ℕ → WeekOfRests → Bool → List Bool → List Bool → List Breach → Type 0
 IsJudged w week rested old next more =
     (IsServedStep week rested old next × (more ≡ []))
     ⊎ (IsUnservedStep week rested old × IsStep week.rests false ANY next × (more ≡ unserved_breach w ∷ []))
 
--- a breach of two weeks up to the second of which no choice serves, where the first is before a week
+-- a breach for two weeks, of which the first is before week w and no choice is valid up to the second
 pub record IsLackingBefore (line : Line) (base horizon w : ℕ) (breach : Breach) : Type 0 where
   pub kind : breach.kind ≡ B9
   pub is : IsB9 line base horizon breach
@@ -61,13 +61,13 @@ pub record IsLackingBefore (line : Line) (base horizon w : ℕ) (breach : Breach
 abbrev pub IsSeen : Line → ℕ → Run → Type 0
 IsSeen line start rest = IsRestOf line weekly_rest rest × (rest.start < start)
 
--- the last of them, which starts before the end of a week
+-- the last weekly rest that starts before a minute; it starts before the end of the week
 pub record IsLastSeen (line : Line) (start w : ℕ) (rest : Run) : Type 0 where
   pub is : IsSeen line start rest
   pub last : (x : Run) → IsSeen line start x → x.start ≤ rest.start
   pub within : rest.start < week_start (w + 1)
 
--- a closed week: what is left of it by the choices that serve since the first week or the last failure
+-- a closed week: the outcomes that choices leave of it, if they are valid since the first week or the last failure
 pub record IsClosed (line : Line) (horizon first u : ℕ) (rested : Bool) (outcomes : List Bool) : Type 0 where
   pub start : ℕ
   pub starts : (start ≡ first) ⊎ Fails (CanServe line) (EndedBy horizon) first start
@@ -78,14 +78,14 @@ pub record IsClosed (line : Line) (horizon first u : ℕ) (rested : Bool) (outco
   pub week : WeeklyRests
   pub is_week : IsWeekOf line u week
 
--- before the first week nothing is known or found
+-- at the first week, nothing is known and nothing is found
 pub record IsAtFirst (first w : ℕ) (rested : Bool) (outcomes : List Bool) (own : List Breach) : Type 0 where
   pub here : w ≡ first
   pub any : outcomes ≡ ANY
   pub rests : rested ≡ true
   pub none : own ≡ []
 
--- behind a closed week all breaches up to it are found
+-- after a closed week, all breaches up to it are found
 pub record IsBehind (line : Line) (horizon first w : ℕ) (rested : Bool) (outcomes : List Bool) (own : List Breach) :
     Type 0 where
   pub u : ℕ
@@ -94,8 +94,7 @@ pub record IsBehind (line : Line) (horizon first w : ℕ) (rested : Bool) (outco
   pub closed : IsClosed line horizon first u rested outcomes
   pub found : AreCollected (IsLackingBefore line (week_start first) horizon u) own
 
--- of the weekly rests that start before a minute: those of the current week, the last one, and what is left of the week
--- before
+-- given the weekly rests that start before a minute: those of the current week, the last one, and the outcomes of the week before
 pub record AreChoices (line : Line) (horizon first start w : ℕ) (current : WeekOfRests) (last : Option Run)
     (rested : Bool) (outcomes : List Bool) (own : List Breach) : Type 0 where
   pub current_is : IsWeekOfRests (IsSeen line start) w current

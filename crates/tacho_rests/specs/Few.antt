@@ -1,4 +1,4 @@
--- Private to tacho_rests: A few debts and a few rests: those of their slots that are taken.
+-- Private to tacho_rests: A few debts and a few rests, from the slots that are used.
 use Rattle.std.specs.Prelude.{List, take}
 use Rattle.tacho_hours.specs.declared.run.Run.{Run}
 use Rattle.tacho_hours.specs.declared.debt.Debt.{Debt}

@@ -1,5 +1,5 @@
--- Private to tacho_rests: Choices of a week for each weekly rest (Regulation (EC) 561/2006, Articles 8(6), first
--- subparagraph, and 8(9)), span by span: what is kept of them, and what that stands for.
+-- Private to tacho_rests: Choices of a week for each weekly rest (Regulation (EC) 561/2006, Articles 8(6), first subparagraph, and 8(9)),
+-- span by span: the state of the rule, and what it represents.
 use Rattle.std.specs.Prelude.{◌≡◌, ℕ, ◌<◌, ◌≤◌, List, []}
 use Rattle.tacho_time.specs.declared.span.Span.{Span}
 use Rattle.tacho_hours.specs.declared.run.Run.{Run}
@@ -15,7 +15,7 @@ use Rattle.tacho_pass.specs.Heard.{Continues, IsHeard, IsLineTo}
 use Rattle.tacho_rests.specs.declared.missing_rest.Choices.{Choices}
 use Rattle.tacho_rests.specs.Choices.{AreChoices}
 
--- of a line that goes on: the rest run that is open, and the weekly rests of those that have ended
+-- for a line known up to a minute: the open rest run, and the choices for the weekly rests that have ended
 pub record IsChoosing (line : Line) (first start place : ℕ) (p : Choices) (own : List Breach) : Type 0 where
   pub e : ℕ
   pub low : first_week ≤ e
@@ -23,7 +23,7 @@ pub record IsChoosing (line : Line) (first start place : ℕ) (p : Choices) (own
   pub choices : (horizon : ℕ) (last : Run) → IsLineTo line horizon last
       → AreChoices line horizon first start p.week p.current p.last p.rested p.outcomes own
 
--- that, however the line goes on
+-- the state represents the spans: the above holds for each line that continues them
 pub record LackingStands (p : Choices) (start place : ℕ) (own : List Breach) (owed : List Debt) (base : ℕ)
     (spans : List Span) : Type 0 where
   pub first : ℕ
@@ -34,7 +34,7 @@ pub record LackingStands (p : Choices) (start place : ℕ) (own : List Breach) (
   pub kept : (line : Line) (runs : List Run)
       → AreRestRuns line runs → Continues line spans place → IsChoosing line first start place p own
 
--- the breaches of two weeks up to the second of which no choice serves
+-- exactly the breaches for two weeks without the weekly rests that they need are found, and no debts
 pub record LackingDefined (own : List Breach) (owed : List Debt) (base horizon : ℕ) (spans : List Span) : Type 0 where
   pub none : owed ≡ []
   pub breaches : AreCollected (λ breach. IsLacking (line_of spans) base horizon breach) own

@@ -1,5 +1,5 @@
--- Private to tacho_rests: Weekly rests that start late (Regulation (EC) 561/2006, Article 8(6), second subparagraph), rest by rest: what is
--- kept of them, and what that stands for.
+-- Private to tacho_rests: Weekly rests that start late (Regulation (EC) 561/2006, Article 8(6), second subparagraph), rest by rest: the
+-- state of the rule, and what it represents.
 use Rattle.std.specs.Prelude.{◌≡◌, ℕ, ◌+◌, ◌-◌, ◌<◌, ◌≤◌, nat_lt, nat_le, List, [], Option, None, Some, MatchOption}
 use Rattle.std.specs.Prelude.{if◌then◌else◌}
 use Rattle.tacho_time.specs.declared.span.Span.{Span}
@@ -29,7 +29,7 @@ pub record IsLateBefore (line : Line) (start : ℕ) (breach : Breach) : Type 0 w
   pub is : IsB8 line breach
   pub before : is.b.start < start
 
--- the last weekly rest of those that start before a minute
+-- the last weekly rest that starts before a minute, and its end
 pub record IsLastRest (line : Line) (start end : ℕ) : Type 0 where
   pub rest : Run
   pub is : IsRestOf line weekly_rest rest
@@ -37,7 +37,7 @@ pub record IsLastRest (line : Line) (start end : ℕ) : Type 0 where
   pub ends : rest.past ≡ end
   pub last : (other : Run) → IsRestOf line weekly_rest other → other.start < start → other.start ≤ rest.start
 
--- the end of the last weekly rest that starts before a minute, and the breaches by then
+-- the end of the last weekly rest that starts before a minute, and the breaches of all weekly rests that do
 pub record IsLateSoFar (line : Line) (start : ℕ) (end : Option ℕ) (own : List Breach) : Type 0 where
   pub last : MatchOption end
       ((other : Run) → IsRestOf line weekly_rest other → other.start < start → ⊥)
@@ -48,18 +48,18 @@ pub record IsLateSoFar (line : Line) (start : ℕ) (end : Option ℕ) (own : Lis
 abbrev pub end_after : Option ℕ → Run → Option ℕ
 end_after end run = if nat_le weekly_rest (minutes_of run) then Some run.past else end
 
--- the breach of a run, where it is a weekly rest
+-- the breach of a run, if it is a weekly rest that starts late
 abbrev pub late_run : Option ℕ → Run → Option Breach
 late_run end run = if nat_le weekly_rest (minutes_of run) then late_of end run else None
 
--- of a line that goes on: the rest run that is open, and the weekly rests of those that have ended
+-- for a line known up to a minute: the open rest run, and the weekly rests that have ended
 pub record IsLateUpTo (line : Line) (start place : ℕ) (end : Option ℕ) (own : List Breach) : Type 0 where
   pub e : ℕ
   pub low : first_week ≤ e
   pub heard : IsHeard line start place e
   pub so_far : IsLateSoFar line start end own
 
--- that, however the line goes on
+-- the state represents the spans: the above holds for each line that continues them
 pub record LateStands (late : Late) (start place : ℕ) (own : List Breach) (owed : List Debt) (base : ℕ)
     (spans : List Span) : Type 0 where
   pub none : owed ≡ []
@@ -67,7 +67,7 @@ pub record LateStands (late : Late) (start place : ℕ) (own : List Breach) (owe
   pub kept : (line : Line) (runs : List Run)
       → AreRestRuns line runs → Continues line spans place → IsLateUpTo line start place late.end own
 
--- the breaches of late weekly rests
+-- exactly the breaches of late weekly rests are found, and no debts
 pub record LateDefined (own : List Breach) (owed : List Debt) (base horizon : ℕ) (spans : List Span) : Type 0 where
   pub none : owed ≡ []
   pub breaches : AreCollected (λ breach. IsLate (line_of spans) breach) own

@@ -1,5 +1,5 @@
--- Private to tacho_rests: Debts as the rests of a line come one by one (Regulation (EC) 561/2006, Articles 4(h) and 8(6b); 8(6b)
--- as amended by (EU) 2020/1054).
+-- Private to tacho_rests: Debts, as the rests of a line come one at a time (Regulation (EC) 561/2006, Articles 4(h) and 8(6b); 8(6b) as
+-- amended by (EU) 2020/1054).
 use Rattle.std.specs.Prelude.{◌≡◌, ℕ, ◌+◌, ◌<◌, ◌≤◌, ◌↔◌, List, [], ◌++◌, Contains, AllPairs, Option, None, MatchOption}
 use Rattle.tacho_hours.specs.declared.run.Run.{Run}
 use Rattle.tacho_hours.specs.declared.debt.Debt.{Debt}
@@ -13,15 +13,14 @@ use Rattle.tacho_hours.specs.ByRuns.{AreDone}
 use Rattle.tacho_pass.specs.Heard.{IsNext}
 use Rattle.tacho_rests.specs.Paying.{overdue_of}
 
--- a main rest that starts before a minute, and what its week owes
+-- the week has a main rest that starts before minute b, and owes this amount
 pub record OwesBefore (line : Line) (horizon b w amount : ℕ) : Type 0 where
   pub main : Run
   pub is : IsMainRest line horizon w main
   pub before : main.start < b
   pub owes : Owes line horizon w amount
 
--- the debts of the main rests that start before a minute, each paid by the first run before that minute that can
--- (Article 8(6b))
+-- the debts of the main rests that start before a minute, each paid by the first run before that minute that can pay it (Article 8(6b))
 pub record AreDebtsBefore (line : Line) (horizon b : ℕ) (debts : List Debt) : Type 0 where
   pub owed : (w amount : ℕ)
       → OwesBefore line horizon b w amount
@@ -30,11 +29,11 @@ pub record AreDebtsBefore (line : Line) (horizon b : ℕ) (debts : List Debt) : 
   pub in_order : AllPairs EarlierWeek debts
   pub done : AreDone line horizon b [] debts
 
--- one starts before the other
+-- one run starts before the other
 abbrev pub StartsBefore : Run → Run → Type 0
 StartsBefore a b = a.start < b.start
 
--- of the rests of nine hours that start before e, those from b on have their turn yet
+-- of the rests of nine hours that start before e, those that start at b or later haven't had their turn yet
 pub record AreTurns (line : Line) (horizon b e : ℕ) (left : List Run) (debts : List Debt) : Type 0 where
   pub kept : AreDebtsBefore line horizon b debts
   pub each : (run : Run)
@@ -42,13 +41,13 @@ pub record AreTurns (line : Line) (horizon b e : ℕ) (left : List Run) (debts :
   pub in_order : AllPairs StartsBefore left
   pub below : b ≤ e
 
--- the debt of the week whose main rest it is, with nobody that pays it
+-- the debt of the week of this main rest
 pub record IsNewDebt (line : Line) (horizon : ℕ) (main : Run) (debt : Debt) : Type 0 where
   pub is : IsMainRest line horizon debt.week main
   pub owes : Owes line horizon debt.week debt.amount
   pub deadline : debt.deadline ≡ week_start (debt.week + weeks_to_pay)
 
--- the rest runs from one minute to before another are those that start in the week
+-- the rest runs that start from b to before e are those that start in the week
 pub record IsWeekOf (line : Line) (w b e : ℕ) : Type 0 where
   pub within : (run : Run) → IsRestRun line run → b ≤ run.start → run.start < e → IsInWeek w run.start
   pub whole : (run : Run) → IsRestRun line run → IsInWeek w run.start → (b ≤ run.start) × (run.start < e)
@@ -58,34 +57,34 @@ abbrev pub IsMainOf : Line → ℕ → ℕ → Option Run → Type 0
 IsMainOf line horizon w main =
     MatchOption main ((run : Run) → IsMainRest line horizon w run → ⊥) (λ m. IsMainRest line horizon w m)
 
--- what a week owes, if it does
+-- what a week owes, if it owes anything
 abbrev pub IsOwedOf : Line → ℕ → ℕ → Option Debt → Type 0
 IsOwedOf line horizon w owed = MatchOption owed
     ((amount : ℕ) → Owes line horizon w amount → ⊥)
     (λ debt. (debt.paid_by ≡ None) × (debt.week ≡ w) × Owes line horizon w debt.amount
     × (debt.deadline ≡ week_start (w + weeks_to_pay)))
 
--- of the rest runs that start before e: the week of the last of them, the rests of nine hours that start in that week,
--- and the debts of the weeks before, those whose deadline has come first
+-- for the rest runs that start before e: the week of the last one, the rests of nine hours that start in that week, and the debts of
+-- earlier weeks, starting with those whose deadline has been reached
 pub record IsSoFar (line : Line) (horizon e w : ℕ) (rests : List Run) (due debts : List Debt) : Type 0 where
   pub turns : AreTurns line horizon (week_start w) e rests (due ++ debts)
   pub high : e ≤ week_start (w + 1)
   pub come : (debt : Debt) → Contains due debt → debt.deadline ≤ week_start w
 
--- what a ledger keeps, with the debts and the breaches that it has put to what is found
+-- the state of a ledger, with the debts and the breaches that it has put
 pub record IsLedger (line : Line) (horizon e w : ℕ) (rests : List Run) (debts : List Debt) (own : List Breach)
     (owed : List Debt) : Type 0 where
   pub so_far : IsSoFar line horizon e w rests owed debts
   pub own_is : own ≡ overdue_of horizon owed
 
--- a ledger in the week of the next run
+-- a ledger at the week of the next run
 pub record IsOpened (line : Line) (horizon : ℕ) (run : Run) (w : ℕ) (rests : List Run) (debts : List Debt)
     (own : List Breach) (owed : List Debt) : Type 0 where
   pub e : ℕ
   pub next : IsNext line e run
   pub ledger : IsLedger line horizon e w rests debts own owed
 
--- all debts, and the breaches of those that nothing has paid in time
+-- all debts, and the breaches of those that weren't paid in time
 pub record IsOwed (line : Line) (horizon : ℕ) (own : List Breach) (owed : List Debt) : Type 0 where
   pub are_debts : AreDebts line horizon owed
   pub own_is : own ≡ overdue_of horizon owed

@@ -9,7 +9,7 @@ use Rattle.tacho_hours.specs.Debts.{AreDebts}
 use Rattle.tacho_hours.specs.SoFar.{AreCollected}
 use Rattle.tacho_hours.specs.Breaches.{IsRestBreach}
 
--- the debts, and the breaches of the rules on weekly rests
+-- exactly the debts are found, and the breaches of the rules on weekly rests
 pub record WeekRestsDefined (own : List Breach) (owed : List Debt) (base horizon : ℕ) (spans : List Span) : Type 0 where
   pub are_debts : AreDebts (line_of spans) horizon owed
   pub breaches : AreCollected (λ breach. IsRestBreach (line_of spans) base horizon owed breach.kind breach) own

@@ -19,7 +19,7 @@ use tacho_hours::{FAR, Run};
 use tacho_pass::{Found, Judge};
 use tacho_time::{Minute, Span, Week, first_minute, week_of};
 
-/// The debts of the weeks before one, and the rests of nine hours or more that have started in it.
+/// The debts of the weeks before a week, and the rests of nine hours or more that have started in that week.
 #[derive(Clone, Copy)]
 pub struct Ledger {
     week: u32,
@@ -28,7 +28,7 @@ pub struct Ledger {
     ghost early: { week ≤ 6782 },
 }
 
-/// The open debts after a week, whose debts that are due go to what is found.
+/// Returns the open debts after a week. Debts that are due at its start are appended to what is found, with their breaches.
 fn close(
     week: u32,
     rests: &Rests,
@@ -56,7 +56,7 @@ fn close(
 }
 
 impl Ledger {
-    /// Before the first rest that starts in a week.
+    /// Returns the ledger before the first rest that starts in a week.
     pub fn none(week: Week) -> Ledger
         requires { week ≤ 6782 }
         ensures week { result.week ≡ week }
@@ -70,7 +70,7 @@ impl Ledger {
         }
     }
 
-    /// With one more rest of its week, if that has nine hours.
+    /// Adds one more rest of the week, if it has nine hours or more.
     fn add(&mut self, rest: Run)
         requires early { rest.start ≤ latest }
         requires some { rest.start < rest.past }
@@ -83,7 +83,7 @@ impl Ledger {
         }
     }
 
-    /// At the start of a week, with the debts of those before it.
+    /// Moves to the start of a week, with the debts of the weeks before it.
     fn begin(&mut self, week: u32, debts: Debts)
         requires { week ≤ 6782 }
         ensures week { self.new.week ≡ week }
@@ -95,7 +95,7 @@ impl Ledger {
         self.debts = debts;
     }
 
-    /// To the week of the next rest run: the weeks before it are over.
+    /// Moves to the week of the next rest run. The weeks before it are over.
     fn enter(&mut self, week: u32, found: &mut Found) -> Result<(), AllocError>
         requires { week ≤ 6782 }
         ensures week { OnOk result (self.new.week ≡ week) }
@@ -119,7 +119,7 @@ impl Ledger {
         }
     }
 
-    /// Takes the next rest run of the line, from week 0 on.
+    /// Takes the next rest run of the line. The run starts in week 0 or later.
     pub fn hear(&mut self, run: Run, found: &mut Found) -> Result<(), AllocError>
         requires from { first_week ≤ run.start }
         requires early { run.start ≤ latest }
@@ -138,7 +138,7 @@ impl Ledger {
         Ok(())
     }
 
-    /// Puts all debts that are left to what is found, behind the last rest run, which starts at `start`.
+    /// Appends all remaining debts to what is found, with their breaches. The last rest run starts at `start`.
     pub fn end(self, start: u32, horizon: Minute, found: &mut Found) -> Result<(), AllocError>
         requires from { first_week ≤ start }
         requires early { start ≤ latest }
@@ -160,7 +160,7 @@ impl Ledger {
     }
 }
 
-/// The debts, and the breaches of those that nothing pays in time (Article 8(6b) of Regulation (EC) 561/2006).
+/// The rule that finds the debts, and the breaches of those that aren't paid in time (Article 8(6b) of Regulation (EC) 561/2006).
 impl Judge for Ledger {
     ghost use Rattle.std.specs.Prelude.{true};
     ghost use Rattle.tacho_pass.specs.Kinds.{is_b10};

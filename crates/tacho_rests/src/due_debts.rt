@@ -10,8 +10,7 @@ use tacho_hours::{Breach, Debt, Kind};
 use tacho_pass::Found;
 use tacho_time::{Minute, first_minute};
 
-/// The breach of a debt that nothing pays and whose deadline has come by a minute (Article 8(6b) of Regulation (EC)
-/// 561/2006).
+/// Returns the breach of a debt, if no rest pays it and its deadline is at or before a minute (Article 8(6b) of Regulation (EC) 561/2006).
 fn breach_of(debt: &Debt, by: Minute) -> Option<Breach>
     ensures { result ≡ (if is_overdue by debt.now then Some (overdue_breach debt.now) else None) }
 {
@@ -26,7 +25,7 @@ fn breach_of(debt: &Debt, by: Minute) -> Option<Breach>
     })
 }
 
-/// The debts whose deadline has come by a minute.
+/// Returns the debts whose deadline is at or before a minute.
 pub fn due(debts: &Debts, by: Minute) -> Debts
     ensures { debts_in result ≡ due_of by (debts_in debts.now) }
 {
@@ -39,7 +38,7 @@ pub fn due(debts: &Debts, by: Minute) -> Debts
     due
 }
 
-/// The debts whose deadline hasn't come by a minute.
+/// Returns the debts whose deadline is after a minute.
 pub fn open(debts: &Debts, by: Minute) -> Debts
     ensures { debts_in result ≡ open_of by (debts_in debts.now) }
 {
@@ -52,7 +51,7 @@ pub fn open(debts: &Debts, by: Minute) -> Debts
     open
 }
 
-/// Puts a debt that nothing changes any more, and its breach by a minute, to what is found.
+/// Appends a debt that can no longer change, and its breach if it is overdue at a minute, to what is found.
 fn emit_one(debt: Debt, by: Minute, found: &mut Found) -> Result<(), AllocError>
     ensures debts { OnOk result (found.new.debts.items ≡ found.old.debts.items ++ debt ∷ []) }
     ensures breaches { OnOk result (found.new.breaches.items ≡ found.old.breaches.items ++ overdue_of by (debt ∷ [])) }
@@ -65,7 +64,7 @@ fn emit_one(debt: Debt, by: Minute, found: &mut Found) -> Result<(), AllocError>
     Ok(())
 }
 
-/// Puts debts that nothing changes any more, and their breaches by a minute, to what is found.
+/// Appends debts that can no longer change, and the breaches of those that are overdue at a minute, to what is found.
 pub fn emit(debts: &[Debt], by: Minute, found: &mut Found) -> Result<(), AllocError>
     ensures debts { OnOk result (found.new.debts.items ≡ found.old.debts.items ++ debts.now) }
     ensures breaches { OnOk result (found.new.breaches.items ≡ found.old.breaches.items ++ overdue_of by debts.now) }

@@ -1,5 +1,4 @@
-//! A few debts and a few rests, each in an array beside its count. They aren't of the type `ArrayVec`, since a scan is
-//! `Copy`, and an `ArrayVec` is not.
+//! A few debts and a few rests, each in an array with a count. They don't use `ArrayVec`, since a scan is `Copy` and an `ArrayVec` isn't.
 
 ghost use Rattle.std.specs.Prelude.{◌≡◌, ◌≤◌, [], All, length, take};
 ghost use Rattle.tacho_hours.specs.Limits.{latest};
@@ -8,10 +7,10 @@ ghost use Rattle.tacho_rests.specs.Paying.{push_few};
 use tacho_hours::{Debt, Run};
 use tacho_time::{Minute, Week};
 
-/// How many debts can be open at once: those of four weeks.
+/// The most debts that can be open at once: those of four weeks.
 const MOST_DEBTS: usize = 4;
 
-/// How many rests of nine hours or more can start in one week.
+/// The most rests of nine hours or more that can start in one week.
 const MOST_RESTS: usize = 19;
 
 /// A few debts, by week.
@@ -23,7 +22,7 @@ pub struct Debts {
 }
 
 impl Debts {
-    /// No debts.
+    /// Returns an empty list of debts.
     pub fn none() -> Debts
         ensures { take result.count result.slots ≡ [] }
     {
@@ -39,7 +38,7 @@ impl Debts {
         }
     }
 
-    /// All of them.
+    /// Returns all the debts.
     pub fn as_slice(&self) -> &[Debt]
         ensures all { result.now ≡ take self.now.count self.now.slots }
         ensures few { length result.now ≤ 4 }
@@ -47,7 +46,7 @@ impl Debts {
         &self.slots[..self.count]
     }
 
-    /// One more, where there is room for it.
+    /// Appends a debt, if there is room for it.
     pub fn push(&mut self, debt: Debt)
         ensures { take self.new.count self.new.slots ≡ push_few 4 (take self.old.count self.old.slots) debt }
     {
@@ -68,7 +67,7 @@ pub struct Rests {
 }
 
 impl Rests {
-    /// No rests.
+    /// Returns an empty list of rests.
     pub fn none() -> Rests
         ensures { take result.count result.slots ≡ [] }
     {
@@ -78,7 +77,7 @@ impl Rests {
         }
     }
 
-    /// All of them.
+    /// Returns all the rests.
     pub fn as_slice(&self) -> &[Run]
         ensures all { result.now ≡ take self.now.count self.now.slots }
         ensures early { All (λ run. run.start ≤ latest) result.now }
@@ -86,7 +85,7 @@ impl Rests {
         &self.slots[..self.count]
     }
 
-    /// One more, where there is room for it.
+    /// Appends a rest, if there is room for it.
     pub fn push(&mut self, rest: Run)
         requires { rest.start ≤ latest }
         ensures { take self.new.count self.new.slots ≡ push_few 19 (take self.old.count self.old.slots) rest }

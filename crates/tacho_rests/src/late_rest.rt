@@ -9,13 +9,13 @@ use tacho_hours::{Breach, FAR, Kind, Run};
 use tacho_pass::{Found, Judge, put};
 use tacho_time::{Minute, Span};
 
-/// Where the last weekly rest ended: the next may start too late (Article 8(6) of Regulation (EC) 561/2006).
+/// The end of the last weekly rest, after which the next one may start too late (Article 8(6) of Regulation (EC) 561/2006).
 #[derive(Clone, Copy)]
 pub struct Late {
     end: Option<Minute>,
 }
 
-/// The breach of a weekly rest that starts too late behind the end of the last one (Article 8(6)).
+/// Returns the breach of a weekly rest that starts too late after the end of the last one (Article 8(6)).
 fn late_breach(end: &Option<Minute>, rest: Run) -> Option<Breach>
     requires { rest.start ≤ latest }
     ensures { result ≡ late_of end.now rest }
@@ -35,7 +35,7 @@ fn late_breach(end: &Option<Minute>, rest: Run) -> Option<Breach>
     })
 }
 
-/// Where the last weekly rest ends, after a rest run.
+/// Returns the end of the last weekly rest, after a rest run.
 fn end_after(end: &Option<Minute>, run: Run) -> Option<Minute>
     requires { run.past ≤ latest }
     ensures { result ≡ end_after_it end.now run }
@@ -47,7 +47,7 @@ fn end_after(end: &Option<Minute>, run: Run) -> Option<Minute>
     }
 }
 
-/// The breach of a rest run, if it is a weekly rest that starts too late.
+/// Returns the breach of a rest run, if it is a weekly rest that starts too late.
 fn breach_of(end: &Option<Minute>, run: Run) -> Option<Breach>
     requires { run.start ≤ latest }
     ensures { result ≡ late_run end.now run }
@@ -59,7 +59,7 @@ fn breach_of(end: &Option<Minute>, run: Run) -> Option<Breach>
     }
 }
 
-/// The breaches of weekly rests that start too late (Article 8(6) of Regulation (EC) 561/2006).
+/// The rule that finds weekly rests that start too late (Article 8(6) of Regulation (EC) 561/2006).
 impl Judge for Late {
     ghost own = { is_b8 };
 

@@ -1,6 +1,5 @@
-//! The rules on weekly rests over an examined line whose spans come one at a time (Articles 8(6), 8(6b) and 8(9) of
-//! Regulation (EC) 561/2006, as amended by (EU) 2020/1054): late rests, weeks that lack rests, and debts, with working
-//! state of fixed size.
+//! The rules on weekly rests over an examined line whose spans come one at a time (Articles 8(6), 8(6b) and 8(9) of Regulation (EC)
+//! 561/2006, as amended by (EU) 2020/1054): late rests, weeks that lack rests, and debts. The working state has a fixed size.
 #![tactic(auto)]
 
 mod compensation;

@@ -21,9 +21,9 @@ use tacho_hours::{Breach, FAR, Kind, Run};
 use tacho_pass::{Found, Judge};
 use tacho_time::{Minute, Span, Week, first_minute, week_of};
 
-/// Choices of a week for each weekly rest, week by week: the weekly rests so far of the current week, the last of
-/// them, whether the week before is wholly at rest, and what is left of that week by choices that serve all weeks since
-/// the first, or since the last one up to which none served.
+/// Choices of a week for each weekly rest, week by week: the weekly rests of the current week so far, the last of them, whether the week
+/// before is entirely at rest, and the outcomes of that week. These are the outcomes of choices that are valid for all weeks since the
+/// first, or since the last week up to which no choice was valid.
 #[derive(Clone, Copy)]
 pub struct Choices {
     week: u32,
@@ -34,8 +34,8 @@ pub struct Choices {
     ghost early: { week ≤ 6784 },
 }
 
-/// The breach of a week and the one before it, where no choice serves up to the week (Articles 8(6), first
-/// subparagraph, and 8(9) of Regulation (EC) 561/2006).
+/// Returns the breach for a week and the one before it, if no choice is valid up to the week (Articles 8(6), first subparagraph, and 8(9)
+/// of Regulation (EC) 561/2006).
 fn unserved(week: u32) -> Breach
     requires { week ≤ 6784 }
     ensures { result ≡ unserved_breach week }
@@ -48,7 +48,7 @@ fn unserved(week: u32) -> Breach
     }
 }
 
-/// The week with the last weekly rest alone.
+/// Returns the week with only the last weekly rest.
 fn week_of_last(week: u32, last: &Option<Run>) -> WeekOfRests
     requires { week ≤ 6785 }
     ensures { result ≡ week_of_last_of week last.now }
@@ -59,7 +59,7 @@ fn week_of_last(week: u32, last: &Option<Run>) -> WeekOfRests
     }
 }
 
-/// Whether one of them is left.
+/// Returns true if some outcome is left.
 fn is_left(outcomes: &[bool]) -> bool
     ensures { IsTrue result ↔ ((k : ℕ) × ((k < length outcomes.now) × (slice_index_or outcomes.now k false ≡ true))) }
 {
@@ -71,14 +71,14 @@ fn is_left(outcomes: &[bool]) -> bool
     false
 }
 
-/// Whether something is asked of two weeks: where neither is wholly at rest.
+/// Returns true if something is required of two weeks: neither is entirely at rest.
 fn asks(before: bool, now: bool) -> bool
     ensures { result ≡ (not before && not now) }
 {
     !before && !now
 }
 
-/// What choices leave of one more week, if one of them serves up to it.
+/// Returns the outcomes of one more week, if some choice is valid up to it.
 fn served(week: WeekOfRests, rested: bool, outcomes: [bool; 10]) -> Option<[bool; 10]>
     ensures { MatchOption result (IsUnservedStep week rested outcomes)
         (λ next. IsServedStep week rested outcomes next) }
@@ -88,7 +88,7 @@ fn served(week: WeekOfRests, rested: bool, outcomes: [bool; 10]) -> Option<[bool
 }
 
 impl Choices {
-    /// Of no rests, from a week on.
+    /// Returns the state without rests, from a week on.
     pub fn none(week: Week) -> Choices
         requires { week ≤ 6784 }
         ensures week { result.week ≡ week }
@@ -118,7 +118,7 @@ impl Choices {
         self.last = Some(rest);
     }
 
-    /// Closes the current week: all its weekly rests have been seen.
+    /// Closes the current week, after all its weekly rests have been seen.
     fn close(&mut self, found: &mut Found) -> Result<(), AllocError>
         requires { self.old.week < 6784 }
         ensures next { OnOk result ((self.new.week ≡ self.old.week + 1)
@@ -147,7 +147,7 @@ impl Choices {
         Ok(())
     }
 
-    /// Closes all weeks that have ended by a minute before which all weekly rests have been seen.
+    /// Closes all weeks that have ended by a minute. All weekly rests that start before this minute have been seen.
     fn close_by(&mut self, by: Minute, found: &mut Found) -> Result<(), AllocError>
         requires early { by ≤ latest }
         requires from { first_week ≤ by }
@@ -168,7 +168,7 @@ impl Choices {
         Ok(())
     }
 
-    /// Takes the next weekly rest: the weeks that have ended by its start are closed.
+    /// Takes the next weekly rest, after closing the weeks that have ended by its start.
     pub fn hear(&mut self, rest: Run, found: &mut Found) -> Result<(), AllocError>
         requires { rest.start ≤ latest }
         ensures kept { OnOk result ((line : Line) (horizon first later : ℕ)
@@ -189,7 +189,7 @@ impl Choices {
         Ok(())
     }
 
-    /// Closes all weeks that have ended by the horizon, where the last rest run is this.
+    /// Takes the last rest run, and closes all weeks that have ended by the horizon.
     pub fn end(self, last: Run, horizon: Minute, found: &mut Found) -> Result<(), AllocError>
         requires start { last.start ≤ latest }
         requires from { first_week ≤ horizon }
@@ -210,8 +210,8 @@ impl Choices {
     }
 }
 
-/// The breaches of neighbouring weeks up to which no choice of a week for each weekly rest serves (Articles 8(6), first
-/// subparagraph, and 8(9) of Regulation (EC) 561/2006).
+/// The rule that finds neighbouring weeks up to which no choice of a week for each weekly rest is valid (Articles 8(6), first subparagraph,
+/// and 8(9) of Regulation (EC) 561/2006).
 impl Judge for Choices {
     ghost use Rattle.std.specs.Prelude.{true, false};
     ghost use Rattle.tacho_pass.specs.Kinds.{is_b9};

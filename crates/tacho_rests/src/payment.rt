@@ -9,7 +9,7 @@ use tacho_hours::limits::{DAILY_REST, REGULAR_WEEKLY_REST, WEEKLY_REST, WEEKS_TO
 use tacho_hours::{Debt, Run, known_minutes};
 use tacho_time::{Minute, Week, first_minute};
 
-/// Whether nothing pays a debt yet and a rest has room for it, beside the minutes that are spent (Article 8(6b)).
+/// Returns true if no rest pays a debt yet and this rest has room for it, in addition to the minutes that are spent (Article 8(6b)).
 fn takes(rest: Run, end: u32, spent: u32, debt: &Debt) -> bool
     ensures { result ≡ takes_it rest end spent debt.now }
 {
@@ -17,7 +17,7 @@ fn takes(rest: Run, end: u32, spent: u32, debt: &Debt) -> bool
     debt.paid_by.is_none() && debt.amount <= minutes.saturating_sub(spent)
 }
 
-/// The debts after a rest's turn, which keeps so many minutes for itself (Article 8(6b)).
+/// Returns the debts after the turn of a rest, which keeps `kept` minutes for itself (Article 8(6b)).
 fn paid(debts: &Debts, rest: Run, end: u32, kept: u32) -> Debts
     requires { rest.start ≤ latest }
     ensures { debts_in result ≡ pay_all rest end kept (debts_in debts.now) }
@@ -38,8 +38,7 @@ fn paid(debts: &Debts, rest: Run, end: u32, kept: u32) -> Debts
     after
 }
 
-/// Of the rests with a day or more before a minute the one with the most minutes there, and of equals the earliest
-/// (Article 8(6)).
+/// Returns the rest with the most minutes before `end`, of those with a day or more; the earliest, if several have as many (Article 8(6)).
 pub fn main_of(rests: &[Run], end: u32) -> Option<Run>
     ensures { result ≡ longest end NoRun rests.now }
 {
@@ -57,7 +56,7 @@ pub fn main_of(rests: &[Run], end: u32) -> Option<Run>
     main
 }
 
-/// What a week owes for its main rest (Article 8(6b)), which isn't empty.
+/// Returns what a week owes for its main rest, if it owes anything (Article 8(6b)).
 pub fn owed_for(week: u32, main: Option<Run>) -> Option<Debt>
     requires { week ≤ 6784 }
     ensures { result ≡ debt_for week main }
@@ -75,7 +74,7 @@ pub fn owed_for(week: u32, main: Option<Run>) -> Option<Debt>
     })
 }
 
-/// Whether it is the main rest.
+/// Returns true if the rest is the main rest.
 fn is_main(main: Option<Run>, rest: Run) -> bool
     ensures { result ≡ is_main_of main rest }
 {
@@ -85,7 +84,7 @@ fn is_main(main: Option<Run>, rest: Run) -> bool
     }
 }
 
-/// The debts after the turn of a rest of a week with its main rest and what the week owes.
+/// Returns the debts after the turn of a rest of a week, given the week's main rest and what the week owes.
 fn turn(debts: &Debts, rest: Run, end: u32, main: Option<Run>, owed: &Option<Debt>) -> Debts
     requires { rest.start ≤ latest }
     ensures { debts_in result ≡ turn_of end main owed.now rest (debts_in debts.now) }
@@ -100,7 +99,7 @@ fn turn(debts: &Debts, rest: Run, end: u32, main: Option<Run>, owed: &Option<Deb
     after
 }
 
-/// The debts after the turns of the rests of a week: none, where there were none and the week owes nothing.
+/// Returns the debts after the turns of the rests of a week. There are none if there were none and the week owes nothing.
 #[tactic(auto, using(crate::proofs::PayingLemmas::turns_none))]
 pub fn turns(
     debts: &Debts,

@@ -18,7 +18,7 @@ pub struct RestRules {
     pub late_rest: Late,
     /// B9: weeks that lack weekly rests (Articles 8(6) and 8(9)).
     pub missing_rest: Choices,
-    /// B10 and the debts: reduced rests that nothing compensates (Article 8(6b)).
+    /// B10 and the debts: reduced rests that aren't compensated (Article 8(6b)).
     pub compensation: Ledger,
 }
 

@@ -1,4 +1,4 @@
--- The spans of an examined line lie in its range: their parts there are the spans.
+-- The spans of an examined line are within its range: cut to the range, they stay the same.
 use Rattle.std.proofs.Common.{◌≡◌, ℕ, ◌≤◌, List, [], ◌∷◌, map, refl, ap, ◌∙◌, arith}
 use Rattle.std.proofs.lemmas.Bool.Decides.{nat_tests}
 use Rattle.tacho_time.specs.declared.span.Span.{Span}
@@ -6,7 +6,7 @@ use Rattle.tacho_line.specs.Walk.{cut_to, later_of, earlier_of}
 use Rattle.tacho_hours.specs.Line.{Joined}
 use Rattle.tacho_hours.proofs.RunsLemmas.{joined_le}
 
--- a span within a range is its part there
+-- a span within the range, cut to it, stays the same
 cut_one : (base past : ℕ) (s : Span) → base ≤ s.start → s.past ≤ past → cut_to base past s ≡ s
 cut_one base past s low high =
     let start : later_of s.start base ≡ s.start = grind (arith, nat_tests) in

@@ -3,7 +3,7 @@ use std::io;
 use tacho_card::{CardFault, CardFile, Part, spans};
 use tacho_time::write_span;
 
-/// Prints the lines of what a part of a file gives, or its fault.
+/// Prints the lines of the spans that a part of a file gives, or its fault.
 pub(crate) fn answer(rt: &impl Print, alloc: Global, bytes: &[u8], part: Part) -> io::Result<()> {
     match lines_of(alloc, bytes, part) {
         Ok(lines) => print!(rt; "{lines}"),
@@ -11,7 +11,7 @@ pub(crate) fn answer(rt: &impl Print, alloc: Global, bytes: &[u8], part: Part) -
     }
 }
 
-/// The lines of what a part of a file gives, or its fault.
+/// Returns the lines of the spans that a part of a file gives, or its fault.
 fn lines_of(alloc: Global, bytes: &[u8], part: Part) -> Result<String, CardFault> {
     let file = CardFile::read(bytes)?;
     let mut lines = String::new(alloc);

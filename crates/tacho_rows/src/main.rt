@@ -1,4 +1,4 @@
-//! Prints answers of the libraries, for checks beside slow programs of another language. The one word says which.
+//! Prints answers of the libraries, for checks that compare them with slow programs in another language. The argument says which answers.
 #![tactic(auto)]
 
 mod card;
@@ -13,29 +13,29 @@ use std::{env, io};
 use tacho_card::Part;
 use tacho_time::{Device, read_all};
 
-/// How many bytes an input has at the most.
+/// The greatest length of an input in bytes.
 const LIMIT: usize = 262_144;
 
-/// What is asked.
+/// What is asked for.
 #[derive(Clone, Copy)]
 enum Question {
     /// The spans of a part of a card file.
     Card(Part),
-    /// The answers of a timeline to commands, a line each.
+    /// The answers of a timeline to commands, one per line.
     Timeline,
-    /// The breaches in examined lines, a line of words each, by the passes of `tacho_plain`.
+    /// The breaches in examined lines, one line of input each, by the passes of `tacho_plain`.
     Rules,
-    /// The same by a scan.
+    /// The breaches in examined lines, one line of input each, by a scan.
     Scan,
-    /// The reports of timelines, a line of words each.
+    /// The reports of timelines, one line of input each.
     Reports,
-    /// The hours that a text of CSV enters.
+    /// The hours that a CSV text enters.
     Entries,
-    /// The driver that a text of CSV registers.
+    /// The driver that a CSV text registers.
     Driver,
 }
 
-/// The question that the word of the command line names.
+/// Returns the question that the first known argument names, or `Timeline` if there is none.
 fn asked(rt: &(impl Env + Alloc)) -> io::Result<Question> {
     for word in env::args(rt)? {
         match word.as_str() {

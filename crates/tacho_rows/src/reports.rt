@@ -6,14 +6,14 @@ use tacho_line::{Line, LineFault};
 use tacho_rules::{Report, can_be_examined, examine};
 use tacho_time::Minute;
 
-/// A line that holds the spans of numbers, three a span.
+/// Makes a line that holds spans, from three numbers for each.
 fn line_of(alloc: Global, numbers: &[u32]) -> Result<Line, LineFault> {
     let mut line = Line::empty(alloc);
     gain(alloc, &mut line, numbers)?;
     Ok(line)
 }
 
-/// Prints a report: its horizon, its breaches and its debts, a line each.
+/// Prints a report: its horizon, its breaches and its debts, one per line.
 fn print_report(rt: &impl Print, report: &Report) -> io::Result<()> {
     let horizon = report.horizon;
     println!(rt; "horizon {} {:?}", horizon.minute.number(), horizon.cause)?;
@@ -21,7 +21,7 @@ fn print_report(rt: &impl Print, report: &Report) -> io::Result<()> {
     print_debts(rt, &report.debts)
 }
 
-/// Prints the report of a line from a base on.
+/// Prints the report of a line from a base.
 fn tell_report(rt: &impl Print, alloc: Global, line: &Line, base: Minute) -> io::Result<()> {
     if !can_be_examined(line, base) {
         return println!(rt; "no examined line");
@@ -32,7 +32,7 @@ fn tell_report(rt: &impl Print, alloc: Global, line: &Line, base: Minute) -> io:
     }
 }
 
-/// Prints the report of the line of numbers: the base, and then three a span.
+/// Prints the report of a timeline, from numbers: the base, and then three numbers for each span.
 fn tell_line(rt: &impl Print, alloc: Global, numbers: &[u32]) -> io::Result<()> {
     let Some((base, others)) = numbers.split_first() else {
         return println!(rt; "no base");
@@ -43,7 +43,7 @@ fn tell_line(rt: &impl Print, alloc: Global, numbers: &[u32]) -> io::Result<()> 
     }
 }
 
-/// Answers lines, each the base and the spans of a timeline: three numbers a span.
+/// Answers lines of input, each with the base and the spans of a timeline: three numbers for each span.
 pub(crate) fn answer(rt: &impl Print, alloc: Global, bytes: &[u8]) -> io::Result<()> {
     let Ok(text) = str::from_utf8(bytes) else {
         return println!(rt; "no text");

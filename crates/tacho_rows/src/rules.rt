@@ -8,14 +8,14 @@ use tacho_rules::limits::{FIRST_BASE, LATEST};
 use tacho_rules::{Breach, Cause, Debt, Found, Horizon, Report, Scan};
 use tacho_time::{Minute, Span, first_minute, week_of};
 
-/// Whether none of the spans is as crew.
+/// True if no span is crew.
 fn are_single(spans: &[Span]) -> bool
     ensures { IsTrue result → All (λ span. span.mark.crew ≡ false) spans.now }
 {
     spans.iter().all(|span| !span.mark.crew)
 }
 
-/// Whether spans follow one another from one minute to another, none of them empty.
+/// True if the spans follow one another from one minute to another, and none is empty.
 fn are_joined(spans: &[Span], from: Minute, to: Minute) -> bool
     ensures { IsTrue result → Joined spans.now from to }
 {
@@ -29,14 +29,14 @@ fn are_joined(spans: &[Span], from: Minute, to: Minute) -> bool
     place == to
 }
 
-/// Whether a minute is the first one of a Monday from that on.
+/// True if a minute can be a base: it is the first minute of a Monday from the first base on.
 fn is_base(minute: Minute) -> bool
     ensures { IsTrue result → IsBase minute }
 {
     minute.number() >= FIRST_BASE && first_minute(week_of(minute)) == minute
 }
 
-/// Whether these are the spans of an examined line from a base to before a minute.
+/// True if these are the spans of an examined line from a base to before a minute.
 fn are_examined(spans: &[Span], base: Minute, past: Minute) -> bool
     ensures { IsTrue result → IsExamined spans.now base past }
 {
@@ -82,7 +82,7 @@ fn print_pass(
     }
 }
 
-/// Prints the breaches and the debts that the pass on weekly rests found, a line each.
+/// Prints the breaches and the debts that the pass on weekly rests found, one per line.
 fn print_rests(rt: &impl Print, found: Result<Found, AllocError>) -> io::Result<()> {
     match found {
         Ok(found) => {
@@ -110,7 +110,7 @@ fn tell_breaches(
     print_rests(rt, tacho_plain::rests(alloc, spans, base, past))
 }
 
-/// What a scan finds in spans from a base to before a minute.
+/// Returns what a scan finds in spans from a base to before a minute.
 fn scanned(alloc: Global, spans: &[Span], base: Minute, past: Minute) -> Result<Report, AllocError>
     requires { IsExamined spans.now base past }
 {
@@ -144,7 +144,7 @@ fn tell_scan(
     }
 }
 
-/// Answers lines, each the spans of an examined line, three numbers a span: by a scan, or by the passes.
+/// Answers lines of input, each with the spans of an examined line, three numbers for each span: by a scan, or by the passes.
 pub(crate) fn answer(
     rt: &impl Print,
     alloc: Global,

@@ -8,7 +8,7 @@ fn tell_fault(rt: &impl Print, fault: SheetFault) -> io::Result<()> {
     print!(rt; "{}", fault_line(Fault::Sheet(fault)).as_str())
 }
 
-/// Prints entered hours, a line each: start, past, activity, author and note, the two in double quotes.
+/// Prints entered hours, one per line: start, past, activity, author and note; the last two are in double quotes.
 fn print_lines(rt: &impl Print, lines: &[EntryLine]) -> io::Result<()> {
     for line in lines {
         let (start, past) = (line.start().number(), line.past().number());
@@ -22,7 +22,7 @@ fn print_lines(rt: &impl Print, lines: &[EntryLine]) -> io::Result<()> {
     Ok(())
 }
 
-/// Prints the hours that a text of CSV enters, or the line of its first fault.
+/// Prints the hours that a CSV text enters, or the line of its first fault.
 pub(crate) fn tell_entries(rt: &impl Print, alloc: Global, bytes: &[u8]) -> io::Result<()> {
     match read_entries(alloc, bytes) {
         Ok(lines) => print_lines(rt, &lines),
@@ -30,14 +30,14 @@ pub(crate) fn tell_entries(rt: &impl Print, alloc: Global, bytes: &[u8]) -> io::
     }
 }
 
-/// Bytes in hexadecimal digits.
+/// Returns bytes in hexadecimal digits.
 fn digits_of(alloc: Global, bytes: &[u8]) -> Result<String, AllocError> {
     let mut digits = String::new(alloc);
     push_bytes(&mut digits, bytes)?;
     Ok(digits)
 }
 
-/// Prints a driver: number, holder, key, the number of his base, and name.
+/// Prints a driver: number, holder, key, the number of the base's day, and name.
 fn print_driver(rt: &impl Print, alloc: Global, driver: &Driver) -> io::Result<()> {
     let Ok(holder) = digits_of(alloc, driver.holder()) else {
         return println!(rt; "M1 no memory");
@@ -50,7 +50,7 @@ fn print_driver(rt: &impl Print, alloc: Global, driver: &Driver) -> io::Result<(
     )
 }
 
-/// Prints the driver that a text of CSV registers, or the line of its first fault.
+/// Prints the driver that a CSV text registers, or the line of its first fault.
 pub(crate) fn tell_driver(rt: &impl Print, alloc: Global, bytes: &[u8]) -> io::Result<()> {
     match read_driver(alloc, bytes) {
         Ok(driver) => print_driver(rt, alloc, &driver),

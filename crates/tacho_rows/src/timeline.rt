@@ -3,7 +3,7 @@ use std::{io, str};
 use tacho_line::{Line, LineFault};
 use tacho_time::{Activity, Mark, Minute, Span};
 
-/// The mark of a number: 0 rest, 1 available, 2 work, 3 drive, and 4 more for crew.
+/// Returns the mark of a number: 0 rest, 1 available, 2 work, 3 drive, plus 4 for crew.
 fn mark_of(number: u32) -> Mark {
     let activity = match number % 4 {
         0 => Activity::Rest,
@@ -17,7 +17,7 @@ fn mark_of(number: u32) -> Mark {
     }
 }
 
-/// The number of a mark.
+/// Returns the number of a mark.
 fn number_of(mark: Mark) -> u32 {
     let activity = match mark.activity {
         Activity::Rest => 0,
@@ -28,12 +28,12 @@ fn number_of(mark: Mark) -> u32 {
     if mark.crew { activity + 4 } else { activity }
 }
 
-/// A minute, as far as there are any.
+/// Returns the minute with this number, or the last minute if the number is greater.
 pub(crate) fn minute_of(number: u32) -> Minute {
     Minute::new(number.min(68_428_800))
 }
 
-/// The numbers of a line of words, the first word aside.
+/// Returns the numbers among the words of a line.
 pub(crate) fn numbers_of(alloc: Global, line: &str) -> Result<Vec<u32>, AllocError> {
     let mut numbers = Vec::new(alloc);
     for word in line.split_whitespace() {
@@ -44,7 +44,7 @@ pub(crate) fn numbers_of(alloc: Global, line: &str) -> Result<Vec<u32>, AllocErr
     Ok(numbers)
 }
 
-/// The spans of numbers: start, past and mark of each.
+/// Makes spans from numbers: start, past and mark of each.
 pub(crate) fn spans_of(alloc: Global, numbers: &[u32]) -> Result<Vec<Span>, AllocError> {
     let mut spans = Vec::new(alloc);
     for chunk in numbers.chunks(3) {
@@ -59,7 +59,7 @@ pub(crate) fn spans_of(alloc: Global, numbers: &[u32]) -> Result<Vec<Span>, Allo
     Ok(spans)
 }
 
-/// Prints spans by their numbers.
+/// Prints spans as numbers.
 fn print_spans(rt: &impl Print, name: &str, spans: &[Span]) -> io::Result<()> {
     print!(rt; "{name}")?;
     for span in spans {
@@ -73,7 +73,7 @@ fn print_spans(rt: &impl Print, name: &str, spans: &[Span]) -> io::Result<()> {
     println!(rt; "")
 }
 
-/// The gains of spans, which are added.
+/// Adds the gains of spans to a line, and returns them.
 pub(crate) fn gain(
     alloc: Global,
     line: &mut Line,
@@ -89,7 +89,7 @@ pub(crate) fn gain(
     Ok(gains)
 }
 
-/// Prints the gains of spans, and adds them.
+/// Prints the gains of spans, and adds them to a line.
 fn tell_gains(rt: &impl Print, alloc: Global, line: &mut Line, numbers: &[u32]) -> io::Result<()> {
     match gain(alloc, line, numbers) {
         Ok(gains) => print_spans(rt, "gains", &gains),
@@ -97,7 +97,7 @@ fn tell_gains(rt: &impl Print, alloc: Global, line: &mut Line, numbers: &[u32]) 
     }
 }
 
-/// Prints what a line holds and lacks from one minute to before another, its horizon and the mark there.
+/// Prints what a line holds from one minute to before another, the gaps there, the horizon from the first of them, and the mark at it.
 fn tell_range(rt: &impl Print, alloc: Global, line: &Line, from: u32, to: u32) -> io::Result<()> {
     let (start, past) = (minute_of(from), minute_of(to));
     match line.slice(alloc, start, past) {
@@ -123,7 +123,7 @@ fn tell_range(rt: &impl Print, alloc: Global, line: &Line, from: u32, to: u32) -
     }
 }
 
-/// Answers commands, a line each: three numbers a span are added, two ask for a range.
+/// Answers commands, one per line: three numbers for each span to be added, or two numbers that ask for a range.
 pub(crate) fn answer(rt: &impl Print, alloc: Global, bytes: &[u8]) -> io::Result<()> {
     let mut line = Line::empty(alloc);
     let Ok(text) = str::from_utf8(bytes) else {

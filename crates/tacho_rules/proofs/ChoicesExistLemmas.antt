@@ -1,5 +1,4 @@
--- The breaches of weeks without their weekly rests that there are: whether a choice serves weeks is decided by what choices leave of
--- each week.
+-- There is a list of the weeks that lack their weekly rests: what choices leave of each week decides whether a choice serves the weeks.
 use Rattle.std.proofs.Common.{◌≡◌, ℕ, zero, suc, ◌+◌, ◌-◌, ◌<◌, ◌≤◌, ◌⊎◌, inl, inr, Bool, true, false}
 use Rattle.std.proofs.Common.{refl, sym, ap, subst, ◌∙◌, arith}
 use Rattle.std.specs.Prelude.{not, ◌&&◌, is_some}
@@ -40,12 +39,12 @@ finite_outcomes : IsFinite HasPlace
 finite_outcomes = finite_of (λ (k : ℕ). k < 10) (λ k s. place_of s ≡ k) (finite_below 10)
     (λ k l. (let s = at_place k l in finite_one (λ (o : Outcome). place_of o ≡ k) s.0 s.1 (λ o e. place_only s.0 o (s.1 ∙ sym e))))
 
--- whether there is one
+-- whether some outcome satisfies `P` is decided
 decide_outcome : (P : Outcome → Type 0) → ((s : Outcome) → Decided (P s)) → Decided ((s : Outcome) × P s)
 decide_outcome P decided = decide_as (λ h. (h.0, h.1.1)) (λ h. (h.0, (has_place h.0, h.1)))
     (decide_some HasPlace P finite_outcomes (λ s h. decided s))
 
--- an outcome by what is counted
+-- an outcome of what is counted
 outcome_of : Counted → Outcome
 outcome_of c = record { counted = c; crossing = false }
 
@@ -63,7 +62,7 @@ decide_next week asks old new =
     (decide_both (decide_counted new.counted (counted_of week old.crossing new.crossing))
     (decide_if (decide_true asks) (decide_true (serves old.counted new.counted)))))
 
--- with what is counted before
+-- `new` is an outcome of the first week, with the rest that enters it counted before iff `before`
 abbrev FirstBy : WeeklyRests → Outcome → Bool → Type 0
 FirstBy week new before =
     (before ≡ true → is_some week.entering ≡ true)
@@ -96,7 +95,7 @@ module _ (line : Line) (base horizon : ℕ) (quiet : IsQuiet line base horizon) 
       let runs = rest_runs line base horizon quiet in
       in_weeks line runs.0 runs.1 (λ m l. quiet.before m (let f = quiet.from in omega (arith, l, f)))
 
-  -- a week, by its weekly rests
+  -- each week has a `WeekOfRests`
   week_of : (w : ℕ) → (week : WeekOfRests) × IsWeekOfRests (IsWeeklyRest line) w week
   week_of = seen_all line is_in_weeks
 
@@ -133,7 +132,7 @@ module _ (line : Line) (base horizon : ℕ) (quiet : IsQuiet line base horizon) 
       (decide_outcome (λ left. CanReach line first u left)
       (λ left. decide_reach (u - first) first u left (omega (arith, order)) early))
 
-  -- ---- weeks at which the rule fails
+  -- ---- weeks at which the rule is broken
 
   decide_from : (first u : ℕ) → Decided (FailsFrom (CanServe line) (EndedBy horizon) first u)
   decide_from first u = elim (decide_both (decide_lt first u) (decide_le (week_start (u + 1)) horizon)) [
@@ -173,7 +172,7 @@ module _ (line : Line) (base horizon : ℕ) (quiet : IsQuiet line base horizon) 
         ]
   ]
 
-  -- a week at which it fails has ended
+  -- a week at which the rule is broken has ended
   early_fail : (first w : ℕ) → Fails (CanServe line) (EndedBy horizon) first (w + 1) → w < horizon
   early_fail first w f =
       let l : week_start (w + 1 + 1) ≤ horizon = ended_by (CanServe line) (EndedBy horizon) first (serves_less line) (w + 1) f in

@@ -1,4 +1,4 @@
--- The debts that there are, with who pays them, and the breaches of those that nothing pays.
+-- There is a list of the debts, with their payers, and of the breaches of debts that nothing pays.
 use Rattle.std.proofs.Common.{◌≡◌, ℕ, ◌+◌, ◌-◌, ◌<◌, ◌≤◌, ◌⊎◌, inl, inr, Option, None, Some, List, [], ◌∷◌, ◌++◌, refl}
 use Rattle.std.proofs.Common.{sym, ap, subst, ◌∙◌, arith, min}
 use Rattle.std.specs.List.{All, AllPairs, Contains}
@@ -27,7 +27,7 @@ decide_none : (o : Option ℕ) → Decided (o ≡ None)
 decide_none None = inl refl
 decide_none (Some m) = inr (λ e. cc)
 
--- a debt of a week is told by what else it says
+-- the week, amount, deadline and payer determine a debt
 debt_is : (d : Debt) (amount deadline : ℕ) → amount ≡ d.amount → deadline ≡ d.deadline → d.paid_by ≡ None
     → record { week = d.week; amount = amount; deadline = deadline; paid_by = None } ≡ d
 debt_is d amount deadline e f p =
@@ -36,7 +36,7 @@ debt_is d amount deadline e f p =
     let three : Option ℕ → Debt = λ x. record { week = d.week; amount = d.amount; deadline = d.deadline; paid_by = x } in
     ap one e ∙ ap two f ∙ ap three (sym p)
 
--- of debts in order, one is told by its week
+-- in an ordered list of debts, the week determines the debt
 pub one_debt : (debts : List Debt) (a b : Debt) → AllPairs EarlierWeek debts → Contains debts a → Contains debts b
     → a.week ≡ b.week → a ≡ b
 one_debt [] a b order p q e = absurd (no_member a p)
@@ -100,7 +100,7 @@ module _ (line : Line) (base horizon : ℕ) (quiet : IsQuiet line base horizon) 
     ]
   ]
 
-  -- a week in which a run starts
+  -- a run is a main rest only of weeks that begin by its start
   early_week : (w : ℕ) (run : Run) → IsMainRest line horizon w run → w < run.start + 1
   early_week w run m = let l : week_start w ≤ run.start = m.candidate.week.0 in omega (arith, l)
 
@@ -109,7 +109,7 @@ module _ (line : Line) (base horizon : ℕ) (quiet : IsQuiet line base horizon) 
       (decide_some (λ (w : ℕ). w < run.start + 1) (λ w. IsMainRest line horizon w run) (finite_below (run.start + 1))
       (λ w l. decide_main w run is))
 
-  -- ---- who can pay
+  -- ---- what can pay
 
   finite_keeps : (run : Run) → IsRestRun line run → IsFinite (λ kept. Keeps line horizon run kept)
   finite_keeps run is = elim (is_main run is) [
@@ -144,7 +144,7 @@ module _ (line : Line) (base horizon : ℕ) (quiet : IsQuiet line base horizon) 
 
   -- ---- what is owed
 
-  -- a debt that is owed, and not paid yet
+  -- a debt that is owed, without a payer
   record IsOwed (debt : Debt) : Type 0 where
     owes : Owes line horizon debt.week debt.amount
     deadline : debt.deadline ≡ week_start (debt.week + 4)
@@ -296,7 +296,7 @@ module _ (line : Line) (base horizon : ℕ) (quiet : IsQuiet line base horizon) 
             (record { owed = owed_list.0; are_owed = are_owed; unpaid = unpaid; paid = paid.1 }),
       )
 
-  -- ---- what nothing pays
+  -- ---- debts that nothing pays
 
   pub finite_b10 : (debts : List Debt) → IsFinite (λ (breach : Breach). (breach.kind ≡ B10) × IsB10 horizon debts breach)
   finite_b10 debts =

@@ -1,4 +1,4 @@
--- A scan that is fed spans one after the other (`Scan::feed_within`, `examine`).
+-- A scan that is fed several spans (`Scan::feed_within`, `examine`).
 use Rattle.std.proofs.Common.{◌≡◌, ℕ, ◌+◌, ◌<◌, ◌≤◌, List, [], ◌∷◌, ◌++◌, length, get_or, map, take, drop, refl, sym, ap}
 use Rattle.std.proofs.Common.{subst, ◌∙◌, arith, true, Result, Ok, Err, IfOk}
 use Rattle.std.proofs.lemmas.List.{length-map, get_or-map, drop_more, drop_all, take_more, take_all, append-nil, append_assoc}
@@ -18,7 +18,7 @@ use Rattle.tacho_rules.specs.declared.scan.Scan.{Scan}
 use Rattle.tacho_rules.specs.Report.{examined, IsReport}
 use Rattle.tacho_rules.specs.Scan.{AreFindings, IsAt, HasFailed, IsScanOf}
 
--- a scan is at the next of the spans that are left, which follow one another
+-- the scan is at the start of the spans that are left, and these follow one another
 abbrev pub IsBefore : Scan → List Span → ℕ → Type 0
 IsBefore s left past = IsAt s (place_of left past) × Joined left (place_of left past) past
 
@@ -30,7 +30,7 @@ pub record IsFed (spans : List Span) (was : Scan) (had : Found) (s : Scan) (foun
   pub more : Appends is_any true had found
   pub failed : HasFailed was → (i ≡ 0) × HasFailed s
 
--- before the first
+-- before the first span
 pub fed_none : (spans : List Span) (s : Scan) (found : Found) → IsFed spans s found s found 0
 fed_none spans s found = record {
   is = λ base before is. subst (IsScanOf s found base) (sym (append-nil before)) is;
@@ -44,7 +44,7 @@ fed_none spans s found = record {
 module _ (spans : List Span) (was : Scan) (had : Found) (s : Scan) (found : Found) (i : ℕ)
     (f : IsFed spans was had s found i)
     (span : Span) (within : i < length spans) (here : span ≡ get_or spans i span) where
-  -- the next span, and those behind it
+  -- the spans that are left are the next one and those after it
   left_is : drop i spans ≡ span ∷ drop (i + 1) spans
   left_is = drop_more spans i span within ∙ ap (λ (x : Span). x ∷ drop (i + 1) spans) (sym here)
 
@@ -58,7 +58,7 @@ module _ (spans : List Span) (was : Scan) (had : Found) (s : Scan) (found : Foun
     pub next_at : IsAt s span.start
     next_at = subst (IsAt s) (sym next_joined.0) (f.at place past start joined).0
 
-    -- it isn't empty, and ends by the end of all
+    -- it isn't empty, and doesn't end after the last span
     pub next_some : span.start < span.past
     next_some =
         let e : span.start ≡ place_of (drop i spans) past = next_joined.0 in
@@ -68,7 +68,7 @@ module _ (spans : List Span) (was : Scan) (had : Found) (s : Scan) (found : Foun
     pub next_within : span.past ≤ past
     next_within = joined_le (drop (i + 1) spans) span.past past next_joined.2
 
-  -- and the scan that was fed it has it
+  -- once the scan was fed the next span, it is fed one more
   pub fed_next : (s' : Scan) (found' : Found) → IsAt s' span.past
       → ((base : ℕ) (before : List Span) → IsScanOf s found base before
       → IsScanOf s' found' base (before ++ span ∷ []))
@@ -91,12 +91,12 @@ module _ (spans : List Span) (was : Scan) (had : Found) (s : Scan) (found : Foun
         failed = λ h. absurd (alive (f.failed h).1);
       }
 
--- no span is in a list of none
+-- a list of length 0 is empty
 none_left : (xs : List Span) → length xs ≤ 0 → xs ≡ []
 none_left [] le = refl
 none_left (x ∷ xs) le = absurd (omega arith)
 
--- behind the last, it stands for all, up to their end
+-- after the last span, the scan represents all of them, and is at their end
 module _ (spans : List Span) (was : Scan) (had : Found) (s : Scan) (found : Found) (i : ℕ)
     (f : IsFed spans was had s found i) (all : length spans ≤ i) where
   pub fed_all : (base : ℕ) (before : List Span) → IsScanOf was had base before
@@ -109,11 +109,11 @@ module _ (spans : List Span) (was : Scan) (had : Found) (s : Scan) (found : Foun
       subst (λ (left : List Span). IsAt s (place_of left past))
       (drop_all i spans all) (f.at place past start joined).0
 
-  -- a scan that had failed took none, of which no part was left to take
+  -- a scan that had failed before was fed nothing; so there was no part to feed
   pub failed_takes_none : (others : List Span) → length others ≤ i → HasFailed was → others ≡ []
   failed_takes_none others all h = none_left others (let e : i ≡ 0 = (f.failed h).0 in omega arith)
 
--- the part of the i-th span is the i-th part
+-- the i-th part is the part of the i-th span
 module _ (part : Span → Span) (spans : List Span) (i : ℕ) where
   pub part_within : i < length spans → i < length (map part spans)
   part_within within = rw (length-map spans part) within
@@ -125,7 +125,7 @@ module _ (part : Span → Span) (spans : List Span) (i : ℕ) where
       → part span ≡ get_or (map part spans) i (part span)
   part_is span within here = ap part here ∙ sym (get_or-map part spans i span (part span) within)
 
--- what is found of the examined line, with its horizon, is the report
+-- what is found of the examined line, together with the horizon, is the report
 report_of : (held : List Span) (base : ℕ) (horizon : Horizon) (found : List Breach) (debts : List Debt)
     → IsHorizon held base horizon → AreFindings (examined held base horizon.minute) base horizon.minute found debts
     → IsReport held base horizon found debts
@@ -139,7 +139,7 @@ report_of held base horizon found debts h are = record {
   exactly = are.exactly;
 }
 
--- a call that answers such findings answers the report
+-- a call that returns these findings returns the report
 pub report_answered : {E : Type 0} {P : Report → Type 0} (result : Result Report E) (held : List Span) (base : ℕ)
     (horizon : Horizon) → IsHorizon held base horizon
     → ((r : Report) → P r

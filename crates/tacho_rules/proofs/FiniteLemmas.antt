@@ -1,4 +1,4 @@
--- What is decided, and what has a list of all that it is: a list in order is made of it.
+-- Decided properties, and finite sets: a finite set has an ordered list.
 use Rattle.std.proofs.Common.{◌≡◌, ℕ, zero, suc, ◌<◌, ◌≤◌, ◌⊎◌, ◌↔◌, inl, inr, List, [], ◌∷◌, ◌++◌, get_or, refl, sym, subst, ◌∙◌, arith}
 use Rattle.std.specs.List.{AllPairs, Contains}
 use Rattle.std.proofs.lemmas.Bool.{cases_lt}
@@ -7,7 +7,7 @@ use Rattle.std.proofs.lemmas.List.Kept.{AllPairs-cons}
 use Rattle.tacho_hours.specs.Exactly.{AreExactly}
 use Rattle.tacho_hours.proofs.ExactlyLemmas.{contains_head, contains_tail, contains_cases, head_first, tail_order}
 
--- ---- what is decided
+-- ---- decided properties
 
 abbrev pub Decided : Type 0 → Type 0
 Decided P = P ⊎ (¬ P)
@@ -31,7 +31,7 @@ decide_if d (inl b) = inl (λ a. b)
 decide_if (inr none) (inr never) = inl (λ a. absurd (none a))
 decide_if (inl a) (inr never) = inr (λ f. never (f a))
 
--- said in another way
+-- an equivalent property is decided too
 pub decide_as : {A B : Type 0} → (A → B) → (B → A) → Decided A → Decided B
 decide_as f g (inl a) = inl (f a)
 decide_as f g (inr none) = inr (λ b. none (g b))
@@ -48,9 +48,9 @@ decide_eq m n = elim (cases_lt m n) [
   | inr l ↦ elim (cases_lt n m) [ inl k ↦ inr (λ h. omega (arith, k, h)) | inr k ↦ inl (omega (arith, k, l)) ]
 ]
 
--- ---- what has a list
+-- ---- finite sets
 
--- a list has all that it is, and nothing else
+-- there is a list of exactly the elements that satisfy `P`
 pub record IsFinite {A : Type 0} (P : A → Type 0) : Type 0 where
   pub all : List A
   pub each : (x : A) → Contains all x ↔ P x
@@ -74,7 +74,7 @@ pub finite_as : {A : Type 0} (P Q : A → Type 0) → ((x : A) → P x ↔ Q x) 
 finite_as P Q same f =
     record { all = f.all; each = λ x. (λ h. (same x).0 ((f.each x).0 h), λ q. (f.each x).1 ((same x).1 q)) }
 
--- members of two lists one after the other
+-- a member of two lists joined is a member of one of them
 pub append_cases : {A : Type 0} (xs ys : List A) (x : A) → Contains (xs ++ ys) x → Contains xs x ⊎ Contains ys x
 append_cases [] ys x h = inr h
 append_cases (y ∷ xs) ys x h = elim (contains_cases y (xs ++ ys) x h) [
@@ -111,7 +111,7 @@ finite_or P Q f g = record {
   );
 }
 
--- what is of one of a list
+-- the union of finite sets, one for each member of a list
 bind_list : {A B : Type 0} (Q : A → B → Type 0) (xs : List A) → ((x : A) → Contains xs x → IsFinite (Q x))
     → IsFinite (λ (y : B). (x : A) × Contains xs x × Q x y)
 bind_list Q [] of = finite_none (λ y. (x : _) × Contains [] x × Q x y) (λ y h. no_member h.0 h.1)
@@ -130,7 +130,7 @@ bind_list {A} {B} Q (a ∷ xs) of =
     (finite_or (Q a) (λ y. (x : A) × Contains xs x × Q x y) (of a (contains_head a xs))
     (bind_list Q xs (λ x h. of x (contains_tail a xs x h))))
 
--- what is of one of these
+-- the union of finite sets, one for each element of a finite set
 pub finite_of : {A B : Type 0} (P : A → Type 0) (Q : A → B → Type 0) → IsFinite P → ((x : A) → P x → IsFinite (Q x))
     → IsFinite (λ (y : B). (x : A) × P x × Q x y)
 finite_of {A} {B} P Q f of =
@@ -138,12 +138,12 @@ finite_of {A} {B} P Q f of =
     (λ y. (λ h. (h.0, (f.each h.0).0 h.1, h.2), λ h. (h.0, (f.each h.0).1 h.1, h.2)))
     (bind_list Q f.all (λ x h. of x ((f.each x).0 h)))
 
--- where something is so
+-- a finite set, or the empty set where `C` doesn't hold
 pub finite_when : {A : Type 0} (C : Type 0) (P : A → Type 0) → Decided C → (C → IsFinite P) → IsFinite (λ x. C × P x)
 finite_when C P (inl c) f = finite_as P (λ x. C × P x) (λ x. (λ p. (c, p), λ h. h.1)) (f c)
 finite_when C P (inr none) f = finite_none (λ x. C × P x) (λ x h. none h.0)
 
--- those of which something is so
+-- the elements of a finite set that satisfy a decided property
 pub finite_where : {A : Type 0} (P Q : A → Type 0) → IsFinite P → ((x : A) → P x → Decided (Q x)) → IsFinite (λ x. P x × Q x)
 finite_where {A} P Q f decided =
     finite_as (λ y. (x : A) × P x × (Q x × (x ≡ y))) (λ y. P y × Q y)
@@ -164,13 +164,13 @@ finite_below (suc n) =
     ))
     (finite_or (λ (k : ℕ). k < n) (λ (k : ℕ). n ≡ k) (finite_below n) (finite_one (λ (k : ℕ). n ≡ k) n refl (λ k e. e)))
 
--- members of a list
+-- the members of a list
 pub finite_in : {A : Type 0} (xs : List A) → IsFinite (λ x. Contains xs x)
 finite_in xs = record { all = xs; each = λ x. (λ h. h, λ h. h) }
 
--- ---- and what is decided of them
+-- ---- decisions over finite sets
 
--- whether there is one
+-- whether a finite set has an element is decided
 decide_any : {A : Type 0} (P : A → Type 0) → IsFinite P → Decided ((x : A) × P x)
 decide_any {A} P f = go f.all f.each where
   go : (xs : List A) → ((x : A) → Contains xs x ↔ P x) → Decided ((x : A) × P x)
@@ -192,12 +192,12 @@ decide_all {A} P Q f decided = go (decide_some P (λ x. ¬ (Q x)) f (λ x p. dec
   go (inl h) = inr (λ every. h.1.1 (every h.0 h.1.0))
   go (inr none) = inl (λ x p. sure x (λ never. none (x, (p, never))) (decided x p))
 
--- ---- a list in order
+-- ---- ordered lists
 
 module _ {A : Type 0} (P : A → Type 0) (R : A → A → Type 0)
     (one : (x y : A) → P x → P y → (x ≡ y) ⊎ (R x y ⊎ R y x))
     (further : (x y z : A) → P x → P y → P z → R x y → R y z → R x z) where
-  -- a list with one more in its place
+  -- an ordered list with one more element in its place
   record With (x : A) (ys : List A) : Type 0 where
     all : List A
     in_order : AllPairs R all
@@ -274,7 +274,7 @@ module _ {A : Type 0} (P : A → Type 0) (R : A → A → Type 0)
           );
         }
 
-  -- a list, put in order
+  -- an ordered list of the elements of `xs`
   record InOrder (xs : List A) : Type 0 where
     all : List A
     in_order : AllPairs R all
@@ -301,7 +301,7 @@ module _ {A : Type 0} (P : A → Type 0) (R : A → A → Type 0)
         );
       }
 
-  -- there is a list in order
+  -- a finite set has an ordered list
   pub listed : IsFinite P → (xs : List A) × AreExactly P R xs
   listed f =
       let all : InOrder f.all = put f.all (λ y h. (f.each y).0 h) in (

@@ -1,4 +1,4 @@
--- The breaches of too much driving, of daily rests and of late weekly rests that there are.
+-- There are lists of the breaches of too much driving, of daily rests and of late weekly rests.
 use Rattle.std.proofs.Common.{◌≡◌, ℕ, ◌+◌, ◌-◌, ◌<◌, ◌≤◌, ◌⊎◌, inl, inr, List, length, refl, sym, ap, subst, ◌∙◌, arith, min}
 use Rattle.std.specs.List.{Contains}
 use Rattle.std.proofs.lemmas.Bool.{cases_lt}
@@ -25,9 +25,9 @@ use Rattle.tacho_rules.proofs.FiniteLemmas.{finite_one, finite_as, finite_of, fi
 use Rattle.tacho_rules.proofs.FiniteLemmas.{finite_in, listed}
 use Rattle.tacho_rules.proofs.RunsExistLemmas.{IsQuiet, runs_order, finite_rests, finite_neighbours}
 
--- ---- a breach that is told
+-- ---- a breach with given values
 
--- of a kind, with a moment, since a minute, and with an amount that makes one number of another
+-- the breach has this kind, moment and since; `from` plus its amount is `to`
 abbrev pub IsTold : Kind → ℕ → ℕ → ℕ → ℕ → Breach → Type 0
 IsTold kind moment since from to breach =
     (breach.kind ≡ kind) × ((breach.moment ≡ moment) × ((breach.since ≡ since) × (breach.amount + from ≡ to)))
@@ -63,7 +63,7 @@ decide_driving line from to k m = decide_as
     (decide_both (decide_le from m) (decide_both (decide_lt m to)
     (decide_both (drive_or (line m)) (decide_eq (driving line from m + 1) k))))
 
--- of a kind, from one minute up to another
+-- the breach has this kind and since; its moment and amount are those of too much driving from one minute to another
 abbrev pub IsLong : Line → Kind → ℕ → ℕ → ℕ → ℕ → Breach → Type 0
 IsLong line kind limit from to since breach =
     (breach.kind ≡ kind) × (IsExcess line limit from to breach.moment breach.amount × (breach.since ≡ since))
@@ -95,14 +95,14 @@ finite_long line kind limit from to since =
 -- ---- neighbours
 
 module _ (line : Line) (base horizon : ℕ) (quiet : IsQuiet line base horizon) where
-  -- what is driven is before the horizon
+  -- driving minutes are before the horizon
   drives_early : (m : ℕ) → line m ≡ Drive → m < horizon
   drives_early m e = elim (cases_lt m horizon) [
     | inl l ↦ l
     | inr l ↦ absurd (let f : line m ≡ Rest = quiet.after m l in let g : Rest ≡ Drive = sym f ∙ e in cc)
   ]
 
-  -- of some rest runs, two neighbours are told by a minute between them
+  -- a minute between two neighbours, of rest runs of one sort, determines the two
   pair_only : (S : Run → Type 0) → ((x : Run) → S x → IsRestRun line x) → (a b c d : Run) → S a → S b → S c → S d
       → ((x : Run) → S x → Before a x → Before x b → ⊥) → ((x : Run) → S x → Before c x → Before x d → ⊥)
       → (m : ℕ) → a.past ≤ m → m < b.start → c.past ≤ m → m < d.start → (a ≡ c) × (b ≡ d)
@@ -205,7 +205,7 @@ module _ (line : Line) (base horizon : ℕ) (quiet : IsQuiet line base horizon) 
 
   -- ---- weeks
 
-  -- in some weeks
+  -- the breach has this kind, and is of the driving from the start of a week on, over this many weeks
   abbrev IsWeekly : Kind → ℕ → ℕ → Breach → Type 0
   IsWeekly kind limit n breach =
       (w : ℕ) × (w < horizon) × IsLong line kind limit (week_start w) (week_start (w + n)) (week_start w) breach
@@ -216,7 +216,7 @@ module _ (line : Line) (base horizon : ℕ) (quiet : IsQuiet line base horizon) 
       (λ w breach. IsLong line kind limit (week_start w) (week_start (w + n)) (week_start w) breach) (finite_below horizon)
       (λ w l. finite_long line kind limit (week_start w) (week_start (w + n)) (week_start w))
 
-  -- a week with driving starts before the horizon
+  -- a week with driving begins before the horizon
   early_week : (w m : ℕ) → week_start w ≤ m → line m ≡ Drive → w < horizon
   early_week w m l e = let k = drives_early m e in omega (arith, l, k)
 
@@ -292,7 +292,7 @@ module _ (line : Line) (base horizon : ℕ) (quiet : IsQuiet line base horizon) 
       sym (same_day p.last a p.start p.past) ∙ ap (λ (r : Run). day_of r a.rest) e ∙ ap (λ (r : Run). day_of q.last r) f
       ∙ same_day q.last b q.start q.past
 
-  -- a day is told by its start
+  -- a duty day is determined by its start
   day_only : (a b : DutyDay) → IsDuty line a → IsDuty line b → a.start ≡ b.start → a ≡ b
   day_only a b p q same =
       let e = p.start in
@@ -304,7 +304,7 @@ module _ (line : Line) (base horizon : ℕ) (quiet : IsQuiet line base horizon) 
       (omega (arith, e)) (omega (arith, e, g)) (omega (arith, same, f)) (omega (arith, same, f, h)) in
       days_by a b p q both.0 both.1
 
-  -- days are one after the other
+  -- duty days follow one another in the order of their rests
   apart_days : (a b : DutyDay) → (p : IsDuty line a) → (q : IsDuty line b) → Before a.rest b.rest → EarlierDay a b
   apart_days a b p q l =
       let e = q.start in
@@ -336,7 +336,7 @@ module _ (line : Line) (base horizon : ℕ) (quiet : IsQuiet line base horizon) 
         ])
       ]
 
-  -- a day starts before its rest ends
+  -- a duty day begins before its rest ends
   day_some : (a : DutyDay) → IsDuty line a → a.start < a.rest.past
   day_some a p =
       let e = p.start in
@@ -344,7 +344,7 @@ module _ (line : Line) (base horizon : ℕ) (quiet : IsQuiet line base horizon) 
       let l = p.neighbours.second.rests.some in
       omega (arith, e, k, l)
 
-  -- how many of some duty days
+  -- how many duty days satisfy `P`
   so_many : (P : DutyDay → Type 0) → ((day : DutyDay) → P day → IsDuty line day) → IsFinite P → (n : ℕ) × AreSoMany P EarlierDay n
   so_many P duty f =
       let all = listed P EarlierDay (λ a b p q. days_order a b (duty a p) (duty b q))
@@ -423,7 +423,7 @@ module _ (line : Line) (base horizon : ℕ) (quiet : IsQuiet line base horizon) 
       (e, (p.moment, (p.since, p.amount))))
       (f, (q.moment, (q.since, q.amount)))
 
-  -- ---- reduced ones
+  -- ---- reduced daily rests
 
   abbrev ReducedSince : DutyDay → Run → DutyDay → Type 0
   ReducedSince day weekly other = IsReduced line other × Before weekly other.rest × (other.rest.start ≤ day.rest.start)
@@ -509,7 +509,7 @@ module _ (line : Line) (base horizon : ℕ) (quiet : IsQuiet line base horizon) 
       (λ day r. finite_of (IsWeeklyRest line) (λ weekly breach. OfLast day weekly breach) (finite_rests line base horizon quiet 1440)
       (λ weekly is. finite_last day weekly)))
 
-  -- a run is told by its end
+  -- a run is determined by its end
   one_past : (a b : Run) → IsRestRun line a → IsRestRun line b → a.past ≡ b.past → a ≡ b
   one_past a b p q e = elim (runs_order line base horizon quiet a b p q) [
     | inl same ↦ same

@@ -1,4 +1,4 @@
--- What docs/RULES.md says of its examples, held against the definitions: with another value here this file is refused.
+-- The examples of docs/RULES.md, checked against the definitions: with another value here, this file is refused.
 use Rattle.std.proofs.Common.{◌≡◌, ◌-◌, ◌+◌, List, [], ◌∷◌, None, true, false, refl, ap, arith}
 use Rattle.tacho_time.specs.declared.span.Activity.TheVariants.{Rest, Work, Drive}
 use Rattle.tacho_time.specs.declared.span.Span.{Span}
@@ -12,7 +12,7 @@ use Rattle.tacho_rules.specs.Report.{examined}
 
 -- ---- what is examined
 
--- work up to the base, rest, driving from 06:00 to 10:31, and then driving as crew
+-- work up to the base, rest, driving from 06:00 to 10:31, and then crew driving
 abbrev pub held : List Span
 held = record { start = at 4 0 - 60; past = at 4 0; mark = record { activity = Work; crew = false } }
     ∷ record { start = at 4 0; past = at 4 360; mark = record { activity = Rest; crew = false } }
@@ -20,22 +20,22 @@ held = record { start = at 4 0 - 60; past = at 4 0; mark = record { activity = W
     ∷ record { start = at 4 631; past = at 4 720; mark = record { activity = Drive; crew = true } }
     ∷ []
 
--- the last minute before the base is at rest, though it is held as work
+-- the last minute before the base is at rest, although work is held there
 pub rest_before_the_base : examined held (at 4 0) (at 4 631) (at 4 0 - 1) ≡ Rest
 rest_before_the_base = refl
 
--- from the base to the horizon each minute is what is held
+-- from the base to the horizon, each minute is as held
 pub drives_at_six : examined held (at 4 0) (at 4 631) (at 4 360) ≡ Drive
 drives_at_six = refl
 
 pub drives_to_the_horizon : examined held (at 4 0) (at 4 631) (at 4 630) ≡ Drive
 drives_to_the_horizon = refl
 
--- the horizon is at rest, though it is held as driving
+-- the horizon is at rest, although driving is held there
 pub rest_from_the_horizon : examined held (at 4 0) (at 4 631) (at 4 631) ≡ Rest
 rest_from_the_horizon = refl
 
--- and so is what isn't held
+-- minutes that aren't held are at rest
 pub rest_where_nothing_is_held : examined held (at 4 0) (at 5 0) (at 4 720) ≡ Rest
 rest_where_nothing_is_held = refl
 
@@ -45,11 +45,11 @@ rest_where_nothing_is_held = refl
 pub room_for_1140 : 540 + 1140 ≡ minutes_before (at 32 0) (rest_between (at 26 720) (at 27 960))
 room_for_1140 = refl
 
--- B10: a debt of 1,260 that nothing pays
+-- B10: a debt of 1,260 without a payer
 abbrev pub unpaid : Debt
 unpaid = record { week = 2826; amount = 1260; deadline = at 32 0; paid_by = None }
 
--- is a breach on 1 April at 00:00 since the 4th at 00:00, of 1,260
+-- it is a breach on 1 April at 00:00, since the 4th at 00:00, of 1,260
 pub unpaid_is_overdue : IsOverdue (at 32 0) (unpaid ∷ [])
     (record { kind = B10; moment = at 32 0; since = at 4 0; amount = 1260 })
 unpaid_is_overdue = (
@@ -65,7 +65,7 @@ unpaid_is_overdue = (
   },
 )
 
--- and none a minute before
+-- a minute earlier there is no breach
 pub unpaid_is_not_yet : (breach : Breach) → ¬ (IsOverdue (at 31 1439) (unpaid ∷ []) breach)
 unpaid_is_not_yet breach (kind, is) =
     let e : at 32 0 ≡ is.debt.deadline = ap (λ (debt : Debt). debt.deadline) (one_member unpaid is.debt is.owed) in

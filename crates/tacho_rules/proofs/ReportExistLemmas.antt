@@ -1,4 +1,4 @@
--- What is held has a report from each base.
+-- From each base there is a report.
 use Rattle.std.proofs.Common.{◌≡◌, ℕ, zero, suc, ◌+◌, ◌<◌, ◌≤◌, ◌⊎◌, inl, inr, Option, None, Some, Bool, true, false}
 use Rattle.std.proofs.Common.{List, [], ◌∷◌, get_or, refl, sym, ap, subst, ◌∙◌, arith}
 use Rattle.std.specs.List.{All, Contains}
@@ -42,7 +42,7 @@ single_or (Some mark) = go mark.crew refl where
   go true e = inr (Crew, e)
   go false e = inl e
 
--- single up to a minute, and there
+-- if all minutes before `m` are single, and `m` is, then all minutes up to `m` are
 one_more : (held : List Span) (base m : ℕ) → ((k : ℕ) → base ≤ k → k < m → IsSingle (mark_at held k)) → IsSingle (mark_at held m)
     → (k : ℕ) → base ≤ k → k < m + 1 → IsSingle (mark_at held k)
 one_more held base m single here k above below = elim (cases_lt k m) [
@@ -50,7 +50,7 @@ one_more held base m single here k above below = elim (cases_lt k m) [
   | inr l ↦ let e : m ≡ k = omega (arith, l, below) in subst (λ (x : ℕ). IsSingle (mark_at held x)) e here
 ]
 
--- it is at or after a minute up to which all is single
+-- if all minutes before `m` are single, there is a horizon at or after `m`
 horizon_from : (n : ℕ) (held : List Span) (base last m : ℕ) → All (λ (s : Span). s.past ≤ last) held → base ≤ m → last < m + n
     → ((k : ℕ) → base ≤ k → k < m → IsSingle (mark_at held k)) → (h : Horizon) × IsHorizon held base h
 horizon_from zero held base last m ended from fuel single = elim (single_or (mark_at held m)) [
@@ -119,7 +119,7 @@ among_kinds B10 = (10, omega arith, refl)
 module _ (line : Line) (base horizon : ℕ) (quiet : IsQuiet line base horizon) (runs breaks : List Run)
     (are : AreRestRuns line runs) (complete : AreCompleteBreaks runs breaks) (debts : List Debt)
     (owed : AreDebts line horizon debts) (first : ℕ) (monday : base ≡ week_start first) where
-  -- of a kind
+  -- a breach of this kind
   abbrev OfKind : Kind → Breach → Type 0
   OfKind kind breach = (breach.kind ≡ kind) × IsBreach line base horizon breaks debts kind breach
 
@@ -135,7 +135,7 @@ module _ (line : Line) (base horizon : ℕ) (quiet : IsQuiet line base horizon) 
   of_kind B9 = finite_b9 line base horizon quiet first monday
   of_kind B10 = finite_b10 line base horizon quiet debts
 
-  -- of its own
+  -- a breach of its own kind
   abbrev Is : Breach → Type 0
   Is breach = IsBreach line base horizon breaks debts breach.kind breach
 
@@ -193,7 +193,7 @@ module _ (line : Line) (base horizon : ℕ) (quiet : IsQuiet line base horizon) 
 
 -- ---- the report
 
--- what is examined is at rest before the base and from the horizon on
+-- the examined line is at rest before the base and from the horizon on
 quiet_examined : (held : List Span) (base horizon : ℕ) → 15780960 ≤ base → base ≤ horizon → horizon ≤ 68374080
     → IsQuiet (examined held base horizon) base horizon
 quiet_examined held base horizon from order until = record {
@@ -204,7 +204,7 @@ quiet_examined held base horizon from order until = record {
   until = until;
 }
 
--- there is a report from a base
+-- there is a report from this base
 pub record HasReport (held : List Span) (base : ℕ) : Type 0 where
   pub horizon : Horizon
   pub breaches : List Breach
@@ -238,7 +238,7 @@ each_report held base ended is early =
       };
     }
 
--- as the law says it
+-- from each base there is a report, in the words of the law
 pub some_report : (held : List Span) (base : ℕ) → All (λ (s : Span). s.past ≤ 68374080) held → IsBase base → base ≤ 68374080
     → (horizon : Horizon) × (found : List Breach) × (debts : List Debt) × IsReport held base horizon found debts
 some_report held base ended is early =

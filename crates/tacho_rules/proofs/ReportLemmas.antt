@@ -1,5 +1,5 @@
--- There is one report of a timeline; it is told by marks; rest alone has none (`laws`).
--- A report is the only one, and where all is rest there is nothing to report.
+-- A timeline has one report, marks determine it, and rest alone has no breaches (`laws`). A report is unique; where all is rest, there is
+-- nothing to report.
 use Rattle.std.proofs.Common.{◌≡◌, ℕ, ◌+◌, ◌-◌, ◌<◌, ◌≤◌, inl, inr, List, [], ◌∷◌, Option}
 use Rattle.std.proofs.Common.{None, Some, true, false, refl, sym, ap, subst, ◌∙◌, arith}
 use Rattle.std.specs.Prelude.{◌&&◌, nat_le, nat_lt, if◌then◌else◌}
@@ -34,7 +34,7 @@ use Rattle.tacho_hours.proofs.DebtsLemmas.{one_debts}
 use Rattle.tacho_rules.specs.Report.{examined, IsReport}
 use Rattle.tacho_rules.proofs.StayingChoiceLemmas.{none_at_rest}
 
--- a minute that stops the examination isn't a single driver's
+-- a minute that ends the examination isn't single
 not_single : (mark : Option Mark) (cause : Cause) → IsCause mark cause → IsSingle mark → ⊥
 not_single None cause stops single = single
 not_single (Some mark) Unknown stops single = cc
@@ -49,7 +49,7 @@ one_cause None Crew Unknown stops stops' = absurd stops
 one_cause (Some mark) Crew Unknown stops stops' = cc
 one_cause mark Crew Crew stops stops' = refl
 
--- a horizon is no later than another
+-- no horizon is later than another one
 no_later : (held : List Span) (base : ℕ) (horizon other : Horizon)
     → IsHorizon held base horizon → IsHorizon held base other → horizon.minute ≤ other.minute
 no_later held base horizon other h h' = elim (cases_lt other.minute horizon.minute) [
@@ -57,7 +57,7 @@ no_later held base horizon other h h' = elim (cases_lt other.minute horizon.minu
   | inr ge ↦ ge
 ]
 
--- a line has one horizon from a base
+-- held spans have one horizon from a base
 one_horizon : (held : List Span) (base : ℕ) (horizon other : Horizon)
     → IsHorizon held base horizon → IsHorizon held base other → horizon ≡ other
 one_horizon held base horizon other h h' =
@@ -70,7 +70,7 @@ one_horizon held base horizon other h h' =
     ap (λ (m : ℕ). record { minute = m; cause = horizon.cause }) same
     ∙ ap (λ (x : Cause). record { minute = other.minute; cause = x }) cause
 
--- a line has one list of breaches, up to a horizon
+-- a line has one list of breaches up to a horizon
 one_found : (held : List Span) (base : ℕ) (horizon : Horizon) (found others : List Breach) (debts : List Debt)
     → IsReport held base horizon found debts → IsReport held base horizon others debts → found ≡ others
 one_found held base horizon found others debts a b =
@@ -86,7 +86,7 @@ one_found held base horizon found others debts a b =
     breaks a.exactly)
     b.exactly
 
--- what is held has one report from a base
+-- held spans have one report from a base
 pub one_report : (held : List Span) (base : ℕ) (horizon other : Horizon)
     (found others : List Breach) (debts owed : List Debt)
     → IsReport held base horizon found debts → IsReport held base other others owed
@@ -131,9 +131,9 @@ empty : {A : Type 0} (xs : List A) → ((x : A) → Contains xs x → ⊥) → x
 empty [] never = refl
 empty (x ∷ xs) never = absurd (never x (0, omega arith, refl))
 
--- a line that is at rest at each minute
+-- a line that is at rest in every minute
 module _ (line : Line) (resting : (m : ℕ) → line m ≡ Rest) where
-  -- a rest run has no start
+  -- each rest run starts at 0
   no_start : (run : Run) → IsRestRun line run → run.start ≡ 0
   no_start run is = elim is.from [
     | inl none ↦ none
@@ -143,19 +143,19 @@ module _ (line : Line) (resting : (m : ℕ) → line m ≡ Rest) where
     ]
   ]
 
-  -- so none is behind another
+  -- so no run is after another
   none_behind : (a b : Run) → IsRestRun line b → Before a b → ⊥
   none_behind a b is before = let s : b.start ≡ 0 = no_start b is in let l : a.past < b.start = before in omega arith
 
-  -- no duty day
+  -- there is no duty day
   no_duty : (day : DutyDay) → IsDuty line day → ⊥
   no_duty day d = none_behind d.last day.rest d.neighbours.second.rests d.neighbours.before
 
-  -- nothing is driven
+  -- there is no driving
   no_drive : (m : ℕ) → line m ≡ Drive → ⊥
   no_drive m drives = let e : Rest ≡ Drive = sym (resting m) ∙ drives in cc
 
-  -- nothing is owed
+  -- there are no debts
   no_debts : (horizon : ℕ) (debts : List Debt) → AreDebts line horizon debts → debts ≡ []
   no_debts horizon debts are = empty debts (λ debt in'.
       let owes : Owes line horizon debt.week debt.amount =
@@ -164,7 +164,7 @@ module _ (line : Line) (resting : (m : ℕ) → line m ≡ Rest) where
       let from : week_start debt.week ≤ owes.main.start = owes.is.candidate.week.0 in
       omega arith)
 
-  -- no breach of any kind
+  -- there is no breach of any kind
   no_breach : (base horizon : ℕ) (runs breaks : List Run) → AreRestRuns line runs → AreCompleteBreaks runs breaks
       → (kind : Kind) (breach : Breach) → IsBreach line base horizon breaks [] kind breach → ⊥
   no_breach base horizon runs breaks are complete B1 breach h =
@@ -181,7 +181,7 @@ module _ (line : Line) (resting : (m : ℕ) → line m ≡ Rest) where
       none_at_rest line resting horizon h.first (h.week + 1) h.fails
   no_breach base horizon runs breaks are complete B10 breach h = let k : h.owed.0 < 0 = h.owed.1 in omega arith
 
--- where nothing but rest is examined, there is nothing to report
+-- if only rest is examined, there is nothing to report
 pub nothing_found : (held : List Span) (base : ℕ) (horizon : Horizon) (found : List Breach) (debts : List Debt)
     → IsReport held base horizon found debts → ((m : ℕ) → examined held base horizon.minute m ≡ Rest)
     → (found ≡ []) × (debts ≡ [])

@@ -1,4 +1,4 @@
--- A line that is at rest before a base and from a horizon on has rest runs, and they have complete breaks.
+-- A line that is at rest before a base and from a horizon on has a list of rest runs, and of complete breaks.
 use Rattle.std.proofs.Common.{◌≡◌, ◌≢◌, ℕ, zero, suc, ◌+◌, ◌<◌, ◌≤◌, ◌⊎◌, inl, inr, List, [], ◌∷◌, ◌++◌, Bool, true}
 use Rattle.std.proofs.Common.{false, refl, sym, ap, subst, ◌∙◌, arith}
 use Rattle.std.specs.Prelude.{IsTrue}
@@ -21,7 +21,7 @@ use Rattle.tacho_rules.proofs.FiniteLemmas.{decide_lt, decide_le, decide_eq, dec
 use Rattle.tacho_rules.proofs.FiniteLemmas.{append_left, append_right, finite_one, finite_as, finite_of, finite_where}
 use Rattle.tacho_rules.proofs.FiniteLemmas.{finite_below, listed}
 
--- at rest before a base and from a horizon on
+-- the line is at rest before a base and from a horizon on
 pub record IsQuiet (line : Line) (base horizon : ℕ) : Type 0 where
   pub before : (m : ℕ) → m < base → line m ≡ Rest
   pub after : (m : ℕ) → horizon ≤ m → line m ≡ Rest
@@ -29,7 +29,7 @@ pub record IsQuiet (line : Line) (base horizon : ℕ) : Type 0 where
   pub order : base ≤ horizon
   pub until : horizon ≤ 68374080
 
--- a run by its ends
+-- a run from its two ends
 abbrev run_of : ℕ → ℕ → Run
 run_of start past = record { start = start; past = past }
 
@@ -115,13 +115,13 @@ module _ (line : Line) (base horizon : ℕ) (quiet : IsQuiet line base horizon) 
   rest_runs = listed (IsRestRun line) Before runs_order
       (λ x y z p q r e f. (let k = q.some in omega (arith, e, f, k))) finite_runs
 
-  -- those of some minutes
+  -- there is a list of the rest runs of at least `least` minutes
   pub finite_rests : (least : ℕ) → IsFinite (IsRestOf line least)
   finite_rests least = finite_as (λ run. IsRestRun line run × (least ≤ minutes_of run)) (IsRestOf line least)
       (λ run. (λ h. record { rests = h.0; enough = h.1 }, λ is. (is.rests, is.enough)))
       (finite_where (IsRestRun line) (λ run. least ≤ minutes_of run) finite_runs (λ run is. decide_le least (minutes_of run)))
 
-  -- two of these with none between
+  -- there is a list of the pairs of neighbours among them
   pub finite_neighbours : (least : ℕ) → IsFinite (λ (p : Run × Run). AreNeighbours line least p.0 p.1)
   finite_neighbours least =
       finite_as
@@ -149,7 +149,7 @@ module _ (line : Line) (base horizon : ℕ) (quiet : IsQuiet line base horizon) 
 
 -- ---- complete breaks
 
--- each of those before is before
+-- in an ordered list, every element before `x` is ordered before it
 front : {A : Type 0} (R : A → A → Type 0) (seen : List A) (x : A) (left : List A) → AllPairs R (seen ++ x ∷ left)
     → (y : A) → Contains seen y → R y x
 front R [] x left order y h = absurd (no_member y h)

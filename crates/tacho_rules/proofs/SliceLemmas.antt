@@ -1,5 +1,4 @@
 -- What a timeline holds from a base to its horizon is an examined line (`examine`).
--- What a line holds from a base to its horizon, as an examined line.
 use Rattle.std.proofs.Common.{◌≡◌, ℕ, zero, suc, ◌-◌, ◌<◌, ◌≤◌, inl, inr, List, [], ◌∷◌}
 use Rattle.std.proofs.Common.{Option, None, Some, false, refl, sym, ap, subst, ◌∙◌, arith}
 use Rattle.std.specs.Option.{option_map_or}
@@ -20,13 +19,13 @@ use Rattle.tacho_hours.proofs.RunsLemmas.{line_before, line_within, line_past}
 use Rattle.tacho_rules.specs.Report.{examined}
 use Rattle.tacho_hours.proofs.DrivingLemmas.{line_behind}
 
--- behind the first span the others give
+-- a minute after the first span is given by the other spans
 given_behind : (s : Span) (spans : List Span) (m : ℕ) (mark : Mark)
     → s.past ≤ m → Gives (s ∷ spans) m mark → Gives spans m mark
 given_behind s spans m mark above (inl covered) = let l : m < s.past = covered.0.1 in absurd (omega arith)
 given_behind s spans m mark above (inr behind) = behind
 
--- spans that give each minute from a base to a past, and no other, follow one another
+-- spans that give exactly the minutes from a base to a past follow one another
 joined_from : (spans : List Span) (base past : ℕ) → IsCanonical spans → base ≤ past
     → ((m : ℕ) (mark : Mark) → Gives spans m mark → (base ≤ m) × (m < past))
     → ((m : ℕ) → base ≤ m → m < past → (mark : Mark) × Gives spans m mark)
@@ -59,7 +58,7 @@ joined_from (s ∷ spans) base past c le within given =
           (mark, given_behind s spans m mark above g)),
     )
 
--- where no minute is given as crew, no span is crew
+-- if no minute is given as crew, no span is crew
 single_from : (spans : List Span) → IsCanonical spans
     → ((m : ℕ) (mark : Mark) → Gives spans m mark → mark.crew ≡ false) → All (λ s. s.mark.crew ≡ false) spans
 single_from [] c single k d within = absurd (omega arith)
@@ -78,7 +77,7 @@ before_end (s ∷ held) last m ended single = elim (cases_lt m s.past) [
       before_end held last m (λ k d within. ended (suc k) d (omega arith)) (subst IsSingle e single)
 ]
 
--- the horizon is no later than what is held
+-- the horizon is at most the end of what is held
 pub early_horizon : (held : List Span) (base : ℕ) (horizon : Horizon) → IsHorizon held base horizon
     → base ≤ 68374080 → All (λ (s : Span). s.past ≤ 68374080) held → horizon.minute ≤ 68374080
 early_horizon held base horizon h early ended = elim (cases_lt base horizon.minute) [
@@ -90,7 +89,7 @@ early_horizon held base horizon h early ended = elim (cases_lt base horizon.minu
   | inr ge ↦ omega arith
 ]
 
--- the line of spans has the mark that they give
+-- the line of the spans has the activities of the marks that they give
 line_given : (spans : List Span) (m : ℕ) (mark : Mark) → IsCanonical spans
     → Gives spans m mark → line_of spans m ≡ mark.activity
 line_given [] m mark c g = absurd g
@@ -108,13 +107,13 @@ marked (Some x) single = (x, refl, single)
 -- the slice of a line from a base to its horizon
 module _ {held spans : List Span} {base : ℕ} {horizon : Horizon} (h : IsHorizon held base horizon)
     (slice : IsCanonicalOf (HoldsWithin held base horizon.minute) spans) where
-  -- each minute has a mark
+  -- each minute from the base to the horizon has a mark
   given : (m : ℕ) → base ≤ m → m < horizon.minute → (mark : Mark) × Gives spans m mark
   given m above below =
       let (mark, is, single) = marked (mark_at held m) (h.single m (above, below)) in
       (mark, (slice.same m mark).1 ((above, below), is))
 
-  -- no hole is between the spans
+  -- there is no gap between the spans
   joined : Joined spans base horizon.minute
   joined = joined_from spans base horizon.minute slice.canonical h.from (λ m mark g. ((slice.same m mark).0 g).0) given
 
@@ -124,7 +123,7 @@ module _ {held spans : List Span} {base : ℕ} {horizon : Horizon} (h : IsHorizo
       let here : HoldsWithin held base horizon.minute m mark = (slice.same m mark).0 g in
       subst IsSingle here.1 (h.single m here.0))
 
-  -- it is an examined line
+  -- the slice is an examined line
   pub slice_examined : {now : List Span} → now ≡ spans → IsBase base → base ≤ 68374080
       → All (λ (s : Span). s.past ≤ 68374080) held → IsExamined now base horizon.minute
   slice_examined same monday early ended =
@@ -138,7 +137,7 @@ module _ {held spans : List Span} {base : ℕ} {horizon : Horizon} (h : IsHorizo
       } in
       subst (λ (xs : List Span). IsExamined xs base horizon.minute) (sym same) is
 
-  -- each minute of it is as examined
+  -- in each minute, the line of the slice is as examined
   as_examined : (m : ℕ) → line_of spans m ≡ examined held base horizon.minute m
   as_examined m = elim (cases_lt m base) [
     | inl before ↦
@@ -158,11 +157,11 @@ module _ {held spans : List Span} {base : ℕ} {horizon : Horizon} (h : IsHorizo
     ]
   ]
 
-  -- its line is the examined one
+  -- the line of the slice is the examined line
   slice_line : line_of spans ≡ examined held base horizon.minute
   slice_line = fun_ext as_examined
 
-  -- what holds of its line holds of the examined one
+  -- a property of the slice's line holds for the examined line
   pub as_line : (P : Line → Type 0) {now : List Span} → now ≡ spans
       → P (line_of now) → P (examined held base horizon.minute)
   as_line P same p = subst P (ap line_of same ∙ slice_line) p

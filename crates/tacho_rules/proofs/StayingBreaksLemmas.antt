@@ -1,4 +1,4 @@
--- Breaches of the rule on breaks stay when a line goes on behind its horizon (`laws::breaches_stay`).
+-- Breaches of the rule on breaks stay when a line continues after its horizon (`laws::breaches_stay`).
 use Rattle.std.proofs.Common.{◌≡◌, ℕ, zero, suc, ◌+◌, ◌<◌, ◌≤◌, inl, inr, List, get_or, refl, arith}
 use Rattle.std.specs.List.{Contains}
 use Rattle.std.proofs.lemmas.List.Elements.{Contains-get_or}
@@ -13,7 +13,7 @@ use Rattle.tacho_hours.specs.Breaches.{IsB1}
 use Rattle.tacho_rules.proofs.StayingLemmas.{GoesOn, run_stays, run_was, last_run, next_there}
 use Rattle.tacho_rules.proofs.StayingHoursLemmas.{HasSame, minute_stays, over_stays}
 
--- what completes a break among some runs does so among others that have the same runs and breaks before it
+-- a run that completes a break among some runs also does among others, if both lists have the same runs and breaks before it
 over : (runs others breaks theirs : List Run) (h : ℕ) (r : Run) → r.start < h
     → ((x : Run) → x.past < h → Contains runs x → Contains others x)
     → ((b : Run) → Contains theirs b → Before b r → Contains breaks b)
@@ -47,7 +47,7 @@ module _ (line other : Line) (h k : ℕ) (g : GoesOn line other h k)
   some_here : (x : Run) → Contains breaks x → x.start < x.past
   some_here x in' = ((are.each x).0 ((complete.each x).0 in').0).some
 
-  -- the breaks that end before the horizon are the same
+  -- both lines have the same breaks that end before the horizon
   same_breaks : (n : ℕ) (r : Run) → r.start < n → r.past < h
       → (Contains breaks r → Contains theirs r) × (Contains theirs r → Contains breaks r)
   same_breaks zero r below ended = (λ in'. absurd (omega arith), λ in'. absurd (omega arith))

@@ -1,5 +1,5 @@
--- Where no choice of weeks serves up to a week, none does when the line goes on behind its horizon, and what was served
--- before that week still is (`laws::breaches_stay`).
+-- If no choice of weeks serves all weeks up to one that has ended, none does when the line continues after its horizon; weeks that were
+-- served before that one still are (`laws::breaches_stay`).
 use Rattle.std.proofs.Common.{◌≡◌, ◌≢◌, ℕ, ◌+◌, ◌-◌, ◌<◌, ◌≤◌, ◌⊎◌, inl, inr, refl, sym, ap, subst, ◌∙◌, arith}
 use Rattle.std.proofs.Common.{cond, leb, ltb, ◌/◌}
 use Rattle.std.proofs.lemmas.Bool.{cases_lt, le-leb, lt-leb, lt-ltb, le-ltb, cond-true, cond-false}
@@ -24,14 +24,14 @@ use Rattle.tacho_rules.proofs.StayingHoursLemmas.{HasSame}
 abbrev first_of : Run → ℕ
 first_of run = (run.start - first_week) / minutes_of_week
 
--- from h on a line is at rest up to x, and not at x, or for ever
+-- the line is at rest from `h` to before `x`; `x` is `FAR`, or the line isn't at rest there
 record RestsOn (line : Line) (h x : ℕ) : Type 0 where
   later : h ≤ x
   rest : (m : ℕ) → h ≤ m → m < x → line m ≡ Rest
   until : (x ≡ FAR) ⊎ (line x ≢ Rest)
   after : (m : ℕ) → FAR ≤ m → line m ≡ Rest
 
--- a run that has the minute before h ends there
+-- a run that has minute `h - 1` ends at `x`
 module _ (line : Line) (h x : ℕ) (on : RestsOn line h x) where
   ends_by : x ≤ FAR
   ends_by = elim on.until [
@@ -64,7 +64,7 @@ module _ (line : Line) (h x : ℕ) (on : RestsOn line h x) where
 abbrev with_end : Run → ℕ → Run
 with_end run past = record { start = run.start; past = past }
 
--- a run that has the minute before h, with another end; any other as it is
+-- a run that reaches `h` gets the end `y`; any other run is unchanged
 abbrev turn : ℕ → ℕ → Run → Run
 turn h y run = with_end run (cond (leb h run.past) y run.past)
 
@@ -76,11 +76,11 @@ long_turn : (h y : ℕ) (run : Run) → h ≤ run.past → turn h y run ≡ with
 long_turn h y run above =
     ap (with_end run) (cond-true (leb h run.past) y run.past (le-leb h run.past above))
 
--- a week if a run ends behind its start, or else the run's first
+-- week `w` if the run ends after the week's start, else the run's first week
 abbrev pick_begun : Run → ℕ → ℕ
 pick_begun run w = cond (ltb (week_start w) run.past) w (first_of run)
 
--- a week if a run touches it, or else its first
+-- week `w` if the run touches it, else the run's first week
 abbrev pick : Run → ℕ → ℕ
 pick run w = cond (ltb run.start (week_start (w + 1))) (pick_begun run w) (first_of run)
 
@@ -110,7 +110,7 @@ picks run w first = elim (cases_lt run.start (week_start (w + 1))) [
       subst (Touches run) (sym e) first
 ]
 
--- a run that ends before h is one of each line that agrees up to h
+-- a run that ends before `h` is a run of each line that agrees before `h`
 run_same : (line other : Line) (h : ℕ) (run : Run) → ((m : ℕ) → m < h → line m ≡ other m) → run.past < h
     → IsRestRun line run → IsRestRun other run
 run_same line other h run agree below is =
@@ -125,10 +125,10 @@ run_same line other h run agree below is =
       until = elim is.until [ inl far ↦ inl far | inr busy ↦ inr (λ r. busy (agree run.past below ∙ r)) ];
     }
 
--- lines that agree below h, and rest from there on up to x and up to y
+-- two lines that agree before `h`, and are at rest from there to before `x` and to before `y`
 module _ (line other : Line) (h x y : ℕ) (agree : (m : ℕ) → m < h → line m ≡ other m)
     (on : RestsOn line h x) (goes : RestsOn other h y) where
-  -- a run of the one is a run of the other, with the end that it has there
+  -- a run of `line` that starts before `h` is a run of `other`, with the end that it has there
   turned : (run : Run) → IsRestRun line run → run.start < h → IsRestRun other (turn h y run)
   turned run is start = elim (cases_lt run.past h) [
     | inl below ↦ subst (IsRestRun other) (sym (short_turn h y run below)) (run_same line other h run agree below is)
@@ -158,7 +158,7 @@ module _ (line other : Line) (h x y : ℕ) (agree : (m : ℕ) → m < h → line
         ∙ ap (with_end run) (sym (ends_at line h x on run is start above)))
   ]
 
-  -- and doesn't end earlier there, or the week after the last one asked for lies in it
+  -- such a run doesn't end earlier in `other`, or it reaches past the week after `u`
   module _ (u : ℕ) (ended : week_start (u + 1) ≤ h) (grows : (x ≤ y) ⊎ (week_start (u + 2) ≤ h)) where
     grown : (run : Run) → IsRestRun line run → run.start < h
         → (run.past ≤ (turn h y run).past) ⊎ (week_start (u + 2) ≤ (turn h y run).past)
@@ -190,7 +190,7 @@ module _ (line other : Line) (h x y : ℕ) (agree : (m : ℕ) → m < h → line
     )
 
     module _ (week_of : Run → ℕ) (choice : IsChoice line week_of) where
-      -- each rest is counted as the one with its start, if it can be
+      -- in `other`, each rest is counted in the week of the run with its start in `line`, if it touches that week
       abbrev now : Run → ℕ
       now run = pick run (week_of (turn h x run))
 
@@ -209,7 +209,7 @@ module _ (line other : Line) (h x y : ℕ) (agree : (m : ℕ) → m < h → line
             picks run (week_of (turn h x run)) (omega arith, omega arith)
       ]
 
-      -- what is counted in a week up to u is counted in it there
+      -- what is counted in a week up to `u` in `line` is counted in that week in `other`
       module _ (run : Run) (is : IsWeeklyRest line run) (w : ℕ) (le : w ≤ u) (at : week_of run ≡ w) where
         touched : Touches run w
         touched = subst (Touches run) at (choice run is)
@@ -261,7 +261,7 @@ module _ (line other : Line) (h x y : ℕ) (agree : (m : ℕ) → m < h → line
               other_counted = pair_on two.other two.weekly two.other_counted;
             }))
 
-    -- what serves the weeks up to u of the one serves those of the other
+    -- if the weeks up to `u` can be served in `line`, they can be in `other`
     serves_there : (a : ℕ) → CanServe line a u → CanServe other a u
     serves_there a s = record {
       week_of = now s.week_of s.choice;
@@ -295,13 +295,13 @@ module _ (line other : Line) (h k : ℕ) (g : GoesOn line other h k) where
         },
       )
 
-  -- weeks that have ended and can't be served, can't be however the line goes on: rests only grow shorter
+  -- ended weeks that can't be served can't be served however the line continues: rests only become shorter
   serves_back : (a u : ℕ) → EndedBy h u → CanServe other a u → CanServe line a u
   serves_back a u ended =
       serves_there other line h theirs.0 FAR (λ m below. sym (g.agree m below)) theirs.1 ours u ended
       (inl (ends_by other h theirs.0 theirs.1)) a
 
-  -- weeks that can be served before one that has ended, can be then: a rest that has that one is long in both
+  -- weeks before an ended week that can be served stay so: a rest that reaches the ended week is long enough in both lines
   serves_further : (a u : ℕ) → EndedBy h (u + 1) → CanServe line a u → CanServe other a u
   serves_further a u ended =
       let next : week_start (u + 1 + 1) ≤ h = ended in
@@ -319,12 +319,12 @@ module _ (line other : Line) (h k : ℕ) (g : GoesOn line other h k) where
         before = λ v above under. serves_further a v (omega arith) (f.before v above under);
       }
 
-  -- a week at which the rule is broken is one of the other line
+  -- a week at which the rule is broken in `line` is one in `other`
   fails_stay : (first u : ℕ) → Fails (CanServe line) (EndedBy h) first u → Fails (CanServe other) (EndedBy k) first u
   fails_stay first u (at_first f) = at_first (fails_from first u f)
   fails_stay first u (anew {a = a} before f) = anew (fails_stay first a before) (fails_from a u f)
 
-  -- a week up to which no choice serves
+  -- a B9 breach stays
   pub b9_stays : (base : ℕ) (breach : Breach) → IsB9 line base h breach
       → HasSame (λ b. (b.kind ≡ B9) × IsB9 other base k b) (record breach { kind = B9 })
   b9_stays base breach is = (
@@ -344,7 +344,7 @@ module _ (line other : Line) (h k : ℕ) (g : GoesOn line other h k) where
     record { moment = refl; kind = refl; since = refl },
   )
 
--- a line at rest alone is served
+-- in a line that is always at rest, all weeks can be served
 served_at_rest : (line : Line) → ((m : ℕ) → line m ≡ Rest) → (a u : ℕ) → CanServe line a u
 served_at_rest line rest a u = record {
   week_of = first_of;
@@ -361,7 +361,7 @@ served_at_rest line rest a u = record {
   each = λ w above below. inl (λ m within. rest m);
 }
 
--- and so the rule is never broken there
+-- so the rule is never broken there
 pub none_at_rest : (line : Line) → ((m : ℕ) → line m ≡ Rest) → (h first u : ℕ)
     → Fails (CanServe line) (EndedBy h) first u → ⊥
 none_at_rest line rest h first u (at_first f) = f.none (served_at_rest line rest first u)

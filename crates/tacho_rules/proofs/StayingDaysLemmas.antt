@@ -1,4 +1,4 @@
--- Breaches of the rules on days stay when a line goes on behind its horizon (`laws::breaches_stay`).
+-- Breaches of the rules on days stay when a line continues after its horizon (`laws::breaches_stay`).
 use Rattle.std.proofs.Common.{◌≡◌, ℕ, ◌+◌, ◌-◌, ◌<◌, ◌≤◌, inl, inr, List, map, length, get_or, min}
 use Rattle.std.proofs.Common.{refl, sym, ap, subst, ◌∙◌, arith, nat_eq, if◌then◌else◌}
 use Rattle.std.specs.List.{Contains}
@@ -26,7 +26,7 @@ use Rattle.tacho_rules.proofs.StayingLemmas.{GoesOn, ending}
 use Rattle.tacho_rules.proofs.StayingHoursLemmas.{HasSame, driving_same, starts_by, over_stays, ends_too}
 use Rattle.tacho_rules.proofs.StayingHoursLemmas.{neighbours_stay, neighbours_were, rest_stays, rest_was}
 
--- a day is known by its start and its rest
+-- a duty day with this rest is the same day
 same_day : (day : DutyDay) (next : Run) → next ≡ day.rest → day.past ≡ day.rest.start
     → record { start = day.start; past = next.start; rest = next } ≡ day
 same_day day next e f =
@@ -34,14 +34,14 @@ same_day day next e f =
     let with_past : ℕ → DutyDay = λ p. record { start = day.start; past = p; rest = day.rest } in
     ap with_rest e ∙ ap with_past (sym f)
 
--- days with one start and one rest are one
+-- days with the same start and the same rest are equal
 day_is : (a b : DutyDay) → a.start ≡ b.start → a.rest ≡ b.rest → a.past ≡ a.rest.start → b.past ≡ b.rest.start → a ≡ b
 day_is a b e r f f' =
     let with_start : ℕ → DutyDay = λ s. record { start = s; past = a.past; rest = a.rest } in
     let with_past : ℕ → DutyDay = λ p. record { start = b.start; past = p; rest = a.rest } in
     ap with_start e ∙ (ap with_past f ∙ same_day b a.rest r f')
 
--- what a list of things has, when each is replaced by another
+-- a list in which each element is replaced by another
 module _ {A : Type 0} (f : A → A) where
   contains_map : (xs : List A) (x : A) → Contains xs x → Contains (map f xs) (f x)
   contains_map xs x (i, within, e) =
@@ -54,7 +54,7 @@ module _ {A : Type 0} (f : A → A) where
       let x : A = get_or xs i y in
       (x, (i, omega arith, get_or_default xs i x y (omega arith)), sym (get_or-map f xs i y y (omega arith)) ∙ e)
 
-  -- and how many it has
+  -- how many elements there are stays the same
   so_many_map : (P Q : A → Type 0) (R : A → A → Type 0) (n : ℕ) → ((x : A) → P x → Q (f x))
       → ((y : A) → Q y → (x : A) × P x × (f x ≡ y)) → ((x y : A) → P x → P y → R x y → R (f x) (f y))
       → AreSoMany P R n → AreSoMany Q R n
@@ -82,7 +82,7 @@ module _ {A : Type 0} (f : A → A) where
 
 module _ (line other : Line) (h k : ℕ) (g : GoesOn line other h k)
     (mine theirs : List Run) (are_mine : AreRestRuns line mine) (are : AreRestRuns other theirs) where
-  -- a duty day stays, with a rest that starts no sooner
+  -- a duty day stays, with a rest that starts no earlier
   duty_stays : (day : DutyDay) → IsDuty line day
       → (next : DutyDay) × IsDuty other next × (next.start ≡ day.start) × (day.past ≤ next.past)
       × (day.rest.past < h → next ≡ day)
@@ -106,12 +106,12 @@ module _ (line other : Line) (h k : ℕ) (g : GoesOn line other h k)
     past = duty.past;
   }
 
-  -- one with a rest that ends before the horizon
+  -- a duty day whose rest ends before the horizon stays as it is
   same_duty : (day : DutyDay) → IsDuty line day → day.rest.past < h → IsDuty other day
   same_duty day duty ended =
       let (next, is, s, l, same) = duty_stays day duty in subst (λ (d : DutyDay). IsDuty other d) (same ended) is
 
-  -- a daily rest that is too short stays so
+  -- a daily rest that is too short stays too short
   pub b2_stays : (breach : Breach) → IsB2 line breach
       → HasSame (λ b. (b.kind ≡ B2) × IsB2 other b) (record breach { kind = B2 })
   b2_stays breach is =
@@ -152,7 +152,7 @@ module _ (line other : Line) (h k : ℕ) (g : GoesOn line other h k)
         record { moment = refl; kind = refl; since = refl },
       )
 
-  -- more than ten hours of driving
+  -- a day with more than ten hours of driving stays one
   pub b4_stays : (breach : Breach) → IsB4 line breach
       → HasSame (λ b. (b.kind ≡ B4) × IsB4 other b) (record breach { kind = B4 })
   b4_stays breach is =
@@ -173,7 +173,7 @@ module _ (line other : Line) (h k : ℕ) (g : GoesOn line other h k)
         record { moment = refl; kind = refl; since = refl },
       )
 
-  -- a regular daily rest
+  -- a regular daily rest stays regular
   regular_stays : (day : DutyDay) → day.past ≤ h → IsRegular line day → IsRegular other day
   regular_stays day early r = elim r [
     | inl eleven ↦ inl eleven
@@ -251,7 +251,7 @@ module _ (line other : Line) (h k : ℕ) (g : GoesOn line other h k)
         short = r.short;
       }
 
-  -- the fourth reduced daily rest
+  -- the fourth reduced daily rest stays
   pub b3_stays : (breach : Breach) → IsB3 line breach
       → HasSame (λ b. (b.kind ≡ B3) × IsB3 other b) (record breach { kind = B3 })
   b3_stays breach is =
@@ -290,7 +290,7 @@ module _ (line other : Line) (h k : ℕ) (g : GoesOn line other h k)
         record { moment = refl; kind = refl; since = refl },
       )
 
-  -- duty days with one start are one
+  -- duty days with the same start are equal
   one_day : (l : Line) (runs : List Run) → AreRestRuns l runs → (a b : DutyDay)
       → IsDuty l a → IsDuty l b → a.start ≡ b.start → a.rest ≡ b.rest
   one_day l runs all a b is_a is_b e = elim (cases_lt a.rest.start b.rest.start) [
@@ -380,7 +380,7 @@ module _ (line other : Line) (h k : ℕ) (g : GoesOn line other h k)
       let over : driving_in_day < driving other day.start day.past = x.over in
       record { duty = duty_was day x.duty ended; week = x.week; over = omega (arith, same, over) }
 
-  -- the third extended day of a week
+  -- the third extended day of a week stays
   pub b5_stays : (breach : Breach) → IsB5 line breach
       → HasSame (λ b. (b.kind ≡ B5) × IsB5 other b) (record breach { kind = B5 })
   b5_stays breach is =

@@ -1,4 +1,4 @@
--- Driving minutes and rests of some length stay when a line goes on behind its horizon (`laws::breaches_stay`).
+-- Driving minutes and rests of at least some length stay when a line continues after its horizon (`laws::breaches_stay`).
 use Rattle.std.proofs.Common.{◌≡◌, ℕ, zero, suc, ◌+◌, ◌-◌, ◌<◌, ◌≤◌, ◌↔◌, ◌&&◌, inl, inr, List, nat_le}
 use Rattle.std.proofs.Common.{refl, sym, ap, ap₂, ◌∙◌, arith, if◌then◌else◌}
 use Rattle.std.specs.List.{Contains}
@@ -18,11 +18,11 @@ use Rattle.tacho_hours.proofs.RunsLemmas.{rest_runs_are}
 use Rattle.tacho_hours.proofs.ByRunsLemmas.{one_run}
 use Rattle.tacho_rules.proofs.StayingLemmas.{GoesOn, run_stays, run_was, last_run, next_there}
 
--- a breach of a sort at the same place in the order
+-- a breach that satisfies `P`, at the same place in the order
 abbrev pub HasSame : (Breach → Type 0) → Breach → Type 0
 HasSame P breach = (same : Breach) × P same × Agree breach same
 
--- lines that agree before a minute drive as much up to it
+-- lines that agree before a minute have the same driving up to it
 pub driving_same : (line other : Line) (h : ℕ) → ((m : ℕ) → m < h → line m ≡ other m)
     → (from m : ℕ) → m ≤ h → driving line from m ≡ driving other from m
 unfolding driving
@@ -31,7 +31,7 @@ driving_same line other h agree from (suc m) le =
     ap₂ (λ (n : ℕ) (a : Activity). n + (if nat_le from m && is_drive a then 1 else 0))
     (driving_same line other h agree from m (omega arith)) (agree m (omega arith))
 
--- behind the horizon no run of a line starts
+-- no run starts after the horizon
 pub starts_by : (line : Line) (h : ℕ) → ((m : ℕ) → h ≤ m → line m ≡ Rest) → (run : Run) → IsRestRun line run
     → run.start ≤ h
 starts_by line h rest run is = elim is.from [
@@ -61,7 +61,7 @@ module _ (line other : Line) (h k : ℕ) (g : GoesOn line other h k) where
         earlier = omega (arith, same, at);
       }
 
-  -- and too much driving stays too much, from the same minute on
+  -- too much driving stays too much, from the same minute on
   pub over_stays : (limit from to past : ℕ) (breach : Breach) → to ≤ past → IsOver line limit from to breach
       → (n : ℕ) × IsExcess other limit from past breach.moment n
   over_stays limit from to past breach le is =
@@ -71,7 +71,7 @@ module _ (line other : Line) (h k : ℕ) (g : GoesOn line other h k) where
       (driving other from past - limit, record { moment = m; amount = omega (arith, r) })
 
   module _ (runs : List Run) (are : AreRestRuns other runs) where
-    -- one that starts no later than a run of the line, which ends before the horizon, ends before it too
+    -- a run of `other` that starts no later than a run of `line` that ends before the horizon ends before it too
     pub ends_too : (a b : Run) → IsRestRun line a → a.past < h → IsRestRun other b → b.start ≤ a.start → b.past < h
     ends_too a b is ended is_b le =
         let is_a : IsRestRun other a = run_stays line other h k g a is ended in
@@ -100,7 +100,7 @@ module _ (line other : Line) (h k : ℕ) (g : GoesOn line other h k) where
       rest_in : (r : Run) → IsRestOf other least r ↔ (Contains runs r × (least ≤ minutes_of r))
       rest_in r = (λ is. ((are.each r).1 is.rests, is.enough), λ c. record { rests = (are.each r).0 c.0; enough = c.1 })
 
-      -- the next rest of so many minutes comes no sooner, and is the same where that has an end
+      -- the next rest of at least `least` minutes comes no earlier, and is the same if it ends before the horizon
       pub neighbours_stay : (a b : Run) → AreNeighbours line least a b
           → (next : Run) × AreNeighbours other least a next × (b.start ≤ next.start) × (b.past < h → next ≡ b)
       neighbours_stay a b n =
@@ -113,7 +113,7 @@ module _ (line other : Line) (h k : ℕ) (g : GoesOn line other h k) where
           n.first n.second n.before n.between in
           (next, record { first = first; second = is.is; before = is.before; between = is.between }, is.later, is.same)
 
-      -- neighbours of the other line that end before the horizon are neighbours
+      -- neighbours of `other` that end before the horizon are neighbours of `line`
       pub neighbours_were : (a b : Run) → AreNeighbours other least a b → b.past < h → AreNeighbours line least a b
       neighbours_were a b n ended =
           let before : a.past < b.start = n.before in

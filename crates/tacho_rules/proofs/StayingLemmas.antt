@@ -1,4 +1,4 @@
--- What is known of rest runs stays when a line goes on behind its horizon (`laws::breaches_stay`).
+-- Facts about rest runs stay when a line continues after its horizon (`laws::breaches_stay`).
 use Rattle.std.proofs.Common.{◌≡◌, ◌≢◌, ℕ, suc, ◌-◌, ◌<◌, ◌≤◌, ◌⊎◌, ◌↔◌, inl, inr, List, [], ◌∷◌}
 use Rattle.std.proofs.Common.{refl, sym, ap, subst, ◌∙◌, arith}
 use Rattle.std.specs.List.{All, AllPairs, Contains}
@@ -13,7 +13,7 @@ use Rattle.tacho_hours.proofs.ExactlyLemmas.{head_first, tail_order, contains_he
 use Rattle.tacho_hours.proofs.DebtsLemmas.{separate}
 use Rattle.tacho_hours.proofs.CoveringLemmas.{Covers, covered}
 
--- one line is at rest from its horizon h on, and another, at rest from k on, agrees with it before h
+-- `line` is at rest from its horizon `h` on; `other` is at rest from `k` on, and agrees with `line` before `h`
 pub record GoesOn (line other : Line) (h k : ℕ) : Type 0 where
   pub agree : (m : ℕ) → m < h → line m ≡ other m
   pub rest : (m : ℕ) → h ≤ m → line m ≡ Rest
@@ -21,19 +21,19 @@ pub record GoesOn (line other : Line) (h k : ℕ) : Type 0 where
   pub later : h ≤ k
   pub early : k ≤ latest
 
--- the first run of so many minutes behind a run
+-- the first run after `a` that has at least `least` minutes
 pub record IsFirstBehind (xs : List Run) (least : ℕ) (a first : Run) : Type 0 where
   pub among : Contains xs first
   pub enough : least ≤ minutes_of first
   pub behind : Before a first
   pub none : (c : Run) → Contains xs c → least ≤ minutes_of c → Before a c → Before c first → ⊥
 
--- and there is none
+-- there is no such run
 pub NoneBehind : List Run → ℕ → Run → Type 0
 NoneBehind xs least a = (c : Run) → Contains xs c → least ≤ minutes_of c → Before a c → ⊥
 
 module _ (least : ℕ) (a : Run) where
-  -- behind a run that isn't such a one
+  -- if `x` is not such a run, the first one is among the later runs
   later_first : (x : Run) (xs : List Run) → AllPairs Before (x ∷ xs) → (least ≤ minutes_of x → Before a x → ⊥)
       → ((first : Run) × IsFirstBehind xs least a first) ⊎ NoneBehind xs least a
       → ((first : Run) × IsFirstBehind (x ∷ xs) least a first) ⊎ NoneBehind (x ∷ xs) least a
@@ -79,7 +79,7 @@ module _ (least : ℕ) (a : Run) where
     ];
   }
 
-  -- there is a first one, or none
+  -- there is a first such run, or none
   pub first_behind : (xs : List Run) → All (λ (run : Run). run.start < run.past) xs → AllPairs Before xs
       → ((first : Run) × IsFirstBehind xs least a first) ⊎ NoneBehind xs least a
   unfolding NoneBehind
@@ -98,7 +98,7 @@ module _ (least : ℕ) (a : Run) where
       ]
 
 module _ (line other : Line) (h k : ℕ) (g : GoesOn line other h k) where
-  -- a run of the line ends before the horizon, or has no end
+  -- a run of `line` ends before the horizon, or has no end
   pub ending : (run : Run) → IsRestRun line run → (run.past ≡ FAR) ⊎ (run.past < h)
   ending run is = elim is.until [
     | inl far ↦ inl far
@@ -108,7 +108,7 @@ module _ (line other : Line) (h k : ℕ) (g : GoesOn line other h k) where
     ]
   ]
 
-  -- one that ends before it is one of the other line
+  -- a run of `line` that ends before the horizon is a run of `other`
   pub run_stays : (run : Run) → IsRestRun line run → run.past < h → IsRestRun other run
   run_stays run is below =
       let some : run.start < run.past = is.some in
@@ -127,7 +127,7 @@ module _ (line other : Line) (h k : ℕ) (g : GoesOn line other h k) where
         ];
       }
 
-  -- and the other way
+  -- a run of `other` that ends before the horizon is a run of `line`
   pub run_was : (run : Run) → IsRestRun other run → run.past < h → IsRestRun line run
   run_was run is below =
       let some : run.start < run.past = is.some in
@@ -146,7 +146,7 @@ module _ (line other : Line) (h k : ℕ) (g : GoesOn line other h k) where
         ];
       }
 
-  -- the other line has a last run, without an end
+  -- `other` has a last run, which has no end
   pub last_run : (last : Run) × IsRestRun other last × (last.past ≡ FAR) × (last.start ≤ k)
   last_run =
       let early : k ≤ latest = g.early in
@@ -157,7 +157,7 @@ module _ (line other : Line) (h k : ℕ) (g : GoesOn line other h k) where
       ] in
       (c.run, c.rests, far, c.from)
 
-  -- it comes behind each run of the line that has an end
+  -- it comes after each run of `line` that has an end
   pub last_behind : (a last : Run) → IsRestRun line a → a.past < h → IsRestRun other last → last.past ≡ FAR
       → Before a last
   last_behind a last is below is_last far =
@@ -173,7 +173,7 @@ module _ (line other : Line) (h k : ℕ) (g : GoesOn line other h k) where
         ])
       ]
 
-  -- a run of the other line that starts before one of the line's is one of the line's, and ends before it
+  -- a run of `other` that starts before a run of `line` ends before the horizon, and is ordered before that run
   pub sooner_was : (b c : Run) → IsRestRun line b → IsRestRun other c → c.start < b.start
       → (c.past < h) × Before c b
   sooner_was b c is is_c sooner = elim is.from [
@@ -194,14 +194,14 @@ module _ (line other : Line) (h k : ℕ) (g : GoesOn line other h k) where
         ]
   ]
 
-  -- runs of a sort in the one line and in the other
+  -- runs of one sort: `S` in `line`, `T` in `other`
   module _ (S T : Run → Type 0) (s_rests : (r : Run) → S r → IsRestRun line r) (t_rests : (r : Run) → T r
       → IsRestRun other r)
       (stays : (r : Run) → S r → r.past < h → T r) (was : (r : Run) → T r → r.past < h → S r)
       (xs : List Run) (are : AreRuns xs) (least : ℕ)
       (all : (r : Run) → T r ↔ (Contains xs r × (least ≤ minutes_of r)))
       (last : Run) (is_last : T last) (far : last.past ≡ FAR) where
-    -- what comes next in the other line: no sooner, and the same where that has an end
+    -- the next run in `other`: it comes no earlier than `b`, and is `b` if that ends before the horizon
     pub record IsNextThere (a b next : Run) : Type 0 where
       pub is : T next
       pub before : Before a next

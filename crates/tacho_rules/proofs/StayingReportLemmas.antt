@@ -1,4 +1,4 @@
--- The breaches of a report stay when the line goes on behind its horizon (`laws::breaches_stay`).
+-- The breaches of a report stay when the line continues after its horizon (`laws::breaches_stay`).
 use Rattle.std.proofs.Common.{◌≡◌, ◌≢◌, ℕ, ◌<◌, ◌≤◌, inl, inr, List}
 use Rattle.std.proofs.Common.{refl, sym, ap, subst, ◌∙◌, arith, Option}
 use Rattle.std.specs.Option.{option_map_or}
@@ -30,11 +30,11 @@ use Rattle.tacho_rules.proofs.StayingDaysLemmas.{b2_stays, b3_stays, b4_stays, b
 use Rattle.tacho_rules.proofs.StayingWeeksLemmas.{b6_stays, b7_stays, b8_stays}
 use Rattle.tacho_rules.proofs.StayingChoiceLemmas.{b9_stays}
 
--- behind its horizon an examined line is at rest
+-- from its horizon on, an examined line is at rest
 rests_behind : (held : List Span) (base h m : ℕ) → h ≤ m → examined held base h m ≡ Rest
 rests_behind held base h m behind = grind (arith, nat_tests)
 
--- lines whose marks agree before the horizon of one of them agree there
+-- if two lists of spans hold the same marks before the horizon of the first, the examined lines agree there
 agree_before : (held more : List Span) (base h k : ℕ) → h ≤ k
     → ((m : ℕ) → base ≤ m → m < h → mark_at held m ≡ mark_at more m)
     → (m : ℕ) → m < h → examined held base h m ≡ examined more base k m
@@ -51,11 +51,11 @@ module _ (line other : Line) (base h k : ℕ) (g : GoesOn line other h k)
     (runs theirs breaks others : List Run) (debts owed : List Debt)
     (are : AreRestRuns line runs) (are_there : AreRestRuns other theirs)
     (complete : AreCompleteBreaks runs breaks) (complete_there : AreCompleteBreaks theirs others) where
-  -- a breach of the other line at the same place
+  -- `other` has such a breach at the same place
   Stays : Breach → Type 0
   Stays breach = HasSame (λ b. IsBreach other base k others owed b.kind b) breach
 
-  -- said of a kind
+  -- a property of a breach's kind, for an equal kind
   said : (breach : Breach) (kind : Kind) → breach.kind ≡ kind → (P : Breach → Type 0)
       → ((b : Breach) → (b.kind ≡ kind) → P b → IsBreach other base k others owed kind b)
       → HasSame (λ b. (b.kind ≡ kind) × P b) (record breach { kind = kind }) → Stays breach
@@ -90,7 +90,7 @@ module _ (line other : Line) (base h k : ℕ) (g : GoesOn line other h k)
   unfolding Stays
   stays breach not is = stays_by breach breach.kind refl not is
 
--- each breach of a report but those of debts is one of the report of a line that goes on
+-- each breach of a report, except those of debts, is in the report of a line that continues
 pub breaches_stay : (held more : List Span) (base : ℕ) (horizon later : Horizon) (found others : List Breach)
     (debts owed : List Debt)
     → IsReport held base horizon found debts → IsReport more base later others owed

@@ -1,5 +1,4 @@
--- Breaches of the rules on weeks and on late weekly rests stay when a line goes on behind its horizon
--- (`laws::breaches_stay`).
+-- Breaches of the rules on weeks and on late weekly rests stay when a line continues after its horizon (`laws::breaches_stay`).
 use Rattle.std.proofs.Common.{◌≡◌, ℕ, ◌+◌, ◌-◌, ◌<◌, List, refl, arith}
 use Rattle.tacho_hours.specs.declared.run.Run.{Run}
 use Rattle.tacho_hours.specs.declared.breach.Breach.{Breach}
@@ -13,7 +12,7 @@ use Rattle.tacho_rules.proofs.StayingLemmas.{GoesOn}
 use Rattle.tacho_rules.proofs.StayingHoursLemmas.{HasSame, over_stays, neighbours_stay}
 
 module _ (line other : Line) (h k : ℕ) (g : GoesOn line other h k) where
-  -- too much driving in a week
+  -- too much driving in a week stays
   pub b6_stays : (breach : Breach) → IsB6 line breach
       → HasSame (λ b. (b.kind ≡ B6) × IsB6 other b) (record breach { kind = B6 })
   b6_stays breach is =
@@ -25,7 +24,7 @@ module _ (line other : Line) (h k : ℕ) (g : GoesOn line other h k) where
         record { moment = refl; kind = refl; since = refl },
       )
 
-  -- and in two
+  -- too much driving in two weeks stays
   pub b7_stays : (breach : Breach) → IsB7 line breach
       → HasSame (λ b. (b.kind ≡ B7) × IsB7 other b) (record breach { kind = B7 })
   b7_stays breach is =
@@ -38,7 +37,7 @@ module _ (line other : Line) (h k : ℕ) (g : GoesOn line other h k) where
       )
 
   module _ (theirs : List Run) (are : AreRestRuns other theirs) where
-    -- a weekly rest that starts too late
+    -- a weekly rest that starts too late stays one
     pub b8_stays : (breach : Breach) → IsB8 line breach
         → HasSame (λ b. (b.kind ≡ B8) × IsB8 other b) (record breach { kind = B8 })
     b8_stays breach is =

@@ -1,5 +1,5 @@
--- Trusted: The report of what is held, from a base on: what Regulation (EC) 561/2006 says of it in Articles 6,
--- 7 and 8, and where the examination ends.
+-- Trusted: The report of what is held, from a base on: the breaches and debts by Articles 6, 7 and 8 of Regulation (EC) 561/2006, and where
+-- the examination ends.
 use Rattle.std.specs.Prelude.{ℕ, ◌&&◌, nat_le, nat_lt, if◌then◌else◌, List}
 use Rattle.std.specs.Option.{option_map_or}
 use Rattle.tacho_time.specs.declared.span.Activity.TheVariants.{Rest}
@@ -16,12 +16,12 @@ use Rattle.tacho_hours.specs.Debts.{AreDebts}
 use Rattle.tacho_hours.specs.Breaches.{IsBreach}
 use Rattle.tacho_hours.specs.Order.{AreBreaches}
 
--- the examined line: what is held from the base to before the horizon, and rest at every other minute
+-- the examined line: what is held from the base to before the horizon, and rest in every other minute
 abbrev pub examined : List Span → ℕ → ℕ → Line
 examined held base horizon m =
     if nat_le base m && nat_lt m horizon then option_map_or (λ mark. mark.activity) (mark_at held m) Rest else Rest
 
--- the horizon, every breach once and in order, and the debts: there is one report
+-- a report has the horizon, every breach once and in order, and the debts; there is exactly one
 pub record IsReport (held : List Span) (base : ℕ) (horizon : Horizon)
     (found : List Breach) (debts : List Debt) : Type 0 where
   pub is_horizon : IsHorizon held base horizon

@@ -11,8 +11,8 @@ use tacho_line::Line;
 use tacho_pass::Found;
 use tacho_time::{Minute, first_minute, week_of};
 
-/// Whether a timeline can be examined from a base on: that is the first minute of a Monday from 2000-01-03 to the end of
-/// 2099, and no span goes past that end. Minutes are those of UTC.
+/// True if a timeline can be examined from a base: the base is the first minute of a Monday from 2000-01-03 to the end of 2099, and no span
+/// goes past that end. Minutes are in UTC.
 pub fn can_be_examined(line: &Line, base: Minute) -> bool
     ensures monday { IsTrue result → IsBase base }
     ensures early { IsTrue result → base ≤ latest }
@@ -25,9 +25,8 @@ pub fn can_be_examined(line: &Line, base: Minute) -> bool
         && line.spans().iter().all(|span| span.past.number() <= LATEST)
 }
 
-/// The report of a timeline from a base, the first minute of a Monday, to its horizon: every breach of the rules on
-/// driving and rest hours (Articles 6, 7 and 8 of Regulation (EC) 561/2006) once, and every debt. Minutes are those of
-/// UTC.
+/// Returns the report of a timeline from a base, the first minute of a Monday, to its horizon: every breach of the rules on driving and
+/// rest hours (Articles 6, 7 and 8 of Regulation (EC) 561/2006) once, and every debt. Minutes are in UTC.
 pub fn examine(alloc: Global, line: &Line, base: Minute) -> Result<Report, AllocError>
     requires monday { IsBase base }
     requires early { base ≤ latest }

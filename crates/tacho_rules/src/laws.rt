@@ -1,4 +1,4 @@
-//! Laws about reports and passes. A law is a function without a body: what it ensures is proved, and holds for all that it names.
+//! Laws about reports and passes. A law is a function without a body: what it ensures is proved for all values of its variables.
 
 ghost use Rattle.std.specs.Prelude.{◌≡◌, ◌≢◌, ◌<◌, ◌≤◌, ℕ, List, [], All, Contains, true, false};
 ghost use Rattle.tacho_time.specs.declared.span.Activity.TheVariants.{Rest};
@@ -24,7 +24,7 @@ pub use tacho_choice::laws::{choices_reach, each_week_has_its_rests};
 pub use tacho_hours::laws::paid_by_runs;
 pub use tacho_rests::laws::examined_line_is_in_weeks;
 
-/// What is held has one report from a base.
+/// Held spans have one report from a base.
 pub fn one_report()
     ensures { (held : List Stretch) (base : ℕ) (horizon other : HorizonValue) (found others : List BreachValue)
         (debts owed : List DebtValue)
@@ -32,14 +32,14 @@ pub fn one_report()
         → (horizon ≡ other) × (found ≡ others) × (debts ≡ owed) }
 {}
 
-/// What is held has a report from each base.
+/// Held spans have a report from each base.
 pub fn each_line_has_a_report()
     ensures { (held : List Stretch) (base : ℕ) → All (λ span. span.past ≤ latest) held → IsBase base → base ≤ latest
         → (horizon : HorizonValue) × (found : List BreachValue) × (debts : List DebtValue)
         × IsReport held base horizon found debts }
 {}
 
-/// A report is told by the mark of each minute: other spans that hold the same marks have it too.
+/// The mark of each minute determines a report: other spans that hold the same marks have the same report.
 pub fn report_by_marks()
     ensures { (held other : List Stretch) (base : ℕ) (horizon : HorizonValue) (found : List BreachValue)
         (debts : List DebtValue)
@@ -47,7 +47,7 @@ pub fn report_by_marks()
         → IsReport held base horizon found debts → IsReport other base horizon found debts }
 {}
 
-/// Where nothing but rest is examined, the report has neither a breach nor a debt.
+/// If only rest is examined, the report has no breach and no debt.
 pub fn rest_alone_is_no_breach()
     ensures { (held : List Stretch) (base : ℕ) (horizon : HorizonValue) (found : List BreachValue)
         (debts : List DebtValue)
@@ -55,9 +55,8 @@ pub fn rest_alone_is_no_breach()
         → (found ≡ []) × (debts ≡ []) }
 {}
 
-/// What is held behind the horizon takes no breach away but those of debts: where more is held from then on, each other
-/// breach of the report stays, of the same kind, at the same moment and since the same minute. Its amount may change,
-/// and a debt may find a payer.
+/// What is held after the horizon doesn't remove breaches other than those of debts. If more is held from then on, each other breach stays,
+/// with the same kind, moment and since. Its amount may change, and a debt may find a payer.
 pub fn breaches_stay()
     ensures { (held more : List Stretch) (base : ℕ) (horizon later : HorizonValue) (found others : List BreachValue)
         (debts owed : List DebtValue)
@@ -96,9 +95,9 @@ pub fn week_sums_as_defined()
         → ⟦<WeekSums as Pass>⟧.defined own owed base horizon spans → WeekSumsDefined own owed base horizon spans }
 {}
 
-/// `WeekRests` finds weekly rests that start too late, B8 (Article 8(6)), weeks that lack weekly rests, B9 (Articles 8(6)
-/// and 8(9)), and reduced weekly rests that nothing compensates in time, B10 (Article 8(6b)): each such breach once, and
-/// no other. It finds every debt, the compensated ones too.
+/// `WeekRests` finds weekly rests that start too late, B8 (Article 8(6)), weeks that lack weekly rests, B9 (Articles 8(6) and 8(9)), and
+/// reduced weekly rests that nothing compensates in time, B10 (Article 8(6b)): each such breach once, and no other. It finds every debt,
+/// including those that are compensated.
 pub fn week_rests_as_defined()
     ensures own { (kind : KindValue) → ⟦<WeekRests as Pass>⟧.own kind ≡ is_b8_to_b10 kind }
     ensures owes { ⟦<WeekRests as Pass>⟧.owes ≡ true }

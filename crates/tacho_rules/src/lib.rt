@@ -1,4 +1,4 @@
-//! The breaches of the rules on driving and rest hours, and the rests that are owed.
+//! The breaches of the rules on driving and rest hours, and the debts for reduced weekly rests.
 #![tactic(auto)]
 
 mod examination;

@@ -1,13 +1,13 @@
 use tacho_hours::{Breach, Debt};
 use tacho_line::Horizon;
 
-/// What the rules say of a timeline, from a base to its horizon.
+/// The report of a timeline, from a base to its horizon.
 #[derive(Drop)]
 pub struct Report {
-    /// The first minute that isn't examined, and why.
+    /// The first minute that isn't examined, and why it isn't.
     pub horizon: Horizon,
-    /// By moment, then kind, then since.
+    /// Ordered by moment, then kind, then since.
     pub breaches: Vec<Breach>,
-    /// By week.
+    /// Ordered by week.
     pub debts: Vec<Debt>,
 }

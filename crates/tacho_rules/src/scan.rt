@@ -18,9 +18,9 @@ use tacho_line::{Horizon, cut};
 use tacho_pass::{Found, Hearing, Pass, Plain};
 use tacho_time::{Minute, Span};
 
-/// All rules on driving and rest hours (Articles 6, 7 and 8 of Regulation (EC) 561/2006) over spans that come one at a
-/// time. It is plain numbers, and owns no memory; what it finds goes to a `Found` that goes with all calls, empty at
-/// first. Minutes are those of UTC.
+/// All rules on driving and rest hours (Articles 6, 7 and 8 of Regulation (EC) 561/2006), over spans that come one at a time. A scan is
+/// plain numbers and owns no memory. Its findings are added to a `Found`, which is empty at first and is passed to every call. Minutes are
+/// in UTC.
 #[derive(Clone, Copy)]
 pub struct Scan {
     hearing: Hearing<Rules>,
@@ -29,7 +29,7 @@ pub struct Scan {
 impl Plain for Scan {}
 
 impl Scan {
-    /// A scan over no spans, from a base on, the first minute of a Monday.
+    /// Makes a scan over no spans, from a base, the first minute of a Monday.
     pub fn new(base: Minute) -> Scan
         requires monday { IsBase base }
         requires early { base ≤ latest }
@@ -42,7 +42,7 @@ impl Scan {
         }
     }
 
-    /// Takes the next span, which starts where the last one ended. Where it finds no memory, so do all later calls.
+    /// Feeds the next span, which starts where the last one ended. If memory runs out, all later calls fail too.
     pub fn feed(&mut self, span: Span, found: &mut Found) -> Result<(), AllocError>
         requires next { IsAt self.old span.start }
         requires some { span.start < span.past }
@@ -57,8 +57,7 @@ impl Scan {
         self.hearing.feed(span, found)
     }
 
-    /// Takes the parts of spans from a start to before a past, in order; the first part starts where the last span ended,
-    /// as each next one does.
+    /// Feeds the parts of spans from a start to before a past, in order. Each part starts where the one before it ended.
     pub fn feed_within(
         &mut self,
         spans: &[Span],
@@ -95,8 +94,8 @@ impl Scan {
         Ok(())
     }
 
-    /// The report at the horizon, where the last span ended (the base if there was none): every breach once and in
-    /// order, and every debt. All that was found before is in it.
+    /// Returns the report at the horizon, which is where the last span ended (the base if there was none): every breach once and in order,
+    /// and every debt. It includes all that was found before.
     pub fn finish(self, horizon: Horizon, found: Found) -> Result<Report, AllocError>
         requires { IsAt self horizon.minute }
         ensures horizon { IfOk result (λ report. report.horizon ≡ horizon) }

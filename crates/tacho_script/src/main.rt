@@ -1,17 +1,17 @@
-//! Does commands at an archive, for the checks and for the benchmark.
+//! Runs commands at an archive, for the checks and for the benchmark.
 //!
-//! The words of the command line say which archive: `archive FILE` is that of a file, which is made where it isn't there,
-//! `memory` one of SQLite in memory, and `shelf` one without SQL. `status 0` is told when it is open, and `status 3` where it
-//! can't be opened.
+//! The arguments of the command line name the archive: `archive FILE` is the archive in that file, which is made if it doesn't exist;
+//! `memory` is an archive over SQLite in memory; `shelf` is one without SQL. The program prints `status 0` once the archive is open, or
+//! `status 3` if it can't be opened.
 //!
-//! A command is a line of standard input: the words of the program `tacho` behind its name, with any word for the archive, and
-//! then, where it reads something, ` < ` and the path of a file: `enter - 17 < hours.csv`. What it prints is told as it is, and
-//! then a line with its status: `status 2` where the line names no command, or its file can't be read.
+//! A command is a line of standard input: the arguments of the program `tacho` without the program's name, and with any text in place of
+//! the archive. If the command reads an input, ` < ` and the path of a file follow: `enter - 17 < hours.csv`. Its output is printed as it
+//! is, and then a line with its status: `status 2` if the line names no command, or its file can't be read.
 //!
-//! Two commands more are no words of that program. `own - 17 both < day.ddd` imports a card file by a driver himself.
-//! `examined - 17 19793` prints what `breaches - 17` prints where the driver's base is the day of that number from
-//! 1970-01-01 on, but reads what he holds from that day on as one line first, and then examines it, so that the two can
-//! be measured beside each other; with `whole` behind it, all that he holds.
+//! Two further commands are not those of `tacho`. `own - 17 both < day.ddd` imports a card file for the driver, as the driver does it.
+//! `examined - 17 19793` prints what `breaches - 17` prints if the driver's base is the day with that number since 1970-01-01. But it first
+//! reads what the driver holds from that day on as one line, and then examines it, so that the two ways can be measured next to each other.
+//! With `whole` at the end it reads all that the driver holds.
 #![tactic(auto)]
 
 use sqlite::{Alter, Connection};
@@ -28,16 +28,16 @@ use tacho_store::{Archive, open_memory};
 use tacho_tables::opening;
 use tacho_time::{Device, Minute};
 
-/// What of all that a driver holds is read to be examined.
+/// How much of what a driver holds is read to be examined.
 #[derive(Clone, Copy)]
 enum Extent {
-    /// What lies behind his base.
+    /// From the base on.
     FromBase,
     /// All of it.
     Whole,
 }
 
-/// Words between blanks, behind the program's name.
+/// Splits a line at its blanks, and puts the program's name first.
 fn words_of(alloc: Global, line: &str) -> Result<Vec<String>, AllocError> {
     let mut words = Vec::new(alloc);
     words.push(String::from_str(alloc, "tacho")?)?;
@@ -47,14 +47,14 @@ fn words_of(alloc: Global, line: &str) -> Result<Vec<String>, AllocError> {
     Ok(words)
 }
 
-/// Prints why a command was refused, and answers the status.
+/// Prints why a command was refused, and returns the status.
 fn refuse(rt: &HostRuntime, fault: StoreFault) -> io::Result<u8> {
     let has_failed = matches!(&fault, StoreFault::Store | StoreFault::Memory);
     print!(rt; "{}", fault_line(Fault::Store(fault)).as_str())?;
     Ok(if has_failed { 3 } else { 1 })
 }
 
-/// Imports a card file by a driver, whose number and part these words are, and answers the status.
+/// Imports a card file for a driver, as the driver does it. `words` are the driver's number and the part. Returns the status.
 fn import_own<K: Keeper>(
     rt: &HostRuntime,
     keeper: &mut K,
@@ -79,7 +79,7 @@ fn import_own<K: Keeper>(
     }
 }
 
-/// The text of the breaches of a driver from a day on, by a line that is read first.
+/// The text of a driver's breaches from a day on. Reads one line first, and then examines it.
 fn examined<K: Keeper>(
     alloc: Global,
     keeper: &mut K,
@@ -98,7 +98,7 @@ fn examined<K: Keeper>(
     Ok(breach_text(alloc, &report)?)
 }
 
-/// Prints the breaches of a driver, whose number these words are with that of a day, and answers the status.
+/// Prints the breaches of a driver. `words` are the driver's number and the number of a day. Returns the status.
 fn tell_examined<K: Keeper>(rt: &HostRuntime, keeper: &mut K, words: &str) -> io::Result<u8> {
     let (words, extent) = match words.strip_suffix(" whole") {
         Some(words) => (words, Extent::Whole),
@@ -119,7 +119,7 @@ fn tell_examined<K: Keeper>(rt: &HostRuntime, keeper: &mut K, words: &str) -> io
     }
 }
 
-/// Does the command of a line, and answers its status.
+/// Runs the command of a line, and returns its status.
 fn obey<K: Keeper>(rt: &HostRuntime, keeper: &mut K, line: &str) -> io::Result<u8> {
     let (line, path) = line.split_once(" < ").unwrap_or((line, "/dev/null"));
     let input = fs::read(rt, path)?;
@@ -141,7 +141,7 @@ fn obey<K: Keeper>(rt: &HostRuntime, keeper: &mut K, line: &str) -> io::Result<u
     Ok(perform(rt.alloc(), job, keeper, &mut reader, &mut writer))
 }
 
-/// Does the commands of standard input, and tells the status of each.
+/// Runs the commands of standard input, and prints the status of each.
 fn obey_all<K: Keeper>(rt: &HostRuntime, keeper: &mut K) -> io::Result<()> {
     println!(rt; "status 0")?;
     for line in BufReader::new(rt.alloc(), rt.reader())?.lines(rt.alloc()) {
@@ -151,13 +151,12 @@ fn obey_all<K: Keeper>(rt: &HostRuntime, keeper: &mut K) -> io::Result<()> {
     Ok(())
 }
 
-/// Does the commands at an archive.
+/// Runs the commands at an archive.
 fn obey_kept<S: Alter + Drop>(rt: &HostRuntime, mut archive: Archive<S>) -> io::Result<()> {
     obey_all(rt, &mut archive)
 }
 
-/// Does the commands at the archive of a connection: the one that is there, or a new one where there are no tables. Nothing is done where
-/// neither can be had.
+/// Runs the commands at the archive of a connection, or at a new one if there are no tables. Does nothing if neither can be opened.
 fn obey_in<S: Alter + Drop>(
     rt: &HostRuntime,
     conn: Connection<S>,
@@ -179,7 +178,7 @@ fn obey_in<S: Alter + Drop>(
     }
 }
 
-/// Does the commands at the archive of a file, which is closed then.
+/// Runs the commands at the archive in a file, and closes the file.
 fn obey_at(rt: &HostRuntime, path: &str) -> io::Result<()> {
     let conn = match Connection::open_with_sums(rt, path) {
         Ok(conn) => conn,

@@ -1,4 +1,4 @@
-//! Answers requests over HTTP on a port of 127.0.0.1, one connection after the other, at whatever keeps a state.
+//! Answers requests over HTTP on a port of 127.0.0.1, one connection after the other, for any archive.
 #![tactic(auto)]
 
 mod serving;

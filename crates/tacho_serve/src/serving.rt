@@ -1,4 +1,4 @@
-//! A port, and its connections one after the other.
+//! A port, and its connections, one after the other.
 
 use crate::timed::Timed;
 use std::io::{self, ErrorKind};
@@ -10,23 +10,23 @@ use tacho_state::{Keeper, StoreFault};
 use tacho_time::Device;
 use thiserror::Error;
 
-/// How many seconds a connection may take, from when it is taken to the last byte of its reply: others wait for it.
+/// The most seconds that a connection may take, from when it is accepted to the last byte of its reply. Other connections wait for it.
 const PATIENCE: u64 = 30;
 
-/// How many seconds more the server takes what comes after a request that it has answered.
+/// The most seconds for which the server still reads what follows a request that it has answered.
 const LINGER: u64 = 2;
 
-/// How often in a row the server tries to take a connection while files or memory are short, and how many milliseconds it waits after each
-/// try: half a minute in all.
+/// How often in a row the server tries to accept a connection while files or memory are short, and the pause after each try in
+/// milliseconds: half a minute in all.
 const TRIES: u32 = 300;
 
 const PAUSE: u64 = 100;
 
-/// How often the server asks an archive whose store has failed, with that pause after each question, before it ends: a second in all.
+/// How often the server probes an archive whose store has failed before it ends, with the same pause after each probe: a second in all.
 const QUESTIONS: u32 = 10;
 
-/// The system's numbers of what can keep it from giving a connection for a while: memory, all files that are open and those of the program,
-/// a client that has left, and memory for sockets.
+/// The system's error numbers for causes that may pass: out of memory, too many open files in the system or in the program, a client that
+/// has left, and no memory for sockets.
 const ENOMEM: i32 = 12;
 
 const ENFILE: i32 = 23;
@@ -37,19 +37,19 @@ const ECONNABORTED: i32 = 103;
 
 const ENOBUFS: i32 = 105;
 
-/// Why a server ended before it had answered all its connections.
+/// Why a server ended before it had answered all of its connections.
 #[derive(Clone, Copy, Debug, PartialEq, Eq, Error)]
 pub enum ServeFault {
-    /// The port can't be had, or no connection can be taken any more.
+    /// The port is not available, or no more connections can be accepted.
     #[error("the port failed")]
     Device,
-    /// The archive's store has failed, and was shut: nothing can be answered until it is opened anew.
+    /// The archive's store has failed and was shut. Nothing can be answered until it is opened again.
     #[error("the archive's store failed")]
     Store,
 }
 
-/// Answers `count` connections on a port of 127.0.0.1, one after the other. A fault of one connection ends it and nothing else. Each has 30
-/// seconds.
+/// Answers `count` connections on a port of 127.0.0.1, one after the other. Each connection has 30 seconds. A fault of a connection ends
+/// only that connection.
 pub fn serve<K: Keeper>(
     rt: &HostRuntime,
     keeper: &mut K,
@@ -72,8 +72,8 @@ pub fn serve<K: Keeper>(
     Ok(())
 }
 
-/// True if ten questions in a row fail, as they do once the store is shut. A store that was out of memory for a moment answers a later
-/// one.
+/// True if ten probes in a row report a store failure, as they do once the store is shut. A store that was only short of memory for a
+/// moment answers a later probe.
 fn has_failed<K: Keeper>(rt: &HostRuntime, keeper: &mut K, key: &str) -> bool {
     for _ in 0..QUESTIONS {
         if !matches!(keeper.who(key.as_bytes()), Err(StoreFault::Store)) {
@@ -84,7 +84,7 @@ fn has_failed<K: Keeper>(rt: &HostRuntime, keeper: &mut K, key: &str) -> bool {
     true
 }
 
-/// Takes the next connection. Where what it needs is short it waits and tries again, and fails at the last try.
+/// Accepts the next connection. If resources are short, waits and tries again, and fails after the last try.
 fn accept(rt: &HostRuntime, listener: &TcpListener) -> io::Result<TcpStream> {
     for _ in 0..TRIES {
         match listener.accept() {
@@ -96,7 +96,7 @@ fn accept(rt: &HostRuntime, listener: &TcpListener) -> io::Result<TcpStream> {
     Err(io::Error::from(ErrorKind::TimedOut))
 }
 
-/// Whether taking a connection may succeed later, where it has failed so.
+/// True if accepting a connection may succeed later, after this error.
 fn may_pass(error: &io::Error) -> bool {
     matches!(
         error.raw_os_error(),
@@ -104,7 +104,7 @@ fn may_pass(error: &io::Error) -> bool {
     )
 }
 
-/// Answers one connection, in the time that it may take.
+/// Answers one connection within its time limit.
 fn answer_one<K: Keeper>(
     rt: &HostRuntime,
     keeper: &mut K,
@@ -120,8 +120,9 @@ fn answer_one<K: Keeper>(
     Ok(())
 }
 
-/// Ends a connection, so that its other end gets the reply: where it is closed while bytes of the request are unread, as those of a body
-/// that was too large, the system breaks it, and the reply may be lost. Those are taken until the other end closes, or for a while.
+/// Ends a connection so that the client gets the reply. If a connection is closed while bytes of the request are unread, such as those of a
+/// body that was too large, the system resets it, and the reply may be lost. So these bytes are read until the client closes its end, or
+/// for a while.
 fn end(rt: &HostRuntime, stream: &TcpStream) -> io::Result<()> {
     stream.shutdown(Shutdown::Write)?;
     let mut rest = Timed::new(rt, stream, Duration::from_secs(LINGER))?;

@@ -6,8 +6,8 @@ use std::io::{self, ErrorKind, Read, Write};
 use std::net::TcpStream;
 use std::time::{Duration, Instant};
 
-/// A stream whose reads and writes together take no longer than a limit: each waits for what is left of it at the most, and fails where
-/// nothing is. One that a signal interrupts is made again.
+/// A stream whose reads and writes together take at most a time limit. Each waits at most for the rest of the limit, and fails once nothing
+/// of it remains. A call that a signal interrupts is repeated.
 #[derive(Clone, Copy)]
 pub struct Timed<'a> {
     rt: &'a HostRuntime,
@@ -17,7 +17,7 @@ pub struct Timed<'a> {
 }
 
 impl<'a> Timed<'a> {
-    /// A stream whose limit counts from now on. It fails where the clock can't be read.
+    /// Makes a stream whose limit starts now. Fails if the clock can't be read.
     pub fn new(
         rt: &'a HostRuntime,
         stream: &'a TcpStream,
@@ -31,7 +31,7 @@ impl<'a> Timed<'a> {
         })
     }
 
-    /// What is left of the limit. It fails where nothing is, or where the clock can't be read.
+    /// The rest of the limit. Fails if nothing remains, or if the clock can't be read.
     fn left(&self) -> io::Result<Duration> {
         let left = self.limit.saturating_sub(self.start.elapsed(self.rt)?);
         if left.is_zero() {
@@ -40,7 +40,7 @@ impl<'a> Timed<'a> {
         Ok(left)
     }
 
-    /// Reads once, within what is left.
+    /// Reads once, within the rest of the limit.
     fn read_once(&self, buffer: &mut [u8]) -> io::Result<usize>
         ensures { ReadsAtMost result buffer.new }
     {
@@ -49,7 +49,7 @@ impl<'a> Timed<'a> {
         stream.read(buffer)
     }
 
-    /// Writes once, within what is left.
+    /// Writes once, within the rest of the limit.
     fn write_once(&self, buffer: &[u8]) -> io::Result<usize>
         ensures { WritesAtMost result buffer.now }
     {

@@ -1,4 +1,4 @@
--- Amounts that grow, run by run and day by day.
+-- Amounts that are summed run by run and day by day.
 use Rattle.std.proofs.Common.{◌≡◌, ℕ, zero, suc, ◌+◌, ◌-◌, ◌*◌, ◌<◌, ◌≤◌, ◌&&◌, Bool, true, false, List, [], ◌∷◌, Option, None, Some, length, drop, get_or, refl, sym, ap, subst, ◌∙◌, arith, inl, inr, nat_le, nat_lt, if◌then◌else◌}
 use Rattle.std.proofs.lemmas.Bool.Decides.{nat_tests}
 use Rattle.std.proofs.lemmas.List.{drop_more, drop_all}
@@ -26,7 +26,7 @@ count_split p m (suc a) b =
     let h : count_from p (m + 1) (a + b) ≡ count_from p (m + 1) a + count_from p ((m + 1) + a) b = count_split p (m + 1) a b in
     rw (e, f) (omega arith)
 
--- what passes the same tests is counted alike
+-- two tests that agree on all minutes count the same
 pub count_same : (p q : ℕ → Bool) (m n : ℕ) → ((i : ℕ) → m ≤ i → i < m + n → p i ≡ q i) → count_from p m n ≡ count_from q m n
 count_same p q m zero h = refl
 count_same p q m (suc n) h =
@@ -51,7 +51,7 @@ pub count_le : (p : ℕ → Bool) (m n : ℕ) → count_from p m n ≤ n
 count_le p m zero = omega arith
 count_le p m (suc n) = let e : count_from p (m + 1) n ≤ n = count_le p (m + 1) n in let f = bit_le (p m) in omega arith
 
--- a column of more minutes that have one mark
+-- the count of a column grows by minutes that all have one mark
 column_run : (line : List Span) (column : Option Mark → Bool) (mark : Option Mark) (m n k x y : ℕ)
     → ((i : ℕ) → m + n ≤ i → i < (m + n) + k → mark_at line i ≡ mark)
     → x ≡ minutes_of line m n column → y ≡ x + part (column mark) k → y ≡ minutes_of line m (n + k) column
@@ -60,14 +60,14 @@ column_run line column mark m n k x y h e f =
     let a : count_from p (m + n) k ≡ count_from (λ i. column mark) (m + n) k = count_same p (λ i. column mark) (m + n) k (λ i u v. ap column (h i u v)) in
     f ∙ ap (λ (t : ℕ). t + part (column mark) k) e ∙ ap (λ (t : ℕ). count_from p m n + t) (sym (a ∙ count_const (column mark) (m + n) k)) ∙ sym (count_split p m n k)
 
--- a column of more minutes
+-- the counts of a column over adjacent minutes add up
 column_more : (line : List Span) (column : Option Mark → Bool) (m n l k x y z : ℕ) → l ≡ m + n
     → x ≡ minutes_of line m n column → y ≡ minutes_of line l k column → z ≡ x + y → z ≡ minutes_of line m (n + k) column
 column_more line column m n l k x y z at e f g =
     let p : ℕ → Bool = λ i. column (mark_at line i) in
     g ∙ ap (λ (t : ℕ). t + y) e ∙ ap (λ (t : ℕ). count_from p m n + t) (f ∙ ap (λ (t : ℕ). count_from p t k) at) ∙ sym (count_split p m n k)
 
--- a column of minutes to which two lines give the same
+-- a column counts the same for two lines that agree on the minutes
 column_same : (line other : List Span) (column : Option Mark → Bool) (m n x : ℕ)
     → ((i : ℕ) → m ≤ i → i < m + n → mark_at line i ≡ mark_at other i)
     → x ≡ minutes_of line m n column → x ≡ minutes_of other m n column
@@ -80,7 +80,7 @@ column_same line other column m n x h e =
 pub amounts_none : (line : List Span) (m : ℕ) → AreAmounts line m 0 (record { rest = 0; available = 0; work = 0; drive = 0; crew = 0; lacking = 0 })
 amounts_none line m = record { rest = refl; available = refl; work = refl; drive = refl; crew = refl; lacking = refl }
 
--- none is more than the minutes
+-- the sum of the amounts is at most six times the minutes
 pub amounts_small : (line : List Span) (m n : ℕ) (a : Amounts) → AreAmounts line m n a → whole a ≤ 6 * n
 amounts_small line m n a h =
     let re : a.rest ≤ n = let e = h.rest in let l = count_le (λ i. (is_single Rest) (mark_at line i)) m n in omega (arith, e, l) in
@@ -91,7 +91,7 @@ amounts_small line m n a h =
     let la : a.lacking ≤ n = let e = h.lacking in let l = count_le (λ i. is_lacking (mark_at line i)) m n in omega (arith, e, l) in
     omega arith
 
--- what is added for minutes with one mark
+-- `b` is `a` after `k` minutes with one mark are added
 pub record IsLonger (mark : Option Mark) (k : ℕ) (a b : Amounts) : Type 0 where
   pub rest : b.rest ≡ a.rest + part (is_single Rest mark) k
   pub available : b.available ≡ a.available + part (is_single Available mark) k
@@ -100,7 +100,7 @@ pub record IsLonger (mark : Option Mark) (k : ℕ) (a b : Amounts) : Type 0 wher
   pub crew : b.crew ≡ a.crew + part (is_crew mark) k
   pub lacking : b.lacking ≡ a.lacking + part (is_lacking mark) k
 
--- more minutes with one mark
+-- amounts with more minutes of one mark
 amounts_run : (line : List Span) (mark : Option Mark) (m n k : ℕ) (a b : Amounts) → AreAmounts line m n a
     → ((i : ℕ) → m + n ≤ i → i < (m + n) + k → mark_at line i ≡ mark) → IsLonger mark k a b → AreAmounts line m (n + k) b
 amounts_run line mark m n k a b h same g = record {
@@ -112,7 +112,7 @@ amounts_run line mark m n k a b h same g = record {
   lacking = column_run line is_lacking mark m n k a.lacking b.lacking same h.lacking g.lacking;
 }
 
--- the minutes after them
+-- the amounts of adjacent minutes add up
 pub amounts_more : (line : List Span) (m n l k : ℕ) (a b s : Amounts) → l ≡ m + n → AreAmounts line m n a → AreAmounts line l k b
     → s.rest ≡ a.rest + b.rest
     → s.available ≡ a.available + b.available
@@ -130,7 +130,7 @@ amounts_more line m n l k a b s at h g re av wo dr cr la = record {
   lacking = column_more line is_lacking m n l k a.lacking b.lacking s.lacking at h.lacking g.lacking la;
 }
 
--- another line that gives the minutes the same
+-- two lines that agree on the minutes have the same amounts
 pub amounts_same : (line other : List Span) (m n : ℕ) (a : Amounts) → ((i : ℕ) → m ≤ i → i < m + n → mark_at line i ≡ mark_at other i)
     → AreAmounts line m n a → AreAmounts other m n a
 amounts_same line other m n a same h = record {
@@ -144,7 +144,7 @@ amounts_same line other m n a same h = record {
 
 -- ---- what a walk over spans has counted
 
--- so far: what is left says what the spans say from there on
+-- the amounts up to `from` are counted, and from there on the remaining spans give what all spans give
 pub record Walked (spans left : List Span) (start from past : ℕ) (a : Amounts) : Type 0 where
   pub above : start ≤ from
   pub left_from : AreFrom from past left
@@ -159,7 +159,7 @@ walked_none spans start past a e h = record {
   counted = let z : start - start ≡ 0 = omega arith in rw (e, z) (amounts_none spans start);
 }
 
--- no span of what is left holds an earlier minute
+-- no remaining span holds an earlier minute
 before_left : (spans : List Span) (from past m : ℕ) → AreFrom from past spans → m < from → mark_at spans m ≡ None
 before_left [] from past m h l = refl
 before_left (s ∷ ss) from past m h l =
@@ -168,7 +168,7 @@ before_left (s ∷ ss) from past m h l =
     let under : covers s m ≡ false = not_yet s.start s.past m (omega arith) in
     ap (λ (b : Bool). if b then Some s.mark else mark_at ss m) under ∙ before_left ss s.past past m h.2 (omega arith)
 
--- spans in order reach no further than the past
+-- spans in order end at or before the past
 pub from_le : (spans : List Span) (from past : ℕ) → AreFrom from past spans → from ≤ past
 from_le [] from past h = h
 from_le (s ∷ ss) from past h =
@@ -177,7 +177,7 @@ from_le (s ∷ ss) from past h =
     let some : s.start < s.past = h.1 in
     omega arith
 
--- minutes before what is left
+-- the walk continues over minutes before the remaining spans
 pub walked_gap : (spans left : List Span) (start from to past : ℕ) (a b : Amounts) → Walked spans left start from past a → from ≤ to → AreFrom to past left → IsLonger None (to - from) a b
     → Walked spans left start to past b
 walked_gap spans left start from to past a b w l h g =
@@ -190,7 +190,7 @@ walked_gap spans left start from to past a b w l h g =
       counted = rw e at (amounts_run spans None start (from - start) (to - from) a b w.counted (λ i u v. w.ahead i (omega arith) ∙ before_left left to past i h (omega arith)) g);
     }
 
--- the minutes of the first span that is left
+-- the walk continues over the minutes of the first remaining span
 pub walked_span : (spans left : List Span) (s : Span) (start past : ℕ) (a b : Amounts) → Walked spans (s ∷ left) start s.start past a → IsLonger (Some s.mark) (s.past - s.start) a b
     → Walked spans left start s.past past b
 walked_span spans left s start past a b w g =
@@ -204,46 +204,46 @@ walked_span spans left s start past a b w g =
       counted = rw e at (amounts_run spans (Some s.mark) start (s.start - start) (s.past - s.start) a b w.counted (λ i u v. w.ahead i (omega arith) ∙ first_holds s left i (omega arith) (omega arith)) g);
     }
 
--- the same for an equal count
+-- the number of minutes can be replaced by an equal one
 pub longer_by : (mark : Option Mark) (k l : ℕ) (a b : Amounts) → k ≡ l → IsLonger mark k a b → IsLonger mark l a b
 longer_by mark k l a b e g = subst (λ (n : ℕ). IsLonger mark n a b) e g
 
--- up to the first span that is left
+-- the walk continues up to the first remaining span
 pub walked_before : (spans left : List Span) (s : Span) (start from past : ℕ) (a b : Amounts) → Walked spans (s ∷ left) start from past a
     → IsLonger None (s.start - from) a b → Walked spans (s ∷ left) start s.start past b
 walked_before spans left s start from past a b w g = walked_gap spans (s ∷ left) start from s.start past a b w w.left_from.0 (omega arith, w.left_from.1, w.left_from.2) g
 
--- a span and the minutes before it
+-- the walk continues over a span and the minutes before it
 pub walked_next : (spans left : List Span) (s : Span) (start from past : ℕ) (a b c : Amounts) → Walked spans (s ∷ left) start from past a
     → IsLonger None (s.start - from) a b → IsLonger (Some s.mark) (s.past - s.start) b c → Walked spans left start s.past past c
 walked_next spans left s start from past a b c w g h =
     walked_span spans left s start past b c (walked_before spans left s start from past a b w g) h
 
--- at the end
+-- at the end the walk has counted all minutes
 pub walked_end : (spans : List Span) (start from past : ℕ) (a b : Amounts) → Walked spans [] start from past a → IsLonger None (past - from) a b → AreAmounts spans start (past - start) b
 walked_end spans start from past a b w g = (walked_gap spans [] start from past past a b w w.left_from (omega arith) g).counted
 
--- the amounts stay small
+-- the amounts stay within six times the past
 pub walked_small : (spans left : List Span) (start from past : ℕ) (a : Amounts) → Walked spans left start from past a → whole a ≤ 6 * past
 walked_small spans left start from past a w =
     let e : whole a ≤ 6 * (from - start) = amounts_small spans start (from - start) a w.counted in
     let l : from ≤ past = from_le left from past w.left_from in
     omega arith
 
--- at the index i of a loop, where the item is s
+-- at index i of a loop, whose item is s
 pub walked_here : (spans : List Span) (i : ℕ) (s : Span) (start from past : ℕ) (a : Amounts) → i < length spans → s ≡ get_or spans i s → Walked spans (drop i spans) start from past a
     → Walked spans (s ∷ drop (i + 1) spans) start from past a
 walked_here spans i s start from past a within is w =
     let e : drop i spans ≡ s ∷ drop (i + 1) spans = drop_more spans i s within ∙ ap (λ (x : Span). x ∷ drop (i + 1) spans) (sym is) in
     subst (λ (left : List Span). Walked spans left start from past a) e w
 
--- where the loop ends
+-- at the end of the loop
 pub walked_over : (spans : List Span) (i start from past : ℕ) (a : Amounts) → length spans ≤ i → Walked spans (drop i spans) start from past a → Walked spans [] start from past a
 walked_over spans i start from past a over w = subst (λ (left : List Span). Walked spans left start from past a) (drop_all i spans over) w
 
 -- ---- what a line holds in a range
 
--- spans that give nothing outside a range are in order within it
+-- canonical spans that give nothing outside a range are in order within it
 from_within : (xs : List Span) (start past : ℕ) → IsCanonical xs → start ≤ past → ((m : ℕ) (k : Mark) → Gives xs m k → IsWithin start past m) → AreFrom start past xs
 from_within [] start past h l w = l
 from_within (s ∷ ss) start past h l w =
@@ -257,7 +257,7 @@ from_within (s ∷ ss) start past h l w =
 pub slice_from : (line spans : List Span) (start past : ℕ) → IsCanonicalOf (HoldsWithin line start past) spans → start ≤ past → AreFrom start past spans
 slice_from line spans start past h l = from_within spans start past h.canonical l (λ m k g. ((h.same m k).0 g).0)
 
--- the line and its slice give the minutes of the range the same
+-- a line and its slice give the minutes of the range the same mark
 slice_same : (line spans : List Span) (start past : ℕ) → IsCanonicalOf (HoldsWithin line start past) spans → (m : ℕ) → start ≤ m → m < past → mark_at spans m ≡ mark_at line m
 slice_same line spans start past h m above below = go (mark_at spans m) (mark_at line m) refl refl where
   go : (x y : Option Mark) → mark_at spans m ≡ x → mark_at line m ≡ y → mark_at spans m ≡ mark_at line m

@@ -1,4 +1,4 @@
--- The lines that are read of rows are a batch.
+-- The lines that are read from rows are a batch.
 use Rattle.std.proofs.Common.{◌≡◌, ◌<◌, ◌≤◌, ◌+◌, ◌-◌, ◌∷◌, ◌||◌, ℕ, Bool, true, false, cond, List, [], Option, Some, None, Result, Ok, Err, nat_lt, nat_le, refl, sym, arith, Vec, IfOk, IsErrAnd, ◌⊎◌, inl, inr, not}
 use Rattle.std.specs.declared.alloc.Global.{Global}
 use Rattle.std.proofs.lemmas.Bool.Decides.{nat_tests}
@@ -19,7 +19,7 @@ use Rattle.tacho_sheet.specs.declared.fault.SheetFault.TheVariants as fault
 use Rattle.tacho_sheet.specs.Entries.{Answer, Lines, Texts, Worked, sized, active, timed, signed, is_author, is_note, line_of_texts, line_of}
 use Rattle.tacho_sheet.specs.Entries.{lines_from, with_line, put_first, lines_told, texts_of}
 
--- minutes and an activity of a line of its own, after the row before
+-- a row's minutes and activity satisfy the limits of a line, after the row before
 record Works (before : ℕ) (worked : ℕ × ℕ × Activity) : Type 0 where
   pub first : 15780960 ≤ worked.0
   pub full : worked.0 < worked.1
@@ -27,7 +27,7 @@ record Works (before : ℕ) (worked : ℕ × ℕ × Activity) : Type 0 where
   pub last : worked.1 ≤ 68374080
   pub after : before ≤ worked.0
 
--- E7: what is short enough
+-- E7: so does a row that isn't too long
 sized_works : (row before start past : ℕ) (a : Activity) (worked : ℕ × ℕ × Activity)
     → 15780960 ≤ start → past ≤ 68374079 → start < past → before ≤ start → sized row start past a ≡ Ok worked → Works before worked
 sized_works row before start past a worked first last full after e = go (nat_lt 527040 (past - start)) refl e where
@@ -39,7 +39,7 @@ sized_works row before start past a worked first last full after e = go (nat_lt 
       let short : past - start ≤ 527040 = grind (arith, nat_tests) in
       rw same (record { first = first; full = full; short = omega arith; last = omega arith; after = after })
 
--- E5 and E6: what has an activity
+-- E5 and E6: so does a row that has an activity
 active_works : (row before start past : ℕ) (l : Option LeftOut) (a : Option Activity) (worked : ℕ × ℕ × Activity)
     → 15780960 ≤ start → past ≤ 68374079 → start < past → before ≤ start → active row start past l a ≡ Ok worked → Works before worked
 active_works row before start past (Some l) a worked first last full after e = absurd (cc e)
@@ -47,7 +47,7 @@ active_works row before start past None None worked first last full after e = ab
 active_works row before start past None (Some a) worked first last full after e =
     sized_works row before start past a worked first last full after e
 
--- E3 and E4: what has times in order
+-- E3 and E4: so does a row whose times can be read and are in order
 timed_works : (row before : ℕ) (word : List ℕ) (start past : Result ℕ TimeFault) (worked : ℕ × ℕ × Activity)
     → ((n : ℕ) → start ≡ Ok n → 15780960 ≤ n) → ((n : ℕ) → past ≡ Ok n → n ≤ 68374079) → timed row before word start past ≡ Ok worked
     → Works before worked
@@ -62,12 +62,12 @@ timed_works row before word (Ok start) (Ok past) worked first last e = go (nat_l
       let after : before ≤ start = grind (arith, nat_tests) in
       active_works row before start past (left_out_of word) (activity_of word) worked (first start refl) (last past refl) full after h
 
--- a line of its own, after the row before
+-- a line satisfies the limits of a line, after the row before
 record Fits (before : ℕ) (line : Hours) : Type 0 where
   pub own : IsEntryLine line
   pub after : before ≤ line.start
 
--- E10: what has an author and a note
+-- E10: so does a row that has an author and a note
 signed_fits : (row before : ℕ) (author note : List ℕ) (told : Worked) (line : Hours)
     → ((worked : ℕ × ℕ × Activity) → told ≡ Ok worked → Works before worked) → signed row author note told ≡ Ok line → Fits before line
 signed_fits row before author note (Err f) line works e = absurd (cc e)
@@ -84,7 +84,7 @@ signed_fits row before author note (Ok worked) line works e = go (not (is_author
       let w = works worked refl in
       rw same (record { own = record { first = w.first; full = w.full; short = w.short; last = w.last }; after = w.after })
 
--- the line of a row
+-- so does the line of a row
 line_fits : (row before : ℕ) (texts : Option Texts) (line : Hours) → line_of_texts row before texts ≡ Ok line → Fits before line
 line_fits row before None line e = absurd (cc e)
 line_fits row before (Some t) line e =
@@ -101,7 +101,7 @@ order_cons : (line : Hours) (lines : List Hours) → StartFrom line.past lines �
 order_cons line [] s o = tt
 order_cons line (next ∷ lines) s o = (s, o)
 
--- the lines of rows
+-- the lines of rows satisfy the limits and are in order
 pub lines_fit : (head : Head) (row before : ℕ) (rows : List Row) (lines : List Hours) → lines_from head row before rows ≡ Ok lines
     → IsBatch lines × StartFrom before lines
 unfolding lines_from
@@ -126,7 +126,7 @@ lines_fit head row before (fields ∷ rest) lines e =
       one deep (Ok line) t h =
           more deep line (lines_from head (row + 1) line.past rest) refl (line_fits row before (texts_of head fields) line t) h
 
--- an answer that is told by some rows is a batch
+-- the answer for some rows is a batch
 pub told_fits : (P : SheetFault → Type 0) (Q : List Row → Type 0) (r : Result (Vec EntryLine Global) SheetFault) (head : Head)
     (row before : ℕ) → IsErrAnd r P ⊎ ((rows : List Row) × Q rows × (lines_told r ≡ lines_from head row before rows))
     → IfOk r (λ lines. IsBatch lines.items)

@@ -1,4 +1,5 @@
--- What the numbers of the overview say: each minute counts in one column, and a range of which all minutes count is within stretches.
+-- What the numbers of the overview mean: each minute counts in one column, and if all minutes of a range count as examined, each is within
+-- a stretch.
 use Rattle.std.proofs.Common.{◌≡◌, ℕ, zero, suc, ◌+◌, ◌<◌, ◌≤◌, Bool, true, false, List, Option, None, Some, map, refl, subst, arith, if◌then◌else◌, inl, inr}
 use Rattle.std.specs.Prelude.{sum}
 use Rattle.std.proofs.lemmas.Bool.{cases_lt}
@@ -10,11 +11,11 @@ use Rattle.tacho_line.specs.Line.{mark_at}
 use Rattle.tacho_sheet.specs.Reports.{columns, count_from, minutes_of, is_single, is_crew, is_lacking}
 use Rattle.tacho_sheet.proofs.AmountLemmas.{count_le}
 
--- one, where a test holds
+-- 1 if a test holds, otherwise 0
 abbrev bit : Bool → ℕ
 bit b = if b then 1 else 0
 
--- a mark, or none, is of one column
+-- each mark, and no mark, belongs to exactly one column
 one_column : (o : Option Mark)
     → bit (is_single Rest o) + (bit (is_single Available o) + (bit (is_single Work o) + (bit (is_single Drive o)
     + (bit (is_crew o) + bit (is_lacking o))))) ≡ 1
@@ -40,7 +41,7 @@ add_up line m (suc n) =
     let d = bit (is_single Drive o) in let e = bit (is_crew o) in let f = bit (is_lacking o) in
     omega (arith, here, more)
 
--- where all of n minutes pass a test, each does
+-- if the count of minutes that pass a test is n, each of the n minutes passes it
 pub all_pass : (p : ℕ → Bool) (m n : ℕ) → count_from p m n ≡ n → (i : ℕ) → m ≤ i → i < m + n → p i ≡ true
 all_pass p m zero h i a b = absurd (omega (arith, a, b))
 all_pass p m (suc n) h i a b = go (p m) refl (λ rest later. all_pass p (m + 1) n rest i (omega (arith, later)) (omega (arith, b))) where

@@ -1,4 +1,4 @@
--- A third row of a driver's text, what decodes into fifteen bytes, and that texts have one first bad column at most.
+-- A third row in a driver's text, texts that decode to fifteen bytes, and the uniqueness of the first bad column.
 use Rattle.std.proofs.Common.{◌≡◌, ◌∙◌, ◌<◌, inr, List, [], ◌∷◌, ℕ, Result, Ok, Err, length, map, refl, sym, arith}
 use Rattle.std.specs.Prelude.{MatchResult}
 use Rattle.hex.specs.Hex.{IsBytes, decode_sized}
@@ -16,7 +16,7 @@ pub third_row : {X : Type 0} (f : X → Row) (row : X) (more : List X) (r : Regi
 third_row f row [] r h a = absurd (omega arith)
 third_row f row (x ∷ more) r h a = inr (refl, (r, a))
 
--- what was written into room for fifteen bytes are fifteen bytes
+-- a text that decodes into room for fifteen bytes gives fifteen bytes
 pub fifteen_bytes : (text out : List ℕ) (r : Result Unit FromHexError)
     → MatchResult (decode_sized text 15) (λ bytes. (r ≡ Ok tt) × (out ≡ bytes)) (λ e. r ≡ Err e)
     → r ≡ Ok tt → (length out ≡ 15) × IsBytes out
@@ -30,7 +30,7 @@ fifteen_bytes text out r said ok = go (decode_sized text 15) refl said where
       rw h.1 (omega (arith, twice, long), all.3)
   go (Err e) is h = cc (sym h ∙ ok)
 
--- no texts have two first bad columns
+-- there is at most one first bad column
 pub one_bad_column : (f : Five) (c d : Column) → IsFirstBadText f c → IsFirstBadText f d → c ≡ d
 one_bad_column f column.Driver column.Driver a b = refl
 one_bad_column f column.Driver column.Holder a b = absurd (a b.0.0 b.0.1)
@@ -70,7 +70,7 @@ one_bad_column f column.Name column.Note a b = absurd b
 one_bad_column f column.Author d a b = absurd a
 one_bad_column f column.Note d a b = absurd a
 
--- and those of a driver have none
+-- the texts of a driver have no bad column
 pub no_bad_column : (f : Five) (r : Registration) (c : Column) → IsDriverText f r → ¬ (IsFirstBadText f c)
 no_bad_column f r column.Driver d bad = bad r.number d.driver
 no_bad_column f r column.Holder d bad = bad.1 r.holder d.holder.0 d.holder.1 d.holder.2

@@ -24,14 +24,14 @@ three_at (p ∷ q ∷ []) a b c n x y z = absurd (omega arith)
 three_at (p ∷ q ∷ r ∷ []) a b c n x y z = let e : a ≡ p = cc in let f : b ≡ q = cc in let g : c ≡ r = cc in rw (e, f, g)
 three_at (p ∷ q ∷ r ∷ s ∷ more) a b c n x y z = absurd (omega arith)
 
--- there is a field at each place
+-- a field exists at each index below the length
 pub field_there : (fields : List (List ℕ)) (i : ℕ) → i < length fields → None ≡ field_at fields i → ⊥
 unfolding field_at
 field_there [] i h e = omega arith
 field_there (p ∷ rest) zero h e = cc e
 field_there (p ∷ rest) (suc i) h e = field_there rest i (omega arith) e
 
--- lines before a line and others
+-- lines are prepended to a line and those after it
 pub put_first-append : (front : List Hours) (line : Hours) (r : Lines)
     → put_first front (put_first (line ∷ []) r) ≡ put_first (front ++ line ∷ []) r
 put_first-append front line (Ok rest) = ap Ok (sym (append_assoc front (line ∷ []) rest))
@@ -50,11 +50,11 @@ pub lines_stop : (head : Head) (front : List Hours) (row before : ℕ) (fields :
 unfolding lines_from
 lines_stop head front row before fields rows found e = rw e refl
 
--- rows of which the first is no head
+-- if the first row is no head, the answer is E1
 pub head_wrong : (first : Row) (rows : List Row) → head_of first ≡ None → Err fault.Head ≡ entries_of (first ∷ rows)
 head_wrong first rows h = rw h refl
 
--- rows of which the first is a head
+-- if the first row is a head, the answer is that of the rows after it
 pub head_right : (head : Head) (first : Row) (rows : List Row) (told : Lines) → head_of first ≡ Some head → told ≡ lines_from head 2 0 rows
     → told ≡ entries_of (first ∷ rows)
 head_right head first rows told h e = rw h e
@@ -65,7 +65,7 @@ pub told_fault : (answer : Result (Vec EntryLine Global) SheetFault) (found : Sh
 told_fault (Ok lines) found h = absurd h
 told_fault (Err e) found h = ap Err h
 
--- an answer that is want of memory
+-- an answer that is out of memory
 pub told_memory : (answer : Result (Vec EntryLine Global) SheetFault) (line : Answer) (found : SheetFault)
     → IsErrAnd answer (λ e. e ≡ found) → line ≡ Err found → IsErrAnd line (λ e. e ≡ fault.Memory) → IsErrAnd answer IsReaderFault
 told_memory (Ok lines) line found h is memory = absurd h
@@ -78,7 +78,7 @@ told_line P (Ok x) told line (inl h) is = absurd h
 told_line P (Err e) told line (inl h) is = absurd (cc is)
 told_line P answer told line (inr h) is = sym h ∙ is
 
--- no row is left
+-- no row remains
 pub lines_end : (head : Head) (front : List Hours) (row before : ℕ) → put_first front (lines_from head row before []) ≡ Ok front
 unfolding lines_from
 lines_end head front row before = ap Ok (append-nil front)
@@ -103,7 +103,7 @@ five_at (p ∷ q ∷ r ∷ s ∷ t ∷ []) a b c d e n va vb vc vd ve =
     rw (ea, eb, ec, ed, ee)
 five_at (p ∷ q ∷ r ∷ s ∷ t ∷ u ∷ more) a b c d e n va vb vc vd ve = absurd (omega arith)
 
--- the texts of a row of three columns, by its fields
+-- the texts of a row with three columns are its fields
 pub three_texts : (row : Row) → texts_of head.Three row
     ≡ option_map (λ t. record { start = t.0; past = t.1; activity = t.2; author = codes "office"; note = [] }) (three_of row)
 three_texts [] = refl
@@ -112,7 +112,7 @@ three_texts (a ∷ b ∷ []) = refl
 three_texts (a ∷ b ∷ c ∷ []) = refl
 three_texts (a ∷ b ∷ c ∷ d ∷ more) = refl
 
--- those of a row of five
+-- the texts of a row with five columns are its fields
 pub five_texts : (row : Row) → texts_of head.Five row
     ≡ option_map (λ f. record { start = f.driver; past = f.holder; activity = f.key; author = f.base; note = f.name }) (five_of row)
 five_texts [] = refl

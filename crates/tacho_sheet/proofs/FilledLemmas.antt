@@ -33,7 +33,7 @@ in_either (g ∷ xs) ys m (inr h) = go (in_either xs ys m h) where
   go (inl x) = inl (inr x)
   go (inr y) = inr y
 
--- what is cut isn't empty
+-- a range that is cut into rows isn't empty
 pub cut_full : (start past : ℕ) (rows : List Gap) → AreCut start past rows → start < past
 cut_full start past [] h = absurd h
 cut_full start past (r ∷ []) h = h.2
@@ -53,7 +53,7 @@ cut_covers start past (r ∷ next ∷ rows) m h low high =
       | no above ↦ inr (cut_covers r.past past (next ∷ rows) m h.2 (omega arith) high)
     ]
 
--- and no other minute
+-- its rows have no other minute
 cut_within : (start past : ℕ) (rows : List Gap) (m : ℕ) → AreCut start past rows → InGaps rows m → IsWithin start past m
 cut_within start past [] m h x = absurd x
 cut_within start past (r ∷ []) m h (inl w) =
@@ -75,14 +75,14 @@ cut_within start past (r ∷ next ∷ rows) m h (inr x) =
     let low = deep.0 in
     (omega arith, deep.1)
 
--- the rows of gaps have each minute of theirs
+-- the rows of gaps have each minute of the gaps
 pub rows_cover : (gaps rows : List Gap) (m : ℕ) → AreRows gaps rows → InGaps gaps m → InGaps rows m
 rows_cover [] rows m h x = absurd x
 rows_cover (g ∷ gaps) rows m h (inl w) =
     subst (λ (l : List Gap). InGaps l m) (sym h.2) (in_front h.0 h.1 m (cut_covers g.start g.past h.0 m h.3 w.0 w.1))
 rows_cover (g ∷ gaps) rows m h (inr x) = subst (λ (l : List Gap). InGaps l m) (sym h.2) (in_back h.0 h.1 m (rows_cover gaps h.1 m h.4 x))
 
--- and no other
+-- the rows of gaps have no other minute
 pub rows_within : (gaps rows : List Gap) (m : ℕ) → AreRows gaps rows → InGaps rows m → InGaps gaps m
 rows_within [] rows m h x = subst (λ (l : List Gap). InGaps l m) h x
 rows_within (g ∷ gaps) rows m h x =
@@ -94,9 +94,9 @@ rows_within (g ∷ gaps) rows m h x =
 pub rows_same : (gaps rows : List Gap) → AreRows gaps rows → (m : ℕ) → InGaps gaps m ↔ InGaps rows m
 rows_same gaps rows h m = (λ x. rows_cover gaps rows m h x, λ x. rows_within gaps rows m h x)
 
--- ---- what hours hold that fill in rows
+-- ---- what the hours of a filled-in form hold
 
--- a minute that spans don't hold, they don't hold with others before or behind them
+-- if joined lists don't hold a minute, neither list does
 none_front : (xs ys : List Span) (m : ℕ) → mark_at (xs ++ ys) m ≡ None → mark_at xs m ≡ None
 none_front [] ys m h = refl
 none_front (s ∷ xs) ys m h = go (covers s m) (none_front xs ys m) h where
@@ -113,7 +113,7 @@ none_back (s ∷ xs) ys m h = go (covers s m) (none_back xs ys m) h where
   go true deep e = absurd (cc e)
   go false deep e = deep e
 
--- a minute that isn't held is in no row that is filled in
+-- each minute of a filled-in row is held
 filled_hold : (rows : List Gap) (hours : List Hours) (m : ℕ) → Fills rows hours → mark_at (entered_spans (batch_of hours)) m ≡ None
     → InGaps rows m → ⊥
 filled_hold [] hours m f e x = absurd x
@@ -130,12 +130,12 @@ filled_hold (r ∷ rows) (h ∷ hours) m f e (inr x) =
 
 -- ---- what a driver holds after a batch
 
--- the driver that an answer tells of, or another one
+-- the driver in an answer, or `other` if the answer is a fault
 abbrev driver_told : Driver → Result (ℕ × Driver) StoreFault → Driver
 driver_told other (Ok told) = told.1
 driver_told other (Err fault) = other
 
--- a batch that goes in leaves the driver with it
+-- an accepted batch gives the driver with the batch
 entered_is : (batch : List Entry) (d after : Driver) (first : ℕ) (found : Option ℕ) → entered_by batch d found ≡ Ok (first, after)
     → after ≡ with_batch batch d
 entered_is batch d after first (Some m) e = absurd (cc e)
@@ -148,7 +148,7 @@ entered_is batch d after first None e = go (nat_lt most (length d.entries + leng
   go true h = absurd (cc h)
   go false h = sym (ap (driver_told d) h)
 
--- he holds what he held, and what the batch gives
+-- the driver then holds what they held before, and what the batch gives
 held_after : (batch : List Entry) (d : Driver) → held_spans (with_batch batch d) ≡ held_spans d ++ entered_spans batch
 held_after batch d =
     ap (λ (l : List Span). given_spans d.downloads ++ l) (entered_append d.entries batch)

@@ -1,4 +1,4 @@
--- A form that is filled in is read as the hours that it is filled in with.
+-- A filled-in form is read as the hours with which it is filled in.
 use Rattle.std.proofs.Common.{◌≡◌, ◌∙◌, ◌<◌, ◌≤◌, ◌+◌, ◌-◌, ◌/◌, ◌%◌, ◌++◌, ◌==◌, ◌&&◌, ◌||◌, ◌↔◌, ◌∷◌, ℕ, pos, Bool, true, false, cond, List, [], Some, None, Result, Ok, Err, append_assoc, ap, arith, codes, flat_map, inl, inr, length, map, nat_le, nat_lt, not, refl, subst, sym}
 use Rattle.std.specs.List.{list_all}
 use Rattle.std.proofs.lemmas.Bool.Decides.{nat_tests}
@@ -45,7 +45,7 @@ abbrev AreTimed : ℕ → List Gap → Type 0
 AreTimed before [] = Unit {0}
 AreTimed before (r ∷ rows) = IsRow before r × AreTimed r.past rows
 
--- the rows of one gap, and those of the gaps behind it
+-- the rows of one gap, followed by those of the later gaps, can be entered
 cut_timed : (before start past : ℕ) (rows back : List Gap) → before ≤ start → 15780960 ≤ start → past ≤ 68374079 → AreCut start past rows
     → AreTimed past back → AreTimed before (rows ++ back)
 cut_timed before start past [] back after first last h t = absurd h
@@ -65,7 +65,7 @@ cut_timed before start past (r ∷ next ∷ rows) back after first last h t =
       cut_timed r.past r.past past (next ∷ rows) back (omega arith) (omega arith) last h.2 t,
     )
 
--- the first gap begins there, or later
+-- the first gap begins at `before` or later
 abbrev BeginsFrom : ℕ → List Gap → Type 0
 BeginsFrom before [] = Unit {0}
 BeginsFrom before (g ∷ gaps) = before ≤ g.start
@@ -74,7 +74,7 @@ begins : (g : Gap) (gaps : List Gap) → BeginsBehind g gaps → BeginsFrom g.pa
 begins g [] h = tt
 begins g (next ∷ gaps) h = omega arith
 
--- the rows of gaps whose minutes can be written and read
+-- the rows of gaps can be entered if the minutes of the gaps can be written and read
 rows_timed : (before : ℕ) (gaps rows : List Gap) → AreApart gaps → BeginsFrom before gaps
     → ((m : ℕ) → InGaps gaps m → (15780960 ≤ m) × (m < 68374079)) → AreRows gaps rows → AreTimed before rows
 rows_timed before [] rows a b w h = subst (λ (l : List Gap). AreTimed before l) (sym h) tt
@@ -86,7 +86,7 @@ rows_timed before (g ∷ gaps) rows a b w h =
     (cut_timed before g.start g.past h.0 h.1 b first (omega arith) h.3
     (rows_timed g.past gaps h.1 a.2 (begins g gaps a.1) (λ m x. w m (inr x)) h.4))
 
--- the minute before the end is held, so that each gap ends before the end
+-- the last minute before the end is held, so each gap ends before the end
 gaps_within : (line : List Span) (base end : ℕ) (gaps : List Gap) → AreGaps line base end gaps → IsEndOfHeld line base end
     → 15780960 ≤ base → end ≤ 68374080 → (m : ℕ) → InGaps gaps m → (15780960 ≤ m) × (m < 68374079)
 gaps_within line base end gaps g e first last m x =
@@ -105,7 +105,7 @@ gaps_within line base end gaps g e first last m x =
           ]
     ]
 
--- ---- words, and the rows that are read of them
+-- ---- words, and the rows that are read from them
 
 -- a text without a comma, a double quote or a control
 abbrev IsWord : List ℕ → Type 0
@@ -123,11 +123,11 @@ and_both : (a b : Bool) → a ≡ true → b ≡ true → a && b ≡ true
 and_both true b e f = f
 and_both false b e f = absurd (cc e)
 
--- a byte of a word is no mark of the format
+-- a byte of a word is no delimiter
 name_byte : (b : ℕ) → is_name_byte b ≡ true → ((b == 44) ≡ false) × ((b == 34) ≡ false) × ((b == 13) ≡ false) × ((b == 10) ≡ false)
 name_byte b h = (grind (arith, nat_tests), grind (arith, nat_tests), grind (arith, nat_tests), grind (arith, nat_tests))
 
--- the bytes of a word go into the field
+-- the bytes of a word are appended to the field
 word_run : (fields : List (List ℕ)) (field text tail : List ℕ) → IsWord text
     → next_record default_config st.InField fields field (text ++ tail) ≡ next_record default_config st.InField fields (field ++ text) tail
 unfolding next_record
@@ -137,7 +137,7 @@ word_run fields field (b ∷ rest) tail h =
     rw (q.0, q.2, q.3) (word_run fields (field ++ (b ∷ [])) rest tail (and_right _ _ h)
     ∙ ap (λ (f : List ℕ). next_record default_config st.InField fields f tail) (append_assoc field (b ∷ []) rest))
 
--- a word from the start of its field, before a byte that is no quote
+-- a word at the start of its field, before a byte that is no quote
 word_start : (fields : List (List ℕ)) (text : List ℕ) (c : ℕ) (tail : List ℕ) → (c == 34) ≡ false → IsWord text
     → next_record default_config st.StartField fields [] (text ++ (c ∷ tail)) ≡ next_record default_config st.InField fields text (c ∷ tail)
 word_start fields [] c tail n h = start-same fields [] c tail n
@@ -158,7 +158,7 @@ word_end : (fields : List (List ℕ)) (text tail : List ℕ) → IsWord text
 unfolding next_record
 word_end fields text tail h = word_start fields text 10 tail refl h ∙ refl
 
--- a word at the start of a line, where it isn't empty
+-- a word at the start of a line, if it isn't empty
 word_first : (text tail : List ℕ) → 0 < length text → IsWord text
     → next_record default_config st.StartRecord [] [] (text ++ tail) ≡ next_record default_config st.StartField [] [] (text ++ tail)
 word_first [] tail some h = absurd (omega arith)
@@ -196,7 +196,7 @@ digits_word n h =
     and_both (is_name_byte (48 + n / 10)) _ (digit_byte (n / 10) (omega arith))
     (and_both (is_name_byte (48 + n % 10)) true (digit_byte (n % 10) (omega arith)) refl)
 
--- the calendar has a date of each day
+-- each day has a date
 abbrev AreDated : Type 0
 AreDated = (n : ℕ) → n ≤ 47520 → HasNumber (civil n) n
 
@@ -241,7 +241,7 @@ activity_word Drive = refl
 
 -- ---- the hours of a row
 
--- times are read of their texts
+-- the texts of times are read back as these times
 abbrev AreReadBack : Type 0
 AreReadBack = (text : List ℕ) (n : ℕ) → (minute_at text ≡ Ok n) ↔ ((15780960 ≤ n) × (n ≤ 68374079) × (text ≡ minute_text n))
 
@@ -251,7 +251,7 @@ word_of Available = (refl, refl)
 word_of Work = (refl, refl)
 word_of Drive = (refl, refl)
 
--- no fault stands in a row of an activity, in order and of its length
+-- a row with an activity, with its times in order and not too long, has no fault
 timed_read : (row before start past : ℕ) (a : Activity) → start < past → before ≤ start → past ≤ start + 527040
     → timed row before (activity_name a) (Ok start) (Ok past) ≡ Ok (start, past, a)
 timed_read row before start past a full after short =

@@ -1,4 +1,4 @@
--- The form for gaps: how a gap is cut into rows, and that there is one form.
+-- The form for gaps: how a gap is cut into rows, and that a line has only one form.
 use Rattle.std.proofs.Common.{◌≡◌, ◌∙◌, ℕ, ◌+◌, ◌-◌, ◌<◌, ◌≤◌, List, [], ◌∷◌, ◌++◌, length, take, get_or, refl, sym, ap, subst, arith, append_assoc, codes}
 use Rattle.std.specs.List.{flat_map, All, AllByRecursion}
 use Rattle.std.proofs.lemmas.Grind.{flat_map-append}
@@ -12,7 +12,7 @@ use Rattle.tacho_sheet.specs.Form.{AreCut, AreRows, IsForm, form_row}
 
 -- ---- a gap, cut into rows
 
--- the rows from a start on, after those before it
+-- a row of the most minutes, followed by the rows of the rest
 pub cut_more : (start past : ℕ) (rows : List Gap) → AreCut (start + 527040) past rows
     → AreCut start past (record { start = start; past = start + 527040 } ∷ rows)
 cut_more start past [] cut = absurd cut
@@ -22,7 +22,7 @@ cut_more start past (r ∷ rows) cut = (refl, refl, cut)
 pub cut_last : (start past : ℕ) → start < past → past - start ≤ 527040 → AreCut start past (record { start = start; past = past } ∷ [])
 cut_last start past some few = (refl, refl, some, few)
 
--- what was written of a gap, up to a start: with rows of what is left, it is cut into rows
+-- the rows that were written up to `start` become a cut of the gap when the rows of the rest are added
 pub record IsCutSoFar (first past : ℕ) (before : List ℕ) (start : ℕ) (after : List ℕ) : Type 0 where
   pub done : List Gap
   pub cut : (rest : List Gap) → AreCut start past rest → AreCut first past (done ++ rest)
@@ -31,7 +31,7 @@ pub record IsCutSoFar (first past : ℕ) (before : List ℕ) (start : ℕ) (afte
 pub cut_none : (first past : ℕ) (before : List ℕ) → IsCutSoFar first past before first before
 cut_none first past before = record { done = []; cut = λ rest cut. cut; is = sym (append-nil before) }
 
--- rows, and one more
+-- rows, and one more row
 rows_more : (before after new : List ℕ) (rows : List Gap) (r : Gap) → after ≡ before ++ flat_map form_row rows → new ≡ after ++ form_row r
     → new ≡ before ++ flat_map form_row (rows ++ r ∷ [])
 rows_more before after new rows r e g = g ∙ ap (λ (t : List ℕ). t ++ form_row r) e ∙ flat_map_more form_row before rows r
@@ -65,7 +65,7 @@ each_some (g ∷ gaps) apart = (apart.0, each_some gaps apart.2)
 pub all_some : (gaps : List Gap) → AreApart gaps → All (λ (g : Gap). g.start < g.past) gaps
 all_some gaps apart = All-from_recursion (λ (g : Gap). g.start < g.past) gaps (each_some gaps apart)
 
--- the rows of gaps, and those of one more
+-- the rows of gaps, followed by those of one more gap
 rows_and : (gaps : List Gap) (g : Gap) (rows more : List Gap) → AreRows gaps rows → AreCut g.start g.past more
     → AreRows (gaps ++ g ∷ []) (rows ++ more)
 rows_and [] g rows more are cut =
@@ -75,11 +75,11 @@ rows_and (x ∷ gaps) g rows more are cut =
     let back : List Gap = are.1 in
     (front, back ++ more, ap (λ (r : List Gap). r ++ more) are.2 ∙ append_assoc front back more, are.3, rows_and gaps g back more are.4 cut)
 
--- what was written of the gaps so far
+-- the text consists of a head and the rows of the gaps so far
 abbrev pub AreWritten : List Gap → List ℕ → List ℕ → Type 0
 AreWritten gaps head text = (rows : List Gap) × AreRows gaps rows × (text ≡ head ++ flat_map form_row rows)
 
--- and of one more
+-- likewise with one more gap
 pub written_more : (gaps : List Gap) (i : ℕ) (g : Gap) (head before after : List ℕ) → i < length gaps → g ≡ get_or gaps i g
     → AreWritten (take i gaps) head before
     → (rows : List Gap) × AreCut g.start g.past rows × (after ≡ before ++ flat_map form_row rows)
@@ -96,7 +96,7 @@ written_more gaps i g head before after within is written more =
           ∙ ap (λ (t : List ℕ). head ++ t) (sym (flat_map-append form_row rows new)),
     )
 
--- so they are a form
+-- so the text is a form
 pub form_is : (line : List Span) (base end : ℕ) (gaps lent : List Gap) (text : List ℕ) → lent ≡ gaps → AreGaps line base end gaps
     → AreWritten lent (codes "start,past,activity,author,note\n") text → IsForm line base end text
 form_is line base end gaps lent text same lacking written = record {
@@ -113,7 +113,7 @@ same_gap : (x y : Gap) → x.start ≡ y.start → x.past ≡ y.past → x ≡ y
 same_gap x y e f =
     ap (λ (n : ℕ). record { start = n; past = x.past }) e ∙ ap (λ (n : ℕ). record { start = y.start; past = n }) f
 
--- what is cut isn't empty
+-- a range that is cut into rows isn't empty
 cut_some : (start past : ℕ) (rows : List Gap) → AreCut start past rows → start < past
 cut_some start past [] cut = absurd cut
 cut_some start past (r ∷ []) cut = cut.2
@@ -122,14 +122,14 @@ cut_some start past (r ∷ q ∷ rows) cut =
     let some : r.past < past = cut_some r.past past (q ∷ rows) cut.2 in
     omega (arith, at, some)
 
--- minutes that fit one row aren't cut into more
+-- minutes that fit one row are not cut into more
 not_more : (start past : ℕ) (r q : Gap) (rows : List Gap) → AreCut start past (r ∷ q ∷ rows) → past - start ≤ 527040 → ⊥
 not_more start past r q rows cut few =
     let at : r.past ≡ start + 527040 = cut.1 in
     let some : r.past < past = cut_some r.past past (q ∷ rows) cut.2 in
     absurd (omega (arith, at, some, few))
 
--- a range is cut into rows in one way
+-- a range has only one cut into rows
 one_cut : (start past : ℕ) (xs ys : List Gap) → AreCut start past xs → AreCut start past ys → xs ≡ ys
 one_cut start past [] ys c d = absurd c
 one_cut start past (x ∷ []) [] c d = absurd d

@@ -1,4 +1,4 @@
--- The texts of a line depend on the marks that it gives the minutes, and on nothing else.
+-- The texts of a line depend only on the marks that it gives to the minutes.
 use Rattle.std.proofs.Common.{◌≡◌, ℕ, zero, suc, ◌+◌, ◌-◌, ◌*◌, ◌++◌, ◌%◌, Bool, List, [], ◌∷◌, Option, codes, decimal, flat_map, map, refl, sym, ap, ◌∙◌, arith}
 use Rattle.tacho_time.specs.declared.span.Mark.{Mark}
 use Rattle.tacho_time.specs.declared.span.Span.{Span}
@@ -82,7 +82,7 @@ days_same a b day (suc n) e =
     ap (λ (t : List ℕ). t ++ day_lines a (day + 1) n) (day_same a b day (λ m w. let x = w.0 in let y = w.1 in e m (omega arith, omega arith)))
     ∙ ap (λ (t : List ℕ). day_line b day ++ t) (days_same a b (day + 1) n (λ m w. let x = w.0 in let y = w.1 in e m (omega arith, omega arith)))
 
--- a sheet of equal days and equal sums
+-- sheets with equal lines of days and equal sums are equal
 abbrev sheet_text : ℕ → List ℕ → List Breach → Horizon → ℕ → ℕ → ℕ → List ℕ → List ℕ → List ℕ
 sheet_text number name breaches horizon month start past days sums =
     codes "DRIVER " ++ (decimal number ++ (codes " " ++ (name ++ (codes "\nMONTH " ++ (month_text month

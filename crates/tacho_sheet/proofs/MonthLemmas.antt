@@ -1,4 +1,4 @@
--- A month of all drivers: what is counted of a driver, and how it is written.
+-- A month of all drivers: what is counted for a driver, and how it is written.
 use Rattle.std.proofs.Common.{◌≡◌, ◌∙◌, ℕ, ◌+◌, ◌-◌, ◌<◌, ◌≤◌, ◌⊎◌, inl, inr, nat_cmp, is_lt, ◌&&◌, ◌||◌, nat_le, nat_lt, Bool, true, false, List, [], ◌∷◌, ◌++◌, Option, None, Some, length, take, drop, get_or, map, refl, sym, ap, arith, append_assoc, codes, decimal, cond}
 use Rattle.std.specs.List.{flat_map}
 use Rattle.std.specs.Ordering.{ord_max, ord_min}
@@ -21,7 +21,7 @@ use Rattle.tacho_sheet.proofs.AmountLemmas.{count_split, count_same, count_const
 
 -- ---- minutes within a stretch
 
--- a minute is within this one
+-- a minute is within the stretch
 abbrev is_in : Judged → ℕ → Bool
 is_in s m = nat_le s.monday m && nat_lt m s.horizon.minute
 
@@ -43,7 +43,7 @@ count_none p m n h = count_same p (λ i. false) m n h ∙ count_const false m n
 count_every : (p : ℕ → Bool) (m n : ℕ) → ((i : ℕ) → m ≤ i → i < m + n → p i ≡ true) → count_from p m n ≡ n
 count_every p m n h = count_same p (λ i. true) m n h ∙ count_const true m n
 
--- what follows a stretch begins no earlier than its horizon
+-- the stretches after a stretch begin at its horizon or later
 pub record Follows (s : Judged) (xs : List Judged) (end : ℕ) : Type 0 where
   pub order : s.monday ≤ s.horizon.minute
   pub next : ℕ
@@ -56,7 +56,7 @@ follow_next s xs start end follow = go s.unseen follow.2 where
   go None more = record { order = follow.1; next = s.horizon.minute; later = omega arith; follow = more }
   go (Some past) more = record { order = follow.1; next = past; later = more.1; follow = more.2 }
 
--- no minute is within stretches before their start
+-- no minute before the first stretch is within a stretch
 none_before : (xs : List Judged) (start end m : ℕ) → FollowOn (parts xs) start end → m < start → is_examined xs m ≡ false
 none_before [] start end m follow early = refl
 none_before (s ∷ xs) start end m follow early =
@@ -67,7 +67,7 @@ none_before (s ∷ xs) start end m follow early =
     let here : is_in s m ≡ false = before_it s.monday s.horizon.minute m (omega (arith, at, early)) in
     ap (λ (b : Bool). b || is_examined xs m) here ∙ none_before xs f.next end m f.follow (omega (arith, at, early, order, later))
 
--- the minutes from one on, of which those from `low` to before `high` are within the first stretch and no earlier ones are in any
+-- if `low` to `high` are the minutes of the range within the first stretch, that many count, and the other stretches count from `high` on
 count_first : (s : Judged) (xs : List Judged) (end from past low high : ℕ) → Follows s xs end
     → from ≤ low → s.monday ≤ low → (low ≡ from) ⊎ (low ≡ s.monday)
     → high ≤ past → high ≤ s.horizon.minute → (high ≡ past) ⊎ (high ≡ s.horizon.minute) → low < high
@@ -110,7 +110,7 @@ count_first s xs end from past low high f a b c d e g lt =
       after i u v (inl k) = absurd (omega (arith, u, v, k))
       after i u v (inr k) = omega (arith, u, k)
 
--- none of them is within the first stretch
+-- no minute of the range is within the first stretch, so only the other stretches count
 count_others : (s : Judged) (xs : List Judged) (from past low high : ℕ) → (low ≡ from) ⊎ (low ≡ s.monday)
     → (high ≡ past) ⊎ (high ≡ s.horizon.minute) → high ≤ low → from ≤ past
     → count_from (is_examined (s ∷ xs)) from (past - from) ≡ count_from (is_examined xs) from (past - from)
@@ -124,7 +124,7 @@ count_others s xs from past low high c g le early =
       outside i u v (inr k) (inl l) = before_it s.monday s.horizon.minute i (omega (arith, v, k, l, le))
       outside i u v (inr k) (inr l) = not_both s.monday s.horizon.minute i (omega (arith, k, l, le))
 
--- what a walk over stretches has counted, up to a minute: what is left says the rest
+-- what a walk over stretches has counted up to a minute; the remaining stretches give the rest of the count
 pub record IsCounted (all left : List Judged) (start from past examined end : ℕ) : Type 0 where
   pub begin : ℕ
   pub follow : FollowOn (parts left) begin end
@@ -164,9 +164,9 @@ counted_all all start from past examined end so =
     let counted = so.counted in
     omega (arith, counted, none)
 
--- ---- as the loop has them
+-- ---- by the index of the loop
 
--- the stretch of a place, and those after it
+-- the stretch at an index, and those after it
 pub told_next : (xs : List Stretch) (i : ℕ) (s : Stretch) → i < length xs → s ≡ get_or xs i s
     → map judged (drop i xs) ≡ judged s ∷ map judged (drop (i + 1) xs)
 told_next xs i s within is =
@@ -175,14 +175,14 @@ told_next xs i s within is =
 pub told_all : (xs : List Stretch) (i : ℕ) → length xs ≤ i → map judged (drop i xs) ≡ []
 told_all xs i over = ap (map judged) (drop_all i xs over)
 
--- rows of breaches, and those of one more list
+-- the rows of breaches of one more list
 pub rows_more : {X A : Type 0} (row : X → List A) (xs ys all : List X) (head before after : List A) → before ≡ head ++ flat_map row xs
     → after ≡ before ++ flat_map row ys → all ≡ xs ++ ys → after ≡ head ++ flat_map row all
 rows_more {A = A} row xs ys all head before after e g is =
     g ∙ ap (λ (t : List A). t ++ flat_map row ys) e ∙ append_assoc head (flat_map row xs) (flat_map row ys)
     ∙ ap (λ (t : List A). head ++ t) (sym (ap (flat_map row) is ∙ flat_map-append row xs ys))
 
--- the breaches of the stretches so far, and of one more
+-- the breaches of one more stretch
 pub breaches_more : (start past : ℕ) (xs : List Stretch) (i : ℕ) (s : Stretch) → i < length xs → s ≡ get_or xs i s
     → breaches_of start past (map judged (take (i + 1) xs))
     ≡ breaches_of start past (map judged (take i xs)) ++ breaches_within start past s.report.breaches.items
@@ -196,7 +196,7 @@ breaches_more start past xs i s within is =
 amounts_told : (line : List Span) (m n : ℕ) (a : Amounts) → AreAmounts line m n a → amounts_in a ≡ map (minutes_of line m n) columns
 amounts_told line m n a h = rw (h.rest, h.available, h.work, h.drive, h.crew, h.lacking) refl
 
--- the numbers of a driver, as they are written
+-- the numbers of a driver are written as the definition says
 pub numbers_told : (line : List Span) (stretches : List Judged) (start past examined : ℕ) (a : Amounts) (found : List Breach)
     → AreAmounts line start (past - start) a → examined ≡ count_from (is_examined stretches) start (past - start)
     → found ≡ breaches_of start past stretches
@@ -214,7 +214,7 @@ numbers_told line stretches start past examined a found h e f =
       minutes : ℕ
       minutes = count_from (is_examined stretches) start (past - start)
 
--- the row's pieces
+-- the row is the concatenation of its pieces
 pub row_pieces : (number name amounts examined counts numbers t t1 t2 t3 t4 t5 : List ℕ) → t1 ≡ t ++ (number ++ (codes "," ++ name))
     → t2 ≡ t1 ++ amounts → t3 ≡ t2 ++ examined → t4 ≡ t3 ++ counts → t5 ≡ t4 ++ codes "\n"
     → amounts ++ (examined ++ counts) ≡ numbers
@@ -225,7 +225,7 @@ row_pieces number name amounts examined counts numbers t t1 t2 t3 t4 t5 e1 e2 e3
           → t5 ≡ t ++ (number ++ (a ++ (name ++ ((amounts ++ (examined ++ counts)) ++ z))))
       pieces a z e1 e2 e3 e4 e5 = simp (e5, e4, e3, e2, e1, append_assoc) refl
 
--- the numbers of the kinds so far, and of one more
+-- the numbers of one more kind
 pub counts_more : (found : List Breach) (xs : List Kind) (i : ℕ) (d : Kind) (n : ℕ) (head before after : List ℕ) → i < length xs
     → n ≡ count_of found (get_or xs i d) → before ≡ head ++ cells (map (count_of found) (take i xs))
     → after ≡ before ++ (codes "," ++ decimal n) → after ≡ head ++ cells (map (count_of found) (take (i + 1) xs))
@@ -236,7 +236,7 @@ counts_more found xs i d n head before after within is e g =
     (g ∙ ap (λ (m : ℕ). before ++ cell m) is ∙ ap (λ (t : List ℕ). before ++ t) (sym (append-nil (cell (count_of found k)))))
     (ap (map (count_of found)) (take_more xs i d within) ∙ map-append (count_of found) (take i xs) (k ∷ []))
 
--- the later of two minutes, and the earlier
+-- the later of two minutes is one of them and isn't before the other; likewise for the earlier
 pub later_is : (a b m : ℕ) → m ≡ ord_max nat_cmp a b → (a ≤ m) × (b ≤ m) × ((m ≡ a) ⊎ (m ≡ b))
 later_is a b m e = go (is_lt (nat_cmp b a)) refl e where
   go : (t : Bool) → is_lt (nat_cmp b a) ≡ t → m ≡ cond t a b → (a ≤ m) × (b ≤ m) × ((m ≡ a) ⊎ (m ≡ b))
@@ -249,7 +249,7 @@ earlier_is a b m e = go (is_lt (nat_cmp b a)) refl e where
   go true k same = let lt : b < a = grind (arith, nat_tests) in (omega arith, omega arith, inr same)
   go false k same = let ge : a ≤ b = grind (arith, nat_tests) in (omega arith, omega arith, inl same)
 
--- ---- the words of a rule
+-- ---- the name of a rule
 
 pub kind_told : (kind : Kind) → kind_name kind ≡ kind_code kind ++ (codes " " ++ article kind)
 kind_told B1 = refl

@@ -11,7 +11,7 @@ use Rattle.tacho_sheet.specs.Number.{IsNumberText}
 own : IsNumeralModel (AllDigits 10) (digits_value 10)
 own = record { to = (λ ds h. h); from = (λ ds h. h); same = (λ ds h. refl) }
 
--- what holds of the text of a number
+-- what the text of a number satisfies
 pub record Written (text : List ℕ) (n : ℕ) : Type 0 where
   pub some : 0 < length text
   pub first : 48 < get_or text 0 0

@@ -1,4 +1,4 @@
--- A month has one text of each kind, and a line one form for gaps.
+-- A month has exactly one text of each kind, and a line exactly one form for gaps.
 use Rattle.std.proofs.Common.{◌≡◌, ◌∙◌, ◌*◌, ◌+◌, ℕ, List, ap, arith, sym, subst, codes, flat_map, ◌++◌}
 use Rattle.tacho_time.specs.Spans.{GiveSame, IsCanonical, IsCanonicalOf}
 use Rattle.tacho_time.specs.declared.span.Mark.{Mark}
@@ -23,7 +23,7 @@ one_gap_text one line month a b x y =
     let lacking = subst (λ (past : ℕ). AreGaps line x.start past y.gaps) same.1 (subst (λ (start : ℕ). AreGaps line start y.past y.gaps) same.0 y.lacking) in
     x.is ∙ (ap (flat_map gap_line) (one line x.start x.past x.gaps y.gaps x.lacking lacking) ∙ sym y.is)
 
--- two canonical lists of the same pairs give the same
+-- two canonical lists of the same pairs give the same marks
 give_same : (P : ℕ → Mark → Type 0) (xs ys : List Span) → IsCanonicalOf P xs → IsCanonicalOf P ys → GiveSame xs ys
 give_same P xs ys x y m mark = (λ g. (y.same m mark).1 ((x.same m mark).0 g), λ g. (x.same m mark).1 ((y.same m mark).0 g))
 

@@ -1,5 +1,5 @@
--- What docs/FORMATS.md says of lines, held against the definitions: with another text or number here this file is refused.
--- Numbers and minutes of faults, where that page has a letter, are those of the examples of README.md, docs/CARD.md and docs/OFFICE.md.
+-- The lines that docs/FORMATS.md shows are those of the definitions: with another text or number here, this file isn't accepted.
+-- Where that page has a letter for the number or the minute of a fault, the examples of README.md, docs/CARD.md and docs/OFFICE.md give it.
 use Rattle.std.proofs.Common.{◌≡◌, List, [], ◌∷◌, ◌++◌, codes, map, true, false, None, Some, refl}
 use Rattle.std.specs.Fmt.{digits}
 use Rattle.tacho_time.specs.declared.span.Activity.TheVariants.{Rest, Work, Drive}
@@ -125,7 +125,7 @@ s9 = refl
 s10 : fault_line (fault.Store store.UnknownDownload) ≡ codes "S10 unknown download\n"
 s10 = refl
 
--- what would be S11 is the fault of the card itself
+-- a store fault that wraps a card's fault has the line of the card's fault
 of_a_card : fault_line (fault.Store (store.Card card.TwoCards)) ≡ codes "C5 two cards\n"
 of_a_card = refl
 
@@ -205,7 +205,7 @@ e10_note : fault_line (fault.Sheet (sheet.Text 2 column.Note)) ≡ codes "E10 ba
 unfolding digits
 e10_note = refl
 
--- ---- words, input and memory
+-- ---- arguments, input and memory
 
 n1 : fault_line fault.Number ≡ codes "N1 bad number\n"
 n1 = refl
@@ -242,7 +242,7 @@ repeated : imported_text (Repeated 17) ≡ codes "repeated driver 17\n"
 unfolding digits
 repeated = refl
 
--- three entries from the first on, and none
+-- three entries from entry 1, and no entries
 entered : entered_text 1 3 ≡ codes "entered 1 to 3\n"
 unfolding digits
 entered = refl
@@ -258,7 +258,7 @@ base : base_line 19786 ≡ codes "base 2024-03-04\n"
 unfolding civil year_after month_after
 base = refl
 
--- an entry of the office that was withdrawn, and one of an author that wasn't
+-- a withdrawn entry of the office, and another author's entry that isn't withdrawn
 abbrev rested : Entry
 rested = record {
   number = 1;
@@ -281,7 +281,7 @@ kept_entry : entry_line day_off ≡ codes "2 2024-03-11 00:00 2024-03-12 00:00 r
 unfolding civil year_after month_after digits
 kept_entry = refl
 
--- a driver in the list of all of them
+-- a driver in the list of all drivers
 abbrev listed : Summary
 listed = record {
   number = 17;
@@ -348,7 +348,7 @@ b9 = refl
 b10 : kind_name B10 ≡ codes "B10 Art 8(6b)"
 b10 = refl
 
--- a debt of the week from 4 March, a minute before its deadline and at it; and one that was paid
+-- a debt of the week from 4 March, a minute before its deadline and at it; and a debt that was paid
 abbrev unpaid : Debt
 unpaid = record { week = 2826; amount = 1260; deadline = 28532160; paid_by = None }
 
@@ -369,7 +369,7 @@ paid_debt = refl
 
 -- ---- a month
 
--- the month's share of what is held: rest, work and driving on 4 March, and rest from the 31st at 16:00 on
+-- what is held in the month: rest, work and driving on 4 March, and rest from the 31st at 16:00 on
 abbrev held : List Span
 held =
     record { start = 28491840; past = 28492320; mark = record { activity = Rest; crew = false } }
@@ -386,7 +386,7 @@ next_gap : gap_line (record { start = 28492860; past = 28531680 }) ≡ codes "20
 unfolding civil year_after month_after
 next_gap = refl
 
--- head and rows of the spans as CSV
+-- the head and the rows of the spans as CSV
 csv : csv_text held ≡ codes "start,past,activity,manning\n" ++ codes "2024-03-04 00:00,2024-03-04 08:00,rest,single\n"
     ++ codes "2024-03-04 08:00,2024-03-04 08:30,work,single\n" ++ codes "2024-03-04 08:30,2024-03-04 17:00,drive,single\n"
     ++ codes "2024-03-31 16:00,2024-04-01 00:00,rest,single\n"
@@ -429,7 +429,7 @@ whole = refl
 
 -- ---- stretches
 
--- those from 4 and from 11 March
+-- the stretches from 4 and from 11 March
 abbrev stretches : List Judged
 stretches =
     record { monday = 28491840; horizon = its_horizon; breaches = too_long_at_the_wheel ∷ []; debts = []; unseen = Some 28501920 }
@@ -456,7 +456,7 @@ overview : overview_head ++ overview_row 17 (codes "Anna Berg")
 unfolding digits
 overview = refl
 
--- the minutes at the ends of the two stretches, and those beside them
+-- the minutes at the ends of the two stretches, and those next to them
 examined : map (is_examined stretches) (28491839 ∷ 28491840 ∷ 28492859 ∷ 28492860 ∷ 28501919 ∷ 28501920 ∷ 28502579 ∷ 28502580 ∷ [])
     ≡ false ∷ true ∷ true ∷ false ∷ false ∷ true ∷ true ∷ false ∷ []
 examined = refl

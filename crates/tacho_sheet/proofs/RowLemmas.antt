@@ -1,4 +1,4 @@
--- What a reader has left after it read a row, and that every text has rows.
+-- What a reader has yet to read after a row, and that every text has rows.
 use Rattle.std.proofs.Common.{Bor, ◌≡◌, ◌<◌, ◌≤◌, ◌+◌, ◌++◌, ◌∷◌, ◌∙◌, ◌==◌, ℕ, Bool, true, false, cond, List, [], Option, Some, None, length, refl, arith, zero, suc, inl}
 use Rattle.csv.specs.Machine.{Read, ends_at_end, ends_with, field_after, fields_after, in_field, is_end, next_record, start_field, start_record, step}
 use Rattle.csv.specs.Reading.{AreRecords, Reached, ReadRecord, Ready, default_config, is_bom, is_flexible, reader_state, reader_trim, source_of, strip_bom, took_first}
@@ -11,7 +11,7 @@ use Rattle.csv.specs.declared.reader.Trim.TheVariants as trim
 use Rattle.csv.proofs.ReadFacts.{rows-more, rows-end}
 use Rattle.tacho_sheet.specs.Rows.{AreLeft, HasLeft, Row}
 
--- a step that ends a record leads between two records
+-- a step that ends a record leads to a state between two records
 record Between (next : State × Action) : Type 0 where
   pub between : is_end next.1 ≡ true → ends_at_end next.0 ≡ false
 
@@ -47,7 +47,7 @@ between_step st.AfterQuote c = between_if (c == 34) _ _ (between_other _ _ refl)
 between_step st.InComment c = between_if (c == 10) _ _ (between_other _ _ refl) (between_other _ _ refl)
 between_step st.AfterCr c = between_if (c == 10) _ _ (between_other _ _ refl) (between_first c)
 
--- a record that is read takes a byte at least, and leads between two records
+-- reading a record consumes at least one byte, and leads to a state between two records
 record Takes (s : State) (text : List ℕ) (read : Read) : Type 0 where
   pub between : ends_at_end read.1 ≡ false
   pub less : length read.2 ≤ length text
@@ -77,7 +77,7 @@ takes s fields field (c ∷ rest) read e =
           let more = deep h in
           record { between = more.between; less = let l = more.less in omega arith; some = λ f. let l = more.less in omega arith }
 
--- no row is left where no record is read
+-- if no record is read, there are no more rows
 pub no_row : (s : State) (text : List ℕ) → next_record default_config s [] [] text ≡ None → AreRecords default_config s text []
 unfolding Reached
 no_row s text e = (s, text, (refl, refl), e)
@@ -103,30 +103,30 @@ rows_below (suc n) s text h b = go (rows_below n) (next_record default_config s 
       let more = deep read.1 read.2 (omega arith) t.between in
       (read.0 ∷ more.0, row_more s text read more.0 e more.1)
 
--- the rows that a reader has left
+-- the rows that a reader has yet to read
 pub left_rows : (reader : Reader (Bor (List ℕ))) (text : List ℕ) → HasLeft reader text → (rows : List Row) × AreLeft reader rows
 left_rows reader text h =
     let there = rows_below (length text + 1) reader.state text (omega arith) h.between in
     (there.0, (text, h.source, there.1))
 
--- the same, by the state and the text after the row
+-- likewise, by the state and the text after the row
 row_goes : (s : State) (text : List ℕ) (read : Read) (fields : Row) (rows : List Row) (s2 : State) (after : List ℕ) → next_record default_config s [] [] text ≡ Some read
     → fields ≡ read.0 → read.1 ≡ s2 → read.2 ≡ after → AreRecords default_config s2 after rows → AreRecords default_config s text (fields ∷ rows)
 row_goes s text read fields rows s2 after e f state rest there =
     rw f (row_more s text read rows e (rw (state, rest) there))
 
--- what a reader has left after a row
+-- what a reader has yet to read after a row
 pub record IsRowRead (a b : Reader (Bor (List ℕ))) (before : List ℕ) (fields : Row) (after : List ℕ) : Type 0 where
   pub left : HasLeft b after
   pub less : length after < length before
   pub more : (rows : List Row) → AreLeft b rows → AreLeft a (fields ∷ rows)
 
--- the rows that a reader has left are those of the text that it has left
+-- the rows that a reader has yet to read are those of the rest of its text
 left_of : (b : Reader (Bor (List ℕ))) (text : List ℕ) (rows : List Row) → source_of (λ s. Some s.now) b ≡ Some text → AreLeft b rows
     → AreRecords default_config b.state text rows
 left_of b text rows e there = let same : there.0 ≡ text = cc (e, there.1) in rw same at there.2
 
--- a read that found a row, by what it ensures
+-- a read that found a row
 pub row_read : (a b : Reader (Bor (List ℕ))) (before : List ℕ) (found : Bool) (fields : Row) → HasLeft a before
     → (reader_trim a ≡ trim.None → Ready a → ReadRecord (λ s. Some s.now) a b found fields) → (reader_trim a ≡ trim.None → took_first b ≡ true)
     → is_flexible b ≡ is_flexible a → found ≡ true → (after : List ℕ) × IsRowRead a b before fields after
@@ -146,7 +146,7 @@ row_read a b before found fields h reads first kept is =
       },
     )
 
--- a read that found none
+-- a read that found no row
 pub row_missing : (a b : Reader (Bor (List ℕ))) (text : List ℕ) (found : Bool) (fields : Row) → HasLeft a text
     → (reader_trim a ≡ trim.None → Ready a → ReadRecord (λ s. Some s.now) a b found fields) → found ≡ false → AreLeft a []
 row_missing a b text found fields h reads is =
@@ -158,7 +158,7 @@ pub start_rows : (reader : Reader (Bor (List ℕ))) (text : List ℕ) (rows : Li
     → AreRecords default_config st.StartRecord text rows
 start_rows reader text rows h state there = rw state at (left_of reader text rows h.source there)
 
--- a text is no longer without its byte order mark
+-- a text without its byte order mark is no longer than with it
 pub strip_bom_short : (text : List ℕ) → length (strip_bom text) ≤ length text
 unfolding strip_bom
 strip_bom_short [] = omega arith

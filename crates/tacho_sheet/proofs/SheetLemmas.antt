@@ -16,7 +16,7 @@ amounts_written line m n a h = rw (h.rest, h.available, h.work, h.drive, h.crew,
 day_written : (line : List Span) (day : ℕ) (a : Amounts) → AreAmounts line (1440 * day) 1440 a → line_of_day day a ≡ day_line line day
 day_written line day a h = ap (λ (t : List ℕ). day_text day ++ (codes " " ++ (weekday_name ((day + 3) % 7) ++ (t ++ codes "\n")))) (amounts_written line (1440 * day) 1440 a h)
 
--- so many days, and the day after them
+-- the lines of n days, followed by the line of the next day
 lines_more : (line : List Span) (day n : ℕ) → day_lines line day (suc n) ≡ day_lines line day n ++ day_line line (day + n)
 lines_more line day zero = let e : day ≡ day + zero = omega arith in append-nil (day_line line day) ∙ ap (λ (x : ℕ). day_line line x) e
 lines_more line day (suc n) =
@@ -24,7 +24,7 @@ lines_more line day (suc n) =
     ap (λ (t : List ℕ). day_line line day ++ t) (lines_more line (day + 1) n ∙ ap (λ (x : ℕ). day_lines line (day + 1) n ++ day_line line x) e)
     ∙ sym (append_assoc (day_line line day) (day_lines line (day + 1) n) (day_line line (day + suc n)))
 
--- what was written of days, and a day more
+-- the lines that were written, and one more day
 pub days_more : (line : List Span) (first day : ℕ) (t before after : List ℕ) (a : Amounts) → first ≤ day → AreAmounts line (1440 * day) 1440 a
     → before ≡ t ++ day_lines line first (day - first) → after ≡ before ++ line_of_day day a → after ≡ t ++ day_lines line first ((day + 1) - first)
 days_more line first day t before after a le h e g =
@@ -40,7 +40,7 @@ pub whole_days : (m : ℕ) (z : ℤ) → pos m ≡ pos 1440 *ℤ z → 1440 * (m
 whole_days m (pos n) e = omega (arith, signed_arith, e)
 whole_days m (negsuc n) e = omega (arith, signed_arith, e)
 
--- the sheet's pieces
+-- the sheet is the concatenation of its pieces
 pub sheet_pieces : (a b c d e f g days words sums feed breaches end t1 t2 t3 t4 t5 t6 t7 : List ℕ) → t1 ≡ a ++ (b ++ (c ++ (d ++ (e ++ (f ++ g))))) → t2 ≡ t1 ++ days → t3 ≡ t2 ++ words → t4 ≡ t3 ++ sums
     → t5 ≡ t4 ++ feed → t6 ≡ t5 ++ breaches → t7 ≡ t6 ++ end
     → t7 ≡ a ++ (b ++ (c ++ (d ++ (e ++ (f ++ (g ++ (days ++ (words ++ (sums ++ (feed ++ (breaches ++ end)))))))))))

@@ -8,7 +8,7 @@ use Rattle.std.proofs.lemmas.Bool.Decides.{Decides-and, Decides-by_and, Decides-
 use Rattle.tacho_state.specs.Limits.{IsName, IsNameByte, IsNote}
 use Rattle.tacho_sheet.specs.Entries.{is_author, is_name_byte, is_note, is_plain_text}
 
--- the test of an order on numbers
+-- the test of the order of two numbers
 at_most : (a b : ℕ) → Decides (nat_le a b) (a ≤ b)
 at_most a b = (λ h. grind (arith, nat_tests), λ h. grind (arith, nat_tests))
 
@@ -29,12 +29,12 @@ plain_text text =
     Decides-and (is_utf8 text) (list_all is_name_byte text) (IsUtf8-from_is_utf8 text, is_utf8-from_IsUtf8 text)
     (Decides-by_and is_name_byte IsNameByte (list_all is_name_byte) name_byte refl (λ _ _. refl) text)
 
--- a test of what isn't so fails
+-- a test of something that doesn't hold fails
 fails : {P : Type 0} (r : Bool) → Decides r P → ¬ P → r ≡ false
 fails true d h = absurd (h (d.0 refl))
 fails false d h = refl
 
--- a text is an author's where it is UTF-8 of a name
+-- a text is an author if it is UTF-8 and a name
 pub author_text : (text : List ℕ) → Decides (is_author text) (IsUtf8 text × IsName text)
 author_text text =
     Decides-like (is_author text)
@@ -43,7 +43,7 @@ author_text text =
     (Decides-and (is_plain_text text) _ (plain_text text)
     (Decides-and (nat_le 1 (length text)) (nat_le (length text) 64) (at_most 1 (length text)) (at_most (length text) 64)))
 
--- and a note's where it is UTF-8 of a note
+-- a text is a note if it is UTF-8 and a note
 pub note_text : (text : List ℕ) → Decides (is_note text) (IsUtf8 text × IsNote text)
 note_text text =
     Decides-like (is_note text)
@@ -51,7 +51,7 @@ note_text text =
     (λ h. ((h.0, h.1.bytes), h.1.most))
     (Decides-and (is_plain_text text) (nat_le (length text) 200) (plain_text text) (at_most (length text) 200))
 
--- another text is none of the two
+-- other texts are no author
 pub no_author : (text : List ℕ) → ¬ (IsUtf8 text × IsName text) → is_author text ≡ false
 no_author text = fails (is_author text) (author_text text)
 

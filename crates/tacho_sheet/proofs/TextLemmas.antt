@@ -10,7 +10,7 @@ use Rattle.std.specs.List.{filter, flat_map}
 pub take_more : {X : Type 0} (xs : List X) (i : ℕ) (d : X) → i < length xs → take (i + 1) xs ≡ take i xs ++ get_or xs i d ∷ []
 take_more xs i d h = grind (arith, common_steps)
 
--- what was written, and a line more
+-- the lines that were written, and one more
 pub one_more_line : {X A : Type 0} (f : X → List A) (xs : List X) (i : ℕ) (d : X) (before after : List A) → i < length xs
     → before ≡ flat_map f (take i xs) → after ≡ before ++ f (get_or xs i d) → after ≡ flat_map f (take (i + 1) xs)
 one_more_line {A = A} f xs i d before after h e g =
@@ -19,7 +19,7 @@ one_more_line {A = A} f xs i d before after h e g =
     ∙ sym (flat_map-append f (take i xs) (get_or xs i d ∷ []))
     ∙ sym (ap (λ t. flat_map f t) (take_more xs i d h))
 
--- the same of what the things are told as
+-- likewise for the views of the items
 pub one_more_told : {X Y A : Type 0} (f : Y → List A) (told : X → Y) (xs : List X) (i : ℕ) (x : X) (before after : List A) → i < length xs
     → x ≡ get_or xs i x → before ≡ flat_map f (map told (take i xs)) → after ≡ before ++ f (told x)
     → after ≡ flat_map f (map told (take (i + 1) xs))
@@ -28,19 +28,19 @@ one_more_told f told xs i x before after h is e g =
     (g ∙ ap (λ y. before ++ f (told y)) is)
     ∙ sym (flat_map-map f told (take (i + 1) xs))
 
--- the same behind a head
+-- likewise after a head
 pub one_more_row : {X : Type 0} (f : X → List ℕ) (xs : List X) (i : ℕ) (d : X) (head before after : List ℕ) → i < length xs
     → before ≡ head ++ flat_map f (take i xs) → after ≡ before ++ f (get_or xs i d) → after ≡ head ++ flat_map f (take (i + 1) xs)
 one_more_row f xs i d head before after h e g =
     g ∙ ap (λ (t : List ℕ). t ++ f (get_or xs i d)) e ∙ append_assoc head (flat_map f (take i xs)) (f (get_or xs i d))
     ∙ ap (λ (t : List ℕ). head ++ t) (one_more_line f xs i d (flat_map f (take i xs)) (flat_map f (take i xs) ++ f (get_or xs i d)) h refl refl)
 
--- what was pushed where there was memory
+-- what was pushed, unless memory ran out
 pub on_pushed : {A E Q : Type 0} (r : Result A E) {t : List ℕ} (pushed old : List ℕ) → t ≡ (if is_ok r then pushed else old) → (t ≡ pushed → Q) → OnOk r Q
 on_pushed (Ok a) pushed old e f = f e
 on_pushed (Err x) pushed old e f = tt
 
--- what was written of those that pass a test, and a line more
+-- the lines of the items that pass a test, and one more
 pub one_more_kept : {X : Type 0} (f : X → List ℕ) (p : X → Bool) (xs : List X) (i : ℕ) (d : X) (t before after : List ℕ) → i < length xs → p (get_or xs i d) ≡ true
     → before ≡ t ++ flat_map f (filter p (take i xs)) → after ≡ before ++ f (get_or xs i d) → after ≡ t ++ flat_map f (filter p (take (i + 1) xs))
 one_more_kept f p xs i d t before after h k e g =
@@ -48,19 +48,19 @@ one_more_kept f p xs i d t before after h k e g =
     let front = filter p (take i xs) in
     simp (g, e, filter_more p xs i d h, k, flat_map-append f front (x ∷ []), append-nil (f x), append_assoc) refl
 
--- and none for one that doesn't
+-- no line is added for an item that doesn't pass
 pub none_more_kept : {X : Type 0} (f : X → List ℕ) (p : X → Bool) (xs : List X) (i : ℕ) (d : X) (t before after : List ℕ) → i < length xs → p (get_or xs i d) ≡ false
     → before ≡ t ++ flat_map f (filter p (take i xs)) → after ≡ before → after ≡ t ++ flat_map f (filter p (take (i + 1) xs))
 none_more_kept f p xs i d t before after h k e g =
     let front = filter p (take i xs) in
     simp (g, e, filter_more p xs i d h, k, append-nil front) refl
 
--- those that pass a test, and one more
+-- the items that pass a test, and one more
 pub one_more_of : {X : Type 0} (p : X → Bool) (xs : List X) (i : ℕ) (d : X) (t before after : List X) → i < length xs
     → p (get_or xs i d) ≡ true → before ≡ t ++ filter p (take i xs) → after ≡ before ++ get_or xs i d ∷ [] → after ≡ t ++ filter p (take (i + 1) xs)
 one_more_of p xs i d t before after h k e g = simp (g, e, filter_more p xs i d h, k, append_assoc) refl
 
--- and none for one that doesn't
+-- an item that doesn't pass isn't added
 pub none_more_of : {X : Type 0} (p : X → Bool) (xs : List X) (i : ℕ) (d : X) (t before after : List X) → i < length xs
     → p (get_or xs i d) ≡ false → before ≡ t ++ filter p (take i xs) → after ≡ before → after ≡ t ++ filter p (take (i + 1) xs)
 none_more_of p xs i d t before after h k e g = simp (g, e, filter_more p xs i d h, k, append-nil (filter p (take i xs))) refl

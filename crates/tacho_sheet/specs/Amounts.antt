@@ -6,7 +6,7 @@ use Rattle.tacho_time.specs.Text.{day_text, month_text}
 use Rattle.tacho_sheet.specs.declared.amounts.Amounts.{Amounts}
 use Rattle.tacho_sheet.specs.Reports.{minutes_of, is_single, is_crew, is_lacking, amount_text, right, weekday_name}
 
--- the amounts are those of so many minutes from one on
+-- the amounts are those of the n minutes from m on
 pub record AreAmounts (line : List Span) (m n : ℕ) (a : Amounts) : Type 0 where
   pub rest : a.rest ≡ minutes_of line m n (is_single Rest)
   pub available : a.available ≡ minutes_of line m n (is_single Available)
@@ -15,21 +15,21 @@ pub record AreAmounts (line : List Span) (m n : ℕ) (a : Amounts) : Type 0 wher
   pub crew : a.crew ≡ minutes_of line m n is_crew
   pub lacking : a.lacking ≡ minutes_of line m n is_lacking
 
--- all minutes, or none
+-- n if the test holds, otherwise 0
 abbrev pub part : Bool → ℕ → ℕ
 part true n = n
 part false n = 0
 
--- the sum of the six
+-- the sum of the six amounts
 abbrev pub whole : Amounts → ℕ
 whole a = a.rest + (a.available + (a.work + (a.drive + (a.crew + a.lacking))))
 
--- in order from one minute to another, and none empty
+-- the spans are in order between two minutes, and none is empty
 abbrev pub AreFrom : ℕ → ℕ → List Span → Type 0
 AreFrom from past [] = from ≤ past
 AreFrom from past (s ∷ ss) = (from ≤ s.start) × (s.start < s.past) × AreFrom s.past past ss
 
--- the six, each right in seven places
+-- the six amounts, each right-aligned in seven columns
 abbrev pub amounts_line : Amounts → List ℕ
 amounts_line a =
     right (amount_text a.rest) ++ (right (amount_text a.available) ++ (right (amount_text a.work) ++ (right (amount_text a.drive)
@@ -39,13 +39,13 @@ amounts_line a =
 abbrev pub line_of_day : ℕ → Amounts → List ℕ
 line_of_day day a = day_text day ++ (codes " " ++ (weekday_name ((day + 3) % 7) ++ (amounts_line a ++ codes "\n")))
 
--- what stands before the days
+-- the text before the days
 abbrev pub head_text : ℕ → List ℕ → ℕ → List ℕ
 head_text number name month =
     codes "DRIVER " ++ (decimal number ++ (codes " " ++ (name ++ (codes "\nMONTH " ++ (month_text month
     ++ codes "\nDATE       DAY   REST  AVAIL   WORK  DRIVE   CREW   NONE\n")))))
 
--- the six, in the order of the columns
+-- the six amounts, in the order of the columns
 abbrev pub amounts_in : Amounts → List ℕ
 amounts_in a = a.rest ∷ a.available ∷ a.work ∷ a.drive ∷ a.crew ∷ a.lacking ∷ []
 

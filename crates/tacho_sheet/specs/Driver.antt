@@ -1,4 +1,4 @@
--- Trusted: The driver that a text of CSV registers, or the first fault: the columns from left to right.
+-- Trusted: The driver that a text of CSV registers, or its first fault: the columns are checked from left to right.
 use Rattle.std.specs.Prelude.{◌≡◌, ◌⊎◌, ◌&&◌, ℕ, Bool, true, false, List, [], ◌∷◌, length, Option, Some, None, Result, Ok, Err, bytes_eq, codes}
 use Rattle.std.specs.Str.{IsUtf8}
 use Rattle.hex.specs.Hex.{encode_lower, IsBytes}
@@ -14,7 +14,7 @@ use Rattle.tacho_sheet.specs.declared.fault.SheetFault.TheVariants as fault
 
 -- ---- the texts of columns
 
--- no fifteen bytes are written so, in thirty hexadecimal digits without capitals
+-- the text isn't the 30 hexadecimal digits, without capitals, of any fifteen bytes
 abbrev pub HasNoHolder : List ℕ → Type 0
 HasNoHolder text = (holder : List ℕ) → length holder ≡ 15 → IsBytes holder → ¬ (text ≡ encode_lower holder)
 
@@ -32,7 +32,7 @@ pub record Five : Type 0 where
   pub base : List ℕ
   pub name : List ℕ
 
--- the texts say this, each within its column's limits
+-- the texts give this registration, each within its column's limits
 pub record IsDriverText (f : Five) (r : Registration) : Type 0 where
   pub driver : IsNumberText 999999 f.driver r.number
   pub holder : (length r.holder ≡ 15) × IsBytes r.holder × (f.holder ≡ encode_lower r.holder)
@@ -43,14 +43,14 @@ pub record IsDriverText (f : Five) (r : Registration) : Type 0 where
 abbrev pub HasNumber : List ℕ → Type 0
 HasNumber text = (n : ℕ) × IsNumberText 999999 text n
 
--- fifteen bytes are written so
+-- the text is the hexadecimal digits of fifteen bytes
 abbrev pub HasHolder : List ℕ → Type 0
 HasHolder text = (holder : List ℕ) × (length holder ≡ 15) × IsBytes holder × (text ≡ encode_lower holder)
 
 abbrev pub HasDay : List ℕ → Type 0
 HasDay text = (day : ℕ) × (day_at text ≡ Ok day)
 
--- E9: the column's text is out of its limits, and those before it are within theirs
+-- E9: the column's text is out of its limits, and the columns before it are within theirs
 abbrev pub IsFirstBadText : Five → Column → Type 0
 IsFirstBadText f column.Driver = HasNoNumber 999999 f.driver
 IsFirstBadText f column.Holder = HasNumber f.driver × HasNoHolder f.holder
@@ -66,7 +66,7 @@ IsColumnFault f _ = ⊥
 
 -- ---- rows
 
--- five fields, where there are just five
+-- the five fields of a row that has exactly five
 abbrev pub five_of : Row → Option Five
 five_of (a ∷ b ∷ c ∷ d ∷ e ∷ []) = Some (record { driver = a; holder = b; key = c; base = d; name = e })
 five_of _ = None
@@ -81,7 +81,7 @@ is_driver_head_of None = false
 abbrev pub is_driver_head : Row → Bool
 is_driver_head row = is_driver_head_of (five_of row)
 
--- what the rows after the head answer: E2 and E9 of row 2, and then E2 where there is a third row
+-- the answers of the rows after the head: E2 or E9 for row 2, and then E2 if there is a third row
 abbrev pub IsRowAnswer : Option Five → Result Registration SheetFault → Type 0
 IsRowAnswer None answer = answer ≡ Err (fault.Fields 2)
 IsRowAnswer (Some f) (Ok r) = IsDriverText f r
@@ -94,12 +94,12 @@ IsBodyAnswer (row ∷ more) (Ok r) = ⊥
 IsBodyAnswer (row ∷ more) (Err e) =
     IsRowAnswer (five_of row) (Err e) ⊎ ((e ≡ fault.Fields 3) × ((r : Registration) × IsRowAnswer (five_of row) (Ok r)))
 
--- E1
+-- E1 if the first row isn't the head
 abbrev pub IsDriverAnswer : List Row → Result Registration SheetFault → Type 0
 IsDriverAnswer [] answer = answer ≡ Err fault.Head
 IsDriverAnswer (head ∷ body) answer =
     (is_driver_head head ≡ true → IsBodyAnswer body answer) × (is_driver_head head ≡ false → answer ≡ Err fault.Head)
 
--- what is read of a text, where neither memory nor the reader of CSV fails
+-- the answer for a text, if neither memory nor the reader of CSV fails
 abbrev pub IsDriverRead : List ℕ → Result Registration SheetFault → Type 0
 IsDriverRead text answer = (rows : List Row) × AreRows text rows × IsDriverAnswer rows answer

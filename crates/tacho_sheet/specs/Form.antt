@@ -7,26 +7,26 @@ use Rattle.tacho_line.specs.Line.{AreGaps}
 use Rattle.tacho_state.specs.Batch.{Hours}
 use Rattle.tacho_sheet.specs.Entries.{is_author, is_note}
 
--- the most minutes of a row that hours are entered by: 366 days
+-- the most minutes that a row of hours may have: 366 days
 abbrev pub longest : ℕ
 longest = 527040
 
--- the rows of the minutes from a start to before a past: each has the most minutes, but the last has those that are left
+-- the rows into which the range from `start` to `past` is cut: each has the most minutes, and the last has the rest
 abbrev pub AreCut : ℕ → ℕ → List Gap → Type 0
 AreCut start past [] = ⊥
 AreCut start past (r ∷ []) = (r.start ≡ start) × (r.past ≡ past) × (start < past) × (past - start ≤ longest)
 AreCut start past (r ∷ rows) = (r.start ≡ start) × (r.past ≡ start + longest) × AreCut r.past past rows
 
--- the rows of all gaps, gap by gap
+-- the rows of all gaps, in their order
 abbrev pub AreRows : List Gap → List Gap → Type 0
 AreRows [] rows = rows ≡ []
 AreRows (g ∷ gaps) rows = (front : List Gap) × (back : List Gap) × (rows ≡ front ++ back) × AreCut g.start g.past front × AreRows gaps back
 
--- start and past; activity, author and note are empty
+-- the start and the past; activity, author and note are empty
 abbrev pub form_row : Gap → List ℕ
 form_row r = minute_text r.start ++ (codes "," ++ (minute_text r.past ++ codes ",,,\n"))
 
--- a head, and the rows of the maximal runs of minutes from the base to the end of what is held that aren't held
+-- a head, and the rows of the gaps of the line from the base to the end
 pub record IsForm (line : List Span) (base end : ℕ) (text : List ℕ) : Type 0 where
   pub gaps : List Gap
   pub lacking : AreGaps line base end gaps
@@ -34,9 +34,9 @@ pub record IsForm (line : List Span) (base end : ℕ) (text : List ℕ) : Type 0
   pub are_rows : AreRows gaps rows
   pub is : text ≡ codes "start,past,activity,author,note\n" ++ flat_map form_row rows
 
--- ---- a form that is filled in
+-- ---- a filled-in form
 
--- hours that fill in the rows of a form: the minutes of each, any activity, and an author and a note within their limits
+-- hours that fill in the rows of a form: they have the minutes of the rows, any activity, and an author and a note within their limits
 abbrev pub Fills : List Gap → List Hours → Type 0
 Fills [] [] = Unit {0}
 Fills [] (h ∷ hours) = ⊥
@@ -44,12 +44,12 @@ Fills (r ∷ rows) [] = ⊥
 Fills (r ∷ rows) (h ∷ hours) =
     (h.start ≡ r.start) × (h.past ≡ r.past) × (is_author h.author ≡ true) × (is_note h.note ≡ true) × Fills rows hours
 
--- a row that is filled in
+-- a filled-in row
 abbrev pub filled_row : Hours → List ℕ
 filled_row h =
     minute_text h.start ++ (codes "," ++ (minute_text h.past ++ (codes "," ++ (activity_name h.activity
     ++ (codes "," ++ (h.author ++ (codes "," ++ (h.note ++ codes "\n"))))))))
 
--- the same head, and the rows
+-- the same head, and the filled-in rows
 abbrev pub filled_form : List Hours → List ℕ
 filled_form hours = codes "start,past,activity,author,note\n" ++ flat_map filled_row hours

@@ -16,11 +16,11 @@ use Rattle.tacho_sheet.specs.declared.fault.SheetFault.TheVariants as sheet
 use Rattle.tacho_sheet.specs.declared.fault.Fault.{Fault}
 use Rattle.tacho_sheet.specs.declared.fault.Fault.TheVariants as fault
 
--- the line of want of memory
+-- the line of M1, out of memory
 abbrev pub no_memory_line : List ℕ
 no_memory_line = codes "M1 no memory\n"
 
--- a line that ends in a number, and one that ends in a minute
+-- a line that ends with a number, and a line that ends with a minute
 abbrev pub line_at : List ℕ → ℕ → List ℕ
 line_at words n = words ++ (decimal n ++ codes "\n")
 

@@ -9,7 +9,7 @@ use Rattle.tacho_hours.specs.Order.{place_of_kind}
 use Rattle.tacho_stretches.specs.Stretches.{Judged}
 use Rattle.tacho_sheet.specs.Reports.{AreBounds, breaches_within, columns, count_from, minutes_of}
 
--- the breaches of all stretches with their moment between two minutes, stretch by stretch
+-- the breaches of all stretches whose moment is from `start` to before `past`, stretch by stretch
 abbrev pub breaches_of : ℕ → ℕ → List Judged → List Breach
 breaches_of start past stretches = flat_map (λ (s : Judged). breaches_within start past s.breaches) stretches
 
@@ -23,11 +23,11 @@ is_examined (s ∷ stretches) m = (nat_le s.monday m && nat_lt m s.horizon.minut
 abbrev pub kinds : List Kind
 kinds = B1 ∷ B2 ∷ B3 ∷ B4 ∷ B5 ∷ B6 ∷ B7 ∷ B8 ∷ B9 ∷ B10 ∷ []
 
--- how many breaches are of a kind
+-- the number of breaches of a kind
 abbrev pub count_of : List Breach → Kind → ℕ
 count_of breaches kind = count_by (λ (b : Breach). place_of_kind b.kind == place_of_kind kind) breaches
 
--- of the minutes between two: how many a column counts, how many are within a stretch, and the breaches of each kind
+-- for a range of minutes: the count of each column, the minutes within a stretch, and the number of breaches of each kind
 abbrev pub numbers_of : List Span → List Judged → ℕ → ℕ → List ℕ
 numbers_of line stretches start past =
     map (minutes_of line start (past - start)) columns
@@ -36,12 +36,12 @@ numbers_of line stretches start past =
 abbrev pub overview_head : List ℕ
 overview_head = codes "driver,name,rest,available,work,drive,crew,none,examined,B1,B2,B3,B4,B5,B6,B7,B8,B9,B10\n"
 
--- number, name and numbers, between commas
+-- a driver's number, name and numbers, separated by commas
 abbrev pub overview_row : ℕ → List ℕ → List ℕ → List ℕ
 overview_row number name numbers =
     decimal number ++ (codes "," ++ (name ++ (flat_map (λ n. codes "," ++ decimal n) numbers ++ codes "\n")))
 
--- a driver's row of a month
+-- a driver's row of the overview of a month
 pub record IsOverviewRow (number : ℕ) (name : List ℕ) (line : List Span) (stretches : List Judged) (month : ℕ) (text : List ℕ) : Type 0 where
   pub start : ℕ
   pub past : ℕ
@@ -63,7 +63,7 @@ kind_code B8 = codes "B8"
 kind_code B9 = codes "B9"
 kind_code B10 = codes "B10"
 
--- the Article of Regulation (EC) 561/2006 that has it
+-- the Article of Regulation (EC) 561/2006 that states the rule
 abbrev pub article : Kind → List ℕ
 article B1 = codes "Art 7"
 article B2 = codes "Art 8(2)"
@@ -79,13 +79,13 @@ article B10 = codes "Art 8(6b)"
 abbrev pub incident_head : List ℕ
 incident_head = codes "driver,name,kind,article,moment,since,amount\n"
 
--- a breach of a driver, between commas
+-- a driver's breach, separated by commas
 abbrev pub incident_row : ℕ → List ℕ → Breach → List ℕ
 incident_row number name b =
     decimal number ++ (codes "," ++ (name ++ (codes "," ++ (kind_code b.kind ++ (codes "," ++ (article b.kind ++ (codes ","
     ++ (minute_text b.moment ++ (codes "," ++ (minute_text b.since ++ (codes "," ++ (decimal b.amount ++ codes "\n"))))))))))))
 
--- a driver's rows of a month: a row for each breach
+-- a driver's rows for a month, one for each breach
 pub record AreIncidentRows (number : ℕ) (name : List ℕ) (stretches : List Judged) (month : ℕ) (text : List ℕ) : Type 0 where
   pub start : ℕ
   pub past : ℕ

@@ -1,4 +1,4 @@
--- Trusted: The texts of what a driver holds and of what the rules say of it.
+-- Trusted: The texts of what a driver holds, and of what the rules find in it.
 use Rattle.std.specs.Prelude.{◌≡◌, ℕ, zero, suc, ◌+◌, ◌-◌, ◌*◌, ◌/◌, ◌%◌, ◌&&◌, ◌==◌, pos, nat_lt, nat_le, not, Bool, true, false, List, [], ◌∷◌, ◌++◌, Option, Some, None, codes, decimal, flat_map, filter, length, replicate, if◌then◌else◌}
 use Rattle.std.proofs.Math.IntN.{◌*ℤ◌}
 use Rattle.tacho_time.specs.declared.span.Activity.{Activity}
@@ -21,7 +21,7 @@ use Rattle.tacho_hours.specs.declared.breach.Kind.TheVariants.{B1, B2, B3, B4, B
 
 -- ---- breaches
 
--- the name of a rule, and the Article of Regulation (EC) 561/2006 that has it
+-- the name of a rule, and the Article of Regulation (EC) 561/2006 that states it
 abbrev pub kind_name : Kind → List ℕ
 kind_name B1 = codes "B1 Art 7"
 kind_name B2 = codes "B2 Art 8(2)"
@@ -34,13 +34,13 @@ kind_name B8 = codes "B8 Art 8(6)"
 kind_name B9 = codes "B9 Art 8(6)"
 kind_name B10 = codes "B10 Art 8(6b)"
 
--- rule, moment, first minute and amount
+-- the rule, the moment, the first minute and the amount
 abbrev pub breach_line : Breach → List ℕ
 breach_line b =
     kind_name b.kind ++ (codes " at " ++ (minute_text b.moment ++ (codes " since " ++ (minute_text b.since ++ (codes " amount "
     ++ (decimal b.amount ++ codes "\n"))))))
 
--- why the examination ends there
+-- why the examination ends at the horizon
 abbrev pub cause_name : Cause → List ℕ
 cause_name Unknown = codes "unknown"
 cause_name Crew = codes "crew"
@@ -53,14 +53,14 @@ horizon_line h = codes "EXAMINED TO " ++ (minute_text h.minute ++ (codes " " ++ 
 abbrev pub breach_text : List Breach → Horizon → List ℕ
 breach_text breaches horizon = flat_map breach_line breaches ++ horizon_line horizon
 
--- ---- what is owed
+-- ---- debts
 
--- a debt is paid by a rest; or it is late, once its deadline isn't after the horizon; or it is open
+-- a debt is paid by a rest; otherwise it is late if its deadline is at or before the horizon, and open if it is after it
 abbrev pub paid_text : ℕ → ℕ → Option ℕ → List ℕ
 paid_text horizon deadline (Some m) = codes "paid " ++ minute_text m
 paid_text horizon deadline None = if nat_le deadline horizon then codes "late" else codes "open"
 
--- the week by its Monday, the amount in minutes, the deadline, and what became of it
+-- the week by its Monday, the amount in minutes, the deadline, and whether the debt is paid, late or open
 abbrev pub debt_line : ℕ → Debt → List ℕ
 debt_line horizon d =
     codes "WEEK " ++ (day_text (4 + 7 * d.week) ++ (codes " owes " ++ (decimal d.amount ++ (codes " by " ++ (minute_text d.deadline
@@ -72,7 +72,7 @@ owed_text debts horizon = flat_map (debt_line horizon.minute) debts ++ horizon_l
 
 -- ---- gaps, and spans as CSV
 
--- the first minute of a month, and the first after it
+-- the first minute of a month, and the first minute after it
 pub record AreBounds (month start past : ℕ) : Type 0 where
   pub first : pos start ≡ pos 1440 *ℤ month_start month
   pub end : pos past ≡ pos 1440 *ℤ month_start (month + 1)
@@ -84,7 +84,7 @@ AgreeIn month line other = (start past : ℕ) → AreBounds month start past →
 abbrev pub gap_line : Gap → List ℕ
 gap_line g = minute_text g.start ++ (codes " " ++ (minute_text g.past ++ codes "\n"))
 
--- the maximal runs of minutes of the month that aren't held
+-- the gaps of the month: the maximal ranges of its minutes that aren't held
 pub record IsGapText (line : List Span) (month : ℕ) (text : List ℕ) : Type 0 where
   pub start : ℕ
   pub past : ℕ
@@ -93,7 +93,7 @@ pub record IsGapText (line : List Span) (month : ℕ) (text : List ℕ) : Type 0
   pub lacking : AreGaps line start past gaps
   pub is : text ≡ flat_map gap_line gaps
 
--- start, past, activity and manning between commas
+-- start, past, activity and manning, separated by commas
 abbrev pub csv_line : Span → List ℕ
 csv_line s =
     minute_text s.start ++ (codes "," ++ (minute_text s.past ++ (codes "," ++ (activity_name s.mark.activity ++ (codes ","
@@ -102,7 +102,7 @@ csv_line s =
 abbrev pub csv_text : List Span → List ℕ
 csv_text spans = codes "start,past,activity,manning\n" ++ flat_map csv_line spans
 
--- a head, and the canonical spans of what is held in the month
+-- a head, and the canonical list of what is held in the month
 pub record IsSpanCsv (line : List Span) (month : ℕ) (text : List ℕ) : Type 0 where
   pub start : ℕ
   pub past : ℕ
@@ -113,12 +113,12 @@ pub record IsSpanCsv (line : List Span) (month : ℕ) (text : List ℕ) : Type 0
 
 -- ---- the sheet of a month
 
--- how many of so many minutes from one on pass the test
+-- how many of the n minutes from m on pass the test
 abbrev pub count_from : (ℕ → Bool) → ℕ → ℕ → ℕ
 count_from p m zero = 0
 count_from p m (suc n) = (if p m then 1 else 0) + count_from p (m + 1) n
 
--- held alone with this activity, held with a second driver, not held
+-- held single with this activity, held as crew, or not held
 abbrev pub is_single : Activity → Option Mark → Bool
 is_single a None = false
 is_single a (Some mark) = not mark.crew && (activity_code mark.activity == activity_code a)
@@ -131,22 +131,22 @@ abbrev pub is_lacking : Option Mark → Bool
 is_lacking None = true
 is_lacking (Some mark) = false
 
--- what a column counts
+-- the tests of the columns
 abbrev pub columns : List (Option Mark → Bool)
 columns = is_single Rest ∷ is_single Available ∷ is_single Work ∷ is_single Drive ∷ is_crew ∷ is_lacking ∷ []
 
--- the minutes of a column, of so many from one on
+-- the count of a column for the n minutes from m on
 abbrev pub minutes_of : List Span → ℕ → ℕ → (Option Mark → Bool) → ℕ
 minutes_of line m n column = count_from (λ k. column (mark_at line k)) m n
 
--- hours and minutes, in seven places
+-- hours and minutes, which `right` aligns to the right of seven columns
 abbrev pub amount_text : ℕ → List ℕ
 amount_text n = decimal (n / 60) ++ (codes ":" ++ two_digits (n % 60))
 
 abbrev pub right : List ℕ → List ℕ
 right text = replicate (7 - length text) 32 ++ text
 
--- the six amounts of so many minutes from one on
+-- the six amounts of the n minutes from m on
 abbrev pub amounts_text : List Span → ℕ → ℕ → List ℕ
 amounts_text line m n = flat_map (λ column. right (amount_text (minutes_of line m n column))) columns
 
@@ -159,16 +159,16 @@ weekday_name (suc (suc (suc (suc zero)))) = codes "Fri"
 weekday_name (suc (suc (suc (suc (suc zero))))) = codes "Sat"
 weekday_name (suc (suc (suc (suc (suc (suc n)))))) = codes "Sun"
 
--- a day: its date, its day of the week, and its amounts
+-- the line of a day: its date, its day of the week, and its amounts
 abbrev pub day_line : List Span → ℕ → List ℕ
 day_line line day = day_text day ++ (codes " " ++ (weekday_name ((day + 3) % 7) ++ (amounts_text line (1440 * day) 1440 ++ codes "\n")))
 
--- so many days from one on
+-- the lines of n days, from a day on
 abbrev pub day_lines : List Span → ℕ → ℕ → List ℕ
 day_lines line day zero = []
 day_lines line day (suc n) = day_line line day ++ day_lines line (day + 1) n
 
--- the breaches whose moment lies between two minutes
+-- the breaches whose moment is from `start` to before `past`
 abbrev pub breaches_within : ℕ → ℕ → List Breach → List Breach
 breaches_within start past breaches = filter (λ b. nat_le start b.moment && nat_lt b.moment past) breaches
 

@@ -8,15 +8,15 @@ use Rattle.tacho_sheet.specs.Lines.{byte_digits}
 abbrev pub kept_word : Bool → List ℕ
 kept_word withdrawn = if withdrawn then codes "withdrawn" else codes "kept"
 
--- number, start, past, activity, whether it was withdrawn, author and note (these two in double quotes), with blanks between, and a
--- line feed
+-- number, start, past, activity, whether the entry was withdrawn, author and note (the last two in double quotes), separated by blanks, and
+-- a line feed
 abbrev pub entry_line : Entry → List ℕ
 entry_line e =
     decimal e.number ++ (codes " " ++ (minute_text e.line.start ++ (codes " " ++ (minute_text e.line.past
     ++ (codes " " ++ (activity_name e.line.activity ++ (codes " " ++ (kept_word e.withdrawn
     ++ (codes " \"" ++ (e.line.author ++ (codes "\" \"" ++ (e.line.note ++ codes "\"\n"))))))))))))
 
--- number, holder in hexadecimal digits, base, how many downloads and entries, and name, with blanks between, and a line feed
+-- number, holder in hexadecimal digits, base, counts of downloads and entries, and name, separated by blanks, and a line feed
 abbrev pub summary_line : Summary → List ℕ
 summary_line d =
     decimal d.number ++ (codes " " ++ (flat_map byte_digits d.holder ++ (codes " " ++ (day_text d.base ++ (codes " "

@@ -1,4 +1,4 @@
--- Trusted: The words of activities.
+-- Trusted: The names of activities.
 use Rattle.std.specs.Prelude.{ℕ, List, Option, Some, None, if◌then◌else◌, bytes_eq, codes}
 use Rattle.tacho_time.specs.declared.span.Activity.{Activity}
 use Rattle.tacho_time.specs.declared.span.Activity.TheVariants.{Rest, Available, Work, Drive}
@@ -13,7 +13,7 @@ activity_of word =
     else if bytes_eq word (codes "drive") then Some Drive
     else None
 
--- what is left out
+-- the activity that is left out, if the text names one
 abbrev pub left_out_of : List ℕ → Option LeftOut
 left_out_of word =
     if bytes_eq word (codes "crew") then Some Crew

@@ -7,11 +7,10 @@ use std::alloc::{AllocError, Global};
 use tacho_line::Line;
 use tacho_time::{Activity, Day, Mark, Minute, Span};
 
-/// How many minutes a day has.
+/// The minutes of a day.
 const MINUTES_OF_DAY: u32 = 1440;
 
-/// How many of some minutes are held with each activity by the driver alone, how many with a second driver, and how many
-/// aren't held.
+/// Counts of some minutes: those held single with each activity, those held as crew, and those not held.
 #[derive(Clone, Copy)]
 pub(crate) struct Amounts {
     pub(crate) rest: u32,
@@ -23,7 +22,7 @@ pub(crate) struct Amounts {
 }
 
 impl Amounts {
-    /// The amounts of no minutes.
+    /// All six amounts are 0.
     pub(crate) fn zero() -> Amounts
         ensures { result ≡ record { rest = 0; available = 0; work = 0; drive = 0; crew = 0; lacking = 0 } }
     {
@@ -37,7 +36,7 @@ impl Amounts {
         }
     }
 
-    /// Adds minutes with one mark, or minutes that aren't held.
+    /// Adds minutes that all have one mark, or that aren't held.
     fn add_run(&mut self, mark: Option<Mark>, minutes: u32)
         requires { whole self.old + minutes < 2 ^ 32 }
         ensures rest { self.new.rest ≡ self.old.rest + part (is_single RestOf mark) minutes }
@@ -82,7 +81,7 @@ impl Amounts {
     }
 }
 
-/// The amounts of the minutes from a start to before a past, of spans in order that lie within.
+/// Counts the minutes from `start` to before `past`. The spans are in order and lie within this range.
 fn amounts_of(spans: &[Span], start: Minute, past: Minute) -> Amounts
     requires { AreFrom start past spans.now }
     ensures { AreAmounts spans.now start (past - start) result }
@@ -101,7 +100,7 @@ fn amounts_of(spans: &[Span], start: Minute, past: Minute) -> Amounts
     amounts
 }
 
-/// The amounts of a day.
+/// Counts the minutes of a day.
 pub(crate) fn amounts_of_day(alloc: Global, line: &Line, day: Day) -> Result<Amounts, AllocError>
     requires { day < 47520 }
     ensures { IfOk result (AreAmounts line.now (1440 * day) 1440) }
@@ -112,7 +111,7 @@ pub(crate) fn amounts_of_day(alloc: Global, line: &Line, day: Day) -> Result<Amo
     amounts_of_range(alloc, line, start, past)
 }
 
-/// The amounts of the minutes from a start to before a past.
+/// Counts the minutes from `start` to before `past`.
 pub(crate) fn amounts_of_range(
     alloc: Global,
     line: &Line,

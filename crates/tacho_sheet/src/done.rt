@@ -7,10 +7,10 @@ use itoa::Buffer;
 use tacho_state::{Entered, Imported};
 use tacho_time::{Day, day_line};
 
-/// How many bytes the line of a command that was done has at the most.
+/// The most bytes that the line of a command that was done can have.
 const ROOM: usize = 64;
 
-/// The line of a command that was done. It takes no memory.
+/// The line of a command that was done. Allocates no memory.
 pub type DoneLine = ArrayVec<u8, 64>;
 
 /// The line after a registration: `registered 17`.
@@ -48,7 +48,7 @@ pub fn imported_line(imported: Imported) -> DoneLine
     }
 }
 
-/// The line of a file that was kept.
+/// The line of a download that was added.
 fn added_line(driver: u32, number: u32) -> DoneLine
     ensures { result.items ≡ imported_text (Imported.Added driver number) }
 {
@@ -60,7 +60,7 @@ fn added_line(driver: u32, number: u32) -> DoneLine
     line
 }
 
-/// The line after hours were entered: `entered 1 to 3`, or `entered none` of no lines.
+/// The line after hours were entered: `entered 1 to 3`, or `entered none` if there were no lines.
 pub fn entered_line(entered: Entered) -> DoneLine
     ensures { result.items ≡ entered_text entered.first entered.count }
 {

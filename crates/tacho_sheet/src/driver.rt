@@ -15,7 +15,7 @@ use std::alloc::Global;
 use tacho_state::{Column, Driver, is_key, is_name};
 use tacho_time::Day;
 
-/// The holder that thirty hexadecimal digits write, without capitals.
+/// Reads a holder from 30 hexadecimal digits, without capitals.
 pub fn read_holder(text: &[u8]) -> Option<[u8; 15]>
     ensures text { MatchOption result (HasNoHolder text.now) (λ holder. text.now ≡ encode_lower holder) }
     ensures bytes { IfSome result (λ holder. (length holder ≡ 15) × IsBytes holder) }
@@ -34,7 +34,7 @@ pub fn read_holder(text: &[u8]) -> Option<[u8; 15]>
     Some(holder)
 }
 
-/// The key that a text is.
+/// Reads a key.
 fn read_key(text: &[u8]) -> Option<&str>
     ensures { MatchOption result (¬ (IsKeyText text.now)) (λ key. (key.now ≡ text.now) × IsKey key.now) }
 {
@@ -44,7 +44,7 @@ fn read_key(text: &[u8]) -> Option<&str>
     if is_key(key) { Some(key) } else { None }
 }
 
-/// The name that a text is.
+/// Reads a name.
 fn read_name(text: &[u8]) -> Option<&str>
     ensures { MatchOption result (¬ (IsNameText text.now)) (λ name. (name.now ≡ text.now) × IsName name.now) }
 {
@@ -54,7 +54,7 @@ fn read_name(text: &[u8]) -> Option<&str>
     if is_name(name) { Some(name) } else { None }
 }
 
-/// A driver of these texts of his columns: E9.
+/// The driver whose columns have these texts: E9.
 fn driver_of_texts(
     alloc: Global,
     driver: &[u8],
@@ -84,7 +84,7 @@ fn driver_of_texts(
     registered(alloc, number, holder, key, base, name)
 }
 
-/// A driver of columns that are within their limits.
+/// The driver of columns that are within their limits.
 fn registered(
     alloc: Global,
     number: u32,
@@ -108,7 +108,7 @@ fn registered(
     }
 }
 
-/// The record is the head.
+/// True if the record is the head.
 fn is_head_row(fields: &ByteRecord) -> bool
     ensures { result ≡ is_driver_head (fields_of fields.now) }
 {
@@ -120,21 +120,21 @@ fn is_head_row(fields: &ByteRecord) -> bool
     }
 }
 
-/// The words are the first three of the head.
+/// True if the texts are the first three names of the head.
 fn is_head_words(driver: &[u8], holder: &[u8], key: &[u8]) -> bool
     ensures { result ≡ (bytes_eq driver.now (codes "driver") && (bytes_eq holder.now (codes "holder") && bytes_eq key.now (codes "key"))) }
 {
     driver == b"driver".as_slice() && holder == b"holder".as_slice() && key == b"key".as_slice()
 }
 
-/// The words are the last two of the head.
+/// True if the texts are the last two names of the head.
 fn is_tail_words(base: &[u8], name: &[u8]) -> bool
     ensures { result ≡ (bytes_eq base.now (codes "base") && bytes_eq name.now (codes "name")) }
 {
     base == b"base".as_slice() && name == b"name".as_slice()
 }
 
-/// The driver of row 2: E2, E9.
+/// Reads the driver from row 2: E2, E9.
 fn driver_of_row(alloc: Global, fields: &ByteRecord) -> Result<Driver, SheetFault>
     ensures { IsErrAnd result (λ fault. fault ≡ SheetFault.Memory) ⊎ IsRowAnswer (five_of (fields_of fields.now)) result }
 {
@@ -146,7 +146,7 @@ fn driver_of_row(alloc: Global, fields: &ByteRecord) -> Result<Driver, SheetFaul
     }
 }
 
-/// The driver of the rows after the head: E2, E9.
+/// Reads the driver from the rows after the head: E2, E9.
 fn driver_of_rows(alloc: Global, rows: &[ByteRecord]) -> Result<Driver, SheetFault>
     ensures { IsErrAnd result (λ fault. fault ≡ SheetFault.Memory) ⊎ IsBodyAnswer (map fields_of rows.now) result }
 {
@@ -163,8 +163,8 @@ fn driver_of_rows(alloc: Global, rows: &[ByteRecord]) -> Result<Driver, SheetFau
     Ok(driver)
 }
 
-/// The driver that a text of CSV registers, of the head `driver,holder,key,base,name` and one row, or its first fault: E1, E2, E9.
-/// E8 where the reader of CSV refuses.
+/// Reads the driver that a text of CSV registers: the head `driver,holder,key,base,name` and one row. Reports the first fault: E1, E2, E9.
+/// Fails with E8 if the reader of CSV refuses the text.
 pub fn read_driver(alloc: Global, text: &[u8]) -> Result<Driver, SheetFault>
     ensures { IsErrAnd result IsReaderFault ⊎ IsDriverRead text.now result }
 {

@@ -17,19 +17,19 @@ use tacho_time::{Activity, Minute};
 /// The columns that a text of hours has.
 #[derive(Clone, Copy)]
 pub(crate) enum Head {
-    /// `start,past,activity`: the office enters the hours, and says nothing of them.
+    /// `start,past,activity`: the author is the office, and there is no note.
     Three,
     /// `start,past,activity,author,note`.
     Five,
 }
 
-/// How many minutes a line has at the most: 366 days.
+/// The most minutes that a line can have: 366 days.
 const LONGEST: u32 = 527_040;
 
-/// The author of hours that have none in their row.
+/// The author of hours whose row has none.
 const OFFICE: &[u8] = b"office";
 
-/// The minutes and the activity of a row, after a row that ends at `before`, or its first fault of E3 to E7.
+/// Reads the minutes and the activity of a row that comes after a row that ends at `before`. Reports the first fault of E3 to E7.
 fn worked_of_words(
     row: u64,
     before: Minute,
@@ -57,7 +57,7 @@ fn worked_of_words(
     Ok((start, past, activity))
 }
 
-/// The author that a text is.
+/// Reads an author.
 fn read_author(text: &[u8]) -> Option<&str>
     ensures { MatchOption result (is_author text.now ≡ false)
         (λ author. (author.now ≡ text.now) × (is_author text.now ≡ true) × IsName author.now) }
@@ -68,7 +68,7 @@ fn read_author(text: &[u8]) -> Option<&str>
     if is_name(author) { Some(author) } else { None }
 }
 
-/// The note that a text is.
+/// Reads a note.
 fn read_note(text: &[u8]) -> Option<&str>
     ensures { MatchOption result (is_note_text text.now ≡ false)
         (λ note. (note.now ≡ text.now) × (is_note_text text.now ≡ true) × IsNote note.now) }
@@ -79,7 +79,7 @@ fn read_note(text: &[u8]) -> Option<&str>
     if is_note(note) { Some(note) } else { None }
 }
 
-/// Hours by an author and with a note that are within their limits.
+/// Makes a line of hours. Its author and its note are within their limits.
 fn signed_line(
     alloc: Global,
     start: Minute,
@@ -105,7 +105,7 @@ fn signed_line(
     }
 }
 
-/// The line of a row's texts, after a row that ends at `before`, or its first fault of E3 to E7, and then E10.
+/// Reads the line from a row's texts. The row before ends at `before`. Reports the first fault of E3 to E7, then E10.
 fn line_of_words(
     alloc: Global,
     row: u64,
@@ -129,7 +129,7 @@ fn line_of_words(
     signed_line(alloc, start, past, activity, author, note)
 }
 
-/// The line of a row under a head, after a row that ends at `before`, or the row's first fault.
+/// Reads the line of a row under a head. The row before ends at `before`. Reports the row's first fault.
 fn line_of_row(
     alloc: Global,
     head: Head,
@@ -155,7 +155,7 @@ fn line_of_row(
     }
 }
 
-/// Which head the record is.
+/// The head that the record is, if it is one.
 fn head_row(fields: &ByteRecord) -> Option<Head>
     ensures { result ≡ head_of (fields_of fields.now) }
 {
@@ -172,21 +172,21 @@ fn head_row(fields: &ByteRecord) -> Option<Head>
     None
 }
 
-/// The words are the names of the first three columns.
+/// True if the texts are the names of the first three columns.
 fn are_three_names(start: &[u8], past: &[u8], word: &[u8]) -> bool
     ensures { result ≡ (bytes_eq start.now (codes "start") && (bytes_eq past.now (codes "past") && bytes_eq word.now (codes "activity"))) }
 {
     start == b"start".as_slice() && past == b"past".as_slice() && word == b"activity".as_slice()
 }
 
-/// The words are the names of the last two columns.
+/// True if the texts are the names of the last two columns.
 fn are_two_names(author: &[u8], note: &[u8]) -> bool
     ensures { result ≡ (bytes_eq author.now (codes "author") && bytes_eq note.now (codes "note")) }
 {
     author == b"author".as_slice() && note == b"note".as_slice()
 }
 
-/// The lines of the rows after a head, or their first fault. Each row is read into `fields`.
+/// Reads the lines of the rows after a head, or reports their first fault. Each row is read into `fields`.
 fn lines_of_rows(
     alloc: Global,
     reader: &mut Reader<&[u8]>,
@@ -211,8 +211,8 @@ fn lines_of_rows(
     Ok(lines)
 }
 
-/// The hours that a text of CSV enters, of the head `start,past,activity` or `start,past,activity,author,note` and a row for each
-/// line, or its first fault: E1 to E7, E10. E8 where the reader of CSV refuses.
+/// Reads the hours that a text of CSV enters: the head `start,past,activity` or `start,past,activity,author,note`, and a row for each line.
+/// Reports the first fault: E1 to E7, E10. Fails with E8 if the reader of CSV refuses the text.
 pub fn read_entries(alloc: Global, text: &[u8]) -> Result<Vec<EntryLine>, SheetFault>
     ensures read { IsErrAnd result IsReaderFault ⊎ IsRead text.now (lines_told result) }
     ensures batch { IfOk result (λ lines. IsBatch lines.items) }

@@ -3,7 +3,7 @@ use tacho_state::{Column, StoreFault};
 use tacho_time::TimeFault;
 use thiserror::Error;
 
-/// A word for an activity that the archive leaves out.
+/// The name of an activity that the archive leaves out.
 #[derive(Clone, Copy, Debug, PartialEq, Eq)]
 pub enum LeftOut {
     /// `crew`: with a second driver.
@@ -12,17 +12,17 @@ pub enum LeftOut {
     Ferry,
     /// `out`: out of scope.
     Out,
-    /// `derogation`: with leave to depart from the rules.
+    /// `derogation`: with permission to depart from the rules.
     Derogation,
 }
 
-/// Why a text of CSV was refused: its first fault, row by row, and within a row in this order. The head is row 1.
+/// Why a text of CSV was refused: its first fault, row by row, and within a row in the order of the variants. The head is row 1.
 #[derive(Clone, Copy, Debug, PartialEq, Eq, Error)]
 pub enum SheetFault {
     /// E1: there is no head, or it has other fields.
     #[error("wrong head")]
     Head,
-    /// E2: the row has another number of fields than the head.
+    /// E2: the row doesn't have as many fields as the head.
     #[error("wrong fields in row {0}")]
     Fields(u64),
     /// E3: the start or the past can't be read.
@@ -37,19 +37,19 @@ pub enum SheetFault {
     /// E6: the activity is none of the four.
     #[error("no such activity in row {0}")]
     Activity(u64),
-    /// E7: the row has more than 527,040 minutes, which are 366 days.
+    /// E7: the row has more than 527,040 minutes (366 days).
     #[error("too long in row {0}")]
     TooLong(u64),
-    /// E8: the reader of CSV refused for another cause than memory.
+    /// E8: the reader of CSV refused the text, for a cause other than memory.
     #[error("csv refused")]
     Csv,
-    /// E9: a driver's value is out of its limits, and those before it aren't.
+    /// E9: a driver's value is out of its limits, and the values before it are within theirs.
     #[error("bad value for a driver's column")]
     Column(Column),
     /// E10: the author or the note of the row is out of its limits.
     #[error("bad text in row {0}")]
     Text(u64, Column),
-    /// There was no memory.
+    /// Out of memory.
     #[error("no memory")]
     Memory,
 }
@@ -61,9 +61,9 @@ pub enum Fault {
     Card(CardFault),
     Store(StoreFault),
     Sheet(SheetFault),
-    /// N1: the number of a driver, an entry or a download is out of its limits, or isn't written as a number.
+    /// N1: the number of a driver, an entry or a download is out of its limits, or isn't a number.
     Number,
-    /// P1: no part of a card file has the name.
+    /// P1: no part of a card file has this name.
     Part,
     /// X1: the input is over the limit.
     TooLarge,

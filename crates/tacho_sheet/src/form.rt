@@ -6,11 +6,11 @@ use std::alloc::{AllocError, Global};
 use tacho_line::{Gap, Line};
 use tacho_time::Minute;
 
-/// The most minutes of a row by which hours are entered: 366 days.
+/// The most minutes that a row of hours can have: 366 days.
 const LONGEST: u32 = 527_040;
 
-/// The form for gaps: a row for each maximal run of minutes from the base to the end that the line doesn't hold, cut into rows of 366
-/// days.
+/// Writes the form for gaps: the rows of each maximal range of minutes from the base to the end that the line doesn't hold. Each range is
+/// cut into rows of at most 366 days.
 pub fn form_text(
     alloc: Global,
     line: &Line,
@@ -23,7 +23,7 @@ pub fn form_text(
     form_rows(alloc, &gaps)
 }
 
-/// The head, and the rows of each gap.
+/// Writes the head, and the rows of each gap.
 fn form_rows(alloc: Global, gaps: &[Gap]) -> Result<String, AllocError>
     ensures { All (λ (gap : GapValue). gap.start < gap.past) gaps.now → IfOk result (λ text. (rows : List GapValue) × AreRows gaps.now rows
         × (string_bytes text ≡ codes "start,past,activity,author,note\n" ++ flat_map form_row rows)) }
@@ -35,7 +35,7 @@ fn form_rows(alloc: Global, gaps: &[Gap]) -> Result<String, AllocError>
     Ok(text)
 }
 
-/// Appends the rows of a gap: each has the most minutes, but the last has those that are left.
+/// Appends the rows of a gap: each has the most minutes, and the last has the rest.
 fn push_rows(text: &mut String, gap: &Gap) -> Result<(), AllocError>
     ensures { OnOk result (gap.now.start < gap.now.past → (rows : List GapValue) × AreCut gap.now.start gap.now.past rows
         × (string_bytes text.new ≡ string_bytes text.old ++ flat_map form_row rows)) }
@@ -50,7 +50,7 @@ fn push_rows(text: &mut String, gap: &Gap) -> Result<(), AllocError>
     push_row(text, start, past)
 }
 
-/// Appends the row of the minutes from a start to before a past: activity, author and note are empty.
+/// Appends the row of the minutes from `start` to before `past`, with empty activity, author and note.
 fn push_row(text: &mut String, start: Minute, past: Minute) -> Result<(), AllocError>
     ensures { OnOk result (string_bytes text.new ≡ string_bytes text.old ++ form_row (record { start = start; past = past })) }
 {

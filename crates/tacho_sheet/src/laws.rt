@@ -1,5 +1,5 @@
-//! Laws about texts. A law is a function that does nothing: what it ensures is proved, and holds for all that it names. Some call the laws
-//! on which they stand.
+//! Laws about texts. A law is a function that does nothing: what it ensures is proved, and holds for everything that it names. Some call
+//! the laws on which they depend.
 
 ghost use Rattle.std.specs.Prelude.{◌≡◌, ◌+◌, ◌<◌, ◌≤◌, ◌↔◌, ◌++◌, ℕ, List, [], Ok, codes, map, sum, true};
 ghost use Rattle.tacho_time.specs.declared.span.Span.{Span as SpanValue};
@@ -21,26 +21,26 @@ ghost use Rattle.tacho_sheet.specs.Entries.{IsRead};
 use tacho_line::laws::one_list_of_gaps;
 use tacho_time::laws::{civil_dates, minute_is_read_back, one_canonical_list};
 
-/// Two lines that give each minute of a month the same mark have the same text of its gaps.
+/// If two lines give each minute of a month the same mark, they have the same text of its gaps.
 pub fn gap_text_is_by_marks()
     ensures { (a b : List SpanValue) (month : ℕ) (text : List ℕ)
         → AgreeIn month a b → IsGapText a month text → IsGapText b month text }
 {}
 
-/// Two lines that give each minute of a month the same mark have the same spans of it as CSV.
+/// If two lines give each minute of a month the same mark, they have the same spans of it as CSV.
 pub fn span_csv_is_by_marks()
     ensures { (a b : List SpanValue) (month : ℕ) (text : List ℕ)
         → AgreeIn month a b → IsSpanCsv a month text → IsSpanCsv b month text }
 {}
 
-/// Two lines that give each minute of a month the same mark have the same sheets of it.
+/// If two lines give each minute of a month the same mark, they have the same sheets of it.
 pub fn month_sheet_is_by_marks()
     ensures { (number : ℕ) (name : List ℕ) (a b : List SpanValue) (breaches : List BreachValue) (horizon : HorizonValue)
         (month : ℕ) (text : List ℕ) → AgreeIn month a b → IsMonthSheet number name a breaches horizon month text
         → IsMonthSheet number name b breaches horizon month text }
 {}
 
-/// A line has one text of a month's gaps, and one CSV of its spans.
+/// A line has exactly one text of a month's gaps, and exactly one CSV of its spans.
 pub fn one_text_of_a_month()
     ensures gaps { (line : List SpanValue) (month : ℕ) (a b : List ℕ) → IsGapText line month a → IsGapText line month b → a ≡ b }
     ensures spans { (line : List SpanValue) (month : ℕ) (a b : List ℕ) → IsSpanCsv line month a → IsSpanCsv line month b → a ≡ b }
@@ -49,65 +49,65 @@ pub fn one_text_of_a_month()
     one_canonical_list();
 }
 
-/// It has one sheet of a month, for a number, a name, breaches and a horizon.
+/// A line has exactly one sheet of a month, for a number, a name, breaches and a horizon.
 pub fn one_sheet_of_a_month()
     ensures { (number : ℕ) (name : List ℕ) (line : List SpanValue) (breaches : List BreachValue) (horizon : HorizonValue) (month : ℕ) (a b : List ℕ)
         → IsMonthSheet number name line breaches horizon month a → IsMonthSheet number name line breaches horizon month b → a ≡ b }
 {}
 
-/// Two lines that give each minute of a month the same mark have the same row of its overview.
+/// If two lines give each minute of a month the same mark, they have the same row of its overview.
 pub fn overview_is_by_marks()
     ensures { (number : ℕ) (name : List ℕ) (a b : List SpanValue) (stretches : List Judged) (month : ℕ) (text : List ℕ)
         → AgreeIn month a b → IsOverviewRow number name a stretches month text → IsOverviewRow number name b stretches month text }
 {}
 
-/// A driver has one row of the overview of a month, for a number, a name, a line and stretches.
+/// A driver has exactly one row of the overview of a month, for a number, a name, a line and stretches.
 pub fn one_overview_row()
     ensures { (number : ℕ) (name : List ℕ) (line : List SpanValue) (stretches : List Judged) (month : ℕ) (a b : List ℕ)
         → IsOverviewRow number name line stretches month a → IsOverviewRow number name line stretches month b → a ≡ b }
 {}
 
-/// They have one list of the incidents of a month, for a number, a name and stretches.
+/// A driver has exactly one list of the incidents of a month, for a number, a name and stretches.
 pub fn one_list_of_incidents()
     ensures { (number : ℕ) (name : List ℕ) (stretches : List Judged) (month : ℕ) (a b : List ℕ)
         → AreIncidentRows number name stretches month a → AreIncidentRows number name stretches month b → a ≡ b }
 {}
 
-/// The six columns of some minutes add up to them: each minute counts in one.
+/// The six columns of some minutes add up to the number of minutes: each minute counts in one column.
 pub fn columns_add_up()
     ensures { (line : List SpanValue) (start n : ℕ) → sum (map (minutes_of line start n) columns) ≡ n }
 {}
 
-/// Where as many minutes are examined as there are, each of them is within a stretch.
+/// If all minutes of a range count as examined, each of them is within a stretch.
 pub fn a_month_is_examined_whole()
     ensures { (stretches : List Judged) (start n : ℕ) → count_from (is_examined stretches) start n ≡ n
         → (m : ℕ) → start ≤ m → m < start + n → is_examined stretches m ≡ true }
 {}
 
-/// A rule's name in a report is its code and its Article in the incidents, with a blank between.
+/// A rule's name in a report is its code and its Article as they are in the incidents, separated by a blank.
 pub fn kind_is_code_and_article()
     ensures { (kind : KindValue) → kind_name kind ≡ kind_code kind ++ (codes " " ++ article kind) }
 {}
 
-/// Two lines that give each minute from a base to an end the same mark have the same form for gaps.
+/// If two lines give each minute from a base to an end the same mark, they have the same form for gaps.
 pub fn form_is_by_marks()
     ensures { (a b : List SpanValue) (base end : ℕ) (text : List ℕ)
         → AgreeWithin base end a b → IsForm a base end text → IsForm b base end text }
 {}
 
-/// A line has one form for gaps, from a base to an end.
+/// A line has exactly one form for gaps from a base to an end.
 pub fn one_form()
     ensures { (line : List SpanValue) (base end : ℕ) (a b : List ℕ) → IsForm line base end a → IsForm line base end b → a ≡ b }
 {
     one_list_of_gaps();
 }
 
-/// The rows of a form have just the minutes of its gaps.
+/// The rows of a form have exactly the minutes of its gaps.
 pub fn a_form_has_each_lacking_minute()
     ensures { (gaps rows : List Gap) → AreFormRows gaps rows → (m : ℕ) → InGaps gaps m ↔ InGaps rows m }
 {}
 
-/// A form whose rows are all filled in is read as the hours that they are filled in with.
+/// A form whose rows are all filled in is read as the hours with which they are filled in.
 pub fn a_filled_form_is_read()
     ensures { (line : List SpanValue) (base end : ℕ) (gaps rows : List Gap) (hours : List Hours)
         → AreGaps line base end gaps → AreFormRows gaps rows → IsEndOfHeld line base end
@@ -117,7 +117,7 @@ pub fn a_filled_form_is_read()
     minute_is_read_back();
 }
 
-/// Hours that fill in each row of a form leave no gap where they are entered.
+/// Once the hours that fill in each row of a form are entered, no gap remains.
 pub fn a_filled_form_leaves_no_gap()
     ensures { (d after : Driver) (base end first : ℕ) (gaps rows : List Gap) (hours : List Hours)
         → AreGaps (held_spans d) base end gaps → AreFormRows gaps rows → Fills rows hours

@@ -1,4 +1,4 @@
-//! CSV that comes in, the texts that go out, and the lines of faults.
+//! Reading CSV, and writing texts and the lines of faults.
 #![tactic(auto)]
 
 mod amounts;

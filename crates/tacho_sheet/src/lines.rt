@@ -10,7 +10,7 @@ use tacho_card::CardFault;
 use tacho_state::{Column, StoreFault};
 use tacho_time::{Minute, TimeFault, minute_line};
 
-/// The line of a fault. It takes no memory.
+/// The line of a fault. Allocates no memory.
 pub type FaultLine = ArrayString<64>;
 
 /// The line of a fault: its code, and what it is about.
@@ -28,7 +28,7 @@ pub fn fault_line(fault: Fault) -> FaultLine
     }
 }
 
-/// A line of these words.
+/// A line with this text.
 fn line_of(words: &str) -> FaultLine
     requires { length words.now ≤ 64 }
     ensures text { result.bytes ≡ words.now }
@@ -39,7 +39,7 @@ fn line_of(words: &str) -> FaultLine
     line
 }
 
-/// A line that ends in a number.
+/// A line that ends with a number.
 fn line_at(words: &str, number: u64) -> FaultLine
     requires { length words.now ≤ 40 }
     ensures { result.bytes ≡ line_with_number words.now number }
@@ -51,7 +51,7 @@ fn line_at(words: &str, number: u64) -> FaultLine
     line
 }
 
-/// A line that ends in a minute.
+/// A line that ends with a minute.
 fn line_at_minute(words: &str, minute: Minute) -> FaultLine
     requires { length words.now ≤ 40 }
     ensures { result.bytes ≡ line_with_minute words.now minute }
@@ -111,7 +111,7 @@ fn twice_line(identifier: u16, kind: u8) -> FaultLine
     line
 }
 
-/// A byte in two hexadecimal digits.
+/// The two hexadecimal digits of a byte.
 fn digits_of(byte: u8) -> ArrayString<2>
     ensures text { result.bytes ≡ byte_digits byte }
     ensures len { array_string_len result ≡ 2 }
@@ -122,14 +122,14 @@ fn digits_of(byte: u8) -> ArrayString<2>
     digits
 }
 
-/// Appends a byte in two hexadecimal digits.
+/// Appends the two hexadecimal digits of a byte.
 fn push_byte(text: &mut String, byte: u8) -> Result<(), AllocError>
     ensures { OnOk result (string_bytes text.new ≡ string_bytes text.old ++ byte_digits byte) }
 {
     text.push_str(digits_of(byte).as_str())
 }
 
-/// Appends the hexadecimal digits of bytes, two of each.
+/// Appends the hexadecimal digits of bytes, two for each byte.
 pub fn push_bytes(text: &mut String, bytes: &[u8]) -> Result<(), AllocError>
     ensures { OnOk result (string_bytes text.new ≡ string_bytes text.old ++ flat_map byte_digits bytes.now) }
 {
@@ -139,7 +139,7 @@ pub fn push_bytes(text: &mut String, bytes: &[u8]) -> Result<(), AllocError>
     Ok(())
 }
 
-/// A number below sixteen as a hexadecimal digit.
+/// The hexadecimal digit of a number below sixteen.
 fn digit_of(number: u8) -> char
     requires { number < 16 }
     ensures digit { result ≡ hexadecimal_digit number }
@@ -152,7 +152,7 @@ fn digit_of(number: u8) -> char
     }
 }
 
-/// The line of a refusal of the archive.
+/// The line of an archive's refusal.
 fn line_of_store(fault: StoreFault) -> FaultLine
     ensures { result.bytes ≡ store_line fault }
 {
@@ -230,7 +230,7 @@ fn text_line(row: u64, column: Column) -> FaultLine
     line
 }
 
-/// The word of an activity that is left out.
+/// The name of an activity that is left out.
 fn word_of(left_out: LeftOut) -> &'static str
     ensures text { result.now ≡ left_out_word left_out }
     ensures short { length result.now ≤ 10 }

@@ -37,8 +37,8 @@ pub fn overview_head(alloc: Global) -> Result<String, AllocError>
     )
 }
 
-/// Appends a driver's row of the overview of a month: their number and name, the minutes that are held with each activity, with a
-/// second driver, and not at all, how many are examined, and the breaches of each rule.
+/// Appends a driver's row of the overview of a month: number and name, the minutes held single with each activity, those held as crew,
+/// those not held, those examined, and the number of breaches of each rule.
 pub fn push_overview(
     alloc: Global,
     text: &mut String,
@@ -63,7 +63,7 @@ pub fn push_overview(
     text.push_str("\n")
 }
 
-/// How many of the minutes from a start to before a past are within a stretch, where the stretches follow one another.
+/// The number of minutes from `start` to before `past` that are within a stretch. The stretches follow one another.
 fn examined_in(stretches: &[Stretch], start: Minute, past: Minute) -> u32
     requires { start ≤ past }
     ensures { (base end : ℕ) → FollowOn (parts (map judged stretches.now)) base end
@@ -82,7 +82,7 @@ fn examined_in(stretches: &[Stretch], start: Minute, past: Minute) -> u32
     examined
 }
 
-/// The breaches of all stretches with their moment from a start to before a past.
+/// The breaches of all stretches whose moment is from `start` to before `past`.
 fn breaches_in(
     alloc: Global,
     stretches: &[Stretch],
@@ -98,7 +98,7 @@ fn breaches_in(
     Ok(found)
 }
 
-/// Adds the breaches with their moment from a start to before a past.
+/// Adds the breaches whose moment is from `start` to before `past`.
 fn add_breaches(
     found: &mut Vec<Breach>,
     breaches: &[Breach],
@@ -128,7 +128,7 @@ fn push_amounts(text: &mut String, amounts: &Amounts) -> Result<(), AllocError>
     write!(text, ",{rest},{available},{work},{drive},{crew},{lacking}")
 }
 
-/// Appends how many breaches there are of each rule, each number after a comma.
+/// Appends the number of breaches of each rule, each after a comma.
 fn push_counts(text: &mut String, breaches: &[Breach]) -> Result<(), AllocError>
     ensures { OnOk result (string_bytes text.new ≡ string_bytes text.old ++ cells (map (count_of_kind breaches.now) kinds)) }
 {
@@ -139,7 +139,7 @@ fn push_counts(text: &mut String, breaches: &[Breach]) -> Result<(), AllocError>
     Ok(())
 }
 
-/// How many breaches are of a rule.
+/// The number of breaches of a rule.
 fn count_of(breaches: &[Breach], kind: Kind) -> usize
     ensures { result ≡ count_of_kind breaches.now kind }
 {
@@ -153,7 +153,7 @@ pub fn incident_head(alloc: Global) -> Result<String, AllocError>
     String::from_str(alloc, "driver,name,kind,article,moment,since,amount\n")
 }
 
-/// Appends a driver's incidents of a month, a row for each breach of any stretch with its moment in the month.
+/// Appends a driver's incidents of a month: a row for each breach, in any stretch, whose moment is in the month.
 pub fn push_incidents(
     text: &mut String,
     number: u32,
@@ -171,7 +171,7 @@ pub fn push_incidents(
     Ok(())
 }
 
-/// Appends the rows of the breaches with their moment from a start to before a past.
+/// Appends the rows of the breaches whose moment is from `start` to before `past`.
 fn push_breaches(
     text: &mut String,
     number: u32,
@@ -227,7 +227,7 @@ fn code_of_kind(kind: Kind) -> &'static str
     }
 }
 
-/// The Article that has a rule.
+/// The Article that states a rule.
 fn article_of_kind(kind: Kind) -> &'static str
     ensures { result.now ≡ article kind }
 {

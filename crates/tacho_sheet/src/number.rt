@@ -1,7 +1,7 @@
 ghost use Rattle.std.specs.Prelude.{◌≡◌, ◌≤◌, decimal, MatchOption};
 ghost use Rattle.tacho_sheet.specs.Number.{IsNumberText, HasNoNumber};
 
-/// The number that a text writes in decimal, without leading zeros, from 1 to `most`.
+/// Reads a decimal number from 1 to `most`, without leading zeros.
 pub fn read_number(text: &[u8], most: u32) -> Option<u32>
     ensures { MatchOption result (HasNoNumber most text.now) (IsNumberText most text.now) }
 {

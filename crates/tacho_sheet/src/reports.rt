@@ -7,8 +7,8 @@ use tacho_line::{Cause, Gap, Horizon, Line};
 use tacho_rules::Report;
 use tacho_time::{Day, Minute, Month, Span, month_range, write_day};
 
-/// The text of the breaches: for each a line of its rule, its moment, its first minute and its amount, in order. At the end
-/// the first minute that isn't examined, and why.
+/// Writes the breaches in order: for each a line with its rule, its moment, its first minute and its amount. The last line has the first
+/// minute that isn't examined, and why.
 pub fn breach_text(alloc: Global, report: &Report) -> Result<String, AllocError>
     ensures { IfOk result (λ text. string_bytes text ≡ text_of_breaches report.now.breaches.items report.now.horizon) }
 {
@@ -20,8 +20,8 @@ pub fn breach_text(alloc: Global, report: &Report) -> Result<String, AllocError>
     Ok(text)
 }
 
-/// The text of what is owed: for each week its Monday, the amount in minutes, the deadline, and `open`, `late`, or `paid`
-/// and the first minute of the rest that paid it. At the end the first minute that isn't examined, and why.
+/// Writes the debts: for each week its Monday, the amount in minutes, the deadline, and `open`, `late`, or `paid` with the first minute of
+/// the rest that paid it. The last line has the first minute that isn't examined, and why.
 pub fn owed_text(alloc: Global, report: &Report) -> Result<String, AllocError>
     ensures { IfOk result (λ text. string_bytes text ≡ text_of_debts report.now.debts.items report.now.horizon) }
 {
@@ -33,8 +33,8 @@ pub fn owed_text(alloc: Global, report: &Report) -> Result<String, AllocError>
     Ok(text)
 }
 
-/// The text of a month's gaps: for each maximal run of minutes of the month that aren't held its first minute and the first
-/// behind it, with a blank between.
+/// Writes a month's gaps: for each maximal range of minutes of the month that aren't held, its first minute and the first minute after it,
+/// separated by a blank.
 pub fn gap_text(alloc: Global, line: &Line, month: Month) -> Result<String, AllocError>
     ensures { IfOk result (λ text. IsGapText line.now month (string_bytes text)) }
 {
@@ -43,7 +43,7 @@ pub fn gap_text(alloc: Global, line: &Line, month: Month) -> Result<String, Allo
     gap_lines(alloc, &gaps)
 }
 
-/// The line of each gap.
+/// Writes the line of each gap.
 fn gap_lines(alloc: Global, gaps: &[Gap]) -> Result<String, AllocError>
     ensures { IfOk result (λ text. string_bytes text ≡ flat_map gap_line gaps.now) }
 {
@@ -54,7 +54,7 @@ fn gap_lines(alloc: Global, gaps: &[Gap]) -> Result<String, AllocError>
     Ok(text)
 }
 
-/// What is held in a month as CSV, of the head `start,past,activity,manning` and a row for each canonical span.
+/// Writes what is held in a month as CSV: the head `start,past,activity,manning`, and a row for each canonical span.
 pub fn span_csv(alloc: Global, line: &Line, month: Month) -> Result<String, AllocError>
     ensures { IfOk result (λ text. IsSpanCsv line.now month (string_bytes text)) }
 {
@@ -63,7 +63,7 @@ pub fn span_csv(alloc: Global, line: &Line, month: Month) -> Result<String, Allo
     csv_lines(alloc, &spans)
 }
 
-/// The head, and the row of each span.
+/// Writes the head, and the row of each span.
 fn csv_lines(alloc: Global, spans: &[Span]) -> Result<String, AllocError>
     ensures { IfOk result (λ text. string_bytes text ≡ codes "start,past,activity,manning\n" ++ flat_map csv_line spans.now) }
 {
@@ -85,7 +85,7 @@ pub(crate) fn push_breach(text: &mut String, breach: &Breach) -> Result<(), Allo
     writeln!(text, "{kind} at {moment} since {since} amount {amount}")
 }
 
-/// Appends the line that tells the first minute that isn't examined, and why.
+/// Appends the line with the first minute that isn't examined, and why.
 pub(crate) fn push_horizon(text: &mut String, horizon: Horizon) -> Result<(), AllocError>
     ensures { OnOk result (string_bytes text.new ≡ string_bytes text.old ++ horizon_line horizon) }
 {
@@ -94,7 +94,7 @@ pub(crate) fn push_horizon(text: &mut String, horizon: Horizon) -> Result<(), Al
     writeln!(text, "EXAMINED TO {minute} {cause}")
 }
 
-/// Appends the line of a debt, by the first minute that isn't examined.
+/// Appends the line of a debt. `horizon` is the first minute that isn't examined.
 fn push_debt(text: &mut String, debt: &Debt, horizon: Minute) -> Result<(), AllocError>
     ensures { OnOk result (string_bytes text.new ≡ string_bytes text.old ++ debt_line horizon debt.now) }
 {
@@ -107,7 +107,7 @@ fn push_debt(text: &mut String, debt: &Debt, horizon: Minute) -> Result<(), Allo
     text.push_str("\n")
 }
 
-/// Appends what became of a debt: paid, late or open.
+/// Appends whether a debt is paid, late or open.
 fn push_paid(
     text: &mut String,
     horizon: Minute,
@@ -142,7 +142,7 @@ fn push_span(text: &mut String, span: &Span) -> Result<(), AllocError>
     writeln!(text, "{start},{past},{activity},{manning}")
 }
 
-/// The name of a rule, and the Article that has it.
+/// The name of a rule, and the Article that states it.
 fn name_of_kind(kind: Kind) -> &'static str
     ensures { result.now ≡ kind_name kind }
 {

@@ -24,7 +24,7 @@ impl From<Error> for SheetFault {
     }
 }
 
-/// A reader of the records of a text, its head among them, once a byte order mark is taken off.
+/// A reader of the records of a text, including its head, after a byte order mark is removed.
 pub(crate) fn row_reader(alloc: Global, text: &[u8]) -> Reader<&[u8]>
     ensures text { HasLeft result (strip_bom text.now) }
     ensures state { reader_state result ≡ st.StartRecord }
@@ -35,7 +35,7 @@ pub(crate) fn row_reader(alloc: Global, text: &[u8]) -> Reader<&[u8]>
         .from_reader(alloc, text)
 }
 
-/// Every record of a text, its head among them, once a byte order mark is taken off.
+/// Reads every record of a text, including its head, after a byte order mark is removed.
 pub(crate) fn read_rows(alloc: Global, text: &[u8]) -> Result<Vec<ByteRecord>, SheetFault>
     ensures fault { IfErr result IsReaderFault }
     ensures rows { IfOk result (λ v. AreRecords default_config st.StartRecord (strip_bom text.now) (map fields_of v.items)) }
@@ -49,7 +49,7 @@ pub(crate) fn read_rows(alloc: Global, text: &[u8]) -> Result<Vec<ByteRecord>, S
     Ok(rows)
 }
 
-/// The fields of a record, where it has three.
+/// The fields of a record, if it has three.
 pub(crate) fn three_fields(fields: &ByteRecord) -> Option<(&[u8], &[u8], &[u8])>
     ensures { MatchOption result (three_of (fields_of fields.now) ≡ None)
         (λ t. three_of (fields_of fields.now) ≡ Some (t.0.now, t.1.now, t.2.now)) }
@@ -63,7 +63,7 @@ pub(crate) fn three_fields(fields: &ByteRecord) -> Option<(&[u8], &[u8], &[u8])>
     Some((first, second, third))
 }
 
-/// The fields of a record, where it has five.
+/// The fields of a record, if it has five.
 pub(crate) fn five_fields(fields: &ByteRecord) -> Option<(&[u8], &[u8], &[u8], &[u8], &[u8])>
     ensures { MatchOption result (five_of (fields_of fields.now) ≡ None)
         (λ f. five_of (fields_of fields.now)

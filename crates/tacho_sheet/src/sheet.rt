@@ -13,8 +13,8 @@ use tacho_line::Line;
 use tacho_rules::Report;
 use tacho_time::{Day, Minute, Month, month_range, weekday, write_day};
 
-/// The sheet of a driver's month: his number and name, the month, a line for each day with its amounts, the sums, the breaches
-/// whose moment lies in the month, and at the end the first minute that isn't examined, and why.
+/// Writes the sheet of a driver's month: the driver's number and name, the month, a line for each day with its amounts, the sums, and the
+/// breaches whose moment is in the month. The last line has the first minute that isn't examined, and why.
 pub fn month_sheet(
     alloc: Global,
     number: u32,
@@ -37,7 +37,7 @@ pub fn month_sheet(
     Ok(text)
 }
 
-/// What stands before the days: driver, month, and the names of the columns.
+/// Writes the lines before the days: driver, month, and the names of the columns.
 fn head(alloc: Global, number: u32, name: &str, month: Month) -> Result<String, AllocError>
     ensures { IfOk result (λ text. string_bytes text ≡ head_text number name.now month) }
 {
@@ -59,7 +59,7 @@ fn push_month(text: &mut String, month: Month) -> Result<(), AllocError>
     Ok(())
 }
 
-/// Appends the lines of the days from one to before another, and gives the sums of their amounts.
+/// Appends the lines of the days from one to before another, and returns the sums of their amounts.
 fn push_days(
     alloc: Global,
     text: &mut String,
@@ -93,7 +93,7 @@ fn push_day(alloc: Global, text: &mut String, day: Day, amounts: &Amounts) -> Re
     Ok(())
 }
 
-/// Appends the six amounts, each right in seven places.
+/// Appends the six amounts, each right-aligned in seven columns.
 fn push_amounts(alloc: Global, text: &mut String, amounts: &Amounts) -> Result<(), AllocError>
     ensures { OnOk result (string_bytes text.new ≡ string_bytes text.old ++ amounts_line amounts.now) }
 {
@@ -106,7 +106,7 @@ fn push_amounts(alloc: Global, text: &mut String, amounts: &Amounts) -> Result<(
     Ok(())
 }
 
-/// Appends an amount, right in seven places.
+/// Appends an amount, right-aligned in seven columns.
 fn push_right(alloc: Global, text: &mut String, minutes: u32) -> Result<(), AllocError>
     ensures { OnOk result (string_bytes text.new ≡ string_bytes text.old ++ right (amount_text minutes)) }
 {
@@ -116,7 +116,7 @@ fn push_right(alloc: Global, text: &mut String, minutes: u32) -> Result<(), Allo
     Ok(())
 }
 
-/// An amount in hours and minutes.
+/// Writes an amount in hours and minutes.
 fn text_of_amount(alloc: Global, minutes: u32) -> Result<String, AllocError>
     ensures { IfOk result (λ text. string_bytes text ≡ amount_text minutes) }
 {
@@ -146,7 +146,7 @@ fn push_two_digits(text: &mut String, number: u32) -> Result<(), AllocError>
     Ok(())
 }
 
-/// A number below ten as a digit.
+/// The digit of a number below ten.
 fn digit_of(number: u32) -> char
     requires { number < 10 }
     ensures digit { result ≡ 48 + number }
@@ -170,7 +170,7 @@ fn name_of_weekday(weekday: Weekday) -> &'static str
     }
 }
 
-/// Appends the lines of the breaches whose moment lies from a start to before a past.
+/// Appends the lines of the breaches whose moment is from `start` to before `past`.
 fn push_breaches(
     text: &mut String,
     breaches: &[Breach],
@@ -188,7 +188,7 @@ fn push_breaches(
     Ok(())
 }
 
-/// Whether a minute lies from a start to before a past.
+/// True if a minute is from `start` to before `past`.
 pub(crate) fn is_within(minute: Minute, start: Minute, past: Minute) -> bool
     ensures { result ≡ (nat_le start minute && nat_lt minute past) }
 {

@@ -7,7 +7,7 @@ use std::alloc::{AllocError, Global};
 use tacho_stretches::Stretch;
 use tacho_time::{Minute, write_day};
 
-/// The text of stretches: for each its Monday, its breaches, its horizon, and what isn't examined after it.
+/// Writes stretches: for each its Monday, its breaches, its horizon, and what isn't examined after it.
 pub fn stretch_text(alloc: Global, stretches: &[Stretch]) -> Result<String, AllocError>
     ensures { IfOk result (λ text. string_bytes text ≡ text_of_stretches (map judged stretches.now)) }
 {
@@ -19,8 +19,8 @@ pub fn stretch_text(alloc: Global, stretches: &[Stretch]) -> Result<String, Allo
     Ok(text)
 }
 
-/// The text of what is owed in stretches: for each its Monday, its debts as they are by its horizon, its horizon, and what isn't
-/// examined after it.
+/// Writes the debts of stretches: for each stretch its Monday, its debts as they are at its horizon, its horizon, and what isn't examined
+/// after it.
 pub fn debt_text(alloc: Global, stretches: &[Stretch]) -> Result<String, AllocError>
     ensures { IfOk result (λ text. string_bytes text ≡ text_of_debts (map judged stretches.now)) }
 {
@@ -32,7 +32,7 @@ pub fn debt_text(alloc: Global, stretches: &[Stretch]) -> Result<String, AllocEr
     Ok(text)
 }
 
-/// Appends a stretch: its Monday, a text of its report, and what isn't examined after it.
+/// Appends a stretch: its Monday, the text of its report, and what isn't examined after it.
 fn push_block(text: &mut String, stretch: &Stretch, report: &str) -> Result<(), AllocError>
     ensures { OnOk result (string_bytes text.new ≡ string_bytes text.old ++ block report.now (judged stretch.now)) }
 {

@@ -7,8 +7,8 @@ use std::alloc::{AllocError, Global};
 use tacho_state::{DriverSummary, Entry};
 use tacho_time::write_day;
 
-/// The text of a driver's entries: for each its number, start, past, activity, `kept` or `withdrawn`, and author and note in
-/// double quotes, with blanks between, and a line feed.
+/// Writes a driver's entries: for each its number, start, past, activity, `kept` or `withdrawn`, and author and note in double quotes,
+/// separated by blanks, and a line feed.
 pub fn entry_text(alloc: Global, entries: &[Entry]) -> Result<String, AllocError>
     ensures { IfOk result (λ text. string_bytes text ≡ flat_map entry_line entries.now) }
 {
@@ -43,9 +43,8 @@ fn word_of(withdrawn: bool) -> &'static str
     if withdrawn { "withdrawn" } else { "kept" }
 }
 
-/// The text of the list of drivers: for each his number, the holder of his card in 30 hexadecimal digits, the day from which he is
-/// examined, how many card files of his were accepted, how many hours were entered for him (withdrawn ones among them), and his name,
-/// with blanks between, and a line feed.
+/// Writes the list of drivers: for each the number, the holder in 30 hexadecimal digits, the base, the number of downloads, the number of
+/// entries (including withdrawn ones), and the name, separated by blanks, and a line feed.
 pub fn driver_text(alloc: Global, drivers: &[DriverSummary]) -> Result<String, AllocError>
     ensures { IfOk result (λ text. string_bytes text ≡ flat_map summary_line (map told_summary drivers.now)) }
 {

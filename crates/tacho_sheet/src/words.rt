@@ -4,7 +4,7 @@ ghost use Rattle.tacho_sheet.specs.Words.{activity_of, left_out_of};
 use crate::fault::LeftOut;
 use tacho_time::Activity;
 
-/// The activity of a word.
+/// Reads the name of an activity.
 pub(crate) fn read_activity(word: &[u8]) -> Option<Activity>
     ensures { result ≡ activity_of word.now }
 {
@@ -21,7 +21,7 @@ pub(crate) fn read_activity(word: &[u8]) -> Option<Activity>
     }
 }
 
-/// The activity that is left out, by its word.
+/// Reads the name of an activity that is left out.
 pub(crate) fn read_left_out(word: &[u8]) -> Option<LeftOut>
     ensures { result ≡ left_out_of word.now }
 {

@@ -1,4 +1,4 @@
--- What a batch and a withdrawal are answered, and what a driver has then.
+-- The answers of a batch and of a withdrawal, and what a driver has after them.
 use Rattle.std.proofs.Common.{◌≡◌, ℕ, zero, suc, ◌+◌, ◌<◌, ◌≤◌, ◌⊎◌, inl, inr, ◌==◌, nat_le, nat_lt, Bool, true, false, cond, List, [], ◌∷◌, ◌++◌, length, get_or, slice_get, slice_set, Option, Some, None, Ok, Err, All, Bor, is_some, IfSome, refl, sym, ap, ◌∙◌, subst, append_assoc, arith}
 use Rattle.std.specs.Option.{option_copied}
 use Rattle.std.proofs.lemmas.Bool.{eq-eqb}
@@ -24,12 +24,12 @@ use Rattle.tacho_shelf.proofs.RowLemmas.{looked_up}
 
 -- ---- a batch
 
--- the entries of lines that aren't empty
+-- the lines of a batch aren't empty, so neither are its entries
 pub full_batch : (lines : List Hours) → All IsEntryLine lines → AreFull (batch_of lines)
 full_batch [] h = tt
 full_batch (l ∷ lines) h = ((All-head IsEntryLine l lines h).full, full_batch lines (All-tail IsEntryLine l lines h))
 
--- their spans aren't empty either
+-- the spans of these entries aren't empty either
 none_empty_from : (place : ℕ) (batch : List Entry) → AreFull batch → empty_from place (entered_spans batch) ≡ None
 none_empty_from place [] h = refl
 none_empty_from place (e ∷ batch) h = go e.withdrawn (none_empty_from place batch h.1) (none_empty_from (place + 1) batch h.1) where
@@ -46,13 +46,13 @@ no_empty_entry batch h = none_empty_from 0 batch h
 
 -- a driver, and a batch
 module _ (batch : List Entry) (d : Driver) where
-  -- one that contradicts is refused
+  -- a batch that contradicts is refused
   pub enter_contradicted : (fault : StoreFault) → IsLeast (least_conflict (held_spans d ++ entered_spans batch)) fault
       → IsFaultOf (enter_own batch d) fault
   enter_contradicted fault (inl e) = inl e
   enter_contradicted fault (inr h) = inr (ap (entered_by batch d) h.2 ∙ ap Err (sym h.1))
 
-  -- another one goes in, where there are numbers
+  -- a batch that contradicts nothing is added, if enough numbers are left
   pub enter_numbered : (first : ℕ) → least_conflict (held_spans d ++ entered_spans batch) ≡ None
       → next_number (length d.entries) (length batch) ≡ Some first → enter_own batch d ≡ Ok (first, with_batch batch d)
   enter_numbered first none e =
@@ -66,7 +66,7 @@ module _ (batch : List Entry) (d : Driver) where
             ∙ ap (λ n. Ok (n, with_batch batch d)) same
         go false t f = cc
 
-  -- and is refused, where there are too few
+  -- it is refused if too few numbers are left
   pub enter_full : least_conflict (held_spans d ++ entered_spans batch) ≡ None → most < length d.entries + length batch
       → enter_own batch d ≡ Err Full
   enter_full none l =
@@ -83,7 +83,7 @@ module _ (batch : List Entry) (d : Driver) where
         let full : most < length d.entries + length batch = grind (arith, nat_tests) in
         enter_full none full
 
-  -- with numbers, he may have them with his others
+  -- if enough numbers are left, the driver may have these entries too
   few_more : (first : ℕ) → next_number (length d.entries) (length batch) ≡ Some first → length (d.entries ++ batch) ≤ most
   few_more first e = go (nat_le (length d.entries + length batch) 1000000) refl e where
     go : (b : Bool) → nat_le (length d.entries + length batch) 1000000 ≡ b → cond b (Some (length d.entries + 1)) None ≡ Some first
@@ -94,7 +94,7 @@ module _ (batch : List Entry) (d : Driver) where
         omega (arith, room, all)
     go false t f = cc
 
-  -- and if they contradict nothing, he has what he may
+  -- if the entries contradict nothing either, the driver's downloads and entries satisfy `AreKept`
   pub kept_batch : (first : ℕ) → AreKept d.downloads d.entries → next_number (length d.entries) (length batch) ≡ Some first
       → ((m : ℕ) → ¬ (Conflicts (Gives (held_spans d ++ entered_spans batch)) m)) → AreKept d.downloads (d.entries ++ batch)
   kept_batch first kept e h =
@@ -110,14 +110,14 @@ module _ (batch : List Entry) (d : Driver) where
 
 -- ---- entries by number
 
--- a number before the first one's is none's
+-- no entry has a number below the first one's
 pub entry_before : (i number : ℕ) (es : List Entry) → number < i → entry_from i number es ≡ None
 entry_before i number [] l = refl
 entry_before i number (e ∷ es) l =
     let t : (i == number) ≡ false = grind (arith, nat_tests) in
     ap (λ b. cond b (Some e) (entry_from (i + 1) number es)) t ∙ entry_before (i + 1) number es (omega arith)
 
--- another one is that of the entry so many places behind the first
+-- the entry whose number is `i + k` is at place `k`, if the first has number `i`
 pub entry_at : (i number k : ℕ) (es : List Entry) → number ≡ i + k → entry_from i number es ≡ slice_get es k
 entry_at i number k [] f = refl
 entry_at i number zero (e ∷ es) f =
@@ -127,13 +127,13 @@ entry_at i number (suc k) (e ∷ es) f =
     let t : (i == number) ≡ false = grind (arith, nat_tests) in
     ap (λ b. cond b (Some e) (entry_from (i + 1) number es)) t ∙ entry_at (i + 1) number k es (omega (arith, f))
 
--- the entry that was lent of a driver's, at a place
+-- the entry borrowed from a driver's list, at a place
 pub entry_lent : (seen d : Driver) (i : ℕ) (r : Option (Bor Entry)) → seen ≡ d → is_some r ≡ nat_lt i (length seen.entries)
     → IfSome r (λ y. y.now ≡ get_or seen.entries i y.now) → slice_get d.entries i ≡ option_copied r
 entry_lent seen d i r same some read =
     ap (λ (x : Driver). slice_get x.entries i) (sym same) ∙ sym (looked_up seen.entries i r some read)
 
--- it is withdrawn at its place
+-- withdrawing the entry with this number is setting it at its place
 marked_at : (i number k : ℕ) (es : List Entry) (x : Entry) → number ≡ i + k → slice_get es k ≡ Some x
     → marked_from i number es ≡ slice_set es k (record x { withdrawn = true })
 marked_at i number k [] x f g = cc
@@ -153,13 +153,13 @@ marked_at i number (suc k) (e ∷ es) x f g =
 pub withdraw_unknown : (number : ℕ) (d : Driver) → entry_from 1 number d.entries ≡ None → withdraw_own number d ≡ Err UnknownEntry
 withdraw_unknown number d e = ap (withdrawn_by number d) e
 
--- it is withdrawn already
+-- the entry is withdrawn already
 pub withdraw_again : (number : ℕ) (d : Driver) (x : Entry) → entry_from 1 number d.entries ≡ Some x → x.withdrawn ≡ true
     → withdraw_own number d ≡ Err AlreadyWithdrawn
 withdraw_again number d x e w =
     ap (withdrawn_by number d) e ∙ ap (λ b. cond b (Err AlreadyWithdrawn) (Ok (tt, with_marked number d))) w
 
--- it is withdrawn now
+-- the entry is withdrawn
 pub withdraw_done : (number i : ℕ) (d : Driver) (x : Entry) → number ≡ 1 + i → slice_get d.entries i ≡ Some x → x.withdrawn ≡ false
     → withdraw_own number d ≡ Ok (tt, record d { entries = slice_set d.entries i (record x { withdrawn = true }) })
 withdraw_done number i d x n e w =
@@ -167,7 +167,7 @@ withdraw_done number i d x n e w =
     ∙ ap (λ b. cond b (Err AlreadyWithdrawn) (Ok (tt, with_marked number d))) w
     ∙ ap (λ es. Ok (tt, record d { entries = es })) (marked_at 1 number i d.entries x n e)
 
--- so is the one at the place of its number, when it was read there
+-- likewise, with the entry as it was read at the place of its number
 pub withdraw_at : (number i : ℕ) (d : Driver) (x y : Entry) → IsEnteredAt d.entries number i → x ≡ get_or d.entries i x
     → y ≡ record x { withdrawn = true } → withdraw_own number d ≡ Ok (tt, record d { entries = slice_set d.entries i y })
 withdraw_at number i d x y h read e =
@@ -177,7 +177,7 @@ withdraw_at number i d x y h read e =
     withdraw_done number i d x h.0 at (sym (ap (λ (z : Entry). z.withdrawn) same) ∙ h.1.2)
     ∙ ap (λ z. Ok (tt, record d { entries = slice_set d.entries i z })) (sym e)
 
--- then the entries give no more than before
+-- after a withdrawal, entries give nothing that they didn't give before
 left_gives : (i : ℕ) (es : List Entry) (x : Entry) (m : ℕ) (k : Mark)
     → Gives (entered_spans (slice_set es i (record x { withdrawn = true }))) m k
     → Gives (entered_spans es) m k
@@ -196,13 +196,13 @@ left_gives (suc i) (e ∷ es) x m k g = go e.withdrawn g (left_gives i es x m k)
   go false (inl c) f = inl c
   go false (inr y) f = inr (f y)
 
--- there are as many
+-- there are as many entries as before
 as_many : (i : ℕ) (es : List Entry) (x : Entry) → length (slice_set es i x) ≡ length es
 as_many i [] x = refl
 as_many zero (e ∷ es) x = refl
 as_many (suc i) (e ∷ es) x = ap suc (as_many i es x)
 
--- so he has what he may
+-- so the driver's downloads and entries still satisfy `AreKept`
 pub kept_left : (downloads : List Download) (es : List Entry) (i : ℕ) (x : Entry) → AreKept downloads es
     → AreKept downloads (slice_set es i (record x { withdrawn = true }))
 kept_left downloads es i x kept =

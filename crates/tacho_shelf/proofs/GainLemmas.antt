@@ -1,4 +1,4 @@
--- What gains against a line tell of the spans that it was made of.
+-- What the gains against a line say about the spans from which the line was made.
 use Rattle.std.proofs.Common.{◌≡◌, ◌≢◌, ℕ, ◌+◌, ◌<◌, ◌⊎◌, inl, inr, ◌==◌, nat_le, Bool, false, cond, List, [], ◌∷◌, ◌++◌, length, Some, None, Result, Ok, Err, IfOk, MatchResult, refl, sym, ap, ◌∙◌, arith}
 use Rattle.std.proofs.lemmas.Bool.{eq-eqb}
 use Rattle.std.proofs.lemmas.Bool.Decides.{nat_tests}
@@ -20,7 +20,7 @@ use Rattle.tacho_state.proofs.GainLemmas.{none_new, some_new, clash_new}
 use Rattle.tacho_state.proofs.LeastLemmas.{least_is, none_is, within_is, not_within}
 use Rattle.tacho_shelf.specs.Shelf.{IsLeast}
 
--- spans in order aren't empty
+-- canonical spans aren't empty
 none_empty_from : (place : ℕ) (spans : List Span) → IsCanonical spans → empty_from place spans ≡ None
 none_empty_from place [] h = refl
 none_empty_from place (s ∷ spans) h =
@@ -31,24 +31,24 @@ none_empty_from place (s ∷ spans) h =
 pub none_empty : (spans : List Span) → IsCanonical spans → first_empty spans ≡ None
 none_empty spans h = none_empty_from 0 spans h
 
--- where none is empty, no empty one is why they have no gains
+-- if no span is empty, an empty span isn't the reason why there are no gains
 pub no_empty_span : (line spans : List Span) (fault : LineFault) → first_empty spans ≡ None → IsGainFault line spans fault
     → (place : ℕ) → fault ≢ EmptySpan place
 no_empty_span line spans (EmptySpan at) h f place e = cc
 no_empty_span line spans (LineContradiction m) h f place e = cc
 no_empty_span line spans LineMemory h f place e = cc
 
--- a minute that is given is below the bound
+-- a minute that is given is before `bound`
 below_bound : (xs : List Span) (m : ℕ) (k : Mark) → Gives xs m k → m < bound xs
 below_bound [] m k g = absurd g
 below_bound (s ∷ ss) m k (inl c) = omega (arith, c.0.1)
 below_bound (s ∷ ss) m k (inr g) = let l = below_bound ss m k g in omega (arith, l)
 
--- spans, the line of what they give, and others
+-- spans `held`, the line that they give, and other spans
 module _ (held line spans : List Span) (known : IsCanonicalOf (Gives held) line) where
   -- ---- two marks
 
-  -- the line and the others give what both lists give
+  -- the line and the others together give what both lists give
   to_both : (m : ℕ) (k : Mark) → Together line spans m k → Gives (held ++ spans) m k
   to_both m k (inl h) = front_gives held spans m k ((known.same m k).0 (held_given line m k h))
   to_both m k (inr g) = back_gives held spans m k g
@@ -59,25 +59,25 @@ module _ (held line spans : List Span) (known : IsCanonicalOf (Gives held) line)
     go (inl x) = inl (given_held line m k known.canonical ((known.same m k).1 x))
     go (inr y) = inr y
 
-  -- so they have the same minutes with two marks
+  -- so both have the same minutes with two marks
   conflict_from : (m : ℕ) → Conflicts (Gives (held ++ spans)) m → Conflicts (Together line spans) m
   conflict_from m c = (c.0, c.1, from_both m c.0 c.2, from_both m c.1 c.3, c.4)
 
-  -- and the same least one
+  -- and the same first such minute
   least_of_both : (m : ℕ) → IsFirstConflict (Together line spans) m → least_conflict (held ++ spans) ≡ Some m
   least_of_both m f =
       let c = f.0 in
       least_is (held ++ spans) m
       ((c.0, c.1, to_both m c.0 c.2, to_both m c.1 c.3, c.4), λ j lt d. f.1 j lt (conflict_from j d))
 
-  -- with gains there is none
+  -- if there are gains, no minute has two marks
   pub both_agreed : (gains : List Span) → AreGains line spans gains → (m : ℕ) → ¬ (Conflicts (Gives (held ++ spans)) m)
   both_agreed gains g m c = g.agreed m (conflict_from m c)
 
   pub no_least : (gains : List Span) → AreGains line spans gains → least_conflict (held ++ spans) ≡ None
   no_least gains g = none_is (held ++ spans) (both_agreed gains g)
 
-  -- a fault tells the least one
+  -- the fault reports the first such minute
   pub least_by_fault : (fault : LineFault) (told : StoreFault) → IsGainFault line spans fault → first_empty spans ≡ None
       → ((m : ℕ) → fault ≡ LineContradiction m → told ≡ Contradiction m) → (fault ≡ LineMemory → told ≡ Memory)
       → IsLeast (least_conflict (held ++ spans)) told
@@ -85,21 +85,21 @@ module _ (held line spans : List Span) (known : IsCanonicalOf (Gives held) line)
   least_by_fault (LineContradiction minute) told f none c m = inr (minute, c minute refl, least_of_both minute f.1)
   least_by_fault LineMemory told f none c m = inl (m refl)
 
-  -- ---- whether the one gives all that the others give
+  -- ---- whether `held` gives all that `spans` give
 
-  -- all minutes lie before this one
+  -- all minutes are before this one
   past : ℕ
   past = bound line + bound spans
 
   keeps : Keeps line (Gives held)
   keeps = record { disjoint = disjoint_canonical line known.canonical; same = known.same }
 
-  -- no minute of the others lies elsewhere
+  -- all minutes of `spans` are in the range from 0 to before it
   all_in_range : AreInRange 0 past spans
   unfolding past
   all_in_range m k g = let l = below_bound spans m k g in (omega arith, omega (arith, l))
 
-  -- nor one of the line
+  -- all minutes of the line are too
   all_near : IsCanonicalOf (Gives (near 0 past line)) line
   unfolding past
   all_near = record {
@@ -110,7 +110,7 @@ module _ (held line spans : List Span) (known : IsCanonicalOf (Gives held) line)
     ));
   }
 
-  -- it does exactly where there are no gains
+  -- `held` gives all that `spans` give iff there are no gains
   pub within_by_gains : (gains : List Span) (n : ℕ) → n ≡ length gains → AreGains line spans gains → is_within spans held ≡ (n == 0)
   within_by_gains [] n e g =
       within_is spans held (none_new 0 past line line spans (Gives held) keeps all_near g) ∙ sym (eq-eqb n 0 e)
@@ -118,7 +118,7 @@ module _ (held line spans : List Span) (known : IsCanonicalOf (Gives held) line)
       let more : (n == 0) ≡ false = grind (arith, nat_tests) in
       not_within spans held (some_new 0 past line line spans gains x (Gives held) keeps all_in_range all_near g) ∙ sym more
 
-  -- with a contradiction it doesn't
+  -- if they contradict, it doesn't
   pub not_within_by_fault : (fault : LineFault) → IsGainFault line spans fault → first_empty spans ≡ None → fault ≢ LineMemory
       → is_within spans held ≡ false
   not_within_by_fault (EmptySpan at) f none memory = cc
@@ -126,7 +126,7 @@ module _ (held line spans : List Span) (known : IsCanonicalOf (Gives held) line)
       not_within spans held (clash_new 0 past line line spans (Gives held) m keeps all_near f.1)
   not_within_by_fault LineMemory f none memory = absurd (memory refl)
 
-  -- what is told by the fault
+  -- the result, given the fault
   pub told_by_fault : {E : Type 0} (told : Result Bool E) (fault : LineFault)
       → MatchResult told (λ given. (given ≡ false) × (fault ≢ LineMemory)) (λ (e : E). fault ≡ LineMemory)
       → IsGainFault line spans fault → first_empty spans ≡ None → IfOk told (λ given. is_within spans held ≡ given)

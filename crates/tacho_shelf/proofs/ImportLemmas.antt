@@ -1,4 +1,4 @@
--- What an import is answered, by whether downloads give its spans and by the least minute that they contradict.
+-- The answer of an import, from whether downloads give its spans and from the least minute that they contradict.
 use Rattle.std.proofs.Common.{◌≡◌, ℕ, ◌+◌, ◌<◌, ◌⊎◌, inl, inr, nat_le, nat_lt, Bool, true, false, cond, List, [], ◌∷◌, ◌++◌, length, Option, Some, None, Ok, Err, refl, sym, ap, ◌∙◌, arith}
 use Rattle.std.proofs.lemmas.Bool.Decides.{nat_tests}
 use Rattle.std.proofs.lemmas.List.{length-append}
@@ -16,27 +16,27 @@ use Rattle.tacho_state.specs.Steps.{kept_by, import_own, most}
 use Rattle.tacho_state.proofs.GainLemmas.{download_held}
 use Rattle.tacho_shelf.specs.Shelf.{AreKept, IsFaultOf, IsLeast}
 
--- a driver, and a file's spans
+-- a driver and a file's spans
 module _ (part : ℕ) (file : List ℕ) (spans : List Span) (d : Driver) where
-  -- where downloads give them all, the file is repeated
+  -- if downloads give all its spans, the file is repeated
   pub import_repeated : is_within spans (given_spans d.downloads) ≡ true → import_own part file spans d ≡ Ok (Repeated d.number, d)
   import_repeated w =
       ap (λ b. cond b (Ok (Repeated d.number, d)) (kept_by part file spans d (least_conflict (held_spans d ++ spans)))) w
 
-  -- where they don't, the least contradiction tells the answer
+  -- if they don't, the answer depends on the least contradiction
   import_new : (o : Option ℕ) → is_within spans (given_spans d.downloads) ≡ false → least_conflict (held_spans d ++ spans) ≡ o
       → import_own part file spans d ≡ kept_by part file spans d o
   import_new o w e =
       ap (λ b. cond b (Ok (Repeated d.number, d)) (kept_by part file spans d (least_conflict (held_spans d ++ spans)))) w
       ∙ ap (kept_by part file spans d) e
 
-  -- one is refused with it
+  -- a file with a contradiction is refused with it
   pub import_contradicted : (fault : StoreFault) → is_within spans (given_spans d.downloads) ≡ false
       → IsLeast (least_conflict (held_spans d ++ spans)) fault → IsFaultOf (import_own part file spans d) fault
   import_contradicted fault w (inl e) = inl e
   import_contradicted fault w (inr h) = inr (import_new (Some h.0) w h.2 ∙ ap Err (sym h.1))
 
-  -- without one it goes in, where there is a number
+  -- a file without one is added, if a number is left
   pub import_added : (number : ℕ) → is_within spans (given_spans d.downloads) ≡ false → least_conflict (held_spans d ++ spans) ≡ None
       → next_number (length d.downloads) 1 ≡ Some number
       → import_own part file spans d ≡ Ok (Added d.number number, with_download part file spans d)
@@ -52,7 +52,7 @@ module _ (part : ℕ) (file : List ℕ) (spans : List Span) (d : Driver) where
         added ∙ ap (λ n. Ok (Added d.number n, with_download part file spans d)) same
     go false t f = cc
 
-  -- and is refused, where there is none
+  -- it is refused if no number is left
   pub import_full : is_within spans (given_spans d.downloads) ≡ false → least_conflict (held_spans d ++ spans) ≡ None
       → next_number (length d.downloads) 1 ≡ None → import_own part file spans d ≡ Err Full
   import_full w none e = import_new None w none ∙ go (nat_le (length d.downloads + 1) 1000000) refl e where
@@ -63,14 +63,14 @@ module _ (part : ℕ) (file : List ℕ) (spans : List Span) (d : Driver) where
         let full : nat_lt (length d.downloads) 1000000 ≡ false = grind (arith, nat_tests) in
         ap (λ b. cond b (Ok (Added d.number (1 + length d.downloads), with_download part file spans d)) (Err Full)) full
 
--- where there is a number for one more, there is room
+-- if there is a number for one more download, there is room for it
 pub room_for : (given number : ℕ) → next_number given 1 ≡ Some number → given < most
 room_for given number e = go (nat_le (given + 1) 1000000) refl e where
   go : (b : Bool) → nat_le (given + 1) 1000000 ≡ b → cond b (Some (given + 1)) None ≡ Some number → given < most
   go true t f = grind (arith, nat_tests)
   go false t f = cc
 
--- a download whose spans contradict nothing that is held, where there is room
+-- `AreKept` still holds once a download is added whose spans contradict nothing held, if there is room
 pub kept_download : (d : Driver) (part : ℕ) (file : List ℕ) (spans : List Span) → AreKept d.downloads d.entries
     → length d.downloads < most → ((m : ℕ) → ¬ (Conflicts (Gives (held_spans d ++ spans)) m))
     → AreKept (d.downloads ++ record { part = part; file = file; spans = spans } ∷ []) d.entries

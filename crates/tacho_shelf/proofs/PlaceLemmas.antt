@@ -1,4 +1,4 @@
--- The place that a search finds is that of the driver who is looked for.
+-- The place that a search finds is that of the driver who was looked for.
 use Rattle.std.proofs.Common.{◌≡◌, ℕ, zero, suc, ◌+◌, ◌<◌, ◌==◌, Bool, true, false, cond, List, [], ◌∷◌, length, get_or, slice_get, Option, Some, None, position, bytes_eq, refl, sym, ap, ◌∙◌, arith}
 use Rattle.std.specs.List.{position_from}
 use Rattle.std.proofs.lemmas.List.Quantifiers.{position-Some}
@@ -6,10 +6,10 @@ use Rattle.std.proofs.lemmas.Iterator.Adapters.{position_from-zero}
 use Rattle.tacho_state.specs.State.{Driver, State, driver_of, keyed, holding}
 use Rattle.tacho_shelf.specs.Shelf.{IsPlaceOf}
 
--- a search that goes from driver to driver and stops at the first who passes
+-- a search that goes through the drivers and stops at the first one who passes
 module _ (p : Driver → Bool) (sought : State → Option Driver) (none : sought [] ≡ None) (step : (d : Driver) (s : State) → sought
     (d ∷ s) ≡ cond (p d) (Some d) (sought s)) where
-  -- where the first who passes stands, it finds him
+  -- it finds the first driver who passes
   found_at : (s : State) (i : ℕ) (d : Driver) → i < length s → p (get_or s i d) ≡ true → ((k : ℕ) → k < i → p (get_or s k d) ≡ false)
       → slice_get s i ≡ sought s
   found_at [] i d l t f = absurd (omega (arith, l))
@@ -18,7 +18,7 @@ module _ (p : Driver → Bool) (sought : State → Option Driver) (none : sought
       found_at s i d (omega (arith, l)) t (λ k m. f (suc k) (omega (arith, m)))
       ∙ sym (step x s ∙ ap (λ b. cond b (Some x) (sought s)) (f 0 (omega arith)))
 
-  -- where none passes, it finds none
+  -- if no driver passes, it finds none
   none_found : (s : State) (k : ℕ) → position_from p k s ≡ None → sought s ≡ None
   none_found [] k e = none
   none_found (x ∷ s) k e = step x s ∙ go (p x) e (none_found s (k + 1)) where
@@ -27,20 +27,20 @@ module _ (p : Driver → Bool) (sought : State → Option Driver) (none : sought
     go true e more = cc
     go false e more = more e
 
-  -- the place of the first who passes is that of him whom it finds
+  -- the place of the first driver who passes is that of the driver whom it finds
   place_found : (s : State) (o : Option ℕ) → o ≡ position p s → IsPlaceOf s (sought s) o
   place_found s None e = none_found s 0 (sym (position_from-zero p s) ∙ sym e)
   place_found [] (Some i) e = cc
   place_found (x ∷ s) (Some i) e = let h = position-Some p (x ∷ s) i x (sym e) in (h.0, found_at (x ∷ s) i x h.0 h.1 h.2)
 
--- the place of a driver by his number
+-- the place of the driver with a number
 pub place_by_number : (n : ℕ) (s : State) (o : Option ℕ) → o ≡ position (λ d. d.number == n) s → IsPlaceOf s (driver_of n s) o
 place_by_number n s o e = place_found (λ d. d.number == n) (driver_of n) refl (λ d s. refl) s o e
 
--- by his key
+-- the place of the driver with a key
 pub place_by_key : (key : List ℕ) (s : State) (o : Option ℕ) → o ≡ position (λ d. bytes_eq d.key key) s → IsPlaceOf s (keyed key s) o
 place_by_key key s o e = place_found (λ d. bytes_eq d.key key) (keyed key) refl (λ d s. refl) s o e
 
--- by the holder of his card
+-- the place of the driver with a holder
 pub place_by_holder : (holder : List ℕ) (s : State) (o : Option ℕ) → o ≡ position (λ d. bytes_eq d.holder holder) s → IsPlaceOf s (holding holder s) o
 place_by_holder holder s o e = place_found (λ d. bytes_eq d.holder holder) (holding holder) refl (λ d s. refl) s o e

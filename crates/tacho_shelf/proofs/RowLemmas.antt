@@ -1,4 +1,4 @@
--- What one driver of a shelf has.
+-- Facts about one driver of a shelf.
 use Rattle.std.proofs.Common.{◌≡◌, ◌≢◌, ℕ, zero, suc, ◌+◌, ◌<◌, ◌≤◌, ◌⊎◌, inl, inr, ◌==◌, nat_lt, true, false, cond, Bor, List, [], ◌∷◌, ◌++◌, length, get_or, slice_get, Option, Some, None, Ok, Err, is_some, IfSome, Result, IfOk, IfErr, ◌*◌, subst, refl, sym, ap, ◌∙◌, arith}
 use Rattle.std.proofs.Math.Path.{fun_ext}
 use Rattle.std.proofs.lemmas.Bool.{eq-eqb}
@@ -34,14 +34,14 @@ use Rattle.tacho_shelf.specs.Shelf.{AreKept, IsCardFault}
 
 -- ---- downloads by number
 
--- a number before the first one's is none's
+-- no download has a number below the first one's
 pub download_before : (i number : ℕ) (ds : List Download) → number < i → download_from i number ds ≡ None
 download_before i number [] l = refl
 download_before i number (d ∷ ds) l =
     let t : (i == number) ≡ false = grind (arith, nat_tests) in
     ap (λ b. cond b (Some d) (download_from (i + 1) number ds)) t ∙ download_before (i + 1) number ds (omega arith)
 
--- another one is that of the download so many places behind the first
+-- the download whose number is `i + k` is at place `k`, if the first has number `i`
 pub download_at : (i number k : ℕ) (ds : List Download) → number ≡ i + k → download_from i number ds ≡ slice_get ds k
 download_at i number k [] e = refl
 download_at i number zero (d ∷ ds) e =
@@ -51,22 +51,22 @@ download_at i number (suc k) (d ∷ ds) e =
     let t : (i == number) ≡ false = grind (arith, nat_tests) in
     ap (λ b. cond b (Some d) (download_from (i + 1) number ds)) t ∙ download_at (i + 1) number k ds (omega (arith, e))
 
--- the element that was lent of a list
+-- the element borrowed from a list
 pub looked_up : {A : Type 0} (xs : List A) (i : ℕ) (r : Option (Bor A)) → is_some r ≡ nat_lt i (length xs)
     → IfSome r (λ y. y.now ≡ get_or xs i y.now) → option_copied r ≡ slice_get xs i
 looked_up xs i None e h = let l : length xs ≤ i = grind (arith, nat_tests) in sym (slice_get_past xs i l)
 looked_up xs i (Some y) e h = let l : i < length xs = grind (arith, nat_tests) in sym (slice_get_read xs (length xs) i y.now refl l h)
 
--- ---- what he holds
+-- ---- what a driver holds
 
--- what his downloads give gives no minute two marks
+-- a driver's downloads give no minute two marks
 pub given_agreed : (downloads : List Download) (entries : List Entry) → AreKept downloads entries → (m : ℕ)
     → ¬ (Conflicts (Gives (given_spans downloads)) m)
 given_agreed downloads entries h m c = h.agreed m (c.0, c.1, more c.0 c.2, more c.1 c.3, c.4) where
   more : (k : Mark) → Gives (given_spans downloads) m k → Gives (given_spans downloads ++ entered_spans entries) m k
   more k g = front_gives (given_spans downloads) (entered_spans entries) m k g
 
--- a line of what he holds gives each minute the mark that he holds it with
+-- a line of what a driver holds gives each minute the mark with which it is held
 pub line_marks : (d : Driver) (line : List Span) → IsCanonicalOf (Held d) line → mark_at line ≡ held_mark d
 line_marks d line h = fun_ext (λ m. go m (mark_at line m) refl (held_mark d m) refl) where
   go : (m : ℕ) (a : Option Mark) → mark_at line m ≡ a → (b : Option Mark) → held_mark d m ≡ b → mark_at line m ≡ held_mark d m
@@ -77,36 +77,36 @@ line_marks d line h = fun_ext (λ m. go m (mark_at line m) refl (held_mark d m) 
       let held = given_held_in line m k h.canonical ((h.same m k).1 (held_given (held_spans d) m k f)) in cc
   go m None e None f = e ∙ sym f
 
--- it is what is told of him
+-- so it is the answer of `lined`
 pub lined_at : (n : ℕ) (s : State) (d : Driver) (line : List Span) → driver_of n s ≡ Some d → IsCanonicalOf (Held d) line
     → lined n s ≡ Ok (mark_at line)
 lined_at n s d line e h = ap (λ o. told_of (λ x. Ok (held_mark x)) o) e ∙ ap (λ (f : ℕ → Option Mark). Ok f) (sym (line_marks d line h))
 
--- the report of that line, from his base, is his
+-- the report of that line, from the driver's base, is the driver's report
 pub report_at : (n : ℕ) (s : State) (d : Driver) (report : Report) → driver_of n s ≡ Some d
     → IsReport (held_spans d) (1440 * d.base) report.horizon report.breaches.items report.debts.items → IsReportOf n s report
 report_at n s d report e r =
     subst (λ (o : Option Driver). IfSome o (λ x. IsReport (held_spans x) (1440 * x.base) report.horizon report.breaches.items report.debts.items))
     (sym e) r
 
--- and so are the stretches
+-- likewise for the stretches
 pub stretches_at : (n : ℕ) (s : State) (d : Driver) (found : List Judged) → driver_of n s ≡ Some d
     → AreStretches (held_spans d) (1440 * d.base) found → AreStretchesOf n s found
 stretches_at n s d found e is = subst (λ (o : Option Driver). IfSome o (λ x. AreStretches (held_spans x) (1440 * x.base) found)) (sym e) is
 
--- whoever is there is reported on, or the call gave up
+-- a call on a driver who exists answers, or gives up
 pub reported_at : {A : Type 0} (n : ℕ) (s : State) (d : Driver) (r : Result A StoreFault) → driver_of n s ≡ Some d
     → IfErr r (λ f. (f ≡ Memory) ⊎ (f ≡ Store)) → Answers (λ _. tt) r (reported n s)
 reported_at n s d (Ok report) e up = ap (told_of (λ d. Ok tt)) e
 reported_at {A = A} n s d (Err f) e (inl is) = subst (λ (g : StoreFault). Answers {A = A} (λ _. tt) (Err g) (reported n s)) (sym is) tt
 reported_at {A = A} n s d (Err f) e (inr is) = subst (λ (g : StoreFault). Answers {A = A} (λ _. tt) (Err g) (reported n s)) (sym is) tt
 
--- what gives no minute two marks has no first such minute
+-- if no minute has two marks, the fault is out of memory
 pub no_conflict : (P : ℕ → Mark → Type 0) (fault : SpanFault) → ((m : ℕ) → ¬ (Conflicts P m)) → IsFirstFault P fault → fault ≡ SpanMemory
 no_conflict P (SpanContradiction m) h f = absurd (h m f.0)
 no_conflict P SpanMemory h f = refl
 
--- the fault of a card that is told is one of the import
+-- the fault returned for a card file is that of its import
 pub card_fault : (part : Part) (bytes : List ℕ) (fault : CardFault) (told : StoreFault)
     → ((fault ≡ CardMemory) × (told ≡ Memory)) ⊎ ((fault ≢ CardMemory) × (told ≡ Card fault))
     → (fault ≡ CardMemory) ⊎ FileTells part bytes (Err fault) → IsCardFault part bytes told
@@ -116,7 +116,7 @@ card_fault part bytes fault told (inr e) (inr f) = inr (fault, e.1, f)
 
 -- ---- a range
 
--- the whole timeline has the marks of each range
+-- the whole timeline has the right marks in each range
 within : (o : Option Driver) (start past : ℕ) (line : List Span) → told_of (λ d. Ok (held_mark d)) o ≡ Ok (mark_at line)
     → IfSome o (λ d. AgreeWithin start past line (held_spans d))
 within None start past line e = cc
@@ -129,12 +129,12 @@ pub line_within : (n start past : ℕ) (s : State) (r : Result (List Span) Store
 line_within n start past s (Ok line) told = within (driver_of n s) start past line told
 line_within n start past s (Err f) told = tt
 
--- and so has a line of what a driver holds
+-- so has a line of what a driver holds
 pub held_at : (n start past : ℕ) (s : State) (d : Driver) (line : List Span) → driver_of n s ≡ Some d → IsCanonicalOf (Held d) line
     → IsHeldWithin n start past s line
 held_at n start past s d line e h = line_within n start past s (Ok line) (lined_at n s d line e h)
 
--- and it is asked of the same drivers
+-- the reading of a range is refused for the same drivers as that of the timeline
 asked : (o : Option Driver) (r : Result (List Span) StoreFault) → Answers (λ line. mark_at line) r (told_of (λ d. Ok (held_mark d)) o)
     → Answers {B = Unit {0}} (λ line. tt) r (told_of (λ d. Ok tt) o)
 asked None (Ok line) e = cc

@@ -1,4 +1,4 @@
--- What a shelf's drivers are after a change of one.
+-- The drivers of a shelf after one of them has changed.
 use Rattle.std.proofs.Common.{◌≡◌, ℕ, zero, suc, ◌==◌, Bool, true, false, cond, [], ◌∷◌, ◌++◌, length, get_or, slice_get, slice_set, Some, None, Result, Ok, Err, refl, sym, ap, ◌∙◌}
 use Rattle.std.proofs.lemmas.Bool.{eqb-true, eq-eqb}
 use Rattle.std.proofs.lemmas.Option.{slice_get_read}
@@ -11,7 +11,7 @@ use Rattle.tacho_shelf.specs.Shelf.{AreNumbered, IsPlaceOf, Turns}
 
 -- ---- numbers
 
--- a driver who is found by his number isn't one before whom none has it
+-- if no driver has the number, no driver of the list has it
 other_number : (n i : ℕ) (s : State) (x : Driver) → driver_of n s ≡ None → slice_get s i ≡ Some x → (n == x.number) ≡ false
 other_number n i [] x e g = cc
 other_number n zero (d ∷ s) x e g = go (d.number == n) refl e where
@@ -29,7 +29,7 @@ other_number n (suc i) (d ∷ s) x e g = go (d.number == n) e (λ f. other_numbe
   go true f more = cc
   go false f more = more f
 
--- a number that no driver has
+-- after a driver with another number is added, still no driver has the number
 lacks_push : (n : ℕ) (s : State) (d : Driver) → driver_of n s ≡ None → (d.number == n) ≡ false → driver_of n (s ++ d ∷ []) ≡ None
 lacks_push n [] d e f = ap (λ b. cond b (Some d) None) f
 lacks_push n (x ∷ s) d e f = go (x.number == n) e (lacks_push n s d) where
@@ -38,7 +38,7 @@ lacks_push n (x ∷ s) d e f = go (x.number == n) e (lacks_push n s d) where
   go true g more = cc
   go false g more = more g f
 
--- drivers with numbers of their own, and one with a new number
+-- drivers with different numbers and one with a new number have different numbers
 pub numbered_push : (s : State) (d : Driver) → AreNumbered s → driver_of d.number s ≡ None → AreNumbered (s ++ d ∷ [])
 numbered_push [] d h e = (refl, tt)
 numbered_push (x ∷ s) d h e = go (x.number == d.number) refl e (numbered_push s d h.1) where
@@ -50,9 +50,9 @@ numbered_push (x ∷ s) d h e = go (x.number == d.number) refl e (numbered_push 
     apart true u = let w : (x.number == d.number) ≡ true = eq-eqb x.number d.number (sym (eqb-true d.number x.number u)) in cc
     apart false u = refl
 
--- ---- a driver in the place of one with his number
+-- ---- a driver in place of the one with the same number
 
--- no driver has the number then who hadn't it before
+-- a number that no driver had before is still free
 lacks_set : (n i : ℕ) (s : State) (d x : Driver) → driver_of n s ≡ None → slice_get s i ≡ Some x → d.number ≡ x.number
     → driver_of n (slice_set s i d) ≡ None
 lacks_set n i [] d x e g f = cc
@@ -69,7 +69,7 @@ lacks_set n (suc i) (y ∷ s) d x e g f = go (y.number == n) e (λ h. lacks_set 
   go true h more = cc
   go false h more = more h
 
--- the drivers have numbers of their own still
+-- the drivers still have different numbers
 pub numbered_set : (s : State) (i : ℕ) (d x : Driver) → AreNumbered s → slice_get s i ≡ Some x → d.number ≡ x.number → AreNumbered (slice_set s i d)
 numbered_set [] i d x h g f = cc
 numbered_set (y ∷ s) zero d x h g f =
@@ -77,7 +77,7 @@ numbered_set (y ∷ s) zero d x h g f =
     (ap (λ n. driver_of n s) (f ∙ sym (ap (λ (w : Driver). w.number) z)) ∙ h.0, h.1)
 numbered_set (y ∷ s) (suc i) d x h g f = (lacks_set y.number i s d x h.0 g f, numbered_set s i d x h.1 g f)
 
--- and he is put where the one with his number stood
+-- setting the driver at that place is `put`
 pub put_at : (s : State) (i : ℕ) (d x : Driver) → AreNumbered s → slice_get s i ≡ Some x → d.number ≡ x.number → slice_set s i d ≡ put d s
 put_at [] i d x h g f = cc
 put_at (y ∷ s) zero d x h g f =
@@ -90,19 +90,19 @@ put_at (y ∷ s) (suc i) d x h g f =
 
 -- ---- calls
 
--- a call whose step is known
+-- a call whose step is known to give this turn
 pub turns_as : {A B : Type 0} (view : A → B) (old new : State) (result : Result A StoreFault) (step : State → Turn B) (turn : Turn B)
     → step old ≡ turn
     → Answers view result turn.answer → new ≡ left result old turn.after → Turns view old new result step
 turns_as view old new result step turn e told after = record { answer = rw e told; state = rw e after }
 
--- the driver of this number, who is examined from a Monday on
+-- the driver with this number gets a Monday as their base
 pub rebased_at : (n base : ℕ) (s : State) (x : Driver) → driver_of n s ≡ Some x → is_monday base ≡ true
     → rebased n base s ≡ record { answer = Ok tt; after = put (with_base base x) s }
 rebased_at n base s x e t =
     ap (λ o. own_turn (rebase_own base) s o) e ∙ ap (λ b. settled s (cond b (Ok (tt, with_base base x)) (Err NotMonday))) t
 
--- the one at the place that a search found is examined from a Monday on
+-- the driver at the place that a search found gets a Monday as their base
 pub rebased_set : (n base i : ℕ) (s : State) (x d : Driver) → AreNumbered s → IsPlaceOf s (driver_of n s) (Some i) → x ≡ get_or s i x
     → d ≡ with_base base x → is_monday base ≡ true
     → Turns (λ (u : Unit {0}). tt) s (slice_set s i d) (Ok tt) (rebased n base)

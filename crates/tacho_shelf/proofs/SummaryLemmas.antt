@@ -1,4 +1,4 @@
--- A shelf's drivers are listed by their numbers.
+-- A shelf's drivers are listed in the order of their numbers.
 use Rattle.std.proofs.Common.{◌≡◌, ◌∙◌, ℕ, ◌≤◌, List, ◌++◌, append-nil, drop, drop_of_length-le, length, map, refl, sym, ap, subst}
 use Rattle.std.specs.List.Sorted.{IsPermutation, IsSortedByKey}
 use Rattle.std.specs.Ordering.{is_lt, nat_cmp}
@@ -8,7 +8,7 @@ use Rattle.tacho_state.specs.State.{State}
 use Rattle.tacho_state.specs.Summaries.{AreSummaries, Summary, summary_of, told_summary}
 use Rattle.tacho_state.proofs.SummaryLemmas.{sorted_map}
 
--- what was told when no driver was left, once it is sorted
+-- the summaries of all drivers, once they are sorted
 pub sorted_summaries : (s rows : State) (n : ℕ) (found sorted : List DriverSummary) → length rows ≤ n
     → map told_summary found ++ map summary_of (drop n rows) ≡ map summary_of s → IsPermutation found sorted
     → IsSortedByKey (λ (d : DriverSummary). d.number) nat_cmp sorted → AreSummaries s (map told_summary sorted)

@@ -1,4 +1,4 @@
--- What an import answers, by whose card the file is.
+-- The answer of an import, from whose card the file is of.
 use Rattle.std.proofs.Common.{◌≡◌, ℕ, zero, suc, ◌+◌, ◌⊎◌, inl, inr, nat_lt, Bool, true, false, cond, List, [], ◌∷◌, ◌++◌, Option, Some, None, Result, Ok, Err, MatchResult, OnErr, length, get_or, slice_get, slice_set, bytes_eq, refl, sym, ap, subst, ◌∙◌}
 use Rattle.std.proofs.lemmas.Option.{slice_get_read}
 use Rattle.tacho_time.specs.declared.span.Span.{Span}
@@ -35,7 +35,7 @@ gave_up view s fault step (inr e) = record { answer = fault_answers view fault (
 
 -- ---- whose card it is
 
--- a file with a fault is refused with it, or there was no memory to read it
+-- a file with a fault is refused with it, or memory ran out while it was read
 pub unreadable : (part : Part) (bytes : List ℕ) (s : State) (fault : StoreFault) (r : Result Imported StoreFault)
     → r ≡ Err fault → IsCardFault part bytes fault
     → (card : CardFault) → FileTells part bytes (Err card) → ((r ≡ Err Memory) ⊎ (r ≡ Err (Card card))) × (s ≡ s)
@@ -45,7 +45,7 @@ unreadable part bytes s fault r told (inr h) card tells =
     let same : h.0 ≡ card = cc in
     (inr (told ∙ ap Err h.1 ∙ ap (λ f. Err (Card f)) same), refl)
 
--- and only such a file is
+-- only a file with a fault is refused so
 pub readable : (part : Part) (bytes : List ℕ) (fault : StoreFault) (r : Result Imported StoreFault) → r ≡ Err fault
     → IsCardFault part bytes fault
     → (card : CardFault) → r ≡ Err (Card card) → FileTells part bytes (Err card)
@@ -70,7 +70,7 @@ import_unread caller part bytes s fault content (inr h) t =
     gave_up (λ done. done) s fault (imported caller (part_number part) bytes content)
     (inr (ap (λ (c : Result Content CardFault). imported caller (part_number part) bytes c s) same ∙ ap (λ (f : StoreFault). refused f s) (sym h.1)))
 
--- a file of nobody's card, or of another's than the caller's
+-- a file of an unknown driver's card, or of another driver's than the caller's
 import_unowned : (caller : Option ℕ) (part : ℕ) (bytes : List ℕ) (content : Content) (s : State) (fault : StoreFault)
     → owner_of caller content.holder s ≡ Err fault
     → imported caller part bytes (Ok content) s ≡ refused fault s
@@ -88,7 +88,7 @@ import_unowned (Some n) part bytes content s fault = go (driver_of n s) where
   go None e = let same : UnknownDriver ≡ fault = cc in ap (λ (f : StoreFault). refused f s) same
   go (Some d) e = his d (bytes_eq d.holder content.holder) e
 
--- whose card it is isn't told by a file's fault
+-- looking for the card's owner never fails with a file's fault
 pub owner_without_fault : (caller : Option ℕ) (holder : List ℕ) (s : State) (card : CardFault)
     → owner_of caller holder s ≡ Err (Card card) → ⊥
 owner_without_fault None holder s card = go (holding holder s) where
@@ -104,7 +104,7 @@ owner_without_fault (Some n) holder s card = go (driver_of n s) where
   go None e = cc
   go (Some d) e = his d (bytes_eq d.holder holder) e
 
--- a file of a driver's card
+-- a file of the owner's card
 import_owned : (caller : Option ℕ) (part : ℕ) (bytes : List ℕ) (content : Content) (s : State) (d : Driver) → owner_of caller content.holder s ≡ Ok d
     → imported caller part bytes (Ok content) s ≡ settled s (import_own part bytes content.spans d)
 import_owned None part bytes content s d = go (holding content.holder s) where
@@ -122,7 +122,7 @@ import_owned (Some n) part bytes content s d = go (driver_of n s) where
   go None e = cc
   go (Some x) e = his x (bytes_eq x.holder content.holder) e
 
--- the import of a file of nobody's card, or of another's
+-- the import of a file of an unknown driver's card, or of another driver's
 pub import_refused : (caller : Option ℕ) (part : Part) (bytes : List ℕ) (s : State) (fault : StoreFault) (read : Content) (content : Result Content CardFault)
     → FileTells part bytes (Ok read) → owner_of caller read.holder s ≡ Err fault → FileTells part bytes content
     → Turns (λ (done : Imported). done) s s (Err fault) (imported caller (part_number part) bytes content)
@@ -132,14 +132,14 @@ import_refused caller part bytes s fault read content h e t =
     (inr (ap (λ (c : Result Content CardFault). imported caller (part_number part) bytes c s) same ∙ import_unowned caller
     (part_number part) bytes read s fault e))
 
--- ---- a driver's own import
+-- ---- an import for one driver
 
--- one that was read is answered by no fault of a file, and a repeated one leaves the driver as he was
+-- an import of a file that was read never fails with a file's fault, and a repeated file leaves the driver unchanged
 module _ (part : ℕ) (bytes : List ℕ) (spans : List Span) (x d : Driver) where
   abbrev Told : Type 0
   Told = Result (Imported × Driver) StoreFault
 
-  -- where downloads have these spans already, and where there are numbers
+  -- the import's result, from whether downloads give these spans and from the least contradiction
   abbrev if_within : Bool → Option ℕ → Told
   if_within b o = cond b (Ok (Repeated x.number, x)) (kept_by part bytes spans x o)
 
@@ -197,13 +197,13 @@ module _ (part : ℕ) (bytes : List ℕ) (spans : List Span) (x d : Driver) wher
       as_it_was n (told ∙ ap (λ (i : Imported). Ok (i, d)) same)
   own_repeated (Err fault) told n e = cc
 
--- the list stays where the element is put back
+-- a list stays the same if an element is put back at its place
 pub set_same : (s : State) (i : ℕ) (x : Driver) → slice_get s i ≡ Some x → slice_set s i x ≡ s
 set_same [] i x e = cc
 set_same (y ∷ s) zero x e = let same : y ≡ x = cc in ap (λ z. z ∷ s) (sym same)
 set_same (y ∷ s) (suc i) x e = ap (λ t. y ∷ t) (set_same s i x e)
 
--- a call of one driver's, who stands at a place
+-- a call on one driver, who is at a place
 own_turns : {A B : Type 0} (view : A → B) (step : State → Turn B) (s : State) (i : ℕ) (x d : Driver)
     (told : Result (B × Driver) StoreFault) (result : Result A StoreFault) → AreNumbered s → slice_get s i ≡ Some x → d.number ≡ x.number → step s ≡ settled s told
     → MatchResult result (λ done. told ≡ Ok (view done, d)) (IsFaultOf told) → OnErr result (d ≡ x)
@@ -223,7 +223,7 @@ own_turns view step s i x d told (Err fault) h at n e t kept =
       refusal (inl m) = inl m
       refusal (inr f) = inr (ap (λ (u : Turn _). u.answer) (e ∙ ap (settled s) f))
 
--- a call of the driver's who was found by his number
+-- a call on the driver who was found by number
 pub found_turns : {A B : Type 0} (view : A → B) (own : Own B) (n i : ℕ) (s : State) (x d : Driver) (result : Result A StoreFault)
     → AreNumbered s → IsPlaceOf s (driver_of n s) (Some i) → x ≡ get_or s i x → d.number ≡ x.number
     → MatchResult result (λ done. own x ≡ Ok (view done, d)) (IsFaultOf (own x)) → OnErr result (d ≡ x)
@@ -233,7 +233,7 @@ found_turns view own n i s x d result h place read same told kept =
     own_turns view (λ t. own_turn own t (driver_of n t)) s i x d (own x) result h at same
     (ap (own_turn own s) (sym place.1 ∙ at)) told kept
 
--- the import of a driver's card
+-- an import for the owner of the card
 pub import_turns : (caller : Option ℕ) (part : Part) (bytes : List ℕ) (s : State) (i : ℕ) (x d : Driver) (read : Content) (content : Result Content CardFault) (result : Result Imported StoreFault)
     → AreNumbered s → IsOwnerAt s (owner_of caller read.holder s) i → slice_get s i ≡ Some x → d.number ≡ x.number → FileTells part bytes (Ok read)
     → MatchResult result (λ done. import_own (part_number part) bytes read.spans x ≡ Ok (done, d)) (IsFaultOf (import_own

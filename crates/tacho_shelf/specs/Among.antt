@@ -1,4 +1,4 @@
--- Private to tacho_shelf: States of which one is meant.
+-- Private to tacho_shelf: A state that is one of several.
 use Rattle.std.specs.Prelude.{◌≡◌, ◌⊎◌, List, [], ◌∷◌}
 use Rattle.tacho_state.specs.State.{State}
 

@@ -1,4 +1,4 @@
--- Private to tacho_shelf: What the functions of a shelf do to the drivers that it holds.
+-- Private to tacho_shelf: What the functions of a shelf do to its drivers.
 use Rattle.std.specs.Prelude.{◌≡◌, ℕ, ◌+◌, ◌<◌, ◌≤◌, false, List, [], ◌∷◌, ◌++◌, length, Option, None, Some, Result, Ok, Err, bytes_eq, slice_get, if◌then◌else◌}
 use Rattle.tacho_time.specs.OrMemory.{OrMemory}
 use Rattle.tacho_time.specs.declared.span.Span.{Span}
@@ -15,35 +15,35 @@ use Rattle.tacho_state.specs.State.{Download, Entry, Driver, State, driver_of, h
 use Rattle.tacho_state.specs.Steps.{Turn, most}
 use Rattle.tacho_state.specs.Acts.{Answers, left}
 
--- no two drivers have one number
+-- no two drivers have the same number
 abbrev pub AreNumbered : State → Type 0
 AreNumbered [] = Unit {0}
 AreNumbered (d ∷ s) = (driver_of d.number s ≡ None) × AreNumbered s
 
--- what a driver has: it gives no minute two marks, and he has no more downloads and entries than he may
+-- a driver's downloads and entries give no minute two marks, and there are at most `most` of each
 pub record AreKept (downloads : List Download) (entries : List Entry) : Type 0 where
   pub agreed : (m : ℕ) → ¬ (Conflicts (Gives (given_spans downloads ++ entered_spans entries)) m)
   pub few_downloads : length downloads ≤ most
   pub few : length entries ≤ most
 
--- the place of a driver who was looked for, or no place where there is none
+-- the place of the driver who was looked for, or none if there is no such driver
 abbrev pub IsPlaceOf : State → Option Driver → Option ℕ → Type 0
 IsPlaceOf s sought (Some i) = (i < length s) × (slice_get s i ≡ sought)
 IsPlaceOf s sought None = sought ≡ None
 
--- a fault is want of memory, or it is what the step answers
+-- the fault is out of memory, or the step's answer
 abbrev pub IsFaultOf : {A : Type 0} → Result A StoreFault → StoreFault → Type 0
 IsFaultOf told fault = OrMemory Memory fault (told ≡ Err fault)
 
--- a fault is want of memory, or the least minute that is contradicted
+-- the fault is out of memory, or the least minute that is contradicted
 abbrev pub IsLeast : Option ℕ → StoreFault → Type 0
 IsLeast least fault = OrMemory Memory fault ((m : ℕ) × (fault ≡ Contradiction m) × (least ≡ Some m))
 
--- at the place stands the entry with the number, and it isn't withdrawn
+-- the entry with this number is at this place, and isn't withdrawn
 abbrev pub IsEnteredAt : List Entry → ℕ → ℕ → Type 0
 IsEnteredAt entries number i = (number ≡ 1 + i) × ((e : Entry) × (slice_get entries i ≡ Some e) × (e.withdrawn ≡ false))
 
--- a fault is want of memory, or the first fault that a card file has, read by a part
+-- the fault is out of memory, or the first fault of the card file for this part
 abbrev pub IsCardFault : Part → List ℕ → StoreFault → Type 0
 IsCardFault part bytes fault = OrMemory Memory fault ((f : CardFault) × (fault ≡ Card f) × FileTells part bytes (Err f))
 
@@ -52,26 +52,26 @@ abbrev pub known : Option Driver → Result Driver StoreFault
 known None = Err UnknownDriver
 known (Some d) = Ok d
 
--- a driver whose card has the holder: S4, S5
+-- the driver, if there is one and their card has this holder: S4, S5
 abbrev pub known_by : List ℕ → Option Driver → Result Driver StoreFault
 known_by holder None = Err UnknownDriver
 known_by holder (Some d) = if bytes_eq d.holder holder then Ok d else Err NotYourCard
 
--- whose card a file is by its holder, for the office (no number) or for a driver who imports it
+-- the owner of a card with this holder, for the office (no number) or for a driver who imports the file
 abbrev pub owner_of : Option ℕ → List ℕ → State → Result Driver StoreFault
 owner_of None holder s = known (holding holder s)
 owner_of (Some n) holder s = known_by holder (driver_of n s)
 
--- at the place stands the driver who was looked for
+-- the driver who was looked for is at this place
 abbrev pub IsOwnerAt : State → Result Driver StoreFault → ℕ → Type 0
 IsOwnerAt s sought i = (d : Driver) × (slice_get s i ≡ Some d) × (sought ≡ Ok d)
 
--- what an import does by the number of its download, if it has one
+-- the result of an import: the download gets this number, or the file is repeated if there is none
 abbrev pub numbered : ℕ → List ℕ → List Span → Driver → Option ℕ → Imported × Driver
 numbered part file spans d (Some n) = (Added d.number n, with_download part file spans d)
 numbered part file spans d None = (Repeated d.number, d)
 
--- a call has answered as the step does, or given up, and left its state, or the one before
+-- the call answers as the step does and leaves the step's state, or gives up and leaves the state before
 pub record Turns {A B : Type 0} (view : A → B) (old new : State) (result : Result A StoreFault) (step : State → Turn B) : Type 0 where
   pub answer : Answers view result (step old).answer
   pub state : new ≡ left result old (step old).after

@@ -10,7 +10,7 @@ use tacho_card::{CardFault, CardFile, Part, spans};
 use tacho_state::StoreFault;
 use tacho_time::Span;
 
-/// What a card file tells: its holder, and the spans of its reading by a part.
+/// The content of a card file: its holder, and the spans of the part that was read.
 #[derive(Drop)]
 pub(crate) struct Content {
     pub(crate) holder: [u8; 15],
@@ -28,7 +28,7 @@ impl Model for Content {
     ghost invariant = { λ c. IsCanonical c.spans.items };
 }
 
-/// What a card file tells by a part, or its first fault: S11.
+/// Reads the content of a card file for a part, or returns its first fault: S11.
 pub(crate) fn read_content(alloc: Global, part: Part, file: &[u8]) -> Result<Content, StoreFault>
     ensures { MatchResult result (λ content. FileTells part file.now (Ok content)) (IsCardFault part file.now) }
 {
@@ -38,7 +38,7 @@ pub(crate) fn read_content(alloc: Global, part: Part, file: &[u8]) -> Result<Con
     }
 }
 
-/// What a card file tells by a part, or its first fault.
+/// Reads the content of a card file for a part, or returns its first fault.
 fn read_card(alloc: Global, part: Part, file: &[u8]) -> Result<Content, CardFault>
     ensures { MatchResult result (λ content. FileTells part file.now (Ok content)) (λ fault. OrMemory NoMemory fault (FileTells part file.now (Err fault))) }
 {
@@ -50,7 +50,7 @@ fn read_card(alloc: Global, part: Part, file: &[u8]) -> Result<Content, CardFaul
     })
 }
 
-/// The fault of an import of a card file that has that fault.
+/// Converts a fault of a card file to the fault of its import.
 fn card_fault(fault: CardFault) -> StoreFault
     ensures { ((fault ≡ NoMemory) × (result ≡ StoreFault.Memory)) ⊎ ((fault ≢ NoMemory) × (result ≡ StoreFault.Card fault)) }
 {

@@ -7,7 +7,7 @@ use std::marker::Model;
 use tacho_state::EntryLine;
 use tacho_time::{Mark, Span};
 
-/// Hours that were entered. Withdrawn ones stay listed, and give nothing.
+/// Hours that were entered. Withdrawn hours stay listed, and give nothing.
 #[derive(Drop)]
 pub(crate) struct Hours {
     line: EntryLine,
@@ -27,7 +27,7 @@ impl Hours {
     ghost use Rattle.tacho_state.specs.State.{entry_span};
     ghost use Rattle.tacho_state.specs.Batch.{entry_of};
 
-    /// A line that is entered now.
+    /// Makes hours from a line that is entered now.
     fn new(line: EntryLine) -> Hours
         ensures { result ≡ entry_of line }
     {
@@ -37,7 +37,7 @@ impl Hours {
         }
     }
 
-    /// What they give, where they aren't withdrawn: nobody drives with him.
+    /// Returns the span that they give unless they are withdrawn; the driver is alone (single).
     fn span(&self) -> Span
         ensures { result ≡ entry_span self.now }
     {
@@ -51,21 +51,21 @@ impl Hours {
         }
     }
 
-    /// The line that was entered.
+    /// Returns the line that was entered.
     pub(crate) fn line(&self) -> &EntryLine
         ensures { result.now ≡ record { start = self.now.start; past = self.now.past; activity = self.now.activity; author = self.now.author; note = self.now.note } }
     {
         &self.line
     }
 
-    /// Whether they are withdrawn.
+    /// True if the hours are withdrawn.
     pub(crate) fn is_withdrawn(&self) -> bool
         ensures { result ≡ self.now.withdrawn }
     {
         self.withdrawn
     }
 
-    /// Withdraws them.
+    /// Withdraws the hours.
     pub(crate) fn withdraw(&mut self)
         ensures { self.new ≡ record self.old { withdrawn = true } }
     {
@@ -73,7 +73,7 @@ impl Hours {
     }
 }
 
-/// The hours of a batch's lines.
+/// Makes the hours of a batch's lines.
 pub(crate) fn hours_of(alloc: Global, lines: &[EntryLine]) -> Result<Vec<Hours>, AllocError>
     ensures { IfOk result (λ hours. hours.items ≡ batch_of lines.now) }
 {
@@ -84,7 +84,7 @@ pub(crate) fn hours_of(alloc: Global, lines: &[EntryLine]) -> Result<Vec<Hours>,
     Ok(all)
 }
 
-/// Adds the spans of those hours that are not withdrawn.
+/// Adds the spans of the hours that aren't withdrawn.
 pub(crate) fn add_spans(spans: &mut Vec<Span>, entries: &[Hours]) -> Result<(), AllocError>
     ensures { OnOk result (spans.new.items ≡ spans.old.items ++ entered_spans entries.now) }
 {

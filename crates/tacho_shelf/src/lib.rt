@@ -1,4 +1,4 @@
-//! An archive in memory, without SQL: a list of what each driver has.
+//! An archive in memory, without SQL: a list of drivers with their downloads and entries.
 #![tactic(auto)]
 
 mod content;

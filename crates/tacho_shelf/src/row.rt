@@ -19,7 +19,7 @@ use tacho_state::{
 use tacho_stretches::Stretch;
 use tacho_time::{Day, Span, SpanFault};
 
-/// A card file that was accepted, and what it gives.
+/// A card file that was accepted, and the spans that it gives.
 #[derive(Drop)]
 pub(crate) struct Download {
     pub(crate) part: Part,
@@ -39,7 +39,7 @@ impl Model for Download {
 impl Download {
     ghost use Rattle.std.specs.Prelude.{◌≡◌, IfOk};
 
-    /// A copy of the file's bytes.
+    /// Makes a copy of the file's bytes.
     pub(crate) fn copy_of_file(&self, alloc: Global) -> Result<Vec<u8>, AllocError>
         ensures { IfOk result (λ bytes. bytes.items ≡ self.now.file) }
     {
@@ -47,8 +47,8 @@ impl Download {
     }
 }
 
-/// A driver, with his downloads and entries in the order of their numbers. What they give
-/// contradicts nowhere, and he has no more of either than there are numbers.
+/// A driver, with their downloads and entries ordered by number. Downloads and entries don't contradict each other, and there are at most
+/// as many of each as there are numbers.
 #[derive(Drop)]
 pub(crate) struct Row {
     number: u32,
@@ -88,7 +88,7 @@ impl Row {
     ghost use Rattle.tacho_state.specs.Summaries.{summary_of, told_summary};
     ghost use Rattle.tacho_shelf.specs.Shelf.{IsFaultOf, IsLeast, IsEnteredAt, AreKept, new_driver, numbered};
 
-    /// A driver who is registered now.
+    /// Makes a driver who is registered now.
     pub(crate) fn new(alloc: Global, driver: &Driver) -> Result<Row, AllocError>
         ensures { IfOk result (λ row. row ≡ new_driver driver.now) }
     {
@@ -103,7 +103,7 @@ impl Row {
         })
     }
 
-    /// The spans of all his downloads.
+    /// Returns the spans of all downloads.
     fn given_spans(&self, alloc: Global) -> Result<Vec<Span>, AllocError>
         ensures given { IfOk result (λ spans. spans.items ≡ given_spans self.now.downloads) }
         ensures kept { AreKept self.now.downloads self.now.entries }
@@ -115,7 +115,7 @@ impl Row {
         Ok(spans)
     }
 
-    /// The spans of all that he holds.
+    /// Returns the spans of everything that the driver holds.
     fn held_spans(&self, alloc: Global) -> Result<Vec<Span>, AllocError>
         ensures held { IfOk result (λ spans. spans.items ≡ held_spans self.now) }
         ensures kept { IfOk result (λ _. AreKept self.now.downloads self.now.entries) }
@@ -125,7 +125,7 @@ impl Row {
         Ok(spans)
     }
 
-    /// The line of what his downloads give.
+    /// Returns the line of what the downloads give.
     fn given_line(&self, alloc: Global) -> Result<Line, AllocError>
         ensures { IfOk result (λ line. IsCanonicalOf (Given self.now) line) }
     {
@@ -136,7 +136,7 @@ impl Row {
         }
     }
 
-    /// The line of what he holds.
+    /// Returns the line of what the driver holds.
     pub(crate) fn line(&self, alloc: Global) -> Result<Line, AllocError>
         ensures { IfOk result (λ line. IsCanonicalOf (Held self.now) line) }
     {
@@ -147,7 +147,7 @@ impl Row {
         }
     }
 
-    /// The report of what he holds, from his base on.
+    /// Returns the report of what the driver holds, from their base.
     pub(crate) fn report(&self, alloc: Global) -> Result<Report, StoreFault>
         ensures report { IfOk result (λ report. IsReport (held_spans self.now) (1440 * self.now.base) report.horizon report.breaches.items report.debts.items) }
         ensures fault { IfErr result (λ fault. OrMemory StoreFault.Memory fault (fault ≡ StoreFault.Store)) }
@@ -158,7 +158,7 @@ impl Row {
         report_of(alloc, &line, self.base.number())
     }
 
-    /// The stretches of what they hold, from their base on.
+    /// Returns the stretches of what the driver holds, from their base.
     pub(crate) fn stretches(&self, alloc: Global) -> Result<Vec<Stretch>, StoreFault>
         ensures stretches { IfOk result (λ found. AreStretches (held_spans self.now) (1440 * self.now.base) (map judged found.items)) }
         ensures fault { IfErr result (λ fault. OrMemory StoreFault.Memory fault (fault ≡ StoreFault.Store)) }
@@ -167,7 +167,7 @@ impl Row {
         Ok(stretches)
     }
 
-    /// The line of what they hold, and its stretches from their base on.
+    /// Returns the line of what the driver holds, and its stretches from their base.
     pub(crate) fn line_and_stretches(
         &self,
         alloc: Global,
@@ -183,14 +183,14 @@ impl Row {
         Ok((line, stretches))
     }
 
-    /// A copy of his name.
+    /// Makes a copy of the driver's name.
     pub(crate) fn copy_of_name(&self, alloc: Global) -> Result<String, AllocError>
         ensures { IfOk result (λ name. string_bytes name ≡ self.now.name) }
     {
         String::from_str(alloc, &self.name)
     }
 
-    /// What is listed of him.
+    /// Returns what is listed of the driver.
     pub(crate) fn summary(&self, alloc: Global) -> Result<DriverSummary, AllocError>
         ensures { IfOk result (λ summary. told_summary summary ≡ summary_of self.now) }
     {
@@ -204,14 +204,14 @@ impl Row {
         })
     }
 
-    /// His number.
+    /// Returns the driver's number.
     pub(crate) fn number(&self) -> u32
         ensures { result ≡ self.now.number }
     {
         self.number
     }
 
-    /// His download with a number.
+    /// Returns the driver's download with this number.
     pub(crate) fn download(&self, number: u32) -> Option<&Download>
         ensures { option_copied result ≡ download_from 1 number self.now.downloads }
     {
@@ -219,7 +219,7 @@ impl Row {
         self.downloads.get(place as usize)
     }
 
-    /// Whether his downloads give all that spans give.
+    /// True if the downloads already give all that the spans give.
     fn has_given(&self, alloc: Global, spans: &[Span]) -> Result<bool, AllocError>
         requires { first_empty spans.now ≡ None }
         ensures { IfOk result (λ given. is_within spans.now (given_spans self.now.downloads) ≡ given) }
@@ -231,7 +231,7 @@ impl Row {
         }
     }
 
-    /// Fails for the least minute of spans that contradict what he holds, or each other: S6.
+    /// Fails with the least minute at which the spans contradict what the driver holds, or each other: S6.
     fn check(&self, alloc: Global, spans: &[Span]) -> Result<(), StoreFault>
         requires { first_empty spans.now ≡ None }
         ensures told { MatchResult result (λ _. least_conflict (held_spans self.now ++ spans.now) ≡ None) (IsLeast (least_conflict (held_spans self.now ++ spans.now))) }
@@ -246,8 +246,7 @@ impl Row {
         }
     }
 
-    /// The number of a download that gives these spans, or none where his downloads give them all:
-    /// S6, S14.
+    /// Returns the number for a download that gives these spans, or none if downloads already give them all: S6, S14.
     fn number_for(&self, alloc: Global, spans: &[Span]) -> Result<Option<u32>, StoreFault>
         requires { first_empty spans.now ≡ None }
         ensures told { (part : ℕ) (file : List ℕ) → MatchResult result (λ number. import_own part file spans.now self.now ≡ Ok (numbered part file spans.now self.now number)) (IsFaultOf (import_own part file spans.now self.now)) }
@@ -267,8 +266,7 @@ impl Row {
         }
     }
 
-    /// Imports a file that gives these spans by a part: S6, S14. All that takes memory comes before
-    /// he changes.
+    /// Imports a file from which these spans of a part were read: S6, S14. All memory is allocated before the driver changes.
     pub(crate) fn import(
         &mut self,
         alloc: Global,
@@ -298,7 +296,7 @@ impl Row {
         })
     }
 
-    /// The numbers of hours that are to be entered: S6, S14.
+    /// Returns the numbers for hours that are to be entered: S6, S14.
     fn numbers_for(&self, alloc: Global, batch: &[Hours]) -> Result<Entered, StoreFault>
         requires { AreFull batch.now }
         ensures told { MatchResult result (λ done. enter_own batch.now self.now ≡ Ok (done.first, with_batch batch.now self.now)) (IsFaultOf (enter_own batch.now self.now)) }
@@ -319,7 +317,7 @@ impl Row {
         }
     }
 
-    /// Enters a batch, whole or not at all: S6, S14. All that takes memory comes before he changes.
+    /// Enters all of a batch or none: S6, S14. All memory is allocated before the driver changes.
     pub(crate) fn enter(
         &mut self,
         alloc: Global,
@@ -341,7 +339,7 @@ impl Row {
         Ok(entered)
     }
 
-    /// The place of an entry that can be withdrawn: S7, S8.
+    /// Returns the place of an entry, if it can be withdrawn: S7, S8.
     fn entered_place(&self, number: u32) -> Result<usize, StoreFault>
         ensures { MatchResult result (IsEnteredAt self.now.entries number) (λ fault. withdraw_own number self.now ≡ Err fault) }
     {
@@ -371,7 +369,7 @@ impl Row {
         Ok(())
     }
 
-    /// His entries by their numbers, withdrawn ones among them.
+    /// Returns the driver's entries ordered by number, including withdrawn ones.
     pub(crate) fn entries(&self, alloc: Global) -> Result<Vec<Entry>, AllocError>
         ensures { IfOk result (λ entries. entries.items ≡ numbered_from 1 self.now.entries) }
     {
@@ -388,14 +386,14 @@ impl Row {
         Ok(entries)
     }
 
-    /// Whether his card has a holder.
+    /// True if the driver's card has this holder.
     pub(crate) fn has_holder(&self, holder: &[u8]) -> bool
         ensures { result ≡ bytes_eq self.now.holder holder.now }
     {
         self.holder.as_slice() == holder
     }
 
-    /// Has him examined from a day on.
+    /// Sets the day from which the driver is examined.
     pub(crate) fn set_base(&mut self, base: Day)
         ensures { self.new ≡ record self.old { base = base } }
     {
@@ -403,7 +401,7 @@ impl Row {
     }
 }
 
-/// The first of so many numbers more, where so many were given out: S14.
+/// Returns the first of `count` new numbers after `given` numbers were given out: S14.
 fn first_of(given: usize, count: u32) -> Option<u32>
     ensures { result ≡ next_number given count }
 {
@@ -413,8 +411,7 @@ fn first_of(given: usize, count: u32) -> Option<u32>
     first_number(given, count)
 }
 
-/// What is told of spans that have no gains for a fault: they differ from what is there, but where
-/// there was no memory.
+/// Returns false for the fault of spans that contradict; such spans aren't all given already. Fails if the fault is out of memory.
 fn differs(fault: LineFault) -> Result<bool, AllocError>
     ensures { MatchResult result (λ given. (given ≡ false) × (fault ≢ NoMemory)) (λ _. fault ≡ NoMemory) }
 {
@@ -424,7 +421,7 @@ fn differs(fault: LineFault) -> Result<bool, AllocError>
     }
 }
 
-/// The fault of spans, none of them empty, that have no gains.
+/// Converts the fault of spans without gains; no span is empty.
 fn gain_fault(fault: LineFault) -> StoreFault
     requires { (place : ℕ) → fault ≢ LineFault.EmptySpan place }
     ensures contradiction { (m : ℕ) → fault ≡ LineFault.Contradiction m → result ≡ StoreFault.Contradiction m }
@@ -437,7 +434,7 @@ fn gain_fault(fault: LineFault) -> StoreFault
     }
 }
 
-/// What spans that contradict nowhere fail for: there was no memory.
+/// Converts the fault of spans that don't contradict: it is out of memory.
 fn no_memory(fault: SpanFault) -> AllocError
     requires { fault ≡ SpanFault.Memory }
 {
@@ -447,28 +444,28 @@ fn no_memory(fault: SpanFault) -> AllocError
     }
 }
 
-/// The place of the driver with a number.
+/// Returns the place of the driver with this number.
 pub(crate) fn place_of(rows: &[Row], number: u32) -> Option<usize>
     ensures { IsPlaceOf rows.now (driver_of number rows.now) result }
 {
     rows.iter().position(|row| row.number == number)
 }
 
-/// The place of the driver whose key has these bytes.
+/// Returns the place of the driver whose key has these bytes.
 pub(crate) fn place_of_key(rows: &[Row], key: &[u8]) -> Option<usize>
     ensures { IsPlaceOf rows.now (keyed key.now rows.now) result }
 {
     rows.iter().position(|row| row.key.as_bytes() == key)
 }
 
-/// The place of the driver whose card has a holder.
+/// Returns the place of the driver whose card has this holder.
 pub(crate) fn place_of_holder(rows: &[Row], holder: &[u8]) -> Option<usize>
     ensures { IsPlaceOf rows.now (holding holder.now rows.now) result }
 {
     rows.iter().position(|row| row.holder.as_slice() == holder)
 }
 
-/// Whether a day is a Monday: day 0 was a Thursday.
+/// True if a day is a Monday: day 0 was a Thursday.
 pub(crate) fn is_monday(day: Day) -> bool
     ensures { result ≡ on_monday day }
 {

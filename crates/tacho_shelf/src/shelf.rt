@@ -25,7 +25,7 @@ use tacho_state::{
 use tacho_stretches::Stretch;
 use tacho_time::{Day, Minute};
 
-/// An archive in memory. No two of its drivers have one number.
+/// An archive in memory. No two of its drivers have the same number.
 #[derive(Drop)]
 pub struct Shelf {
     alloc: Global,
@@ -44,8 +44,7 @@ impl Model for Shelf {
 }
 
 impl Shelf {
-    /// An archive without drivers. It takes the allocator for all that it will hold, and no memory
-    /// yet.
+    /// Makes an archive without drivers. All its memory will come from this allocator; it allocates none yet.
     pub fn new(alloc: Global) -> Shelf
         ensures { result ≡ [] }
     {
@@ -55,7 +54,7 @@ impl Shelf {
         }
     }
 
-    /// Why a driver can't be added: the first of S1, S2, S3 and S9.
+    /// Returns why a driver can't be added: the first of S1, S2, S3 and S9 that applies.
     fn refusal(&self, driver: &Driver) -> Option<StoreFault>
         ensures new { IfNone result (driver_of driver.now.number self.now ≡ None) }
         ensures told { MatchOption result
@@ -96,7 +95,7 @@ impl Shelf {
         }
     }
 
-    /// Puts a driver with a new number behind the others.
+    /// Adds a driver with a new number after the others.
     fn push(&mut self, row: Row) -> Result<(), AllocError>
         requires { driver_of row.number self.old ≡ None }
         ensures ok { OnOk result (self.new ≡ self.old ++ row ∷ []) }
@@ -106,7 +105,7 @@ impl Shelf {
         Ok(())
     }
 
-    /// Enters a batch of hours, whole or not at all: S4, S6, S14.
+    /// Enters all of a batch of hours or none: S4, S6, S14.
     fn enter_lines(
         &mut self,
         alloc: Global,
@@ -147,7 +146,7 @@ impl Shelf {
         Ok(())
     }
 
-    /// The number of the driver whose key this is, if there is one.
+    /// Returns the number of the driver with this key, if there is one.
     fn number_with_key(&self, key: &[u8]) -> Option<u32>
         ensures { owner key.now self.now ≡ Ok result }
     {
@@ -155,7 +154,7 @@ impl Shelf {
         Some(self.drivers[place].number())
     }
 
-    /// All drivers, the lower number first.
+    /// Lists all drivers, the lowest number first.
     fn summaries(&self, alloc: Global) -> Result<Vec<DriverSummary>, StoreFault>
         ensures answer { Answers {B = Unit {0}} (λ _. tt) result (Ok tt) }
         ensures drivers { IfOk result (λ found. AreSummaries self.now (map told_summary found.items)) }
@@ -168,7 +167,7 @@ impl Shelf {
         Ok(found)
     }
 
-    /// The name of a driver: S4.
+    /// Returns the name of a driver: S4.
     fn name_of(&self, alloc: Global, driver: u32) -> Result<String, StoreFault>
         ensures { Answers (λ name. string_bytes name) result (named driver self.now) }
     {
@@ -181,7 +180,7 @@ impl Shelf {
         }
     }
 
-    /// The timeline of a driver: S4.
+    /// Returns the timeline of a driver: S4.
     fn line_of(&self, alloc: Global, driver: u32) -> Result<Line, StoreFault>
         ensures { Answers (λ line. mark_at line) result (lined driver self.now) }
     {
@@ -194,7 +193,7 @@ impl Shelf {
         }
     }
 
-    /// What a driver holds in a range, as his whole timeline: S4.
+    /// Returns what a driver holds in a range, as their whole timeline: S4.
     fn line_for(
         &self,
         alloc: Global,
@@ -208,7 +207,7 @@ impl Shelf {
         self.line_of(alloc, driver)
     }
 
-    /// The entries of a driver by their numbers: S4.
+    /// Lists the entries of a driver ordered by number: S4.
     fn entries_of(&self, alloc: Global, driver: u32) -> Result<Vec<Entry>, StoreFault>
         ensures { Answers (λ entries. entries.items) result (listed driver self.now) }
     {
@@ -221,7 +220,7 @@ impl Shelf {
         }
     }
 
-    /// The bytes of a driver's download: S4, S10.
+    /// Returns the bytes of a driver's download: S4, S10.
     fn file_of(&self, alloc: Global, driver: u32, number: u32) -> Result<Vec<u8>, StoreFault>
         ensures { Answers (λ bytes. bytes.items) result (downloaded driver number self.now) }
     {
@@ -237,7 +236,7 @@ impl Shelf {
         }
     }
 
-    /// What the rules say of a driver from his base on: S4.
+    /// Returns the report of a driver from their base: S4.
     fn report_of(&self, alloc: Global, driver: u32) -> Result<Report, StoreFault>
         ensures answer { Answers (λ _. tt) result (reported driver self.now) }
         ensures report { IfOk result (IsReportOf driver self.now) }
@@ -248,7 +247,7 @@ impl Shelf {
         self.drivers[place].report(alloc)
     }
 
-    /// The stretches of a driver from their base on: S4.
+    /// Returns the stretches of a driver from their base: S4.
     fn stretches_of(&self, alloc: Global, driver: u32) -> Result<Vec<Stretch>, StoreFault>
         ensures answer { Answers (λ _. tt) result (reported driver self.now) }
         ensures stretches { IfOk result (λ found. AreStretchesOf driver self.now (map judged found.items)) }
@@ -259,7 +258,7 @@ impl Shelf {
         self.drivers[place].stretches(alloc)
     }
 
-    /// What a driver holds in a range, as their whole timeline, and their stretches from their base on: S4.
+    /// Returns what a driver holds in a range, as their whole timeline, and their stretches from their base: S4.
     fn line_and_stretches_of(
         &self,
         alloc: Global,
@@ -277,8 +276,8 @@ impl Shelf {
         self.drivers[place].line_and_stretches(alloc)
     }
 
-    /// The place of the driver whose card it is: of him who has the holder, or of the caller, if he
-    /// has it: S4, S5.
+    /// Returns the place of the card's owner: for the office the driver with this holder, for a driver the caller, if they have this
+    /// holder: S4, S5.
     fn owner(&self, caller: Caller, holder: &[u8]) -> Result<usize, StoreFault>
         ensures { MatchResult result (IsOwnerAt self.now (owner_of (caller_number caller) holder.now self.now))
             (λ fault. owner_of (caller_number caller) holder.now self.now ≡ Err fault) }
@@ -289,7 +288,7 @@ impl Shelf {
         }
     }
 
-    /// The place of the driver whose card has a holder: S4.
+    /// Returns the place of the driver whose card has this holder: S4.
     fn place_of_holder(&self, holder: &[u8]) -> Result<usize, StoreFault>
         ensures { MatchResult result (IsOwnerAt self.now (known (holding holder.now self.now)))
             (λ fault. known (holding holder.now self.now) ≡ Err fault) }
@@ -300,7 +299,7 @@ impl Shelf {
         }
     }
 
-    /// The place of the driver with a number, if his card has a holder: S4, S5.
+    /// Returns the place of the driver with this number, if their card has this holder: S4, S5.
     fn own_place(&self, number: u32, holder: &[u8]) -> Result<usize, StoreFault>
         ensures { MatchResult result (IsOwnerAt self.now (known_by holder.now (driver_of number self.now)))
             (λ fault. known_by holder.now (driver_of number self.now) ≡ Err fault) }
@@ -314,7 +313,7 @@ impl Shelf {
         Ok(place)
     }
 
-    /// Imports a card file by a part: S11 first; then S4, S5, S6, S14.
+    /// Imports a card file, from which this part is read: S11 first; then S4, S5, S6, S14.
     fn add_file(
         &mut self,
         alloc: Global,

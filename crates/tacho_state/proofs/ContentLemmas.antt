@@ -1,4 +1,4 @@
--- A card file tells one content by each part.
+-- A card file has one content for each part.
 use Rattle.std.proofs.Common.{◌≡◌, ℕ, List, Result, Ok, Err, refl, sym, ap, ap₂, ◌∙◌}
 use Rattle.tacho_time.specs.declared.span.Span.{Span}
 use Rattle.tacho_card.specs.declared.fault.CardFault.{CardFault}
@@ -17,7 +17,7 @@ blocks_tell part blocks holder h = go (some_reading part blocks) where
   go (Ok spans, reads) = (Ok (record { holder = holder; spans = spans }), (h, reads))
   go (Err fault, reads) = (Err fault, reads)
 
--- two contents of the same blocks are one
+-- the content of blocks is unique
 one_of_blocks : (part : Part) (blocks : List FileBlock) (a b : Result Content CardFault) → BlocksTell part blocks a
     → BlocksTell part blocks b → a ≡ b
 one_of_blocks part blocks (Ok a) (Ok b) h k =
@@ -38,19 +38,19 @@ holds (Ok xs) blocks h = go (file_holder xs) refl h where
   go (Ok holder) e k = let same : blocks ≡ xs = cc in (holder, ap file_holder same ∙ e)
   go (Err fault) e k = cc
 
--- a file has a content, or a fault in its place
+-- a file has a content or a fault
 pub some_content : (part : Part) (bytes : List ℕ) → (content : Result Content CardFault) × FileTells part bytes content
 some_content part bytes = go (card_file bytes) refl where
   go : (r : Result (List FileBlock) CardFault) → card_file bytes ≡ r → (content : Result Content CardFault) × ReadTells part r content
   go (Err fault) e = (Err fault, refl)
   go (Ok blocks) e = let named = holds (then_single (blocks_of bytes)) blocks e in blocks_tell part blocks named.0 named.1
 
--- and no second one
+-- the content of what was read is unique
 one_read : (part : Part) (r : Result (List FileBlock) CardFault) (a b : Result Content CardFault) → ReadTells part r a → ReadTells part r b
     → a ≡ b
 one_read part (Ok blocks) a b h k = one_of_blocks part blocks a b h k
 one_read part (Err fault) a b h k = h ∙ sym k
 
--- a file has no second content
+-- the content of a file is unique
 pub one_content : (part : Part) (bytes : List ℕ) (a b : Result Content CardFault) → FileTells part bytes a → FileTells part bytes b → a ≡ b
 one_content part bytes a b h k = one_read part (card_file bytes) a b h k

@@ -1,4 +1,4 @@
--- What a driver holds is a map: where disjoint spans keep it, no minute has two marks.
+-- What a driver holds is a map: if disjoint spans keep it, no minute has two marks.
 use Rattle.std.proofs.Common.{◌≡◌, ℕ, inl, inr, ◌↔◌, Bool, true, false, cond, List, [], ◌∷◌, Some, refl, ap, ◌∙◌}
 use Rattle.tacho_time.specs.declared.span.Span.{Span}
 use Rattle.tacho_time.specs.declared.span.Mark.{Mark}
@@ -9,7 +9,7 @@ use Rattle.tacho_state.specs.Disjoint.{Keeps}
 use Rattle.tacho_state.specs.State.{Driver, Held, held_mark, held_spans}
 use Rattle.tacho_state.proofs.DisjointLemmas.{disjoint_one}
 
--- a minute that spans give has a mark of theirs
+-- a minute that spans give has a mark
 given_mark : (xs : List Span) (m : ℕ) (k : Mark) → Gives xs m k → (j : Mark) × (mark_at xs m ≡ Some j)
 given_mark [] m k g = absurd g
 given_mark (s ∷ ss) m k (inl c) = (s.mark, first_holds s ss m c.0.0 c.0.1)
@@ -18,7 +18,7 @@ given_mark (s ∷ ss) m k (inr g) = go (covers s m) (given_mark ss m k g) where
   go true rest = (s.mark, refl)
   go false rest = rest
 
--- it is the one that he holds it with
+-- it is the mark with which the driver holds the minute
 pub held_map : (d : Driver) (helds : List Span) (m : ℕ) (mark : Mark) → Keeps helds (Held d) → Held d m mark ↔ (held_mark d m ≡ Some mark)
 held_map d helds m mark h = (there, held_given (held_spans d) m mark) where
   there : Held d m mark → held_mark d m ≡ Some mark

@@ -1,4 +1,4 @@
--- A run of calls, and what a crash after it leaves.
+-- A run of calls, and the states that a crash after it may leave.
 use Rattle.std.proofs.Common.{◌≡◌, ℕ, List, [], ◌∷◌, ◌++◌, Result, Ok, Err, refl, sym, subst}
 use Rattle.tacho_state.specs.declared.fault.StoreFault.{StoreFault}
 use Rattle.tacho_state.specs.declared.fault.StoreFault.TheVariants.{Memory, Store, Card}
@@ -7,7 +7,7 @@ use Rattle.tacho_state.specs.Steps.{Turn}
 use Rattle.tacho_state.specs.Acts.{Acts, Reads, IsAnswered, IsOfNoFile, left}
 use Rattle.tacho_state.specs.Runs.{Call, untold, state_after, IsSettled, AreAnswered, IsCall, IsRun}
 
--- what didn't give up was asked, where it isn't of a file
+-- a fault that is settled, and not a file's, is an answer
 answered : (fault : StoreFault) → IsOfNoFile {A = Unit {0}} (Err fault) → IsSettled (Err fault) → IsAnswered {A = Unit {0}} (Err fault)
 answered (Card fault) other settled = absurd other
 answered fault other settled = settled
@@ -52,14 +52,14 @@ module _ {K : Type 0} (stands : K → State → Type 0) (is_clean : K → Type 0
   run_clean [] old new run clean = subst is_clean run clean
   run_clean (c ∷ calls) old new (mid, call, rest) clean = call.clean (run_clean calls mid new rest clean)
 
-  -- what is kept stands for the state that the calls leave
+  -- what is kept represents the state that the calls lead to
   pub run_stands : (calls : List Call) (old new : K) → IsRun stands is_clean leaves calls old new → is_clean new
       → (s : State) → stands old s → stands new (state_after calls s)
   run_stands [] old new run clean s st = subst (λ k. stands k s) (sym run) st
   run_stands (c ∷ calls) old new (mid, call, rest) clean s st =
       run_stands calls mid new rest clean _ (call.state (run_clean calls mid new rest clean) s st)
 
-  -- after calls that all answered a crash leaves the state that they lead to
+  -- if all calls answered, a crash leaves the state that they lead to
   pub run_leaves : (calls : List Call) (old new : K) → IsRun stands is_clean leaves calls old new → is_clean new → AreAnswered calls
       → (s : State) → stands old s → leaves old (s ∷ []) → leaves new (state_after calls s ∷ [])
   run_leaves [] old new run clean answered s st l = subst (λ k. leaves k (s ∷ [])) (sym run) l
@@ -68,7 +68,7 @@ module _ {K : Type 0} (stands : K → State → Type 0) (is_clean : K → Type 0
       run_leaves calls mid new rest clean others _ (call.state clean_mid s st)
       (call.kept clean_mid s st first l)
 
-  -- after one more that may have given up a crash leaves that state, or the one that its step leaves
+  -- if one more call may have given up, a crash leaves that state, or the one after its step
   pub run_stopped : (calls : List Call) (last : Call) (old new : K) → IsRun stands is_clean leaves (calls ++ last ∷ []) old new → is_clean new
       → AreAnswered calls → (s : State) → stands old s → leaves old (s ∷ [])
       → leaves new (last.after (state_after calls s) ∷ state_after calls s ∷ [])

@@ -1,10 +1,10 @@
--- What is sorted, and becomes a list of drivers as they are told.
+-- A sorted list stays sorted when its elements become the summaries of drivers.
 use Rattle.std.proofs.Common.{◌≡◌, ◌∙◌, ◌+◌, ◌<◌, Bool, List, [], ◌∷◌, map, length, ap, arith}
 use Rattle.std.specs.List.{slice_index_or}
 use Rattle.std.specs.List.Sorted.{IsSortedBy}
 use Rattle.std.proofs.lemmas.List.{get_or-map, length-map}
 
--- where each element becomes one that is compared as it was, a sorted list stays so
+-- a map that keeps the comparison of elements keeps a list sorted
 pub sorted_map : {X Y : Type 0} (f : X → Y) (less : Y → Y → Bool) (lt : X → X → Bool) (xs : List X)
     → ((x y : X) → less (f x) (f y) ≡ lt x y)
     → IsSortedBy lt xs → IsSortedBy less (map f xs)

@@ -1,4 +1,4 @@
--- Trusted: What a card file tells, read by a part: a relation with one solution.
+-- Trusted: The content of a card file for each part: a relation with exactly one solution.
 use Rattle.std.specs.Prelude.{◌≡◌, ℕ, List, Result, Ok, Err}
 use Rattle.tacho_card.specs.declared.fault.CardFault.{CardFault}
 use Rattle.tacho_card.specs.declared.fault.CardFault.TheVariants as card
@@ -9,18 +9,18 @@ use Rattle.tacho_state.specs.declared.fault.StoreFault.{StoreFault}
 use Rattle.tacho_state.specs.declared.fault.StoreFault.TheVariants.{Card, Memory}
 use Rattle.tacho_state.specs.Steps.{Content}
 
--- 0 both, 1 first, 2 second
+-- the number of a part: 0 both generations, 1 the first, 2 the second
 abbrev pub part_number : Part → ℕ
 part_number part.Both = 0
 part_number part.First = 1
 part_number part.Second = 2
 
--- the content of blocks: their holder and the spans of their reading, or its fault
+-- the content of blocks is their holder and the spans of the part, or the fault in reading the part
 abbrev pub BlocksTell : Part → List FileBlock → Result Content CardFault → Type 0
 BlocksTell p blocks (Ok content) = (file_holder blocks ≡ Ok content.holder) × ReadsFile p blocks (Ok content.spans)
 BlocksTell p blocks (Err fault) = ReadsFile p blocks (Err fault)
 
--- the content of a file's blocks, or the fault in their place
+-- the content of blocks that were read, or the fault in reading them
 abbrev pub ReadTells : Part → Result (List FileBlock) CardFault → Result Content CardFault → Type 0
 ReadTells p (Ok blocks) content = BlocksTell p blocks content
 ReadTells p (Err fault) content = content ≡ Err fault
@@ -29,7 +29,7 @@ ReadTells p (Err fault) content = content ≡ Err fault
 abbrev pub FileTells : Part → List ℕ → Result Content CardFault → Type 0
 FileTells p bytes content = ReadTells p (card_file bytes) content
 
--- the fault of an archive by that of a card file: want of memory is its own
+-- the archive's fault for a fault in a card file: out of memory stays out of memory
 abbrev pub fault_of_card : CardFault → StoreFault
 fault_of_card card.Memory = Memory
 fault_of_card fault = Card fault

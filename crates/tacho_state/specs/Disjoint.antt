@@ -1,4 +1,4 @@
--- Trusted in part: Stored spans that keep a set of pairs, in any order, and what is done to them by range.
+-- Trusted in part: Stored spans that keep a set of pairs (a minute and a mark), in any order, and changes of them within a range.
 use Rattle.std.specs.Prelude.{ℕ, ◌<◌, ◌≤◌, ◌⊎◌, ◌&&◌, nat_lt, not, Bool, List, [], ◌∷◌, ◌++◌, filter}
 use Rattle.tacho_time.specs.declared.span.Span.{Span}
 use Rattle.tacho_time.specs.declared.span.Mark.{Mark}
@@ -7,12 +7,12 @@ use Rattle.tacho_line.specs.Join.{ShareNone}
 use Rattle.tacho_line.specs.Line.{IsWithin, Together, AreGains}
 use Rattle.tacho_line.specs.Gains.{span_between}
 
--- none is empty, and no minute lies in two of them
+-- no span is empty, and no minute is in two of them
 abbrev pub AreDisjoint : List Span → Type 0
 AreDisjoint [] = Unit {0}
 AreDisjoint (s ∷ ss) = (s.start < s.past) × ShareNone (s ∷ []) ss × AreDisjoint ss
 
--- disjoint spans that give exactly these pairs
+-- the spans are disjoint and give exactly these pairs
 pub record Keeps (spans : List Span) (P : ℕ → Mark → Type 0) : Type 0 where
   pub disjoint : AreDisjoint spans
   pub same : SamePairs (Gives spans) P
@@ -21,40 +21,40 @@ pub record Keeps (spans : List Span) (P : ℕ → Mark → Type 0) : Type 0 wher
 abbrev pub is_near : ℕ → ℕ → Span → Bool
 is_near start past s = nat_lt s.start past && nat_lt start s.past
 
--- those of them that overlap a range
+-- the spans that overlap a range
 abbrev pub near : ℕ → ℕ → List Span → List Span
 near start past spans = filter (is_near start past) spans
 
--- those that don't
+-- the spans that don't overlap a range
 abbrev pub far : ℕ → ℕ → List Span → List Span
 far start past spans = filter (λ s. not (is_near start past s)) spans
 
--- the minute lies outside the range
+-- the minute is outside the range
 abbrev pub IsOutside : ℕ → ℕ → ℕ → Type 0
 IsOutside start past m = (m < start) ⊎ (past ≤ m)
 
--- the parts outside a range of spans that overlap it
+-- the parts, outside a range, of spans that overlap it
 abbrev pub outside : ℕ → ℕ → List Span → List Span
 outside start past [] = []
 outside start past (s ∷ ss) = (span_between s.mark s.start start ++ span_between s.mark past s.past) ++ outside start past ss
 
--- spans, of which a range is made anew
+-- the spans, with all within a range replaced by `inside`
 abbrev pub replaced : ℕ → ℕ → List Span → List Span → List Span
 replaced start past spans inside = far start past spans ++ (outside start past (near start past spans) ++ inside)
 
--- the spans have no minute outside the range
+-- all minutes of the spans are in the range
 abbrev pub AreInRange : ℕ → ℕ → List Span → Type 0
 AreInRange start past spans = (m : ℕ) (k : Mark) → Gives spans m k → IsWithin start past m
 
--- all pairs of the one are pairs of the other
+-- all pairs of the first set are in the second
 abbrev pub AllWithin : (ℕ → Mark → Type 0) → (ℕ → Mark → Type 0) → Type 0
 AllWithin P Q = (m : ℕ) (k : Mark) → P m k → Q m k
 
--- a set of pairs, and with it what spans give
+-- a set of pairs together with the pairs that spans give
 abbrev pub With : (ℕ → Mark → Type 0) → List Span → ℕ → Mark → Type 0
 With P spans m k = P m k ⊎ Gives spans m k
 
--- the spans give a pair that the line doesn't hold, or contradict it
+-- the spans give a pair that the line doesn't hold, or contradict the line
 abbrev pub IsNew : List Span → List Span → Type 0
 IsNew line spans =
     ((first : Span) × (others : List Span) × AreGains line spans (first ∷ others))

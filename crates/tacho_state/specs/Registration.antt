@@ -1,10 +1,10 @@
--- Trusted: A driver as he is registered, and the first column that is out of its limits.
+-- Trusted: A driver's registration, and its first column that is out of its limits.
 use Rattle.std.specs.Prelude.{ℕ, ◌≤◌, List}
 use Rattle.tacho_state.specs.declared.driver.Column.{Column}
 use Rattle.tacho_state.specs.declared.driver.Column.TheVariants as column
 use Rattle.tacho_state.specs.Limits.{IsKey, IsName}
 
--- number, the holder of his card, his key, the day from which he is examined, and his name
+-- the driver's number, their card's holder, their key, the day from which they are examined, and their name
 pub record Registration : Type 0 where
   pub number : ℕ
   pub holder : List ℕ
@@ -15,7 +15,7 @@ pub record Registration : Type 0 where
 abbrev pub IsNumber : ℕ → Type 0
 IsNumber number = (1 ≤ number) × (number ≤ 999999)
 
--- from 2000-01-03 to 2099-12-31
+-- a day from 2000-01-03 to 2099-12-31
 abbrev pub IsReadDay : ℕ → Type 0
 IsReadDay day = (10959 ≤ day) × (day ≤ 47481)
 
@@ -26,7 +26,7 @@ pub record IsRegistration (r : Registration) : Type 0 where
   pub base : IsReadDay r.base
   pub name : IsName r.name
 
--- the column is out of its limits, and those before it are within theirs; fifteen bytes are a holder always
+-- this column is out of its limits, and the columns before it are within theirs; a holder of fifteen bytes is always valid
 abbrev pub IsFirstBad : Registration → Column → Type 0
 IsFirstBad r column.Driver = ¬ (IsNumber r.number)
 IsFirstBad r column.Holder = ⊥

@@ -1,4 +1,4 @@
--- Trusted: The archive's state: its drivers, the card files that were accepted of each, and the hours that were entered for him.
+-- Trusted: The archive's state: its drivers, with the card files that were accepted for each and the hours that were entered for each.
 use Rattle.std.specs.Prelude.{ℕ, ◌+◌, ◌<◌, ◌==◌, Bool, true, false, List, [], ◌∷◌, ◌++◌, Option, Some, None, bytes_eq, if◌then◌else◌}
 use Rattle.tacho_time.specs.declared.span.Span.{Span}
 use Rattle.tacho_time.specs.declared.span.Mark.{Mark}
@@ -6,13 +6,13 @@ use Rattle.tacho_time.specs.declared.span.Activity.{Activity}
 use Rattle.tacho_time.specs.Spans.{Gives}
 use Rattle.tacho_line.specs.Line.{mark_at}
 
--- a card file that was accepted, the part that it was read by, and the spans of that reading
+-- a card file that was accepted, the part that was read from it, and the spans that this gave
 pub record Download : Type 0 where
   pub part : ℕ
   pub file : List ℕ
   pub spans : List Span
 
--- hours that were entered: minutes from start to before past, who said so, and why; a withdrawn entry stays listed and gives nothing
+-- hours that were entered: minutes from start to before past, their author and note; a withdrawn entry stays listed and gives nothing
 pub record Entry : Type 0 where
   pub start : ℕ
   pub past : ℕ
@@ -21,8 +21,8 @@ pub record Entry : Type 0 where
   pub note : List ℕ
   pub withdrawn : Bool
 
--- a driver: the holder of his card, his key, the day from which he is examined, his name, and his downloads and entries in the
--- order of their numbers, which count from 1
+-- a driver: their card's holder, their key, the day from which they are examined, their name, and their downloads and entries ordered by
+-- number; numbers begin at 1
 pub record Driver : Type 0 where
   pub number : ℕ
   pub holder : List ℕ
@@ -32,38 +32,38 @@ pub record Driver : Type 0 where
   pub downloads : List Download
   pub entries : List Entry
 
--- the drivers; their order means nothing
+-- the drivers; their order doesn't matter
 abbrev pub State : Type 0
 State = List Driver
 
 -- ---- what a driver holds
 
--- the spans of his accepted downloads
+-- the spans of a driver's accepted downloads
 abbrev pub given_spans : List Download → List Span
 given_spans [] = []
 given_spans (d ∷ ds) = d.spans ++ given_spans ds
 
--- the span of an entry: nobody drives with him
+-- the span of an entry: the driver is alone (single)
 abbrev pub entry_span : Entry → Span
 entry_span e = record { start = e.start; past = e.past; mark = record { activity = e.activity; crew = false } }
 
--- the spans of his entries that are not withdrawn
+-- the spans of the entries that aren't withdrawn
 abbrev pub entered_spans : List Entry → List Span
 entered_spans [] = []
 entered_spans (e ∷ es) = if e.withdrawn then entered_spans es else entry_span e ∷ entered_spans es
 
--- what his accepted downloads give
+-- the pairs that a driver's accepted downloads give
 abbrev pub Given : Driver → ℕ → Mark → Type 0
 Given d = Gives (given_spans d.downloads)
 
--- and with it what his entries give that are not withdrawn: what he holds
+-- the spans of a driver's downloads, and of the entries that aren't withdrawn: together they give what the driver holds
 abbrev pub held_spans : Driver → List Span
 held_spans d = given_spans d.downloads ++ entered_spans d.entries
 
 abbrev pub Held : Driver → ℕ → Mark → Type 0
 Held d = Gives (held_spans d)
 
--- the mark that he holds a minute with, if he holds it
+-- the mark with which the driver holds a minute, if it is held
 abbrev pub held_mark : Driver → ℕ → Option Mark
 held_mark d m = mark_at (held_spans d) m
 
@@ -84,22 +84,22 @@ abbrev pub holding : List ℕ → State → Option Driver
 holding holder [] = None
 holding holder (d ∷ s) = if bytes_eq d.holder holder then Some d else holding holder s
 
--- the state with this driver in the place of the one with his number
+-- the state with this driver in place of the one with the same number
 abbrev pub put : Driver → State → State
 put d [] = []
 put d (x ∷ s) = if x.number == d.number then d ∷ s else x ∷ put d s
 
--- the download with a number, where the first has another one
+-- the download with this number, if the first of the list has number `i`
 abbrev pub download_from : ℕ → ℕ → List Download → Option Download
 download_from i number [] = None
 download_from i number (d ∷ ds) = if i == number then Some d else download_from (i + 1) number ds
 
--- the entry with a number, where the first has another one
+-- the entry with this number, if the first of the list has number `i`
 abbrev pub entry_from : ℕ → ℕ → List Entry → Option Entry
 entry_from i number [] = None
 entry_from i number (e ∷ es) = if i == number then Some e else entry_from (i + 1) number es
 
--- the entries, that one withdrawn
+-- the entries, with the one with this number withdrawn
 abbrev pub marked_from : ℕ → ℕ → List Entry → List Entry
 marked_from i number [] = []
 marked_from i number (e ∷ es) = if i == number then record e { withdrawn = true } ∷ es else e ∷ marked_from (i + 1) number es

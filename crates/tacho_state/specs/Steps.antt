@@ -1,5 +1,5 @@
--- Trusted: What each command and each reading answers, and the state after it. A refusal leaves the state as it was; where several
--- stand, the first in the order of S1 to S14 is answered, but a file's own fault (S11) before all others.
+-- Trusted: What each command and each reading answers, and the state after it. A refusal leaves the state as it was. If several refusals
+-- apply, the first in the order S1 to S14 is answered; a fault of the card file (S11) comes before all others.
 use Rattle.std.specs.Prelude.{ℕ, ◌+◌, ◌%◌, ◌==◌, nat_lt, Bool, List, [], ◌∷◌, ◌++◌, length, Option, Some, None, is_some, option_map, Result, Ok, Err, bytes_eq, if◌then◌else◌}
 use Rattle.tacho_time.specs.declared.span.Span.{Span}
 use Rattle.tacho_time.specs.declared.span.Mark.{Mark}
@@ -20,7 +20,7 @@ pub record Turn (A : Type 0) : Type 0 where
 abbrev pub refused : {A : Type 0} → StoreFault → State → Turn A
 refused fault s = record { answer = Err fault; after = s }
 
--- what one driver's command answers, and the driver after it
+-- what a command on one driver answers, and the driver after it
 abbrev pub Own : Type 0 → Type 0
 Own A = Driver → Result (A × Driver) StoreFault
 
@@ -28,7 +28,7 @@ abbrev pub settled : {A : Type 0} → State → Result (A × Driver) StoreFault 
 settled s (Ok told) = record { answer = Ok told.0; after = put told.1 s }
 settled s (Err fault) = refused fault s
 
--- the command of one driver, if there is one: S4
+-- a command on one driver; S4 if there is none
 abbrev pub own_turn : {A : Type 0} → Own A → State → Option Driver → Turn A
 own_turn f s None = refused UnknownDriver s
 own_turn f s (Some d) = settled s (f d)
@@ -43,7 +43,7 @@ is_monday day = (day + 3) % 7 == 0
 
 -- ---- register
 
--- the driver, without downloads and entries; S1, S2, S3, S9
+-- adds the driver, without downloads and entries; S1, S2, S3, S9
 abbrev pub registered : ℕ → List ℕ → List ℕ → ℕ → List ℕ → State → Turn (Unit {0})
 registered number holder key base name s =
     if is_some (driver_of number s) then refused DriverTaken s
@@ -55,28 +55,28 @@ registered number holder key base name s =
 
 -- ---- import
 
--- what a card file tells: its holder, and the spans of its reading by a part
+-- the content of a card file: its holder, and the spans of the part that is read
 pub record Content : Type 0 where
   pub holder : List ℕ
   pub spans : List Span
 
--- the file goes in, by the least minute that it contradicts: S6, S14
+-- adds the file, unless it contradicts what is held (S6, with the least minute) or no number is left (S14)
 abbrev pub kept_by : ℕ → List ℕ → List Span → Driver → Option ℕ → Result (Imported × Driver) StoreFault
 kept_by part file spans d (Some m) = Err (Contradiction m)
 kept_by part file spans d None =
     if nat_lt (length d.downloads) most then Ok (Added d.number (1 + length d.downloads), with_download part file spans d) else Err Full
 
--- a file whose pairs downloads give already, all of them, is repeated; entries don't count for that
+-- a file is repeated if downloads already give all its pairs; entries don't count for this
 abbrev pub import_own : ℕ → List ℕ → List Span → Own Imported
 import_own part file spans d =
     if is_within spans (given_spans d.downloads) then Ok (Repeated d.number, d)
     else kept_by part file spans d (least_conflict (held_spans d ++ spans))
 
--- a driver's own import: S5 where the card is another's
+-- an import by a driver: S5 if the card is another driver's
 abbrev pub import_his : ℕ → List ℕ → Content → Own Imported
 import_his part file content d = if bytes_eq d.holder content.holder then import_own part file content.spans d else Err NotYourCard
 
--- an import by the office (no number), which looks for the holder, or by a driver; the file's fault comes first
+-- an import by the office (no number), which finds the driver by the holder, or by a driver; a fault of the file comes first
 abbrev pub imported : Option ℕ → ℕ → List ℕ → Result Content CardFault → State → Turn Imported
 imported caller part file (Err fault) s = refused (Card fault) s
 imported None part file (Ok content) s = own_turn (import_own part file content.spans) s (holding content.holder s)
@@ -84,7 +84,7 @@ imported (Some n) part file (Ok content) s = own_turn (import_his part file cont
 
 -- ---- enter
 
--- a batch goes in whole, or not at all: S6, S14
+-- adds all entries of a batch or none: S6, S14
 abbrev pub entered_by : List Entry → Driver → Option ℕ → Result (ℕ × Driver) StoreFault
 entered_by batch d (Some m) = Err (Contradiction m)
 entered_by batch d None =
@@ -93,7 +93,7 @@ entered_by batch d None =
 abbrev pub enter_own : List Entry → Own ℕ
 enter_own batch d = entered_by batch d (least_conflict (held_spans d ++ entered_spans batch))
 
--- the number of the first
+-- answers the number of the first entry
 abbrev pub entered : ℕ → List Entry → State → Turn ℕ
 entered n batch s = own_turn (enter_own batch) s (driver_of n s)
 
@@ -119,23 +119,23 @@ rebased n base s = own_turn (rebase_own base) s (driver_of n s)
 
 -- ---- readings
 
--- what is told of a driver, if there is one: S4
+-- a reading of one driver; S4 if there is none
 abbrev pub told_of : {A : Type 0} → (Driver → Result A StoreFault) → Option Driver → Result A StoreFault
 told_of f None = Err UnknownDriver
 told_of f (Some d) = f d
 
--- whose key it is
+-- the number of the driver with this key, if there is one
 abbrev pub owner : List ℕ → State → Result (Option ℕ) StoreFault
 owner key s = Ok (option_map (λ (d : Driver). d.number) (keyed key s))
 
 abbrev pub named : ℕ → State → Result (List ℕ) StoreFault
 named n s = told_of (λ d. Ok d.name) (driver_of n s)
 
--- the mark of each minute that the driver holds
+-- the driver's timeline: the mark of each held minute
 abbrev pub lined : ℕ → State → Result (ℕ → Option Mark) StoreFault
 lined n s = told_of (λ d. Ok (held_mark d)) (driver_of n s)
 
--- entries by their numbers, the first of which is given
+-- the entries with their numbers, which begin at `i`
 abbrev pub numbered_from : ℕ → List Entry → List Listed
 numbered_from i [] = []
 numbered_from i (e ∷ es) =
@@ -145,7 +145,7 @@ numbered_from i (e ∷ es) =
       withdrawn = e.withdrawn;
     } ∷ numbered_from (i + 1) es
 
--- his entries, withdrawn ones among them, in the order of their numbers
+-- all entries of a driver ordered by number, including withdrawn ones
 abbrev pub listed : ℕ → State → Result (List Listed) StoreFault
 listed n s = told_of (λ d. Ok (numbered_from 1 d.entries)) (driver_of n s)
 
@@ -157,6 +157,6 @@ file_of (Some d) = Ok d.file
 abbrev pub downloaded : ℕ → ℕ → State → Result (List ℕ) StoreFault
 downloaded n number s = told_of (λ d. file_of (download_from 1 number d.downloads)) (driver_of n s)
 
--- whether there is a driver to report on
+-- Ok if there is a driver to report on, else S4
 abbrev pub reported : ℕ → State → Result (Unit {0}) StoreFault
 reported n s = told_of (λ d. Ok tt) (driver_of n s)

@@ -1,11 +1,11 @@
--- Trusted: The drivers of an archive, as they are listed.
+-- Trusted: The list of an archive's drivers.
 use Rattle.std.specs.Prelude.{ℕ, List, IsPermutation, IsSorted, length, map, string_bytes}
 use Rattle.std.specs.Ordering.{nat_cmp}
 use Rattle.tacho_state.specs.State.{Driver, State}
 use Rattle.tacho_state.specs.declared.summary.DriverSummary.{DriverSummary}
 
--- what is listed of a driver: his number, the holder of his card, the day from which he is examined, how many downloads and how
--- many entries he has (withdrawn ones among them), and his name; neither his key nor what he holds
+-- what is listed of a driver: their number, their card's holder, the day from which they are examined, the number of their downloads and of
+-- their entries (including withdrawn ones), and their name; neither their key nor what they hold
 pub record Summary : Type 0 where
   pub number : ℕ
   pub holder : List ℕ
@@ -24,7 +24,7 @@ summary_of d = record {
   name = d.name;
 }
 
--- a summary in memory tells this one
+-- the `Summary` of a `DriverSummary`
 abbrev pub told_summary : DriverSummary → Summary
 told_summary d = record {
   number = d.number;
@@ -35,7 +35,7 @@ told_summary d = record {
   name = string_bytes d.name;
 }
 
--- each driver of the state once, the lower number first
+-- each driver of the state once, the lowest number first
 pub record AreSummaries (s : State) (summaries : List Summary) : Type 0 where
   pub all : IsPermutation (map summary_of s) summaries
   pub sorted : IsSorted (λ (x y : Summary). nat_cmp x.number y.number) summaries

@@ -1,8 +1,8 @@
 /// Who calls an archive.
 #[derive(Clone, Copy, Debug, PartialEq, Eq)]
 pub enum Caller {
-    /// The office, for all drivers.
+    /// The office, which acts for all drivers.
     Office,
-    /// A driver by his number, for himself.
+    /// A driver, by number, who acts for themselves.
     Driver(u32),
 }

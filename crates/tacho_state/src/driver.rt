@@ -5,26 +5,26 @@ use crate::limits::{is_key, is_name};
 use std::marker::Model;
 use tacho_time::Day;
 
-/// A column of a driver, or of hours that are entered.
+/// A column of a driver, or of hours that are entered by hand.
 #[derive(Clone, Copy, Debug, PartialEq, Eq)]
 pub enum Column {
-    /// His number: 1 to 999,999.
+    /// The driver's number: 1 to 999,999.
     Driver,
-    /// The holder of his card: fifteen bytes.
+    /// The holder of the driver's card: fifteen bytes.
     Holder,
-    /// His key: 8 to 64 letters, digits and hyphens.
+    /// The driver's key: 8 to 64 letters, digits and hyphens.
     Key,
-    /// The day from which he is examined, from 2000-01-03 to 2099-12-31.
+    /// The day from which the driver is examined: 2000-01-03 to 2099-12-31.
     Base,
-    /// His name: 1 to 64 bytes, without controls, commas and double quotes.
+    /// The driver's name: 1 to 64 bytes, without control characters, commas and double quotes.
     Name,
-    /// Who entered hours: 1 to 64 bytes, as a name.
+    /// The author of an entry: 1 to 64 bytes, as for a name.
     Author,
-    /// Why they were entered: at most 200 bytes, as a name.
+    /// The note of an entry: at most 200 bytes, as for a name.
     Note,
 }
 
-/// A driver as he is registered: each column is within its limits.
+/// A driver's registration: each column is within its limits.
 #[derive(Debug, Drop)]
 pub struct Driver {
     number: u32,
@@ -48,7 +48,7 @@ impl Model for Driver {
 impl Driver {
     ghost use Rattle.std.specs.Prelude.{◌≡◌};
 
-    /// A driver of these columns, or the first of them that is out of its limits. It takes no memory.
+    /// Makes a driver from these columns, or returns the first column that is out of its limits. Allocates no memory.
     pub fn new(
         number: u32,
         holder: [u8; 15],
@@ -80,35 +80,35 @@ impl Driver {
         })
     }
 
-    /// His number.
+    /// Returns the driver's number.
     pub fn number(&self) -> u32
         ensures { result ≡ self.now.number }
     {
         self.number
     }
 
-    /// The holder of his card.
+    /// Returns the holder of the driver's card.
     pub fn holder(&self) -> &[u8]
         ensures { result.now ≡ self.now.holder }
     {
         &self.holder
     }
 
-    /// His key.
+    /// Returns the driver's key.
     pub fn key(&self) -> &str
         ensures { result.now ≡ self.now.key }
     {
         &self.key
     }
 
-    /// The day from which he is examined.
+    /// Returns the day from which the driver is examined.
     pub fn base(&self) -> Day
         ensures { result ≡ self.now.base }
     {
         self.base
     }
 
-    /// His name.
+    /// Returns the driver's name.
     pub fn name(&self) -> &str
         ensures { result.now ≡ self.now.name }
     {

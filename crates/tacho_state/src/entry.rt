@@ -8,8 +8,8 @@ use std::alloc::{AllocError, Global};
 use std::marker::Model;
 use tacho_time::{Activity, Minute};
 
-/// Hours of one activity that are entered by hand: the minutes from `start` to before `past`, who says so, and why. Author and
-/// note are within their limits.
+/// Hours of one activity that are entered by hand: minutes from `start` to before `past`, their author and their note. Author and note are
+/// within their limits.
 #[derive(Debug, Drop)]
 pub struct EntryLine {
     start: Minute,
@@ -34,8 +34,8 @@ impl Model for EntryLine {
 impl EntryLine {
     ghost use Rattle.std.specs.Prelude.{◌≡◌, IfOk};
 
-    /// Hours by this author, with this note, or the first of the two that is out of its limits: an author has 1 to 64 bytes, a
-    /// note at most 200, both without controls, commas and double quotes. It takes no memory.
+    /// Makes hours with this author and note, or returns the first of the two that is out of its limits: an author has 1 to 64 bytes, a
+    /// note at most 200, both without control characters, commas and double quotes. Allocates no memory.
     pub fn new(
         start: Minute,
         past: Minute,
@@ -61,42 +61,42 @@ impl EntryLine {
         })
     }
 
-    /// The first minute.
+    /// Returns the first minute.
     pub fn start(&self) -> Minute
         ensures { result ≡ self.now.start }
     {
         self.start
     }
 
-    /// The minute behind the last.
+    /// Returns the minute after the last.
     pub fn past(&self) -> Minute
         ensures { result ≡ self.now.past }
     {
         self.past
     }
 
-    /// What the driver did.
+    /// Returns the driver's activity.
     pub fn activity(&self) -> Activity
         ensures { result ≡ self.now.activity }
     {
         self.activity
     }
 
-    /// Who says so.
+    /// Returns the author.
     pub fn author(&self) -> &str
         ensures { result.now ≡ self.now.author }
     {
         &self.author
     }
 
-    /// Why, or nothing.
+    /// Returns the note, which may be empty.
     pub fn note(&self) -> &str
         ensures { result.now ≡ self.now.note }
     {
         &self.note
     }
 
-    /// The same hours once more.
+    /// Makes a copy of these hours.
     pub fn copy(&self, alloc: Global) -> Result<EntryLine, AllocError>
         ensures { IfOk result (λ line. line ≡ self.now) }
     {
@@ -112,7 +112,7 @@ impl EntryLine {
     }
 }
 
-/// An entry of a driver. A withdrawn one stays listed, and gives him nothing.
+/// An entry of a driver. A withdrawn entry stays listed, and gives nothing.
 #[derive(Debug, Drop)]
 pub struct Entry {
     pub number: u32,
@@ -120,7 +120,8 @@ pub struct Entry {
     pub withdrawn: bool,
 }
 
-/// What was entered: the number of the first line, and how many there are. Of none, `first` is the next line's number.
+/// The result of an `enter`: the number of the first entry, and how many there are. If there are none, `first` is the number of the
+/// driver's next entry.
 #[derive(Clone, Copy, Debug, PartialEq, Eq)]
 pub struct Entered {
     pub first: u32,

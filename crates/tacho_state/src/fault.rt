@@ -3,28 +3,28 @@ use tacho_card::CardFault;
 use tacho_time::Minute;
 use thiserror::Error;
 
-/// Why a command or a reading of an archive was refused. After each of these nothing has changed.
+/// Why a command or a reading of an archive was refused. Nothing has changed after any of these.
 #[derive(Clone, Copy, Debug, PartialEq, Eq, Error)]
 pub enum StoreFault {
-    /// S1: there is a driver with the number.
+    /// S1: a driver with this number exists.
     #[error("the driver's number is taken")]
     DriverTaken,
-    /// S2: there is a driver with the key.
+    /// S2: a driver with this key exists.
     #[error("the driver's key is taken")]
     KeyTaken,
-    /// S3: there is a driver with the holder.
+    /// S3: a driver with this holder exists.
     #[error("the card's holder is taken")]
     HolderTaken,
-    /// S4: no driver has the number, or the file's holder.
+    /// S4: no driver has this number, or the file's holder.
     #[error("unknown driver")]
     UnknownDriver,
-    /// S5: a driver's import of a card of another holder.
+    /// S5: a driver imports a card of another holder.
     #[error("another holder's card")]
     NotYourCard,
-    /// S6: the least minute that would have two marks.
+    /// S6: the least minute to which two marks would be given.
     #[error("two marks at {0}")]
     Contradiction(Minute),
-    /// S7: no entry of the driver has the number.
+    /// S7: no entry of the driver has this number.
     #[error("unknown entry")]
     UnknownEntry,
     /// S8: the entry is withdrawn already.
@@ -33,22 +33,22 @@ pub enum StoreFault {
     /// S9: the day isn't a Monday.
     #[error("not a Monday")]
     NotMonday,
-    /// S10: no download of the driver has the number.
+    /// S10: no download of the driver has this number.
     #[error("unknown download")]
     UnknownDownload,
-    /// S11: the first fault of the card file, never want of memory.
+    /// S11: the first fault of the card file; never out of memory.
     #[error("{0}")]
     Card(CardFault),
-    /// S12: the store's call failed, or gave a row that no archive writes.
+    /// S12: the store failed, or gave a row that no archive writes.
     #[error("the store failed")]
     Store,
-    /// S13: the archive's tables are of schema 1, which `migrate` carries over.
+    /// S13: the archive's tables have schema 1; `migrate` carries them over.
     #[error("an old archive")]
     OldSchema,
     /// S14: no further number is given out.
     #[error("no further number")]
     Full,
-    /// There was no memory.
+    /// Out of memory.
     #[error("no memory")]
     Memory,
 }

@@ -1,8 +1,8 @@
-/// What an import did.
+/// The result of an import.
 #[derive(Clone, Copy, Debug, PartialEq, Eq)]
 pub enum Imported {
-    /// The file is the download of a driver with this number.
+    /// The file is now the driver's download with this number.
     Added { driver: u32, number: u32 },
-    /// Downloads of the driver gave all before that the file gives: nothing was kept.
+    /// The driver's downloads already gave all that the file gives: the file was not kept.
     Repeated { driver: u32 },
 }

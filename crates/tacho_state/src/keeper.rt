@@ -26,33 +26,33 @@ use tacho_rules::Report;
 use tacho_stretches::Stretch;
 use tacho_time::{Day, Minute};
 
-/// An archive, however it is kept. Each call is a step of its state (`Acts`) or reads it (`Reads`).
+/// An archive, in whatever way it is kept. Each call changes its state by a step (`Acts`) or reads it (`Reads`).
 pub trait Keeper {
-    /// What is kept stands for this state.
+    /// The archive has this state.
     ghost stands: { Self → State → Type 0 };
 
-    /// What is kept is what was written.
+    /// The archive holds what was written to it.
     ghost is_clean: { Self → Type 0 };
 
-    /// It can be written to. Only a failure of the store ends that.
+    /// The archive can be written to. Only a failure of the store ends this.
     ghost is_live: { Self → Type 0 };
 
-    /// Whatever a crash now leaves stands for one of these states.
+    /// The archive that a crash leaves now has one of these states.
     ghost leaves: { Self → List State → Type 0 };
 
-    /// The second is kept as the first is: no row of it is another, as long as it can be read.
+    /// No row differs between the two archives, while the second can be read.
     ghost is_same: { Self → Self → Type 0 };
 
-    /// The second keeps of the driver with this number what the first does, row for row, as long as it can be read.
+    /// No row of the driver with this number differs between the two archives, while the second can be read.
     ghost is_same_of: { ℕ → Self → Self → Type 0 };
 
-    /// More states may be named.
+    /// A state may be added to those that a crash may leave.
     ghost leaves_more: { (keeper : Self) (s : State) (states : List State) → leaves keeper states → leaves keeper (s ∷ states) };
 
-    /// What is kept is the same as itself.
+    /// No row of an archive differs from itself.
     ghost same_self: { (keeper : Self) → is_same keeper keeper };
 
-    /// Where no row changed from a first to a second, nor from there to a third, none changed from the first to the third.
+    /// If no row changed from the first to the second, nor from the second to the third, none changed from the first to the third.
     ghost same_then: { (first second third : Self) → (is_live third → is_live second) → is_same first second → is_same second third
         → is_same first third };
 
@@ -62,7 +62,7 @@ pub trait Keeper {
         ensures registered { Acts stands is_clean is_live leaves is_same is_same_of (λ _. tt) self.old self.new result
             (registered driver.now.number driver.now.holder driver.now.key driver.now.base driver.now.name) };
 
-    /// Imports a card file by a part: S11 first; then S4, S5, S6, S14.
+    /// Imports a card file, from which this part is read: S11 first; then S4, S5, S6, S14.
     fn import(
         &mut self,
         alloc: Global,
@@ -70,20 +70,20 @@ pub trait Keeper {
         part: Part,
         file: &[u8],
     ) -> Result<Imported, StoreFault>
-        // A file with a fault is refused with it, or there was no memory to read it, whatever is kept; and nothing was asked of that.
+        // A file with a fault is refused with that fault (or memory ran out while it was read), whatever the archive's state; the archive
+        // is not accessed.
         ensures unreadable { (fault : CardFault) → FileTells part file.now (Err fault)
             → ((result ≡ Err Memory) ⊎ (result ≡ Err (Card fault))) × (self.new ≡ self.old) }
-        // Only such a file is.
+        // Only a file with a fault is refused so.
         ensures readable { (fault : CardFault) → result ≡ Err (Card fault) → FileTells part file.now (Err fault) }
-        // A file that is there changes nothing of what is kept.
+        // A file that is repeated changes no row.
         ensures repeated { is_clean self.new → (s : State) (number : ℕ) → stands self.old s → result ≡ Ok (Repeated number)
             → is_same self.old self.new }
         ensures imported { (content : Result Content CardFault) → FileTells part file.now content
             → Acts stands is_clean is_live leaves is_same is_same_of (λ done. done) self.old self.new result
             (imported (caller_number caller) (part_number part) file.now content) };
 
-    /// Enters a batch of hours, which goes in whole or not at all: S4, S6, S14. Its lines are numbered on from the driver's last
-    /// entry.
+    /// Enters a batch of hours, all of them or none: S4, S6, S14. The new entries are numbered on from the driver's last entry.
     fn enter(
         &mut self,
         alloc: Global,
@@ -96,7 +96,7 @@ pub trait Keeper {
             (entered driver (batch_of lines.now)) }
         ensures count { IfOk result (λ done. done.count ≡ length lines.now) };
 
-    /// Withdraws an entry of a driver, which stays listed: S4, S7, S8. What downloads and other entries give, he still holds.
+    /// Withdraws an entry of a driver, which stays listed: S4, S7, S8. The driver still holds what downloads and other entries give.
     fn withdraw(&mut self, alloc: Global, driver: u32, number: u32) -> Result<(), StoreFault>
         ensures of_no_file { IsOfNoFile result }
         ensures withdrawn { Acts stands is_clean is_live leaves is_same is_same_of (λ _. tt) self.old self.new result (withdrawn driver number) };
@@ -107,26 +107,26 @@ pub trait Keeper {
         ensures of_no_file { IsOfNoFile result }
         ensures rebased { Acts stands is_clean is_live leaves is_same is_same_of (λ _. tt) self.old self.new result (rebased driver base) };
 
-    /// The driver whose key this is, if there is one.
+    /// Returns the number of the driver with this key, if there is one.
     fn who(&mut self, key: &[u8]) -> Result<Option<u32>, StoreFault>
         ensures { Reads stands is_clean is_live leaves is_same (λ found. found) self.old self.new result (owner key.now) };
 
-    /// All drivers, the lower number first.
+    /// Lists all drivers, the lowest number first.
     fn drivers(&mut self, alloc: Global) -> Result<Vec<DriverSummary>, StoreFault>
         ensures reads { Reads {B = Unit {0}} stands is_clean is_live leaves is_same (λ _. tt) self.old self.new result (λ _. Ok tt) }
         ensures drivers { is_clean self.new → (s : State) → stands self.old s
             → IfOk result (λ drivers. AreSummaries s (map told_summary drivers.items)) };
 
-    /// The name of a driver: S4.
+    /// Returns the name of a driver: S4.
     fn name(&mut self, alloc: Global, driver: u32) -> Result<String, StoreFault>
         ensures { Reads stands is_clean is_live leaves is_same (λ name. string_bytes name) self.old self.new result (named driver) };
 
-    /// The timeline of a driver: S4.
+    /// Returns the timeline of a driver: S4.
     fn line(&mut self, alloc: Global, driver: u32) -> Result<Line, StoreFault>
         ensures { Reads stands is_clean is_live leaves is_same (λ line. mark_at line) self.old self.new result (lined driver) };
 
-    /// What a driver holds in a range: a timeline that gives each minute of it the mark that his own gives: S4. What it gives
-    /// other minutes says nothing, so that what lies far from the range needn't be read.
+    /// Returns what a driver holds in a range: a timeline that gives each minute of the range the mark of the driver's own timeline: S4. At
+    /// other minutes it may give anything, so that rows far from the range needn't be read.
     fn line_within(
         &mut self,
         alloc: Global,
@@ -137,27 +137,27 @@ pub trait Keeper {
         ensures reads { Reads stands is_clean is_live leaves is_same (λ _. tt) self.old self.new result (reported driver) }
         ensures within { is_clean self.new → (s : State) → stands self.old s → IfOk result (IsHeldWithin driver start past s) };
 
-    /// The entries of a driver by their numbers, withdrawn ones among them: S4.
+    /// Lists the entries of a driver ordered by number, including withdrawn ones: S4.
     fn entries(&mut self, alloc: Global, driver: u32) -> Result<Vec<Entry>, StoreFault>
         ensures { Reads stands is_clean is_live leaves is_same (λ entries. entries.items) self.old self.new result (listed driver) };
 
-    /// The bytes of a driver's download: S4, S10.
+    /// Returns the bytes of a driver's download: S4, S10.
     fn download(&mut self, alloc: Global, driver: u32, number: u32) -> Result<Vec<u8>, StoreFault>
         ensures { Reads stands is_clean is_live leaves is_same (λ bytes. bytes.items) self.old self.new result (downloaded driver number) };
 
-    /// What the rules say of the timeline of a driver from his base on: S4.
+    /// Returns the report of a driver's timeline from the base: S4.
     fn report(&mut self, alloc: Global, driver: u32) -> Result<Report, StoreFault>
         ensures reads { Reads stands is_clean is_live leaves is_same (λ _. tt) self.old self.new result (reported driver) }
         ensures report { is_clean self.new → (s : State) → stands self.old s → IfOk result (IsReportOf driver s) };
 
-    /// The stretches of the timeline of a driver: what the rules say of it from their base on, and after each horizon from the
-    /// next Monday whose first minute is held without a second driver: S4.
+    /// Returns the stretches of a driver's timeline: the reports from the base, and after each horizon from the next Monday whose first
+    /// minute is held without a second driver: S4.
     fn stretches(&mut self, alloc: Global, driver: u32) -> Result<Vec<Stretch>, StoreFault>
         ensures reads { Reads stands is_clean is_live leaves is_same (λ _. tt) self.old self.new result (reported driver) }
         ensures stretches { is_clean self.new → (s : State) → stands self.old s
             → IfOk result (λ stretches. AreStretchesOf driver s (map judged stretches.items)) };
 
-    /// What a driver holds in a range, as `line_within` gives it, and their stretches, of one reading: S4.
+    /// Returns what a driver holds in a range, as `line_within` does, and the driver's stretches, in one reading: S4.
     fn line_and_stretches(
         &mut self,
         alloc: Global,

@@ -1,4 +1,4 @@
-//! The archive's state: drivers, what they hold, and what each command and each reading answers. No store is named here.
+//! The archive's state: drivers, what they hold, and what each command and each reading answers. This crate knows no store.
 #![tactic(auto)]
 
 mod caller;

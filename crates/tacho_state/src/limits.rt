@@ -1,10 +1,10 @@
 ghost use Rattle.std.specs.Prelude.{◌≡◌, ◌↔◌, All, IsTrue};
 ghost use Rattle.tacho_state.specs.Limits.{IsKey, IsName, IsNameByte, IsNote, next_number};
 
-/// How many numbers a driver's downloads, and his entries, are given at the most.
+/// How many numbers are given out, at most, to a driver's downloads, and to a driver's entries.
 const MOST: u32 = 1_000_000;
 
-/// Whether a text may be a key: 8 to 64 letters, digits and hyphens. It takes no memory.
+/// True if a text can be a key: 8 to 64 letters, digits and hyphens. Allocates no memory.
 pub fn is_key(text: &str) -> bool
     ensures { IsTrue result ↔ IsKey text.now }
 {
@@ -16,7 +16,7 @@ pub fn is_key(text: &str) -> bool
             .all(|&byte| byte.is_ascii_alphanumeric() || byte == b'-')
 }
 
-/// Whether a text may be a name: 1 to 64 bytes, without controls, commas and double quotes. It takes no memory.
+/// True if a text can be a name: 1 to 64 bytes, without control characters, commas and double quotes. Allocates no memory.
 pub fn is_name(text: &str) -> bool
     ensures { IsTrue result ↔ IsName text.now }
 {
@@ -24,7 +24,7 @@ pub fn is_name(text: &str) -> bool
     bytes.len() >= 1 && bytes.len() <= 64 && are_name_bytes(bytes)
 }
 
-/// Whether a text may be a note: at most 200 bytes, without controls, commas and double quotes. It takes no memory.
+/// True if a text can be a note: at most 200 bytes, without control characters, commas and double quotes. Allocates no memory.
 pub fn is_note(text: &str) -> bool
     ensures { IsTrue result ↔ IsNote text.now }
 {
@@ -32,14 +32,14 @@ pub fn is_note(text: &str) -> bool
     bytes.len() <= 200 && are_name_bytes(bytes)
 }
 
-/// Whether none of the bytes is a control, a comma or a double quote.
+/// True if no byte is a control character, a comma or a double quote.
 fn are_name_bytes(bytes: &[u8]) -> bool
     ensures { IsTrue result ↔ All IsNameByte bytes.now }
 {
     bytes.iter().all(|&byte| byte >= 0x20 && byte != 0x7f && byte != b',' && byte != b'"')
 }
 
-/// The first of `count` numbers that are given out where `given` are, or none where there aren't as many. It takes no memory.
+/// Returns the first of `count` new numbers after `given` numbers were given out, or none if fewer are left. Allocates no memory.
 pub fn first_number(given: u32, count: u32) -> Option<u32>
     ensures { result ≡ next_number given count }
 {

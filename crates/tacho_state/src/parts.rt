@@ -9,7 +9,7 @@ use std::alloc::{AllocError, Global};
 use tacho_line::Line;
 use tacho_time::{Mark, Minute, Span, SpanFault, canonical_spans};
 
-/// The line of what spans give, in any order; or the least minute to which they give two marks.
+/// Makes the line of what spans in any order give, or returns the least minute to which they give two marks.
 pub fn line_of(alloc: Global, spans: &[Span]) -> Result<Line, SpanFault>
     ensures { MatchResult result (λ line. IsCanonicalOf (Gives spans.now) line) (IsFirstFault (Gives spans.now)) }
 {
@@ -19,7 +19,7 @@ pub fn line_of(alloc: Global, spans: &[Span]) -> Result<Line, SpanFault>
     Ok(line)
 }
 
-/// The parts of spans outside a range that they overlap.
+/// Returns the parts, outside a range, of spans that overlap it.
 pub fn outside_of(
     alloc: Global,
     spans: &[Span],
@@ -36,7 +36,7 @@ pub fn outside_of(
     Ok(parts)
 }
 
-/// Adds the span between two minutes, if it is not empty.
+/// Adds the span between two minutes, unless it is empty.
 fn add_span(
     parts: &mut Vec<Span>,
     start: Minute,
@@ -51,7 +51,7 @@ fn add_span(
     Ok(())
 }
 
-/// What card spans and entries give in a range; or the least minute to which they give two marks.
+/// Returns what card spans and entries give in a range, or the least minute to which they give two marks.
 pub fn inside_of(
     alloc: Global,
     cards: &[Span],

@@ -14,7 +14,7 @@ use tacho_rules::{Report, can_be_examined, examine};
 use tacho_stretches::{Stretch, stretches};
 use tacho_time::Minute;
 
-/// The first minute of a day, where it is a Monday from 2000-01-03 to the end of 2099.
+/// Returns the first minute of a day, if it is a Monday from 2000-01-03 to the end of 2099.
 pub fn base_of(day: u32) -> Option<Minute>
     ensures some { IfSome result (λ base. (base ≡ 1440 * day) × IsBase base × (base ≤ latest)) }
     ensures none { IsNone result → IsNoBase day }
@@ -25,8 +25,8 @@ pub fn base_of(day: u32) -> Option<Minute>
     Some(Minute::new(day * 1440))
 }
 
-/// The report of a line from the first minute of a day on. S12 where the day is no Monday from 2000-01-03 to the end of 2099, or
-/// the line goes past that end: no archive has such a base or such a line.
+/// Returns the report of a line from the first minute of a day. Returns S12 if the day isn't a Monday from 2000-01-03 to the end of 2099,
+/// or the line goes past that end: no archive has such a base or such a line.
 pub fn report_of(alloc: Global, line: &Line, base: u32) -> Result<Report, StoreFault>
     ensures report { IfOk result (λ report. IsReport line.now (1440 * base) report.horizon report.breaches.items report.debts.items) }
     ensures fault { IfErr result (λ fault. OrMemory StoreFault.Memory fault ((fault ≡ StoreFault.Store) × IsOutOfLimits line.now base)) }
@@ -40,7 +40,7 @@ pub fn report_of(alloc: Global, line: &Line, base: u32) -> Result<Report, StoreF
     Ok(examine(alloc, line, first)?)
 }
 
-/// The stretches of a line from the first minute of a day on. S12 as for `report_of`.
+/// Returns the stretches of a line from the first minute of a day. Returns S12 as `report_of` does.
 pub fn stretches_of(alloc: Global, line: &Line, base: u32) -> Result<Vec<Stretch>, StoreFault>
     ensures stretches { IfOk result (λ found. AreStretches line.now (1440 * base) (map judged found.items)) }
     ensures fault { IfErr result (λ fault. OrMemory StoreFault.Memory fault ((fault ≡ StoreFault.Store) × IsOutOfLimits line.now base)) }

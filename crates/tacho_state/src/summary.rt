@@ -1,18 +1,18 @@
 use tacho_time::Day;
 
-/// What is told of a driver in the list of all of them.
+/// What the list of all drivers says of one driver.
 #[derive(Debug, Drop)]
 pub struct DriverSummary {
-    /// His number: 1 to 999,999.
+    /// The driver's number: 1 to 999,999.
     pub number: u32,
-    /// The holder of his card: fifteen bytes.
+    /// The holder of the driver's card: fifteen bytes.
     pub holder: Vec<u8>,
-    /// The day from which he is examined.
+    /// The day from which the driver is examined.
     pub base: Day,
-    /// How many of his card files were accepted.
+    /// How many card files of the driver were accepted.
     pub downloads: u32,
-    /// How many hours were entered for him by hand, withdrawn ones among them.
+    /// How many entries the driver has, including withdrawn ones.
     pub entries: u32,
-    /// His name.
+    /// The driver's name.
     pub name: String,
 }

@@ -1,4 +1,4 @@
--- What a change of the day from which a driver is examined answers, where he is there.
+-- What a change of a driver's base answers, if the driver exists.
 use Rattle.std.proofs.Common.{◌≡◌, ℕ, true, false, Some, None, Ok, Err, refl, map}
 use Rattle.sqlite.specs.Tree.{Trees}
 use Rattle.tacho_state.specs.declared.fault.StoreFault.TheVariants.{UnknownDriver, NotMonday}
@@ -10,20 +10,20 @@ use Rattle.tacho_store.specs.After.{with_rebased}
 use Rattle.tacho_store.proofs.RegistrationTablesLemmas.{rebased_is}
 use Rattle.tacho_store.proofs.OthersLemmas.{followed}
 
--- S4
+-- an unknown driver: S4
 pub no_driver : (n base : ℕ) (s : State) → driver_of n s ≡ None → (rebased n base s).answer ≡ Err UnknownDriver
 no_driver n base s none = rw none refl
 
 module _ (n base : ℕ) (s : State) (d : Driver) (is : driver_of n s ≡ Some d) where
-  -- S9
+  -- not a Monday: S9
   pub no_monday : is_monday base ≡ false → (rebased n base s).answer ≡ Err NotMonday
   no_monday other = rw (is, other) refl
 
-  -- the day is set
+  -- the base is set
   pub is_set : is_monday base ≡ true → (rebased n base s).answer ≡ Ok tt
   is_set monday = rw (is, monday) refl
 
-  -- and tables with it follow
+  -- tables with the new base represent the state after the change
   pub day_set : (db next : Trees) → is_monday base ≡ true → StandsFor db s
       → ((a : Tables) → HasTables db a → HasTables next (record a { drivers = map (with_base n base) a.drivers }))
       → Follows db next s (rebased n base s).after

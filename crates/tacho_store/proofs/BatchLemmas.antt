@@ -17,7 +17,7 @@ use Rattle.tacho_store.specs.After.{with_entered}
 
 -- ---- rows of a batch
 
--- rows of entries behind others come behind theirs
+-- the rows of appended entries come after the rows of the entries before them
 rows_append : (n i : ℕ) (es fs : List Entry) → entry_rows n i (es ++ fs) ≡ entry_rows n i es ++ entry_rows n (i + length es) fs
 rows_append n i [] fs = ap (λ (k : ℕ). entry_rows n k fs) (omega arith)
 rows_append n i (e ∷ es) fs =
@@ -25,7 +25,7 @@ rows_append n i (e ∷ es) fs =
     ap (λ (y : List EntryRow). entry_row n i e ∷ y) (rows_append n (i + 1) es fs)
     ∙ ap (λ (k : ℕ). entry_row n i e ∷ (entry_rows n (i + 1) es ++ entry_rows n k fs)) d
 
--- they are their driver's
+-- the rows of a driver's entries have the driver's number
 own_rows : (n i : ℕ) (es : List Entry) → entries_of n (entry_rows n i es) ≡ entry_rows n i es
 own_rows n i [] = refl
 own_rows n i (e ∷ es) =
@@ -33,26 +33,26 @@ own_rows n i (e ∷ es) =
     ap (λ b. cond b (entry_row n i e ∷ more) more) (eq_self n)
     ∙ ap (λ (x : List EntryRow). entry_row n i e ∷ x) (own_rows n (i + 1) es)
 
--- and nobody else's
+-- none of them has another driver's number
 other_rows : (j n i : ℕ) (es : List Entry) → j ≢ n → entries_of j (entry_rows n i es) ≡ []
 other_rows j n i [] d = refl
 other_rows j n i (e ∷ es) d =
     let more = entries_of j (entry_rows n (i + 1) es) in
     ap (λ b. cond b (entry_row n i e ∷ more) more) (eq_not n j (λ f. d (sym f))) ∙ other_rows j n (i + 1) es d
 
--- they are counted
+-- the entries are counted
 more_entries : (es fs : List Entry) → length es + length fs ≡ length (es ++ fs)
 more_entries [] fs = omega arith
 more_entries (e ∷ es) fs = let d = more_entries es fs in omega (arith, d)
 
--- none of them is empty where none was
+-- if no entry of either list is empty, none of the joined list is
 full_append : (es fs : List Entry) → AreFull es → AreFull fs → AreFull (es ++ fs)
 full_append [] fs h f = f
 full_append (e ∷ es) fs h f = (h.0, full_append es fs h.1 f)
 
 -- ---- the tables after a batch
 
--- the tables stand for the driver with the batch
+-- the tables represent the driver with the batch
 entered_own : (t : Tables) (d : Driver) (batch : List Entry) (line gains : List Span) (a b : ℕ) → RowsStandFor t d → AreFull batch
     → AreInRange a b (entered_spans batch)
     → IsCanonicalOf (Gives (near a b (spans_of d.number t.held))) line → AreGains line (entered_spans batch) gains
@@ -71,7 +71,7 @@ entered_own t d batch line gains a b h w r l g = record {
       (batch_kept d (spans_of d.number t.held) line gains batch a b h.held r l g);
 }
 
--- and no row of another driver is another one
+-- no row of another driver changes
 entered_other : (t : Tables) (n first count : ℕ) (batch : List Entry) (gains : List Span) (j : ℕ) → j ≢ n
     → SameOfDriver j t (with_entered n first count batch gains t)
 entered_other t n first count batch gains j d = record {
@@ -88,11 +88,11 @@ entered_other t n first count batch gains j d = record {
 counted_own : (n count : ℕ) (r : DriverRow) → r.driver ≡ n → with_entries n count r ≡ record r { entries = count }
 counted_own n count r e = ap (λ b. cond b (record r { entries = count }) r) (subst (λ (k : ℕ). (k == n) ≡ true) (sym e) (eq_self n))
 
--- and no other row does
+-- no other row changes
 counted_other : (n count : ℕ) (r : DriverRow) → r.driver ≢ n → with_entries n count r ≡ r
 counted_other n count r d = ap (λ b. cond b (record r { entries = count }) r) (eq_not r.driver n d)
 
--- the tables stand for the state after a batch by the driver's own number
+-- the tables represent the state after a batch, by the driver's own number
 entered_at : (t : Tables) (s : State) (d : Driver) (batch : List Entry) (line gains : List Span) (a b : ℕ) → TablesStandFor t s
     → driver_of d.number s ≡ Some d → AreFull batch → AreInRange a b (entered_spans batch)
     → IsCanonicalOf (Gives (near a b (spans_of d.number t.held))) line → AreGains line (entered_spans batch) gains
@@ -112,7 +112,7 @@ entered_at t s d batch line gains a b h k w r l g =
     (λ j o. entered_other t n (1 + length d.entries) count batch gains j o)
     (record { card_spans = h.marked.card_spans; held = added_marks n t.held gains h.marked.held })
 
--- the tables after a batch stand for the state after it
+-- the tables after a batch represent the state after it
 pub entered_is : (t : Tables) (s : State) (n : ℕ) (d : Driver) (batch : List Entry) (line gains : List Span) (a b : ℕ)
     → TablesStandFor t s → driver_of n s ≡ Some d → AreFull batch → AreInRange a b (entered_spans batch)
     → IsCanonicalOf (Gives (near a b (spans_of n t.held))) line → AreGains line (entered_spans batch) gains

@@ -1,4 +1,4 @@
--- What is near a file's spans decides their import.
+-- What the tables have near a file's spans decides the import.
 use Rattle.std.proofs.Common.{◌≡◌, inl, inr, ℕ, ◌+◌, List, [], length, map, Option, Some, None, Result, Ok, Err, sym, ap, subst}
 use Rattle.std.specs.Prelude.{MatchOption, MatchResult, IsErr, IsErrAnd}
 use Rattle.sqlite.specs.Effect.{Database}
@@ -37,7 +37,7 @@ module _ (db : Trees) (s : State) (n : ℕ) (d : Driver) (a b : ℕ) (spans : Li
     (within : AreInRange a b spans) (t : Tables) (stand : HasTables db t) (of : TablesStandFor t s)
     (card_line line : List Span) (card_near : IsCanonicalOf (Gives (near a b (spans_of n t.card_spans))) card_line)
     (held_near : IsCanonicalOf (Gives (near a b (spans_of n t.held))) line) where
-  -- what is new goes in
+  -- spans that are new can be added
   goes_in : (cards helds : List Span) → AreNews card_line line spans cards helds → AreAdded db s n d spans cards helds
   goes_in cards helds news =
       let new : IsNew card_line spans = inl (news.0, news.1, subst (AreGains card_line spans) news.2 news.3) in
@@ -57,7 +57,7 @@ module _ (db : Trees) (s : State) (n : ℕ) (d : Driver) (a b : ℕ) (spans : Li
             (is_another n d after s is (found_number n s d is) (download_changes (part_number part) file spans d));
       }
 
-  -- nothing new, something new, a contradiction; or a call gave up
+  -- nothing is new, something is new, or there is a contradiction; or the call ran out of memory or the store failed
   by_lines : (r : Result (Option News) StoreFault)
       → MatchResult r (λ found. MatchOption found (AreGains card_line spans [])
       (λ news. AreNews card_line line spans news.card_spans.items news.held.items)) (IsRefused card_line line spans)
@@ -73,7 +73,7 @@ module _ (db : Trees) (s : State) (n : ℕ) (d : Driver) (a b : ℕ) (spans : Li
       (λ part file. contradicted_import d part file (spans_of n t.card_spans) (spans_of n t.held) card_line line spans a b it.0
       (card_kept t s n d of is) (held_kept t s n d of is) within card_near held_near it.2 it.3)
 
--- what the lines of the rows near the spans say of them decides their import
+-- the lines of the rows near the spans decide the import
 pub decided : (db : Trees) (s : State) (n : ℕ) (d : Driver) (a b : ℕ) (spans : List Span) (cards helds : List StoredSpan)
     (card_line line : List Span) (r : Result (Option News) StoreFault) → StandsFor db s → driver_of n s ≡ Some d
     → AreRead (λ t. t.card_spans) db n a b cards → AreRead (λ t. t.held) db n a b helds
@@ -87,7 +87,7 @@ decided db s n d a b spans cards helds card_line line r (t, stand, of) is card_r
     (read_line t.card_spans n a b cards card_line (card_read t stand (card_apart t s n d of is)) card_of)
     (read_line t.held n a b helds line (read t stand (held_apart t s n d of is)) held_of) r h
 
--- a fault that is handed on answers the import
+-- a fault that is passed on is the import's answer
 pub handed_fault : (db : Trees) (s : State) (n : ℕ) (d : Driver) (spans : List Span) (fault : StoreFault) (r : Result Imported StoreFault)
     (part : ℕ) (file : List ℕ) → AreDecided db s n d spans (Err fault)
     → IsErr r × IsErrAnd r (λ found. found ≡ fault) → Answers (λ done. done) r (settled s (import_own part file spans d)).answer
@@ -106,14 +106,14 @@ pub is_repeated : (db : Trees) (s : State) (n : ℕ) (d : Driver) (spans : List 
 unfolding AreDecided
 is_repeated db s n d spans found is h = subst (λ o. AreDecided db s n d spans (Ok o)) is h
 
--- and one that gives something new can be added
+-- a file that gives something new can be added
 pub is_new : (db : Trees) (s : State) (n : ℕ) (d : Driver) (spans : List Span) (found : Option News) (news : News) → found ≡ Some news
     → AreDecided db s n d spans (Ok found)
     → AreAdded db s n d spans news.card_spans.items news.held.items
 unfolding AreDecided
 is_new db s n d spans found news is h = subst (λ o. AreDecided db s n d spans (Ok o)) is h
 
--- what is new stays so while nothing changes
+-- what is new stays new while nothing changes
 pub still_new : (old now : Sqlite) (s : State) (n : ℕ) (d : Driver) (spans cards helds : List Span) → IsUnchanged old now
     → AreAdded old.now.trees s n d spans cards helds → AreAdded now.now.trees s n d spans cards helds
 still_new old now s n d spans cards helds same = subst (λ (w : Database). AreAdded w.trees s n d spans cards helds) (sym same.0.now_is)

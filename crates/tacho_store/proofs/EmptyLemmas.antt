@@ -1,4 +1,4 @@
--- Empty tables stand for no drivers.
+-- Empty tables represent the state without drivers.
 use Rattle.std.proofs.Common.{[], refl}
 use Rattle.std.proofs.lemmas.List.Elements.{All-nil}
 use Rattle.sqlite.specs.Tree.{Trees}

@@ -1,4 +1,4 @@
--- What a batch gives, what entering it answers, and what its writes stand for.
+-- What a batch gives, what entering it answers, and what the tables represent after its writes.
 use Rattle.std.proofs.Common.{◌≡◌, ◌∙◌, get_or, ℕ, zero, suc, ◌+◌, ◌-◌, ◌<◌, ◌≤◌, ◌⊎◌, inl, inr, Bool, true, false, cond, List, [], ◌∷◌, length, map, Some, None, Result, Ok, Err, refl, sym, ap, subst, arith}
 use Rattle.std.specs.Prelude.{MatchResult, IsErr, IsErrAnd, nat_le}
 use Rattle.std.specs.List.{slice_get, slice_index_or, AllByRecursion}
@@ -39,7 +39,7 @@ use Rattle.tacho_store.proofs.OthersLemmas.{another_or_none}
 
 -- ---- the spans of a batch's lines
 
--- none is empty
+-- no span is empty
 full_lines : (lines : List Hours) → AllByRecursion IsEntryLine lines → AreFull (batch_of lines)
 full_lines [] h = tt
 full_lines (l ∷ ls) h = (h.0.full, full_lines ls h.1)
@@ -60,7 +60,7 @@ none_empty_from place (l ∷ ls) h =
 pub none_empty_line : (lines : List Hours) → IsBatch lines → first_empty (entered_spans (batch_of lines)) ≡ None
 none_empty_line lines h = none_empty_from 0 lines (recursion_from_All IsEntryLine lines h.each)
 
--- no minute is before the start of the first
+-- no minute is before the start of the first line
 first_line : (l : Hours) (ls : List Hours) (m : ℕ) (k : Mark) → AllByRecursion IsEntryLine (l ∷ ls) → AreInOrder (l ∷ ls)
     → Gives (entered_spans (batch_of (l ∷ ls))) m k → l.start ≤ m
 first_line l ls m k h o (inl c) = c.0.0
@@ -71,7 +71,7 @@ first_line l (next ∷ ls) m k h o (inr g) =
     let apart = o.0 in
     omega (arith, more, full, apart)
 
--- and all are before the past of the last
+-- all minutes are before the past of the last line
 last_line : (lines : List Hours) (i m : ℕ) (k : Mark) (none : Hours) → AllByRecursion IsEntryLine lines → AreInOrder lines
     → length lines ≡ i + 1 → Gives (entered_spans (batch_of lines)) m k → m < (slice_index_or lines i none).past
 last_line [] i m k none h o e g = absurd g
@@ -89,7 +89,7 @@ last_line (l ∷ next ∷ ls) (suc i) m k none h o e (inl c) =
     omega (arith, more, apart, before)
 last_line (l ∷ next ∷ ls) (suc i) m k none h o e (inr g) = last_line (next ∷ ls) i m k none h.1 o.1 (omega (arith, e)) g
 
--- so the range from the first start to the last past has them all
+-- so the range from the first start to the last past contains all minutes
 pub lines_in_range : (lines : List Hours) (first last : Hours) → IsBatch lines → slice_get lines 0 ≡ Some first
     → slice_get lines (length lines - 1) ≡ Some last → AreInRange first.start last.past (entered_spans (batch_of lines))
 lines_in_range lines first last h from to m k g =
@@ -108,7 +108,7 @@ lines_in_range lines first last h from to m k g =
 
 -- ---- the rows of a batch
 
--- the stored row of what a line gives is, with its author and its note, that of its entry
+-- the stored row of what a line gives is that of the line's entry, with its author and its note
 pub line_entered : (n i : ℕ) (line : Hours) (row : StoredSpan) → row_of n row ≡ span_row n (entry_span (entry_of line))
     → entered_row n i row line.author line.note ≡ entry_row n i (entry_of line)
 line_entered n i line row is =
@@ -125,7 +125,7 @@ line_entered n i line row is =
     let same : activity_number line.activity + 0 ≡ activity_number line.activity = omega arith in
     ap entered is ∙ ap (λ (k : ℕ). record (entry_row n i (entry_of line)) { mark = k }) same
 
--- an element within a list is there whatever stands for one outside it
+-- an element within a list doesn't depend on the default for elements outside it
 pub any_default : {X : Type 0} (xs : List X) (i : ℕ) (d e : X) → i < length xs → get_or xs i d ≡ get_or xs i e
 any_default [] i d e within = absurd (omega (arith, within))
 any_default (x ∷ xs) zero d e within = refl
@@ -133,7 +133,7 @@ any_default (x ∷ xs) (suc i) d e within = any_default xs i d e (omega (arith, 
 
 -- ---- numbers
 
--- where numbers are given out there are enough, and the first is the next one
+-- if numbers are given out, there are enough, and the first is the next one
 pub numbers_left : (given count first : ℕ) → next_number given count ≡ Some first → (given + count ≤ most) × (first ≡ 1 + given)
 numbers_left given count first is = go (nat_le (given + count) 1000000) refl is where
   go : (b : Bool) → nat_le (given + count) 1000000 ≡ b → cond b (Some (given + 1)) None ≡ Some first
@@ -141,7 +141,7 @@ numbers_left given count first is = go (nat_le (given + count) 1000000) refl is 
   go true room e = (grind (arith, nat_tests), (let both : given + 1 ≡ first = (let same = e in cc) in omega (arith, both)))
   go false full e = absurd (let same = e in cc)
 
--- and where none are there are too few
+-- if none are given out, there are too few
 pub no_numbers : (given count : ℕ) → next_number given count ≡ None → most < given + count
 no_numbers given count is = go (nat_le (given + count) 1000000) refl is where
   go : (b : Bool) → nat_le (given + count) 1000000 ≡ b → cond b (Some (given + 1)) None ≡ None → most < given + count
@@ -153,7 +153,7 @@ no_numbers given count is = go (nat_le (given + count) 1000000) refl is where
 module _ (db : Trees) (s : State) (n : ℕ) (d : Driver) (a b : ℕ) (lines : List Hours) (is : driver_of n s ≡ Some d)
     (batch : IsBatch lines) (within : AreInRange a b (entered_spans (batch_of lines))) (t : Tables) (stand : HasTables db t)
     (of : TablesStandFor t s) (line : List Span) (held_near : IsCanonicalOf (Gives (near a b (spans_of n t.held))) line) where
-  -- it goes in
+  -- it is entered
   are_numbered : (gains : List Span) → AreGains line (entered_spans (batch_of lines)) gains → AreNumbered db s n d (batch_of lines) gains
   are_numbered gains gained =
       let held = held_kept t s n d of is in
@@ -167,14 +167,14 @@ module _ (db : Trees) (s : State) (n : ℕ) (d : Driver) (a b : ℕ) (lines : Li
             (another_or_none n d s (batch_of lines) line gains is gained);
       }
 
-  -- or it is refused
+  -- it is refused
   is_refused : (fault : StoreFault) → (fault ≡ Memory) ⊎ IsContradicted line (entered_spans (batch_of lines)) fault
       → Refuses fault (enter_own (batch_of lines) d)
   is_refused fault (inl e) = subst (λ (f : StoreFault). Refuses f (enter_own (batch_of lines) d)) (sym e) tt
   is_refused fault (inr c) = subst (λ (f : StoreFault). Refuses f (enter_own (batch_of lines) d)) (sym c.1)
       (contradicted_batch d (batch_of lines) (spans_of n t.held) line a b c.0 (held_kept t s n d of is) within held_near c.2)
 
-  -- by what its gains are
+  -- its gains decide which of these
   by_gains : {V : Type 0} (items : V → List Span) (r : Result V StoreFault)
       → MatchResult r (λ gains. AreGains line (entered_spans (batch_of lines)) (items gains))
       (λ fault. (fault ≡ Memory) ⊎ IsContradicted line (entered_spans (batch_of lines)) fault)
@@ -182,7 +182,7 @@ module _ (db : Trees) (s : State) (n : ℕ) (d : Driver) (a b : ℕ) (lines : Li
   by_gains items (Ok gains) h = are_numbered (items gains) h
   by_gains items (Err fault) h = is_refused fault h
 
--- by the rows that were read near it
+-- the gains come from the rows that were read near the batch
 pub gained : (db : Trees) (s : State) (n : ℕ) (d : Driver) (a b : ℕ) (lines : List Hours) (spans : List Span)
     (helds : List StoredSpan) (line : List Span) {V : Type 0} (items : V → List Span) (r : Result V StoreFault) → StandsFor db s
     → driver_of n s ≡ Some d → IsBatch lines → spans ≡ entered_spans (batch_of lines)
@@ -196,7 +196,7 @@ gained db s n d a b lines spans helds line items r (t, stand, of) is batch same 
     (subst (λ (x : List Span). MatchResult r (λ gains. AreGains line x (items gains)) (λ fault. (fault ≡ Memory) ⊎ IsContradicted line x fault))
     same h)
 
--- what is new of it stays so while nothing changes
+-- what is new of the batch stays new while nothing changes
 pub still_numbered : (old now : Sqlite) (s : State) (n : ℕ) (d : Driver) (batch : List Entry) (gains : List Span) → IsUnchanged old now
     → AreNumbered old.now.trees s n d batch gains → AreNumbered now.now.trees s n d batch gains
 still_numbered old now s n d batch gains same = subst (λ (w : Database). AreNumbered w.trees s n d batch gains) (sym same.0.now_is)
@@ -209,21 +209,21 @@ module _ (db : Trees) (s : State) (n : ℕ) (d : Driver) (lines : List Hours) (g
   counted : length (batch_of lines) ≡ length lines
   counted = length-map lines entry_of
 
-  -- S14
+  -- too few numbers: S14
   pub too_many : most < given + length lines → (settled s (enter_own (batch_of lines) d)).answer ≡ Err Full
   too_many over = ap (λ r. (settled s r).answer) (new.full (let a = is in let b = counted in omega (arith, a, b, over)))
 
-  -- the batch's own step
+  -- the step of the driver alone
   own : given + length lines ≤ most → enter_own (batch_of lines) d ≡ Ok (1 + length d.entries, with_batch (batch_of lines) d)
   own room = new.numbered (let a = is in let b = counted in omega (arith, a, b, room))
 
-  -- it is numbered on
+  -- the answer is the next number
   pub batch_answer : (first : ℕ) → given + length lines ≤ most → first ≡ 1 + given
       → (settled s (enter_own (batch_of lines) d)).answer ≡ Ok first
   batch_answer first room next = ap (λ r. (settled s r).answer) (own room)
       ∙ ap Ok (let a = is in (let same : 1 + length d.entries ≡ first = omega (arith, a, next) in same))
 
-  -- and what its writes leave follows
+  -- the tables after its writes represent the state after the batch
   pub batch_written : (first count : ℕ) (helds : List StoredSpan) (next : Trees) → given + length lines ≤ most → first ≡ 1 + given
       → count ≡ given + length lines → map (row_of n) helds ≡ map (span_row n) gains
       → ((t : Tables) → HasTables db t → HasTables next (batched n count (entry_rows n first (batch_of lines)) (map (row_of n) helds) t))
@@ -240,16 +240,16 @@ module _ (db : Trees) (s : State) (n : ℕ) (d : Driver) (lines : List Hours) (g
 
 -- ---- the driver's step
 
--- S4
+-- an unknown driver: S4
 pub nobody_enters : (n : ℕ) (s : State) (batch : List Entry) → driver_of n s ≡ None → (entered n batch s).answer ≡ Err UnknownDriver
 nobody_enters n s batch none = rw none refl
 
--- the step is the driver's
+-- the step is that of the driver
 pub enters : (n : ℕ) (s : State) (batch : List Entry) (d : Driver) → driver_of n s ≡ Some d
     → entered n batch s ≡ settled s (enter_own batch d)
 enters n s batch d some = rw some refl
 
--- a fault that is handed on answers the batch
+-- a fault that is passed on is the batch's answer
 pub handed_refusal : {A : Type 0} (view : A → ℕ) (n : ℕ) (s : State) (batch : List Entry) (d : Driver) (fault : StoreFault)
     (r : Result A StoreFault) → driver_of n s ≡ Some d → Refuses fault (enter_own batch d)
     → IsErr r × IsErrAnd r (λ found. found ≡ fault) → Answers view r (entered n batch s).answer

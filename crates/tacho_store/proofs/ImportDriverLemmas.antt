@@ -1,4 +1,4 @@
--- Whom an import is for, by what look-ups find.
+-- The driver for whom an import is, by what look-ups find.
 use Rattle.std.proofs.Common.{◌≡◌, ◌∙◌, ℕ, List, length, Bool, true, false, cond, not, Option, Some, None, Result, Ok, Err, refl, sym, ap, subst}
 use Rattle.std.specs.Prelude.{MatchOption, bytes_eq, IsErr, IsErrAnd}
 use Rattle.tacho_state.specs.declared.fault.StoreFault.{StoreFault}
@@ -12,29 +12,29 @@ use Rattle.tacho_reading.proofs.LookUpLemmas.{IsNumberOf, unknown_refuses}
 use Rattle.tacho_store.specs.Importing.{known, with_card, importer, IsImporterOf, IsImporter}
 use Rattle.tacho_store.specs.declared.import.Importer.{Importer}
 
--- what isn't other is the same
+-- if it isn't different, it is the same
 pub not_other : (b other : Bool) → other ≡ not b → other ≡ false → b ≡ true
 not_other true other is no_other = refl
 not_other false other is no_other = (let both = sym is ∙ no_other in cc)
 
--- and what is other isn't the same
+-- if it is different, it isn't the same
 pub is_other : (b other : Bool) → other ≡ not b → other ≡ true → b ≡ false
 is_other true other is said = (let both = sym is ∙ said in cc)
 is_other false other is said = refl
 
 -- ---- by number
 
--- nobody has it: S4
+-- nobody has the number: S4
 pub unknown_number : (n : ℕ) (holder : List ℕ) (s : State) → driver_of n s ≡ None → with_card holder (driver_of n s) ≡ Err UnknownDriver
 unknown_number n holder s none = ap (with_card holder) none
 
--- his card is another one: S5
+-- the driver has another card: S5
 pub other_card : (n : ℕ) (holder : List ℕ) (s : State) (it : StoredDriver) (d : Driver) → driver_of n s ≡ Some d → IsStored it d
     → bytes_eq it.holder.items holder ≡ false → with_card holder (driver_of n s) ≡ Err NotYourCard
 other_card n holder s it d is stored other = ap (with_card holder) is
     ∙ ap (λ b. cond b (Ok d) (Err NotYourCard)) (ap (λ x. bytes_eq x holder) (sym stored.holder) ∙ other)
 
--- it is he
+-- the driver has this card
 pub own_card : (n : ℕ) (holder : List ℕ) (s : State) (it : StoredDriver) (d : Driver) → driver_of n s ≡ Some d → IsStored it d
     → bytes_eq it.holder.items holder ≡ true
     → IsImporter s (Ok (record { number = n; downloads = it.downloads })) (with_card holder (driver_of n s))
@@ -48,21 +48,21 @@ own_card n holder s it d is stored own = (
 
 -- ---- by holder
 
--- nobody's card has it: S4
+-- nobody's card has the holder: S4
 pub unknown_holder : {X : Type 0} (holder : List ℕ) (s : State) (found : Option X) (is : X → Driver → Type 0) → found ≡ None
     → MatchOption found (holding holder s ≡ None) (λ n. (d : Driver) × (holding holder s ≡ Some d) × is n d)
     → known (holding holder s) ≡ Err UnknownDriver
 unknown_holder holder s found is none h = ap known
     (subst (λ o. MatchOption o (holding holder s ≡ None) (λ n. (d : Driver) × (holding holder s ≡ Some d) × is n d)) none h)
 
--- the driver whose number was found
+-- a number was found: a driver's card has the holder
 pub number_known : (holder : List ℕ) (s : State) (n : ℕ) (number : Option ℕ) → number ≡ Some n
     → MatchOption number (holding holder s ≡ None) (λ m. (d : Driver) × (holding holder s ≡ Some d) × IsNumberOf s m d)
     → (d : Driver) × (holding holder s ≡ Some d) × IsNumberOf s n d
 number_known holder s n number some = subst
     (λ o. MatchOption o (holding holder s ≡ None) (λ m. (d : Driver) × (holding holder s ≡ Some d) × IsNumberOf s m d)) some
 
--- he is there
+-- that driver exists
 pub holder_known : (holder : List ℕ) (s : State) (n : ℕ) (it : StoredDriver) (d e : Driver) → holding holder s ≡ Some d → IsNumberOf s n d
     → driver_of n s ≡ Some e → IsStored it e
     → IsImporter s (Ok (record { number = n; downloads = it.downloads })) (known (holding holder s))
@@ -71,22 +71,22 @@ holder_known holder s n it d e is number found stored =
     let same : e ≡ d = (let both = sym found ∙ number.found in cc) in
     (d, ap known is, record { found = number.found; downloads = stored.downloads ∙ ap (λ (x : Driver). length x.downloads) same })
 
--- and so the look-up by his number isn't refused by S4
+-- so the look-up by that number isn't refused with S4
 pub holder_refuses : (holder : List ℕ) (s : State) (n : ℕ) (d : Driver) (fault : StoreFault) (told : Result Driver StoreFault)
     → IsNumberOf s n d → IsDriver s n (Err fault) → Refuses fault told
 holder_refuses holder s n d fault told number = unknown_refuses n s fault told (λ none. absurd (let both = sym number.found ∙ none in cc))
 
--- a fault that is handed on refuses the importer
+-- a fault that is passed on is the importer's fault
 pub handed_importer : (s : State) (fault : StoreFault) (r : Result Importer StoreFault) (told : Result Driver StoreFault)
     → Refuses fault told → IsErr r × IsErrAnd r (λ found. found ≡ fault) → IsImporter s r told
 unfolding IsImporter
 handed_importer s fault (Ok x) told h e = let wrong = e.0 in cc
 handed_importer s fault (Err found) told h e = subst (λ f. Refuses f told) (sym e.1) h
 
--- ---- the import of him
+-- ---- the driver's import
 
 module _ (part : ℕ) (file : List ℕ) (content : Content) (s : State) where
-  -- it is his command
+  -- the import is the driver's step
   pub imports_his : (caller : Option ℕ) (d : Driver) → importer caller content.holder s ≡ Ok d
       → imported caller part file (Ok content) s ≡ settled s (import_own part file content.spans d)
   imports_his None d is = go (holding content.holder s) is where
@@ -104,7 +104,7 @@ module _ (part : ℕ) (file : List ℕ) (content : Content) (s : State) where
       own true e = let same : x ≡ d = (let both = e in cc) in ap (λ y. settled s (import_own part file content.spans y)) same
       own false e = absurd (let both = e in cc)
 
-  -- where he isn't found, it is refused so
+  -- if the driver isn't found, the import is refused with the same fault
   pub refuses : (caller : Option ℕ) (f : StoreFault) → importer caller content.holder s ≡ Err f
       → imported caller part file (Ok content) s ≡ refused f s
   refuses None f is = go (holding content.holder s) is where
@@ -120,7 +120,7 @@ module _ (part : ℕ) (file : List ℕ) (content : Content) (s : State) where
       own true e = absurd (let both = e in cc)
       own false e = let same : NotYourCard ≡ f = (let both = e in cc) in ap (λ g. refused g s) same
 
-  -- so it is refused as the look-up was
+  -- so the import is refused as the look-up was
   pub not_importer : (caller : Option ℕ) (fault : StoreFault) → IsImporter s (Err fault) (importer caller content.holder s)
       → Refuses fault (imported caller part file (Ok content) s).answer
   unfolding IsImporter
@@ -130,7 +130,7 @@ module _ (part : ℕ) (file : List ℕ) (content : Content) (s : State) where
     go Store h = tt
     go f h = ap (λ (turn : Turn Imported). turn.answer) (refuses caller f h)
 
--- the importer who was found
+-- the driver who was found
 pub the_importer : (s : State) (it : Importer) (told : Result Driver StoreFault) → IsImporter s (Ok it) told
     → (d : Driver) × (told ≡ Ok d) × IsImporterOf s d it
 unfolding IsImporter

@@ -1,4 +1,4 @@
--- Tables after an import stand for the state after it.
+-- The tables after an import represent the state after it.
 use Rattle.std.proofs.Common.{◌≡◌, ◌≢◌, ℕ, ◌+◌, ◌==◌, true, cond, List, [], ◌∷◌, ◌++◌, Some, Ok, length, map, refl, sym, ap, ◌∙◌, subst}
 use Rattle.tacho_time.specs.declared.span.Span.{Span}
 use Rattle.tacho_time.specs.Spans.{Gives, IsCanonicalOf}
@@ -17,7 +17,7 @@ use Rattle.tacho_reading.proofs.DownloadLemmas.{download_row, rows_append, own_a
 use Rattle.tacho_reading.proofs.StateLemmas.{SameOfDriver, found_number, found_of, put_is, rows_put}
 use Rattle.tacho_store.specs.After.{with_imported}
 
--- the spans of one more download are read from its file
+-- if the spans of downloads are those of their files, they still are with one more download
 read_more : (ds : List Download) (part : Part) (file : List ℕ) (content : Content) → AreRead ds → FileTells part file (Ok content)
     → AreRead (ds ++ record { part = part_number part; file = file; spans = content.spans } ∷ [])
 read_more [] part file content h tells = ((part, content.holder, refl, tells), tt)
@@ -30,7 +30,7 @@ pub record AreGained (t : Tables) (n a b : ℕ) (spans card_line line card_gains
   pub held_near : IsCanonicalOf (Gives (near a b (spans_of n t.held))) line
   pub held_gained : AreGains line spans gains
 
--- the tables stand for the driver with the download
+-- the tables represent the driver with the download
 imported_own : (t : Tables) (d : Driver) (part : Part) (file : List ℕ) (content : Content) (card_line line card_gains gains : List Span)
     (a b : ℕ) → RowsStandFor t d → FileTells part file (Ok content) → AreInRange a b content.spans
     → AreGained t d.number a b content.spans card_line line card_gains gains
@@ -60,7 +60,7 @@ imported_own t d part file content card_line line card_gains gains a b h tells r
           (part_number part) file a b
           h.card_spans h.held r g.card_near g.held_near g.card_gained g.held_gained
 
--- and no row of another driver is another one
+-- no row of another driver changes
 imported_other : (t : Tables) (n number part : ℕ) (file : List ℕ) (card_gains gains : List Span) (j : ℕ) → j ≢ n
     → SameOfDriver j t (with_imported n number part file card_gains gains t)
 imported_other t n number part file card_gains gains j d = record {
@@ -74,11 +74,11 @@ imported_other t n number part file card_gains gains j d = record {
 counted_own : (n count : ℕ) (r : DriverRow) → r.driver ≡ n → with_downloads n count r ≡ record r { downloads = count }
 counted_own n count r e = ap (λ b. cond b (record r { downloads = count }) r) (subst (λ (k : ℕ). (k == n) ≡ true) (sym e) (eq_self n))
 
--- and no other row does
+-- no other row changes
 counted_other : (n count : ℕ) (r : DriverRow) → r.driver ≢ n → with_downloads n count r ≡ r
 counted_other n count r d = ap (λ b. cond b (record r { downloads = count }) r) (eq_not r.driver n d)
 
--- the tables stand for the state after an import by the driver's own number
+-- the tables represent the state after an import, by the driver's own number
 imported_at : (t : Tables) (s : State) (d : Driver) (part : Part) (file : List ℕ) (content : Content)
     (card_line line card_gains gains : List Span) (a b : ℕ) → TablesStandFor t s → driver_of d.number s ≡ Some d
     → FileTells part file (Ok content) → AreInRange a b content.spans → AreGained t d.number a b content.spans card_line line card_gains gains
@@ -102,7 +102,7 @@ imported_at t s d part file content card_line line card_gains gains a b h k tell
       held = added_marks n t.held gains h.marked.held;
     })
 
--- the tables after an import stand for the state after it
+-- the tables after an import represent the state after it
 pub imported_is : (t : Tables) (s : State) (n : ℕ) (d : Driver) (part : Part) (file : List ℕ) (content : Content)
     (card_line line card_gains gains : List Span) (a b : ℕ) → TablesStandFor t s → driver_of n s ≡ Some d
     → FileTells part file (Ok content) → AreInRange a b content.spans

@@ -1,4 +1,4 @@
--- What joins a command's writes: one step after another, and rows that stand in front where the tables have them behind.
+-- Lemmas that join a command's writes: steps in sequence, and rows added at the front of a table instead of the end.
 use Rattle.std.proofs.Common.{◌≡◌, ◌≢◌, ◌∙◌, ◌⊎◌, inl, inr, ℕ, List, [], ◌∷◌, ◌++◌, map, filter, not, refl, sym, ap}
 use Rattle.std.proofs.lemmas.List.{append-nil}
 use Rattle.std.proofs.lemmas.List.Sorted.{IsPermutation-refl, IsPermutation-sym, IsPermutation-append_comm, IsPermutation-to_front}
@@ -23,7 +23,7 @@ turns_then a b c f g first second = record { schema = second.schema; stands = λ
 
 -- ---- order
 
--- other tables have the same rows as these, and these as the others
+-- having the same rows is symmetric
 pub same_back : (t u : Tables) → SameRows t u → SameRows u t
 same_back t u same = record {
   drivers = IsPermutation-sym t.drivers u.drivers same.drivers;
@@ -33,7 +33,7 @@ same_back t u same = record {
   held = IsPermutation-sym t.held u.held same.held;
 }
 
--- what stands for tables follows where other tables with the same rows stand for the state after
+-- stored tables follow if tables with the same rows represent the state after the step
 same_follow : (db next : Trees) (t u v : Tables) (s after : State) → HasTables db t → TablesStandFor t s → SameRows u v → HasTables next v → TablesStandFor u after
     → ((j : ℕ) → driver_of j after ≡ driver_of j s → HaveSameSpansOf j t u) → Follows db next s after
 same_follow db next t u v s after stand of same stands is =
@@ -41,7 +41,7 @@ same_follow db next t u v s after stand of same stands is =
 
 -- ---- a registration
 
--- a driver's row in front or behind
+-- a driver's row at the front or at the end
 pub same_driver : (row : DriverRow) (t : Tables) → SameRows (with_driver row t) (record t { drivers = row ∷ t.drivers })
 same_driver row t = record {
   drivers = IsPermutation-to_front t.drivers row;
@@ -51,7 +51,7 @@ same_driver row t = record {
   held = IsPermutation-refl t.held;
 }
 
--- what was written of a registration follows
+-- the tables after a registration's writes represent the state after it
 pub driver_follows : (db next : Trees) (row : DriverRow) (t : Tables) (s after : State) → HasTables db t → TablesStandFor t s
     → HasTables next (record t { drivers = row ∷ t.drivers }) → TablesStandFor (with_driver row t) after → Follows db next s after
 driver_follows db next row t s after stand of stands is =
@@ -60,7 +60,7 @@ driver_follows db next row t s after stand of stands is =
 
 -- ---- an import
 
--- the rows of an import in front or behind
+-- the rows of an import at the front or at the end
 pub same_kept : (n number part : ℕ) (file : List ℕ) (card_gains gains : List Span) (t : Tables)
     → SameRows (with_imported n number part file card_gains gains t) (written n number part file (map (span_row n) card_gains) (map (span_row n) gains) t)
 same_kept n number part file card_gains gains t = record {
@@ -71,7 +71,7 @@ same_kept n number part file card_gains gains t = record {
   held = IsPermutation-append_comm t.held (map (span_row n) gains);
 }
 
--- what was written of an import follows
+-- the tables after an import's writes represent the state after it
 pub import_follows : (db next : Trees) (n number part : ℕ) (file : List ℕ) (card_gains gains : List Span) (t : Tables) (s after : State)
     → HasTables db t → TablesStandFor t s → HasTables next (written n number part file (map (span_row n) card_gains) (map (span_row n) gains) t)
     → TablesStandFor (with_imported n number part file card_gains gains t) after
@@ -87,7 +87,7 @@ import_follows db next n number part file card_gains gains t s after stand of st
 
 -- ---- a batch
 
--- the rows of a batch in front or behind
+-- the rows of a batch at the front or at the end
 same_batched : (n first count : ℕ) (batch : List Entry) (gains : List Span) (t : Tables)
     → SameRows (with_entered n first count batch gains t) (batched n count (entry_rows n first batch) (map (span_row n) gains) t)
 same_batched n first count batch gains t = record {
@@ -98,14 +98,14 @@ same_batched n first count batch gains t = record {
   held = IsPermutation-append_comm t.held (map (span_row n) gains);
 }
 
--- rows that it gives are the driver's, or it gives none
+-- a driver's rows stay as they are if the batch gives no rows, or is another driver's
 batch_kept : (j n : ℕ) (rows : List SpanRow) (gains : List Span) → (gains ≡ []) ⊎ (j ≢ n)
     → filter (is_of j) rows ≡ filter (is_of j) (rows ++ map (span_row n) gains)
 batch_kept j n rows gains (inl none) = ap (λ (x : List SpanRow). filter (is_of j) x)
     (sym (append-nil rows) ∙ ap (λ (x : List Span). rows ++ map (span_row n) x) (sym none))
 batch_kept j n rows gains (inr other) = added_kept j n rows gains other
 
--- what was written of a batch follows
+-- the tables after a batch's writes represent the state after it
 pub batch_follows : (db next : Trees) (n first count : ℕ) (batch : List Entry) (gains : List Span) (t : Tables) (s after : State)
     → HasTables db t → TablesStandFor t s → HasTables next (batched n count (entry_rows n first batch) (map (span_row n) gains) t)
     → TablesStandFor (with_entered n first count batch gains t) after
@@ -118,14 +118,14 @@ batch_follows db next n first count batch gains t s after stand of stands is oth
 
 -- ---- a withdrawal
 
--- the tables of a withdrawal's writes, by the rows that they put in front
+-- the tables after a withdrawal's writes, with new rows at the front
 abbrev pub renewed : ℕ → ℕ → ℕ → ℕ → List SpanRow → Tables → Tables
 renewed n number start past rows t = record t {
   entries = map (with_withdrawn n number) t.entries;
   held = rows ++ filter (λ r. not (is_near n start past r)) t.held;
 }
 
--- the rows of a withdrawal in front or behind
+-- the rows of a withdrawal at the front or at the end
 pub same_renewed : (n number start past : ℕ) (spans : List Span) (t : Tables)
     → SameRows (with_renewed n number start past spans t) (renewed n number start past (map (span_row n) spans) t)
 same_renewed n number start past spans t = record {
@@ -136,7 +136,7 @@ same_renewed n number start past spans t = record {
   held = IsPermutation-append_comm (filter (λ r. not (is_near n start past r)) t.held) (map (span_row n) spans);
 }
 
--- what was written of a withdrawal follows
+-- the tables after a withdrawal's writes represent the state after it
 pub renewed_follows : (db next : Trees) (n number start past : ℕ) (spans : List Span) (t : Tables) (s after : State)
     → HasTables db t → TablesStandFor t s → HasTables next (renewed n number start past (map (span_row n) spans) t)
     → TablesStandFor (with_renewed n number start past spans t) after

@@ -21,7 +21,7 @@ none_empty place (s ∷ spans) h =
     let full : nat_le past start ≡ false = grind (arith, nat_tests) in
     ap (λ b. cond b (Some place) (empty_from (place + 1) spans)) full ∙ none_empty (place + 1) spans h.2
 
--- so spans that aren't empty have no gains for want of memory, or because they contradict the line
+-- so if spans that aren't empty have no gains, memory ran out, or they contradict the line
 pub fault_is : (line spans : List Span) (fault : LineFault) (found : StoreFault) → first_empty spans ≡ None
     → ((m : ℕ) → fault ≡ line_fault.Contradiction m → found ≡ Contradiction m) → (fault ≡ line_fault.Memory → found ≡ Memory)
     → IsGainFault line spans fault
@@ -36,7 +36,7 @@ refused : (card_line line spans : List Span) (fault : StoreFault) → IsNew card
 refused card_line line spans fault new (inl e) = inl e
 refused card_line line spans fault new (inr c) = inr (inr (c.0, c.1, new, c.2))
 
--- and so is a result that hands their fault on
+-- a result that passes on their fault is refused as well
 pub handed_on : {V : Type 0} (P : V → Type 0) (card_line line spans : List Span) (fault : StoreFault) (result : Result V StoreFault)
     → IsNew card_line spans → (fault ≡ Memory) ⊎ IsContradicted line spans fault
     → IsErr result × IsErrAnd result (λ found. found ≡ fault) → MatchResult result P (IsRefused card_line line spans)
@@ -44,19 +44,19 @@ handed_on P card_line line spans fault (Ok v) new h e = let wrong = e.0 in cc
 handed_on P card_line line spans fault (Err f) new h e = subst (IsRefused card_line line spans) (sym e.1)
     (refused card_line line spans fault new h)
 
--- spans that are not none have a first one
+-- a list of spans whose count isn't zero has a first span
 pub some_first : (spans : List Span) (count : ℕ) → count ≡ length spans → (count == 0) ≡ false
     → (first : Span) × (others : List Span) × (spans ≡ first ∷ others)
 some_first [] count e h = let zero_count : (count == 0) ≡ true = grind (arith, nat_tests) in cc
 some_first (s ∷ ss) count e h = (s, ss, refl)
 
--- new spans, with what they add
+-- what new spans add
 pub are_news : (card_line line spans card_gains gains : List Span) → (first : Span) × (others : List Span) × (card_gains ≡ first ∷ others)
     → AreGains card_line spans card_gains → AreGains line spans gains
     → AreNews card_line line spans card_gains gains
 are_news card_line line spans card_gains gains some card held = (some.0, some.1, some.2, card, held)
 
--- they are new
+-- these spans are new
 pub is_new : (card_line spans card_gains : List Span) → (first : Span) × (others : List Span) × (card_gains ≡ first ∷ others)
     → AreGains card_line spans card_gains → IsNew card_line spans
 is_new card_line spans card_gains some card = inl (some.0, some.1, subst (AreGains card_line spans) some.2 card)

@@ -1,4 +1,4 @@
--- Stored tables tell the schema of the connection that has found them.
+-- Stored tables determine the schema of the connection that found them.
 use Rattle.std.proofs.Common.{◌≡◌, ◌⊎◌, ℕ, refl, subst, inl, inr, IsTrue}
 use Rattle.sqlite.specs.Effect.{Database, IsDatabase}
 use Rattle.sqlite.specs.Schema.{Schema}
@@ -13,12 +13,12 @@ use Rattle.tacho_reading.specs.Standing.{StandsFor}
 use Rattle.tacho_store.specs.Old.{OldState, StoodFor}
 use Rattle.tacho_store.specs.Opening.{AreVersioned, IsFoundOld, IsOld, IsFoundAlone, IsLeftAlone}
 
--- tables that stand for a state of schema 2 are of schema 2
+-- tables that represent a state of schema 2 are of schema 2
 pub versioned_by : (db : Trees) (s : State) → StandsFor db s → AreVersioned db
 unfolding StandsFor
 versioned_by db s it = (archive_schema it.1.layout, inr (it.1.layout, refl), it.1.sound)
 
--- and those that stand for a state of schema 1 are of schema 1
+-- tables that represent a state of schema 1 are of schema 1
 pub once_versioned_by : (db : Trees) (s : OldState) → StoodFor db s → AreVersioned db
 unfolding StoodFor
 once_versioned_by db s it = (old_schema, inl refl, it.1.sound)
@@ -29,13 +29,13 @@ versioned d is it =
     subst (λ (schema : Schema). (schema ≡ old_schema) ⊎ ((layout : Layout) × (schema ≡ archive_schema layout)))
     (lists_once _ it.0 d.schema it.2.lists is.lists) it.1
 
--- where the version can only be 2, they stand for no state of schema 1
+-- if the version can only be 2, the tables represent no state of schema 1
 pub not_of_one : (old : Sqlite) → (AreVersioned old.now.trees → (version : ℕ) → IsVersion version old.now.trees → version ≡ 2)
     → (s : OldState) → ¬ StoodFor old.now.trees s
 unfolding StoodFor
 not_of_one old it s stood = absurd (let two = it (once_versioned_by old.now.trees s stood) 1 stood.1.meta in cc)
 
--- what a connection that was open found of version 1 by its own schema is so of the stored tables
+-- if an open connection found version 1 by its own schema, the stored tables have version 1
 pub old_by : (old : Sqlite) → IsLive old → IsTrue old.is_open → IsFoundOld old → IsOld old
 unfolding StandsFor
 old_by old live opened it =
@@ -49,7 +49,7 @@ old_by old live opened it =
       version = λ has. it.version (by has);
     }
 
--- and where it found nothing changed by its own schema, the stored tables are as they were
+-- if it found nothing changed by its own schema, the stored tables are as they were
 pub alone_by : (old new : Sqlite) → IsLive old → IsFoundAlone old new → IsLeftAlone old new
 alone_by old new live it =
     let same = λ (has : AreVersioned old.now.trees) (clean : HasCleanDisk new) (opened : IsTrue new.is_open).

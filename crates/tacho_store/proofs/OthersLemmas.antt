@@ -1,4 +1,4 @@
--- Of whom a step says nothing new the rows are kept.
+-- If a step changes nothing of a driver, it keeps that driver's rows.
 use Rattle.std.proofs.Common.{◌≡◌, ◌≢◌, ◌∙◌, ◌⊎◌, inl, inr, ℕ, ◌+◌, ◌==◌, ◌&&◌, nat_lt, Bool, true, false, cond, List, [], ◌∷◌, ◌++◌, map, filter, not, Option, Some, None, refl, sym, ap, subst, arith}
 use Rattle.std.proofs.lemmas.List.{append-nil}
 use Rattle.std.proofs.lemmas.List.Elements.{filter-append}
@@ -15,24 +15,24 @@ use Rattle.tacho_reading.proofs.DriverRowLemmas.{no_number_row}
 use Rattle.tacho_reading.proofs.EntryLemmas.{entry_all}
 use Rattle.tacho_store.proofs.RegistrationTablesLemmas.{number_not}
 
--- ---- rows that the state tells
+-- ---- rows of a state
 
--- a driver's own row
+-- the row of a driver
 abbrev driver_told : Option Driver → List DriverRow
 driver_told None = []
 driver_told (Some d) = driver_columns d ∷ []
 
--- those of his downloads
+-- the rows of the driver's downloads
 abbrev downloads_told : ℕ → Option Driver → List DownloadRow
 downloads_told n None = []
 downloads_told n (Some d) = download_rows n 1 d.downloads
 
--- and those of his entries
+-- the rows of the driver's entries
 abbrev entries_told : ℕ → Option Driver → List EntryRow
 entries_told n None = []
 entries_told n (Some d) = entry_rows n 1 d.entries
 
--- a state's row of the number is its driver's
+-- the rows with a driver's number, among those of a state, are that driver's row
 own_row : (n : ℕ) (s : State) → AreDistinct s → filter (has_number n) (map driver_columns s) ≡ driver_told (driver_of n s)
 own_row n [] h = refl
 own_row n (x ∷ s) h = go (x.number == n) refl (own_row n s h.3) where
@@ -43,11 +43,11 @@ own_row n (x ∷ s) h = go (x.number == n) refl (own_row n s h.3) where
       (subst (λ (k : ℕ). filter (has_number k) (map driver_columns s) ≡ []) (eq_true x.number n o) (no_number_row x.number s h.0))
   go false o more = more
 
--- a table's row of the number is the state's
+-- the rows with a driver's number, in the table, are those of the state
 drivers_are : (t : Tables) (s : State) (n : ℕ) → TablesStandFor t s → filter (has_number n) t.drivers ≡ driver_told (driver_of n s)
 drivers_are t s n of = ap (λ (rows : List DriverRow). filter (has_number n) rows) of.drivers ∙ own_row n s of.distinct
 
--- so are those of his downloads
+-- likewise for the driver's downloads
 downloads_are : (t : Tables) (s : State) (n : ℕ) → TablesStandFor t s → downloads_of n t.downloads ≡ downloads_told n (driver_of n s)
 downloads_are t s n of = go (driver_of n s) refl where
   go : (o : Option Driver) → driver_of n s ≡ o → downloads_of n t.downloads ≡ downloads_told n o
@@ -55,7 +55,7 @@ downloads_are t s n of = go (driver_of n s) refl where
   go (Some d) e = subst (λ (j : ℕ). downloads_of j t.downloads ≡ download_rows j 1 d.downloads) (found_number n s d e)
       (found_of t n s d e of.each).downloads
 
--- and those of his entries
+-- likewise for the driver's entries
 entries_are : (t : Tables) (s : State) (n : ℕ) → TablesStandFor t s → entries_of n t.entries ≡ entries_told n (driver_of n s)
 entries_are t s n of = go (driver_of n s) refl where
   go : (o : Option Driver) → driver_of n s ≡ o → entries_of n t.entries ≡ entries_told n o
@@ -64,12 +64,12 @@ entries_are t s n of = go (driver_of n s) refl where
 
 -- ---- what follows
 
--- of one driver both tables of spans have the same rows
+-- both have the same rows of spans of one driver
 pub record HaveSameSpansOf (n : ℕ) (t u : Tables) : Type 0 where
   pub card_spans : filter (is_of n) t.card_spans ≡ filter (is_of n) u.card_spans
   pub held : filter (is_of n) t.held ≡ filter (is_of n) u.held
 
--- of whom two states say the same, of him their tables have the same other rows
+-- if two states agree on a driver, their tables have the same rows of that driver, other than spans
 same_rows : (t u : Tables) (s after : State) (n : ℕ) → TablesStandFor t s → TablesStandFor u after → driver_of n after ≡ driver_of n s
     → HaveSameSpansOf n t u → HaveSameRowsOf n t u
 same_rows t u s after n of is same spans = record {
@@ -80,7 +80,7 @@ same_rows t u s after n of is same spans = record {
   held = spans.held;
 }
 
--- so tables follow that have the same rows of spans
+-- so tables with the same rows of spans follow
 pub followed : (db next : Trees) (t u : Tables) (s after : State) → HasTables db t → TablesStandFor t s → HasTables next u → TablesStandFor u after
     → ((n : ℕ) → driver_of n after ≡ driver_of n s → HaveSameSpansOf n t u) → Follows db next s after
 unfolding StandsFor KeepsRowsOf
@@ -89,26 +89,26 @@ followed db next t u s after stand of stand_next is spans = record {
   others = λ n same. (t, u, stand, stand_next, same_rows t u s after n of is same (spans n same));
 }
 
--- what hasn't changed has the same rows
+-- tables that haven't changed have the same rows
 pub kept_rows : (n : ℕ) (db : Trees) (s : State) → StandsFor db s → KeepsRowsOf n db db
 unfolding StandsFor KeepsRowsOf
 kept_rows n db s (t, stand, of) =
     (t, t, stand, stand, record { drivers = refl; downloads = refl; card_spans = refl; entries = refl; held = refl })
 
--- and follows
+-- unchanged tables follow
 pub unchanged_follows : (db : Trees) (s : State) → StandsFor db s → Follows db db s s
 unchanged_follows db s stands = record { stands = stands; others = λ n same. kept_rows n db s stands }
 
 -- ---- rows of another driver
 
--- he has none of the driver's rows
+-- another driver's number finds none of the driver's rows
 none_other : (j n : ℕ) (spans : List Span) → j ≢ n → filter (is_of j) (map (span_row n) spans) ≡ []
 none_other j n [] d = refl
 none_other j n (x ∷ spans) d =
     let more = filter (is_of j) (map (span_row n) spans) in
     ap (λ b. cond b (span_row n x ∷ more) more) (eq_not n j (λ e. d (sym e))) ∙ none_other j n spans d
 
--- so where the driver gets more, he has what he had
+-- so if the driver gets more rows, another driver's stay as they were
 pub added_kept : (j n : ℕ) (rows : List SpanRow) (spans : List Span) → j ≢ n
     → filter (is_of j) rows ≡ filter (is_of j) (rows ++ map (span_row n) spans)
 added_kept j n rows spans d = sym
@@ -116,7 +116,7 @@ added_kept j n rows spans d = sym
     ∙ ap (λ (x : List SpanRow). filter (is_of j) rows ++ x) (none_other j n spans d)
     ∙ append-nil (filter (is_of j) rows))
 
--- where no row goes that is his, his are left
+-- if no removed row is a driver's, all rows of that driver remain
 his_left : (p q : SpanRow → Bool) (rows : List SpanRow) → ((r : SpanRow) → p r ≡ false → q r ≡ false)
     → filter q rows ≡ filter q (filter p rows)
 his_left p q [] h = refl
@@ -126,21 +126,21 @@ his_left p q (r ∷ rows) h = go (p r) refl (his_left p q rows h) where
   go true e more = ap (λ (x : List SpanRow). cond (q r) (r ∷ x) x) more
   go false e more = ap (λ b. cond b (r ∷ filter q rows) (filter q rows)) (h r e) ∙ more
 
--- those that go near a range are the driver's
+-- the rows that are removed near a range are the driver's
 near_is_own : (n a b : ℕ) (r : SpanRow) → not (is_near n a b r) ≡ false → r.driver ≡ n
 near_is_own n a b r near = go (r.driver == n) refl near where
   go : (o : Bool) → (r.driver == n) ≡ o → not (o && (nat_lt r.start b && nat_lt a r.past)) ≡ false → r.driver ≡ n
   go true o near = eq_true r.driver n o
   go false o near = absurd (let wrong = near in cc)
 
--- so another driver's are left
+-- so another driver's rows remain
 far_kept : (j n a b : ℕ) (rows : List SpanRow) → j ≢ n
     → filter (is_of j) rows ≡ filter (is_of j) (filter (λ r. not (is_near n a b r)) rows)
 far_kept j n a b rows d =
     his_left (λ r. not (is_near n a b r)) (is_of j) rows
     (λ r near. eq_not r.driver j (λ e. d (sym e ∙ near_is_own n a b r near)))
 
--- and where some of the driver's go and others come
+-- likewise if some of the driver's rows are removed and others added
 pub renewed_kept : (j n a b : ℕ) (rows : List SpanRow) (spans : List Span) → j ≢ n
     → filter (is_of j) rows ≡ filter (is_of j) (filter (λ r. not (is_near n a b r)) rows ++ map (span_row n) spans)
 renewed_kept j n a b rows spans d =
@@ -148,7 +148,7 @@ renewed_kept j n a b rows spans d =
 
 -- ---- a driver who is changed
 
--- a driver is found where he was put in another's place, who had his number
+-- a driver who replaces one with the same number is found by that number
 put_found : (d old : Driver) (s : State) → driver_of d.number s ≡ Some old → driver_of d.number (put d s) ≡ Some d
 put_found d old [] e = cc
 put_found d old (x ∷ s) e = go (x.number == d.number) refl e (put_found d old s) where
@@ -158,7 +158,7 @@ put_found d old (x ∷ s) e = go (x.number == d.number) refl e (put_found d old 
   go true o e more = ap (λ b. cond b (Some d) (driver_of d.number s)) (eq_self d.number)
   go false o e more = ap (λ b. cond b (Some x) (driver_of d.number (put d s))) o ∙ more e
 
--- where one driver is changed, of whom nothing new is said is another one
+-- if a step changes one driver, a driver whom it leaves as they were is a different one
 pub is_another : (n : ℕ) (d next : Driver) (s : State) → driver_of n s ≡ Some d → next.number ≡ n → next ≢ d
     → (j : ℕ) → driver_of j (put next s) ≡ driver_of j s → j ≢ n
 is_another n d next s is number changed j same e =
@@ -168,21 +168,21 @@ is_another n d next s is number changed j same e =
     let both : Some next ≡ Some d = sym now ∙ still ∙ is in
     changed (cc)
 
--- a list with more elements behind it is another
+-- a list with more elements after it is a different list
 more_behind : {A : Type 0} (xs ys : List A) (y : A) → xs ++ y ∷ ys ≢ xs
 more_behind [] ys y e = cc
 more_behind (x ∷ xs) ys y e = let rest : xs ++ y ∷ ys ≡ xs = cc in more_behind xs ys y rest
 
--- so a driver with a download more is
+-- so a download changes its driver
 pub download_changes : (part : ℕ) (file : List ℕ) (spans : List Span) (d : Driver) → with_download part file spans d ≢ d
 download_changes part file spans d e =
     more_behind d.downloads [] (record { part = part; file = file; spans = spans }) (ap (λ (x : Driver). x.downloads) e)
 
--- and one with an entry more
+-- a batch that isn't empty changes its driver
 pub batch_changes : (first : Entry) (batch : List Entry) (d : Driver) → with_batch (first ∷ batch) d ≢ d
 batch_changes first batch d e = more_behind d.entries batch first (ap (λ (x : Driver). x.entries) e)
 
--- the entry that is withdrawn is found so
+-- a withdrawn entry is found as withdrawn
 marked_found : (i number : ℕ) (es : List Entry) (e : Entry) → entry_from i number es ≡ Some e
     → entry_from i number (marked_from i number es) ≡ Some (record e { withdrawn = true })
 marked_found i number [] e f = cc
@@ -198,7 +198,7 @@ marked_found i number (x ∷ es) e f = go (i == number) refl f (marked_found (i 
       ∙ ap (λ (y : Entry). Some (record y { withdrawn = true })) same
   go false o f more = ap (λ b. cond b (Some x) (entry_from (i + 1) number (marked_from (i + 1) number es))) o ∙ more f
 
--- and one of whose entries one is withdrawn
+-- a withdrawal changes its driver
 pub mark_changes : (number : ℕ) (d : Driver) (e : Entry) → entry_from 1 number d.entries ≡ Some e → e.withdrawn ≡ false
     → with_marked number d ≢ d
 mark_changes number d e some kept same =
@@ -211,14 +211,14 @@ mark_changes number d e some kept same =
 
 -- ---- a batch without lines
 
--- no spans have no gains
+-- a list without spans has no gains
 no_gains : (line gains : List Span) → AreGains line [] gains → gains ≡ []
 no_gains line [] h = refl
 no_gains line (x ∷ gains) h =
     let full = h.new.canonical.0 in
     absurd ((h.new.same x.start x.mark).0 (inl ((omega arith, full), refl))).0
 
--- a driver of whom a batch says nothing new is another one, or it has no lines and gives nothing
+-- if a batch leaves a driver as they were, it is a different driver's, or it has no lines and gives nothing
 pub another_or_none : (n : ℕ) (d : Driver) (s : State) (batch : List Entry) (line gains : List Span) → driver_of n s ≡ Some d
     → AreGains line (entered_spans batch) gains
     → (j : ℕ) → driver_of j (put (with_batch batch d) s) ≡ driver_of j s → (gains ≡ []) ⊎ (j ≢ n)

@@ -14,21 +14,21 @@ use Rattle.tacho_store.proofs.RegistrationTablesLemmas.{registered_is}
 use Rattle.tacho_store.proofs.JoinLemmas.{driver_follows}
 
 module _ (number : ℕ) (holder key : List ℕ) (base : ℕ) (name : List ℕ) (s : State) where
-  -- S1
+  -- the number is taken: S1
   pub number_taken : {X : Type 0} (found : Option X) (Q : X → Driver → Type 0) → is_some found ≡ true
       → MatchOption found (driver_of number s ≡ None) (λ it. (d : Driver) × (driver_of number s ≡ Some d) × Q it d)
       → (registered number holder key base name s).answer ≡ Err DriverTaken
   number_taken None Q is h = absurd (let e = is in cc)
   number_taken (Some x) Q is h = rw h.1 refl
 
-  -- S2
+  -- the key is taken: S2
   pub key_taken : {X : Type 0} (found : Option X) (Q : X → Driver → Type 0) → driver_of number s ≡ None → is_some found ≡ true
       → MatchOption found (keyed key s ≡ None) (λ it. (d : Driver) × (keyed key s ≡ Some d) × Q it d)
       → (registered number holder key base name s).answer ≡ Err KeyTaken
   key_taken None Q free is h = absurd (let e = is in cc)
   key_taken (Some x) Q free is h = rw (free, h.1) refl
 
-  -- S3
+  -- the holder is taken: S3
   pub holder_taken : {X : Type 0} (found : Option X) (Q : X → Driver → Type 0) → driver_of number s ≡ None → keyed key s ≡ None
       → is_some found ≡ true
       → MatchOption found (holding holder s ≡ None) (λ it. (d : Driver) × (holding holder s ≡ Some d) × Q it d)
@@ -37,7 +37,7 @@ module _ (number : ℕ) (holder key : List ℕ) (base : ℕ) (name : List ℕ) (
   holder_taken (Some x) Q free unknown is h = rw (free, unknown, h.1) refl
 
   module _ (free : AreFree s number key holder) where
-    -- S9
+    -- not a Monday: S9
     pub no_monday : is_monday base ≡ false → (registered number holder key base name s).answer ≡ Err NotMonday
     no_monday is = rw (free.new_number, free.new_key, free.new_holder, is) refl
 
@@ -45,7 +45,7 @@ module _ (number : ℕ) (holder key : List ℕ) (base : ℕ) (name : List ℕ) (
     pub goes_in : is_monday base ≡ true → (registered number holder key base name s).answer ≡ Ok tt
     goes_in is = rw (free.new_number, free.new_key, free.new_holder, is) refl
 
-    -- and tables with his row follow
+    -- tables with the driver's row represent the state after the registration
     pub row_added : (db next : Trees) → is_monday base ≡ true → StandsFor db s
         → ((a : Tables) → HasTables db a → HasTables next
         (record a { drivers = record { driver = number; holder = holder; secret = key; base = base; name = name; downloads = 0; entries = 0 } ∷ a.drivers }))
@@ -58,13 +58,13 @@ module _ (number : ℕ) (holder key : List ℕ) (base : ℕ) (name : List ℕ) (
         subst (Follows db next s) (sym after) (driver_follows db next (driver_columns d) t s (s ++ d ∷ []) stand of (turn t stand)
         (registered_is t s d of free.new_number free.new_key free.new_holder refl refl))
 
--- what was asked: all are free
+-- the number, the key and the holder were found to be free
 pub all_free : (s : State) (number : ℕ) (key holder : List ℕ) (done : Unit {0}) → IsAskedFree s number key holder (Ok done)
     → AreFree s number key holder
 unfolding IsAskedFree
 all_free s number key holder done h = h
 
--- or the registration is refused
+-- they were not: the registration is refused
 pub not_free : (s : State) (number : ℕ) (key holder : List ℕ) (base : ℕ) (name : List ℕ) (fault : StoreFault)
     → IsAskedFree s number key holder (Err fault) → Refuses fault (registered number holder key base name s).answer
 unfolding IsAskedFree

@@ -1,4 +1,4 @@
--- A driver is registered, or examined from another day.
+-- The tables after a registration, and after a change of a base.
 use Rattle.std.proofs.Common.{◌≡◌, ◌≢◌, ℕ, ◌==◌, Bool, true, false, cond, List, [], ◌∷◌, ◌++◌, Some, None, map, refl, sym, ap, ◌∙◌, subst}
 use Rattle.std.specs.Str.{bytes_eq}
 use Rattle.std.proofs.lemmas.List.{map-append}
@@ -15,9 +15,9 @@ use Rattle.tacho_reading.proofs.DriverRowLemmas.{bytes_false}
 use Rattle.tacho_reading.proofs.StateLemmas.{SameOfDriver, found_number, found_of, put_is, rows_put}
 use Rattle.tacho_store.specs.After.{with_driver, with_rebased}
 
--- ---- a driver behind the others
+-- ---- a driver at the end
 
--- a number that wasn't found isn't there
+-- a number that wasn't found isn't in the state
 pub number_not : (n : ℕ) (s : State) → driver_of n s ≡ None → HasNot n s
 number_not n [] e = tt
 number_not n (x ∷ s) e = go (x.number == n) refl e (number_not n s) where
@@ -25,7 +25,7 @@ number_not n (x ∷ s) e = go (x.number == n) refl e (number_not n s) where
   go true o f more = cc
   go false o f more = (eq_false x.number n o, more f)
 
--- a key that wasn't found isn't there
+-- a key that wasn't found isn't in the state
 key_not : (key : List ℕ) (s : State) → keyed key s ≡ None → HasNoKey key s
 key_not key [] e = tt
 key_not key (x ∷ s) e = go (bytes_eq x.key key) refl e (key_not key s) where
@@ -34,7 +34,7 @@ key_not key (x ∷ s) e = go (bytes_eq x.key key) refl e (key_not key s) where
   go true o f more = cc
   go false o f more = (bytes_false x.key key o, more f)
 
--- a holder who wasn't found isn't there
+-- a holder that wasn't found isn't in the state
 holder_not : (holder : List ℕ) (s : State) → holding holder s ≡ None → HasNoHolder holder s
 holder_not holder [] e = tt
 holder_not holder (x ∷ s) e = go (bytes_eq x.holder holder) refl e (holder_not holder s) where
@@ -58,7 +58,7 @@ no_holder_added : (holder : List ℕ) (s : State) (d : Driver) → HasNoHolder h
 no_holder_added holder [] d h o = (o, tt)
 no_holder_added holder (x ∷ s) d h o = (h.0, no_holder_added holder s d h.1 o)
 
--- a number that isn't there with the new driver isn't there without him
+-- a number that isn't in the state with the new driver isn't in the state without them
 added_has : (n : ℕ) (s : State) (d : Driver) → HasNot n (s ++ d ∷ []) → HasNot n s
 added_has n [] d h = tt
 added_has n (x ∷ s) d h = (h.0, added_has n s d h.1)
@@ -74,13 +74,13 @@ distinct_added (x ∷ s) d n k o h = (
   distinct_added s d n.1 k.1 o.1 h.3,
 )
 
--- the tables stand for the others, who have the rows that they had, and for the new one
+-- the tables represent the other drivers, whose rows are as they were, and the new one
 each_added : (t : Tables) (row : DriverRow) (s : State) (d : Driver) → RowsStandForEach t s → RowsStandFor (with_driver row t) d
     → RowsStandForEach (with_driver row t) (s ++ d ∷ [])
 each_added t row [] d h own = (own, tt)
 each_added t row (x ∷ s) d h own = (record { downloads = h.0.downloads; read = h.0.read; entries = h.0.entries; full = h.0.full; card_spans = h.0.card_spans; held = h.0.held }, each_added t row s d h.1 own)
 
--- no spans keep what nothing gives
+-- the empty list of spans keeps what nothing gives
 nothing_kept : Keeps [] (Gives [])
 nothing_kept = record { disjoint = tt; same = λ m k. (λ g. g, λ g. g) }
 
@@ -101,7 +101,7 @@ new_is t s d downloads entries none empty known free =
       held = subst (λ (x : List Span). Keeps x (Gives [])) (sym (known.held d.number free)) nothing_kept;
     }))
 
--- the tables with a new driver's row stand for the state with him
+-- the tables with a new driver's row represent the state with that driver
 pub registered_is : (t : Tables) (s : State) (d : Driver) → TablesStandFor t s → driver_of d.number s ≡ None → keyed d.key s ≡ None
     → holding d.holder s ≡ None
     → d.downloads ≡ [] → d.entries ≡ [] → TablesStandFor (with_driver (driver_columns d) t) (s ++ d ∷ [])
@@ -120,21 +120,21 @@ registered_is t s d h n k o none empty =
       marked = record { card_spans = h.marked.card_spans; held = h.marked.held };
     }
 
--- ---- another day
+-- ---- another base
 
--- the driver's own row gets the day
+-- the driver's own row gets the base
 based_own : (n base : ℕ) (r : DriverRow) → r.driver ≡ n → tables.with_base n base r ≡ record r { base = base }
 based_own n base r e = ap (λ b. cond b (record r { base = base }) r) (subst (λ (k : ℕ). (k == n) ≡ true) (sym e) (eq_self n))
 
--- and no other row does
+-- no other row changes
 based_other : (n base : ℕ) (r : DriverRow) → r.driver ≢ n → tables.with_base n base r ≡ r
 based_other n base r d = ap (λ b. cond b (record r { base = base }) r) (eq_not r.driver n d)
 
--- no row but the driver's own is another one
+-- no row changes except the driver's own
 based_same : (t : Tables) (n base j : ℕ) → SameOfDriver j t (with_rebased n base t)
 based_same t n base j = record { downloads = refl; entries = refl; card_spans = refl; held = refl }
 
--- the tables with another day in the driver's row stand for the state with it
+-- the tables with another base in the driver's row represent the state with that base
 pub rebased_is : (t : Tables) (s : State) (n base : ℕ) (d : Driver) → TablesStandFor t s → driver_of n s ≡ Some d
     → TablesStandFor (with_rebased n base t) (put (with_base base d) s)
 rebased_is t s n base d h k =

@@ -1,4 +1,4 @@
--- Steps, by what follows and by what was found before.
+-- How a step is composed of what its tables follow and of what earlier readings found.
 use Rattle.std.proofs.Common.{◌≡◌, ℕ, Result, OnOk, sym, subst}
 use Rattle.std.specs.Borrow.{MutBor}
 use Rattle.std.proofs.lemmas.Result.{on_ok_weaker}
@@ -20,11 +20,11 @@ use Rattle.tacho_reading.specs.Standing.{StandsFor, KeepsRowsOf, Follows}
 use Rattle.tacho_reading.proofs.SeenLemmas.{still_archive, still_seen}
 use Rattle.tacho_store.proofs.OthersLemmas.{kept_rows, unchanged_follows}
 
--- an archive that follows another one
+-- the archive after a step, whose tables follow those before it
 abbrev pub FollowsIn : Sqlite → Sqlite → State → State → Type 0
 FollowsIn old new s after = IsArchive new.now × Follows old.now.trees new.now.trees s after
 
--- what hasn't changed follows
+-- an archive that hasn't changed follows itself
 pub still_follows : (old new : Sqlite) (s : State) → IsUnchanged old new → IsArchive old.now → StandsFor old.now.trees s
     → FollowsIn old new s s
 still_follows old new s same schema stands = (
@@ -32,28 +32,28 @@ still_follows old new s same schema stands = (
   subst (λ (d : Database). Follows old.now.trees d.trees s s) (sym same.0.now_is) (unchanged_follows old.now.trees s stands),
 )
 
--- what follows what hasn't changed follows what was before
+-- tables that follow those of an unchanged connection follow the tables before it
 pub follows_then : (old mid : Sqlite) (next : Trees) (s after : State) → IsUnchanged old mid → Follows mid.now.trees next s after
     → Follows old.now.trees next s after
 follows_then old mid next s after same = subst (λ (d : Database). Follows d.trees next s after) same.0.now_is
 
 -- ---- a call after a reading that answered
 
--- it commits nothing where neither does
+-- if neither the reading nor the call commits, nothing is committed
 pub keeps_after : (x y z : Sqlite) → (HasCleanDisk z → HasCleanDisk y) → (HasCleanDisk y → IsArchive x.now → IsUnchanged x y)
     → (HasCleanDisk y → IsArchive x.now → KeepsCommit x y) → (HasCleanDisk z → IsArchive y.now → KeepsCommit y z)
     → HasCleanDisk z → IsArchive x.now → KeepsCommit x z
 keeps_after x y z before same first more clean is =
     keeps_then x y z (first (before clean) is) (more clean (still_archive x y (same (before clean) is) is))
 
--- nor where the first is a change
+-- likewise if the first call is a change
 pub keeps_changed : (x y z : Sqlite) → (HasCleanDisk z → HasCleanDisk y) → (HasCleanDisk y → KeepsCommit x y)
     → (HasCleanDisk y → IsArchive x.now → IsArchive y.now) → (HasCleanDisk z → IsArchive y.now → KeepsCommit y z)
     → HasCleanDisk z → IsArchive x.now → KeepsCommit x z
 keeps_changed x y z before first archive more clean is =
     keeps_then x y z (first (before clean)) (more clean (archive (before clean) is))
 
--- what two readings have seen is what there was
+-- if two readings in sequence change nothing, nothing has changed
 pub unchanged_after : (x y z : Sqlite) → (HasCleanDisk z → HasCleanDisk y) → (HasCleanDisk y → IsArchive x.now → IsUnchanged x y)
     → (HasCleanDisk z → IsArchive y.now → IsUnchanged y z) → HasCleanDisk z → IsArchive x.now → IsUnchanged x z
 unchanged_after x y z before same more clean is =
@@ -63,7 +63,7 @@ unchanged_after x y z before same more clean is =
 -- ---- steps
 
 module _ {S : Type 0} {g : Ghosts S} {old new : MutBor (Held S)} {A B : Type 0} {result : Result A StoreFault} {view : A → B} where
-  -- a step whose tables follow
+  -- a step whose tables follow those before it
   pub steps_by : {step : State → Turn B} → Goes g old new result
       → (HasCleanDisk (state g new.now) → IsArchive (state g old.now).now
       → (s : State) → StandsFor (state g old.now).now.trees s → Answers view result (step s).answer)
@@ -78,7 +78,7 @@ module _ {S : Type 0} {g : Ghosts S} {old new : MutBor (Held S)} {A B : Type 0} 
     others = λ clean schema s stands n same. on_ok_weaker result (λ it. it.1.others n same) (follows clean schema s stands);
   }
 
-  -- and one that what was found before it decides
+  -- a step that earlier findings decide
   pub given_by : {P : Type 0} {given : P → Trees → State → Type 0} {step : P → State → Turn B} → Stays g old new
       → (HasCleanDisk (state g new.now) → IsArchive (state g old.now).now → KeepsCommit (state g old.now) (state g new.now))
       → IsOfNoFile result
@@ -99,7 +99,7 @@ module _ {S : Type 0} {g : Ghosts S} {old new : MutBor (Held S)} {A B : Type 0} 
         on_ok_weaker result (λ it. it.1.others n same) (follows clean schema s stands p is);
   }
 
--- ---- a step behind readings that decide it
+-- ---- a step after readings that decide it
 
 module _ {B P : Type 0} (given : P → Trees → State → Type 0) (step : P → State → Turn B) where
   -- what was found decides the step
@@ -112,13 +112,13 @@ module _ {S : Type 0} {g : Ghosts S} {A B P : Type 0} {result : Result A StoreFa
       (same : IsUnchanged (state g old.now) (state g mid.now)) (clean : HasCleanDisk (state g new.now))
       (schema : IsArchive (state g old.now).now) (s : State) (stands : StandsFor (state g old.now).now.trees s)
       {turn : Turn B} (found : IsFound given step (state g mid.now).now.trees s turn) where
-    -- it is answered as it was decided
+    -- the answer is the one that was decided
     answer_then : Answers view result turn.answer
     answer_then =
         let seen = still_seen _ _ s same schema stands in
         subst (λ (x : Turn B). Answers view result x.answer) (sym found.2) (h.answer clean seen.0 s seen.1 found.0 found.1)
 
-    -- the tables stand for the state after it
+    -- the tables represent the state after the step
     made_then : OnOk result (IsArchive (state g new.now).now × StandsFor (state g new.now).now.trees turn.after)
     made_then =
         let seen = still_seen _ _ s same schema stands in
@@ -126,7 +126,7 @@ module _ {S : Type 0} {g : Ghosts S} {A B P : Type 0} {result : Result A StoreFa
         (IsArchive (state g new.now).now × StandsFor (state g new.now).now.trees x.after)) (sym found.2)
         (h.made clean seen.0 s seen.1 found.0 found.1)
 
-    -- and of whom it says nothing new the rows are kept
+    -- if the step changes nothing of a driver, that driver's rows are kept
     others_then : (n : ℕ) → driver_of n turn.after ≡ driver_of n s
         → OnOk result (KeepsRowsOf n (state g old.now).now.trees (state g new.now).now.trees)
     others_then n is =
@@ -149,7 +149,7 @@ module _ {S : Type 0} {g : Ghosts S} {A B P : Type 0} {result : Result A StoreFa
       others = λ clean schema s stands. others_then old h (same clean schema) clean schema s stands (found clean schema s stands);
     }
 
-    -- and one that something found before decides
+    -- a step that earlier findings decide
     pub given_then : {Q : Type 0} {asked : Q → Trees → State → Type 0} {turn : Q → State → Turn B} → Stays g old new
         → (HasCleanDisk (state g new.now) → IsArchive (state g old.now).now → KeepsCommit (state g old.now) (state g new.now))
         → IsOfNoFile result
@@ -171,7 +171,7 @@ module _ {S : Type 0} {g : Ghosts S} {A B P : Type 0} {result : Result A StoreFa
 
 -- ---- a step that is undone
 
--- what is seen again has the same rows
+-- tables that are seen again after an undo have the same rows
 pub undone_keeps : {S : Type 0} (g : Ghosts S) (old new : Held S) (s : State) (n : ℕ) → StandsFor (state g old).now.trees s
     → (state g new).now ≡ (state g old).now → KeepsRowsOf n (state g old).now.trees (state g new).now.trees
 undone_keeps g old new s n stands same =

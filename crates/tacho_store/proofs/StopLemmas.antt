@@ -1,4 +1,4 @@
--- What a stop leaves is found again.
+-- The next archive that is opened finds the trees that a crash has left.
 use Rattle.std.proofs.Common.{◌≡◌, ◌⊎◌, List, [], ◌∷◌, IsTrue, inl, inr, sym, subst}
 use Rattle.sqlite.specs.Effect.{Database}
 use Rattle.sqlite.specs.State.{State as Sqlite, IsLive, HasCleanDisk, Survives}
@@ -10,7 +10,7 @@ use Rattle.tacho_reading.specs.Standing.{StandsFor}
 use Rattle.tacho_reading.specs.Kept.{SeesWhileOpen, IsOfOne, LeavesOneOf}
 use Rattle.tacho_store.specs.Opening.{IsKnown, IsAdopted}
 
--- a connection that shows what one showed that had found a database whose rows stand for the state
+-- a connection that shows what an earlier one showed sees the state that the earlier one's tables represented
 pub shows_found : (old new : Sqlite) → IsLive old → (IsTrue new.is_open → IsTrue old.is_open)
     → (IsTrue new.is_open → IsKnown old → new.now ≡ old.now) → (s : State) → StandsFor old.now.trees s → SeesWhileOpen new s
 unfolding StandsFor
@@ -18,34 +18,34 @@ shows_found old new live was_open same s it opened =
     let has = is_archive old.now it.0 it.1 (live (was_open opened)).0 in
     subst (λ (d : Database). IsArchive d × StandsFor d.trees s) (sym (same opened (inl (inr (has.layout, has.schema))))) (has, it)
 
--- what follows of a fact is true of one of the states where the fact is
+-- if one fact implies another, and the first is true of one of some states, the second is too
 one_weaker : (fact other : State → Type 0) → ((s : State) → fact s → other s) → (states : List State) → IsOfOne fact states
     → IsOfOne other states
 one_weaker fact other f [] none = none
 one_weaker fact other f (s ∷ states) (inl is) = inl (f s is)
 one_weaker fact other f (s ∷ states) (inr more) = inr (one_weaker fact other f states more)
 
--- an archive that is adopted where a stop has left its trees stands for one of the states
+-- an archive that is adopted from the trees that a crash left has one of the states
 pub found_again : (K : Type 0) (stands : K → State → Type 0) (is_live : K → Type 0) (leaves : K → List State → Type 0)
     (left found : Sqlite) (archive : K) (states : List State) → LeavesOneOf left states → left.may_leave found.now.trees
     → IsAdopted stands is_live leaves found archive → IsOfOne (stands archive) states
 found_again K stands is_live leaves left found archive states leave may it =
     one_weaker _ (stands archive) it.held states (leave found.now.trees may)
 
--- of two states the one is, or the other
+-- of two states, it is the first or the second
 one_of_two : (fact : State → Type 0) (a b : State) → IsOfOne fact (a ∷ b ∷ []) → fact a ⊎ fact b
 one_of_two fact a b (inl is) = inl is
 one_of_two fact a b (inr (inl is)) = inr is
 one_of_two fact a b (inr (inr none)) = absurd none
 
--- an archive that is adopted where a crash has left its trees stands for the one state or for the other
+-- an archive that is adopted from the trees that a crash left has the first state or the second
 pub found_of_two : (K : Type 0) (stands : K → State → Type 0) (is_live : K → Type 0) (leaves : K → List State → Type 0)
     (left found : Sqlite) (archive : K) (a b : State) → LeavesOneOf left (a ∷ b ∷ []) → left.may_leave found.now.trees
     → IsAdopted stands is_live leaves found archive → stands archive a ⊎ stands archive b
 found_of_two K stands is_live leaves left found archive a b leave may it =
     one_of_two (stands archive) a b (found_again K stands is_live leaves left found archive (a ∷ b ∷ []) leave may it)
 
--- where a stop is known only of a clean disk, it is known of any
+-- if what survives a crash is known only for a clean disk, it is known for any disk
 pub crash_by : (old new : Sqlite) (P : Trees → Type 0) → Survives old new (λ _. Unit {0}) → (HasCleanDisk new → Survives old new P)
     → Survives old new P
 crash_by old new P whatever it = record {

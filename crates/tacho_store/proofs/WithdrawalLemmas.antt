@@ -1,4 +1,4 @@
--- What a withdrawal answers, and what its writes stand for.
+-- What a withdrawal answers, and what the tables represent after its writes.
 use Rattle.std.proofs.Common.{◌≡◌, ◌≢◌, ◌∙◌, ℕ, ◌++◌, Bool, true, false, cond, List, [], map, filter, Option, Some, None, Result, Ok, Err, not, refl, sym, ap, subst, arith}
 use Rattle.std.specs.Prelude.{Contains, MatchOption, IsErr, IsErrAnd, OnOk}
 use Rattle.std.proofs.lemmas.Result.{on_ok_weaker}
@@ -31,16 +31,16 @@ use Rattle.tacho_store.proofs.OthersLemmas.{is_another, mark_changes}
 
 -- ---- what the step answers
 
--- S4
+-- an unknown driver: S4
 pub no_driver : (n number : ℕ) (s : State) → driver_of n s ≡ None → (withdrawn n number s).answer ≡ Err UnknownDriver
 no_driver n number s none = rw none refl
 
 module _ (n number : ℕ) (s : State) (d : Driver) (is : driver_of n s ≡ Some d) where
-  -- S7
+  -- an unknown entry: S7
   pub no_entry : entry_from 1 number d.entries ≡ None → (withdrawn n number s).answer ≡ Err UnknownEntry
   no_entry none = rw (is, none) refl
 
-  -- S8
+  -- an entry that is withdrawn already: S8
   pub no_more : (e : Entry) → entry_from 1 number d.entries ≡ Some e → e.withdrawn ≡ true
       → (withdrawn n number s).answer ≡ Err AlreadyWithdrawn
   no_more e some gone = rw (is, some, gone) refl
@@ -50,7 +50,7 @@ module _ (n number : ℕ) (s : State) (d : Driver) (is : driver_of n s ≡ Some 
       → (withdrawn n number s).answer ≡ Ok tt
   is_marked e some kept = rw (is, some, kept) refl
 
-  -- and so the state has it
+  -- the state after it has the entry withdrawn
   pub marked_after : (e : Entry) → entry_from 1 number d.entries ≡ Some e → e.withdrawn ≡ false
       → (withdrawn n number s).after ≡ put (with_marked number d) s
   marked_after e some kept = rw (is, some, kept) refl
@@ -71,7 +71,7 @@ entry_found db s n number d (Some it) (t, stand, of) is h =
     let e = entry_some t s n number d found.0 of is found.1 in
     (e.0, e.1, found.2 ∙ ap listed_entry e.2)
 
--- where none was found: S7
+-- if none was found: S7
 pub unknown_entry : (n number : ℕ) (s : State) (d : Driver) (found : Option StoredEntry) (is : StoredEntry → Entry → Type 0)
     → driver_of n s ≡ Some d → found ≡ None
     → MatchOption found (entry_from 1 number d.entries ≡ None)
@@ -82,7 +82,7 @@ unknown_entry n number s d found is there none h = no_entry n number s d there
     (subst (λ o. MatchOption o (entry_from 1 number d.entries ≡ None)
     (λ it. (e : Entry) × (entry_from 1 number d.entries ≡ Some e) × is it e)) none h)
 
--- the entry that was found
+-- an entry was found
 pub some_entry : (number : ℕ) (d : Driver) (found : Option StoredEntry) (it : StoredEntry)
     (is : StoredEntry → Entry → Type 0) → found ≡ Some it
     → MatchOption found (entry_from 1 number d.entries ≡ None)
@@ -92,17 +92,17 @@ some_entry number d found it is some = subst
     (λ o. MatchOption o (entry_from 1 number d.entries ≡ None)
     (λ x. (e : Entry) × (entry_from 1 number d.entries ≡ Some e) × is x e)) some
 
--- a mark is of an entry that was withdrawn
+-- a flag is set only for an entry that was withdrawn
 flag_gone : (b : Bool) (w : ℕ) → w ≡ cond b 1 0 → w ≢ 0 → b ≡ true
 flag_gone true w is other = refl
 flag_gone false w is other = absurd (other is)
 
--- and none is of one that wasn't
+-- no flag is set for an entry that wasn't
 flag_kept : (b : Bool) (w : ℕ) → w ≡ cond b 1 0 → w ≡ 0 → b ≡ false
 flag_kept true w is none = absurd (omega (arith, is, none))
 flag_kept false w is none = refl
 
--- it was withdrawn already: S8
+-- the entry is withdrawn already: S8
 pub entry_gone : (n number : ℕ) (s : State) (d : Driver) (it : StoredEntry) → driver_of n s ≡ Some d → it.withdrawn ≢ 0
     → (e : Entry) × (entry_from 1 number d.entries ≡ Some e) × (told_entry it ≡ listed_entry (entry_row n number e))
     → IsEntry s n number (Err AlreadyWithdrawn)
@@ -110,7 +110,7 @@ unfolding IsEntry
 entry_gone n number s d it is gone (e, some, row) = no_more n number s d is e some
     (flag_gone e.withdrawn it.withdrawn (ap (λ (x : ListedEntry). x.withdrawn) row) gone)
 
--- it is there
+-- the entry exists, and isn't withdrawn
 pub entry_kept : (n number : ℕ) (s : State) (d : Driver) (it : StoredEntry) → driver_of n s ≡ Some d → it.withdrawn ≡ 0
     → (e : Entry) × (entry_from 1 number d.entries ≡ Some e) × (told_entry it ≡ listed_entry (entry_row n number e))
     → IsEntry s n number (Ok it)
@@ -126,7 +126,7 @@ entry_kept n number s d it is kept (e, some, row) = (
   },
 )
 
--- a fault that is handed on refuses the withdrawal
+-- a fault that is passed on refuses the withdrawal
 pub handed_entry : (n number : ℕ) (s : State) (fault : StoreFault) (r : Result StoredEntry StoreFault)
     → Refuses fault (withdrawn n number s).answer → IsErr r × IsErrAnd r (λ found. found ≡ fault) → IsEntry s n number r
 unfolding IsEntry
@@ -139,15 +139,15 @@ pub not_entry : (n number : ℕ) (s : State) (fault : StoreFault) → IsEntry s 
 unfolding IsEntry
 not_entry n number s fault h = h
 
--- an entry that is there is withdrawn
+-- an entry that isn't withdrawn is withdrawn by the step
 pub entry_marked : (n number : ℕ) (s : State) (it : StoredEntry) → IsEntry s n number (Ok it)
     → (withdrawn n number s).answer ≡ Ok tt
 unfolding IsEntry
 entry_marked n number s it (d, e, there) = is_marked n number s d there.driver e there.entry there.kept
 
--- ---- the rows that come
+-- ---- the new rows
 
--- parts outside a range, and what is given inside it
+-- the parts outside a range, and what is given inside it
 pub rows_are : (cards others helds : List StoredSpan) (start past first end : ℕ) (parts inside whole : List Span)
     (rows : List StoredSpan) → first ≡ start → end ≡ past → parts ≡ outside first end (map stored_span helds)
     → IsCanonicalOf (λ m k. IsWithin first end m × Gives (map stored_span cards ++ map stored_span others) m k) inside
@@ -161,7 +161,7 @@ rows_are cards others helds start past first end parts inside whole rows is_firs
       all = λ n. stored n ∙ ap (λ (x : List Span). map (span_row n) x) (is ∙ ap (λ (x : List Span). x ++ inside) are);
     }))
 
--- what was read near an entry after it was marked
+-- the new rows are made of what was read near an entry after it was marked
 pub are_renewed : (old marked now next : Sqlite) (n number start past : ℕ) (cards others helds rows : List StoredSpan)
     → Turns old marked (λ t. record t { entries = map (with_withdrawn n number) t.entries })
     → IsUnchanged marked now → IsUnchanged now next
@@ -187,7 +187,7 @@ are_renewed old marked now next n number start past cards others helds rows turn
 
 -- ---- the writes
 
--- the tables after the entry was withdrawn stand for the state after it
+-- the tables after the withdrawal represent the state after it
 renewed_is : (t : Tables) (s : State) (n number : ℕ) (it : StoredEntry) (rows : List StoredSpan) (d : Driver) (e : Entry)
     → TablesStandFor t s → IsThere s n number it d e → (found : AreRenewed t n number it.start it.past rows)
     → TablesStandFor (with_renewed n number it.start it.past
@@ -202,7 +202,7 @@ renewed_is t s n number it rows d e of there = subst
     (λ found. withdrawn_is t s n d number e found.cards found.others found.helds found.are_rows.inside of there.driver there.entry
     found.cards_near found.others_near found.helds_near found.are_rows.given)
 
--- what the writes of a withdrawal leave follows
+-- the tables after a withdrawal's writes represent the state after it
 pub withdrawal_follows : {E : Type 0} (db marked next : Trees) (s : State) (n number : ℕ) (it : StoredEntry)
     (rows : List StoredSpan) (r : Result (Unit {0}) E) → IsEntry s n number (Ok it) → StandsFor db s
     → ((a : Tables) → HasTables db a → AreApart (rows_of n a.card_spans) → AreApart (rows_of n a.held) → AreRenewed a n number it.start it.past rows)

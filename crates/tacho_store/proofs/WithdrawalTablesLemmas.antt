@@ -1,4 +1,4 @@
--- Tables after a withdrawal stand for the state after it.
+-- The tables after a withdrawal represent the state after it.
 use Rattle.std.proofs.Common.{◌≡◌, ◌≢◌, ℕ, ◌+◌, ◌<◌, ◌≤◌, ◌==◌, ◌&&◌, ◌⊎◌, inl, inr, nat_lt, not, Bool, true, false, cond, List, [], ◌∷◌, ◌++◌, Some, length, map, filter, refl, sym, ap, ◌∙◌, subst, arith}
 use Rattle.std.specs.List.Sorted.{IsPermutation}
 use Rattle.std.proofs.lemmas.List.{map-id}
@@ -28,19 +28,19 @@ use Rattle.tacho_store.specs.After.{with_renewed}
 
 -- ---- rows that are not near a range
 
--- the rows that a withdrawal leaves
+-- the rows that a withdrawal keeps
 abbrev far_rows : ℕ → ℕ → ℕ → List SpanRow → List SpanRow
 far_rows n a b rows = filter (λ r. not (is_near n a b r)) rows
 
--- one more row of the driver
+-- one more row of the driver adds its span
 row_own : (n : ℕ) (r : SpanRow) (rows : List SpanRow) → (r.driver == n) ≡ true → spans_of n (r ∷ rows) ≡ row_span r ∷ spans_of n rows
 row_own n r rows e = ap (λ b. cond b (row_span r ∷ spans_of n rows) (spans_of n rows)) e
 
--- and of another one
+-- a row of another driver adds none
 row_other : (n : ℕ) (r : SpanRow) (rows : List SpanRow) → (r.driver == n) ≡ false → spans_of n (r ∷ rows) ≡ spans_of n rows
 row_other n r rows e = ap (λ b. cond b (row_span r ∷ spans_of n rows) (spans_of n rows)) e
 
--- a driver's rows that stay stand for his spans that are not near
+-- the driver's rows that are kept give the driver's spans that aren't near the range
 far_spans : (n a b : ℕ) (rows : List SpanRow) → spans_of n (far_rows n a b rows) ≡ far a b (spans_of n rows)
 far_spans n a b [] = refl
 far_spans n a b (r ∷ rows) = go (r.driver == n) refl (far_spans n a b rows) where
@@ -56,7 +56,7 @@ far_spans n a b (r ∷ rows) = go (r.driver == n) refl (far_spans n a b rows) wh
   go true o e = own (disjoint.is_near a b (row_span r)) o e
   go false o e = row_other n r (far_rows n a b rows) o ∙ e
 
--- and all rows of another driver stay
+-- all rows of another driver are kept
 far_other : (j n a b : ℕ) (rows : List SpanRow) → j ≢ n → spans_of j (far_rows n a b rows) ≡ spans_of j rows
 far_other j n a b [] d = refl
 far_other j n a b (r ∷ rows) d = go (r.driver == n) refl (far_other j n a b rows d) where
@@ -66,7 +66,7 @@ far_other j n a b (r ∷ rows) d = go (r.driver == n) refl (far_other j n a b ro
   kept true e = ap (λ (x : List Span). row_span r ∷ x) e
   kept false e = e
 
-  -- a row of the driver is not one of the other
+  -- a row of the driver isn't one of the other driver
   apart : (r.driver == n) ≡ true → (r.driver == j) ≡ false
   apart o = eq_not r.driver j (λ f. d (sym f ∙ eq_true r.driver n o))
 
@@ -87,14 +87,14 @@ renewed_own : (n a b : ℕ) (spans : List Span) (rows : List SpanRow)
 renewed_own n a b spans rows =
     added_own n (far_rows n a b rows) spans ∙ ap (λ (x : List Span). x ++ spans) (far_spans n a b rows)
 
--- and those of another one
+-- the rows of another driver after a withdrawal
 renewed_other : (j n a b : ℕ) (spans : List Span) (rows : List SpanRow) → j ≢ n
     → spans_of j (far_rows n a b rows ++ map (span_row n) spans) ≡ spans_of j rows
 renewed_other j n a b spans rows d = added_other j n (far_rows n a b rows) spans d ∙ far_other j n a b rows d
 
 -- ---- rows of entries, one of them marked
 
--- a marked row is its driver's
+-- a marked row keeps its driver
 marked_driver : (n number : ℕ) (r : EntryRow) → (with_withdrawn n number r).driver ≡ r.driver
 marked_driver n number r = go ((r.driver == n) && (r.number == number)) where
   go : (b : Bool) → (cond b (record r { withdrawn = 1 }) r).driver ≡ r.driver
@@ -121,7 +121,7 @@ marked_own n number (r ∷ rows) =
       go true more = ap (λ (x : List EntryRow). with_withdrawn n number r ∷ x) more
       go false more = more
 
--- and those of another driver
+-- the rows of another driver aren't marked
 marked_other : (j n number : ℕ) (rows : List EntryRow) → j ≢ n
     → entries_of j (map (with_withdrawn n number) rows) ≡ entries_of j rows
 marked_other j n number [] d = refl
@@ -139,7 +139,7 @@ marked_other j n number (r ∷ rows) d =
           ∙ ap (λ (x : List EntryRow). r ∷ x) more
       go false o more = more
 
--- rows of later numbers stay
+-- rows with later numbers stay as they are
 later_marked : (n i number : ℕ) (es : List Entry) → number < i
     → map (with_withdrawn n number) (entry_rows n i es) ≡ entry_rows n i es
 later_marked n i number [] l = refl
@@ -151,7 +151,7 @@ later_marked n i number (e ∷ es) l =
     ∙ ap (λ b. cond b (record row { withdrawn = 1 }) row ∷ more) other
     ∙ ap (λ (x : List EntryRow). row ∷ x) (later_marked n (i + 1) number es (omega (arith, l)))
 
--- the rows of entries, one of them marked, are those of the entries, that one withdrawn
+-- the rows of entries, one of them marked, are the rows of the entries with that one withdrawn
 marked_rows : (n i number : ℕ) (es : List Entry)
     → map (with_withdrawn n number) (entry_rows n i es) ≡ entry_rows n i (marked_from i number es)
 marked_rows n i number [] = refl
@@ -174,11 +174,11 @@ marked_rows n i number (e ∷ es) =
 
 -- ---- entries near a range
 
--- a row that is not withdrawn and has a minute in the range, whoever's it is
+-- a row, of any driver, that is not withdrawn and has a minute in the range
 abbrev is_kept : ℕ → ℕ → EntryRow → Bool
 is_kept a b r = (r.withdrawn == 0) && (nat_lt r.start b && nat_lt a r.past)
 
--- a driver's rows near a range are found among his
+-- a driver's rows near a range are found among the driver's own
 kept_own : (n a b : ℕ) (rows : List EntryRow) → filter (is_kept_near n a b) rows ≡ filter (is_kept a b) (entries_of n rows)
 kept_own n a b [] = refl
 kept_own n a b (r ∷ rows) = go (r.driver == n) (kept_own n a b rows) where
@@ -188,7 +188,7 @@ kept_own n a b (r ∷ rows) = go (r.driver == n) (kept_own n a b rows) where
   go true e = ap (λ (x : List EntryRow). cond (is_kept a b r) (r ∷ x) x) e
   go false e = e
 
--- an activity's number is that activity's, and nobody drives with him
+-- an activity's number gives that activity back, single
 activity_back : (a : Activity) → numbered_mark (activity_number a) ≡ record { activity = a; crew = false }
 activity_back Rest = refl
 activity_back Available = refl
@@ -199,7 +199,7 @@ activity_back Drive = refl
 entry_back : (n i : ℕ) (e : Entry) → stored_span (entry_span_of (entry_row n i e)) ≡ entry_span e
 entry_back n i e = ap (λ (k : Mark). record { start = e.start; past = e.past; mark = k }) (activity_back e.activity)
 
--- the rows near a range stand for the spans of the entries near it
+-- the rows near a range give the spans of the entries near it
 rows_near : (n i a b : ℕ) (es : List Entry)
     → map stored_span (map entry_span_of (filter (is_kept a b) (entry_rows n i es))) ≡ near a b (entered_spans es)
 rows_near n i a b [] = refl
@@ -229,7 +229,7 @@ near_read : (rows : List SpanRow) (n a b : ℕ) (found : List StoredSpan) → Is
 near_read rows n a b found p = subst (λ (x : List Span). IsPermutation x (map stored_span found)) (near_spans n a b rows)
     (IsPermutation-map stored_span (map span_of (filter (is_near n a b) rows)) found p)
 
--- and of his entries
+-- likewise for the driver's entries
 near_kept : (rows : List EntryRow) (n a b : ℕ) (es : List Entry) (found : List StoredSpan) → entries_of n rows ≡ entry_rows n 1 es
     → IsKeptNear rows n a b found
     → IsPermutation (near a b (entered_spans es)) (map stored_span found)
@@ -239,7 +239,7 @@ near_kept rows n a b es found e p = subst (λ (x : List Span). IsPermutation x (
     ∙ rows_near n 1 a b es)
     (IsPermutation-map stored_span (map entry_span_of (filter (is_kept_near n a b) rows)) found p)
 
--- two lists in other orders give the same together
+-- if two lists are reordered, they still give the same together
 both_give : (xs ys us vs : List Span) (m : ℕ) (k : Mark) → IsPermutation xs us → IsPermutation ys vs → Gives (xs ++ ys) m k
     → Gives (us ++ vs) m k
 both_give xs ys us vs m k p q g = go (append_gives xs ys m k g) where
@@ -247,7 +247,7 @@ both_give xs ys us vs m k p q g = go (append_gives xs ys m k g) where
   go (inl x) = front_gives us vs m k (permuted_gives xs us m k p x)
   go (inr y) = back_gives us vs m k (permuted_gives ys vs m k q y)
 
--- so a line of what both give within a range is that of the others
+-- so the canonical list of what both give within a range stays the same
 both_line : (a b : ℕ) (xs ys us vs inside : List Span) → IsPermutation xs us → IsPermutation ys vs
     → IsCanonicalOf (λ m k. IsWithin a b m × Gives (us ++ vs) m k) inside
     → IsCanonicalOf (λ m k. IsWithin a b m × Gives (xs ++ ys) m k) inside
@@ -259,7 +259,7 @@ both_line a b xs ys us vs inside p q h = record {
   );
 }
 
--- ---- entries of which one is withdrawn
+-- ---- entries, one of them withdrawn
 
 -- none of them is empty
 full_marked : (i number : ℕ) (es : List Entry) → AreFull es → AreFull (marked_from i number es)
@@ -270,7 +270,7 @@ full_marked i number (e ∷ es) h = go (i == number) (full_marked (i + 1) number
   go true more = h
   go false more = (h.0, more)
 
--- nor is the one that was found
+-- the entry that was found isn't empty
 full_found : (i number : ℕ) (es : List Entry) (e : Entry) → entry_from i number es ≡ Some e → AreFull es → e.start < e.past
 full_found i number [] e f h = cc
 full_found i number (x ∷ es) e f h = go (i == number) f (λ g. full_found (i + 1) number es e g h.1) where
@@ -279,7 +279,7 @@ full_found i number (x ∷ es) e f h = go (i == number) f (λ g. full_found (i +
   go true g more = let same : x ≡ e = cc in subst (λ (y : Entry). y.start < y.past) same h.0
   go false g more = more g
 
--- they are as many
+-- the number of entries stays the same
 marked_length : (i number : ℕ) (es : List Entry) → length (marked_from i number es) ≡ length es
 marked_length i number [] = refl
 marked_length i number (e ∷ es) = go (i == number) (marked_length (i + 1) number es) where
@@ -299,7 +299,7 @@ pub record IsRenewed (t : Tables) (n number : ℕ) (e : Entry) (cards others hel
   pub is_inside : IsCanonicalOf (λ m k. IsWithin e.start e.past m
       × Gives (map stored_span cards ++ map stored_span others) m k) inside
 
--- the tables stand for the driver whose entry is withdrawn
+-- the tables represent the driver with the entry withdrawn
 withdrawn_own : (t : Tables) (d : Driver) (number : ℕ) (e : Entry) (cards others helds : List StoredSpan) (inside : List Span)
     → RowsStandFor t d → entry_from 1 number d.entries ≡ Some e → IsRenewed t d.number number e cards others helds inside
     → RowsStandFor (with_renewed d.number number e.start e.past (outside e.start e.past (map stored_span helds) ++ inside) t)
@@ -339,7 +339,7 @@ withdrawn_own t d number e cards others helds inside h f r = record {
       others rows r.others_near)
       r.is_inside
 
--- and no row of another driver is another one
+-- no row of another driver changes
 withdrawn_other : (t : Tables) (n number a b : ℕ) (spans : List Span) (j : ℕ) → j ≢ n
     → SameOfDriver j t (with_renewed n number a b spans t)
 withdrawn_other t n number a b spans j d = record {
@@ -349,7 +349,7 @@ withdrawn_other t n number a b spans j d = record {
   held = renewed_other j n a b spans t.held d;
 }
 
--- the tables stand for the state after a withdrawal by the driver's own number
+-- the tables represent the state after a withdrawal, by the driver's own number
 withdrawn_at : (t : Tables) (s : State) (d : Driver) (number : ℕ) (e : Entry) (cards others helds : List StoredSpan)
     (inside : List Span) → TablesStandFor t s → driver_of d.number s ≡ Some d → entry_from 1 number d.entries ≡ Some e
     → IsRenewed t d.number number e cards others helds inside
@@ -372,7 +372,7 @@ withdrawn_at t s d number e cards others helds inside h k f r =
           (All-filter (λ r. not (is_near n e.start e.past r)) (λ r. IsMark r.mark) t.held h.marked.held);
     })
 
--- the tables after a withdrawal stand for the state after it
+-- the tables after a withdrawal represent the state after it
 pub withdrawn_is : (t : Tables) (s : State) (n : ℕ) (d : Driver) (number : ℕ) (e : Entry) (cards others helds : List StoredSpan)
     (inside : List Span) → TablesStandFor t s → driver_of n s ≡ Some d → entry_from 1 number d.entries ≡ Some e
     → IsReadNear t.card_spans n e.start e.past cards

@@ -10,11 +10,11 @@ use Rattle.tacho_reading.specs.Standing.{span_row, entry_rows}
 abbrev pub with_driver : DriverRow → Tables → Tables
 with_driver row t = record t { drivers = t.drivers ++ row ∷ [] }
 
--- a driver is examined from another day
+-- a driver's base is changed
 abbrev pub with_rebased : ℕ → ℕ → Tables → Tables
 with_rebased n base t = record t { drivers = map (with_base n base) t.drivers }
 
--- a download goes in: its row, its number as the count, and what it gives that downloads, and the driver, didn't have
+-- a download is added: its row, the driver's count (the download's number), and the spans that downloads, or the driver, didn't have
 abbrev pub with_imported : ℕ → ℕ → ℕ → List ℕ → List Span → List Span → Tables → Tables
 with_imported n number part file card_gains gains t = record t {
   drivers = map (with_downloads n number) t.drivers;
@@ -23,7 +23,7 @@ with_imported n number part file card_gains gains t = record t {
   held = t.held ++ map (span_row n) gains;
 }
 
--- a batch goes in: its rows by the numbers that come next, the count of numbers, and what it gives that the driver didn't hold
+-- a batch is added: its rows, numbered from `first`, the driver's new count, and the spans that the driver didn't hold
 abbrev pub with_entered : ℕ → ℕ → ℕ → List Entry → List Span → Tables → Tables
 with_entered n first count batch gains t = record t {
   drivers = map (with_entries n count) t.drivers;
@@ -31,7 +31,7 @@ with_entered n first count batch gains t = record t {
   held = t.held ++ map (span_row n) gains;
 }
 
--- an entry is withdrawn: its row is marked; of the driver's held rows those near it go, and these spans come
+-- an entry is withdrawn: its row is marked; the driver's held rows near it are removed, and these spans are added
 abbrev pub with_renewed : ℕ → ℕ → ℕ → ℕ → List Span → Tables → Tables
 with_renewed n number start past spans t = record t {
   entries = map (with_withdrawn n number) t.entries;

@@ -1,4 +1,4 @@
--- Private to tacho_store: What entering a batch is made of: what it adds to what the driver holds, and its rows.
+-- Private to tacho_store: What entering a batch consists of: what it adds to what the driver holds, and its rows.
 use Rattle.std.specs.Prelude.{◌≡◌, ℕ, ◌+◌, ◌<◌, ◌≤◌, ◌++◌, List, map, length, Ok, Err}
 use Rattle.sqlite.specs.Tree.{Trees}
 use Rattle.tacho_time.specs.declared.span.Span.{Span}
@@ -10,7 +10,7 @@ use Rattle.tacho_tables.specs.Rows.{SpanRow, EntryRow}
 use Rattle.tacho_tables.specs.Tables.{Tables, HasTables, with_entries}
 use Rattle.tacho_reading.specs.Standing.{Follows, entry_rows, span_row}
 
--- the tables as the writes of a batch leave them: the count of the driver's entries, and rows in front of what was there
+-- the tables after the writes of a batch: the driver's count of entries is set, and new rows are in front of the old ones
 abbrev pub batched : ℕ → ℕ → List EntryRow → List SpanRow → Tables → Tables
 batched n count rows helds t = record t {
   drivers = map (with_entries n count) t.drivers;
@@ -18,8 +18,8 @@ batched n count rows helds t = record t {
   held = helds ++ t.held;
 }
 
--- the driver's batch, of which these are new to what he holds: it goes in where there are numbers for all its lines, and tables with
--- its rows follow it
+-- a driver's batch, whose gains on what the driver holds are `gains`: it is added if there are numbers for all its lines, and tables with
+-- its rows follow
 pub record AreNumbered (db : Trees) (s : State) (n : ℕ) (d : Driver) (batch : List Entry) (gains : List Span) : Type 0 where
   pub numbered : length d.entries + length batch ≤ most → enter_own batch d ≡ Ok (1 + length d.entries, with_batch batch d)
   pub full : most < length d.entries + length batch → enter_own batch d ≡ Err Full
@@ -27,10 +27,10 @@ pub record AreNumbered (db : Trees) (s : State) (n : ℕ) (d : Driver) (batch : 
       → ((t : Tables) → HasTables db t → HasTables next (batched n (length d.entries + length batch) (entry_rows n (1 + length d.entries) batch) (map (span_row n) gains) t))
       → Follows db next s (put (with_batch batch d) s)
 
--- the driver's batch
+-- the step of the driver's batch
 abbrev pub enter_turn : List Hours → Driver → State → Turn ℕ
 enter_turn lines d s = settled s (enter_own (batch_of lines) d)
 
--- a driver with so many entries, and of what the lines give these are new to what he holds
+-- the driver has `given` entries, and `gains` are what the lines give that the driver doesn't hold
 abbrev pub AreToEnter : ℕ → ℕ → List Hours → List Span → Driver → Trees → State → Type 0
 AreToEnter n given lines gains d db s = (given ≡ length d.entries) × AreNumbered db s n d (batch_of lines) gains

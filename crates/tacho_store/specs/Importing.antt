@@ -1,4 +1,4 @@
--- Private to tacho_store: What an import is made of: the driver whom it is for, and what of a file's spans is new.
+-- Private to tacho_store: What an import consists of: the driver for whom it is, and what is new of a file's spans.
 use Rattle.std.specs.Prelude.{◌≡◌, ℕ, ◌+◌, ◌<◌, ◌≤◌, List, map, ◌∷◌, ◌++◌, length, Option, Some, None, Result, Ok, Err, bytes_eq, if◌then◌else◌}
 use Rattle.sqlite.specs.Tree.{Trees}
 use Rattle.tacho_time.specs.declared.span.Span.{Span}
@@ -18,32 +18,32 @@ use Rattle.tacho_store.specs.declared.content.CardContent.{CardContent}
 use Rattle.tacho_store.specs.declared.import.Importer.{Importer}
 use Rattle.tacho_store.specs.declared.news.News.{News}
 
--- the driver, if there is one: S4
+-- the driver, or S4 if there is none
 abbrev pub known : Option Driver → Result Driver StoreFault
 known None = Err UnknownDriver
 known (Some d) = Ok d
 
--- and if his card has this holder: S5
+-- the driver, or S4; S5 if the driver's card has another holder
 abbrev pub with_card : List ℕ → Option Driver → Result Driver StoreFault
 with_card holder None = Err UnknownDriver
 with_card holder (Some d) = if bytes_eq d.holder holder then Ok d else Err NotYourCard
 
--- the driver whom an import is for: the office's is for him whose card has the holder, a driver's own is for himself
+-- the driver for whom an import is: for the office, the driver whose card has the holder; for a driver, that driver
 abbrev pub importer : Option ℕ → List ℕ → State → Result Driver StoreFault
 importer None holder s = known (holding holder s)
 importer (Some n) holder s = with_card holder (driver_of n s)
 
--- his number and how many downloads he has
+-- the importer has the driver's number and count of downloads
 pub record IsImporterOf (s : State) (d : Driver) (it : Importer) : Type 0 where
   pub found : driver_of it.number s ≡ Some d
   pub downloads : it.downloads ≡ length d.downloads
 
--- he was found; or a call gave up
+-- the driver was found; or the look-up was refused, ran out of memory, or the store failed
 unfoldable pub IsImporter : State → Result Importer StoreFault → Result Driver StoreFault → Type 0
 IsImporter s (Ok it) told = (d : Driver) × (told ≡ Ok d) × IsImporterOf s d it
 IsImporter s (Err fault) told = Refuses fault told
 
--- the tables as the writes of a download leave them: its number is the driver's count, and its rows are in front of what was there
+-- the tables after the writes of a download: its number is the driver's count, and new rows are in front of the old ones
 abbrev pub written : ℕ → ℕ → ℕ → List ℕ → List SpanRow → List SpanRow → Tables → Tables
 written n number part file cards helds t = record t {
   drivers = map (with_downloads n number) t.drivers;
@@ -52,8 +52,8 @@ written n number part file cards helds t = record t {
   held = helds ++ t.held;
 }
 
--- the driver's import of spans, of which these are new to what downloads give and to what he holds: it is added where there is a
--- number, and tables with these follow it
+-- the driver's import of spans, of which `cards` are new to the driver's downloads and `helds` to what the driver holds: it is added if
+-- there is a number for it, and tables with its rows follow
 pub record AreAdded (db : Trees) (s : State) (n : ℕ) (d : Driver) (spans cards helds : List Span) : Type 0 where
   pub added : (part : ℕ) (file : List ℕ) → length d.downloads < most → import_own part file spans d ≡ Ok (Added d.number (1 + length d.downloads), with_download part file spans d)
   pub full : (part : ℕ) (file : List ℕ) → most ≤ length d.downloads → import_own part file spans d ≡ Err Full
@@ -61,25 +61,25 @@ pub record AreAdded (db : Trees) (s : State) (n : ℕ) (d : Driver) (spans cards
       → ((t : Tables) → HasTables db t → HasTables next (written n (1 + length d.downloads) (part_number part) file (map (span_row n) cards) (map (span_row n) helds) t))
       → Follows db next s (put (with_download (part_number part) file spans d) s)
 
--- what is new of a file's spans decides the driver's import; or a call gave up
+-- what is new of a file's spans decides the driver's import; or the call ran out of memory or the store failed
 unfoldable pub AreDecided : Trees → State → ℕ → Driver → List Span → Result (Option News) StoreFault → Type 0
 AreDecided db s n d spans (Ok None) = (part : ℕ) (file : List ℕ) → import_own part file spans d ≡ Ok (Repeated d.number, d)
 AreDecided db s n d spans (Ok (Some news)) = AreAdded db s n d spans news.card_spans.items news.held.items
 AreDecided db s n d spans (Err fault) = (part : ℕ) (file : List ℕ) → Refuses fault (import_own part file spans d)
 
--- what was read of a card file
+-- the content that was read from a card file
 abbrev pub content_told : CardContent → Content
 content_told it = record { holder = it.holder; spans = it.spans.items }
 
--- the driver's import of spans by a part
+-- the step of the driver's import of spans, read by a part
 abbrev pub import_turn : Part → List ℕ → List Span → Driver → State → Turn Imported
 import_turn part file spans d s = settled s (import_own (part_number part) file spans d)
 
--- a driver for whom a file is imported, and the holder that it names
+-- a driver for whom a file is imported, and the holder in the file
 abbrev pub AreToImport : Importer → Part → List ℕ → List Span → Driver × List ℕ → Trees → State → Type 0
 AreToImport it part file spans p db s = IsImporterOf s p.0 it × FileTells part file (Ok (record { holder = p.1; spans = spans }))
 
--- a driver for whom a file's spans are added, these spans, and the holder that the file names
+-- a driver for whom a file's spans are added, these spans, and the holder in the file
 abbrev pub AreToAdd : Importer → Part → List ℕ → News → Driver × List Span × List ℕ → Trees → State → Type 0
 AreToAdd it part file news p db s =
     IsImporterOf s p.0 it × AreAdded db s it.number p.0 p.1 news.card_spans.items news.held.items

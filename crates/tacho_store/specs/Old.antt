@@ -1,4 +1,4 @@
--- Trusted: An archive of schema 1, in which nobody said who had entered hours, and why, and what it becomes in schema 2.
+-- Trusted: An archive of schema 1, whose entries have no author and no note, and what it becomes in schema 2.
 use Rattle.std.specs.Prelude.{ℕ, ◌+◌, Bool, List, [], ◌∷◌, codes, map, if◌then◌else◌}
 use Rattle.sqlite.specs.Tree.{Trees}
 use Rattle.tacho_time.specs.declared.span.Activity.{Activity}
@@ -28,7 +28,7 @@ OldState = List OldDriver
 
 -- ---- in schema 2
 
--- the same hours, which the office had entered, and said nothing of
+-- the same hours, entered by the office, without a note
 abbrev pub entry_by_office : OldEntry → Entry
 entry_by_office e =
     record { start = e.start; past = e.past; activity = e.activity; author = codes "office"; note = []; withdrawn = e.withdrawn }
@@ -47,14 +47,14 @@ driver_by_office d = record {
 abbrev pub with_office : OldState → State
 with_office s = map driver_by_office s
 
--- ---- what the tables of schema 1 stand for
+-- ---- what the tables of schema 1 represent
 
--- they stand for a state of schema 1 where, with the office as the author of each row, they stand for the state with the office as the
+-- the tables represent a state of schema 1 if, with the office as the author of each row, they represent the state with the office as the
 -- author of each entry
 unfoldable pub StoodFor : Trees → OldState → Type 0
 StoodFor db s = (t : OldTables) × HasOldTables db t × TablesStandFor (carried t) (with_office s)
 
--- the rows of a driver's entries in schema 1, numbered from a number on
+-- the row of a driver's entry in schema 1
 abbrev pub old_entry_row : ℕ → ℕ → OldEntry → OldEntryRow
 old_entry_row n i e = record {
   driver = n;

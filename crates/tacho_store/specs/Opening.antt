@@ -1,4 +1,4 @@
--- Trusted in part: How an archive comes into a store, and how it is found there again.
+-- Trusted in part: How an archive is made in a store, and how it is found there again.
 use Rattle.std.specs.Prelude.{◌≡◌, ◌≢◌, ◌⊎◌, ℕ, List, [], ◌∷◌, Option, Result, Err, OnOk, OnErr, IfOk, IsErr, IsTrue}
 use Rattle.std.specs.Borrow.{MutBor}
 use Rattle.sqlite.specs.Schema.{Schema}
@@ -18,13 +18,13 @@ use Rattle.tacho_reading.specs.Standing.{StandsFor}
 use Rattle.tacho_reading.specs.Kept.{IsBlank, IsGivenUp, Sees, LeavesOneOf}
 use Rattle.tacho_store.specs.Old.{OldState, StoodFor, with_office}
 
--- within a transaction, the tables of an archive of no drivers are made
+-- within a transaction, makes the tables of an archive without drivers
 pub record Makes {S : Type 0} (g : Ghosts S) (old new : MutBor (Held S)) {A : Type 0} (result : Result A StoreFault) : Type 0 where
   pub stays : Stays g old new
   pub keeps : HasCleanDisk (state g new.now) → KeepsCommit (state g old.now) (state g new.now)
   pub made : HasCleanDisk (state g new.now) → IsBlank (state g old.now) → OnOk result (Sees (state g new.now) [])
 
--- the connection's own schema is 2, or 1, or has no table
+-- the connection's own schema is 1 or 2, or has no table
 abbrev pub IsKnown : Sqlite → Type 0
 IsKnown c = IsVersioned c.now ⊎ IsBlank c
 
@@ -32,8 +32,8 @@ IsKnown c = IsVersioned c.now ⊎ IsBlank c
 abbrev pub AreVersioned : Trees → Type 0
 AreVersioned db = (schema : Schema) × IsVersioned (record { schema = schema; trees = db }) × IsSound schema db
 
--- it has tables with the names of schema 1, which stand for no state of schema 2; where they are of schema 1 or 2 they state a version,
--- and it is 1
+-- the store has tables with the names of schema 1, which represent no state of schema 2; if they are of schema 1 or 2, they state a
+-- version, and it is 1
 pub record IsOld (c : Sqlite) : Type 0 where
   pub tables : ¬ IsBlank c
   pub names : IsTrue (has_tables old_names c.now.schema)
@@ -41,19 +41,19 @@ pub record IsOld (c : Sqlite) : Type 0 where
   pub stated : AreVersioned c.now.trees → c.now.trees meta_rows ≢ []
   pub version : AreVersioned c.now.trees → (version : ℕ) → IsVersion version c.now.trees → version ≡ 1
 
--- it has tables with the names of schema 1, and where the connection's own schema is 1 or 2 they state a version, and it is 1
+-- the store has tables with the names of schema 1; if the connection's own schema is 1 or 2, they state a version, and it is 1
 pub record IsFoundOld (c : Sqlite) : Type 0 where
   pub tables : ¬ IsBlank c
   pub names : IsTrue (has_tables old_names c.now.schema)
   pub stated : IsVersioned c.now → c.now.trees meta_rows ≢ []
   pub version : IsVersioned c.now → (version : ℕ) → IsVersion version c.now.trees → version ≡ 1
 
--- the faults of a store that isn't adopted
+-- the faults with which a store isn't adopted
 abbrev pub IsOpeningFault : StoreFault → Type 0
 IsOpeningFault OldSchema = Unit {0}
 IsOpeningFault fault = IsGivenUp fault
 
--- within a transaction, tables of schema 1 are carried over
+-- within a transaction, migrates tables of schema 1
 pub record CarriesOver {S : Type 0} (g : Ghosts S) (old new : MutBor (Held S)) {A : Type 0} (result : Result A StoreFault) : Type 0 where
   pub stays : Stays g old new
   pub keeps : HasCleanDisk (state g new.now) → KeepsCommit (state g old.now) (state g new.now)
@@ -61,32 +61,32 @@ pub record CarriesOver {S : Type 0} (g : Ghosts S) (old new : MutBor (Held S)) {
       → StoodFor (state g old.now).now.trees s → OnOk result (Sees (state g new.now) (with_office s))
 
 module _ (old new : Sqlite) where
-  -- the making was given up, and has changed nothing: at most a stop leaves the new archive
+  -- making was given up and has changed nothing; a crash leaves what it would have left before the call, or the new archive
   pub record IsUnmade : Type 0 where
     pub same : HasCleanDisk new → IsTrue new.is_open → new.now ≡ old.now
     pub crash : IsBlank old → Survives old new (λ db. StandsFor db [])
 
-  -- the tables of an archive, of whatever version, or a store without tables, are as they were
+  -- the tables of an archive, of either version, or a store without tables, are as they were
   pub record KeepsTables : Type 0 where
     pub stands : (s : State) → StandsFor old.now.trees s → HasCleanDisk new → IsTrue new.is_open → new.now ≡ old.now
     pub stood : (s : OldState) → StoodFor old.now.trees s → HasCleanDisk new → IsTrue new.is_open → new.now ≡ old.now
     pub blank : IsBlank old → HasCleanDisk new → IsTrue new.is_open → new.now ≡ old.now
     pub same : AreVersioned old.now.trees → HasCleanDisk new → IsTrue new.is_open → new.now ≡ old.now
 
-  -- nothing has changed, and a crash leaves what it would have left before
+  -- nothing has changed, and a crash leaves what it would have left before the call
   pub record IsLeftAlone : Type 0 where
     pub was_open : HasCleanDisk new → IsTrue new.is_open → IsTrue old.is_open
     pub keeps : KeepsTables
     pub survives : Survives old new (λ _. ⊥)
 
-  -- the same, where the connection's own schema is known
+  -- likewise if the connection's own schema is known
   pub record IsFoundAlone : Type 0 where
     pub was_open : HasCleanDisk new → IsTrue new.is_open → IsTrue old.is_open
     pub same : HasCleanDisk new → IsTrue new.is_open → IsKnown old → new.now ≡ old.now
     pub survives : Survives old new (λ _. ⊥)
 
   module _ {A : Type 0} (result : Result A StoreFault) where
-    -- the tables were made where there was none, or nothing has changed
+    -- the tables were made in a store without tables, or nothing has changed
     pub record IsMade : Type 0 where
       pub clean : HasCleanDisk new → HasCleanDisk old
       pub made : HasCleanDisk new → IsBlank old → OnOk result (Sees new [])
@@ -106,7 +106,8 @@ module _ (old new : Sqlite) where
       pub version : HasCleanDisk new → IsVersioned old.now → (version : ℕ) → IsVersion version old.now.trees → OnOk result (version ≡ 2)
       pub is_old : HasCleanDisk new → result ≡ Err OldSchema → IsTrue new.is_open × IsFoundOld old
 
-    -- tables of schema 1 were carried over, or nothing has changed; a stop leaves what it would have left, or these tables, carried over
+    -- tables of schema 1 were migrated, or nothing has changed; a crash leaves what it would have left before the call, or the migrated
+    -- tables
     pub record IsCarried : Type 0 where
       pub clean : HasCleanDisk new → HasCleanDisk old
       pub was_open : HasCleanDisk new → IsTrue new.is_open → IsTrue old.is_open
@@ -120,7 +121,7 @@ module _ (old new : Sqlite) where
       pub crash : old.now.schema ≡ old_schema → (s : OldState) → StoodFor old.now.trees s
           → Survives old new (λ db. StandsFor db (with_office s))
 
-  -- the version was read; nothing has changed
+  -- the version was read, and nothing has changed
   pub record TellsSchema (result : Result (Option ℕ) StoreFault) : Type 0 where
     pub was_open : HasCleanDisk new → IsTrue new.is_open → IsTrue old.is_open
     pub same : HasCleanDisk new → IsTrue new.is_open → IsVersioned old.now → new.now ≡ old.now
@@ -128,7 +129,8 @@ module _ (old new : Sqlite) where
     pub version : HasCleanDisk new → IsVersioned old.now → IfOk result (TellsVersion old.now.trees)
     pub missing : HasCleanDisk new → IsBlank old → IsErr result
 
-  -- an archive that was not carried over is as it was; a crash leaves what it would have left, or the archive of schema 1 carried over
+  -- an archive that was not migrated is as it was; a crash leaves what it would have left before the call, or the archive of schema 1
+  -- migrated
   pub record IsNotMigrated : Type 0 where
     pub was_open : HasCleanDisk new → IsTrue new.is_open → IsTrue old.is_open
     pub keeps : KeepsTables
@@ -136,16 +138,16 @@ module _ (old new : Sqlite) where
     pub alone : (s : State) → StandsFor old.now.trees s → Survives old new (λ _. ⊥)
     pub blank : IsBlank old → Survives old new (λ _. ⊥)
 
--- ---- archives, as whatever keeps them says
+-- ---- archives, for any way of keeping them
 
 module _ {K : Type 0} (stands : K → State → Type 0) (is_live : K → Type 0) (leaves : K → List State → Type 0) where
-  -- an archive of no drivers
+  -- an archive without drivers
   pub record IsEmptyArchive (archive : K) : Type 0 where
     pub empty : stands archive []
     pub live : is_live archive
     pub left : leaves archive ([] ∷ [])
 
-  -- the archive that a store had, of schema 2; until it is changed a crash leaves it as it was
+  -- the archive of schema 2 that the store had; until it is changed, a crash leaves it as it was
   pub record IsAdopted (old : Sqlite) (archive : K) : Type 0 where
     pub was_open : IsTrue old.is_open
     pub held : (s : State) → StandsFor old.now.trees s → stands archive s
@@ -158,8 +160,8 @@ module _ {K : Type 0} (stands : K → State → Type 0) (is_live : K → Type 0)
     pub stated : AreVersioned old.now.trees → old.now.trees meta_rows ≢ []
     pub version : AreVersioned old.now.trees → (version : ℕ) → IsVersion version old.now.trees → version ≡ 2
 
-  -- the archive that a store had: of schema 1, whose entries are the office's now, or of schema 2, as it was; until it is changed a crash
-  -- leaves it so
+  -- the archive that the store had: of schema 1, with the office as the author of its entries, or of schema 2, as it was; until it is
+  -- changed, a crash leaves it as it is
   pub record IsMigrated (old : Sqlite) (archive : K) : Type 0 where
     pub carried : (s : OldState) → StoodFor old.now.trees s → stands archive (with_office s)
     pub held : (s : State) → StandsFor old.now.trees s → stands archive s

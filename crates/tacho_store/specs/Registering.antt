@@ -1,4 +1,4 @@
--- Private to tacho_store: What a registration is made of: nobody has the new driver's number, key or holder.
+-- Private to tacho_store: What a registration consists of: nobody has the new driver's number, key or holder.
 use Rattle.std.specs.Prelude.{◌≡◌, ℕ, List, None, Result, Ok, Err}
 use Rattle.tacho_state.specs.declared.fault.StoreFault.{StoreFault}
 use Rattle.tacho_state.specs.State.{State, driver_of, keyed, holding}
@@ -11,7 +11,8 @@ pub record AreFree (s : State) (number : ℕ) (key holder : List ℕ) : Type 0 w
   pub new_key : keyed key s ≡ None
   pub new_holder : holding holder s ≡ None
 
--- nobody has; or the registration is refused with the first that somebody has: S1, S2, S3; or a call gave up
+-- nobody has any of them; or the registration is refused for the first that somebody has (S1, S2, S3), ran out of memory, or the store
+-- failed
 unfoldable pub IsAskedFree : State → ℕ → List ℕ → List ℕ → Result (Unit {0}) StoreFault → Type 0
 IsAskedFree s number key holder (Ok done) = AreFree s number key holder
 IsAskedFree s number key holder (Err fault) = (base : ℕ) (name : List ℕ) → Refuses fault (registered number holder key base name s).answer

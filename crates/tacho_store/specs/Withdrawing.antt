@@ -1,4 +1,4 @@
--- Private to tacho_store: What a withdrawal is made of: the entry, and the rows that come where it was.
+-- Private to tacho_store: What a withdrawal consists of: the entry, and the rows that replace what was held near it.
 use Rattle.std.specs.Prelude.{◌≡◌, ◌⊎◌, ℕ, ◌++◌, All, List, map, false, Some, Result, Ok, Err}
 use Rattle.tacho_time.specs.declared.span.Span.{Span}
 use Rattle.tacho_time.specs.Spans.{Gives, IsCanonicalOf}
@@ -13,29 +13,29 @@ use Rattle.tacho_tables.specs.Tables.{Tables, row_of, listed_entry, told_entry, 
 use Rattle.tacho_reading.specs.Standing.{AreFaulty, AreMinutes, IsFit, span_row, stored_span, entry_row, IsReadNear, IsKeptNear}
 use Rattle.tacho_reading.specs.Finding.{Refuses}
 
--- a driver's entry that is not withdrawn, as it is stored
+-- a driver's entry that is not withdrawn, as stored
 pub record IsThere (s : State) (n number : ℕ) (it : StoredEntry) (d : Driver) (e : Entry) : Type 0 where
   pub driver : driver_of n s ≡ Some d
   pub entry : entry_from 1 number d.entries ≡ Some e
   pub kept : e.withdrawn ≡ false
   pub row : told_entry it ≡ listed_entry (entry_row n number e)
 
--- the entry is there and not withdrawn; or the withdrawal is refused: S4, S7, S8; or a call gave up
+-- the entry exists and is not withdrawn; or the withdrawal is refused (S4, S7, S8), ran out of memory, or the store failed
 unfoldable pub IsEntry : State → ℕ → ℕ → Result StoredEntry StoreFault → Type 0
 IsEntry s n number (Ok it) = (d : Driver) × (e : Entry) × IsThere s n number it d e
 IsEntry s n number (Err fault) = Refuses fault (withdrawn n number s).answer
 
--- rows of what lies outside a range of held spans, and of what card spans and entries give inside it
+-- the rows of the parts of held spans outside a range, and of what card spans and entries give inside it
 pub record AreRowsFor (cards others helds : List StoredSpan) (start past : ℕ) (rows : List StoredSpan) : Type 0 where
   pub inside : List Span
   pub given : IsCanonicalOf (λ m k. IsWithin start past m × Gives (map stored_span cards ++ map stored_span others) m k) inside
   pub all : (n : ℕ) → map (row_of n) rows ≡ map (span_row n) (outside start past (map stored_span helds) ++ inside)
 
--- none come: the range isn't one of minutes, a held row isn't fit, or rows of cards and entries have no line
+-- there are no such rows: the range isn't one of minutes, a held row isn't a span, or rows of cards and entries have no canonical list
 abbrev pub HaveNoRows : List StoredSpan → List StoredSpan → List StoredSpan → ℕ → ℕ → Type 0
 HaveNoRows cards others helds start past = (¬ AreMinutes start past) ⊎ (¬ All IsFit helds) ⊎ AreFaulty (cards ++ others)
 
--- rows that come where a driver's entry was, by what the tables keep near it
+-- the rows that replace those near a driver's withdrawn entry, by what the tables have near it
 pub record AreRenewed (t : Tables) (n number start past : ℕ) (rows : List StoredSpan) : Type 0 where
   pub cards : List StoredSpan
   pub others : List StoredSpan

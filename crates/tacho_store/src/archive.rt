@@ -27,7 +27,7 @@ use tacho_stretches::Stretch;
 use tacho_tables::{making, opening};
 use tacho_time::{Day, Minute};
 
-/// An archive in a store: drivers, what their cards told, and what they hold. Its calls are those of `Keeper`.
+/// An archive in a store: drivers, what their cards say, and what they hold. Its calls are those of `Keeper`.
 #[derive(Drop)]
 pub struct Archive<S: Alter> {
     conn: Connection<S>,
@@ -64,7 +64,7 @@ fn make<S: Alter>(conn: &mut Connection<S>) -> Result<(), StoreFault>
     }
 }
 
-/// Which schema the tables are of.
+/// Reads the version of the schema that the tables have.
 fn read_version<S: Alter>(conn: &mut Connection<S>) -> Result<Option<u32>, StoreFault>
     requires { conn.old.in_transaction ≡ false }
     ensures autocommit { conn.new.in_transaction ≡ false }
@@ -76,8 +76,8 @@ fn read_version<S: Alter>(conn: &mut Connection<S>) -> Result<Option<u32>, Store
     making::version(&mut tx).map_err(store_fault)
 }
 
-/// Asks a store for tables of schema 2, and changes nothing. S13 where they are of schema 1. S12 where there are others, or where one is
-/// missing.
+/// Checks that a store has tables of schema 2, and changes nothing. Fails with S13 if they are of schema 1, and with S12 if there are
+/// others or one is missing.
 fn check<S: Alter>(conn: &mut Connection<S>) -> Result<(), StoreFault>
     requires { conn.old.in_transaction ≡ false }
     ensures autocommit { conn.new.in_transaction ≡ false }
@@ -98,7 +98,7 @@ fn check<S: Alter>(conn: &mut Connection<S>) -> Result<(), StoreFault>
     }
 }
 
-/// Carries tables of schema 1 over, within a transaction.
+/// Migrates tables of schema 1, within a transaction.
 fn carry_in<S: Alter>(tx: &mut Transaction<'_, S>) -> Result<(), StoreFault>
     ensures refused { IfErr result IsGivenUp }
     ensures carries { CarriesOver S.Store tx.old.conn tx.new.conn result }
@@ -106,7 +106,7 @@ fn carry_in<S: Alter>(tx: &mut Transaction<'_, S>) -> Result<(), StoreFault>
     making::carry(tx).map_err(store_fault)
 }
 
-/// Carries tables of schema 1 over.
+/// Migrates tables of schema 1.
 fn carry<S: Alter>(conn: &mut Connection<S>) -> Result<(), StoreFault>
     requires { conn.old.in_transaction ≡ false }
     ensures autocommit { conn.new.in_transaction ≡ false }
@@ -134,8 +134,8 @@ impl<S: Alter> Archive<S> {
     ghost use Rattle.tacho_state.specs.declared.fault.StoreFault.TheVariants.{OldSchema};
     ghost use Rattle.tacho_store.specs.Opening.{IsUnmade, IsEmptyArchive, IsAdopted, IsLeftAlone, IsOld, IsOpeningFault, IsMigrated, IsNotMigrated};
 
-    /// An archive of no drivers in a store without tables, made in one transaction. S12 where the store has tables. A
-    /// refusal hands the connection back, with the store as it was.
+    /// Makes an archive without drivers in a store without tables, in one transaction. Fails with S12 if the store has tables. On failure
+    /// the connection is returned, with the store as it was.
     pub fn create(mut conn: Connection<S>) -> Result<Archive<S>, (StoreFault, Connection<S>)>
         requires { conn.in_transaction ≡ false }
         ensures created { IfOk result (λ archive. ⟦<Archive<S> as Keeper>⟧.is_clean archive
@@ -152,8 +152,8 @@ impl<S: Alter> Archive<S> {
         }
     }
 
-    /// The archive that a store has. S13 where its tables are of schema 1, and S12 where the store has no tables, or others. A
-    /// refusal hands the connection back, with an archive's tables of whatever version, or the store without tables, as they were.
+    /// Opens the archive of a store. Fails with S13 if its tables are of schema 1, and with S12 if the store has no tables, or others. On
+    /// failure the connection is returned; an archive's tables, of either version, or a store without tables, are as they were.
     pub fn adopt(mut conn: Connection<S>) -> Result<Archive<S>, (StoreFault, Connection<S>)>
         requires { conn.in_transaction ≡ false }
         ensures adopted { IfOk result (λ archive. ⟦<Archive<S> as Keeper>⟧.is_clean archive
@@ -174,8 +174,9 @@ impl<S: Alter> Archive<S> {
         }
     }
 
-    /// The archive that a store has, of schema 2; tables of schema 1 are carried over first, in one transaction: each entry is one
-    /// of the office, without a note. S12 where the store has neither. A refusal hands the connection back, with the store as it was.
+    /// Opens the archive of a store, as of schema 2. Tables of schema 1 are migrated first, in one transaction: each entry gets the office
+    /// as its author, and no note. Fails with S12 if the store has neither schema. On failure the connection is returned, with the store as
+    /// it was.
     pub fn migrate(conn: Connection<S>) -> Result<Archive<S>, (StoreFault, Connection<S>)>
         requires { conn.in_transaction ≡ false }
         ensures migrated { IfOk result (λ archive. ⟦<Archive<S> as Keeper>⟧.is_clean archive
@@ -195,7 +196,7 @@ impl<S: Alter> Archive<S> {
         }
     }
 
-    /// Hands the connection back, outside a transaction.
+    /// Returns the connection, outside a transaction.
     pub fn close(self) -> Connection<S>
         ensures autocommit { result.in_transaction ≡ false }
         ensures clean { (⟦<Archive<S> as Keeper>⟧.is_clean self ↔ HasCleanDisk (state S.Store result))
@@ -319,7 +320,7 @@ impl<S: Alter> Keeper for Archive<S> {
     }
 }
 
-/// An archive of no drivers in memory.
+/// Makes an archive without drivers in memory.
 pub fn open_memory(alloc: Global) -> Result<Archive<MemStore>, StoreFault>
     ensures opened { IfOk result (λ archive. ⟦<Archive<MemStore> as Keeper>⟧.is_clean archive
         → IsEmptyArchive ⟦<Archive<MemStore> as Keeper>⟧.stands ⟦<Archive<MemStore> as Keeper>⟧.is_live

@@ -18,7 +18,7 @@ pub fn is_monday(day: Day) -> bool
     (day.number() + 3) % 7 == 0
 }
 
-/// Sets the day from which a driver is examined, within a transaction: S4, S9.
+/// Sets a driver's base, within a transaction: S4, S9.
 fn rebase_in<S: Alter>(
     tx: &mut Transaction<'_, S>,
     driver: u32,
@@ -33,7 +33,7 @@ fn rebase_in<S: Alter>(
     drivers::set_base(tx, driver, base.number()).map_err(store_fault)
 }
 
-/// Sets the day from which a driver is examined: S4, S9.
+/// Sets a driver's base: S4, S9.
 #[tactic(auto, using(crate::proofs::StepsLemmas::undone_keeps))]
 pub fn rebase<S: Alter>(conn: &mut Connection<S>, driver: u32, base: Day) -> Result<(), StoreFault>
     requires { conn.old.in_transaction ≡ false }

@@ -9,16 +9,16 @@ use tacho_card::{CardFile, Part, spans};
 use tacho_state::StoreFault;
 use tacho_time::Span;
 
-/// What a card file tells, read by a part.
+/// What a card file says, read by a part.
 #[derive(Drop)]
 pub struct CardContent {
-    /// The first 15 bytes of its identification.
+    /// The first 15 bytes of the card's identification.
     pub holder: [u8; 15],
     /// The canonical list of what its records give.
     pub spans: Vec<Span>,
 }
 
-/// What a card file tells, read by a part; S11 where it has a fault.
+/// Reads a card file by a part; S11 if the file has a fault.
 pub fn content_of(alloc: Global, part: Part, file: &[u8]) -> Result<CardContent, StoreFault>
     ensures told { MatchResult result (λ it. FileTells part file.now (Ok (record {
       holder = it.holder;

@@ -24,7 +24,7 @@ use tacho_tables::entries::NewEntry;
 use tacho_tables::{SpanTable, StoredSpan, TableFault, drivers, entries, opening, spans};
 use tacho_time::{Mark, Span};
 
-/// What a line gives: nobody drives with the driver.
+/// The span that a line gives. Its mark is single.
 fn span_of_line(line: &EntryLine) -> Span
     ensures { result ≡ entry_span (entry_of line.now) }
 {
@@ -38,7 +38,7 @@ fn span_of_line(line: &EntryLine) -> Span
     }
 }
 
-/// What the lines of a batch give, a span for each.
+/// The spans that the lines of a batch give, one for each line.
 fn spans_of_lines(alloc: Global, lines: &[EntryLine]) -> Result<Vec<Span>, AllocError>
     ensures { IfOk result (λ spans. spans.items ≡ entered_spans (batch_of lines.now)) }
 {
@@ -49,7 +49,7 @@ fn spans_of_lines(alloc: Global, lines: &[EntryLine]) -> Result<Vec<Span>, Alloc
     Ok(spans)
 }
 
-/// From the first minute of a batch to before its last past, or from 0 to before 0 where it has no lines.
+/// The range from the first start of a batch to its last past, or from 0 to 0 if it has no lines.
 fn range_of_lines(lines: &[EntryLine]) -> (u32, u32)
     requires { IsBatch lines.now }
     ensures { AreInRange result.0 result.1 (entered_spans (batch_of lines.now)) }
@@ -60,7 +60,7 @@ fn range_of_lines(lines: &[EntryLine]) -> (u32, u32)
     }
 }
 
-/// What a batch gives that the driver doesn't hold, by the rows near it: S6.
+/// What a batch gives that the driver doesn't hold, computed from the rows near it: S6.
 fn gains_near<S: Alter>(
     alloc: Global,
     tx: &mut Transaction<'_, S>,
@@ -80,7 +80,7 @@ fn gains_near<S: Alter>(
     gains_of(alloc, &line, spans)
 }
 
-/// The new entry of a line, by its number.
+/// The new entry of a line, with its number.
 fn new_entry(number: u32, line: &EntryLine) -> NewEntry<'_>
     ensures { (driver : ℕ) → new_entry_row driver result ≡ entry_row driver number (entry_of line.now) }
 {
@@ -92,7 +92,7 @@ fn new_entry(number: u32, line: &EntryLine) -> NewEntry<'_>
     }
 }
 
-/// Adds the entries of a batch's lines to a driver's, numbered from `first` on: four by one statement, as long as there are four.
+/// Adds a batch's lines as a driver's entries, numbered from `first`. While at least four lines remain, one statement adds four.
 fn insert_lines<S: Alter>(
     tx: &mut Transaction<'_, S>,
     driver: u32,
@@ -122,8 +122,8 @@ fn insert_lines<S: Alter>(
     Ok(())
 }
 
-/// Writes a batch: how many entries the driver has then, the rows of its lines, numbered from `first` on, and the rows
-/// of what he holds more.
+/// Writes a batch: the driver's new count of entries, the rows of the lines, numbered from `first`, and the rows of what the driver holds
+/// in addition.
 fn write_batch<S: Alter>(
     tx: &mut Transaction<'_, S>,
     driver: u32,
@@ -141,7 +141,7 @@ fn write_batch<S: Alter>(
     spans::insert_all(tx, SpanTable::Held, driver, helds)
 }
 
-/// Adds the lines of a batch to a driver who has `given` entries: S14. All memory is taken before the first write.
+/// Adds the lines of a batch to a driver who has `given` entries: S14. Allocates all memory before the first write.
 fn add_batch<S: Alter>(
     alloc: Global,
     tx: &mut Transaction<'_, S>,

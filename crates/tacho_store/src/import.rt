@@ -26,14 +26,14 @@ use tacho_state::{Caller, Imported, StoreFault, first_number};
 use tacho_tables::{SpanTable, StoredSpan, TableFault, downloads, drivers, opening, spans};
 use tacho_time::Span;
 
-/// The driver whom an import is for, and how many downloads he has.
+/// The driver to whom an import belongs, and the count of their downloads.
 #[derive(Clone, Copy, Debug, PartialEq, Eq)]
 pub struct Importer {
     pub number: u32,
     pub downloads: u32,
 }
 
-/// The driver whose card has the holder: S4.
+/// Finds the driver whose card has the holder: S4.
 #[tactic(auto, unfolding(crate::specs::Importing::IsImporter))]
 fn importer_by_holder<S: Alter>(
     tx: &mut Transaction<'_, S>,
@@ -52,7 +52,7 @@ fn importer_by_holder<S: Alter>(
     })
 }
 
-/// The driver with the number, whose card has to have the holder: S4, S5.
+/// Finds the driver with the number, whose card must have the holder: S4, S5.
 #[tactic(auto, unfolding(crate::specs::Importing::IsImporter))]
 fn importer_by_number<S: Alter>(
     tx: &mut Transaction<'_, S>,
@@ -72,7 +72,7 @@ fn importer_by_number<S: Alter>(
     })
 }
 
-/// The driver whom an import is for: S4, S5.
+/// Finds the driver to whom an import belongs: S4, S5.
 fn importer_of<S: Alter>(
     tx: &mut Transaction<'_, S>,
     caller: Caller,
@@ -87,7 +87,7 @@ fn importer_of<S: Alter>(
     }
 }
 
-/// What of a file's spans is new to a driver, by the rows near them: nothing where downloads give them all. S6.
+/// What of a file's spans is new to a driver, computed from the rows near them. None if downloads give all of them. S6.
 #[tactic(auto, unfolding(crate::specs::Importing::AreDecided))]
 fn news_near<S: Alter>(
     alloc: Global,
@@ -128,7 +128,7 @@ fn write_download<S: Alter>(
     spans::insert_all(tx, SpanTable::Held, driver, helds)
 }
 
-/// How a part is stored: 0 both, 1 first, 2 second.
+/// The number that is stored for a part: 0 both, 1 first, 2 second.
 fn number_of_part(part: Part) -> u32
     ensures { result ≡ part_number part }
 {
@@ -139,7 +139,7 @@ fn number_of_part(part: Part) -> u32
     }
 }
 
-/// Adds a driver's download, of whose spans these are new: S14. All memory is taken before the first write.
+/// Adds a driver's download. `news` is what is new of its spans. S14. Allocates all memory before the first write.
 fn add_download<S: Alter>(
     alloc: Global,
     tx: &mut Transaction<'_, S>,
@@ -198,7 +198,7 @@ fn import_spans<S: Alter>(
     }
 }
 
-/// Imports what a card file tells, within a transaction: S4, S5, S6, S14.
+/// Imports the content of a card file, within a transaction: S4, S5, S6, S14.
 fn import_in<S: Alter>(
     alloc: Global,
     tx: &mut Transaction<'_, S>,
@@ -220,7 +220,7 @@ fn import_in<S: Alter>(
     import_spans(alloc, tx, importer, part, file, &content.spans)
 }
 
-/// Imports what a card file tells: S4, S5, S6, S14.
+/// Imports the content of a card file: S4, S5, S6, S14.
 #[tactic(auto, using(crate::proofs::StepsLemmas::undone_keeps))]
 pub fn import<S: Alter>(
     alloc: Global,

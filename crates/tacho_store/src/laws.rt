@@ -1,5 +1,5 @@
-//! Laws about what the archive's tables stand for after a command. A law is a function without a body: what it ensures
-//! is proved, and holds for all that it names.
+//! Laws about what the archive's tables represent after a command. A law is a function without a body: what it ensures is proved, and holds
+//! for everything that it names.
 
 ghost use Rattle.std.specs.Prelude.{◌≡◌, ◌⊎◌, ℕ, ◌+◌, ◌==◌, ◌++◌, List, [], ◌∷◌, None, Some, Ok, filter, length, map};
 ghost use Rattle.std.specs.List.{AllByRecursion};
@@ -26,8 +26,8 @@ use crate::archive::Archive;
 use sqlite::{Alter, Connection};
 use tacho_state::Keeper;
 
-/// What a stop leaves is found again: an archive that is adopted where these trees are found stands for one of the
-/// states that the stop could leave.
+/// After a crash the archive is found again: an archive that is adopted from the trees that the crash left has one of the states that the
+/// crash may leave.
 pub fn a_stop_is_found_again<S: Alter>(
     left: &Connection<S>,
     found: &Connection<S>,
@@ -40,10 +40,10 @@ pub fn a_stop_is_found_again<S: Alter>(
         → IsOfOne (⟦<Archive<S> as Keeper>⟧.stands archive.now) states }
 {}
 
-/// Calls of an archive that was adopted, a crash at any moment of the last of them, and what is adopted where the crash left its trees: it stands for
-/// the state that the calls before the last lead to, or the one that the last one's step leaves. None of the calls before the last gave up. So each
-/// command that answered Ok is found again, and a command that gave up is found whole or not at all. `left` is the connection of the last
-/// archive, as `close` hands it back.
+/// Calls of an adopted archive, a crash at any moment of the last call, and the archive that is adopted from the trees that the crash left.
+/// This archive has the state to which the calls before the last lead, or the state after the last one's step. None of the calls before the
+/// last gave up. So each command that answered Ok is found again, and a command that gave up is found whole or not at all. `left` is the
+/// connection of the last archive, as `close` returns it.
 pub fn a_crash_is_found_again<S: Alter>(
     first: &Connection<S>,
     opened: &Archive<S>,
@@ -67,7 +67,7 @@ pub fn a_crash_is_found_again<S: Alter>(
         ⊎ ⟦<Archive<S> as Keeper>⟧.stands archive.now (state_after calls s) }
 {}
 
-/// Empty tables stand for the state with no drivers.
+/// Empty tables represent the state without drivers.
 pub fn empty_tables_stand()
     ensures { TablesStandFor no_rows [] }
 {}
@@ -80,14 +80,13 @@ pub fn registered_tables_stand()
         → TablesStandFor (with_driver (driver_columns d) t) (s ++ d ∷ []) }
 {}
 
-/// A change of the day from which a driver is examined, on the tables.
+/// A change of a driver's base, on the tables.
 pub fn rebased_tables_stand()
     ensures { (t : Tables) (s : State) (n base : ℕ) (d : Driver) → TablesStandFor t s → driver_of n s ≡ Some d
         → TablesStandFor (with_rebased n base t) (put (with_base base d) s) }
 {}
 
-/// An import, on the tables: the gains against card spans near the file's spans and those against held rows near them
-/// are added.
+/// An import, on the tables: it adds the gains against card spans near the file's spans, and the gains against held rows near them.
 pub fn imported_tables_stand()
     ensures { (t : Tables) (s : State) (n : ℕ) (d : Driver) (part : PartValue) (file : List ℕ) (content : Content)
         (card_line line card_gains gains : List Span) (start past : ℕ)
@@ -100,14 +99,14 @@ pub fn imported_tables_stand()
         (put (with_download (part_number part) file content.spans d) s) }
 {}
 
-/// Where tables of schema 1 stand for a state, the rows of a driver's entries are those of his entries, by their numbers.
+/// If tables of schema 1 represent a state, the rows of a driver's entries are those of the driver's entries in the state, by number.
 pub fn old_entries_are_rows()
     ensures { (t : OldTables) (s : OldState) → TablesStandFor (carried t) (with_office s)
         → AllByRecursion (λ (d : OldDriver). filter (λ (r : OldEntryRow). r.driver == d.number) t.entries
         ≡ old_entry_rows d.number 1 d.entries) s }
 {}
 
-/// A batch of entries, on the tables: its rows are added, and its gains against held rows near it.
+/// A batch of entries, on the tables: it adds the batch's rows, and its gains against held rows near it.
 pub fn entered_tables_stand()
     ensures { (t : Tables) (s : State) (n : ℕ) (d : Driver) (batch : List Entry) (line gains : List Span)
         (start past : ℕ)
@@ -117,8 +116,8 @@ pub fn entered_tables_stand()
         (put (with_batch batch d) s) }
 {}
 
-/// A withdrawal, on the tables: the entry's row is marked; of the driver's held rows those near the entry go, and
-/// their parts outside it come, with what card spans and the other entries near it give inside it.
+/// A withdrawal, on the tables: the entry's row is marked. The driver's held rows near the entry are replaced by their parts outside it,
+/// and by what card spans and the other entries near it give inside it.
 pub fn withdrawn_tables_stand()
     ensures { (t : Tables) (s : State) (n : ℕ) (d : Driver) (number : ℕ) (e : Entry)
         (cards others helds : List StoredValue) (inside : List Span)

@@ -1,4 +1,4 @@
-//! The archive: drivers, what their cards told, and what they hold, in tables over SQLite.
+//! The archive: drivers, what their cards say, and what they hold, in tables over SQLite.
 #![tactic(auto)]
 
 mod archive;

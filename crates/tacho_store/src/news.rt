@@ -9,15 +9,15 @@ use tacho_line::{Line, LineFault};
 use tacho_state::StoreFault;
 use tacho_time::Span;
 
-/// What a file's spans add: to what downloads give, and to what the driver holds.
+/// What a file's spans add to what downloads give, and to what the driver holds.
 #[derive(Drop)]
 pub struct News {
     pub card_spans: Vec<Span>,
     pub held: Vec<Span>,
 }
 
-/// What of a file's spans is new, by what downloads give near them and what the driver holds near them: nothing where
-/// downloads give them all. S6 where they contradict what he holds.
+/// What of a file's spans is new, by what downloads give near them and what the driver holds near them. None if downloads give all of them.
+/// S6 if they contradict what the driver holds.
 pub fn news_of(
     alloc: Global,
     card_line: &Line,
@@ -44,7 +44,7 @@ pub fn news_of(
     }
 }
 
-/// The gains of spans against a line; S6 where they contradict it.
+/// The gains of spans against a line; S6 if they contradict it.
 pub fn gains_of(alloc: Global, line: &Line, spans: &[Span]) -> Result<Vec<Span>, StoreFault>
     requires { first_empty spans.now ≡ None }
     ensures { MatchResult result (λ gains. AreGains line.now spans.now gains.items)
@@ -56,7 +56,7 @@ pub fn gains_of(alloc: Global, line: &Line, spans: &[Span]) -> Result<Vec<Span>,
     }
 }
 
-/// The fault of an archive by that of a line to which spans were to be added, none of which is empty.
+/// Converts a line's fault into an archive's. None of the spans that were to be added is empty.
 fn fault_of_line(fault: LineFault) -> StoreFault
     ensures contradiction { (m : ℕ) → fault ≡ LineFault.Contradiction m → result ≡ StoreFault.Contradiction m }
     ensures memory { fault ≡ LineFault.Memory → result ≡ StoreFault.Memory }

@@ -11,7 +11,7 @@ use tacho_reading::fault::store_fault;
 use tacho_state::{Driver, StoreFault};
 use tacho_tables::{drivers, opening};
 
-/// Whether nobody has the number, the key or the holder of a new driver: S1, S2, S3.
+/// Checks that nobody has a new driver's number, key or holder: S1, S2, S3.
 #[tactic(auto, unfolding(crate::specs::Registering::IsAskedFree))]
 fn ask_free<S: Alter>(tx: &mut Transaction<'_, S>, driver: &Driver) -> Result<(), StoreFault>
     ensures { Tells S.Store tx.old.conn tx.new.conn result

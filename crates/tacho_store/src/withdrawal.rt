@@ -24,7 +24,7 @@ use tacho_state::{StoreFault, inside_of, outside_of};
 use tacho_tables::{SpanTable, StoredEntry, StoredSpan, TableFault, entries, held, opening, spans};
 use tacho_time::{Minute, Span};
 
-/// A driver's entry that is not withdrawn: S4, S7, S8.
+/// Finds a driver's entry that is not withdrawn: S4, S7, S8.
 #[tactic(auto, unfolding(crate::specs::Withdrawing::IsEntry))]
 fn entry_with<S: Alter>(
     tx: &mut Transaction<'_, S>,
@@ -44,7 +44,7 @@ fn entry_with<S: Alter>(
     Ok(entry)
 }
 
-/// The parts of stored rows outside a range that they overlap.
+/// The parts of stored rows outside a range that the rows overlap.
 fn parts_outside(
     alloc: Global,
     helds: &[StoredSpan],
@@ -59,7 +59,7 @@ fn parts_outside(
     Ok(outside_of(alloc, &spans, start, past)?)
 }
 
-/// What stored rows of cards and of entries give in a range; two that contradict are a fault of the store.
+/// What stored rows of cards and of entries give in a range. A contradiction between two of them is a store failure.
 fn given_inside(
     alloc: Global,
     cards: &[StoredSpan],
@@ -80,8 +80,7 @@ fn given_inside(
     }
 }
 
-/// The rows that come where an entry was, by the rows near it: parts of held rows outside it, and inside it what cards
-/// and other entries give.
+/// The rows that replace those near an entry: the parts of held rows outside it, and inside it what cards and other entries give.
 fn rows_for(
     alloc: Global,
     cards: &[StoredSpan],
@@ -106,7 +105,7 @@ fn rows_for(
     Ok(stored(alloc, &spans)?)
 }
 
-/// Marks a driver's entry as withdrawn, and tells the rows that come where it was.
+/// Marks a driver's entry as withdrawn, and returns the rows that replace those near it.
 fn mark<S: Alter>(
     alloc: Global,
     tx: &mut Transaction<'_, S>,
@@ -133,7 +132,7 @@ fn mark<S: Alter>(
     rows_for(alloc, &cards, &others, &helds, start, past)
 }
 
-/// Removes what a driver holds near a range.
+/// Removes a driver's held rows near a range.
 fn delete_near<S: Alter>(
     tx: &mut Transaction<'_, S>,
     driver: u32,
@@ -147,7 +146,7 @@ fn delete_near<S: Alter>(
     held::delete_begun(tx, driver, first_start(before, start, past), past)
 }
 
-/// Puts rows in the place of a driver's held rows near a range.
+/// Replaces a driver's held rows near a range.
 fn rewrite<S: Alter>(
     tx: &mut Transaction<'_, S>,
     driver: u32,

@@ -20,7 +20,7 @@ const TWO_DAYS_LINES: &str = "\
 
 const ONE_REST: &str = "2024-03-04 00:00 2024-03-04 08:00 rest single\n";
 
-/// The bytes that hexadecimal digits spell, blanks aside.
+/// The bytes that hexadecimal digits give; blanks are ignored.
 fn bytes_of(rt: &impl Abort, alloc: Global, digits: &str) -> Vec<u8> {
     let mut bytes = Vec::new(alloc);
     let mut high = None;
@@ -40,7 +40,7 @@ fn bytes_of(rt: &impl Abort, alloc: Global, digits: &str) -> Vec<u8> {
     bytes
 }
 
-/// What `dump` writes of an input over memory, and its status.
+/// What `dump` writes for an input in memory, and its status.
 fn dumped(alloc: Global, input: &[u8]) -> (Vec<u8>, u8) {
     let mut reader = Device::new(input);
     let mut writer = Device::new(Vec::new(alloc));
@@ -52,7 +52,7 @@ fn dumped(alloc: Global, input: &[u8]) -> (Vec<u8>, u8) {
 fn values_are_dumped(rt: HostRuntime) -> Result<(), Fail> {
     let rows = [
         (TWO_DAYS, TWO_DAYS_LINES, 0),
-        // A word at the last minute of the day, and one behind it.
+        // A word at the last minute of the day, and one after it.
         (
             "00000000 0000001065e50f00000100000000059f",
             "2024-03-04 00:00 2024-03-04 23:59 rest single\n",
@@ -63,7 +63,7 @@ fn values_are_dumped(rt: HostRuntime) -> Result<(), Fail> {
             "C12 word minute at 14\n",
             1,
         ),
-        // Two words of one minute, of which the later holds; and words that go back.
+        // Two words at the same minute, of which the later is valid; and words that go back in time.
         (
             "00000000 0000001465e50f0000010000000011e019e001fe",
             "2024-03-04 00:00 2024-03-04 08:00 rest single\n2024-03-04 08:00 2024-03-04 08:30 drive single\n",
@@ -74,10 +74,10 @@ fn values_are_dumped(rt: HostRuntime) -> Result<(), Fail> {
             "C13 word order at 16\n",
             1,
         ),
-        // A record that straddles the buffer's end within its date, and within a word.
+        // A record that crosses the end of the buffer within its date, and within a word.
         ("000a000a 0f0000010000000011e00000001065e5", ONE_REST, 0),
         ("00010001 e00000001065e50f0000010000000011", ONE_REST, 0),
-        // The oldest record stands behind the newest.
+        // The oldest record comes after the newest one.
         (
             "00100000 0014001065e6608000020000000011e0 0000001465e50f0000010064000011e019fe23fc",
             TWO_DAYS_LINES,
@@ -85,7 +85,7 @@ fn values_are_dumped(rt: HostRuntime) -> Result<(), Fail> {
         ),
         // No records.
         ("00000000000000000000000000000000", "", 0),
-        // A newest record that the chain doesn't reach, an odd length, and a wrong previous length, which isn't read.
+        // A newest record that the chain doesn't reach, an odd length, and a wrong previous length that isn't read.
         (
             "00000002 0000001465e50f0000010064000011e019fe23fc 0014001065e6608000020000000011e0",
             "C10 chain broken at 0\n",
@@ -101,7 +101,7 @@ fn values_are_dumped(rt: HostRuntime) -> Result<(), Fail> {
             TWO_DAYS_LINES,
             0,
         ),
-        // Two records of one day, of which the second contradicts the first from midnight on.
+        // Two records of one day. The second contradicts the first from midnight on.
         (
             "00000010 0000001065e50f0000010000000011e0 0010001065e50f0000020000180011e0",
             "C14 file contradicts itself at 2024-03-04 00:00\n",
@@ -174,7 +174,7 @@ const IDENTIFICATION: &str = "05200000110d44313233343536373839303132333030";
 
 const HOLDER_LINE: &str = "0d4431323334353637383930313233\n";
 
-/// What `holder` writes of an input over memory, and its status.
+/// What `holder` writes for an input in memory, and its status.
 fn held(alloc: Global, input: &[u8]) -> (Vec<u8>, u8) {
     let mut reader = Device::new(input);
     let mut writer = Device::new(Vec::new(alloc));
@@ -185,7 +185,7 @@ fn held(alloc: Global, input: &[u8]) -> (Vec<u8>, u8) {
 #[test]
 fn holders_are_told(rt: HostRuntime) -> Result<(), Fail> {
     let rows = [
-        // The identification, and two days of activity; the identification alone; and twice.
+        // The identification and two days of activity; the identification alone; and the identification twice.
         (
             "0504000028 00000014 0000001465e50f0000010064000011e019fe23fc 0014001065e6608000020000000011e0",
             HOLDER_LINE,
@@ -193,7 +193,7 @@ fn holders_are_told(rt: HostRuntime) -> Result<(), Fail> {
         ),
         ("", HOLDER_LINE, 0),
         (IDENTIFICATION, "C2 block 0520 00 twice\n", 1),
-        // The same holder in the second generation, and another one.
+        // The same holder in the second generation, and a different one.
         (
             "0520020011 0d44313233343536373839303132333131",
             HOLDER_LINE,
@@ -209,10 +209,10 @@ fn holders_are_told(rt: HostRuntime) -> Result<(), Fail> {
             "C4 identification too short\n",
             1,
         ),
-        // A signature is no data, and may come twice; a block whose value passes the end.
+        // A signature isn't data, and may occur twice; and a block whose value extends beyond the end.
         ("0520010001ff 0520010001ff", HOLDER_LINE, 0),
         ("05040100", "C1 truncated block at 22\n", 1),
-        // A truncated block is told before a block that comes twice, and that before a short one.
+        // A truncated block is reported before a block that occurs twice, and that before a block that is too short.
         (
             "05200000110d44313233343536373839303132333030 05",
             "C1 truncated block at 44\n",
@@ -233,7 +233,7 @@ fn holders_are_told(rt: HostRuntime) -> Result<(), Fail> {
     Ok(())
 }
 
-/// What `card` writes of an input over memory, read by the part of this name, and its status.
+/// What `card` writes for an input in memory, read by the part with this name, and its status.
 fn listed(alloc: Global, part: &str, input: &[u8]) -> (Vec<u8>, u8) {
     let mut reader = Device::new(input);
     let mut writer = Device::new(Vec::new(alloc));
@@ -241,7 +241,7 @@ fn listed(alloc: Global, part: &str, input: &[u8]) -> (Vec<u8>, u8) {
     (writer.into_inner(), status)
 }
 
-/// Two days in the block of the first generation; and 4 March there, and the 5th in that of the second.
+/// Two days in the block of the first generation; and then 4 March in that block, and 5 March in the block of the second generation.
 const TWO_DAYS_IN_ONE: &str =
     "0504000028 00000014 0000001465e50f0000010064000011e019fe23fc 0014001065e6608000020000000011e0";
 
@@ -256,7 +256,7 @@ const FIRST_DAY_LINES: &str = "\
 
 const SECOND_DAY_LINE: &str = "2024-03-05 00:00 2024-03-05 08:00 rest single\n";
 
-/// Parts, what stands in a file behind the identification, and the text and the status of `card`.
+/// Parts, the bytes of a file after the identification, and the text and the status of `card`.
 static FILES: [(&str, &str, &str, u8); 12] = [
     ("both", TWO_DAYS_IN_ONE, TWO_DAYS_LINES, 0),
     ("first", TWO_DAYS_IN_ONE, TWO_DAYS_LINES, 0),
@@ -264,14 +264,14 @@ static FILES: [(&str, &str, &str, u8); 12] = [
     ("both", A_DAY_IN_EACH, TWO_DAYS_LINES, 0),
     ("first", A_DAY_IN_EACH, FIRST_DAY_LINES, 0),
     ("second", A_DAY_IN_EACH, SECOND_DAY_LINE, 0),
-    // The two generations give one minute two marks.
+    // The two generations give different marks to one minute.
     (
         "both",
         "0504000014 00000000 0000001065e50f0000010000000011e0 0504020014 00000000 0000001065e50f0000010000180011e0",
         "C14 file contradicts itself at 2024-03-04 00:00\n",
         1,
     ),
-    // A file with a fault, one without activity data, and data that are too short.
+    // A file with a fault, a file without activity data, and a file whose activity data are too short.
     ("both", "05040100", "C1 truncated block at 22\n", 1),
     ("first", "", "C6 no activity data\n", 1),
     (
@@ -312,7 +312,7 @@ fn a_bad_part_is_refused_before_the_input(rt: HostRuntime) -> Result<(), Fail> {
 #[test]
 fn readers_fail_at_each_call(rt: HostRuntime) -> Result<(), Fail> {
     let input = bytes_of(&rt, rt.alloc(), TWO_DAYS);
-    // Forty bytes in pieces of seven take six calls, and one more for the end.
+    // Forty bytes in pieces of seven need six calls, and one more for the end.
     for calls in 0..9 {
         let mut reader = Faulty::new(rt.alloc(), &input, 7, calls);
         let mut writer = Device::new(Vec::new(rt.alloc()));
@@ -329,7 +329,7 @@ fn readers_fail_at_each_call(rt: HostRuntime) -> Result<(), Fail> {
         assert!(rt; status == wanted, "of {calls} calls");
     }
     let input = bytes_of(&rt, rt.alloc(), IDENTIFICATION);
-    // Twenty-two bytes in pieces of seven take four calls, and one more for the end.
+    // Twenty-two bytes in pieces of seven need four calls, and one more for the end.
     for calls in 0..7 {
         let mut reader = Faulty::new(rt.alloc(), &input, 7, calls);
         let mut writer = Device::new(Vec::new(rt.alloc()));
@@ -352,7 +352,7 @@ fn readers_fail_at_each_call(rt: HostRuntime) -> Result<(), Fail> {
 fn writers_fail_at_each_call(rt: HostRuntime) -> Result<(), Fail> {
     let input = bytes_of(&rt, rt.alloc(), TWO_DAYS);
     let lines = TWO_DAYS_LINES.as_bytes();
-    // The lines in pieces of fifty bytes take four calls.
+    // The lines in pieces of fifty bytes need four calls.
     for calls in 0..6 {
         let mut reader = Device::new(input.as_slice());
         let mut writer = Faulty::new(rt.alloc(), b"", 50, calls);
@@ -367,7 +367,7 @@ fn writers_fail_at_each_call(rt: HostRuntime) -> Result<(), Fail> {
     Ok(())
 }
 
-/// Words, and the job that they name.
+/// Arguments, and the job that they name.
 static JOBS: [(&[&str], Job<'static>); 25] = [
     (&["tacho", "dump"], Job::Dump),
     (&["tacho", "holder"], Job::Holder),
@@ -559,7 +559,7 @@ static JOBS: [(&[&str], Job<'static>); 25] = [
     ),
 ];
 
-/// Ports and counts of which one is none.
+/// Ports and counts, one of which isn't a valid number.
 static NO_NUMBERS: [(&str, &str); 10] = [
     ("0", "1"),
     ("65536", "1"),
@@ -573,7 +573,7 @@ static NO_NUMBERS: [(&str, &str); 10] = [
     ("1", ""),
 ];
 
-/// The words of a command line.
+/// The arguments of a command line.
 fn strings(alloc: Global, words: &[&str]) -> Result<Vec<String>, AllocError> {
     let mut given = Vec::new(alloc);
     for word in words {
@@ -747,7 +747,7 @@ Usage: tacho dump
 For more information, try '--help'.
 ";
 
-/// What is told of words that name no job.
+/// What is printed for arguments that name no job.
 fn told(rt: &impl Abort, alloc: Global, words: &[&str]) -> Result<String, AllocError> {
     let given = strings(alloc, words)?;
     match parse(alloc, &given) {

@@ -1,4 +1,4 @@
-//! Connections to an archive: several in one run, and one over loopback.
+//! Connections to an archive: several in one run, and one over the loopback interface.
 
 use crate::faulty::Faulty;
 use crate::requests::{CASES, OFFICE, archive, archive_after, holds, same};
@@ -9,7 +9,7 @@ use std::time::Duration;
 use tacho_http::{answer, answer_all};
 use tacho_time::Device;
 
-/// How many seconds a test waits for the other end of its connection.
+/// The most seconds that a test waits for the other end of its connection.
 const PATIENCE: u64 = 10;
 
 #[test]
@@ -48,7 +48,7 @@ fn a_fault_ends_its_connection_alone(rt: HostRuntime) -> Result<(), Fail> {
             Faulty::new(alloc, request, 512, 1),
             Faulty::new(alloc, b"", 512, 9),
         ),
-        // The writer fails. The request has acted.
+        // The writer fails. The request was acted on.
         (
             Faulty::new(alloc, request, 512, 1),
             Faulty::new(alloc, b"", 512, 0),
@@ -77,7 +77,7 @@ fn a_client_that_stays_has_its_reply(rt: HostRuntime) -> Result<(), Fail> {
     let mut client = TcpStream::connect(&rt, listener.local_addr()?)?;
     client.write_all(request)?;
     let (stream, _) = listener.accept()?;
-    // A server that reads on, behind a request that is whole, would wait for ever.
+    // A server that reads beyond a complete request would wait forever.
     let patience = Duration::from_secs(PATIENCE);
     stream.set_read_timeout(Some(patience))?;
     let mut reader = Device::new(&stream);

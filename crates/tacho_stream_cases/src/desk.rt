@@ -10,10 +10,10 @@ use tacho_desk::{MonthOfAll, MonthReading, Reading, Want};
 use tacho_shelf::Shelf;
 use tacho_time::{Device, Sink, Source};
 
-/// A job, its input, its text, and its text when it is done once more.
+/// A job, its input, its text, and its text when it is done again.
 pub(crate) type Case = (Job<'static>, &'static [u8], &'static str, &'static str);
 
-/// Jobs that read, one after the other.
+/// Jobs that have an input, in sequence.
 pub(crate) static CASES: [Case; 3] = [
     (
         Job::AtDesk {
@@ -50,7 +50,7 @@ pub(crate) static CASES: [Case; 3] = [
     ),
 ];
 
-/// What a job at the desk answers.
+/// Does a job at an archive, and returns its status.
 pub(crate) fn performed<R: Source, W: Sink>(
     alloc: Global,
     shelf: &mut Shelf,
@@ -67,7 +67,7 @@ pub(crate) fn performed<R: Source, W: Sink>(
     Ok(perform(alloc, job, shelf, reader, writer))
 }
 
-/// What a job with this input writes, and its status, where no device fails.
+/// What a job with this input writes, and its status, if no device fails.
 pub(crate) fn answer(
     alloc: Global,
     shelf: &mut Shelf,
@@ -79,7 +79,7 @@ pub(crate) fn answer(
     Ok((writer.into_inner(), status))
 }
 
-/// An archive at which the first so many of the cases were done.
+/// An archive at which the first `count` cases were done.
 pub(crate) fn archive_after(alloc: Global, count: usize) -> Result<Shelf, Fail> {
     let mut shelf = Shelf::new(alloc);
     for (job, input, _, _) in CASES.iter().take(count) {
@@ -195,7 +195,7 @@ fn jobs_without_an_input_ask_no_reader(rt: HostRuntime) -> Result<(), Fail> {
     Ok(())
 }
 
-/// Jobs that have an input, and whose arguments have a fault, with its line.
+/// Jobs that have an input but bad arguments, and the line of the fault.
 static WRONG_ARGUMENTS: [(Job<'static>, &str); 3] = [
     (
         Job::AtDesk {
@@ -246,7 +246,7 @@ fn jobs_with_wrong_arguments_ask_no_reader(rt: HostRuntime) -> Result<(), Fail> 
 #[test]
 fn readers_fail_at_each_call(rt: HostRuntime) -> Result<(), Fail> {
     for (place, (job, input, text, _)) in CASES.iter().enumerate() {
-        // Each seven bytes take a call, the last ones too, and the end takes one.
+        // Each group of seven bytes needs a call, including the last one, and the end needs one more.
         let needed = input.len().div_ceil(7) + 1;
         for calls in 0..needed + 2 {
             let mut shelf = archive_after(rt.alloc(), place)?;
@@ -264,7 +264,7 @@ fn readers_fail_at_each_call(rt: HostRuntime) -> Result<(), Fail> {
                 "of {calls} calls"
             );
             assert!(rt; status == 3, "of {calls} calls");
-            // The archive is as before: the job can be done.
+            // The archive is as it was before, so the job can be done.
             let (written, status) = answer(rt.alloc(), &mut shelf, *job, *input)?;
             assert!(rt;
                 written.as_slice() == text.as_bytes(),
@@ -299,7 +299,7 @@ fn writers_fail_at_each_call(rt: HostRuntime) -> Result<(), Fail> {
                 status == if calls < needed { 3 } else { 0 },
                 "of {calls} calls"
             );
-            // The job has acted.
+            // The job was done.
             let (written, _) = answer(rt.alloc(), &mut shelf, *job, *input)?;
             assert!(rt;
                 written.as_slice() == again.as_bytes(),
@@ -310,7 +310,7 @@ fn writers_fail_at_each_call(rt: HostRuntime) -> Result<(), Fail> {
     Ok(())
 }
 
-/// What is done at an archive before its drivers are listed: the wants, drivers and words, and their inputs.
+/// What is done at an archive before its drivers are listed: the tasks, drivers and other arguments, and the inputs.
 static BEFORE_THE_LIST: [(Want, &str, &str, &[u8]); 7] = [
     (
         Want::Register,

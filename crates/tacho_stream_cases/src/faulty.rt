@@ -1,10 +1,10 @@
-//! Readers and writers over memory that fail: as a source and a sink, and as streams of std.
+//! Readers and writers in memory that fail: as a source and a sink, and as streams of std.
 
 use std::alloc::Global;
 use std::io::{self, ErrorKind, Read, Write};
 use tacho_time::{Failed, Sink, Source};
 
-/// A reader and writer over memory that moves so many bytes a call, and fails once its calls are used up.
+/// A reader and writer in memory that moves at most `bytes_a_call` bytes per call, and fails once its calls are used up.
 #[derive(Drop)]
 pub(crate) struct Faulty<'a> {
     input: &'a [u8],
@@ -85,19 +85,19 @@ impl<'a> Sink for Faulty<'a> {
     }
 }
 
-/// What one call of a stream does in place of moving its bytes.
+/// What one call of a stream does instead of moving its bytes.
 #[derive(Clone, Copy, Debug)]
 pub(crate) enum Quirk {
-    /// It fails.
+    /// The call fails.
     Fails,
-    /// It moves one of them.
+    /// The call moves one byte.
     MovesOne,
-    /// It moves none.
+    /// The call moves no bytes.
     MovesNone,
 }
 
-/// A reader and a writer of std over memory that moves so many bytes a call, but for one call, which is counted from 0. The calls
-/// behind that one move theirs.
+/// A reader and writer of std in memory that moves at most `bytes_a_call` bytes per call, except for one call, counted from 0. Later calls
+/// move their bytes again.
 #[derive(Drop)]
 pub(crate) struct Stream<'a> {
     input: &'a [u8],
@@ -126,7 +126,7 @@ impl<'a> Stream<'a> {
         }
     }
 
-    /// Counts a call, and answers how many it moves of so many bytes.
+    /// Counts a call, and returns how many of `bytes` it moves.
     fn count(&mut self, bytes: usize) -> io::Result<usize> {
         let call = self.calls;
         self.calls = call.saturating_add(1);

@@ -4,12 +4,12 @@ use crate::requests::{archive, ask, reply_with, same};
 use std::alloc::{AllocError, Global};
 use std::test::Fail;
 
-/// A head that is followed by nothing, and then the status of the reply, and its text.
+/// A head that nothing follows, the status of the reply, and its text.
 type Headed = (&'static [u8], &'static str, &'static str);
 
-/// Heads, and what is no head.
+/// Heads, and bytes that are no head.
 static HEADS: [Headed; 20] = [
-    // Fields of other names, a key without a blank before it, and both versions.
+    // Fields with other names, a key without a blank before it, and both versions.
     (
         b"GET /drivers/17/owed HTTP/1.1\r\nhost: tacho\r\nx-key:office-key-1\r\nx-keys: anna-key-1\r\n\r\n",
         "200 OK",
@@ -25,7 +25,7 @@ static HEADS: [Headed; 20] = [
         "400 Bad Request",
         "bad request\n",
     ),
-    // Keys: one, and the whole of it.
+    // Keys: exactly one, and compared as a whole.
     (
         b"GET /drivers/17/owed HTTP/1.1\r\nX-Key: office-key-1\r\nx-key: office-key-1\r\n\r\n",
         "403 Forbidden",
@@ -61,7 +61,7 @@ static HEADS: [Headed; 20] = [
         "403 Forbidden",
         "forbidden\n",
     ),
-    // A key comes before the path, and a head before the key.
+    // The key is checked before the path, and the head before the key.
     (
         b"GET /nothing HTTP/1.1\r\nx-key: bert-key-1\r\n\r\n",
         "403 Forbidden",
@@ -92,7 +92,7 @@ static HEADS: [Headed; 20] = [
         "400 Bad Request",
         "bad request\n",
     ),
-    // Targets that are UTF-8, and that aren't.
+    // Targets that are UTF-8, and targets that aren't.
     (
         b"GET /\xc3\xa9 HTTP/1.1\r\nx-key: office-key-1\r\n\r\n",
         "404 Not Found",
@@ -115,7 +115,7 @@ static HEADS: [Headed; 20] = [
     ),
 ];
 
-/// What comes behind a field that fills a head to so many bytes; then the status of the reply, and its text.
+/// The length of a head, what follows the field that fills it up, the status of the reply, and its text.
 static FILLED: [(usize, &str, &str, &str); 6] = [
     (
         8_192,
@@ -150,7 +150,7 @@ static FILLED: [(usize, &str, &str, &str); 6] = [
     ),
 ];
 
-/// A head with one field that is filled with letters, until the head has so many bytes with what comes behind them.
+/// A head with one field that is filled with letters until the head, including `behind` after the letters, has `length` bytes.
 fn filled(alloc: Global, length: usize, behind: &str) -> Result<String, AllocError> {
     let mut head = String::from_str(
         alloc,
@@ -166,7 +166,7 @@ fn filled(alloc: Global, length: usize, behind: &str) -> Result<String, AllocErr
     Ok(head)
 }
 
-/// A head with so many fields beside the key.
+/// A head with `count` fields in addition to the key.
 fn with_fields(alloc: Global, count: usize) -> Result<String, AllocError> {
     let mut head = String::from_str(alloc, "GET /me/owed HTTP/1.1\r\nx-key: anna-key-1\r\n")?;
     for _ in 0..count {
@@ -185,7 +185,7 @@ fn heads_have_limits(rt: HostRuntime) -> Result<(), Fail> {
         let reply = ask(alloc, &mut shelf, head)?;
         same(&rt, "head", place, &reply, wanted.as_bytes());
     }
-    // Cut after each of its bytes, a head is none.
+    // A head that is cut after any of its bytes is no head.
     let head = b"GET /me/breaches HTTP/1.1\r\nx-key: anna-key-1\r\n\r\n".as_slice();
     let wanted = reply_with(alloc, "400 Bad Request", "bad request\n")?;
     for length in 0..head.len() {
@@ -228,7 +228,7 @@ fn heads_have_limits(rt: HostRuntime) -> Result<(), Fail> {
 #[test]
 fn bodies_have_a_limit(rt: HostRuntime) -> Result<(), Fail> {
     let alloc = rt.alloc();
-    // The first block of a card file, and then empty ones, of five bytes each.
+    // The first block of a card file, followed by empty blocks of five bytes each.
     for (length, sent, status, text) in [
         (
             262_144,

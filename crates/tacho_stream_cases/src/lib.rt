@@ -1,4 +1,4 @@
-//! Worked cases of `tacho_desk`, `tacho_cli` and `tacho_http` over readers and writers, as tests.
+//! Worked cases of `tacho_desk`, `tacho_cli` and `tacho_http`, with readers and writers, as tests.
 #![tactic(auto)]
 
 #[cfg(test)]

@@ -1,4 +1,4 @@
-//! The texts of stretches, of a month of all drivers, and the form for gaps, as commands over an archive.
+//! The texts of stretches, of a month of all drivers, and of the form for gaps, as commands on an archive.
 
 use crate::desk::{answer, performed};
 use crate::faulty::Faulty;
@@ -10,7 +10,7 @@ use tacho_desk::{MonthOfAll, MonthReading, Reading, Want};
 use tacho_shelf::Shelf;
 use tacho_time::Device;
 
-/// What is wanted, the driver's number and the other word, and the text and the status that are answered.
+/// What is asked for, the driver's number, the other argument, and the expected text and status.
 type Asked = (Want, &'static str, &'static str, &'static str, u8);
 
 const STRETCHES: Want = Want::Reading(Reading::Stretches);
@@ -23,7 +23,7 @@ const OVERVIEW: Want = Want::MonthOfAll(MonthOfAll::Overview);
 
 const INCIDENTS: Want = Want::MonthOfAll(MonthOfAll::Incidents);
 
-/// What is asked of an archive without drivers.
+/// Commands on an archive without drivers.
 static OF_NOBODY: [Asked; 7] = [
     (
         OVERVIEW,
@@ -46,7 +46,7 @@ static OF_NOBODY: [Asked; 7] = [
     (FORM, "1", "", "S4 unknown driver\n", 1),
 ];
 
-/// What is asked in words that are wrong, of whatever archive. The driver comes before the month.
+/// Commands with bad arguments, on any archive. The driver is checked before the month.
 static IN_WRONG_WORDS: [Asked; 21] = [
     (STRETCHES, "0", "", "N1 bad number\n", 1),
     (STRETCHES, "017", "", "N1 bad number\n", 1),
@@ -83,7 +83,7 @@ static IN_WRONG_WORDS: [Asked; 21] = [
     ),
 ];
 
-/// What is asked of an archive with two drivers, of whom one holds hours of two Mondays and the other none.
+/// Commands on an archive with two drivers: one holds hours of two Mondays, the other none.
 static OF_TWO: [Asked; 11] = [
     (
         STRETCHES,
@@ -144,7 +144,7 @@ EXAMINED TO 2024-03-11 00:00 unknown
     ),
     (FORM, "5", "", "start,past,activity,author,note\n", 0),
     (STRETCHES, "6", "", "S4 unknown driver\n", 1),
-    // The lower number first, which came last.
+    // The lower number comes first, although it was registered last.
     (
         OVERVIEW,
         "",
@@ -186,7 +186,7 @@ driver,name,rest,available,work,drive,crew,none,examined,B1,B2,B3,B4,B5,B6,B7,B8
     ),
 ];
 
-/// Two drivers, the later number first.
+/// Two drivers, the greater number first.
 static DRIVERS: [&[u8]; 2] = [
     b"driver,holder,key,base,name\n17,0d4431323334353637383930313233,anna-key-1,2024-03-04,Anna Berg\n",
     b"driver,holder,key,base,name\n5,0d4431323334353637383930313234,ben-key-12,2024-03-11,Ben Olsen\n",
@@ -200,7 +200,7 @@ const HOURS: &[u8] = b"start,past,activity\n\
     2024-03-11 00:00,2024-03-11 07:00,rest\n\
     2024-03-11 07:00,2024-03-11 11:00,drive\n";
 
-/// The job of what is wanted.
+/// The job that asks for this.
 fn job_of(want: Want, driver: &'static str, word: &'static str) -> Job<'static> {
     Job::AtDesk {
         archive: "a.db",
@@ -220,7 +220,7 @@ fn archive_of_two(alloc: Global) -> Result<Shelf, Fail> {
     Ok(shelf)
 }
 
-/// What is asked of an archive is answered.
+/// Asserts the text and the status that an archive answers.
 fn assert_answered(
     rt: &impl Abort,
     alloc: Global,
@@ -266,7 +266,7 @@ fn readings_of_two_drivers_are_told(rt: HostRuntime) -> Result<(), Fail> {
     Ok(())
 }
 
-/// What is asked is written up to where a writer fails, which takes seven bytes a call.
+/// Asserts that the text is written up to the point at which the writer fails. The writer takes seven bytes per call.
 fn assert_cut(rt: &impl Abort, alloc: Global, shelf: &mut Shelf, asked: Asked) -> Result<(), Fail> {
     let (want, driver, word, text, wanted) = asked;
     let needed = text.len().div_ceil(7);
@@ -306,7 +306,7 @@ fn writers_fail_at_each_call(rt: HostRuntime) -> Result<(), Fail> {
     Ok(())
 }
 
-/// What is entered of the form of driver 17 without an activity, without an author, and filled in.
+/// Inputs from driver 17's form: without an activity, without an author, and filled in.
 static FILLED: [(&[u8], &str, u8); 3] = [
     (
         b"start,past,activity,author,note\n2024-03-04 17:00,2024-03-11 00:00,,,\n",
@@ -334,7 +334,7 @@ fn a_form_is_filled_in(rt: HostRuntime) -> Result<(), Fail> {
         assert!(rt; written.as_slice() == told.as_bytes(), "{told}");
         assert!(rt; status == wanted, "{told}");
     }
-    // No gap is left, and one stretch.
+    // No gap is left, and there is one stretch.
     let head = "start,past,activity,author,note\n";
     assert_answered(&rt, alloc, &mut shelf, (FORM, "17", "", head, 0))?;
     let whole = "FROM 2024-03-04\nEXAMINED TO 2024-03-11 11:00 unknown\n";

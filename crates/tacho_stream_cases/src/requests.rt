@@ -14,7 +14,7 @@ pub(crate) const OFFICE: &[u8] = b"office-key-1";
 /// A request, and the reply to it.
 type Exchange = (&'static [u8], &'static [u8]);
 
-/// Requests to one archive, one after the other.
+/// Requests to one archive, in sequence.
 static CONVERSATION: [Exchange; 39] = [
     // A driver is registered.
     (
@@ -38,7 +38,7 @@ static CONVERSATION: [Exchange; 39] = [
         b"GET /me/entries HTTP/1.1\r\nx-key: anna-key-1\r\n\r\n",
         b"HTTP/1.1 200 OK\r\ncontent-type: text/plain; charset=utf-8\r\ncontent-length: 0\r\nconnection: close\r\n\r\n",
     ),
-    // Cards: his, the same once more, by himself one that isn't his, one of nobody, and no card.
+    // Card files: the driver's own, the same again, a different card's sent by the driver, one that belongs to nobody, and no card file.
     (
         b"POST /cards/both HTTP/1.1\r\nx-key: office-key-1\r\ncontent-length: 67\r\n\r\n\x05\x20\x00\x00\x11\x0dD123456789012300\x05\x04\x00\x00\x28\x00\x00\x00\x14\x00\x00\x00\x14\x65\xe5\x0f\x00\x00\x01\x00\x64\x00\x00\x11\xe0\x19\xfe\x23\xfc\x00\x14\x00\x10\x65\xe6\x60\x80\x00\x02\x00\x00\x00\x00\x11\xe0",
         b"HTTP/1.1 201 Created\r\ncontent-type: text/plain; charset=utf-8\r\ncontent-length: 25\r\nconnection: close\r\n\r\nadded driver 17 number 1\n",
@@ -59,7 +59,7 @@ static CONVERSATION: [Exchange; 39] = [
         b"POST /cards/both HTTP/1.1\r\nx-key: office-key-1\r\ncontent-length: 0\r\n\r\n",
         b"HTTP/1.1 422 Unprocessable Entity\r\ncontent-type: text/plain; charset=utf-8\r\ncontent-length: 21\r\nconnection: close\r\n\r\nC3 no identification\n",
     ),
-    // What isn't served.
+    // Requests that aren't supported.
     (
         b"GET /nothing HTTP/1.1\r\nx-key: office-key-1\r\n\r\n",
         b"HTTP/1.1 404 Not Found\r\ncontent-type: text/plain; charset=utf-8\r\ncontent-length: 10\r\nconnection: close\r\n\r\nnot found\n",
@@ -88,7 +88,7 @@ static CONVERSATION: [Exchange; 39] = [
         b"GET /me/breaches HTTP/1.1\r\n\r\n",
         b"HTTP/1.1 403 Forbidden\r\ncontent-type: text/plain; charset=utf-8\r\ncontent-length: 10\r\nconnection: close\r\n\r\nforbidden\n",
     ),
-    // His breaches, for himself and for the office, and for nobody else.
+    // The driver's breaches, for the driver and for the office, and for nobody else.
     (
         b"GET /me/breaches HTTP/1.1\r\nx-key: anna-key-1\r\n\r\n",
         b"HTTP/1.1 200 OK\r\ncontent-type: text/plain; charset=utf-8\r\ncontent-length: 100\r\nconnection: close\r\n\r\nB1 Art 7 at 2024-03-04 13:00 since 2024-03-04 08:30 amount 240\nEXAMINED TO 2024-03-04 17:00 unknown\n",
@@ -105,7 +105,7 @@ static CONVERSATION: [Exchange; 39] = [
         b"GET /drivers/17/breaches HTTP/1.1\r\nx-key: bert-key-1\r\n\r\n",
         b"HTTP/1.1 403 Forbidden\r\ncontent-type: text/plain; charset=utf-8\r\ncontent-length: 10\r\nconnection: close\r\n\r\nforbidden\n",
     ),
-    // What else is told of him.
+    // Other readings about the driver.
     (
         b"GET /me/files/1 HTTP/1.1\r\nx-key: anna-key-1\r\n\r\n",
         b"HTTP/1.1 200 OK\r\ncontent-type: application/octet-stream\r\ncontent-length: 67\r\nconnection: close\r\n\r\n\x05\x20\x00\x00\x11\x0dD123456789012300\x05\x04\x00\x00\x28\x00\x00\x00\x14\x00\x00\x00\x14\x65\xe5\x0f\x00\x00\x01\x00\x64\x00\x00\x11\xe0\x19\xfe\x23\xfc\x00\x14\x00\x10\x65\xe6\x60\x80\x00\x02\x00\x00\x00\x00\x11\xe0",
@@ -167,7 +167,7 @@ static CONVERSATION: [Exchange; 39] = [
         b"GET /me/entries HTTP/1.1\r\nx-key: anna-key-1\r\n\r\n",
         b"HTTP/1.1 200 OK\r\ncontent-type: text/plain; charset=utf-8\r\ncontent-length: 63\r\nconnection: close\r\n\r\n1 2024-03-06 00:00 2024-03-06 08:00 rest withdrawn \"office\" \"\"\n",
     ),
-    // His base is set.
+    // The driver's base is set.
     (
         b"POST /drivers/17/base/2024-03-05 HTTP/1.1\r\nx-key: office-key-1\r\n\r\n",
         b"HTTP/1.1 422 Unprocessable Entity\r\ncontent-type: text/plain; charset=utf-8\r\ncontent-length: 16\r\nconnection: close\r\n\r\nS9 not a Monday\n",
@@ -182,10 +182,10 @@ static CONVERSATION: [Exchange; 39] = [
     ),
 ];
 
-/// A request, the reply to it, and the reply when it is made once more.
+/// A request, the reply to it, and the reply when it is made again.
 pub(crate) type Case = (&'static [u8], &'static [u8], &'static [u8]);
 
-/// Requests whose reader or writer fails, to one archive, one after the other.
+/// Requests to one archive, in sequence, whose reader or writer fails.
 pub(crate) static CASES: [Case; 6] = [
     (
         b"POST /drivers HTTP/1.1\r\nx-key: office-key-1\r\ncontent-length: 94\r\n\r\ndriver,holder,key,base,name\n17,0d4431323334353637383930313233,anna-key-1,2024-03-04,Anna Berg\n",
@@ -212,7 +212,7 @@ pub(crate) static CASES: [Case; 6] = [
         b"HTTP/1.1 200 OK\r\ncontent-type: text/plain; charset=utf-8\r\ncontent-length: 12\r\nconnection: close\r\n\r\nwithdrawn 1\n",
         b"HTTP/1.1 409 Conflict\r\ncontent-type: text/plain; charset=utf-8\r\ncontent-length: 21\r\nconnection: close\r\n\r\nS8 already withdrawn\n",
     ),
-    // Of the body nothing is read.
+    // Nothing of the body is read.
     (
         b"POST /cards/both HTTP/1.1\r\nx-key: bert-key-1\r\ncontent-length: 67\r\n\r\n",
         b"HTTP/1.1 403 Forbidden\r\ncontent-type: text/plain; charset=utf-8\r\ncontent-length: 10\r\nconnection: close\r\n\r\nforbidden\n",
@@ -220,11 +220,11 @@ pub(crate) static CASES: [Case; 6] = [
     ),
 ];
 
-/// How many of the cases make the archive that the other tests ask.
+/// How many of the cases make the archive that the other tests use.
 const BEGUN: usize = 3;
 
-/// A request of the office: its method and path, its fields beside the key, and what comes behind its head; then the status of
-/// the reply, and its text.
+/// A request of the office: its method and path, its fields other than the key, and what comes after its head; then the status of the
+/// reply, and its text.
 type Asked = (
     &'static str,
     &'static str,
@@ -235,7 +235,7 @@ type Asked = (
 
 /// Requests in which more than one thing may be wrong, each to a new archive.
 static ORDER: [Asked; 54] = [
-    // A path and its method come before the fields.
+    // The path and the method are checked before the fields.
     (
         "POST /nothing",
         "transfer-encoding: chunked\r\n",
@@ -264,7 +264,7 @@ static ORDER: [Asked; 54] = [
         "403 Forbidden",
         "forbidden\n",
     ),
-    // The fields and the body come before the words of the path.
+    // The fields and the body are checked before the arguments in the path.
     (
         "POST /drivers/017/entries",
         "",
@@ -300,7 +300,7 @@ static ORDER: [Asked; 54] = [
         "400 Bad Request",
         "bad request\n",
     ),
-    // The words of the path come from left to right, and before the text of the body.
+    // The arguments in the path are checked from left to right, and before the text of the body.
     (
         "POST /drivers/017/entries",
         "content-length: 5\r\n",
@@ -364,7 +364,7 @@ static ORDER: [Asked; 54] = [
         "400 Bad Request",
         "N1 bad number\n",
     ),
-    // The text of the body comes before the archive.
+    // The text of the body is checked before the archive is accessed.
     (
         "POST /drivers/18/entries",
         "content-length: 5\r\n",
@@ -386,7 +386,7 @@ static ORDER: [Asked; 54] = [
         "404 Not Found",
         "S4 unknown driver\n",
     ),
-    // A body that is sent in chunks, whatever its length.
+    // A body that is sent in chunks, of any length.
     (
         "POST /drivers/17/entries",
         "transfer-encoding: chunked\r\n",
@@ -415,7 +415,7 @@ static ORDER: [Asked; 54] = [
         "400 Bad Request",
         "bad request\n",
     ),
-    // Its length: once, in 1 to 12 digits.
+    // The length of the body: given once, in 1 to 12 digits.
     (
         "POST /drivers/17/entries",
         "content-length: 19\r\nContent-Length: 19\r\n",
@@ -578,7 +578,7 @@ static ORDER: [Asked; 54] = [
         "413 Payload Too Large",
         "too large\n",
     ),
-    // What comes behind the body.
+    // Bytes after the body.
     (
         "POST /drivers/17/entries",
         "content-length: 19\r\n",
@@ -600,7 +600,7 @@ static ORDER: [Asked; 54] = [
         "200 OK",
         "1 2024-03-06 00:00 2024-03-06 08:00 rest kept \"office\" \"\"\n",
     ),
-    // Of a GET no body is looked at.
+    // The body of a GET is ignored.
     (
         "GET /drivers/17/entries",
         "content-length: lunch\r\n",
@@ -624,18 +624,18 @@ static ORDER: [Asked; 54] = [
     ),
 ];
 
-/// Ends the test where a row's reply isn't the one that is wanted.
+/// Fails the test if a row's reply isn't the expected one.
 pub(crate) fn same(rt: &impl Abort, row: &str, place: usize, reply: &[u8], wanted: &[u8]) {
     let text = str::from_utf8(reply).unwrap_or("bytes");
     assert!(rt; reply == wanted, "of {row} {place}: {text}");
 }
 
-/// Ends the test where something doesn't hold of a row.
+/// Fails the test if something isn't true of a row.
 pub(crate) fn holds(rt: &impl Abort, row: &str, place: usize, is_so: bool) {
     assert!(rt; is_so, "of {row} {place}");
 }
 
-/// The reply to a request, where the office has this key and no device fails.
+/// The reply to a request, with this key of the office, if no device fails.
 fn ask_by(
     alloc: Global,
     shelf: &mut Shelf,
@@ -653,12 +653,12 @@ fn ask_by(
     Ok(writer.into_inner())
 }
 
-/// The reply to a request, where no device fails.
+/// The reply to a request, if no device fails.
 pub(crate) fn ask(alloc: Global, shelf: &mut Shelf, request: &[u8]) -> Result<Vec<u8>, IoFault> {
     ask_by(alloc, shelf, OFFICE, request)
 }
 
-/// A reply that has a text.
+/// A reply with a text.
 pub(crate) fn reply_with(alloc: Global, status: &str, text: &str) -> Result<String, AllocError> {
     let length = text.len();
     format!(in alloc;
@@ -666,7 +666,7 @@ pub(crate) fn reply_with(alloc: Global, status: &str, text: &str) -> Result<Stri
     )
 }
 
-/// An archive to which the first so many of the cases were sent.
+/// An archive to which the first `count` cases were sent.
 pub(crate) fn archive_after(alloc: Global, count: usize) -> Result<Shelf, IoFault> {
     let mut shelf = Shelf::new(alloc);
     for (request, _, _) in CASES.iter().take(count) {
@@ -675,7 +675,7 @@ pub(crate) fn archive_after(alloc: Global, count: usize) -> Result<Shelf, IoFaul
     Ok(shelf)
 }
 
-/// An archive with driver 17, a card file of his, and an entry.
+/// An archive with driver 17, a card file of that driver, and an entry.
 pub(crate) fn archive(alloc: Global) -> Result<Shelf, IoFault> {
     archive_after(alloc, BEGUN)
 }
@@ -688,7 +688,7 @@ fn a_conversation_is_answered(rt: HostRuntime) -> Result<(), Fail> {
     for (place, (request, wanted)) in CONVERSATION.iter().enumerate() {
         let reply = ask(alloc, &mut shelf, request)?;
         same(&rt, "request", place, &reply, wanted);
-        // A byte a call, and no call more than there are bytes.
+        // One byte per call, and no more calls than there are bytes.
         let mut reader = Faulty::new(alloc, *request, 1, request.len());
         let mut writer = Device::new(Vec::new(alloc));
         answer(alloc, &mut slow, OFFICE, &mut reader, &mut writer)?;

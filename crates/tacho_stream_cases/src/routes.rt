@@ -3,7 +3,7 @@
 use crate::requests::{archive, ask, holds};
 use std::test::Fail;
 
-/// What may be asked for: everything else is denied.
+/// What may be asked for. Everything else is denied.
 static ALLOWED: &str = "\
 office POST /drivers
 office POST /cards/both
@@ -27,8 +27,8 @@ driver GET /me/entries
 driver GET /me/files/1
 ";
 
-/// A path of each kind, and then some that aren't any. Behind it stand the statuses of GET, POST, PUT and HEAD: with the office's
-/// key, with that of driver 17, with nobody's, without a key, and with two.
+/// A path of each kind, and then some that name nothing. After each path come the statuses of GET, POST, PUT and HEAD: with the office's
+/// key, with the key of driver 17, with nobody's key, without a key, and with two keys.
 static STATUSES: &str = "\
 /drivers                        405 201 405 405  405 403 405 405  403 403 403 403  403 403 403 403  403 403 403 403
 /cards/both                     405 200 405 405  405 403 405 405  403 403 403 403  403 403 403 403  403 403 403 403
@@ -78,7 +78,7 @@ me/owed                         404 404 404 404  404 404 404 404  403 403 403 40
 http://tacho/me/owed            404 404 404 404  404 404 404 404  403 403 403 403  403 403 403 403  403 403 403 403
 ";
 
-/// Who asks, and the fields by which he does.
+/// Who asks, and the fields that show it.
 static CALLERS: [(&str, &str); 5] = [
     ("office", "x-key: office-key-1\r\n"),
     ("driver", "x-key: anna-key-1\r\n"),
@@ -110,7 +110,7 @@ fn body_at(path: &str) -> &'static str {
     }
 }
 
-/// Whether a text has a line.
+/// True if a text has this line.
 fn has_line(text: &str, wanted: &str) -> bool {
     for line in text.lines() {
         if line == wanted {

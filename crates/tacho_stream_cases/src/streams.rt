@@ -1,5 +1,5 @@
-//! Readers and writers that fail at each of their calls: what is answered, and what is kept. Each stands there twice, by itself and
-//! as a stream of std in a device.
+//! Readers and writers that fail at each of their calls: what is answered, and what is kept. Each is tried twice: alone, and as a stream of
+//! std in a device.
 
 ghost use Rattle.std.specs.Prelude.{◌≡◌, false};
 
@@ -16,7 +16,7 @@ use tacho_shelf::Shelf;
 use tacho_state::Keeper;
 use tacho_time::{Device, Sink, Source};
 
-/// The drivers of an archive, and the entries and the timeline of driver 17, if it has him.
+/// The drivers of an archive, and the entries and the timeline of driver 17, if that driver exists.
 fn told(alloc: Global, shelf: &mut Shelf) -> Result<String, Fail> {
     let mut text = String::new(alloc);
     let drivers = shelf.drivers(alloc)?;
@@ -36,7 +36,7 @@ fn told(alloc: Global, shelf: &mut Shelf) -> Result<String, Fail> {
     Ok(text)
 }
 
-/// Ends the test where one archive isn't told as another.
+/// Fails the test if the contents of two archives differ.
 fn alike(
     rt: &impl Abort,
     alloc: Global,
@@ -51,7 +51,7 @@ fn alike(
     Ok(())
 }
 
-/// Makes the request of a case, whose reader fails at a call: nothing is written, the archive is as before, and the request can be
+/// Makes the request of a case, whose reader fails at a call. Nothing is written, the archive is as it was before, and the request can be
 /// made again.
 fn fail_to_read<R: Source>(
     rt: &impl Abort,
@@ -82,7 +82,7 @@ fn fail_to_read<R: Source>(
     Ok(())
 }
 
-/// Makes the request of a case, which acts, whether its reply goes out or not.
+/// Makes the request of a case, which is acted on whether or not its reply is written.
 fn act<R: Source, W: Sink>(
     rt: &impl Abort,
     alloc: Global,
@@ -105,7 +105,7 @@ fn act<R: Source, W: Sink>(
     Ok(result)
 }
 
-/// Ends the test where something else was written than the whole of a reply, or a beginning of it by a writer that failed.
+/// Fails the test unless the whole reply was written, or, by a writer that failed, a prefix of it.
 fn begins(
     rt: &impl Abort,
     place: usize,
@@ -130,14 +130,14 @@ fn a_failed_reader_changes_nothing(rt: HostRuntime) -> Result<(), Fail> {
     let alloc = rt.alloc();
     for (place, &case) in CASES.iter().enumerate() {
         let (request, wanted, _) = case;
-        // Each seven bytes take a call, and no call is made behind them.
+        // Each group of seven bytes needs a call, and no call is made after them.
         let needed = request.len().div_ceil(7);
         for call in 0..needed {
             let mut reader = Faulty::new(alloc, request, 7, call);
             fail_to_read(&rt, alloc, place, case, call, &mut reader)?;
             let mut reader = Device::new(Stream::new(alloc, request, 7, Quirk::Fails, call));
             fail_to_read(&rt, alloc, place, case, call, &mut reader)?;
-            // Behind that call the stream would have gone on.
+            // The stream would have continued after that call.
             holds(&rt, "calls", call, reader.into_inner().calls == call + 1);
         }
         let mut reader = Faulty::new(alloc, request, 7, needed);
@@ -149,8 +149,8 @@ fn a_failed_reader_changes_nothing(rt: HostRuntime) -> Result<(), Fail> {
     Ok(())
 }
 
-/// Requests whose heads are refused, each with a body: the request line, the key, the field of the body's length, and the status and the text of the
-/// reply.
+/// Requests whose heads are refused, each with a body: the request line, the key, the field for the body's length, and the status and the
+/// text of the reply.
 static REFUSED_HEADS: [(&str, &str, &str, &str, &str); 6] = [
     (
         "POST /drivers/17/withdraw/1",
@@ -201,7 +201,7 @@ fn the_body_of_a_refused_head_is_not_asked_for(rt: HostRuntime) -> Result<(), Fa
     let alloc = rt.alloc();
     for (place, (line, key, length, status, text)) in REFUSED_HEADS.iter().enumerate() {
         let head = format!(in alloc; "{line} HTTP/1.1\r\nx-key: {key}\r\n{length}\r\n\r\n")?;
-        // A byte a call; the first call after the head fails.
+        // One byte per call; the first call after the head fails.
         let mut reader = Faulty::new(alloc, head.as_bytes(), 1, head.len());
         let mut writer = Device::new(Vec::new(alloc));
         let mut shelf = archive(alloc)?;
@@ -218,7 +218,7 @@ fn a_failed_writer_has_a_beginning(rt: HostRuntime) -> Result<(), Fail> {
     let alloc = rt.alloc();
     for (place, &case) in CASES.iter().enumerate() {
         let (request, wanted, _) = case;
-        // Each call takes five bytes, or fewer at the ends of the reply's head and of its body.
+        // Each call takes five bytes, or fewer at the end of the reply's head and at the end of its body.
         let most = wanted.len().div_ceil(5) + 1;
         for call in 0..most + 1 {
             let mut writer = Faulty::new(alloc, b"", 5, call);
@@ -244,7 +244,7 @@ fn a_failed_stream_has_a_beginning(rt: HostRuntime) -> Result<(), Fail> {
                 let result = act(&rt, alloc, place, case, call, &mut reader, &mut writer)?;
                 let stream = writer.into_inner();
                 begins(&rt, place, call, result, &stream.written, wanted);
-                // Behind that call the stream would have gone on.
+                // The stream would have continued after that call.
                 holds(
                     &rt,
                     "calls",
@@ -282,10 +282,10 @@ fn short_calls_go_on(rt: HostRuntime) -> Result<(), Fail> {
     Ok(())
 }
 
-/// A job at an archive behind the cases of jobs, its text, and its text when it is done once more.
+/// A job at an archive after the cases of jobs, its text, and its text when it is done again.
 type Printed = (Job<'static>, &'static [u8], &'static [u8]);
 
-/// Jobs that print what is kept, and one that acts.
+/// Jobs that print what is kept, and one that changes the archive.
 static BEHIND: [Printed; 5] = [
     (
         Job::AtDesk {
@@ -339,7 +339,7 @@ static BEHIND: [Printed; 5] = [
     ),
 ];
 
-/// Does a job at an archive behind so many cases of jobs, whose writer has a quirk at each of its calls in turn: it has acted.
+/// Does a job at an archive after `count` cases of jobs. The writer has a quirk at each of its calls in turn. The job is done in any case.
 fn write_by_jobs(
     rt: &impl Abort,
     alloc: Global,
@@ -350,7 +350,7 @@ fn write_by_jobs(
     again: &[u8],
 ) -> Result<(), Fail> {
     let row = format!(in alloc; "{job:?}, call")?;
-    // Each five bytes take a call.
+    // Each group of five bytes needs a call.
     let needed = text.len().div_ceil(5);
     for call in 0..needed + 1 {
         for quirk in [Quirk::Fails, Quirk::MovesNone, Quirk::MovesOne] {
@@ -364,7 +364,7 @@ fn write_by_jobs(
             let stream = writer.into_inner();
             holds(rt, &row, call, wanted.eq(stream.written.iter().copied()));
             holds(rt, &row, call, status == if is_whole { 0 } else { 3 });
-            // Behind that call the stream would have gone on.
+            // The stream would have continued after that call.
             holds(rt, &row, call, is_whole || stream.calls == call + 1);
             let (written, _) = desk::answer(alloc, &mut shelf, job, input)?;
             same(rt, &row, call, &written, again);
@@ -391,7 +391,7 @@ fn jobs_change_nothing_where_a_stream_is_not_read(rt: HostRuntime) -> Result<(),
     let alloc = rt.alloc();
     for (place, (job, input, text, _)) in desk::CASES.iter().enumerate() {
         let row = format!(in alloc; "{job:?}, call")?;
-        // Each seven bytes take a call, and the end takes one.
+        // Each group of seven bytes needs a call, and the end needs one more.
         for call in 0..input.len().div_ceil(7) + 1 {
             let mut shelf = desk::archive_after(alloc, place)?;
             let mut reader = Device::new(Stream::new(alloc, input, 7, Quirk::Fails, call));
@@ -399,7 +399,7 @@ fn jobs_change_nothing_where_a_stream_is_not_read(rt: HostRuntime) -> Result<(),
             let status = desk::performed(alloc, &mut shelf, *job, &mut reader, &mut writer)?;
             holds(&rt, &row, call, status == 3);
             same(&rt, &row, call, &writer.into_inner(), b"X2 device failed\n");
-            // Behind that call the stream would have gone on.
+            // The stream would have continued after that call.
             holds(&rt, &row, call, reader.into_inner().calls == call + 1);
             let before = desk::archive_after(alloc, place)?;
             alike(&rt, alloc, &row, call, &mut shelf, before)?;

@@ -1,4 +1,4 @@
--- Each line has stretches, since it has a report from each Monday.
+-- Each line has stretches, because it has a report from each Monday.
 use Rattle.std.proofs.Common.{◌≡◌, ℕ, zero, suc, ◌+◌, ◌*◌, ◌<◌, ◌≤◌, ◌⊎◌, inl, inr, List, [], ◌∷◌, Bool, true, false}
 use Rattle.std.proofs.Common.{Option, None, Some, refl, sym, subst, ◌∙◌, arith}
 use Rattle.std.specs.List.{All}
@@ -13,9 +13,9 @@ use Rattle.tacho_stretches.specs.Start.{IsStart, IsNextStart, IsHeld, IsEndOfHel
 use Rattle.tacho_stretches.specs.Stretches.{Judged, first_monday, unseen_to, AreAll, AreStretches}
 use Rattle.tacho_stretches.proofs.StretchLemmas.{before_end}
 
--- ---- the least number that has what is decided of each
+-- ---- the least number with a decided property
 
--- none of those below a number has it; or this is the least that has it
+-- no number below `n` has the property, or this is the least number that has it
 abbrev Least : (ℕ → Type 0) → ℕ → Type 0
 Least P n = ((w : ℕ) → w < n → ¬ (P w)) ⊎ ((w : ℕ) × P w × ((v : ℕ) → P v → w ≤ v))
 
@@ -61,7 +61,7 @@ decide_start line after w =
       go (inl later) (inl below) s = inr (λ is. (let l = is.monday.from in omega (arith, l, below)))
       go (inl later) (inr from) (inr crew) = inr (λ is. crew is.single)
 
--- a line that ends has a next start after each minute, or none
+-- a line that ends has a next start after each minute, or it is known that there is none
 next : (line : List Span) (last after : ℕ) → All (λ (s : Span). s.past ≤ last) line → (r : Option ℕ) × IsNextStart line after r
 next line last after ended = go (least (λ (w : ℕ). IsStart line after (monday_of w)) (decide_start line after) last) where
   at : (m : ℕ) → (is : IsStart line after m) → IsStart line after (monday_of is.monday.week)
@@ -114,9 +114,9 @@ end_from line base (suc n) none = go (lt_or_le base (suc n)) (decide_held line n
 end : (line : List Span) (last base : ℕ) → All (λ (s : Span). s.past ≤ last) line → (end : ℕ) × IsEndOfHeld line base end
 end line last base ended = end_from line base last (λ m l held. (let e = held_early line last m ended held in omega (arith, e, l)))
 
--- ---- stretches from a Monday on
+-- ---- stretches from a Monday
 
--- those from a Monday to the end
+-- the stretches from a Monday to the end
 abbrev From : List Span → ℕ → ℕ → Type 0
 From line end monday = (stretches : List Judged) × (first_monday stretches ≡ Some monday) × AreAll line end stretches
 
@@ -166,7 +166,7 @@ each line last base ended is early reports =
     let all = from (suc last) line last ends.0 base ended reports (omega arith) is early in
     (all.0, record { first = all.1; end = ends.0; is_end = ends.1; all = all.2 })
 
--- where what is examined ends
+-- from each base, a line has stretches up to the end of what is held
 pub each_line : (line : List Span) (base : ℕ) → All (λ (s : Span). s.past ≤ 68374080) line → IsBase base → base ≤ 68374080
     → (stretches : List Judged) × AreStretches line base stretches
 each_line line base ended is early =

@@ -1,4 +1,4 @@
--- Where what spans give ends.
+-- The end of what spans hold.
 use Rattle.std.proofs.Common.{◌≡◌, ℕ, ◌+◌, ◌-◌, ◌<◌, ◌≤◌, ◌⊎◌, inl, inr, List, [], ◌∷◌, Bool, true, false, nat_lt, refl, sym, subst, ◌∙◌, arith}
 use Rattle.tacho_time.specs.declared.span.Span.{Span}
 use Rattle.tacho_time.specs.Spans.{IsCanonical}
@@ -9,7 +9,7 @@ use Rattle.std.proofs.lemmas.Bool.Decides.{nat_tests}
 use Rattle.std.proofs.Common.{cond}
 use Rattle.tacho_stretches.specs.Start.{IsHeld, IsEndOfHeld}
 
--- what a walk knows when it stands before the spans that are left: the end so far is the base or the past of a span before
+-- the loop's invariant before the remaining spans: the end so far is the base, or the past of an earlier span
 pub record IsEndSoFar (spans : List Span) (base : ℕ) (left : List Span) (end : ℕ) : Type 0 where
   pub canonical : IsCanonical left
   pub from : base ≤ end
@@ -33,7 +33,7 @@ end_all spans base end so = record {
   last = so.last;
 }
 
--- a minute of the first span, or of the others
+-- a held minute after the first span is held by the others
 held_split : (s : Span) (ss : List Span) (m : ℕ) → s.past ≤ m → IsHeld (s ∷ ss) m → IsHeld ss m
 held_split s ss m l is = (is.0, sym (rest_holds s ss m l) ∙ is.1)
 

@@ -1,4 +1,4 @@
--- What is true of all stretches (`laws`).
+-- Facts about all stretches (`laws`).
 use Rattle.std.proofs.Common.{◌≡◌, ℕ, ◌+◌, ◌-◌, ◌<◌, ◌≤◌, ◌⊎◌, inl, inr, nat_lt, Bool, true, false, cond, List, [], ◌∷◌, ◌++◌, Option, None, Some, refl, sym, ap, subst, ◌∙◌, arith}
 use Rattle.std.proofs.lemmas.Bool.Decides.{nat_tests}
 use Rattle.std.proofs.lemmas.Bool.{cases_lt}
@@ -14,9 +14,9 @@ use Rattle.tacho_stretches.specs.Start.{IsNextStart, IsHeld, IsEndOfHeld}
 use Rattle.tacho_stretches.specs.Stretches.{Judged, first_monday, unseen_to, IsStretch, AreAll, AreStretches}
 use Rattle.tacho_stretches.specs.Ranges.{unseen_part, parts, FollowOn}
 
--- ---- there is one list
+-- ---- the list is unique
 
--- there is one next start, or none
+-- the next start is unique
 pub one_next : (line : List Span) (after : ℕ) (a b : Option ℕ) → IsNextStart line after a → IsNextStart line after b → a ≡ b
 one_next line after None None is is' = refl
 one_next line after None (Some n) is is' = absurd (is n is'.0)
@@ -26,7 +26,7 @@ one_next line after (Some m) (Some n) is is' =
     let b : n ≤ m = is'.1 m is.0 in
     ap (λ (x : ℕ). Some x) (omega (arith, a, b))
 
--- an end of what is held is no later than another
+-- no end of what is held is later than another
 no_later : (line : List Span) (base e f : ℕ) → IsEndOfHeld line base e → IsEndOfHeld line base f → e ≤ f
 no_later line base e f is is' = go is.last where
   go : (e ≡ base) ⊎ ((m : ℕ) × (e ≡ m + 1) × IsHeld line m) → e ≤ f
@@ -36,14 +36,14 @@ no_later line base e f is is' = go is.last where
     | inr ge ↦ absurd (is'.after m ge held)
   ]
 
--- there is one end of what is held
+-- the end of what is held is unique
 pub one_end : (line : List Span) (base e f : ℕ) → IsEndOfHeld line base e → IsEndOfHeld line base f → e ≡ f
 one_end line base e f is is' =
     let a = no_later line base e f is is' in
     let b = no_later line base f e is' is in
     omega (arith, a, b)
 
--- a stretch is told by what it says
+-- a stretch is determined by its members
 pub made : (s t : Judged) → s.monday ≡ t.monday → s.horizon ≡ t.horizon → s.breaches ≡ t.breaches → s.debts ≡ t.debts
     → s.unseen ≡ t.unseen → s ≡ t
 made s t a b c d e =
@@ -53,7 +53,7 @@ made s t a b c d e =
     ∙ ap (λ (x : List Debt). record { monday = t.monday; horizon = t.horizon; breaches = t.breaches; debts = x; unseen = s.unseen }) d
     ∙ ap (λ (x : Option ℕ). record { monday = t.monday; horizon = t.horizon; breaches = t.breaches; debts = t.debts; unseen = x }) e
 
--- there is one stretch from a Monday on, and one that follows it
+-- the stretch from a Monday is unique, and so is the next start
 one_stretch : (line : List Span) (end : ℕ) (s t : Judged) (n o : Option ℕ) → s.monday ≡ t.monday
     → IsStretch line end s n → IsStretch line end t o → (s ≡ t) × (n ≡ o)
 one_stretch line end s t n o monday is is' =
@@ -85,7 +85,7 @@ one_list line base stretches others is is' =
     one_all line is'.end stretches others (is.first ∙ sym is'.first)
     (subst (λ (e : ℕ). AreAll line e stretches) same is.all) is'.all
 
--- ---- the first is the report from the base on
+-- ---- the first stretch is the report from the base
 
 pub first_is : (line : List Span) (base : ℕ) (s : Judged) (stretches : List Judged)
     → AreStretches line base (s ∷ stretches) → (s.monday ≡ base) × IsReport line base s.horizon s.breaches s.debts
@@ -102,14 +102,14 @@ held_single line m single = go (mark_at line m) refl single where
   go None e single = absurd single
   go (Some mark) e single = (mark, e)
 
--- so it is before the end
+-- so it is before the end of what is held
 single_before : (line : List Span) (base end m : ℕ) → IsEndOfHeld line base end → IsSingle (mark_at line m) → m < end
 single_before line base end m is single = elim (cases_lt m end) [
   | inl lt ↦ lt
   | inr ge ↦ absurd (is.after m ge (held_single line m single))
 ]
 
--- a horizon is no later than the end
+-- no horizon is later than the end
 horizon_before : (line : List Span) (base end monday : ℕ) (h : Horizon) → IsEndOfHeld line base end → monday ≤ end
     → IsHorizon line monday h → h.minute ≤ end
 horizon_before line base end monday h is early horizon = elim (cases_lt monday h.minute) [
@@ -128,7 +128,7 @@ follow_last end horizon unseen early e =
       go true t = (refl, early, refl)
       go false t = let ge : end ≤ horizon = grind (arith, nat_tests) in omega (arith, ge, early)
 
--- the parts of stretches follow one another, up to the end of what is held
+-- the parts of stretches follow one another up to the end of what is held
 follow : (line : List Span) (base end start : ℕ) (xs : List Judged) → IsEndOfHeld line base end → first_monday xs ≡ Some start
     → start ≤ end → AreAll line end xs → FollowOn (parts xs) start end
 follow line base end start [] is e early h = cc

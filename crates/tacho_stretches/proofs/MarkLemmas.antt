@@ -8,7 +8,7 @@ use Rattle.tacho_stretches.specs.Stretches.{Judged, first_monday, IsStretch, Are
 use Rattle.tacho_stretches.proofs.NearLemmas.{near_report, near_start, near_next}
 
 module _ (line other : List Span) (base : ℕ) (agree : (m : ℕ) → base ≤ m → mark_at line m ≡ mark_at other m) where
-  -- they end at one minute
+  -- they have the same end of what is held
   end_moved : (end : ℕ) → IsEndOfHeld line base end → IsEndOfHeld other base end
   end_moved end is = record {
     from = is.from;
@@ -28,7 +28,7 @@ module _ (line other : List Span) (base : ℕ) (agree : (m : ℕ) → base ≤ m
       is m (near_start other line base after m m (λ k a b. sym (agree k a)) from (omega arith) start)
   next_moved after (Some next) from is = near_next line other base after next next (λ k a b. agree k a) from (omega arith) is
 
-  -- so is each stretch
+  -- each stretch is the same
   stretch_moved : (end : ℕ) (s : Judged) (next : Option ℕ) → base ≤ s.monday → IsStretch line end s next → IsStretch other end s next
   stretch_moved end s next from is = record {
     report = near_report line other s.monday s.horizon s.breaches s.debts (λ m a b. agree m (omega (arith, from, a))) is.report;
@@ -36,7 +36,7 @@ module _ (line other : List Span) (base : ℕ) (agree : (m : ℕ) → base ≤ m
     rest = is.rest;
   }
 
-  -- and those that follow
+  -- so is each list of stretches
   all_moved : (end start : ℕ) (xs : List Judged) → first_monday xs ≡ Some start → base ≤ start → AreAll line end xs → AreAll other end xs
   all_moved end start [] e from all = tt
   all_moved end start (s ∷ []) e from all =

@@ -1,4 +1,4 @@
--- Parts that follow one another have each minute between their start and their past once.
+-- Of parts that follow one another, exactly one has each minute from their start to before their past.
 use Rattle.std.proofs.Common.{◌≡◌, ℕ, ◌+◌, ◌<◌, ◌≤◌, inl, inr, ◌&&◌, nat_lt, nat_le, Bool, true, false, cond, List, [], ◌∷◌, refl, ap, ◌∙◌, arith}
 use Rattle.std.proofs.lemmas.Bool.Decides.{nat_tests}
 use Rattle.std.proofs.lemmas.Bool.{cases_lt}
@@ -15,7 +15,7 @@ in_order : (ps : List Part) (start past : ℕ) → FollowOn ps start past → st
 in_order [] start past f = omega (arith, f)
 in_order (p ∷ ps) start past f = let l = in_order ps p.past past f.2 in omega (arith, f.0, f.1, l)
 
--- a part has a minute or not
+-- a minute from `a` to before `b` is in that part
 in_part : (a b m : ℕ) → a ≤ m → m < b → nat_le a m && nat_lt m b ≡ true
 in_part a b m l r = grind (arith, nat_tests)
 
@@ -34,21 +34,21 @@ counted t b n k e f = ap (λ (x : Bool). cond x 1 0 + n) e ∙ ap (λ (x : ℕ).
 of_cons : (p : Part) (ps : List Part) (m : ℕ) → times_in (p ∷ ps) m ≡ cond (nat_le p.start m && nat_lt m p.past) 1 0 + times_in ps m
 of_cons p ps m = sum_by-cons (λ (x : Part). cond (nat_le x.start m && nat_lt m x.past) 1 0) p ps
 
--- none before the start
+-- no part has a minute before the start
 before_all : (ps : List Part) (start past m : ℕ) → FollowOn ps start past → m < start → times_in ps m ≡ 0
 before_all [] start past m f l = refl
 before_all (p ∷ ps) start past m f l =
     of_cons p ps m ∙ counted _ false _ 0 (before_part p.start p.past m (omega (arith, f.0, l)))
     (before_all ps p.past past m f.2 (omega (arith, f.0, f.1, l)))
 
--- none after the past
+-- no part has a minute at or after the past
 after_all : (ps : List Part) (start past m : ℕ) → FollowOn ps start past → past ≤ m → times_in ps m ≡ 0
 after_all [] start past m f l = refl
 after_all (p ∷ ps) start past m f l =
     let o = in_order ps p.past past f.2 in
     of_cons p ps m ∙ counted _ false _ 0 (after_part p.start p.past m (omega (arith, o, l))) (after_all ps p.past past m f.2 l)
 
--- one between
+-- exactly one part has each minute between
 once : (ps : List Part) (start past m : ℕ) → FollowOn ps start past → start ≤ m → m < past → times_in ps m ≡ 1
 once [] start past m f l r = absurd (omega (arith, f, l, r))
 once (p ∷ ps) start past m f l r = elim (cases_lt m p.past) [

@@ -1,4 +1,4 @@
--- What a pass over spans stands for (specs/Pass).
+-- What a pass over spans represents (specs/Pass).
 use Rattle.std.proofs.Common.{◌≡◌, ℕ, zero, suc, ◌+◌, ◌<◌, ◌≤◌, ◌⊎◌, inl, inr, Bool, true, false, cond, List, [], ◌∷◌, ◌++◌, map, Option, None, Some, Result, Ok, Err, IfOk, OnOk, refl, sym, ap, subst, ◌∙◌, arith}
 use Rattle.std.specs.Option.{option_map_or}
 use Rattle.std.specs.List.{All}
@@ -33,9 +33,9 @@ use Rattle.tacho_stretches.proofs.NearLemmas.{near_report, near_next}
 use Rattle.tacho_stretches.proofs.StartLemmas.{within, none_single}
 use Rattle.tacho_stretches.proofs.StretchLemmas.{pushed}
 
--- ---- spans, and what comes after them
+-- ---- spans, followed by others
 
--- what is held stays
+-- a held minute keeps its mark
 held_first : (xs ys : List Span) (m : ℕ) (k : Mark) → mark_at xs m ≡ Some k → mark_at (xs ++ ys) m ≡ Some k
 held_first [] ys m k e = absurd (let wrong = e in cc)
 held_first (s ∷ xs) ys m k e = go (covers s m) e (held_first xs ys m k) where
@@ -44,7 +44,7 @@ held_first (s ∷ xs) ys m k e = go (covers s m) e (held_first xs ys m k) where
   go true e more = e
   go false e more = more e
 
--- and what isn't is as the others have it
+-- a minute that isn't held has the mark that the others give it
 held_after : (xs ys : List Span) (m : ℕ) → mark_at xs m ≡ None → mark_at (xs ++ ys) m ≡ mark_at ys m
 held_after [] ys m e = refl
 held_after (s ∷ xs) ys m e = go (covers s m) e (held_after xs ys m) where
@@ -53,20 +53,20 @@ held_after (s ∷ xs) ys m e = go (covers s m) e (held_after xs ys m) where
   go true e more = absurd (let wrong = e in cc)
   go false e more = more e
 
--- of a span that gives a minute which isn't held yet, it is held then
+-- a minute that isn't held yet, and is in the next span, is held with it
 given_then : (spans : List Span) (s : Span) (m : ℕ) → mark_at spans m ≡ None → s.start ≤ m → m < s.past
     → mark_at (spans ++ s ∷ []) m ≡ Some s.mark
 given_then spans s m none l r = held_after spans (s ∷ []) m none ∙ first_holds s [] m l r
 
 module _ (spans : List Span) (past : ℕ) (s : Span) (next : IsNext spans past s) where
-  -- before the next span nothing changes
+  -- before the next span begins, nothing changes
   before_next : AgreeBefore s.start spans (spans ++ s ∷ [])
   before_next m lt = go (mark_at spans m) refl where
     go : (o : Option Mark) → mark_at spans m ≡ o → mark_at spans m ≡ mark_at (spans ++ s ∷ []) m
     go None e = e ∙ sym (held_after spans (s ∷ []) m e ∙ none_before s.start (s ∷ []) m (canonical_from s [] (next.some, tt, tt)) lt)
     go (Some k) e = e ∙ sym (held_first spans (s ∷ []) m k e)
 
-  -- from its start on it is what it gives
+  -- from its start on, minutes are as the span gives them
   from_next : (m : ℕ) → s.start ≤ m → mark_at (spans ++ s ∷ []) m ≡ mark_at (s ∷ []) m
   from_next m l = held_after spans (s ∷ []) m (next.ended m (let f = next.from in omega (arith, f, l)))
 
@@ -74,7 +74,7 @@ module _ (spans : List Span) (past : ℕ) (s : Span) (next : IsNext spans past s
   pub ended_next : EndsBy (spans ++ s ∷ []) s.past
   ended_next m l = from_next m (let some = next.some in omega (arith, some, l)) ∙ rest_holds s [] m l
 
-  -- and the minute before is
+  -- the minute before its past is held
   pub last_next : (m : ℕ) × (s.past ≡ m + 1) × IsHeld (spans ++ s ∷ []) m
   last_next = go s.past refl where
     go : (p : ℕ) → s.past ≡ p → (m : ℕ) × (s.past ≡ m + 1) × IsHeld (spans ++ s ∷ []) m
@@ -86,7 +86,7 @@ module _ (spans : List Span) (past : ℕ) (s : Span) (next : IsNext spans past s
           (s.mark, from_next m (omega (arith, some, e)) ∙ first_holds s [] m (omega (arith, some, e)) (omega (arith, e))),
         )
 
-  -- a line that goes on as all say goes on as those before say
+  -- a line that agrees with the spans and the next one also agrees with the spans before it
   agree_next : (line : List Span) → AgreeBefore s.past (spans ++ s ∷ []) line → AgreeBefore past spans line
   agree_next line agree m lt =
       let from = next.from in
@@ -95,14 +95,14 @@ module _ (spans : List Span) (past : ℕ) (s : Span) (next : IsNext spans past s
 
   -- ---- Mondays
 
-  -- a start is one of those before, or in the span
+  -- a start in all spans is a start in the earlier spans or in the next one
   start_split : (after m : ℕ) → IsStart (spans ++ s ∷ []) after m → IsStart spans after m ⊎ IsStart (s ∷ []) after m
   start_split after m is = elim (cases_lt m s.start) [
     | inl lt ↦ inl (record { later = is.later; monday = is.monday; single = subst IsSingle (sym (before_next m lt)) is.single })
     | inr ge ↦ inr (record { later = is.later; monday = is.monday; single = subst IsSingle (from_next m ge) is.single })
   ]
 
-  -- there is none in either, or the one of the span is next
+  -- if the earlier spans have no next start, the next start of all is that of the next span, if it has one
   pub none_next : (after : ℕ) → IsNextStart spans after None → IsNextStart (s ∷ []) after None
       → IsNextStart (spans ++ s ∷ []) after None
   none_next after none not m is = elim (start_split after m is) [
@@ -124,20 +124,20 @@ module _ (spans : List Span) (past : ℕ) (s : Span) (next : IsNext spans past s
     ],
   )
 
--- where nothing is held, nothing starts
+-- there is no start where nothing is held
 none_after : (spans : List Span) (past after : ℕ) → EndsBy spans past → past ≤ after → IsNextStart spans after None
 none_after spans past after ended le m is =
     none_single (mark_at spans m) (ended m (let l = is.later in omega (arith, l, le))) is.single
 
 -- ---- an examination
 
--- spans that follow one another, and one more
+-- spans that follow one another, and one more span
 joined_next : (xs : List Span) (s : Span) (from mid : ℕ) → Joined xs from mid → s.start ≡ mid → mid < s.past
     → Joined (xs ++ s ∷ []) from s.past
 joined_next [] s from mid h e some = (e ∙ sym h, omega (arith, h, some), refl)
 joined_next (x ∷ xs) s from mid h e some = (h.0, h.1, joined_next xs s x.past mid h.2 e some)
 
--- it stands for nothing at first
+-- a new examination represents no spans
 pub none_examined : (e : Examination) → IsBase e.monday → e.minute ≡ e.monday → IsScanOf e.scan e.found e.monday []
     → (spans : List Span) → IsExaminationOf e spans
 none_examined e monday at scanned spans = record {
@@ -149,7 +149,7 @@ none_examined e monday at scanned spans = record {
   scanned = scanned;
 }
 
--- it stands as it stood, whatever comes after
+-- an examination represents the same spans, whatever comes after them
 pub still : (e : Examination) (spans more : List Span) → IsExaminationOf e spans → IsExaminationOf e (spans ++ more)
 still e spans more is = record {
   is_base = is.is_base;
@@ -160,7 +160,7 @@ still e spans more is = record {
   scanned = is.scanned;
 }
 
--- it goes on with the rest of a span
+-- an examination continues with the rest of a span
 pub gone_on : (e new : Examination) (spans : List Span) (s part : Span) → IsExaminationOf e spans → EndsBy spans e.minute
     → s.start ≤ e.minute → e.minute < s.past → s.mark.crew ≡ false → new.monday ≡ e.monday → new.minute ≡ s.past
     → part.start ≡ e.minute → part.past ≡ s.past → part.mark ≡ s.mark
@@ -188,7 +188,7 @@ gone_on e new spans s part is ended from some single monday minute start past ma
       ∙ ap (λ (x : Mark). Some x) (sym mark ∙ c.1)
   held m k (inr (inr g)) = absurd g
 
--- spans that follow one another have each minute from the first to the last
+-- spans that follow one another give each minute from the first to the last
 covered : (spans : List Span) (from past m : ℕ) → Joined spans from past → from ≤ m → m < past
     → All (λ s. s.mark.crew ≡ false) spans
     → (k : Mark) × Gives spans m k × (k.crew ≡ false)
@@ -200,7 +200,7 @@ covered (s ∷ spans) from past m j above below single = elim (cases_lt m s.past
       (more.0, inr more.1, more.2)
 ]
 
--- and no minute before
+-- they give no minute before the first
 given_from : (spans : List Span) (from past m : ℕ) (k : Mark) → Joined spans from past → Gives spans m k → from ≤ m
 given_from [] from past m k j g = absurd g
 given_from (s ∷ spans) from past m k j (inl c) =
@@ -208,7 +208,7 @@ given_from (s ∷ spans) from past m k j (inl c) =
 given_from (s ∷ spans) from past m k j (inr g) =
     let l : s.past ≤ m = given_from spans s.past past m k j.2 g in let f : from < s.past = j.1 in omega (arith, l, f)
 
--- their line has the activity that they give
+-- the line of such spans has the activity that they give
 line_given : (spans : List Span) (from past m : ℕ) (k : Mark) → Joined spans from past → Gives spans m k
     → line_of spans m ≡ k.activity
 line_given [] from past m k j g = absurd g
@@ -216,9 +216,9 @@ line_given (s ∷ spans) from past m k j (inl c) = line_within s spans m c.0.0 c
 line_given (s ∷ spans) from past m k j (inr g) =
     line_past s spans m (given_from spans s.past past m k j.2 g) ∙ line_given spans s.past past m k j.2 g
 
--- at its end
+-- an examination that ends
 module _ (spans : List Span) (e : Examination) (is : IsExaminationOf e spans) where
-  -- its minute is the horizon
+  -- the horizon is the minute that it has reached
   horizon_is : (h : Horizon) → h.minute ≡ e.minute → IsCause (mark_at spans e.minute) h.cause → IsHorizon spans e.monday h
   horizon_is h same cause = record {
     from = (let le = joined_le is.parts e.monday e.minute is.joined in omega (arith, same, le));
@@ -229,7 +229,7 @@ module _ (spans : List Span) (e : Examination) (is : IsExaminationOf e spans) wh
     cause = subst (λ (m : ℕ). IsCause (mark_at spans m) h.cause) (sym same) cause;
   }
 
-  -- the line of what its scan was fed is the examined one
+  -- the line of the spans that its scan was fed is the examined line
   as_examined : (m : ℕ) → line_of is.parts m ≡ examined spans e.monday e.minute m
   as_examined m = elim (cases_lt m e.monday) [
     | inl before ↦
@@ -271,10 +271,10 @@ module _ (spans : List Span) (e : Examination) (is : IsExaminationOf e spans) wh
         exactly = are'.exactly;
       }
 
--- ---- where a pass stands after one more span
+-- ---- a pass after one more span
 
 module _ (spans : List Span) (past : ℕ) (s : Span) (next : IsNext spans past s) where
-  -- the examination stopped, at a minute that the span gives as crew, or after which it comes
+  -- the examination has stopped, at a minute that the span gives as crew, or that comes before the span
   pub stopped : (e : Examination) (x : Examined) → past ≤ e.minute → e.minute < s.past → x.report.horizon.minute ≡ e.minute
       → IsReportOf x (spans ++ s ∷ []) → IsExaminedOf x (spans ++ s ∷ []) spans s.past
   stopped e x le before at report = record {
@@ -290,7 +290,7 @@ module _ (spans : List Span) (past : ℕ) (s : Span) (next : IsNext spans past s
   crew_there m l r crew =
       subst (λ (o : Option Mark). IsCause o Crew) (sym (from_next spans past s next m l ∙ first_holds s [] m l r)) crew
 
-  -- a report stays
+  -- an earlier report stays
   pub report_stays : (x : Examined) → IsExaminedOf x spans spans past → IsExaminedOf x (spans ++ s ∷ []) spans s.past
   report_stays x is =
       let b = is.before in
@@ -303,7 +303,7 @@ module _ (spans : List Span) (past : ℕ) (s : Span) (next : IsNext spans past s
         none = is.none;
       }
 
-  -- so do the stretches that are done
+  -- the earlier stretches stay
   pub done_stays : (base monday : ℕ) (done : List Judged) → AreDone spans past base done monday
       → AreDone (spans ++ s ∷ []) s.past base done monday
   done_stays base monday done so = record {
@@ -312,7 +312,7 @@ module _ (spans : List Span) (past : ℕ) (s : Span) (next : IsNext spans past s
     all = λ line end rest agree. so.all line end rest (agree_next spans past s next line agree);
   }
 
-  -- and where the span has the next Monday, there is one more
+  -- if the span has the next Monday, there is one more stretch
   pub done_more : (base start : ℕ) (done : List Judged) (x : Examined) (j : Judged)
       → AreDone spans past base done x.monday → IsExaminedOf x (spans ++ s ∷ []) spans s.past
       → IsNextStart (s ∷ []) x.report.horizon.minute (Some start)
@@ -349,7 +349,7 @@ module _ (spans : List Span) (past : ℕ) (s : Span) (next : IsNext spans past s
 
 -- ---- a Monday in the span
 
--- the minute of a start in a span is in it, and the span is no crew's
+-- a start in a span is a minute of the span, and the span isn't crew
 pub start_there : (s : Span) (after m : ℕ) → s.start < s.past → IsStart (s ∷ []) after m
     → (s.start ≤ m) × (m < s.past) × (s.mark.crew ≡ false)
 start_there s after m some is =
@@ -358,7 +358,7 @@ start_there s after m some is =
 
 -- ---- a pass that takes a span
 
--- it has taken the span, by what is done and where it stands
+-- the pass has taken the span, given its stretches and its place
 stands_now : (new : StretchPass) (s : Span) (spans : List Span) (past : ℕ) → IsNext spans past s → new.past ≡ s.past → (base : ℕ)
     → AreDone (spans ++ s ∷ []) s.past base (map judged new.done.items) (monday_of new.examination new.examined)
     → IsPlaceOf new.examination new.examined (spans ++ s ∷ []) (spans ++ s ∷ []) s.past → IsPassOf new base (spans ++ s ∷ [])
@@ -372,7 +372,7 @@ stands_now new s spans past next same base done place = record {
       subst (λ (m : ℕ). IsPlaceOf new.examination new.examined (spans ++ s ∷ []) (spans ++ s ∷ []) m) (sym same) place;
 }
 
--- a pass examines a span, as far as to a horizon
+-- the pass examines a span, at most up to a horizon
 module _ (p : StretchPass) (s : Span) (can : CanTake p s) (e : Examination) (was next : Option Examined) (same : was ≡ p.examined)
     (monday : monday_of e next ≡ monday_of p.examination was)
     (taken : (past : ℕ) (spans : List Span) → IsNext spans past s → IsPlaceOf p.examination was spans spans past
@@ -391,7 +391,7 @@ module _ (p : StretchPass) (s : Span) (can : CanTake p s) (e : Examination) (was
       subst (λ (x : Option Examined). IsPlaceOf e x (spans ++ s ∷ []) spans s.past) to (taken p.past spans comes
       (subst (λ (x : Option Examined). IsPlaceOf p.examination x spans spans p.past) (sym same) is.stands))
 
--- it goes on in an examination
+-- the examination continues
 pub pass_examining : (p new : StretchPass) (s : Span) (was next : Option Examined) → was ≡ p.examined → next ≡ None
     → new.examined ≡ None → new.past ≡ s.past → new.done.items ≡ p.done.items → CanTake p s
     → monday_of new.examination next ≡ monday_of p.examination was
@@ -408,7 +408,7 @@ pass_examining p new s was next same ended none past done can monday taken base 
     (subst (λ (o : Option Examined). IsPlaceOf e o (spans ++ s ∷ []) (spans ++ s ∷ []) s.past) (sym none)
     (place_so p s can e was next same monday taken base spans is None ended))
 
--- or comes to the horizon of one, where the next Monday is sought
+-- or it reaches its horizon, and the pass looks for the next Monday
 pub pass_seeking : {U E : Type 0} (result : Result U E) (p new : StretchPass) (s : Span) (e : Examination) (was next : Option Examined)
     (x : Examined) → was ≡ p.examined → next ≡ Some x → CanTake p s → monday_of e next ≡ monday_of p.examination was
     → ((past : ℕ) (spans : List Span) → IsNext spans past s → IsPlaceOf p.examination was spans spans past
@@ -423,7 +423,7 @@ pass_seeking (Ok u) p new s e was next x same at can monday taken h = λ base sp
     (place_so p s can e was next same monday taken base spans is (Some x) at)
 pass_seeking (Err fault) p new s e was next x same at can monday taken h = tt
 
--- the span has no Monday for it
+-- the span has no such Monday
 pub sought_none : (new : StretchPass) (s : Span) (x : Examined) → new.past ≡ s.past → new.examined ≡ Some x
     → IsNextStart (s ∷ []) x.report.horizon.minute None → (base past : ℕ) (spans : List Span) → IsNext spans past s
     → AreDone spans past base (map judged new.done.items) x.monday → IsExaminedOf x (spans ++ s ∷ []) spans s.past
@@ -465,9 +465,9 @@ sought_some new s x start done first same none push begins monday at nothing goe
       taken spans (nothing spans) (λ m l. next.ended m (omega (arith, from, above, at, l))) (omega (arith, above, at)) there.2,
     ))
 
--- ---- at the end
+-- ---- the end
 
--- the minute where an examination stands isn't held, if nothing is from there on
+-- an examination whose minute is at or after the end of all spans ends there, since that minute isn't held
 pub ended_report : {E : Type 0} (result : Result Examined E) (e : Examination)
     → IfOk result (λ x. (spans : List Span) → IsExaminationOf e spans → mark_at spans e.minute ≡ None → IsReportOf x spans)
     → IfOk result (λ x. (past : ℕ) (spans : List Span) → (past ≤ e.minute) × IsExaminationOf e spans → EndsBy spans past
@@ -475,7 +475,7 @@ pub ended_report : {E : Type 0} (result : Result Examined E) (e : Examination)
 ended_report (Ok x) e h = λ past spans is ended. h spans is.1 (ended e.minute is.0)
 ended_report (Err fault) e h = tt
 
--- where what is held ends, and what isn't examined after the last horizon
+-- the end of what is held, and the range that isn't examined after the last horizon
 ends_there : (spans : List Span) (base past horizon : ℕ) → EndsBy spans past
     → (past ≤ base) ⊎ ((m : ℕ) × (past ≡ m + 1) × IsHeld spans m) → base ≤ horizon
     → (end : ℕ) × IsEndOfHeld spans base end × (unseen_to past horizon None ≡ unseen_to end horizon None)
@@ -495,7 +495,7 @@ ends_there spans base past horizon ended last from = elim (cases_lt base past) [
   held (inl le) lt = absurd (omega (arith, le, lt))
   held (inr is) lt = inr is
 
--- the stretches that are done, and a last one, are all
+-- the earlier stretches and the last one are all stretches
 pub all_stretches : (spans : List Span) (base past : ℕ) (done new : List Stretch) (s : Stretch) → EndsBy spans past
     → (past ≤ base) ⊎ ((m : ℕ) × (past ≡ m + 1) × IsHeld spans m) → AreDone spans past base (map judged done) s.monday
     → IsReport spans s.monday s.report.horizon s.report.breaches.items s.report.debts.items

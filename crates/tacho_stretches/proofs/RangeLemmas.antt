@@ -1,4 +1,4 @@
--- Where the minutes end that stretches speak of.
+-- The end of the minutes that stretches cover.
 use Rattle.std.proofs.Common.{◌≡◌, ◌∙◌, ℕ, suc, ◌-◌, ◌<◌, List, [], ◌∷◌, ◌++◌, Option, None, Some, length, get_or, map, ap, arith}
 use Rattle.std.specs.Option.{unwrap_or}
 use Rattle.tacho_time.specs.declared.span.Span.{Span}
@@ -8,7 +8,7 @@ use Rattle.tacho_stretches.specs.Stretches.{Judged, judged, AreStretches}
 use Rattle.tacho_stretches.specs.Ranges.{unseen_part, parts, FollowOn}
 use Rattle.tacho_stretches.proofs.LawLemmas.{none_left_out}
 
--- where the parts of a stretch end
+-- the end of a stretch's parts
 abbrev end_of : Stretch → ℕ
 end_of s = unwrap_or s.unseen s.report.horizon.minute
 
@@ -18,7 +18,7 @@ after_parts : (horizon start end : ℕ) (unseen : Option ℕ) (xs : List Judged)
 after_parts horizon start end None xs follow = follow
 after_parts horizon start end (Some past) xs follow = follow.2
 
--- so the last one's parts end where all of them do
+-- so the last stretch's parts end where all parts do
 pub last_end : (xs : List Stretch) (s : Stretch) (start end : ℕ) → 0 < length xs → s ≡ get_or xs (length xs - 1) s
     → FollowOn (parts (map judged xs)) start end → end_of s ≡ end
 last_end [] s start end some is follow = absurd (omega (arith, some))

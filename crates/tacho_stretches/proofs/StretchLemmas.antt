@@ -1,4 +1,4 @@
--- Stretches, found one after the other.
+-- Stretches that are found one after another.
 use Rattle.std.proofs.Common.{◌≡◌, ℕ, suc, ◌<◌, ◌≤◌, inl, inr, List, [], ◌∷◌, ◌++◌, Option, None, Some, sym, ap, subst, ◌∙◌, arith, map}
 use Rattle.std.specs.List.{All}
 use Rattle.std.proofs.lemmas.List.{append_assoc, map-append}
@@ -24,11 +24,11 @@ before_end (s ∷ held) last m ended single = elim (cases_lt m s.past) [
       before_end held last m (λ k d within. ended (suc k) d (omega arith)) (subst IsSingle e single)
 ]
 
--- so a start is before the end of the times that are examined
+-- so a start is at most the last minute that can be examined
 pub early_start : (line : List Span) (after m : ℕ) → All (λ (s : Span). s.past ≤ 68374080) line → IsStart line after m → m ≤ 68374080
 early_start line after m ended start = let l : m < 68374080 = before_end line 68374080 m ended start.single in omega arith
 
--- the stretches that were found, up to a Monday that is next
+-- the stretches that were found so far, and the Monday of the next one
 pub record IsSoFar (line : List Span) (base end : ℕ) (done : List Judged) (monday : ℕ) : Type 0 where
   pub is_base : IsBase monday
   pub early : monday ≤ 68374080
@@ -69,9 +69,9 @@ the_last line base end monday done s is_end so same is = record {
   all = so.all (s ∷ []) (ap (λ (m : ℕ). Some m) same) (is, tt);
 }
 
--- ---- as the loop has them
+-- ---- stretches in the loop
 
--- a report from a Monday on, with the next start after it and what lies between, is a stretch
+-- a report from a Monday, with the next start after it and the range between, is a stretch
 pub stretch_is : (line spans : List Span) (end horizon : ℕ) (s : Stretch) (next o : Option ℕ) → spans ≡ line
     → horizon ≡ s.report.horizon.minute
     → IsReport line s.monday s.report.horizon s.report.breaches.items s.report.debts.items
@@ -83,11 +83,11 @@ stretch_is line spans end horizon s next o same at report followed rest is = rec
   rest = rest ∙ ap (λ (m : ℕ). unseen_to end m o) at ∙ ap (λ (x : Option ℕ). unseen_to end s.report.horizon.minute x) is;
 }
 
--- one more in the list
+-- one more stretch in the list
 pub pushed : (old new : List Stretch) (s : Stretch) → new ≡ old ++ s ∷ [] → map judged new ≡ map judged old ++ judged s ∷ []
 pushed old new s e = ap (map judged) e ∙ map-append judged old (s ∷ [])
 
--- the horizon is within the times that are examined
+-- the horizon is at most the last minute that can be examined
 pub early_end : (line : List Span) (monday horizon : ℕ) (h : Horizon) → IsHorizon line monday h → horizon ≡ h.minute
     → monday ≤ 68374080 → All (λ (s : Span). s.past ≤ 68374080) line → horizon ≤ 68374080
 early_end line monday horizon h is e early ended = let l = early_horizon line monday h is early ended in omega (arith, l, e)

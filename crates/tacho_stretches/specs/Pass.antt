@@ -1,4 +1,4 @@
--- Private to tacho_stretches: What a pass stands for, by the spans that it has taken.
+-- Private to tacho_stretches: What a pass represents, in terms of the spans that it has taken.
 use Rattle.std.specs.Prelude.{◌≡◌, ℕ, ◌+◌, ◌<◌, ◌≤◌, ◌⊎◌, All, false, map, List, ◌++◌, Option, None, Some}
 use Rattle.tacho_time.specs.declared.span.Mark.{Mark}
 use Rattle.tacho_time.specs.declared.span.Span.{Span}
@@ -20,7 +20,7 @@ use Rattle.tacho_stretches.specs.Stretches.{Judged, judged, first_monday, AreAll
 abbrev pub EndsBy : List Span → ℕ → Type 0
 EndsBy spans past = (m : ℕ) → past ≤ m → mark_at spans m ≡ None
 
--- a span comes next after spans that end by the past
+-- a span that follows spans that end by `past`
 pub record IsNext (spans : List Span) (past : ℕ) (s : Span) : Type 0 where
   pub ended : EndsBy spans past
   pub from : past ≤ s.start
@@ -32,7 +32,7 @@ AgreeBefore past spans line = (m : ℕ) → m < past → mark_at spans m ≡ mar
 
 -- ---- an examination
 
--- its scan was fed what the spans hold from its Monday to its minute, no part of it as crew
+-- the scan was fed what the spans hold from the examination's Monday to its minute, and none of it is crew
 pub record IsExaminationOf (e : Examination) (spans : List Span) : Type 0 where
   pub is_base : IsBase e.monday
   pub parts : List Span
@@ -41,11 +41,11 @@ pub record IsExaminationOf (e : Examination) (spans : List Span) : Type 0 where
   pub held : (m : ℕ) (mark : Mark) → Gives parts m mark → Holds spans m mark
   pub scanned : IsScanOf e.scan e.found e.monday parts
 
--- it has the report of the spans from its Monday on
+-- `e` has the report of the spans from its Monday
 abbrev pub IsReportOf : Examined → List Span → Type 0
 IsReportOf e spans = IsReport spans e.monday e.report.horizon e.report.breaches.items e.report.debts.items
 
--- its horizon is before the past of the spans, and no Monday after it can start a stretch, of those that were sought
+-- the horizon is before the past of the spans, and no stretch can begin after it in the spans `sought`
 pub record IsExaminedOf (e : Examined) (spans sought : List Span) (past : ℕ) : Type 0 where
   pub report : IsReportOf e spans
   pub before : e.report.horizon.minute < past
@@ -53,30 +53,30 @@ pub record IsExaminedOf (e : Examined) (spans sought : List Span) (past : ℕ) :
 
 -- ---- a pass
 
--- where it stands after spans that end by the past: in an examination, or at the horizon of one
+-- the place of a pass after spans that end by `past`: in an examination, or at the horizon of one
 abbrev pub IsPlaceOf : Examination → Option Examined → List Span → List Span → ℕ → Type 0
 IsPlaceOf e None spans sought past = (past ≤ e.minute) × IsExaminationOf e spans
 IsPlaceOf e (Some x) spans sought past = IsExaminedOf x spans sought past
 
--- the Monday of the examination there
+-- the Monday of the examination at that place
 abbrev pub monday_of : Examination → Option Examined → ℕ
 monday_of e None = e.monday
 monday_of e (Some x) = x.monday
 
--- these are the stretches from the base to before a Monday, of each line that holds what the spans hold before the past
+-- for each line that agrees with the spans before `past`, these are the stretches from the base to before a Monday
 pub record AreDone (spans : List Span) (past base : ℕ) (done : List Judged) (monday : ℕ) : Type 0 where
   pub from : base ≤ monday
   pub first : (rest : List Judged) → first_monday rest ≡ Some monday → first_monday (done ++ rest) ≡ Some base
   pub all : (line : List Span) (end : ℕ) (rest : List Judged) → AgreeBefore past spans line → first_monday rest ≡ Some monday
       → AreAll line end rest → AreAll line end (done ++ rest)
 
--- a span can be taken next
+-- the span can be taken next
 pub record CanTake (p : StretchPass) (s : Span) : Type 0 where
   pub from : p.past ≤ s.start
   pub some : s.start < s.past
   pub within : s.past ≤ latest
 
--- it has taken these spans, from the base on
+-- the pass has taken these spans, from the base on
 pub record IsPassOf (p : StretchPass) (base : ℕ) (spans : List Span) : Type 0 where
   pub ended : EndsBy spans p.past
   pub last : (p.past ≤ base) ⊎ ((m : ℕ) × (p.past ≡ m + 1) × IsHeld spans m)

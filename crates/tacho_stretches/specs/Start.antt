@@ -1,4 +1,4 @@
--- Trusted: Where the examination of a timeline can begin anew, and where what is held ends.
+-- Trusted: Where the examination of a timeline can begin again, and where what is held ends.
 use Rattle.std.specs.Prelude.{◌≡◌, ℕ, ◌+◌, ◌<◌, ◌≤◌, ◌⊎◌, List, Option, None, Some}
 use Rattle.tacho_time.specs.declared.span.Mark.{Mark}
 use Rattle.tacho_time.specs.declared.span.Span.{Span}
@@ -11,7 +11,7 @@ pub record IsStart (line : List Span) (after m : ℕ) : Type 0 where
   pub monday : IsBase m
   pub single : IsSingle (mark_at line m)
 
--- the least of them; or there is none
+-- the earliest such minute, or none if there is none
 abbrev pub IsNextStart : List Span → ℕ → Option ℕ → Type 0
 IsNextStart line after None = (m : ℕ) → ¬ (IsStart line after m)
 IsNextStart line after (Some monday) = IsStart line after monday × ((m : ℕ) → IsStart line after m → monday ≤ m)
@@ -20,7 +20,7 @@ IsNextStart line after (Some monday) = IsStart line after monday × ((m : ℕ) �
 abbrev pub IsHeld : List Span → ℕ → Type 0
 IsHeld line m = (mark : Mark) × Holds line m mark
 
--- no minute from the end on is held, and the minute before it is; or none from the base on is held, and the end is the base
+-- no minute from `end` on is held. The minute before `end` is held; or `end` is the base.
 pub record IsEndOfHeld (line : List Span) (base end : ℕ) : Type 0 where
   pub from : base ≤ end
   pub after : (m : ℕ) → end ≤ m → ¬ (IsHeld line m)

@@ -1,5 +1,5 @@
--- Trusted: The stretches of a timeline: the report from the base, and after each horizon the report from the
--- next Monday whose first minute is held without a second driver.
+-- Trusted: The stretches of a timeline: the report from the base, and after each horizon the report from the next Monday whose first minute
+-- is held without a second driver.
 use Rattle.std.specs.Prelude.{◌≡◌, ℕ, nat_lt, List, [], ◌∷◌, Option, None, Some, if◌then◌else◌}
 use Rattle.tacho_time.specs.declared.span.Span.{Span}
 use Rattle.tacho_line.specs.declared.horizon.Horizon.{Horizon}
@@ -9,7 +9,7 @@ use Rattle.tacho_rules.specs.Report.{IsReport}
 use Rattle.tacho_stretches.specs.declared.stretch.Stretch.{Stretch}
 use Rattle.tacho_stretches.specs.Start.{IsNextStart, IsEndOfHeld}
 
--- a stretch: its Monday; its report; and where the range ends that isn't examined after it, if there is one
+-- a stretch: its Monday; its report; and the end of the range after it that isn't examined, if there is such a range
 pub record Judged : Type 0 where
   pub monday : ℕ
   pub horizon : Horizon
@@ -26,28 +26,29 @@ judged s = record {
   unseen = s.unseen;
 }
 
--- where the next stretch starts, if there is one
+-- the Monday of the first stretch, if there is one
 abbrev pub first_monday : List Judged → Option ℕ
 first_monday [] = None
 first_monday (s ∷ stretches) = Some s.monday
 
--- what isn't examined after a horizon ends at the next stretch; after the last one, at the end of what is held, if that is later
+-- the range that isn't examined after a horizon ends at the next stretch; after the last stretch, at the end of what is held, if that is
+-- later
 abbrev pub unseen_to : ℕ → ℕ → Option ℕ → Option ℕ
 unseen_to end horizon (Some monday) = Some monday
 unseen_to end horizon None = if nat_lt horizon end then Some end else None
 
--- a stretch has the report from its Monday; the next one starts at the next possible Monday; what lies between isn't examined
+-- a stretch has the report from its Monday; the next stretch begins at the next possible Monday; the range between isn't examined
 pub record IsStretch (line : List Span) (end : ℕ) (s : Judged) (next : Option ℕ) : Type 0 where
   pub report : IsReport line s.monday s.horizon s.breaches s.debts
   pub followed : IsNextStart line s.horizon.minute next
   pub rest : s.unseen ≡ unseen_to end s.horizon.minute next
 
--- each of a list is a stretch, followed by the next one
+-- each member of the list is a stretch, and the next member follows it
 abbrev pub AreAll : List Span → ℕ → List Judged → Type 0
 AreAll line end [] = Unit {0}
 AreAll line end (s ∷ stretches) = IsStretch line end s (first_monday stretches) × AreAll line end stretches
 
--- the stretches of a line: the first one starts at the base
+-- the stretches of a line: the first one begins at the base
 pub record AreStretches (line : List Span) (base : ℕ) (stretches : List Judged) : Type 0 where
   pub first : first_monday stretches ≡ Some base
   pub end : ℕ

@@ -3,7 +3,7 @@ ghost use Rattle.tacho_stretches.specs.Start.{IsEndOfHeld};
 
 use tacho_time::{Minute, Span};
 
-/// The end of what spans in order give: the past of the last one, or the base where that is later.
+/// Returns the end of what spans in order hold: the past of the last one, or the base if that is later.
 pub(crate) fn end_of_held(spans: &[Span], base: Minute) -> Minute
     requires { IsCanonical spans.now }
     ensures { IsEndOfHeld spans.now base result }

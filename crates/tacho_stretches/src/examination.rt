@@ -9,10 +9,10 @@ use tacho_pass::Found;
 use tacho_rules::{Report, Scan};
 use tacho_time::{Minute, Span};
 
-/// An examination from a Monday on, before its horizon.
+/// An examination from a Monday, before it has reached its horizon.
 #[derive(Drop)]
 pub(crate) struct Examination {
-    /// The first minute of its Monday.
+    /// The first minute of the Monday.
     pub monday: Minute,
     /// The minute up to which it has examined.
     pub minute: Minute,
@@ -23,12 +23,12 @@ pub(crate) struct Examination {
     ghost early: { minute ≤ latest },
 }
 
-/// An examination that came to its horizon.
+/// An examination that has reached its horizon.
 #[derive(Drop)]
 pub(crate) struct Examined {
-    /// The first minute of its Monday.
+    /// The first minute of the Monday.
     pub monday: Minute,
-    /// What the rules say from there to the horizon.
+    /// The report from there to the horizon.
     pub report: Report,
     ghost from: { first_base ≤ report.horizon.minute },
     ghost early: { report.horizon.minute ≤ latest },
@@ -42,7 +42,7 @@ impl Examination {
     ghost use Rattle.tacho_hours.specs.Limits.{latest};
     ghost use Rattle.tacho_stretches.specs.Pass.{EndsBy, IsExaminationOf, IsReportOf};
 
-    /// An examination from a Monday on that has examined no minute yet.
+    /// Makes an examination from a Monday that has examined no minute yet.
     pub(crate) fn new(alloc: Global, monday: Minute) -> Examination
         requires monday { IsBase monday }
         requires early { monday ≤ latest }
@@ -58,7 +58,7 @@ impl Examination {
         }
     }
 
-    /// Examines the rest of a span, from the minute where it stands. The span gives that minute, without a second driver.
+    /// Examines the rest of a span, from the examination's minute on. The span gives that minute, without a second driver.
     pub(crate) fn go_on(&mut self, span: &Span) -> Result<(), AllocError>
         requires rest { self.old.minute < span.now.past }
         requires within { span.now.past ≤ latest }
@@ -78,7 +78,7 @@ impl Examination {
         Ok(())
     }
 
-    /// Ends where it stands, for this cause. What it found is in the report then, and no longer in it.
+    /// Ends the examination at its minute, for this cause. Its findings are moved to the report.
     pub(crate) fn end(&mut self, alloc: Global, cause: Cause) -> Result<Examined, AllocError>
         ensures monday { IfOk result (λ examined. examined.monday ≡ self.old.monday) }
         ensures minute { IfOk result (λ examined. examined.report.horizon.minute ≡ self.old.minute) }

@@ -1,4 +1,4 @@
-//! Laws about stretches. A law is a function without a body: what it ensures is proved, and holds for all that it names.
+//! Laws about stretches. A law is a function without a body: what it ensures is proved for all values of its variables.
 
 ghost use Rattle.std.specs.Prelude.{◌≡◌, ◌<◌, ◌≤◌, ℕ, List, ◌∷◌, ◌++◌, All};
 ghost use Rattle.tacho_time.specs.declared.span.Span.{Span};
@@ -23,15 +23,15 @@ pub fn each_line_has_stretches()
         → (stretches : List Judged) × AreStretches line base stretches }
 {}
 
-/// The first stretch is the report from the base on.
+/// The first stretch is the report from the base.
 pub fn first_stretch_is_the_report()
     ensures { (line : List Span) (base : ℕ) (s : Judged) (stretches : List Judged)
         → AreStretches line base (s ∷ stretches)
         → (s.monday ≡ base) × IsReport line base s.horizon s.breaches s.debts }
 {}
 
-/// The ranges that are examined and those that aren't follow one another, in order, from the base to the end of what is held: no minute is
-/// left out, and none is in two of them.
+/// The ranges that are examined and those that aren't follow one another from the base to the end of what is held: no minute is left out,
+/// and none is in two ranges.
 pub fn no_minute_is_left_out()
     ensures { (line : List Span) (base end : ℕ) (stretches : List Judged) → AreStretches line base stretches
         → IsEndOfHeld line base end → FollowOn (parts stretches) base end }
@@ -47,8 +47,8 @@ pub fn each_minute_is_in_one_part()
         → IsEndOfHeld line base end → end ≤ m → times_in (parts stretches) m ≡ 0 }
 {}
 
-/// Two lines that agree from the base up to and including the horizon of a stretch have the same stretches up to there, and the same report
-/// in that one: what is held later doesn't change them.
+/// If two lines agree from the base up to and including the horizon of a stretch, they have the same stretches up to it, and the same
+/// report in it: what is held later doesn't change them.
 pub fn later_rows_change_no_stretch()
     ensures { (line other : List Span) (base : ℕ) (front rest others : List Judged) (s : Judged)
         → AreStretches line base (front ++ s ∷ rest) → AreStretches other base others
@@ -56,7 +56,8 @@ pub fn later_rows_change_no_stretch()
         → GoesOnLike front s others }
 {}
 
-/// What lies before the base doesn't count, nor how the line's spans are cut: lines that agree from the base on have the same stretches.
+/// Lines that agree from the base on have the same stretches. Minutes before the base don't matter, nor does how minutes are divided into
+/// spans.
 pub fn stretches_by_marks()
     ensures { (line other : List Span) (base : ℕ) (stretches : List Judged) → AreStretches line base stretches
         → ((m : ℕ) → base ≤ m → mark_at line m ≡ mark_at other m) → AreStretches other base stretches }

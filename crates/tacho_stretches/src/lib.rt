@@ -1,5 +1,5 @@
-//! The stretches of a timeline. An examination ends at the first minute that isn't held, or that is held with a second driver; a stretch is
-//! an examination that begins anew after it, at a later Monday.
+//! The stretches of a timeline. An examination ends at the first minute that isn't held, or that is held with a second driver. After it,
+//! another stretch begins at a later Monday.
 #![tactic(auto)]
 
 mod end;

@@ -14,22 +14,22 @@ use tacho_hours::limits::LATEST;
 use tacho_line::Cause;
 use tacho_time::{Minute, Span};
 
-/// The stretches of spans that come one at a time, in the order of time. What it keeps is what it finds: stretches, with their breaches and
-/// debts. Minutes are UTC.
+/// Finds the stretches of spans that come one at a time, in order. It keeps only what it finds: stretches, with their breaches and debts.
+/// Minutes are in UTC.
 #[derive(Drop)]
 pub struct StretchPass {
     alloc: Global,
-    /// The stretches that another one follows.
+    /// The stretches that are followed by another.
     done: Vec<Stretch>,
     examination: Examination,
-    /// The examination at its horizon, once it came to it. Then the next Monday is sought.
+    /// The examination, once it has reached its horizon. The pass then looks for the next Monday.
     examined: Option<Examined>,
     /// Where the last span ended.
     past: Minute,
 }
 
 impl StretchPass {
-    /// A pass over no spans, from a base, the first minute of a Monday.
+    /// Makes a pass over no spans, from a base, the first minute of a Monday.
     pub fn new(alloc: Global, base: Minute) -> StretchPass
         requires monday { IsBase base }
         requires early { base ≤ latest }
@@ -45,7 +45,7 @@ impl StretchPass {
         }
     }
 
-    /// Whether a span can be taken next: it has a minute, doesn't go past 2099, and starts no earlier than the last span ended.
+    /// True if a span can be taken next: it isn't empty, ends by the end of 2099, and starts no earlier than the last span ended.
     pub fn can_take(&self, span: &Span) -> bool
         ensures takes { IsTrue result → CanTake self.now span.now }
         ensures all { CanTake self.now span.now → IsTrue result }
@@ -53,7 +53,7 @@ impl StretchPass {
         self.past <= span.start && span.start < span.past && span.past.number() <= LATEST
     }
 
-    /// Takes the next span. Fails only where it is out of memory, and is of no use then.
+    /// Takes the next span. Fails only if memory runs out, and can't be used after that.
     pub fn feed(&mut self, span: Span) -> Result<(), AllocError>
         requires next { CanTake self.old span }
         ensures fed { OnOk result ((base : ℕ) (spans : List SpanValue) → IsPassOf self.old base spans
@@ -69,7 +69,7 @@ impl StretchPass {
         }
     }
 
-    /// Seeks the next Monday, after a horizon, in a span. Where the span has it, an examination begins there, with the rest of the span.
+    /// Looks for the next Monday, after a horizon, in a span. If the span has it, an examination begins there, with the rest of the span.
     fn seek(&mut self, examined: Examined, span: &Span) -> Result<(), AllocError>
         requires within { span.now.past ≤ latest }
         requires past { self.old.past ≡ span.now.past }
@@ -94,7 +94,7 @@ impl StretchPass {
         Ok(())
     }
 
-    /// The stretches of all spans that it took. Fails only where it is out of memory.
+    /// Returns the stretches of all spans that were taken. Fails only if memory runs out.
     pub fn finish(self) -> Result<Vec<Stretch>, AllocError>
         ensures stretches { IfOk result (λ stretches. (base : ℕ) (spans : List SpanValue) → IsPassOf self base spans
             → AreStretches spans base (map judged stretches.items)) }
@@ -111,7 +111,7 @@ impl StretchPass {
     }
 }
 
-/// Examines the next span, as far as to a horizon; after a horizon it stays.
+/// Examines the next span, at most up to a horizon. After a horizon it does nothing.
 fn examine(
     alloc: Global,
     examination: &mut Examination,
@@ -130,7 +130,7 @@ fn examine(
     }
 }
 
-/// Ends where no more spans come, which is at a horizon.
+/// Ends the examination when no more spans come; this minute is its horizon.
 fn end(
     alloc: Global,
     examination: Examination,
@@ -150,7 +150,7 @@ fn end(
     }
 }
 
-/// Examines the next span: all of it, or none, since a horizon lies before it or at a minute that it gives as crew.
+/// Examines the whole next span. Examines none of it if the horizon is before the span, or the span is crew.
 fn examine_span(
     alloc: Global,
     examination: &mut Examination,

@@ -6,7 +6,7 @@ ghost use Rattle.tacho_stretches.specs.Stretches.{judged, AreStretches};
 use crate::stretch::Stretch;
 use tacho_time::Minute;
 
-/// The minutes that stretches speak of: from the first one's Monday to the end of what is held. From 0 to before 0 where there are none.
+/// Returns the range that stretches cover: from the first stretch's Monday to the end of what is held. Returns 0 and 0 if there are none.
 pub fn range_of(stretches: &[Stretch]) -> (Minute, Minute)
     ensures { (line : List SpanValue) (base end : ℕ) → AreStretches line base (map judged stretches.now) → IsEndOfHeld line base end
         → (result.0 ≡ base) × (result.1 ≡ end) }

@@ -13,17 +13,17 @@ use tacho_time::Minute;
 /// An examination from a Monday to its horizon, and what isn't examined after it.
 #[derive(Drop)]
 pub struct Stretch {
-    /// The first minute of its Monday.
+    /// The first minute of the Monday.
     pub monday: Minute,
-    /// What the rules say of the timeline from there to the horizon.
+    /// The report of the timeline from there to the horizon.
     pub report: Report,
-    /// Where the range that isn't examined ends, which begins at the horizon: at the next stretch, or where what is held ends. `None` where
-    /// there is no such range.
+    /// The end of the range that begins at the horizon and isn't examined: the next stretch, or the end of what is held. `None` if there is
+    /// no such range.
     pub unseen: Option<Minute>,
 }
 
-/// The stretches of a timeline: the report from a base, the first minute of a Monday; then, after each horizon, the report from the next
-/// Monday whose first minute is held without a second driver. Minutes are UTC. Fails only where it is out of memory.
+/// Returns the stretches of a timeline: the report from a base, the first minute of a Monday; then, after each horizon, the report from the
+/// next Monday whose first minute is held without a second driver. Minutes are in UTC. Fails only if memory runs out.
 pub fn stretches(alloc: Global, line: &Line, base: Minute) -> Result<Vec<Stretch>, AllocError>
     requires monday { IsBase base }
     requires early { base ≤ latest }
@@ -51,14 +51,14 @@ pub fn stretches(alloc: Global, line: &Line, base: Minute) -> Result<Vec<Stretch
     }
 }
 
-/// The horizon of a report.
+/// Returns the horizon of a report.
 pub(crate) fn horizon_of(report: &Report) -> Minute
     ensures { result ≡ report.now.horizon.minute }
 {
     report.horizon.minute
 }
 
-/// Where the range ends that isn't examined after a horizon, if there is one.
+/// Returns the end of the range after a horizon that isn't examined, if there is such a range.
 pub(crate) fn unseen_after(end: Minute, horizon: Minute, next: &Option<Minute>) -> Option<Minute>
     ensures { result ≡ unseen_to end horizon next.now }
 {

@@ -11,14 +11,14 @@ use tacho_tables::{
     held, making, spans,
 };
 
-/// A span of the test.
+/// Makes a span for a test.
 fn span(start: u32, past: u32, mark: u32) -> StoredSpan
     ensures { result ≡ record { start = start; past = past; mark = mark } }
 {
     StoredSpan { start, past, mark }
 }
 
-/// A new entry of the test.
+/// Makes a new entry for a test.
 fn new_entry<'a>(number: u32, span: StoredSpan, author: &'a str, note: &'a str) -> NewEntry<'a> {
     NewEntry {
         number,
@@ -85,7 +85,7 @@ fn drivers_are_found_and_changed(rt: HostRuntime) -> Result<(), Fail> {
     Ok(())
 }
 
-/// Whether there is a driver with these, and without entries.
+/// True if there is a driver with these values, without entries.
 fn is_driver(
     found: Option<StoredDriver>,
     holder: &[u8],
@@ -146,7 +146,7 @@ fn assert_added(rt: &impl Abort, alloc: Global, all: &[StoredSpan]) -> Result<()
     Ok(())
 }
 
-// Eight of them are added by one statement.
+// Eight spans are added by one statement.
 #[test]
 fn as_many_spans_are_added_as_are_given(rt: HostRuntime) -> Result<(), Fail> {
     let all = [
@@ -242,7 +242,7 @@ fn card_spans_and_a_download(rt: HostRuntime) -> Result<(), Fail> {
     Ok(())
 }
 
-/// Whether there is a file, of these bytes.
+/// True if there is a file with these bytes.
 fn is_file(found: Option<Vec<u8>>, bytes: &[u8]) -> bool {
     match found {
         None => false,
@@ -275,7 +275,7 @@ fn a_reading_is_right_or_fails(rt: HostRuntime) -> Result<(), Fail> {
     Ok(())
 }
 
-/// Whether the spans that are read are those of the test, or can't be read.
+/// True if the spans that are read are those of the test, or can't be read.
 fn has_right_spans<S: Alter>(alloc: Global, tx: &mut Transaction<'_, S>) -> bool
     ensures { tx.new.conn.ghost_name ≡ tx.old.conn.ghost_name }
 {
@@ -285,7 +285,7 @@ fn has_right_spans<S: Alter>(alloc: Global, tx: &mut Transaction<'_, S>) -> bool
     }
 }
 
-/// Whether the file that is read is that of the test, or can't be read.
+/// True if the file that is read is that of the test, or can't be read.
 fn has_right_file<S: Alter>(tx: &mut Transaction<'_, S>) -> bool
     ensures { tx.new.conn.ghost_name ≡ tx.old.conn.ghost_name }
 {
@@ -351,7 +351,7 @@ fn entries_are_found_and_withdrawn(rt: HostRuntime) -> Result<(), Fail> {
     Ok(())
 }
 
-/// Whether these are the two entries of the test.
+/// True if these are the two entries of the test.
 fn are_both(found: &[StoredEntry]) -> bool {
     match found {
         [first, second] => {
@@ -362,7 +362,7 @@ fn are_both(found: &[StoredEntry]) -> bool {
     }
 }
 
-/// Whether an entry is this one.
+/// True if an entry is this one.
 fn is_entry(
     entry: &StoredEntry,
     number: u32,

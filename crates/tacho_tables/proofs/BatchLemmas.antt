@@ -1,4 +1,4 @@
--- Rows of entries that are added some at a time, each time by a call.
+-- Rows of entries that are added in several calls, a few in each.
 use Rattle.std.proofs.Common.{◌≡◌, ◌∙◌, ℕ, ◌+◌, ◌<◌, ◌≤◌, List, [], ◌∷◌, ◌++◌, Ok, ap, drop, get_or, length}
 use Rattle.std.proofs.Common.{◌*◌, ◌/◌, ap₂, arith, refl, subst, sym}
 use Rattle.std.specs.Borrow.{MutBor}
@@ -19,17 +19,17 @@ use Rattle.tacho_tables.proofs.Stored.{stands_shuffled}
 use Rattle.tacho_tables.proofs.Firsts.{by_places, chunk_long, chunks_joined, chunks_many, joined, moved, next_there}
 use Rattle.tacho_tables.proofs.Kept.{kept_itself, with_entries}
 
--- what is left to add, on top of what stands, is all on top of what stood, but for the order
+-- the rows `left` together with the present rows are `all` together with the old rows, up to order
 pub record HasLeft (all left : List EntryRow) (old now : State) : Type 0 where
   pub schema : IsArchive now.now
   pub rows : (a : Tables) → HasTables old.now.trees a
       → (some : List EntryRow) × HasTables now.now.trees (record a { entries = some }) × IsPermutation (all ++ a.entries) (left ++ some)
 
--- before the first is added
+-- before the first call, all rows are left to add
 pub all_left : (all : List EntryRow) (old : State) → IsArchive old.now → HasLeft all all old old
 all_left all old is = record { schema = is; rows = λ a s. (a.entries, s, IsPermutation-refl (all ++ a.entries)) }
 
--- some more were added
+-- a step adds `some`, so that `left` is left to add
 pub leaves_some : (all some left : List EntryRow) (old mid now : State) → HasLeft all (some ++ left) old mid
     → Turns mid now (λ a. record a { entries = some ++ a.entries }) → HasLeft all left old now
 leaves_some all some left old mid now was turned = record {
@@ -42,7 +42,7 @@ leaves_some all some left old mid now was turned = record {
       );
 }
 
--- once nothing is left, all were added
+-- once no row is left, all were added
 pub all_added : (all : List EntryRow) (old now : State) → HasLeft all [] old now
     → Turns old now (λ a. record a { entries = all ++ a.entries })
 all_added all old now last = record {
@@ -58,14 +58,14 @@ all_added all old now last = record {
 
 -- ---- calls
 
--- all but these of the rows were added
+-- the calls so far added all rows of `all` except `others`
 pub record HasStill {S : Type 0} (g : Ghosts S) (all others : List EntryRow) (old now : MutBor (Held S)) : Type 0 where
   pub stays : Stays g old now
   pub keeps : HasCleanDisk (state g now.now) → KeepsCommit (state g old.now) (state g now.now)
   pub left : HasCleanDisk (state g now.now) → IsArchive (state g old.now).now → HasLeft all others (state g old.now) (state g now.now)
 
 module _ {S : Type 0} {g : Ghosts S} {all : List EntryRow} {A E : Type 0} {x : A} where
-  -- some more, which stand before the others that were left
+  -- one call adds `some`, so that `others` are left to add
   pub adds_some : (some others : List EntryRow) {old mid now : MutBor (Held S)} → HasStill g all (some ++ others) old mid
       → Changes g mid now {A = A} {E = E} (Ok x) (λ a. record a { entries = some ++ a.entries }) → HasStill g all others old now
   adds_some some others {old} {mid} {now} was it = record {
@@ -76,7 +76,7 @@ module _ {S : Type 0} {g : Ghosts S} {all : List EntryRow} {A E : Type 0} {x : A
         leaves_some all some others (state g old.now) (state g mid.now) (state g now.now) had (it.turned clean had.schema);
   }
 
-  -- once none is left, all were added
+  -- once no row is left, all were added
   pub added_rest : {old now : MutBor (Held S)} → HasStill g all [] old now
       → Changes g old now {A = A} {E = E} (Ok x) (λ a. record a { entries = all ++ a.entries })
   added_rest {old} {now} was = record {
@@ -85,10 +85,10 @@ module _ {S : Type 0} {g : Ghosts S} {all : List EntryRow} {A E : Type 0} {x : A
     turned = λ clean is. all_added all (state g old.now) (state g now.now) (was.left clean is);
   }
 
--- rows of things that are numbered from a number on
+-- rows of a list whose numbers count up from a first number
 module _ {X : Type 0} (row : ℕ → X → EntryRow) (rows : ℕ → List X → List EntryRow)
     (follows : (n : ℕ) (x : X) (xs : List X) → rows n (x ∷ xs) ≡ row n x ∷ rows (n + 1) xs) where
-  -- those of four, and of what is behind them
+  -- the rows of a list that begins with four elements
   four_follow : (n : ℕ) (a b c d : X) (xs : List X)
       → rows n (a ∷ b ∷ c ∷ d ∷ xs) ≡ row n a ∷ row (n + 1) b ∷ row (n + 2) c ∷ row (n + 3) d ∷ rows (n + 4) xs
   four_follow n a b c d xs =
@@ -100,7 +100,7 @@ module _ {X : Type 0} (row : ℕ → X → EntryRow) (rows : ℕ → List X → 
       ∙ ap (λ l. row n a ∷ row (n + 1) b ∷ l) (follows (n + 2) c (d ∷ xs) ∙ ap (λ k. row (n + 2) c ∷ rows k (d ∷ xs)) three)
       ∙ ap (λ l. row n a ∷ row (n + 1) b ∷ row (n + 2) c ∷ l) (follows (n + 3) d xs ∙ ap (λ k. row (n + 3) d ∷ rows k xs) four)
 
-  -- before the first of some chunks, and of what is behind them
+  -- before the first chunk, all chunks and `rest` are left to add
   pub left_in_chunks : (n first : ℕ) (xs : List X) {chunks : List (List X)} {rest : List X} (old : State)
       → chunks ≡ first_chunks n (length xs / n) xs → rest ≡ drop (length xs / n * n) xs → IsArchive old.now
       → HasLeft (rows first xs) (rows first (joined chunks rest)) old old
@@ -109,7 +109,7 @@ module _ {X : Type 0} (row : ℕ → X → EntryRow) (rows : ℕ → List X → 
       (all_left (rows first xs) old is)
 
   module _ {S : Type 0} {g : Ghosts S} {all : List EntryRow} where
-    -- once there are no more chunks, what is behind them is left
+    -- once all chunks are added, only `rest` is left to add
     pub added_chunks : (chunks : List (List X)) (rest : List X) {count number : ℕ} {old now : MutBor (Held S)}
         → HasStill g all (rows number (joined (drop count chunks) rest)) old now → length chunks ≤ count
         → HasStill g all (rows number rest) old now
@@ -117,7 +117,7 @@ module _ {X : Type 0} (row : ℕ → X → EntryRow) (rows : ℕ → List X → 
         subst (λ l. HasStill g all (rows number (joined l rest)) old now) (drop_all count chunks past) was
 
   module _ {S : Type 0} {g : Ghosts S} {all : List EntryRow} {A E : Type 0} {x : A} where
-    -- the next four of those of a list, and what is behind them
+    -- one call adds the next four; the later chunks and `rest` are left to add
     pub adds_four : (d : X) (xs rest : List X) {fours : List (List X)} {count number : ℕ} {p q r s : EntryRow}
         {old mid now : MutBor (Held S)}
         → HasStill g all (rows number (joined (drop count fours) rest)) old mid
@@ -141,7 +141,7 @@ module _ {X : Type 0} (row : ℕ → X → EntryRow) (rows : ℕ → List X → 
         ∙ ap₂ (λ x y. p ∷ q ∷ x ∷ y ∷ rows (number + 4) others) (sym third) (sym fourth) in
         adds_some (p ∷ q ∷ r ∷ s ∷ []) (rows (number + 4) others) (subst (λ l. HasStill g all l old mid) same was) it
 
-    -- the next one
+    -- one call adds the next row that is left
     pub adds_one : (d : X) (left : List X) {count number : ℕ} {r : EntryRow} {old mid now : MutBor (Held S)}
         → HasStill g all (rows number (drop count left)) old mid → count < length left → r ≡ row number (get_or left count d)
         → Changes g mid now {A = A} {E = E} (Ok x) (λ a. record a { entries = r ∷ a.entries })
@@ -153,7 +153,7 @@ module _ {X : Type 0} (row : ℕ → X → EntryRow) (rows : ℕ → List X → 
         ap (rows number) (next_there d count left within) ∙ follows number one others ∙ ap (λ x. x ∷ rows (number + 1) others) (sym first) in
         adds_some (r ∷ []) (rows (number + 1) others) (subst (λ l. HasStill g all l old mid) same was) it
 
-    -- once none is left, all were added
+    -- once no row is left, all were added
     pub added_all : (left : List X) {count number : ℕ} → rows number [] ≡ [] → {old now : MutBor (Held S)}
         → HasStill g all (rows number (drop count left)) old now → length left ≤ count
         → Changes g old now {A = A} {E = E} (Ok x) (λ a. record a { entries = all ++ a.entries })

@@ -1,4 +1,4 @@
--- Calls within a transaction, one after the other.
+-- Consecutive calls within a transaction.
 use Rattle.std.proofs.Common.{◌≡◌, ◌∙◌, ℕ, Err, IfOk, IsErr, IsTrue, List, Ok, OnOk, Result, subst, sym}
 use Rattle.std.specs.Borrow.{MutBor}
 use Rattle.std.proofs.lemmas.Result.{on_ok_weaker}
@@ -24,7 +24,7 @@ module _ {S : Type 0} {g : Ghosts S} {a b c : MutBor (Held S)} where
     survives = survives_then (state g a.now) (state g b.now) (state g c.now) (λ _. ⊥) (λ _. ⊥) (λ _. ⊥) (λ _ db none. none) (λ _ db none. none) p.survives q.survives;
   }
 
-  -- a change after one that went well
+  -- a change after a change that succeeded
   pub changes_then : {A B E F : Type 0} {x : A} {r : Result B F} {f h : Tables → Tables} → Changes g a b {A = A} {E = E} (Ok x) f → Changes g b c r h
       → Changes g a c r (λ t. h (f t))
   changes_then {r = r} p q = record {
@@ -37,28 +37,28 @@ module _ {S : Type 0} {g : Ghosts S} {a b c : MutBor (Held S)} where
 
 -- ---- readings
 
--- a text that means a reading under each layout means one in an archive
+-- an SQL text that is a reading under each layout is a reading in every archive
 pub plain_in : (text : List ℕ) → ((layout : Layout) → IsPlain (understood (archive_schema layout) text))
     → (d : Database) → IsArchive d → IsPlain (understood d.schema text)
 plain_in text plain d is = subst (λ (s : Schema). IsPlain (understood s text)) (sym is.schema) (plain is.layout)
 
--- a text means one where it is another that does
+-- a text is a reading if an equal text is
 pub plain_text : (text : List ℕ) {other : List ℕ} → other ≡ text
     → ((layout : Layout) → IsPlain (understood (archive_schema layout) other)) → (layout : Layout)
     → IsPlain (understood (archive_schema layout) text)
 plain_text text same plain layout = subst (λ t. IsPlain (understood (archive_schema layout) t)) same (plain layout)
 
--- a fact holds where there is a value
+-- a fact holds for the value of a result, if it holds at all
 pub any_ok : {A E : Type 0} (r : Result A E) {P : Type 0} → P → OnOk r P
 any_ok (Ok x) holds = holds
 any_ok (Err e) holds = tt
 
--- and any fact where there is none
+-- of a result that is an error, any fact holds for the value
 no_ok : {A E : Type 0} (r : Result A E) (P : Type 0) → IsErr r → OnOk r P
 no_ok (Ok x) P fails = absurd (let e = fails in cc)
 no_ok (Err e) P fails = tt
 
--- any fact of the value too
+-- likewise for a fact about the value
 none_ok : {A E : Type 0} (r : Result A E) (P : A → Type 0) → IsErr r → IfOk r P
 none_ok (Ok x) P fails = absurd (let e = fails in cc)
 none_ok (Err e) P fails = tt
@@ -68,7 +68,7 @@ module _ {S : Type 0} {g : Ghosts S} {a b : MutBor (Held S)} (text : List ℕ) {
     (keeps : HasCleanDisk (state g b.now) → IsPlain (understood (state g a.now).now.schema text)
     → KeepsCommit (state g a.now) (state g b.now))
     {A E : Type 0} (r : Result A E) where
-  -- what was read of a database of which that is known
+  -- a reading that succeeded, of a database for which `Known` holds
   pub reads_known : (HasCleanDisk (state g b.now) → IsTrue (state g b.now).is_open)
       → (HasCleanDisk (state g b.now) → IsPlain (understood (state g a.now).now.schema text) → IsUnchanged (state g a.now) (state g b.now))
       → ReadsOf g a b r Known
@@ -79,7 +79,7 @@ module _ {S : Type 0} {g : Ghosts S} {a b : MutBor (Held S)} (text : List ℕ) {
     same = λ clean known. any_ok r (same clean (plain _ known));
   }
 
-  -- and a reading of it that failed
+  -- a reading that failed, of a database for which `Known` holds
   pub fails_known : IsErr r → ReadsOf g a b r Known
   fails_known fails = record {
     stays = stays;
@@ -93,13 +93,13 @@ module _ {S : Type 0} {g : Ghosts S} {a b : MutBor (Held S)} (text : List ℕ)
     (keeps : HasCleanDisk (state g b.now) → IsPlain (understood (state g a.now).now.schema text)
     → KeepsCommit (state g a.now) (state g b.now))
     {A E : Type 0} (r : Result A E) {fact : Tables → A → Type 0} where
-  -- what was read of an archive, and is a fact of its tables
+  -- a reading of an archive that succeeded, whose answer is a fact of its tables
   pub finds : (HasCleanDisk (state g b.now) → IsTrue (state g b.now).is_open)
       → (HasCleanDisk (state g b.now) → IsPlain (understood (state g a.now).now.schema text) → IsUnchanged (state g a.now) (state g b.now))
       → (HasCleanDisk (state g b.now) → (is : IsArchive (state g a.now).now)
       → IfOk r (λ answer. (t : Tables) → HasTables (state g a.now).now.trees t → fact t answer)) → Finds g a b r fact
   finds live same found = record { reads = reads_known text (plain_in text plain) stays keeps r live same; found = found }
 
-  -- and a reading of it that failed
+  -- a reading of an archive that failed
   pub finds_none : IsErr r → Finds g a b r fact
   finds_none fails = record { reads = fails_known text (plain_in text plain) stays keeps r fails; found = λ clean is. none_ok r _ fails }

@@ -43,58 +43,58 @@ use Rattle.tacho_tables.proofs.Writes.{Edits, inserted_of, deleted, updated, cas
 
 -- ---- the texts
 
--- the text that copies the entries
+-- the SQL that copies the entries
 abbrev pub copy_text : List ℕ
 copy_text =
     codes "INSERT INTO entry_rows (driver, number, start, past, mark, withdrawn, author, note) SELECT driver, number, start, past, mark, withdrawn, 'office', '' FROM entries"
 
--- a row of the office, whose number the store gives, of a row of schema 1
+-- what the copy puts for a row of schema 1: an entry of the office; the store gives the row's number
 abbrev pub copied_shown : List Term
 copied_shown =
     lit Null ∷ col 1 1 ∷ col 1 2 ∷ col 1 3 ∷ col 1 4 ∷ col 1 5 ∷ col 1 6 ∷ lit (Text (codes "office")) ∷ lit (Text []) ∷ []
 
--- their collations, which mean nothing
+-- the collations of these columns, which don't matter
 abbrev copied_collations : List Collation
 copied_collations = Binary ∷ Binary ∷ Binary ∷ Binary ∷ Binary ∷ Binary ∷ Binary ∷ Binary ∷ Binary ∷ []
 
--- what it means
+-- the statement that `copy_text` is
 pub copy_is : IsStatement (archive_schema Carried) copy_text
     (Insert 6 (Query (record { lets = []; body = record (simple 8 [] copied_shown []) { collations = copied_collations } })))
 unfolding understood everything
 copy_is = record { meant = refl; plain = (refl, refl) }
 
--- the text that removes the entries of schema 1
+-- the SQL that removes the entries of schema 1
 abbrev pub clear_text : List ℕ
 clear_text = codes "DELETE FROM entries"
 
--- what it means
+-- the statement that `clear_text` is
 pub clear_is : IsStatement (archive_schema Carried) clear_text (Delete 4 (record { lets = []; body = simple 8 [] (col 1 0 ∷ []) [] }))
 unfolding understood everything
 clear_is = record { meant = refl; plain = (refl, refl) }
 
--- the text that says the version
+-- the SQL that sets the version
 abbrev pub version_set_text : List ℕ
 version_set_text = codes "UPDATE meta SET version = 2 WHERE id = 1"
 
--- the row of meta with version 2, after its old number
+-- the row of `meta` with version 2, after its old number
 abbrev pub with_version_shown : List Term
 with_version_shown = col 1 0 ∷ col 1 0 ∷ lit Null ∷ lit (Int (pos 2)) ∷ []
 
--- what it means
+-- the statement that `version_set_text` is
 pub version_set_is : IsStatement (archive_schema Carried) version_set_text
     (Update 0 (record { lets = []; body = simple 0 first_row with_version_shown [] }))
 unfolding understood everything
 version_set_is = record { meant = refl; plain = (refl, refl) }
 
--- ---- what each leaves
+-- ---- what each statement leaves
 
--- an edit under the schema of an archive that was carried over changed the rows of one table
+-- an edit of an archive that was carried over changed the rows of one table only
 pub record Leaves (tree : ℕ) (old new : Database) : Type 0 where
   pub schema : new.schema ≡ archive_schema Carried
   pub sound : IsSound (archive_schema Carried) new.trees
   pub kept : AreKept Carried tree old.trees new.trees
 
--- so it is
+-- each edit does
 leaves : (old new : State) {edit : Edit} → Edits (archive_schema Carried) old new edit → Leaves edit.table.tree old.now new.now
 leaves old new {edit} e =
     let trees = sym (ap (λ (d : Database). d.trees) e.now_is) in
@@ -108,7 +108,7 @@ leaves old new {edit} e =
 abbrev put_for : OldEntryRow → Row
 put_for x = Null ∷ entry_columns (by_office x)
 
--- its columns are stored as they are
+-- its columns are stored unchanged
 cast_all : (xs : List OldEntryRow) → map (λ s. cast_row (record made.entry_rows { tree = 12 }) (drop 0 s)) (map put_for xs)
     ≡ map (λ x. Null ∷ entry_columns x) (map by_office xs)
 cast_all [] = refl
@@ -123,7 +123,7 @@ cast_all (x ∷ xs) = rw (
   cast_all xs,
 ) refl
 
--- what is put of the rows that the query shows stands for the entries
+-- the rows that are put for the query's rows represent the entries
 copied_stands : (db next : Trees) (found : List Row)
     → IsPermutation (map (λ r. eval_all copied_shown ([] ∷ r ∷ [])) (filter (passes [] []) (db 8))) found
     → Applies (archive_schema Carried) Enforced db (edit_of db (record made.entry_rows { tree = 12 }) [] Chosen 0 found) next
@@ -182,12 +182,12 @@ copies old new count has h =
           (copied_stands db e.2.next e.0 found e.2.applies none entries s);
     }
 
--- rows that stand for nothing are none
+-- rows that represent an empty list are empty
 none_stand : {X : Type 0} (columns : X → Row) (rows : List Row) → AreRowsOf columns rows [] → rows ≡ []
 none_stand columns [] s = refl
 none_stand columns (r ∷ rows) s = absurd (let e = no_permutation (map (drop 1) (r ∷ rows)) s.same in cc)
 
--- a test that is false of all leaves none
+-- a filter that nothing passes gives an empty list
 none_pass : {X : Type 0} (xs : List X) → filter (λ _. false) xs ≡ []
 none_pass [] = refl
 none_pass (x ∷ xs) = none_pass xs
@@ -214,14 +214,14 @@ clears old new count has h =
 abbrev version_row : ℕ → Row
 version_row version = Int (pos 1) ∷ Null ∷ Int (pos version) ∷ []
 
--- what is put of the one row that the query shows
+-- the row that is put for the one row that the query shows
 version_put : (rows found : List Row) → rows ≡ version_row 1 ∷ [] → found ≡ (Int (pos 1) ∷ version_row 2) ∷ []
     → put_all (without_all rows (ids_of found))
     (numbered Given (without_all rows (ids_of found)) (map (λ s. cast_row made.meta (drop 1 s)) found))
     ≡ version_row 2 ∷ []
 version_put rows found is shown = rw (is, shown, own_id (pos 1), cast_int (pos 1), cast_null, cast_int (pos 2)) refl
 
--- the UPDATE says version 2 where the row of meta said version 1
+-- the UPDATE sets version 2 where the row of `meta` had version 1
 pub sets_version : (old new : State) (count : ℕ) → old.now.schema ≡ archive_schema Carried → Executes version_set_text [] old new (Ok count)
     → Leaves 0 old.now new.now × (IsVersion 1 old.now.trees → IsVersion 2 new.now.trees)
 sets_version old new count has h =
@@ -237,7 +237,7 @@ sets_version old new count has h =
           ap (λ (d : Database). d.trees 0) e.2.now_is ∙ e.2.applies.rows ∙ version_put (db 0) e.0 is found,
     )
 
--- ---- the whole
+-- ---- all four steps
 
 -- the four steps carry the tables over
 pub carries : (first made copied cleared last : State) → HasMade old_schema entry_rows first made → Copies made.now copied.now
@@ -271,7 +271,7 @@ carries first made copied cleared last one two three four = record {
   emptied = emptied;
 }
   where
-    -- `entries` is cleared, and its rows stay none
+    -- `entries` is cleared, and stays empty
     emptied : (a : OldTables) → HasOldTables first.now.trees a → last.now.trees 8 ≡ []
     emptied a s = four.0.kept.1.1.1.1.0 (λ e. omega (arith, e))
         ∙ three.1 a.entries

@@ -1,4 +1,4 @@
--- A catalog lists one schema.
+-- A catalog lists one schema only.
 use Rattle.std.proofs.Common.{◌≡◌, ap, arith, length, refl, subst}
 use Rattle.sqlite.specs.Effect.{Database, IsDatabase}
 use Rattle.sqlite.specs.Schema.{Schema}
@@ -9,27 +9,27 @@ use Rattle.tacho_tables.specs.Schema.{Layout, Made, Carried, archive_schema, old
 use Rattle.tacho_tables.specs.Rows.{AreRowsOf, entry_columns}
 use Rattle.tacho_tables.specs.Tables.{Tables, HasTables, OldTables, HasOldTables, IsArchive}
 
--- one schema has one layout
+-- different layouts have different schemas
 one_schema : (a b : Layout) → archive_schema a ≡ archive_schema b → a ≡ b
 one_schema Made Made same = refl
 one_schema Made Carried same = absurd (let count = ap (λ (s : Schema). length s.tables) same in omega (arith, count))
 one_schema Carried Made same = absurd (let count = ap (λ (s : Schema). length s.tables) same in omega (arith, count))
 one_schema Carried Carried same = refl
 
--- and so have the rows of a database
+-- the rows of a database have one layout only
 pub one_layout : (db : Trees) (a b : Layout) → IsSound (archive_schema a) db → IsSound (archive_schema b) db → a ≡ b
 one_layout db a b it other = one_schema a b (lists_once _ (archive_schema a) (archive_schema b) it.lists other.lists)
 
--- the layout of the lists that a database stands for is that of its schema
+-- the layout of a database's rows is that of its schema
 pub layout_is : (d : Database) (a : Tables) (is : IsArchive d) (s : HasTables d.trees a) → s.layout ≡ is.layout
 layout_is d a is s = one_layout d.trees s.layout is.layout s.sound is.sound
 
--- so its entries stand where its schema has them
+-- so the entries are in the table in which its schema has them
 pub entries_stand : (d : Database) (a : Tables) (is : IsArchive d) → HasTables d.trees a
     → AreRowsOf entry_columns (d.trees (entry_tree is.layout)) a.entries
 entries_stand d a is s = subst (λ layout. AreRowsOf entry_columns (d.trees (entry_tree layout)) a.entries) (layout_is d a is s) s.entries
 
--- a database whose rows stand for those of an archive is an archive
+-- a database whose rows represent the tables of an archive is an archive
 pub is_archive : (d : Database) (a : Tables) → HasTables d.trees a → IsDatabase d → IsArchive d
 is_archive d a s it = record {
   layout = s.layout;
@@ -37,6 +37,6 @@ is_archive d a s it = record {
   sound = s.sound;
 }
 
--- and one whose rows stand for those of schema 1 is of schema 1
+-- a database whose rows represent the tables of schema 1 has schema 1
 pub is_old_schema : (d : Database) (a : OldTables) → HasOldTables d.trees a → IsDatabase d → d.schema ≡ old_schema
 is_old_schema d a s it = lists_once _ d.schema old_schema it.lists s.sound.lists

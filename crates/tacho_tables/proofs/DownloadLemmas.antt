@@ -25,7 +25,7 @@ use Rattle.tacho_tables.proofs.Statements.{four, numbered, download_insert_text,
 use Rattle.tacho_tables.proofs.TurnLemmas.{turns}
 use Rattle.tacho_tables.proofs.Writes.{inserted, cast_null, cast_int}
 
--- an INSERT into downloads adds a row to it, and to no other table
+-- an INSERT into `downloads` adds a row to it, and to no other table
 pub adds_download : (old new : State) (x : DownloadRow) (count : ℕ) → IsArchive old.now
     → Executes download_insert_text (download_columns x) old new (Ok count)
     → Turns old new (λ a. record a { downloads = x ∷ a.downloads })
@@ -44,7 +44,7 @@ adds_download old new x count is h =
     (subst (λ rs. AreRowsOf download_columns rs (x ∷ a.downloads)) (sym stored)
     (stands_put download_columns rows a.downloads (next_rowid rows) x s.downloads free)))
 
--- the tests of a reading by number are those of a row
+-- the SQL tests of a reading by number are `is_download`
 download_test : (driver number : ℕ) (v : Value) (x : DownloadRow)
     → passes numbered (Int (pos driver) ∷ Int (pos number) ∷ []) (v ∷ download_columns x) ≡ is_download driver number x
 download_test driver number v x = rw (eq_test x.driver driver, eq_test x.number number)

@@ -30,11 +30,11 @@ use Rattle.tacho_tables.proofs.Statements.{IsStatement, IsReading, column_is, dr
 use Rattle.tacho_tables.proofs.TurnLemmas.{turns}
 use Rattle.tacho_tables.proofs.Writes.{inserted, updated, cast_null, cast_int}
 
--- a driver who has neither downloads nor entries
+-- a driver without downloads and entries
 abbrev pub new_driver : ℕ → List ℕ → List ℕ → ℕ → List ℕ → DriverRow
 new_driver driver holder secret base name = record { driver = driver; holder = holder; secret = secret; base = base; name = name; downloads = 0; entries = 0 }
 
--- an INSERT into drivers adds a driver, and changes no other table
+-- an INSERT into `drivers` adds a driver, and changes no other table
 pub adds_driver : (old new : State) (driver : ℕ) (holder secret : List ℕ) (base : ℕ) (name : List ℕ) (count : ℕ) → IsArchive old.now
     → Executes driver_insert_text (Int (pos driver) ∷ Blob holder ∷ Text secret ∷ Int (pos base) ∷ Text name ∷ []) old new (Ok count)
     → Turns old new (λ a. record a { drivers = new_driver driver holder secret base name ∷ a.drivers })
@@ -56,19 +56,19 @@ adds_driver old new driver holder secret base name count is h =
 
 -- ---- readings
 
--- the tests of the three readings are those of a row
+-- the SQL test of a reading by number is `has_number`
 pub number_test : (driver : ℕ) (x : DriverRow) → passes (column_is 0) (Int (pos driver) ∷ []) (driver_row x) ≡ has_number driver x
 number_test driver x = rw (eq_test x.driver driver) (and-true (x.driver == driver))
 
--- and by key
+-- the test of a reading by key is `has_secret`
 pub secret_test : (secret : List ℕ) (x : DriverRow) → passes (column_is 3) (Text secret ∷ []) (driver_row x) ≡ has_secret secret x
 secret_test secret x = rw (text_test x.secret secret) (and-true (bytes_eq x.secret secret))
 
--- and by holder
+-- the test of a reading by holder is `has_holder`
 pub holder_test : (holder : List ℕ) (x : DriverRow) → passes (column_is 2) (Blob holder ∷ []) (driver_row x) ≡ has_holder holder x
 holder_test holder x = rw (blob_test x.holder holder) (and-true (bytes_eq x.holder holder))
 
--- a reading shows this of the drivers that pass
+-- a reading shows these columns of the drivers that pass
 pub shows_drivers : (text : List ℕ) (tests terms : List Term) (names : List (List ℕ))
     → ((layout : Layout) → IsReading (archive_schema layout) text 1 tests terms [] names)
     → (params : Row) (t : DriverRow → Bool) → ((x : DriverRow) → passes tests params (driver_row x) ≡ t x)
@@ -90,11 +90,11 @@ module _ (old new : State) (driver value count : ℕ) (is : IsArchive old.now) w
   abbrev params : Row
   params = Int (pos driver) ∷ Int (pos value) ∷ []
 
-  -- the row that is stored of what an UPDATE shows
+  -- the row that is stored for a row that an UPDATE shows
   abbrev new_of : Row → Row
   new_of s = cast_row (record made.drivers { tree = 1 }) (drop 1 s)
 
-  -- an UPDATE of the driver with this number changes him alone
+  -- an UPDATE of the driver with this number changes no other driver
   changes : (text : List ℕ) (terms : List Term) (change : DriverRow → DriverRow)
       → ((layout : Layout)
       → IsStatement (archive_schema layout) text (Update 1 (record { lets = []; body = simple 1 (column_is 0) terms [] })))
@@ -124,21 +124,21 @@ module _ (old new : State) (driver value count : ℕ) (is : IsArchive old.now) w
       number_passes : (x : DriverRow) → passes (column_is 0) params (driver_row x) ≡ has_number driver x
       number_passes x = rw (eq_test x.driver driver) (and-true (x.driver == driver))
 
-  -- his base
+  -- it sets the driver's base
   pub sets_base : Executes base_text params old new (Ok count)
       → Turns old new (λ a. record a { drivers = map (with_base driver value) a.drivers })
   sets_base h =
       changes base_text with_base_shown (λ x. record x { base = value }) base_is (λ x. refl)
       (λ x. rw (cast_int (pos x.driver), cast_null, cast_int (pos value), cast_int (pos x.downloads), cast_int (pos x.entries)) refl) h
 
-  -- how many numbers were given out to his downloads
+  -- it sets how many numbers were given out to the driver's downloads
   pub sets_count : Executes count_text params old new (Ok count)
       → Turns old new (λ a. record a { drivers = map (with_downloads driver value) a.drivers })
   sets_count h =
       changes count_text with_count_shown (λ x. record x { downloads = value }) count_is (λ x. refl)
       (λ x. rw (cast_int (pos x.driver), cast_null, cast_int (pos x.base), cast_int (pos value), cast_int (pos x.entries)) refl) h
 
-  -- and to his entries
+  -- it sets how many numbers were given out to the driver's entries
   pub sets_entry_count : Executes entry_count_text params old new (Ok count)
       → Turns old new (λ a. record a { drivers = map (with_entries driver value) a.drivers })
   sets_entry_count h =

@@ -40,7 +40,7 @@ use Rattle.tacho_tables.proofs.Writes.{inserted, deleted, updated, cast_null, ca
 
 -- ---- held
 
--- a DELETE of what begins in a range leaves the others
+-- a DELETE of the spans that begin in a range keeps the others
 pub deletes_begun : (old new : State) (driver start past count : ℕ) → IsArchive old.now
     → Executes held_delete_text (Int (pos driver) ∷ Int (pos start) ∷ Int (pos past) ∷ []) old new (Ok count)
     → Turns old new (λ a. record a { held = filter (λ r. not (is_begun driver start past r)) a.held })
@@ -63,12 +63,12 @@ deletes_begun old new driver start past count is h =
 
 -- ---- entries
 
--- the values of a new entry, but for its driver
+-- the values of a new entry, except its driver
 abbrev pub entry_values : NewEntry → Row
 entry_values e = Int (pos e.number) ∷ Int (pos e.span.start) ∷ Int (pos e.span.past) ∷ Int (pos e.span.mark)
     ∷ Text e.author.now ∷ Text e.note.now ∷ []
 
--- any new entry
+-- a default entry
 abbrev pub no_entry : NewEntry
 no_entry = record {
   number = 0;
@@ -81,7 +81,7 @@ no_entry = record {
 abbrev unnumbered : EntryRow → Row
 unnumbered x = Null ∷ entry_columns x
 
--- its columns are stored as they are
+-- its columns are stored unchanged
 cast_all : (tree : ℕ) (xs : List EntryRow) → map (λ s. cast_row (record made.entry_rows { tree = tree }) (drop 0 s)) (map unnumbered xs)
     ≡ map unnumbered xs
 cast_all tree [] = refl
@@ -96,7 +96,7 @@ cast_all tree (x ∷ xs) = rw (
   cast_all tree xs,
 ) refl
 
--- an INSERT of some entries adds them, and changes no other table
+-- an INSERT of entries adds them, and changes no other table
 pub adds_entries : (text : List ℕ) (terms : List Term) (params : Row) (xs : List EntryRow) (old new : State) (count : ℕ) → IsArchive old.now
     → ((layout : Layout) → IsStatement (archive_schema layout) text (Insert (entry_place layout) (Values terms 9)))
     → value_rows params 9 (length terms / 9) terms ≡ map unnumbered xs
@@ -119,15 +119,15 @@ adds_entries text terms params xs old new count is each given h =
     (subst (λ rs. AreRowsOf entry_columns rs (xs ++ a.entries)) (sym stored)
     (stands_chosen entry_columns xs rows a.entries (entries_stand old.now a is s) fresh)))
 
--- the tests of a reading by number are those of an entry
+-- the SQL tests of a reading by number are `is_entry`
 pub entry_test : (driver number : ℕ) (v : Value) (x : EntryRow) → passes numbered (Int (pos driver) ∷ Int (pos number) ∷ []) (v ∷ entry_columns x) ≡ is_entry driver number x
 entry_test driver number v x = rw (eq_test x.driver driver, eq_test x.number number) (ap (λ b. (x.driver == driver) && b) (and-true (x.number == number)))
 
--- those of a reading of all
+-- the test of a reading of all entries is `is_entry_of`
 pub own_test : (driver : ℕ) (v : Value) (x : EntryRow) → passes own (Int (pos driver) ∷ []) (v ∷ entry_columns x) ≡ is_entry_of driver x
 own_test driver v x = rw (eq_test x.driver driver) (and-true (x.driver == driver))
 
--- those of a reading near a range
+-- the tests of a reading near a range are `is_kept_near`
 pub kept_test : (driver start past : ℕ) (v : Value) (x : EntryRow) → passes kept_near (Int (pos driver) ∷ Int (pos start) ∷ Int (pos past) ∷ []) (v ∷ entry_columns x)
     ≡ is_kept_near driver start past x
 kept_test driver start past v x =
@@ -179,7 +179,7 @@ withdraws old new driver number count is h =
     with_entries is.layout db e.2.next a e.2.sound s same e.2.applies.tables all
     (subst (λ rs. AreRowsOf entry_columns rs all) (sym rows) turned))
 
--- a reading shows this of the entries that pass
+-- a reading shows these columns of the entries that pass
 pub shows_entries : (text : List ℕ) (tests terms : List Term) (order : List (Term × Key)) (names : List (List ℕ))
     → ((layout : Layout) → IsReading (archive_schema layout) text (entry_tree layout) tests terms order names)
     → (params : Row) (t : EntryRow → Bool) → ((v : Value) (x : EntryRow) → passes tests params (v ∷ entry_columns x) ≡ t x)

@@ -1,4 +1,4 @@
--- No foreign key of the archive acts.
+-- No foreign key of the archive acts on other tables.
 use Rattle.std.proofs.Common.{◌≡◌, ℕ, ◌==◌, length, List, [], Bool, true, false, cond, None, refl}
 use Rattle.sqlite.specs.Order.{Row}
 use Rattle.sqlite_schema.specs.declared.schema.Keys.TheVariants.{Enforced}
@@ -6,7 +6,7 @@ use Rattle.sqlite_schema.specs.declared.schema.Action.TheVariants.{NoAction}
 use Rattle.sqlite_rules.specs.Action.{works, deed_of}
 use Rattle.tacho_tables.specs.Schema.{Layout, Made, Carried, archive_schema}
 
--- NO ACTION does nothing
+-- a foreign key with NO ACTION has no effect
 none : (b : Bool) → deed_of Enforced b (cond b NoAction NoAction) ≡ None
 none true = refl
 none false = refl

@@ -1,4 +1,4 @@
--- A statement that went well inside a transaction.
+-- A statement that succeeded inside a transaction.
 use Rattle.std.proofs.Common.{◌≡◌, ℕ, true, false, List, Ok, Err, Result, IsTrue, refl, sym, inl, inr, ◌⊎◌}
 use Rattle.std.proofs.lemmas.Bool.{cases_Bool}
 use Rattle.sqlite.specs.declared.error.Error.{Error}
@@ -19,7 +19,7 @@ use Rattle.std.proofs.Common.{Option, Some, None}
 use Rattle.std.proofs.lemmas.Result.{IfOk-weaker}
 use Rattle.tacho_tables.proofs.Answers.{shown_same}
 
--- a statement that went well was within a transaction
+-- a statement that succeeded was within a transaction
 pub ran_inside : {X : Type 0} (sql : List ℕ) (params : Row) (old new : State) (count : ℕ) (e : Error)
     → (old.in_transaction ≡ false → (Ok count ≡ Err e) × X)
     → (IsTrue old.in_transaction → ExecutesInside 0 sql params old new (Ok count))
@@ -29,27 +29,27 @@ ran_inside sql params old new count e ended runs = elim (cases_Bool old.in_trans
   | inr not ↦ absurd (let k = (ended not).0 in cc)
 ]
 
--- what changes nothing commits nothing
+-- a step that changes nothing commits nothing
 keeps_unchanged : (old new : State) → IsUnchanged old new → KeepsCommit old new
 keeps_unchanged old new h = record { was_open = λ _. h.0.was_open; committed = λ _. h.0.committed_is }
 
--- nor does what is rolled back
+-- a rollback commits nothing
 keeps_rolled : (old new : State) → IsRolledBack old new → KeepsCommit old new
 keeps_rolled old new h = record { was_open = h.was_open; committed = λ o. (h.undone o).1 }
 
--- nor a call that did not reach the store
+-- a call that did not reach the store commits nothing
 keeps_same : {S : Type 0} (g : Ghosts S) (old new : Held S) → new ≡ old → KeepsCommit (state g old) (state g new)
 keeps_same g old new same = subst (λ h. KeepsCommit (state g old) (state g h)) (sym same)
     (record { was_open = λ o. o; committed = λ _. refl })
 
--- nor a statement within a transaction
+-- a statement within a transaction commits nothing
 keeps_inside : (sql : List ℕ) (params : Row) (old new : State) (r : Result ℕ Error) → ExecutesInside 0 sql params old new r
     → KeepsCommit old new
 keeps_inside sql params old new (Ok count) h = record { was_open = λ _. h.1.was_open; committed = λ _. h.1.committed_is }
 keeps_inside sql params old new (Err e) (inl h) = elim h.1 [ inl same ↦ keeps_unchanged old new same | inr back ↦ keeps_rolled old new back ]
 keeps_inside sql params old new (Err e) (inr h) = keeps_unchanged old new h.2
 
--- whatever a statement inside does, it commits nothing
+-- whatever a statement inside a transaction does, it commits nothing
 pub keeps_ran : {S : Type 0} (g : Ghosts S) (sql : List ℕ) (params : Row) (old new : Held S) (r : Result ℕ Error) (e : Error)
     → (old.in_transaction ≡ false → (r ≡ Err e) × (new ≡ old))
     → (IsTrue old.in_transaction → ExecutesInside 0 sql params (state g old) (state g new) r) → KeepsCommit (state g old) (state g new)
@@ -58,7 +58,7 @@ keeps_ran g sql params old new r e ended runs = elim (cases_Bool old.in_transact
   | inr not ↦ keeps_same g old new (ended not).1
 ]
 
--- nor a query that failed
+-- a query that failed commits nothing
 keeps_failed : (sql : List ℕ) (params : Row) (old new : State) (e : Error) → IsPlain (understood old.now.schema sql)
     → FailsToQuery sql params old new e → KeepsCommit old new
 unfolding FailsToQuery IsNotRun
@@ -68,7 +68,7 @@ keeps_failed sql params old new e plain (inr h) =
     let bare = subst IsPlain h.1.is plain in
     keeps_unchanged old new (subst (FailsToShow old new sql h.0 (timed params h.0.formats h.1.now) e) bare.0 h.2).3
 
--- nor one that read
+-- a query that succeeded commits nothing
 keeps_read : (sql : List ℕ) (params : Row) (old new : State) (r : Result (Vec TheRow Global) Error)
     → IsPlain (understood old.now.schema sql) → IfOk r (λ rows. IsUnchanged old new)
     → IfErr r (λ e. FailsToQuery sql params old new e ⊎ IsTooLate sql params old new e) → KeepsCommit old new
@@ -85,48 +85,48 @@ keeps_reading sql params old new r plain shown fails =
     keeps_read sql params old new r plain
     (IfOk-weaker r _ _ (λ rows h. shown_same sql params old new rows.items plain h) shown) fails
 
--- two steps that commit nothing
+-- two steps that commit nothing, one after the other, commit nothing
 pub keeps_then : (a b c : State) → KeepsCommit a b → KeepsCommit b c → KeepsCommit a c
 keeps_then a b c p q = record { was_open = λ o. p.was_open (q.was_open o); committed = λ o. q.committed o ∙ p.committed (q.was_open o) }
 
--- a text that means nothing shows no rows
+-- a text that isn't a statement shows no rows
 pub unknown_shows : (sql : List ℕ) (params : Row) (old new : State) (rows : List Row) {schema : Schema} {fault : CompileError}
     → old.now.schema ≡ schema → understood schema sql ≡ Err fault
     → ¬ Shown sql params old new rows
 unfolding Shown
 unknown_shows sql params old new rows has unknown h = let known = sym h.1.is ∙ ap (λ s. understood s sql) has ∙ unknown in cc
 
--- rows are shown of a connection that was open
+-- rows are shown only by a connection that was open
 rows_open : (old new : State) (sql : List ℕ) (c : Compiled) (params : Row) (rows : List Row) (r : Option Returning)
     → ShowsRows old new sql c params rows r → IsTrue new.is_open → IsTrue old.is_open
 rows_open old new sql c params rows None h _ = h.3.0.was_open
 rows_open old new sql c params rows (Some what) h _ = h.1.shown.was_open
 
--- what a query shows, it shows of a connection that was open
+-- a query shows its rows only on a connection that was open
 shown_open : (sql : List ℕ) (params : Row) (old new : State) (rows : List Row) → Shown sql params old new rows → IsTrue new.is_open
     → IsTrue old.is_open
 unfolding Shown
 shown_open sql params old new rows h = rows_open old new sql h.0 _ rows h.0.returning h.2
 
--- and leaves it open
+-- a query that shows rows leaves the connection open
 rows_live : (old new : State) (sql : List ℕ) (c : Compiled) (params : Row) (rows : List Row) (r : Option Returning)
     → ShowsRows old new sql c params rows r → IsTrue new.is_open
 rows_live old new sql c params rows None h = h.3.0.is_open
 rows_live old new sql c params rows (Some what) h = h.1.shown.is_open
 
--- whatever the schema is
+-- likewise for `Shown`, whatever the schema is
 pub shown_live : (sql : List ℕ) (params : Row) (old new : State) (rows : List Row) → Shown sql params old new rows → IsTrue new.is_open
 unfolding Shown
 shown_live sql params old new rows h = rows_live old new sql h.0 _ rows h.0.returning h.2
 
--- a query that shows nothing leaves a connection open only where it was
+-- a query that shows nothing leaves a connection open only if it was open before
 not_shown_open : (old new : State) (sql : List ℕ) (c : Compiled) (params : Row) (e : Error) (r : Option Returning)
     → FailsToShow old new sql c params e r → IsTrue new.is_open → IsTrue old.is_open
 not_shown_open old new sql c params e None h = λ _. h.3.0.was_open
 not_shown_open old new sql c params e (Some what) (inl h) = λ _. h.1.0.was_open
 not_shown_open old new sql c params e (Some what) (inr h) = h.3.was_open
 
--- so does one that fails
+-- likewise for a query that fails
 fails_open : (sql : List ℕ) (params : Row) (old new : State) (e : Error) → FailsToQuery sql params old new e → IsTrue new.is_open
     → IsTrue old.is_open
 unfolding FailsToQuery IsNotRun
@@ -134,7 +134,7 @@ fails_open sql params old new e (inl (inl h)) = λ _. h.1.0.was_open
 fails_open sql params old new e (inl (inr h)) = h.3.was_open
 fails_open sql params old new e (inr h) = not_shown_open old new sql h.0 _ e h.0.returning h.2
 
--- a reading leaves a connection open only where it was
+-- likewise for a reading
 pub read_open : (sql : List ℕ) (params : Row) (old new : State) (r : Result (Vec TheRow Global) Error)
     → IfOk r (λ rows. Shown sql params old new rows.items)
     → IfErr r (λ e. FailsToQuery sql params old new e ⊎ IsTooLate sql params old new e) → IsTrue new.is_open → IsTrue old.is_open

@@ -28,11 +28,11 @@ use Rattle.tacho_tables.proofs.SortedLemmas.{sorted_before}
 use Rattle.tacho_tables.proofs.Statements.{IsReadingFirst, before, three_shown, by_start_down, span_names}
 use Rattle.tacho_tables.proofs.Stored.{shown_of}
 
--- what a span is sorted by, and what it shows
+-- the key by which a span is sorted, and what it shows
 abbrev shown_as : SpanRow → Output
 shown_as x = (Int (pos x.start) ∷ [], span_shown x)
 
--- the later start is the first
+-- the later start comes first
 by_starts : (t : ℕ) (x y : SpanRow) → is_lt (output_cmp (simple t before three_shown by_start_down) (shown_as x) (shown_as y)) ≡ nat_lt y.start x.start
 by_starts t x y =
     ap is_lt (then_equal (value_cmp (Int (pos y.start)) (Int (pos x.start))) ∙ value_cmp-Int (pos y.start) (pos x.start)) ∙ same y.start x.start where
@@ -44,12 +44,12 @@ by_starts t x y =
       same : (a b : ℕ) → is_lt (int_cmp (pos a) (pos b)) ≡ nat_lt a b
       same a b = grind (arith, ints)
 
--- what holds of each may be weakened
+-- a weaker fact holds for each element too
 all_weaker : (P Q : SpanRow → Type 0) → ((x : SpanRow) → P x → Q x) → (rows : List SpanRow) → AllByRecursion P rows → AllByRecursion Q rows
 all_weaker P Q weaker [] h = tt
 all_weaker P Q weaker (x ∷ rows) h = (weaker x h.0, all_weaker P Q weaker rows h.1)
 
--- so none begins after the first
+-- in rows sorted so, none begins later than the first
 latest_first : (r : SpanRow) (rows : List SpanRow) → IsSortedBy (λ x y. nat_lt y.start x.start) (r ∷ rows) → AllByRecursion (λ (x : SpanRow). x.start ≤ r.start) (r ∷ rows)
 latest_first r [] h = (omega arith, tt)
 latest_first r (x ∷ rows) h =
@@ -61,7 +61,7 @@ latest_first r (x ∷ rows) h =
     let more = latest_first x rows tail in
     (omega arith, all_weaker (λ (y : SpanRow). y.start ≤ b) (λ (y : SpanRow). y.start ≤ a) (λ y at. omega (arith, at, below)) (x ∷ rows) more)
 
--- what the first of the rows shows is the latest, or there are none
+-- the first row shows the latest span, or there are no rows
 found_in : (wanted to : List SpanRow) (rows : List Row) (found : Option StoredSpan) → IsPermutation wanted to
     → IsSortedBy (λ x y. nat_lt y.start x.start) to → rows ≡ take 1 (map span_shown to)
     → (IsNone found ↔ (rows ≡ []))

@@ -1,4 +1,4 @@
--- All drivers are read, in the order of their numbers.
+-- All drivers are read, ordered by number.
 use Rattle.std.proofs.Common.{◌≡◌, ◌∙◌, pos, List, [], ◌∷◌, map, filter, true, refl, sym, ap, subst}
 use Rattle.std.specs.List.Sorted.{IsPermutation, IsSorted}
 use Rattle.std.specs.Ordering.{is_lt, nat_cmp}
@@ -24,23 +24,23 @@ use Rattle.tacho_tables.proofs.Statements.{six_shown, by_driver, drivers_text, d
 abbrev asked : Query
 asked = simple 1 [] six_shown by_driver
 
--- what a driver is sorted by, and what it shows
+-- the key by which a driver is sorted, and what it shows
 abbrev shown_as : DriverRow → Output
 shown_as x = (Int (pos x.driver) ∷ [], driver_shown x)
 
--- a test that is true of all leaves all
+-- a filter that everything passes keeps the whole list
 pub all_pass : {X : Type 0} (xs : List X) → filter (λ _. true) xs ≡ xs
 all_pass [] = refl
 all_pass (x ∷ xs) = ap (λ rest. x ∷ rest) (all_pass xs)
 
--- the drivers that the rows of a reading of all of them show: each once, in the order of their numbers
+-- the rows of a reading of all drivers: each driver once, ordered by number
 pub record AreShown (all : List DriverRow) (rows : List Row) : Type 0 where
   pub shown : List DriverRow
   pub same : IsPermutation all shown
   pub rows_are : rows ≡ map driver_shown shown
   pub sorted : IsSorted (λ (x y : DriverRow). nat_cmp x.driver y.driver) shown
 
--- the rows of such a reading show them so
+-- a reading of all drivers shows such rows
 pub shows_all : (old new : State) (rows : List Row) → IsArchive old.now → Shown drivers_text [] old new rows
     → (all : List DriverRow) → AreNumberedRowsOf (old.now.trees 1) all → AreShown all rows
 shows_all old new rows is h all s =
@@ -60,7 +60,7 @@ shows_all old new rows is h all s =
           (λ x y. by_one_number x.driver y.driver) (subst (IsSorted (output_cmp asked)) back.2 l.sorted);
     }
 
--- so they are read
+-- the drivers that are read from such rows are all drivers, in order
 pub reads_all : (all : List DriverRow) (rows : List Row) (found : List StoredDriver) → AreShown all rows
     → ((shown : List DriverRow) → rows ≡ map driver_shown shown → map told_driver found ≡ map listed_driver shown)
     → AreListed all (map told_driver found)

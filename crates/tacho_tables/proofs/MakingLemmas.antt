@@ -1,4 +1,4 @@
--- What CREATE TABLE leaves, and what is read of `meta`.
+-- What CREATE TABLE leaves, and what is read from `meta`.
 use Rattle.std.proofs.Common.{◌≡◌, ℕ, pos, List, [], ◌∷◌, codes, Ok, Option, Some, None, true, false, inl, inr, refl, sym, ap, subst, ◌∙◌}
 use Rattle.std.proofs.Common.{arith}
 use Rattle.std.specs.Prelude.{IfSome, IsNone, ◌↔◌}
@@ -58,7 +58,7 @@ makes schema table text old new count has it h shown =
           (subst (λ s. KeepsRows s.tables old.now.trees first.0.trees) has made.others);
     }
 
--- ---- the row of meta
+-- ---- the row of `meta`
 
 -- the text that adds it
 abbrev pub meta_row_text : List ℕ
@@ -72,22 +72,22 @@ meta_values = lit (Int (pos 1)) ∷ lit Null ∷ lit (Int (pos 2)) ∷ []
 abbrev meta_row : Row
 meta_row = Int (pos 1) ∷ Null ∷ Int (pos 2) ∷ []
 
--- the text means so
+-- the statement that `meta_row_text` is
 meta_row_is : IsStatement (archive_schema Made) meta_row_text (Insert 0 (Values meta_values 3))
 unfolding understood everything
 meta_row_is = record { meant = refl; plain = (refl, refl) }
 
--- no rows stand for nothing
+-- no rows represent the empty list
 pub nothing_stands : {X : Type 0} (columns : X → Row) (rows : List Row) → rows ≡ [] → AreRowsOf columns rows []
 nothing_stands columns rows none = subst (λ rs. AreRowsOf columns rs []) (sym none)
     (record { stored = λ r has. absurd has; apart = λ a b has other same. absurd has; same = IsPermutation-refl [] })
 
--- and no drivers
+-- no rows represent the empty list of drivers
 no_driver_stands : (rows : List Row) → rows ≡ [] → AreNumberedRowsOf rows []
 no_driver_stands rows none = subst (λ rs. AreNumberedRowsOf rs []) (sym none)
     (record { apart = λ a b has other same. absurd has; same = IsPermutation-refl [] })
 
--- with its row in meta, six empty tables are an archive of no drivers
+-- with the row in `meta`, the six empty tables are an archive without drivers
 pub makes_archive : (old new : State) (count : ℕ) → old.now.schema ≡ archive_schema Made
     → AreEmpty (0 ∷ 1 ∷ 4 ∷ 6 ∷ 8 ∷ 10 ∷ []) old.now.trees → Executes meta_row_text [] old new (Ok count)
     → IsArchive new.now × HasTables new.now.trees no_rows
@@ -118,13 +118,13 @@ makes_archive old new count has none h =
 
 -- ---- the version
 
--- the text that reads it means the same under each schema
+-- the SQL that reads the version is the same reading under each schema
 pub version_reads : (d : Database) → IsVersioned d → IsReading d.schema version_text 0 first_row (col 1 2 ∷ []) [] (codes "version" ∷ [])
 version_reads d (inl old) = subst (λ s. IsReading s version_text 0 first_row (col 1 2 ∷ []) [] (codes "version" ∷ [])) (sym old) version_was
 version_reads d (inr new) =
     subst (λ s. IsReading s version_text 0 first_row (col 1 2 ∷ []) [] (codes "version" ∷ [])) (sym new.1) (version_is new.0)
 
--- the reading of the version shows the one that is there
+-- the reading of the version shows the version that is stored
 pub shows_version : (version : ℕ) (old new : State) (rows : List Row) → IsVersioned old.now → Shown version_text [] old new rows
     → IsVersion version old.now.trees → rows ≡ (Int (pos version) ∷ []) ∷ []
 shows_version version old new rows has h is =
@@ -136,19 +136,19 @@ shows_version version old new rows has h is =
     one_permutation (Int (pos version) ∷ []) rows (rw (none_given db 0, is, eq_test 1 1) at
     (shows 0 first_row shown [] (overlay db []) [] rows l))
 
--- and what is read of the first such row is that
+-- the number that is read from the first such row is the version
 pub first_is : (version : ℕ) (found : Option ℕ) (rows : List Row) → rows ≡ (Int (pos version) ∷ []) ∷ [] → (IsNone found ↔ (rows ≡ []))
     → IfSome found (λ n. (m : ℕ) (more : List Row) → rows ≡ (Int (pos m) ∷ []) ∷ more → n ≡ m)
     → found ≡ Some version
 first_is version None rows is none some = absurd (let e = sym is ∙ none.0 refl in cc)
 first_is version (Some n) rows is none some = ap Some (some version [] is)
 
--- nothing is a permutation of nothing alone
+-- only the empty list is a permutation of the empty list
 pub no_permutation : (rows : List Row) → IsPermutation [] rows → rows ≡ []
 no_permutation [] h = refl
 no_permutation (r ∷ rows) h = absurd (let e = length_permutation [] (r ∷ rows) h in cc)
 
--- and nothing where there is no row
+-- the reading of the version shows nothing if `meta` has no row
 pub shows_no_version : (old new : State) (rows : List Row) → IsVersioned old.now → Shown version_text [] old new rows
     → old.now.trees 0 ≡ [] → rows ≡ []
 shows_no_version old new rows has h is =
@@ -159,7 +159,7 @@ shows_no_version old new rows has h is =
     let l = listed 0 first_row shown [] (overlay db []) [] rows (got.answer Null) in
     no_permutation rows (rw (none_given db 0, is) at (shows 0 first_row shown [] (overlay db []) [] rows l))
 
--- so that nothing is found
+-- so no version is found
 pub first_is_none : (found : Option ℕ) (rows : List Row) → rows ≡ [] → (IsNone found ↔ (rows ≡ [])) → found ≡ None
 first_is_none None rows is none = refl
 first_is_none (Some n) rows is none = let no = none.1 is in cc

@@ -1,4 +1,4 @@
--- The rows of a query on a driver's held spans that are read one at a time, from a start on.
+-- The rows of a query on a driver's held spans, from a start on, read one at a time.
 use Rattle.std.proofs.Common.{◌≡◌, ◌∙◌, ℕ, pos, ◌==◌, ◌&&◌, Ordering, Less, Equal, Greater, Bool, true, false, cond}
 use Rattle.std.proofs.Common.{List, [], ◌∷◌, ◌++◌}
 use Rattle.std.proofs.Common.{map, filter, Option, None, Result, Ok, Err, IfOk, OnErr, IsTrue, inl, inr, refl, sym, ap}
@@ -52,17 +52,17 @@ use Rattle.tacho_tables.proofs.Stored.{shown_of}
 
 -- ---- the text
 
--- these are its tests
+-- the tests of `onward_text`
 abbrev onward : List Term
 onward = op2 (Compare Eq Binary) (col 1 1) (col 0 0) ∷ op2 (Compare Le Binary) (col 0 1) (col 1 2) ∷ []
 
--- what it means
+-- the reading that `onward_text` is
 pub onward_is : (layout : Layout) → IsReading (archive_schema layout) onward_text 10 onward three_shown by_start span_names
 unfolding understood everything
 onward_is Made = record { meant = refl; unlisted = refl; plain = (refl, refl) }
 onward_is Carried = record { meant = refl; unlisted = refl; plain = (refl, refl) }
 
--- its tests are those of a row
+-- its SQL tests are `is_onward`
 onward_test : (driver start : ℕ) (v : Value) (x : SpanRow)
     → passes onward (Int (pos driver) ∷ Int (pos start) ∷ []) (v ∷ span_columns x) ≡ is_onward driver start x
 onward_test driver start v x =
@@ -71,21 +71,21 @@ onward_test driver start v x =
 
 -- ---- it commits nothing, whatever the schema is
 
--- a text of which nothing but rows is shown
+-- a text without RETURNING: it shows no rows of a write
 abbrev selects : List ℕ → Type 0
 selects text = (p : _) → first text ≡ Ok p → (schema : Schema) (base : ℕ) → returning schema base p.statement ≡ Ok None
 
--- what a chain of steps gives, it gives through each of them
+-- a chain of two steps succeeds only if both do
 through : {A B : Type 0} (r : Checked A) (f : A → Checked B) (b : B) → and_then r f ≡ Ok b
     → (a : A) × (r ≡ Ok a) × (f a ≡ Ok b)
 through (Ok a) f b h = (a, refl, h)
 through (Err e) f b h = absurd (let wrong = h in cc)
 
--- equal results are of equal values
+-- equal results have equal values
 same_ok : {A : Type 0} (a b : A) → ◌≡◌ {A = Checked A} (Ok a) (Ok b) → a ≡ b
 same_ok a b h = cc
 
--- such a text shows nothing of a write
+-- compiled, such a text has no RETURNING
 compiled_bare : (schema : Schema) (text : List ℕ) (c : Compiled) → selects text → compiled schema text ≡ Ok c
     → c.returning ≡ None
 unfolding compiled planned meaning
@@ -118,12 +118,12 @@ understood_bare schema text c s = go (reads_listing schema text) where
   go true h = listed_bare (compiled listing_schema text) (λ k. compiled_bare listing_schema text k s) h
   go false h = compiled_bare schema text c s h
 
--- this text is one
+-- `onward_text` is such a text
 onward_selects : selects onward_text
 unfolding everything
 onward_selects p is schema base = subst (λ q. returning schema base q.statement ≡ Ok None) (same_ok _ p is) refl
 
--- so it commits nothing
+-- so the query commits nothing
 pub onward_commits_nothing : (params : Row) (old new : State) → Survives old new (CommitsShowing onward_text params old)
     → Survives old new (λ _. ⊥)
 unfolding CommitsShowing
@@ -131,7 +131,7 @@ onward_commits_nothing params old new = survives_weaker old new _ _ (λ _ db h.
     let none = understood_bare old.now.schema onward_text h.0 onward_selects h.1.is in
     absurd (let some = rw none at h.2 in cc))
 
--- it begins to read, and writes nothing
+-- a query that has begun has given no row, and has written nothing
 pub onward_begun : {S : Type 0} (g : Ghosts S) (params : Row) (old new : Held S) → HasBegun g onward_text params old new
     → HasGiven g onward_text params new [] × IsUnchanged (state g old) (state g new)
 onward_begun g params old new (inl h) = h
@@ -141,7 +141,7 @@ onward_begun g params old new (inr h) = absurd (never (understood old.schema onw
       never (Ok c) bare some = let e = rw (bare c refl) at some in cc
       never (Err e) bare some = some
 
--- where it can't, the connection is kept
+-- where nothing changed, the connection is kept
 kept_same : (old new : State) → IsUnchanged old new → IsKept old new
 kept_same old new h = record { was_open = λ _. h.0.was_open; same = λ _ _. h.0.now_is }
 
@@ -159,7 +159,7 @@ onward_kept params old new e (inr h) =
     kept_same old new (subst (FailsToShow old new onward_text h.0 (timed params h.0.formats h.1.now) e) bare h.2).3
 
 module _ {S X : Type 0} (g : Ghosts S) (params : Row) (old : Held S) (r : Result X Error) where
-  -- what is left of the connection where the query does not begin
+  -- where the query does not begin, `IsAsked` holds
   pub asked_where_refused : (new : Held S) → OnErr r (IsRefused g onward_text params old r new)
       → OnErr r (IsAsked g old new)
   asked_where_refused new = go r where
@@ -171,7 +171,7 @@ module _ {S X : Type 0} (g : Ghosts S) (params : Row) (old : Held S) (r : Result
       survives = onward_commits_nothing params (state g old) (state g new) h.survives;
     }
 
-  -- and where it begins
+  -- where the query begins, `BeginsOnward` holds
   pub begins_onward : (driver start : ℕ) (conn : X → Held S) → params ≡ Int (pos driver) ∷ Int (pos start) ∷ []
       → IfOk r (λ x. HasCleanDisk (state g (conn x)) → HasBegun g onward_text params old (conn x))
       → IfOk r (λ x. old.in_transaction ≡ false → (conn x).in_transaction ≡ false)
@@ -195,17 +195,17 @@ module _ {S X : Type 0} (g : Ghosts S) (params : Row) (old : Held S) (r : Result
     }
     go (Err e) begun mode survives = tt
 
--- ---- what the rows are
+-- ---- the rows
 
 -- a query sorted by start
 abbrev asked : Query
 asked = simple 10 onward three_shown by_start
 
--- what a span is sorted by, and what it shows
+-- the key by which a span is sorted, and what it shows
 abbrev shown_as : SpanRow → Output
 shown_as x = (Int (pos x.start) ∷ [], span_shown x)
 
--- the earlier start is the first
+-- the earlier start comes first
 by_starts : (x y : SpanRow) → is_lt (output_cmp asked (shown_as x) (shown_as y)) ≡ nat_lt x.start y.start
 by_starts x y =
     ap is_lt (then_equal (value_cmp (Int (pos x.start)) (Int (pos y.start))) ∙ value_cmp-Int (pos x.start)
@@ -219,7 +219,7 @@ by_starts x y =
       same a b = grind (arith, ints)
 
 module _ (driver start : ℕ) (all : List SpanRow) where
-  -- a whole answer shows all of them
+  -- a complete answer shows all spans from the start on
   pub shown_onward : (old new : State) (rows : List Row) → IsArchive old.now
       → Shown onward_text (Int (pos driver) ∷ Int (pos start) ∷ []) old new rows
       → AreRowsOf span_columns (old.now.trees 10) all
@@ -245,7 +245,7 @@ module _ (driver start : ℕ) (all : List SpanRow) where
         },
       )
 
-  -- and those that were given so far are the first of them
+  -- the rows given so far are the first of these
   pub given_onward : {S : Type 0} (g : Ghosts S) (h : Held S) (given : List Row) → IsArchive (state g h).now
       → IsTrue (state g h).is_open
       → HasGiven g onward_text (Int (pos driver) ∷ Int (pos start) ∷ []) h given

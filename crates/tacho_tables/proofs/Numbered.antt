@@ -1,4 +1,4 @@
--- Rows whose numbers are those of drivers.
+-- Rows whose numbers are the drivers' numbers.
 use Rattle.std.proofs.Common.{◌≡◌, pos, map, drop, Bool, true, false, not, cond, List, [], ◌∷◌, ◌++◌, filter, refl, sym, ap, ◌∙◌, subst, inl, inr}
 use Rattle.std.specs.List.{AllByRecursion}
 use Rattle.std.specs.List.Sorted.{IsPermutation}
@@ -16,7 +16,7 @@ use Rattle.sqlite_rules.proofs.TableLemmas.{put_has}
 use Rattle.tacho_tables.specs.Rows.{DriverRow, driver_row, AreNumberedRowsOf}
 use Rattle.tacho_tables.proofs.Stored.{AreNumbered, left_is, put_shuffles, map_same, free_from}
 
--- what holds of all rows holds of one
+-- a fact about all rows holds for each of them
 picked : (P : Row → Type 0) (rows : List Row) → AllByRecursion P rows → (r : Row) → Has rows r → P r
 picked P [] all r has = absurd has
 picked P (x ∷ rows) all r (inl is) = subst P (sym is) all.0
@@ -26,7 +26,7 @@ picked P (x ∷ rows) all r (inr later) = picked P rows all.1 r later
 abbrev IsDriver : Row → Type 0
 IsDriver r = (x : DriverRow) × (r ≡ driver_row x)
 
--- the rows of drivers are such
+-- each row that is made from a driver is a driver's row
 each_driver : (all : List DriverRow) → AllByRecursion IsDriver (map driver_row all)
 each_driver [] = tt
 each_driver (x ∷ all) = ((x, refl), each_driver all)
@@ -43,7 +43,7 @@ are_numbered rows all s = record {
   apart = s.apart;
 }
 
--- the order of the list means nothing
+-- the order of the list doesn't matter
 pub numbered_shuffled : (rows : List Row) (all other : List DriverRow) → AreNumberedRowsOf rows all → IsPermutation other all
     → AreNumberedRowsOf rows other
 numbered_shuffled rows all other s same = record {
@@ -52,7 +52,7 @@ numbered_shuffled rows all other s same = record {
       (IsPermutation-map driver_row other all same) s.same;
 }
 
--- one driver more
+-- putting a driver's row adds the driver to the list
 pub numbered_put : (rows : List Row) (all : List DriverRow) (x : DriverRow) → AreNumberedRowsOf rows all → is_taken rows (driver_row x) ≡ false
     → AreNumberedRowsOf (put_row (driver_row x) rows) (x ∷ all)
 numbered_put rows all x s free =
@@ -71,7 +71,7 @@ numbered_put rows all x s free =
       same = IsPermutation-trans _ _ _ (IsPermutation-cons new _ _ s.same) (put_shuffles new rows free);
     }
 
--- more drivers, one after the other
+-- likewise for several drivers, one after the other
 numbered_put_all : (xs : List DriverRow) (rows : List Row) (all : List DriverRow) → AreNumberedRowsOf rows all
     → are_fresh rows (map driver_row xs) ≡ true → AreNumberedRowsOf (put_all rows (map driver_row xs)) (xs ++ all)
 numbered_put_all [] rows all s fresh = s
@@ -80,7 +80,7 @@ numbered_put_all (x ∷ xs) rows all s fresh =
     let later = numbered_put_all xs (put_row (driver_row x) rows) (x ∷ all) (numbered_put rows all x s (not-true _ parts.0)) parts.1 in
     numbered_shuffled _ _ _ later (IsPermutation-sym _ _ (IsPermutation-middle xs x all))
 
--- the drivers that pass
+-- removing the rows that don't pass leaves the drivers that pass
 numbered_filter : (p : Row → Bool) (t : DriverRow → Bool) (deaf : (x : DriverRow) → p (driver_row x) ≡ t x) (rows : List Row)
     (all : List DriverRow) → AreNumberedRowsOf rows all → AreNumberedRowsOf (filter p rows) (filter t all)
 numbered_filter p t deaf rows all s = record {
@@ -100,7 +100,7 @@ numbered_shown p t deaf f show same rows all s =
     ∙ map_same _ show (filter t all) (all_from _ (filter t all) (λ x _. same x)) in
     subst (λ xs. IsPermutation xs (map f (filter p rows))) left (IsPermutation-map f (map driver_row (filter t all)) (filter p rows) k.same)
 
--- a change that leaves each element leaves the list
+-- a function that changes no element of a list doesn't change the list
 unmoved : {X : Type 0} (f : X → X) (xs : List X) → AllByRecursion (λ x. f x ≡ x) xs → map f xs ≡ xs
 unmoved f [] all = refl
 unmoved f (x ∷ xs) all = rw (all.0, unmoved f xs all.1) refl

@@ -30,11 +30,11 @@ use Rattle.tacho_tables.proofs.Stored.{shown_of}
 abbrev asked : ℕ → Query
 asked tree = simple tree own seven_shown by_number
 
--- what an entry is sorted by, and what it shows
+-- the key by which an entry is sorted, and what it shows
 abbrev shown_as : EntryRow → Output
 shown_as x = (Int (pos x.number) ∷ [], entry_shown x)
 
--- what is sorted by one number alone is so as the numbers are
+-- a sort by one number alone is a comparison of these numbers
 pub by_one_number : (a b : ℕ) → is_lt (ordering_then (value_cmp (Int (pos a)) (Int (pos b))) Equal) ≡ is_lt (nat_cmp a b)
 by_one_number a b = ap is_lt (then_equal (value_cmp (Int (pos a)) (Int (pos b))) ∙ value_cmp-Int (pos a) (pos b)) ∙ same a b where
   then_equal : (o : Ordering) → ordering_then o Equal ≡ o
@@ -49,7 +49,7 @@ by_one_number a b = ap is_lt (then_equal (value_cmp (Int (pos a)) (Int (pos b)))
 by_numbers : (tree : ℕ) (x y : EntryRow) → is_lt (output_cmp (asked tree) (shown_as x) (shown_as y)) ≡ is_lt (nat_cmp x.number y.number)
 by_numbers tree x y = by_one_number x.number y.number
 
--- what is sorted is so by what it was made of
+-- if the images of a list are sorted, the list is sorted by the order of the images
 pub sorted_before : {X Y : Type 0} (f : X → Y) (less : Y → Y → Bool) (lt : X → X → Bool) (xs : List X) → ((x y : X) → less (f x) (f y) ≡ lt x y)
     → IsSortedBy less (map f xs) → IsSortedBy lt xs
 sorted_before f less lt xs same h k d low high =
@@ -59,7 +59,7 @@ sorted_before f less lt xs same h k d low high =
     ∙ sym (ap (λ y. less (slice_index_or (map f xs) (k + 1) (f d)) y) (get_or-map f xs k d (f d) (omega (arith, high))))
     ∙ h k (f d) low high_2
 
--- and so is what it becomes
+-- if a list is sorted by the order of its images, its images are sorted
 pub sorted_after : {X Y : Type 0} (f : X → Y) (less : Y → Y → Bool) (lt : X → X → Bool) (xs : List X) → X
     → ((x y : X) → less (f x) (f y) ≡ lt x y)
     → IsSortedBy lt xs → IsSortedBy less (map f xs)
@@ -70,7 +70,7 @@ sorted_after f less lt xs none same h k d low high =
     ∙ same (slice_index_or xs (k + 1) none) (slice_index_or xs k none)
     ∙ h k none low high_2
 
--- the rows of a reading of all entries of a driver show his entries in the order of their numbers
+-- a reading of all entries of a driver shows them ordered by number
 pub shows_sorted : (driver : ℕ) (old new : State) (rows : List Row) → IsArchive old.now
     → Shown entries_text (Int (pos driver) ∷ []) old new rows
     → (a : Tables) → HasTables old.now.trees a
@@ -93,7 +93,7 @@ shows_sorted driver old new rows is h a s =
           (by_numbers tree) (subst (IsSorted (output_cmp (asked tree))) back.2 l.sorted),
     )
 
--- so they are read in that order
+-- so the entries are read in that order
 pub read_sorted : (driver : ℕ) (old new : State) (rows : List Row) (found : List StoredEntry) → IsArchive old.now
     → Shown entries_text (Int (pos driver) ∷ []) old new rows → (a : Tables) → HasTables old.now.trees a
     → ((shown : List EntryRow) → rows ≡ map entry_shown shown → map told_entry found ≡ map listed_entry shown)
@@ -105,6 +105,6 @@ read_sorted driver old new rows found is h a s reads =
     sorted_before told_entry (λ x y. is_lt (nat_cmp x.number y.number)) (λ x y. is_lt (nat_cmp x.number y.number)) found (λ x y. refl)
     (subst (IsSorted (λ (x y : ListedEntry). nat_cmp x.number y.number)) (sym (reads it.0 it.1)) listed)
   where
-    -- any entry
+    -- a default entry
     no_entry : EntryRow
     no_entry = record { driver = 0; number = 0; start = 0; past = 0; mark = 0; withdrawn = 0; author = []; note = [] }

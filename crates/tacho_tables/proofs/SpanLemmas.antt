@@ -39,7 +39,7 @@ use Rattle.tacho_tables.proofs.TurnLemmas.{turns}
 use Rattle.tacho_tables.proofs.Updates.{stands_chosen}
 use Rattle.tacho_tables.proofs.Writes.{flat, inserted, cast_null, cast_int}
 
--- a table of spans: its place, its tree and its name, and the list that its rows stand for
+-- a table of spans: its place, its tree, its name, and the list that its rows represent
 pub record IsSpanTable (at tree : ℕ) (name : List ℕ) (get : Tables → List SpanRow) (put : List SpanRow → Tables → Tables) : Type 0 where
   pub place : (layout : Layout) → slice_get (archive_schema layout).tables at
       ≡ Some (flat name tree (spans name).columns None (1 ∷ 2 ∷ []) ((1 ∷ 2 ∷ []) ∷ []) (spans name).orders [] (to_driver ∷ []))
@@ -51,7 +51,7 @@ pub record IsSpanTable (at tree : ℕ) (name : List ℕ) (get : Tables → List 
       → s.layout ≡ layout → AreKept layout tree db next → (xs : List SpanRow) → AreRowsOf span_columns (next tree) xs
       → HasTables next (put xs a)
 
--- each of the two is such a table
+-- each of the two tables is such a table
 pub span_table : (table : SpanTable) → IsSpanTable (place_of table) (rows_of table) (name_of table) (spans_in table) (with_spans table)
 span_table CardSpans = record {
   place = λ layout. spans_listed layout CardSpans;
@@ -70,24 +70,24 @@ span_table Held = record {
   changed = with_held;
 }
 
--- true is neutral
+-- `true` is neutral in `&&`
 pub and-true : (b : Bool) → (b && true) ≡ b
 and-true true = refl
 and-true false = refl
 
--- the tests of a reading of what begins in a range are those of a row
+-- the SQL tests of a reading of spans that begin in a range are `is_begun`
 pub tests_begun : (driver start past : ℕ) (v : Value) (x : SpanRow) → passes begun (Int (pos driver) ∷ Int (pos start) ∷ Int (pos past) ∷ []) (v ∷ span_columns x) ≡ is_begun driver start past x
 tests_begun driver start past v x = rw (eq_test x.driver driver, le_test start x.start, lt_test x.start past) (ap (λ b. (x.driver == driver) && (nat_le start x.start && b)) (and-true (nat_lt x.start past)))
 
--- and those of a reading of what begins before a minute
+-- the tests of a reading of spans that begin before a minute are `is_before`
 pub tests_before : (driver minute : ℕ) (v : Value) (x : SpanRow) → passes before (Int (pos driver) ∷ Int (pos minute) ∷ []) (v ∷ span_columns x) ≡ is_before driver minute x
 tests_before driver minute v x = rw (eq_test x.driver driver, lt_test x.start minute) (ap (λ b. (x.driver == driver) && b) (and-true (nat_lt x.start minute)))
 
--- a query has no earlier tables to read
+-- a query without earlier tables reads the stored ones
 pub none_given : (db : Trees) (t : ℕ) → overlay db [] t ≡ db t
 none_given db t = elim (leb (2 ^ 31) t) as (λ b. unwrap_or (cond b None None) (db t) ≡ db t) [ true ↦ refl | false ↦ refl ]
 
--- the tests of a reading of all spans are that of a row's driver
+-- the test of a reading of all spans of a driver is `is_of`
 pub own_is : (driver : ℕ) (v : Value) (x : SpanRow) → passes own (Int (pos driver) ∷ []) (v ∷ span_columns x) ≡ is_of driver x
 own_is driver v x = rw (eq_test x.driver driver) (and-true (x.driver == driver))
 
@@ -106,7 +106,7 @@ module _ (text : List ℕ) (tree : ℕ) (tests : List Term) (params : Row) (p : 
       IsPermutation-trans _ _ _ (shown_of span_columns (db tree) all s (passes tests params) p tested (λ (r : Row). eval_all three_shown (params ∷ r ∷ [])) span_shown (λ v x. refl))
       (rw (none_given db tree) at (shows tree tests three_shown by_start (overlay db []) params rows l))
 
-  -- and what is read of its rows are these spans
+  -- the spans that are read from its rows are these spans
   pub found_spans : (found : List StoredSpan) → ((shown : List SpanRow) → rows ≡ map span_shown shown → found ≡ map span_of shown) → IsPermutation (map span_of (filter p all)) found
   found_spans found reads =
       let passed = filter p all in
@@ -115,11 +115,11 @@ module _ (text : List ℕ) (tree : ℕ) (tests : List Term) (params : Row) (p : 
 
 -- ---- INSERTs
 
--- the values of a span, but for its driver
+-- the values of a span, except its driver
 abbrev pub span_values : StoredSpan → Row
 span_values s = Int (pos s.start) ∷ Int (pos s.past) ∷ Int (pos s.mark) ∷ []
 
--- what is left to add, on top of what stands, is all on top of what stood, but for the order
+-- the spans `left` together with the present rows are `all` together with the old rows, up to order
 pub record HasLeft (get : Tables → List SpanRow) (put : List SpanRow → Tables → Tables) (driver : ℕ) (all left : List StoredSpan)
     (old now : State) : Type 0 where
   pub schema : IsArchive now.now
@@ -132,14 +132,14 @@ module _ {at tree : ℕ} {name : List ℕ} {get : Tables → List SpanRow} {put 
   abbrev unnumbered : SpanRow → Row
   unnumbered x = Null ∷ span_columns x
 
-  -- its columns are stored as they are
+  -- its columns are stored unchanged
   cast_all : (xs : List SpanRow)
       → map (λ s. cast_row (flat name tree (spans name).columns None (1 ∷ 2 ∷ []) ((1 ∷ 2 ∷ []) ∷ []) (spans name).orders [] (to_driver ∷ [])) (drop 0 s)) (map unnumbered xs)
       ≡ map unnumbered xs
   cast_all [] = refl
   cast_all (x ∷ xs) = rw (cast_null, cast_int (pos x.driver), cast_int (pos x.start), cast_int (pos x.past), cast_int (pos x.mark), cast_all xs) refl
 
-  -- an INSERT of some rows adds them to the table, and changes no other
+  -- an INSERT of rows adds them to the table, and changes no other
   pub adds_spans : (text : List ℕ) (terms : List Term) (params : Row) (xs : List SpanRow) (old new : State) (count : ℕ) → IsArchive old.now
       → ((layout : Layout) → IsStatement (archive_schema layout) text (Insert at (Values terms 5)))
       → value_rows params 5 (length terms / 5) terms ≡ map unnumbered xs
@@ -160,14 +160,14 @@ module _ {at tree : ℕ} {name : List ℕ} {get : Tables → List SpanRow} {put 
       (subst (λ rs. AreRowsOf span_columns rs (xs ++ get a)) (sym stored)
       (stands_chosen span_columns xs rows (get a) (table.stands old.now.trees a s) fresh)))
 
-  -- before the first is added
+  -- before the first call, all spans are left to add
   pub all_left : (driver : ℕ) (all : List StoredSpan) (now : State) → IsArchive now.now → HasLeft get put driver all all now now
   all_left driver all now is = record {
     schema = is;
     rows = λ a stood. (get a, subst (HasTables now.now.trees) (sym (table.same a)) stood, IsPermutation-refl (map (row_of driver) all ++ get a));
   }
 
-  -- some more were added
+  -- a step adds `some`, so that `left` is left to add
   pub leaves_some : (driver : ℕ) (all some left : List StoredSpan) (old mid now : State)
       → HasLeft get put driver all (some ++ left) old mid → Turns mid now (λ a. put (map (row_of driver) some ++ get a) a)
       → HasLeft get put driver all left old now
@@ -184,7 +184,7 @@ module _ {at tree : ℕ} {name : List ℕ} {get : Tables → List SpanRow} {put 
         );
   }
 
-  -- once nothing is left, all were added
+  -- once no span is left, all were added
   pub all_added : (driver : ℕ) (all : List StoredSpan) (old now : State) → HasLeft get put driver all [] old now
       → Turns old now (λ a. put (map (row_of driver) all ++ get a) a)
   all_added driver all old now last = record {

@@ -1,4 +1,4 @@
--- What the statements on rows are.
+-- The statements that the SQL texts on rows are.
 use Rattle.std.proofs.Common.{◌≡◌, ℕ, List, [], ◌∷◌, ◌++◌, ◌+◌, codes, false, true, refl, pos, Err}
 use Rattle.sqlite.specs.declared.types.Value.TheVariants.{Null, Int}
 use Rattle.sqlite.specs.Command.{Command}
@@ -21,19 +21,19 @@ use Rattle.tacho_tables.specs.Spans.{rows_of, before_text, begun_text, insert_te
 use Rattle.tacho_tables.proofs.Answers.{simple, first_of}
 use Rattle.tacho_tables.proofs.Places.{place_of, entry_place}
 
--- under the schema the text is this statement, which reads no clock
+-- under the schema the text is this statement, and uses no clock
 pub record IsStatement (schema : Schema) (text : List ℕ) (command : Command) : Type 0 where
   pub meant : command_of (understood schema text) ≡ command
   pub plain : IsPlain (understood schema text)
 
--- under the schema the text shows this of the rows of one table that pass these tests
+-- under the schema the text shows these columns of the rows of one table that pass these tests
 pub record IsReading (schema : Schema) (text : List ℕ) (tree : ℕ) (tests shown : List Term) (order : List (Term × Key))
     (names : List (List ℕ)) : Type 0 where
   pub meant : command_of (understood schema text) ≡ Select (record { lets = []; body = simple tree tests shown order }) names
   pub unlisted : reads_listing schema text ≡ false
   pub plain : IsPlain (understood schema text)
 
--- under the schema the text shows this of the first of these rows
+-- likewise, but only for the first of these rows
 pub record IsReadingFirst (schema : Schema) (text : List ℕ) (tree : ℕ) (tests shown : List Term) (order : List (Term × Key))
     (names : List (List ℕ)) : Type 0 where
   pub meant : command_of (understood schema text) ≡ Select (record { lets = []; body = first_of tree tests shown order }) names
@@ -46,67 +46,67 @@ pub record IsReadingFirst (schema : Schema) (text : List ℕ) (tree : ℕ) (test
 abbrev pub four : List Term
 four = lit Null ∷ col 0 0 ∷ col 0 1 ∷ col 0 2 ∷ col 0 3 ∷ []
 
--- a row of driver ?1 that begins before ?2
+-- tests: a row of driver ?1 that begins before ?2
 abbrev pub before : List Term
 before = op2 (Compare Eq Binary) (col 1 1) (col 0 0) ∷ op2 (Compare Lt Binary) (col 1 2) (col 0 1) ∷ []
 
--- one that begins from ?2 to before ?3
+-- tests: a row of driver ?1 that begins from ?2 to before ?3
 abbrev pub begun : List Term
 begun = op2 (Compare Eq Binary) (col 1 1) (col 0 0) ∷ op2 (Compare Le Binary) (col 0 1) (col 1 2) ∷ op2 (Compare Lt Binary) (col 1 2) (col 0 2) ∷ []
 
--- a row of driver ?1
+-- test: a row of driver ?1
 abbrev pub own : List Term
 own = op2 (Compare Eq Binary) (col 1 1) (col 0 0) ∷ []
 
--- the row of driver ?1 with number ?2
+-- tests: the row of driver ?1 with number ?2
 abbrev pub numbered : List Term
 numbered = op2 (Compare Eq Binary) (col 1 1) (col 0 0) ∷ op2 (Compare Eq Binary) (col 1 2) (col 0 1) ∷ []
 
--- start, past and mark
+-- the columns start, past and mark
 abbrev pub three_shown : List Term
 three_shown = col 1 2 ∷ col 1 3 ∷ col 1 4 ∷ []
 
--- the earlier start first
+-- order: the earlier start first
 abbrev pub by_start : List (Term × Key)
 by_start = (col 1 2, record { collation = Binary; descending = false }) ∷ []
 
--- the later start first
+-- order: the later start first
 abbrev pub by_start_down : List (Term × Key)
 by_start_down = (col 1 2, record { collation = Binary; descending = true }) ∷ []
 
--- their names
+-- the names of these columns
 abbrev pub span_names : List (List ℕ)
 span_names = codes "start" ∷ codes "past" ∷ codes "mark" ∷ []
 
 -- ---- meta
 
--- the text that reads the version
+-- the SQL that reads the version
 abbrev pub version_text : List ℕ
 version_text = codes "SELECT version FROM meta WHERE id = 1"
 
--- the row of meta with number 1
+-- test: the row of `meta` with number 1
 abbrev pub first_row : List Term
 first_row = op2 (Compare Eq Binary) (col 1 0) (lit (Int (pos 1))) ∷ []
 
--- what it means under schema 2
+-- the reading that it is under schema 2
 pub version_is : (layout : Layout) → IsReading (archive_schema layout) version_text 0 first_row (col 1 2 ∷ []) [] (codes "version" ∷ [])
 unfolding understood everything
 version_is Made = record { meant = refl; unlisted = refl; plain = (refl, refl) }
 version_is Carried = record { meant = refl; unlisted = refl; plain = (refl, refl) }
 
--- and the same under schema 1
+-- it is the same reading under schema 1
 pub version_was : IsReading old_schema version_text 0 first_row (col 1 2 ∷ []) [] (codes "version" ∷ [])
 unfolding understood everything
 version_was = record { meant = refl; unlisted = refl; plain = (refl, refl) }
 
--- without tables it means nothing
+-- without tables it isn't a statement
 pub version_is_unknown : understood no_schema version_text ≡ Err NoSuchTable
 unfolding understood listing_schema everything
 version_is_unknown = refl
 
 -- ---- the tables of spans
 
--- what the text that adds a span means
+-- the statement that adds a span
 pub insert_is : (layout : Layout) (table : SpanTable)
     → IsStatement (archive_schema layout) (insert_text table) (Insert (place_of table) (Values four 5))
 unfolding understood everything
@@ -115,15 +115,15 @@ insert_is Carried CardSpans = record { meant = refl; plain = (refl, refl) }
 insert_is Made Held = record { meant = refl; plain = (refl, refl) }
 insert_is Carried Held = record { meant = refl; plain = (refl, refl) }
 
--- a span of driver ?1 whose other columns are the parameters from a place on, and whose row's number the store gives
+-- a span of driver ?1 whose other columns are the parameters from a place on; the store gives the row's number
 abbrev pub span_at : ℕ → List Term
 span_at place = lit Null ∷ col 0 0 ∷ col 0 place ∷ col 0 (place + 1) ∷ col 0 (place + 2) ∷ []
 
--- eight of them
+-- eight such spans
 abbrev pub eight : List Term
 eight = span_at 1 ++ (span_at 4 ++ (span_at 7 ++ (span_at 10 ++ (span_at 13 ++ (span_at 16 ++ (span_at 19 ++ span_at 22))))))
 
--- what the text that adds eight spans means
+-- the statement that adds eight spans
 pub eight_is : (layout : Layout) (table : SpanTable)
     → IsStatement (archive_schema layout) (eight_text table) (Insert (place_of table) (Values eight 5))
 unfolding understood everything
@@ -132,7 +132,7 @@ eight_is Carried CardSpans = record { meant = refl; plain = (refl, refl) }
 eight_is Made Held = record { meant = refl; plain = (refl, refl) }
 eight_is Carried Held = record { meant = refl; plain = (refl, refl) }
 
--- what the text means that reads the latest span that begins before a minute
+-- the reading of the latest span that begins before a minute
 pub before_is : (layout : Layout) (table : SpanTable)
     → IsReadingFirst (archive_schema layout) (before_text table) (rows_of table) before three_shown by_start_down span_names
 unfolding understood everything
@@ -141,7 +141,7 @@ before_is Carried CardSpans = record { meant = refl; unlisted = refl; plain = (r
 before_is Made Held = record { meant = refl; unlisted = refl; plain = (refl, refl) }
 before_is Carried Held = record { meant = refl; unlisted = refl; plain = (refl, refl) }
 
--- what the text means that reads the spans that begin in a range
+-- the reading of the spans that begin in a range
 pub begun_is : (layout : Layout) (table : SpanTable)
     → IsReading (archive_schema layout) (begun_text table) (rows_of table) begun three_shown by_start span_names
 unfolding understood everything
@@ -152,21 +152,21 @@ begun_is Carried Held = record { meant = refl; unlisted = refl; plain = (refl, r
 
 -- ---- held
 
--- the text that reads all spans of a driver
+-- the SQL that reads all spans of a driver
 abbrev pub held_own_text : List ℕ
 held_own_text = codes "SELECT start, past, mark FROM held WHERE driver = ?1 ORDER BY start"
 
--- what it means
+-- the reading that it is
 pub held_own_is : (layout : Layout) → IsReading (archive_schema layout) held_own_text 10 own three_shown by_start span_names
 unfolding understood everything
 held_own_is Made = record { meant = refl; unlisted = refl; plain = (refl, refl) }
 held_own_is Carried = record { meant = refl; unlisted = refl; plain = (refl, refl) }
 
--- the text that removes the spans that begin in a range
+-- the SQL that removes the spans that begin in a range
 abbrev pub held_delete_text : List ℕ
 held_delete_text = codes "DELETE FROM held WHERE driver = ?1 AND ?2 <= start AND start < ?3"
 
--- what it means
+-- the statement that it is
 pub held_delete_is : (layout : Layout)
     → IsStatement (archive_schema layout) held_delete_text (Delete 5 (record { lets = []; body = simple 10 begun (col 1 0 ∷ []) [] }))
 unfolding understood everything
@@ -175,21 +175,21 @@ held_delete_is Carried = record { meant = refl; plain = (refl, refl) }
 
 -- ---- downloads
 
--- the text that adds a download
+-- the SQL that adds a download
 abbrev pub download_insert_text : List ℕ
 download_insert_text = codes "INSERT INTO downloads (driver, number, part, file) VALUES (?1, ?2, ?3, ?4)"
 
--- the text that reads a file
+-- the SQL that reads a file
 abbrev pub file_text : List ℕ
 file_text = codes "SELECT file FROM downloads WHERE driver = ?1 AND number = ?2"
 
--- what the first means
+-- the statement that `download_insert_text` is
 pub download_insert_is : (layout : Layout) → IsStatement (archive_schema layout) download_insert_text (Insert 2 (Values four 5))
 unfolding understood everything
 download_insert_is Made = record { meant = refl; plain = (refl, refl) }
 download_insert_is Carried = record { meant = refl; plain = (refl, refl) }
 
--- what the second means
+-- the reading that `file_text` is
 pub file_is : (layout : Layout) → IsReading (archive_schema layout) file_text 4 numbered (col 1 4 ∷ []) [] (codes "file" ∷ [])
 unfolding understood everything
 file_is Made = record { meant = refl; unlisted = refl; plain = (refl, refl) }
@@ -197,31 +197,31 @@ file_is Carried = record { meant = refl; unlisted = refl; plain = (refl, refl) }
 
 -- ---- drivers
 
--- the text that adds a driver
+-- the SQL that adds a driver
 abbrev pub driver_insert_text : List ℕ
 driver_insert_text = codes "INSERT INTO drivers (driver, holder, secret, base, name, downloads, entries) VALUES (?1, ?2, ?3, ?4, ?5, 0, 0)"
 
--- the text that reads a driver by number
+-- the SQL that reads a driver by number
 abbrev pub by_number_text : List ℕ
 by_number_text = codes "SELECT driver, holder, base, name, downloads, entries FROM drivers WHERE driver = ?1"
 
--- all of them
+-- the SQL that reads all drivers
 abbrev pub drivers_text : List ℕ
 drivers_text = codes "SELECT driver, holder, base, name, downloads, entries FROM drivers ORDER BY driver"
 
--- by key
+-- the SQL that reads a driver's number by key
 abbrev pub by_secret_text : List ℕ
 by_secret_text = codes "SELECT driver FROM drivers WHERE secret = ?1"
 
--- by holder
+-- the SQL that reads a driver's number by holder
 abbrev pub by_holder_text : List ℕ
 by_holder_text = codes "SELECT driver FROM drivers WHERE holder = ?1"
 
--- the text that sets his base
+-- the SQL that sets a driver's base
 abbrev pub base_text : List ℕ
 base_text = codes "UPDATE drivers SET base = ?2 WHERE driver = ?1"
 
--- the text that sets how many numbers were given out to his downloads
+-- the SQL that sets how many numbers were given out to a driver's downloads
 abbrev pub count_text : List ℕ
 count_text = codes "UPDATE drivers SET downloads = ?2 WHERE driver = ?1"
 
@@ -229,7 +229,7 @@ count_text = codes "UPDATE drivers SET downloads = ?2 WHERE driver = ?1"
 abbrev pub driver_values : List Term
 driver_values = col 0 0 ∷ lit Null ∷ col 0 1 ∷ col 0 2 ∷ col 0 3 ∷ col 0 4 ∷ lit (Int (pos 0)) ∷ lit (Int (pos 0)) ∷ []
 
--- the column is the first parameter
+-- test: the column is the first parameter
 abbrev pub column_is : ℕ → List Term
 column_is place = op2 (Compare Eq Binary) (col 1 place) (col 0 0) ∷ []
 
@@ -241,21 +241,21 @@ with_base_shown = col 1 0 ∷ col 1 0 ∷ lit Null ∷ col 1 2 ∷ col 1 3 ∷ c
 abbrev pub with_count_shown : List Term
 with_count_shown = col 1 0 ∷ col 1 0 ∷ lit Null ∷ col 1 2 ∷ col 1 3 ∷ col 1 4 ∷ col 1 5 ∷ col 0 1 ∷ col 1 7 ∷ []
 
--- what each text means
+-- the statement that `driver_insert_text` is
 pub driver_insert_is : (layout : Layout) → IsStatement (archive_schema layout) driver_insert_text (Insert 1 (Values driver_values 8))
 unfolding understood everything
 driver_insert_is Made = record { meant = refl; plain = (refl, refl) }
 driver_insert_is Carried = record { meant = refl; plain = (refl, refl) }
 
--- driver, holder, base, name, downloads and entries
+-- the columns driver, holder, base, name, downloads and entries
 abbrev pub six_shown : List Term
 six_shown = col 1 0 ∷ col 1 2 ∷ col 1 4 ∷ col 1 5 ∷ col 1 6 ∷ col 1 7 ∷ []
 
--- their names
+-- the names of these columns
 abbrev pub driver_names : List (List ℕ)
 driver_names = codes "driver" ∷ codes "holder" ∷ codes "base" ∷ codes "name" ∷ codes "downloads" ∷ codes "entries" ∷ []
 
--- the lower driver first
+-- order: the lower driver number first
 abbrev pub by_driver : List (Term × Key)
 by_driver = (col 1 0, record { collation = Binary; descending = false }) ∷ []
 
@@ -299,15 +299,15 @@ unfolding understood everything
 count_is Made = record { meant = refl; plain = (refl, refl) }
 count_is Carried = record { meant = refl; plain = (refl, refl) }
 
--- how many numbers were given out to entries
+-- the row of a driver with entry count ?2, after its old number
 abbrev pub with_entry_count_shown : List Term
 with_entry_count_shown = col 1 0 ∷ col 1 0 ∷ lit Null ∷ col 1 2 ∷ col 1 3 ∷ col 1 4 ∷ col 1 5 ∷ col 1 6 ∷ col 0 1 ∷ []
 
--- the text that sets it
+-- the SQL that sets how many numbers were given out to a driver's entries
 abbrev pub entry_count_text : List ℕ
 entry_count_text = codes "UPDATE drivers SET entries = ?2 WHERE driver = ?1"
 
--- what it means
+-- the statement that it is
 pub entry_count_is : (layout : Layout)
     → IsStatement (archive_schema layout) entry_count_text
     (Update 1 (record { lets = []; body = simple 1 (column_is 0) with_entry_count_shown [] }))
@@ -317,18 +317,17 @@ entry_count_is Carried = record { meant = refl; plain = (refl, refl) }
 
 -- ---- entries
 
--- an entry of driver ?1 whose other columns are the parameters from a place on, whose row's number the store gives, and which
--- isn't withdrawn
+-- an entry of driver ?1 that isn't withdrawn, and whose other columns are the parameters from a place on; the store gives the row's number
 abbrev pub entry_at : ℕ → List Term
 entry_at place = lit Null ∷ col 0 0 ∷ col 0 place ∷ col 0 (place + 1) ∷ col 0 (place + 2) ∷ col 0 (place + 3) ∷ lit (Int (pos 0))
     ∷ col 0 (place + 4) ∷ col 0 (place + 5) ∷ []
 
--- the text that adds an entry
+-- the SQL that adds an entry
 abbrev pub entry_insert_text : List ℕ
 entry_insert_text =
     codes "INSERT INTO entry_rows (driver, number, start, past, mark, withdrawn, author, note) VALUES (?1, ?2, ?3, ?4, ?5, 0, ?6, ?7)"
 
--- what it means
+-- the statement that it is
 pub entry_insert_is : (layout : Layout)
     → IsStatement (archive_schema layout) entry_insert_text (Insert (entry_place layout) (Values (entry_at 1) 9))
 unfolding understood everything
@@ -339,27 +338,27 @@ entry_insert_is Carried = record { meant = refl; plain = (refl, refl) }
 abbrev pub four_entries : List Term
 four_entries = entry_at 1 ++ (entry_at 7 ++ (entry_at 13 ++ entry_at 19))
 
--- the text that adds them
+-- the SQL that adds four entries
 abbrev pub four_entries_text : List ℕ
 four_entries_text =
     codes "INSERT INTO entry_rows (driver, number, start, past, mark, withdrawn, author, note) VALUES (?1, ?2, ?3, ?4, ?5, 0, ?6, ?7), (?1, ?8, ?9, ?10, ?11, 0, ?12, ?13), (?1, ?14, ?15, ?16, ?17, 0, ?18, ?19), (?1, ?20, ?21, ?22, ?23, 0, ?24, ?25)"
 
--- what it means
+-- the statement that it is
 pub four_entries_are : (layout : Layout)
     → IsStatement (archive_schema layout) four_entries_text (Insert (entry_place layout) (Values four_entries 9))
 unfolding understood everything
 four_entries_are Made = record { meant = refl; plain = (refl, refl) }
 four_entries_are Carried = record { meant = refl; plain = (refl, refl) }
 
--- the old number, the new number and the new columns of an entry that is withdrawn
+-- a row that is to be withdrawn: its old number, its new number, and its new columns
 abbrev pub withdrawn_shown : List Term
 withdrawn_shown = col 1 0 ∷ col 1 0 ∷ col 1 1 ∷ col 1 2 ∷ col 1 3 ∷ col 1 4 ∷ col 1 5 ∷ lit (Int (pos 1)) ∷ col 1 7 ∷ col 1 8 ∷ []
 
--- the text that marks it
+-- the SQL that marks an entry as withdrawn
 abbrev pub withdraw_text : List ℕ
 withdraw_text = codes "UPDATE entry_rows SET withdrawn = 1 WHERE driver = ?1 AND number = ?2"
 
--- what it means
+-- the statement that it is
 pub withdraw_is : (layout : Layout)
     → IsStatement (archive_schema layout) withdraw_text
     (Update (entry_place layout) (record { lets = []; body = simple (entry_tree layout) numbered withdrawn_shown [] }))
@@ -367,58 +366,58 @@ unfolding understood everything
 withdraw_is Made = record { meant = refl; plain = (refl, refl) }
 withdraw_is Carried = record { meant = refl; plain = (refl, refl) }
 
--- number, start, past, mark, whether it was withdrawn, author and note
+-- the columns number, start, past, mark, withdrawn, author and note
 abbrev pub seven_shown : List Term
 seven_shown = col 1 2 ∷ col 1 3 ∷ col 1 4 ∷ col 1 5 ∷ col 1 6 ∷ col 1 7 ∷ col 1 8 ∷ []
 
--- their names
+-- the names of these columns
 abbrev pub entry_names : List (List ℕ)
 entry_names = codes "number" ∷ codes "start" ∷ codes "past" ∷ codes "mark" ∷ codes "withdrawn" ∷ codes "author" ∷ codes "note" ∷ []
 
--- the text that reads the entry with a number
+-- the SQL that reads the entry with a number
 abbrev pub entry_text : List ℕ
 entry_text = codes "SELECT number, start, past, mark, withdrawn, author, note FROM entry_rows WHERE driver = ?1 AND number = ?2"
 
--- what it means
+-- the reading that it is
 pub entry_is : (layout : Layout) → IsReading (archive_schema layout) entry_text (entry_tree layout) numbered seven_shown [] entry_names
 unfolding understood everything
 entry_is Made = record { meant = refl; unlisted = refl; plain = (refl, refl) }
 entry_is Carried = record { meant = refl; unlisted = refl; plain = (refl, refl) }
 
--- the smaller number first
+-- order: the lower number first
 abbrev pub by_number : List (Term × Key)
 by_number = (col 1 2, record { collation = Binary; descending = false }) ∷ []
 
--- the text that reads all entries of a driver
+-- the SQL that reads all entries of a driver
 abbrev pub entries_text : List ℕ
 entries_text = codes "SELECT number, start, past, mark, withdrawn, author, note FROM entry_rows WHERE driver = ?1 ORDER BY number"
 
--- what it means
+-- the reading that it is
 pub entries_is : (layout : Layout)
     → IsReading (archive_schema layout) entries_text (entry_tree layout) own seven_shown by_number entry_names
 unfolding understood everything
 entries_is Made = record { meant = refl; unlisted = refl; plain = (refl, refl) }
 entries_is Carried = record { meant = refl; unlisted = refl; plain = (refl, refl) }
 
--- an entry of driver ?1 that isn't withdrawn and has a minute from ?2 to before ?3
+-- tests: an entry of driver ?1 that isn't withdrawn and has a minute from ?2 to before ?3
 abbrev pub kept_near : List Term
 kept_near = op2 (Compare Eq Binary) (col 1 1) (col 0 0) ∷ op2 (Compare Eq Binary) (col 1 6) (lit (Int (pos 0))) ∷ op2 (Compare Lt Binary) (col 1 3) (col 0 2)
     ∷ op2 (Compare Lt Binary) (col 0 1) (col 1 4) ∷ []
 
--- start, past and mark of an entry
+-- the columns start, past and mark of an entry
 abbrev pub entry_span_shown : List Term
 entry_span_shown = col 1 3 ∷ col 1 4 ∷ col 1 5 ∷ []
 
--- the earlier start first
+-- order: the earlier start first
 abbrev pub by_entry_start : List (Term × Key)
 by_entry_start = (col 1 3, record { collation = Binary; descending = false }) ∷ []
 
--- the text that reads the spans of entries near a range
+-- the SQL that reads the spans of entries near a range
 abbrev pub kept_near_text : List ℕ
 kept_near_text =
     codes "SELECT start, past, mark FROM entry_rows WHERE driver = ?1 AND withdrawn = 0 AND start < ?3 AND ?2 < past ORDER BY start"
 
--- what it means
+-- the reading that it is
 pub kept_near_is : (layout : Layout)
     → IsReading (archive_schema layout) kept_near_text (entry_tree layout) kept_near entry_span_shown by_entry_start span_names
 unfolding understood everything

@@ -1,4 +1,4 @@
--- What an edit of rows makes of the list that they stand for.
+-- What an edit of rows does to the list that they represent.
 use Rattle.std.proofs.Common.{◌≡◌, ℤ, map, drop, Bool, true, false, not, ◌||◌, cond, List, [], ◌∷◌, filter, Ordering, Less, Equal, Greater, refl, sym, ap, ◌∙◌, subst, inl, inr, true≢false, arith}
 use Rattle.std.specs.List.{AllByRecursion, list_any}
 use Rattle.std.specs.List.Sorted.{IsPermutation}
@@ -21,7 +21,7 @@ use Rattle.sqlite_rules.proofs.ListLemmas.{has_filtered, has_kept, some_has, som
 use Rattle.sqlite_rules.proofs.TableLemmas.{put_has}
 use Rattle.tacho_tables.specs.Rows.{AreRowsOf}
 
--- a row that is put is one row more
+-- putting a row with a free number adds one row, up to order
 pub put_shuffles : (new : Row) (rows : List Row) → is_taken rows new ≡ false → IsPermutation (new ∷ rows) (put_row new rows)
 put_shuffles new [] free = IsPermutation-refl _
 put_shuffles new (r ∷ rows) free = go (value_cmp (rowid r) (rowid new)) (or_parts _ _ free).0 (put_shuffles new rows (or_parts _ _ free).1)
@@ -32,44 +32,44 @@ put_shuffles new (r ∷ rows) free = go (value_cmp (rowid r) (rowid new)) (or_pa
     go Equal other h = absurd (true≢false other)
     go Greater other h = IsPermutation-refl _
 
--- some image passes where some element does
+-- some element's image passes exactly if some image passes
 list_any-map : {A B : Type 0} (p : B → Bool) (f : A → B) (xs : List A) → list_any p (map f xs) ≡ list_any (λ x. p (f x)) xs
 list_any-map p f [] = refl
 list_any-map p f (x ∷ xs) = ap (λ b. p (f x) || b) (list_any-map p f xs)
 
--- two functions that agree on a list
+-- two functions that agree on a list have the same images
 pub map_same : {A B : Type 0} (f g : A → B) (xs : List A) → AllByRecursion (λ x. f x ≡ g x) xs → map f xs ≡ map g xs
 map_same f g [] all = refl
 map_same f g (x ∷ xs) all = rw (all.0, map_same f g xs all.1) refl
 
--- ---- numbers as values
+-- ---- row numbers as values
 
--- numbers that tie are one
+-- numbers that compare equal are equal
 same_id : (a b : ℤ) → is_eq (value_cmp (Int a) (Int b)) ≡ true → a ≡ b
 same_id a b h = int_eq_same a b (sym (ap is_eq (value_cmp-Int a b)) ∙ h)
   where
     int_eq_same : (a b : ℤ) → is_eq (int_cmp a b) ≡ true → a ≡ b
     int_eq_same a b h = grind (arith, ints)
 
--- a number ties with itself
+-- a number compares equal to itself
 pub own_id : (a : ℤ) → is_eq (value_cmp (Int a) (Int a)) ≡ true
 own_id a = ap is_eq (value_cmp-Int a a) ∙ ap is_eq (tied_itself int_cmp_total a)
 
--- ---- the edits of rows that stand for a list
+-- ---- edits of rows that represent a list
 
--- no row has a number that is not taken
+-- no row has a number that is free
 pub free_from : (rows : List Row) (id : ℤ) (rest b : Row) → is_taken rows (Int id ∷ rest) ≡ false → Has rows b → rowid b ≡ Int id → ⊥
 free_from rows id rest b free has is = true≢false
     (sym (some_from (λ r. is_eq (value_cmp (rowid r) (Int id))) rows b has
     (subst (λ v. is_eq (value_cmp v (Int id)) ≡ true) (sym is) (own_id id))) ∙ free)
 
 module _ {X : Type 0} (columns : X → Row) where
-  -- the order of the list means nothing
+  -- the order of the list doesn't matter
   pub stands_shuffled : (rows : List Row) (all other : List X) → AreRowsOf columns rows all
       → IsPermutation (map columns other) (map columns all) → AreRowsOf columns rows other
   stands_shuffled rows all other s same = record { stored = s.stored; apart = s.apart; same = IsPermutation-trans _ _ _ same s.same }
 
-  -- one value more
+  -- putting a row adds its value to the list
   pub stands_put : (rows : List Row) (all : List X) (id : ℤ) (x : X) → AreRowsOf columns rows all → is_taken rows (Int id ∷ columns x) ≡ false
       → AreRowsOf columns (put_row (Int id ∷ columns x) rows) (x ∷ all)
   stands_put rows all id x s free =
@@ -110,7 +110,7 @@ module _ {X : Type 0} (columns : X → Row) where
           (subst (IsPermutation (filter test (map columns all))) right moved);
     }
 
--- what is left is what has none of the numbers
+-- `without_all` keeps the rows that have none of the numbers
 without_all_is : (ids : List ℤ) (rows : List Row) → without_all rows ids ≡ filter (λ r. not (list_any (λ id. has_rowid id r) ids)) rows
 without_all_is [] rows = sym (filter_all _ rows (all_from _ rows (λ r has. refl)))
 without_all_is (id ∷ ids) rows = without_all_is ids (without_rowid id rows)
@@ -130,13 +130,13 @@ without_all_is (id ∷ ids) rows = without_all_is ids (without_rowid id rows)
     both p q [] = refl
     both p q (r ∷ rows) = step p q r rows (p r) (q r) refl refl ∙ ap (λ xs. cond (not (p r || q r)) (r ∷ xs) xs) (both p q rows)
 
--- rows with numbers, of which no two are one
+-- each row has a number, and no two rows have the same
 pub record AreNumbered (rows : List Row) : Type 0 where
   pub numbered : (r : Row) → Has rows r → (id : ℤ) × (rowid r ≡ Int id)
   pub apart : (a b : Row) → Has rows a → Has rows b → rowid a ≡ rowid b → a ≡ b
 
 module _ (rows : List Row) (s : AreNumbered rows) (p : Row → Bool) where
-  -- a row has one of the numbers that were found exactly where it passes
+  -- a row has one of the numbers that were found exactly if it passes
   found_is : (out : List Row) → IsPermutation (map (λ r. rowid r ∷ []) (filter p rows)) out → (r : Row) → Has rows r
       → list_any (λ id. has_rowid id r) (ids_of out) ≡ p r
   found_is out same r has =
@@ -162,7 +162,7 @@ module _ (rows : List Row) (s : AreNumbered rows) (p : Row → Bool) where
           some_from (λ o. has_rowid (id_in (rowid o)) r) (filter p rows) r (has_kept p rows r has h)
           (subst (λ v. is_eq (value_cmp v (Int (id_in v))) ≡ true) (sym own.1) (own_id own.0))
 
-  -- without those that were found, what is left is what doesn't pass
+  -- without the rows that were found, the rows that don't pass remain
   pub left_is : (out : List Row) → IsPermutation (map (λ r. rowid r ∷ []) (filter p rows)) out
       → without_all rows (ids_of out) ≡ filter (λ r. not (p r)) rows
   left_is out same = without_all_is (ids_of out) rows
@@ -191,7 +191,7 @@ module _ {X : Type 0} (columns : X → Row) (rows : List Row) (all : List X) (s 
   pub are_numbered : AreNumbered rows
   are_numbered = record { numbered = λ r has. (let it = s.stored r has in (it.0, ap rowid it.2)); apart = s.apart }
 
-  -- what a DELETE of the rows that pass leaves
+  -- a DELETE of the rows that pass keeps the others
   pub stands_left : (out : List Row) → IsPermutation (map (λ r. rowid r ∷ []) (filter p rows)) out
       → AreRowsOf columns (without_all rows (ids_of out)) (filter (λ x. not (t x)) all)
   stands_left out same =

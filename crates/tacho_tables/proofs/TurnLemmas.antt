@@ -1,4 +1,4 @@
--- What an edit of an archive makes of its tables.
+-- What an edit of an archive does to its tables.
 use Rattle.std.proofs.Common.{◌≡◌, ap, subst, sym}
 use Rattle.sqlite.specs.Edit.{Edit}
 use Rattle.sqlite.specs.Effect.{Database}
@@ -11,7 +11,7 @@ use Rattle.tacho_tables.proofs.CatalogLemmas.{layout_is}
 use Rattle.tacho_tables.proofs.Writes.{Edits}
 
 module _ (old new : State) (is : IsArchive old.now) {edit : Edit} (e : Edits (archive_schema is.layout) old new edit) where
-  -- it leaves an archive
+  -- the edit leaves an archive
   pub archive_left : IsArchive new.now
   archive_left = record {
     layout = is.layout;
@@ -19,7 +19,7 @@ module _ (old new : State) (is : IsArchive old.now) {edit : Edit} (e : Edits (ar
     sound = subst (IsSound (archive_schema is.layout)) (sym (ap (λ (d : Database). d.trees) e.now_is)) e.sound;
   }
 
-  -- and is a step where its rows stand for what the step makes of the lists
+  -- it is the step `step`, if its rows represent what `step` makes of the lists
   pub turns : (step : Tables → Tables)
       → ((a : Tables) (s : HasTables old.now.trees a) → s.layout ≡ is.layout → HasTables e.next (step a)) → Turns old new step
   turns step stands = record {

@@ -1,4 +1,4 @@
--- Trusted in part: The tables of which version there are; how a table is made, and how the entries of schema 1 are copied.
+-- Trusted in part: The schemas that a database can have; how a table is made, and how the entries of schema 1 are copied.
 use Rattle.std.specs.Prelude.{◌≡◌, ◌⊎◌, ℕ, List, [], Option, Some, None, false, Ok, IsTrue, map}
 use Rattle.std.specs.List.{AllByRecursion}
 use Rattle.sqlite.specs.Schema.{Schema}
@@ -18,7 +18,7 @@ use Rattle.tacho_tables.specs.Rows.{AreRowsOf, OldEntryRow, by_office, entry_col
 use Rattle.tacho_tables.specs.Tables.{IsVersion}
 use Rattle.sqlite.proofs.Callers.{command_of, statement_of}
 
--- under the schema the text makes this table
+-- under the schema, the text is a statement that makes this table
 pub record IsCreate (schema : Schema) (text : List ℕ) (table : Table) : Type 0 where
   pub command : command_of (understood schema text) ≡ CreateTable
   pub statement : statement_of text (understood schema text) ≡ text
@@ -34,7 +34,7 @@ pub record HasMade (schema : Schema) (table : Table) (old new : State) : Type 0 
   pub empty : new.now.trees (next_tree schema) ≡ []
   pub others : KeepsRows schema.tables old.now.trees new.now.trees
 
--- each entry of schema 1 has a row in `entry_rows`, as one of the office without a note, and the other tables are as they were
+-- each entry of schema 1 has a row in `entry_rows`, with the office as its author and no note; the other tables are unchanged
 pub record Copies (old new : Database) : Type 0 where
   pub schema : new.schema ≡ archive_schema Carried
   pub sound : IsSound (archive_schema Carried) new.trees
@@ -51,7 +51,7 @@ AreEmpty trees db = AllByRecursion (λ t. db t ≡ []) trees
 abbrev pub IsVersioned : Database → Type 0
 IsVersioned d = (d.schema ≡ old_schema) ⊎ ((layout : Layout) × (d.schema ≡ archive_schema layout))
 
--- the version that the row of `meta` says, or none where there is no row
+-- `found` is the version in the row of `meta`, or none if there is no row
 pub record TellsVersion (db : Trees) (found : Option ℕ) : Type 0 where
   pub said : (version : ℕ) → IsVersion version db → found ≡ Some version
   pub missing : db meta_rows ≡ [] → found ≡ None

@@ -1,4 +1,4 @@
--- Trusted: The rows of the archive's tables as values of types, and when stored rows stand for a list of them.
+-- Trusted: The rows of the archive's tables as typed values, and when stored rows represent a list of them.
 use Rattle.std.specs.Prelude.{◌≡◌, ℕ, ℤ, pos, List, [], ◌∷◌, codes, map, drop, IsPermutation}
 use Rattle.sqlite.specs.declared.types.Value.TheVariants.{Null, Int, Text, Blob}
 use Rattle.sqlite.specs.Order.{Row}
@@ -7,13 +7,14 @@ use Rattle.sqlite_rules.specs.Lists.{Has}
 
 -- ---- tables whose rows have a hidden number
 
--- each stored row is a hidden number of its own and then the columns of one of these values, in some order
+-- each stored row is a hidden number, different for each row, and then the columns of one of these values; all values are stored, in any
+-- order
 pub record AreRowsOf {X : Type 0} (columns : X → Row) (rows : List Row) (all : List X) : Type 0 where
   pub stored : (r : Row) → Has rows r → (id : ℤ) × (x : X) × (r ≡ Int id ∷ columns x)
   pub apart : (a b : Row) → Has rows a → Has rows b → rowid a ≡ rowid b → a ≡ b
   pub same : IsPermutation (map columns all) (map (drop 1) rows)
 
--- minutes of a driver, from start to before past, and what he did in them: a mark's number
+-- minutes of a driver, from start to before past, and the number of their mark
 pub record SpanRow : Type 0 where
   pub driver : ℕ
   pub start : ℕ
@@ -23,7 +24,7 @@ pub record SpanRow : Type 0 where
 abbrev pub span_columns : SpanRow → Row
 span_columns r = Int (pos r.driver) ∷ Int (pos r.start) ∷ Int (pos r.past) ∷ Int (pos r.mark) ∷ []
 
--- a card file of a driver, its number among his, and the part that it was read by
+-- a card file of a driver: its number among the driver's downloads, and the part that was read from it
 pub record DownloadRow : Type 0 where
   pub driver : ℕ
   pub number : ℕ
@@ -33,7 +34,7 @@ pub record DownloadRow : Type 0 where
 abbrev pub download_columns : DownloadRow → Row
 download_columns r = Int (pos r.driver) ∷ Int (pos r.number) ∷ Int (pos r.part) ∷ Blob r.file ∷ []
 
--- hours of a driver that were entered by hand, their number among his, 1 where they were withdrawn, who said so, and why
+-- hours of a driver entered by hand: their number among the driver's entries, 1 if they are withdrawn (else 0), their author and note
 pub record EntryRow : Type 0 where
   pub driver : ℕ
   pub number : ℕ
@@ -48,7 +49,7 @@ abbrev pub entry_columns : EntryRow → Row
 entry_columns r = Int (pos r.driver) ∷ Int (pos r.number) ∷ Int (pos r.start) ∷ Int (pos r.past) ∷ Int (pos r.mark) ∷ Int (pos r.withdrawn)
     ∷ Text r.author ∷ Text r.note ∷ []
 
--- the same in schema 1
+-- an entry in schema 1: without author and note
 pub record OldEntryRow : Type 0 where
   pub driver : ℕ
   pub number : ℕ
@@ -61,14 +62,14 @@ abbrev pub old_entry_columns : OldEntryRow → Row
 old_entry_columns r = Int (pos r.driver) ∷ Int (pos r.number) ∷ Int (pos r.start) ∷ Int (pos r.past) ∷ Int (pos r.mark)
     ∷ Int (pos r.withdrawn) ∷ []
 
--- and in schema 2, where the office had entered it and said nothing
+-- this entry in schema 2: its author is the office, and its note is empty
 abbrev pub by_office : OldEntryRow → EntryRow
 by_office r =
     record { driver = r.driver; number = r.number; start = r.start; past = r.past; mark = r.mark; withdrawn = r.withdrawn; author = codes "office"; note = [] }
 
--- ---- drivers, whose number is the row's own
+-- ---- drivers: the row's number is the driver's number
 
--- a driver: his card's holder, his key, the day from which he is examined, his name, and how many downloads and entries he has
+-- a driver: the card's holder, the key, the day from which the driver is examined, the name, and how many downloads and entries there are
 pub record DriverRow : Type 0 where
   pub driver : ℕ
   pub holder : List ℕ
@@ -78,12 +79,12 @@ pub record DriverRow : Type 0 where
   pub downloads : ℕ
   pub entries : ℕ
 
--- the whole stored row: the number, and then a place that stays empty for it
+-- the whole stored row: the number, and then an empty column in its place
 abbrev pub driver_row : DriverRow → Row
 driver_row r =
     Int (pos r.driver) ∷ Null ∷ Blob r.holder ∷ Text r.secret ∷ Int (pos r.base) ∷ Text r.name ∷ Int (pos r.downloads) ∷ Int (pos r.entries) ∷ []
 
--- the stored rows are those of these drivers, in some order, and no two have one number
+-- the stored rows are those of these drivers, in any order, and no two have the same number
 pub record AreNumberedRowsOf (rows : List Row) (all : List DriverRow) : Type 0 where
   pub apart : (a b : Row) → Has rows a → Has rows b → rowid a ≡ rowid b → a ≡ b
   pub same : IsPermutation (map driver_row all) rows

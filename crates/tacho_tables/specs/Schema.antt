@@ -1,5 +1,5 @@
--- Trusted in part: The schemas of the archive, and the texts that make their tables. Schema 2 has six tables. Schema 1 had `entries` in
--- the place of `entry_rows`. An archive that was carried over has both.
+-- Trusted in part: The schemas of the archive, and the SQL that makes their tables. Schema 2 has six tables. Schema 1 has `entries` in the
+-- place of `entry_rows`. An archive that was carried over has both.
 use Rattle.std.specs.Prelude.{true, false, [], ◌∷◌, Some, None, codes, List, ℕ, pos, Bool, ◌&&◌, is_some}
 use Rattle.sqlite.specs.Collation.TheVariants.{Binary}
 use Rattle.sqlite.specs.declared.types.Value.TheVariants.{Null, Int}
@@ -17,19 +17,19 @@ use Rattle.sqlite_sql.specs.declared.ops.CompareOp.TheVariants.{Eq}
 use Rattle.sqlite.specs.Change.{created}
 use Rattle.sqlite_schema.specs.Names.{table_named}
 
--- a column that is never NULL
+-- a column that is NOT NULL
 abbrev pub need : List ℕ → Kind → Column
 need name kind = record { name = name; kind = kind; is_strict = true; not_null = true; default = Null; collation = Binary }
 
--- a key that the store may give
+-- a key column, which the store may fill
 abbrev pub free : List ℕ → Kind → Column
 free name kind = record { name = name; kind = kind; is_strict = true; not_null = false; default = Null; collation = Binary }
 
--- the first column is the number of a driver that there is
+-- the first column references a driver
 abbrev pub to_driver : Reference
 to_driver = record { columns = 1 ∷ []; parent = codes "drivers"; parent_columns = codes "driver" ∷ []; on_delete = NoAction; on_update = NoAction; is_deferred = false }
 
--- which schema it is: one row
+-- the table of the schema's version: one row
 abbrev pub meta : Table
 meta = record {
   name = codes "meta";
@@ -46,7 +46,7 @@ meta = record {
   is_counted = false;
 }
 
--- who the drivers are, and how many numbers were given out to each one's downloads and entries
+-- the drivers, and how many numbers were given out to the downloads and entries of each
 abbrev pub drivers : Table
 drivers = record {
   name = codes "drivers";
@@ -81,7 +81,7 @@ downloads = record {
   is_counted = false;
 }
 
--- spans of drivers' minutes
+-- a table of spans of the drivers' minutes
 abbrev pub spans : List ℕ → Table
 spans name = record {
   name = name;
@@ -98,7 +98,7 @@ spans name = record {
   is_counted = false;
 }
 
--- the hours that were entered by hand, who said so, and why
+-- the hours entered by hand, their authors and notes
 abbrev pub entry_rows : Table
 entry_rows = record {
   name = codes "entry_rows";
@@ -116,7 +116,7 @@ entry_rows = record {
   is_counted = false;
 }
 
--- the hours of schema 1, of which nobody said who had entered them
+-- the hours entered by hand in schema 1, which has no authors
 abbrev pub entries : Table
 entries = record {
   name = codes "entries";
@@ -133,11 +133,11 @@ entries = record {
   is_counted = false;
 }
 
--- a store without tables
+-- the schema of a store without tables
 abbrev pub no_schema : Schema
 no_schema = record { tables = []; indexes = []; views = [] }
 
--- the schema after each of the first four tables was made
+-- the schema after each of the first four tables
 abbrev pub with_meta : Schema
 with_meta = created no_schema meta
 
@@ -154,8 +154,8 @@ with_card_spans = created with_downloads (spans (codes "card_spans"))
 abbrev pub old_schema : Schema
 old_schema = created (created with_card_spans entries) (spans (codes "held"))
 
--- how an archive of schema 2 came to be: it was made so, or carried over from schema 1, of which an empty table `entries` is left,
--- which means nothing
+-- how an archive of schema 2 came to be: it was made so, or it was carried over from schema 1. The latter keeps an empty table `entries`,
+-- which has no meaning.
 pub data Layout : Type 0 where
   Made : Layout
   Carried : Layout
@@ -165,7 +165,7 @@ abbrev pub archive_schema : Layout → Schema
 archive_schema Made = created (created with_card_spans entry_rows) (spans (codes "held"))
 archive_schema Carried = created old_schema entry_rows
 
--- a schema has a table of each of these names
+-- the schema has a table of each of these names
 abbrev pub has_tables : List (List ℕ) → Schema → Bool
 has_tables [] schema = true
 has_tables (name ∷ names) schema = is_some (table_named schema name) && has_tables names schema
@@ -180,7 +180,7 @@ archive_names = codes "entry_rows" ∷ shared_names
 abbrev pub old_names : List (List ℕ)
 old_names = codes "entries" ∷ shared_names
 
--- the numbers by which the store knows the rows of each table; an index has one too
+-- the tree numbers by which the store knows the rows of each table; an index has a tree too
 abbrev pub meta_rows : ℕ
 meta_rows = 0
 
@@ -200,11 +200,11 @@ abbrev pub entry_tree : Layout → ℕ
 entry_tree Made = 8
 entry_tree Carried = 12
 
--- and those of `entries`
+-- the tree number of `entries`
 abbrev pub old_entry_tree : ℕ
 old_entry_tree = 8
 
--- the texts that make the tables
+-- the SQL that makes the tables
 abbrev pub meta_text : List ℕ
 meta_text = codes "CREATE TABLE meta (id INTEGER PRIMARY KEY, version INTEGER NOT NULL) STRICT"
 
@@ -220,7 +220,7 @@ card_spans_text = codes "CREATE TABLE card_spans (driver INTEGER NOT NULL REFERE
 abbrev pub entry_rows_text : List ℕ
 entry_rows_text = codes "CREATE TABLE entry_rows (driver INTEGER NOT NULL REFERENCES drivers(driver), number INTEGER NOT NULL, start INTEGER NOT NULL, past INTEGER NOT NULL, mark INTEGER NOT NULL, withdrawn INTEGER NOT NULL CHECK (withdrawn IN (0, 1)), author TEXT NOT NULL, note TEXT NOT NULL, PRIMARY KEY (driver, number)) STRICT"
 
--- that of schema 1
+-- the SQL that makes `entries` of schema 1
 abbrev pub entries_text : List ℕ
 entries_text = codes "CREATE TABLE entries (driver INTEGER NOT NULL REFERENCES drivers(driver), number INTEGER NOT NULL, start INTEGER NOT NULL, past INTEGER NOT NULL, mark INTEGER NOT NULL, withdrawn INTEGER NOT NULL CHECK (withdrawn IN (0, 1)), PRIMARY KEY (driver, number)) STRICT"
 

@@ -1,4 +1,4 @@
--- Trusted in part: The six tables as lists of typed rows, and what a call within a transaction makes of them.
+-- Trusted in part: The six tables as lists of typed rows, and what a call within a transaction does to them.
 use Rattle.std.specs.Prelude.{◌≡◌, ℕ, ◌≤◌, pos, Bool, ◌&&◌, ◌==◌, nat_lt, nat_le, Contains, All, if◌then◌else◌, List, [], ◌∷◌}
 use Rattle.std.specs.Prelude.{bytes_eq, map, IsPermutation, IsSorted, string_bytes}
 use Rattle.std.specs.Ordering.{nat_cmp}
@@ -29,16 +29,16 @@ pub record IsArchive (d : Database) : Type 0 where
   pub schema : d.schema ≡ archive_schema layout
   pub sound : IsSound (archive_schema layout) d.trees
 
--- the one row of `meta` says that the tables are of this schema
+-- the one row of `meta` has this version
 abbrev pub IsVersion : ℕ → Trees → Type 0
 IsVersion version db = db tree.meta_rows ≡ (Int (pos 1) ∷ Null ∷ Int (pos version) ∷ []) ∷ []
 
--- `entries`, the table of schema 1 which an archive keeps that was carried over, has no rows
+-- `entries`, the table of schema 1 that an archive keeps if it was carried over, is empty
 abbrev pub HasNoOldEntries : Layout → Trees → Type 0
 HasNoOldEntries Made db = Unit {0}
 HasNoOldEntries Carried db = db old_entry_tree ≡ []
 
--- what is stored is an archive's database, and stands for these lists; their order means nothing
+-- the stored rows are an archive's database, and represent these lists; the order of the lists doesn't matter
 pub record HasTables (db : Trees) (a : Tables) : Type 0 where
   pub layout : Layout
   pub sound : IsSound (archive_schema layout) db
@@ -59,7 +59,7 @@ pub record OldTables : Type 0 where
   pub entries : List OldEntryRow
   pub held : List SpanRow
 
--- what is stored is a database of schema 1, and stands for these lists
+-- the stored rows are a database of schema 1, and represent these lists
 pub record HasOldTables (db : Trees) (a : OldTables) : Type 0 where
   pub sound : IsSound old_schema db
   pub meta : IsVersion 1 db
@@ -69,7 +69,7 @@ pub record HasOldTables (db : Trees) (a : OldTables) : Type 0 where
   pub entries : AreRowsOf old_entry_columns (db old_entry_tree) a.entries
   pub held : AreRowsOf span_columns (db tree.held_rows) a.held
 
--- the same in schema 2: each entry is one of the office, without a note
+-- these tables in schema 2: the author of each entry is the office, and its note is empty
 abbrev pub carried : OldTables → Tables
 carried a = record {
   drivers = a.drivers;
@@ -81,13 +81,13 @@ carried a = record {
 
 -- ---- steps
 
--- tables of schema 1 became such of schema 2, and `entries` has no rows
+-- tables of schema 1 became tables of schema 2, and `entries` became empty
 pub record Carries (old new : Database) : Type 0 where
   pub schema : IsArchive new
   pub stands : (a : OldTables) → HasOldTables old.trees a → HasTables new.trees (carried a)
   pub emptied : (a : OldTables) → HasOldTables old.trees a → new.trees old_entry_tree ≡ []
 
--- a step that makes of what stands for some lists what stands for others
+-- a step: if the old rows represent some lists, the new rows represent what `step` makes of these lists
 pub record Turns (old new : State) (step : Tables → Tables) : Type 0 where
   pub schema : IsArchive new.now
   pub stands : (a : Tables) → HasTables old.now.trees a → HasTables new.now.trees (step a)
@@ -96,18 +96,18 @@ pub record Turns (old new : State) (step : Tables → Tables) : Type 0 where
 abbrev pub is_near : ℕ → ℕ → ℕ → SpanRow → Bool
 is_near driver start past r = (r.driver == driver) && (nat_lt r.start past && nat_lt start r.past)
 
--- a row of the driver that begins before a minute, and one that begins in a range
+-- a row of the driver that begins before a minute, and a row of the driver that begins in a range
 abbrev pub is_before : ℕ → ℕ → SpanRow → Bool
 is_before driver minute r = (r.driver == driver) && nat_lt r.start minute
 
 abbrev pub is_begun : ℕ → ℕ → ℕ → SpanRow → Bool
 is_begun driver start past r = (r.driver == driver) && (nat_le start r.start && nat_lt r.start past)
 
--- and one that begins from a minute on
+-- a row of the driver that begins at a minute or later
 abbrev pub is_onward : ℕ → ℕ → SpanRow → Bool
 is_onward driver start r = (r.driver == driver) && nat_le start r.start
 
--- it is among the rows, and none of them begins later
+-- `r` is one of the rows, and none of them begins later
 pub record IsLatest (r : SpanRow) (rows : List SpanRow) : Type 0 where
   pub one : Contains rows r
   pub latest : All (λ (x : SpanRow). x.start ≤ r.start) rows
@@ -123,7 +123,7 @@ row_of driver s = record { driver = driver; start = s.start; past = s.past; mark
 abbrev pub span_of : SpanRow → StoredSpan
 span_of r = record { start = r.start; past = r.past; mark = r.mark }
 
--- what readings show of a row
+-- the columns of a row that readings show
 abbrev pub span_shown : SpanRow → Row
 span_shown r = Int (pos r.start) ∷ Int (pos r.past) ∷ Int (pos r.mark) ∷ []
 
@@ -144,7 +144,7 @@ file_shown r = Blob r.file ∷ []
 abbrev pub is_download : ℕ → ℕ → DownloadRow → Bool
 is_download driver number r = (r.driver == driver) && (r.number == number)
 
--- the entry of the driver with this number; any entry of his; and one that isn't withdrawn and has a minute in the range
+-- the entry of the driver with this number; any entry of the driver; an entry that isn't withdrawn and has a minute in the range
 abbrev pub is_entry : ℕ → ℕ → EntryRow → Bool
 is_entry driver number r = (r.driver == driver) && (r.number == number)
 
@@ -154,7 +154,7 @@ is_entry_of driver r = r.driver == driver
 abbrev pub is_kept_near : ℕ → ℕ → ℕ → EntryRow → Bool
 is_kept_near driver start past r = (r.driver == driver) && ((r.withdrawn == 0) && (nat_lt r.start past && nat_lt start r.past))
 
--- an entry as it is read: all of its row but the driver
+-- an entry as it is read: its row except for the driver
 pub record ListedEntry : Type 0 where
   pub number : ℕ
   pub start : ℕ
@@ -179,17 +179,17 @@ told_entry e = record {
   note = string_bytes e.note;
 }
 
--- and the span of it
+-- the span of an entry
 
 abbrev pub entry_span_of : EntryRow → StoredSpan
 entry_span_of r = record { start = r.start; past = r.past; mark = r.mark }
 
--- a driver's new entry with this number: its minutes, who says so, and why
+-- a driver's new entry with this number: its minutes, its author and its note
 abbrev pub entered_row : ℕ → ℕ → StoredSpan → List ℕ → List ℕ → EntryRow
 entered_row driver number s author note =
     record { driver = driver; number = number; start = s.start; past = s.past; mark = s.mark; withdrawn = 0; author = author; note = note }
 
--- and one that is given
+-- the row of a `NewEntry`
 abbrev pub new_entry_row : ℕ → NewEntry → EntryRow
 new_entry_row driver e = entered_row driver e.number e.span e.author.now e.note.now
 
@@ -203,7 +203,7 @@ has_secret secret r = bytes_eq r.secret secret
 abbrev pub has_holder : List ℕ → DriverRow → Bool
 has_holder holder r = bytes_eq r.holder holder
 
--- the driver with this number, with another base, or with another count of downloads
+-- the driver with this number gets another base, another count of downloads, or another count of entries
 abbrev pub with_base : ℕ → ℕ → DriverRow → DriverRow
 with_base driver base r = if has_number driver r then record r { base = base } else r
 
@@ -213,11 +213,11 @@ with_downloads driver count r = if has_number driver r then record r { downloads
 abbrev pub with_entries : ℕ → ℕ → DriverRow → DriverRow
 with_entries driver count r = if has_number driver r then record r { entries = count } else r
 
--- the entry of the driver with this number, withdrawn
+-- the driver's entry with this number is marked as withdrawn
 abbrev pub with_withdrawn : ℕ → ℕ → EntryRow → EntryRow
 with_withdrawn driver number r = if is_entry driver number r then record r { withdrawn = 1 } else r
 
--- a driver as he is read: all of his row but the key
+-- a driver as they are read: their row except for the key
 pub record ListedDriver : Type 0 where
   pub driver : ℕ
   pub holder : List ℕ
@@ -240,11 +240,11 @@ told_driver d = record {
   entries = d.entries;
 }
 
--- all drivers of some rows, the lower number first
+-- all drivers of these rows, the lowest number first
 pub record AreListed (rows : List DriverRow) (found : List ListedDriver) : Type 0 where
   pub all : IsPermutation (map listed_driver rows) found
   pub sorted : IsSorted (λ (x y : ListedDriver). nat_cmp x.driver y.driver) found
 
--- an archive of no drivers
+-- an archive without drivers
 abbrev pub no_rows : Tables
 no_rows = record { drivers = []; downloads = []; card_spans = []; entries = []; held = [] }

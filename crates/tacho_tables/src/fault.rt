@@ -1,12 +1,12 @@
 use sqlite::Error;
 use std::alloc::AllocFailed;
 
-/// Why a call on the tables did nothing.
+/// Why a call on the tables failed.
 #[derive(Clone, Copy, Debug, PartialEq, Eq)]
 pub enum TableFault {
-    /// There was no memory for what was read.
+    /// Memory ran out for what was read.
     Memory,
-    /// The store's call failed, or gave a row that no archive writes.
+    /// The store failed, or gave a row that no archive writes.
     Store,
 }
 

@@ -1,4 +1,4 @@
-//! The rows of `held`: what a driver holds.
+//! The rows of `held`: the spans that a driver holds.
 
 ghost use Rattle.std.specs.Prelude.{◌≡◌, not, map, filter, IfOk, IsPermutation};
 ghost use Rattle.tacho_tables.specs.Calls.{Finds, Changes};
@@ -13,7 +13,7 @@ use crate::statement::{read, run};
 use sqlite::{Alter, Connection, Error, Rows, Transaction, params};
 use std::alloc::Global;
 
-/// All spans of a driver.
+/// Reads all spans of a driver.
 pub fn of_driver<S: Alter>(
     alloc: Global,
     tx: &mut Transaction<'_, S>,
@@ -47,7 +47,7 @@ pub fn delete_begun<S: Alter>(
     )
 }
 
-/// The spans of a driver that begin from `start` on, in the order of their starts, to be read one at a time.
+/// Begins to read the spans of a driver that begin at `start` or later, ordered by start, one at a time.
 pub fn onward<S: Alter>(
     conn: &mut Connection<S>,
     driver: u32,

@@ -48,7 +48,7 @@ fn make_first<S: Alter>(tx: &mut Transaction<'_, S>) -> Result<(), TableFault>
     )
 }
 
-/// Makes the table of the hours that are entered.
+/// Makes the table of entries.
 fn make_entry_rows<S: Alter>(tx: &mut Transaction<'_, S>) -> Result<(), TableFault>
     ensures stays { Stays S.Store tx.old.conn tx.new.conn }
     ensures made { HasCleanDisk (state S.Store tx.new.conn.now) → (schema : _)
@@ -63,7 +63,7 @@ fn make_entry_rows<S: Alter>(tx: &mut Transaction<'_, S>) -> Result<(), TableFau
     )
 }
 
-/// Makes the three other tables.
+/// Makes the other three tables.
 fn make_rest<S: Alter>(tx: &mut Transaction<'_, S>) -> Result<(), TableFault>
     ensures stays { Stays S.Store tx.old.conn tx.new.conn }
     ensures made { HasCleanDisk (state S.Store tx.new.conn.now)
@@ -85,7 +85,7 @@ fn make_rest<S: Alter>(tx: &mut Transaction<'_, S>) -> Result<(), TableFault>
     )
 }
 
-/// Makes the six tables in a store that has none, and the row that says which schema they are.
+/// Makes the six tables in a store without tables, and the row that says which schema they have.
 pub fn make_all<S: Alter>(tx: &mut Transaction<'_, S>) -> Result<(), TableFault>
     ensures stays { Stays S.Store tx.old.conn tx.new.conn }
     ensures made { HasCleanDisk (state S.Store tx.new.conn.now) → (state S.Store tx.old.conn.now).now.schema ≡ no_schema
@@ -115,8 +115,8 @@ fn copy_entries<S: Alter>(tx: &mut Transaction<'_, S>) -> Result<(), TableFault>
     )
 }
 
-/// Carries the tables of schema 1 over to schema 2: makes `entry_rows`, copies each entry there as one of the office without a
-/// note, removes it from `entries`, whose empty table stays, and says the version.
+/// Carries the tables of schema 1 over to schema 2. It makes `entry_rows`, copies each entry there with the office as its author and no
+/// note, empties `entries` (the table itself stays), and sets the version.
 pub fn carry<S: Alter>(tx: &mut Transaction<'_, S>) -> Result<(), TableFault>
     ensures stays { Stays S.Store tx.old.conn tx.new.conn }
     ensures carried { HasCleanDisk (state S.Store tx.new.conn.now) → (state S.Store tx.old.conn.now).now.schema ≡ old_schema
@@ -130,8 +130,7 @@ pub fn carry<S: Alter>(tx: &mut Transaction<'_, S>) -> Result<(), TableFault>
     run(tx, "UPDATE meta SET version = 2 WHERE id = 1", &[])
 }
 
-/// The number of the schema that the tables are of, or none where its row is missing. A store without tables gives
-/// `TableFault::Store`.
+/// Reads the version of the tables' schema; none if its row is missing. In a store without tables it returns `TableFault::Store`.
 pub fn version<S: Alter>(tx: &mut Transaction<'_, S>) -> Result<Option<u32>, TableFault>
     ensures reads { ReadsOf S.Store tx.old.conn tx.new.conn result IsVersioned }
     ensures found { HasCleanDisk (state S.Store tx.new.conn.now)

@@ -1,4 +1,4 @@
-//! What a connection is asked before its tables are made, or used.
+//! Questions to a connection before its tables are made or used.
 
 ghost use Rattle.std.specs.Prelude.{◌≡◌, ◌↔◌, [], false, OnOk, IsErr, IsTrue, is_some};
 ghost use Rattle.sqlite.specs.State.{HasCleanDisk, Survives};
@@ -10,21 +10,21 @@ ghost use Rattle.tacho_tables.specs.Calls.{Asks};
 use crate::fault::TableFault;
 use sqlite::{Alter, Connection};
 
-/// Whether a store has tables.
+/// True if the store has tables.
 pub fn has_tables<S: Alter>(conn: &Connection<S>) -> bool
     ensures { (result ≡ false) ↔ ((state S.Store conn.now).now.schema.tables ≡ []) }
 {
     !conn.schema().tables.is_empty()
 }
 
-/// Whether a store has a table of this name.
+/// True if the store has a table of this name.
 fn has_table<S: Alter>(conn: &Connection<S>, name: &str) -> bool
     ensures { result ≡ is_some (table_named (state S.Store conn.now).now.schema name.now) }
 {
     conn.schema().table_named(name.as_bytes()).is_some()
 }
 
-/// Whether a store has the tables that both schemas have, by their names.
+/// True if the store has the tables that both schemas have, by name.
 fn has_shared<S: Alter>(conn: &Connection<S>) -> bool
     ensures { result ≡ has_tables_of shared_names (state S.Store conn.now).now.schema }
 {
@@ -35,22 +35,21 @@ fn has_shared<S: Alter>(conn: &Connection<S>) -> bool
         && has_table(conn, "held")
 }
 
-/// Whether a store has the tables of schema 2, by their names.
+/// True if the store has the tables of schema 2, by name.
 pub fn has_archive<S: Alter>(conn: &Connection<S>) -> bool
     ensures { result ≡ has_tables_of archive_names (state S.Store conn.now).now.schema }
 {
     has_table(conn, "entry_rows") && has_shared(conn)
 }
 
-/// Whether a store has the tables of schema 1, by their names.
+/// True if the store has the tables of schema 1, by name.
 pub fn has_old_archive<S: Alter>(conn: &Connection<S>) -> bool
     ensures { result ≡ has_tables_of old_names (state S.Store conn.now).now.schema }
 {
     has_table(conn, "entries") && has_shared(conn)
 }
 
-/// Asks a connection for the table that says which schema it is, and reads nothing. It answers where the store is open
-/// and has the table.
+/// Prepares a statement on the table that holds the version, and reads nothing. It succeeds only if the store is open and has that table.
 pub fn ask<S: Alter>(conn: &mut Connection<S>) -> Result<(), TableFault>
     ensures asks { Asks S.Store conn.old conn.new result }
     ensures missing { HasCleanDisk (state S.Store conn.new) → (state S.Store conn.old).now.schema ≡ no_schema

@@ -11,7 +11,7 @@ use crate::fault::TableFault;
 use sqlite::{Alter, Row, Rows};
 use std::alloc::Global;
 
-/// Minutes from `start` to before `past`, and the number of the mark that a driver has in them.
+/// Minutes from `start` to before `past`, and the number of the driver's mark in them.
 #[derive(Clone, Copy, Debug, PartialEq, Eq)]
 pub struct StoredSpan {
     pub start: u32,
@@ -19,8 +19,8 @@ pub struct StoredSpan {
     pub mark: u32,
 }
 
-/// Hours that were entered by hand: their number among the driver's, minutes from `start` to before `past`, the number
-/// of the mark, 1 where they were withdrawn, else 0, who said so, and why.
+/// Hours entered by hand: their number among the driver's entries, their minutes from `start` to before `past`, the number of the mark, 1
+/// if they are withdrawn (else 0), their author and their note.
 #[derive(Debug, Drop)]
 pub struct StoredEntry {
     pub number: u32,
@@ -32,22 +32,22 @@ pub struct StoredEntry {
     pub note: String,
 }
 
-/// What is stored of a driver, but for his key.
+/// What is stored of a driver, except for the key.
 #[derive(Debug, Drop)]
 pub struct StoredDriver {
     pub number: u32,
-    /// The first 15 bytes of his card's identification.
+    /// The first 15 bytes of the card's identification.
     pub holder: Vec<u8>,
-    /// The number of the day from which he is examined.
+    /// The number of the day from which the driver is examined.
     pub base: u32,
     pub name: String,
-    /// How many numbers were given out to his downloads.
+    /// How many numbers were given out to the driver's downloads.
     pub downloads: u32,
-    /// How many numbers were given out to his entries.
+    /// How many numbers were given out to the driver's entries.
     pub entries: u32,
 }
 
-/// The span that a row of start, past and mark tells.
+/// Returns the span of a row whose first columns are start, past and mark.
 fn told_span(row: &Row) -> Result<StoredSpan, TableFault>
     ensures { IfOk result (λ s. Tells row.now s) }
 {
@@ -58,14 +58,14 @@ fn told_span(row: &Row) -> Result<StoredSpan, TableFault>
     })
 }
 
-/// The span that a row of start, past and mark shows.
+/// Returns the span of a row of start, past and mark.
 fn stored_span(row: &Row) -> Result<StoredSpan, TableFault>
     ensures { IfOk result (λ s. (r : SpanRow) → row.now ≡ span_shown r → s ≡ span_of r) }
 {
     told_span(row)
 }
 
-/// Moves to the next row of a query on start, past and mark, and tells its span, if there is one.
+/// Moves to the next row of a query on start, past and mark, and returns its span, if there is one.
 pub fn next_span<S: Alter>(rows: &mut Rows<'_, S>) -> Result<Option<StoredSpan>, TableFault>
     ensures same_reference { rows.new.conn.ghost_name ≡ rows.old.conn.ghost_name }
     ensures asked { IsAsked S.Store rows.old.conn.now rows.new.conn.now }
@@ -81,7 +81,7 @@ pub fn next_span<S: Alter>(rows: &mut Rows<'_, S>) -> Result<Option<StoredSpan>,
     Ok(Some(span))
 }
 
-/// The span that the first of such rows shows, if there is one.
+/// Returns the span of the first row of start, past and mark, if there is one.
 pub(crate) fn first_span(rows: &[Row]) -> Result<Option<StoredSpan>, TableFault>
     ensures none { IfOk result (λ found. IsNone found ↔ (rows.now ≡ [])) }
     ensures some { IfOk result (λ found. IfSome found (λ s. (r : SpanRow) (more : List Values)
@@ -93,7 +93,7 @@ pub(crate) fn first_span(rows: &[Row]) -> Result<Option<StoredSpan>, TableFault>
     }
 }
 
-/// The spans that such rows show.
+/// Returns the spans of rows of start, past and mark.
 pub(crate) fn stored_spans(alloc: Global, rows: &[Row]) -> Result<Vec<StoredSpan>, TableFault>
     ensures { IfOk result (λ spans. (shown : List SpanRow) → rows.now ≡ map span_shown shown
         → spans.items ≡ map span_of shown) }
@@ -105,7 +105,7 @@ pub(crate) fn stored_spans(alloc: Global, rows: &[Row]) -> Result<Vec<StoredSpan
     Ok(spans)
 }
 
-/// The file that the first of such rows shows, if there is one.
+/// Returns the file in the first row, if there is one.
 pub(crate) fn first_file(rows: &[Row]) -> Result<Option<Vec<u8>>, TableFault>
     ensures none { IfOk result (λ found. IsNone found ↔ (rows.now ≡ [])) }
     ensures some { IfOk result (λ found. IfSome found (λ bytes. (r : DownloadRow) (more : List Values)
@@ -117,7 +117,7 @@ pub(crate) fn first_file(rows: &[Row]) -> Result<Option<Vec<u8>>, TableFault>
     }
 }
 
-/// The number that the first of such rows shows, if there is one.
+/// Returns the number in the first row, if there is one.
 pub(crate) fn first_number(rows: &[Row]) -> Result<Option<u32>, TableFault>
     ensures none { IfOk result (λ found. IsNone found ↔ (rows.now ≡ [])) }
     ensures some { IfOk result (λ found. IfSome found (λ number. (n : ℕ) (more : List Values)
@@ -129,7 +129,7 @@ pub(crate) fn first_number(rows: &[Row]) -> Result<Option<u32>, TableFault>
     }
 }
 
-/// The driver that a row of driver, holder, base, name, downloads and entries shows.
+/// Returns the driver of a row of driver, holder, base, name, downloads and entries.
 fn stored_driver(row: &Row) -> Result<StoredDriver, TableFault>
     ensures { IfOk result (λ d. (r : DriverRow) → row.now ≡ driver_shown r → told_driver d ≡ listed_driver r) }
 {
@@ -143,7 +143,7 @@ fn stored_driver(row: &Row) -> Result<StoredDriver, TableFault>
     })
 }
 
-/// The driver that the first of such rows shows, if there is one.
+/// Returns the driver of the first such row, if there is one.
 pub(crate) fn first_driver(rows: &[Row]) -> Result<Option<StoredDriver>, TableFault>
     ensures none { IfOk result (λ found. IsNone found ↔ (rows.now ≡ [])) }
     ensures some { IfOk result (λ found. IfSome found (λ d. (r : DriverRow) (more : List Values)
@@ -155,7 +155,7 @@ pub(crate) fn first_driver(rows: &[Row]) -> Result<Option<StoredDriver>, TableFa
     }
 }
 
-/// The drivers that such rows show.
+/// Returns the drivers of such rows.
 pub(crate) fn stored_drivers(alloc: Global, rows: &[Row]) -> Result<Vec<StoredDriver>, TableFault>
     ensures { IfOk result (λ drivers. (shown : List DriverRow) → rows.now ≡ map driver_shown shown
         → map told_driver drivers.items ≡ map listed_driver shown) }
@@ -167,7 +167,7 @@ pub(crate) fn stored_drivers(alloc: Global, rows: &[Row]) -> Result<Vec<StoredDr
     Ok(drivers)
 }
 
-/// The entry that a row of number, start, past, mark, withdrawn, author and note shows.
+/// Returns the entry of a row of number, start, past, mark, withdrawn, author and note.
 fn stored_entry(row: &Row) -> Result<StoredEntry, TableFault>
     ensures { IfOk result (λ e. (r : EntryRow) → row.now ≡ entry_shown r → told_entry e ≡ listed_entry r) }
 {
@@ -182,7 +182,7 @@ fn stored_entry(row: &Row) -> Result<StoredEntry, TableFault>
     })
 }
 
-/// The entries that such rows show.
+/// Returns the entries of such rows.
 pub(crate) fn stored_entries(alloc: Global, rows: &[Row]) -> Result<Vec<StoredEntry>, TableFault>
     ensures { IfOk result (λ entries. (shown : List EntryRow) → rows.now ≡ map entry_shown shown
         → map told_entry entries.items ≡ map listed_entry shown) }
@@ -194,7 +194,7 @@ pub(crate) fn stored_entries(alloc: Global, rows: &[Row]) -> Result<Vec<StoredEn
     Ok(entries)
 }
 
-/// The entry that the first of such rows shows, if there is one.
+/// Returns the entry of the first such row, if there is one.
 pub(crate) fn first_entry(rows: &[Row]) -> Result<Option<StoredEntry>, TableFault>
     ensures none { IfOk result (λ found. IsNone found ↔ (rows.now ≡ [])) }
     ensures some { IfOk result (λ found. IfSome found (λ e. (r : EntryRow) (more : List Values)

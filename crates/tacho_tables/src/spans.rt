@@ -15,14 +15,14 @@ use std::alloc::Global;
 /// A table of drivers' spans.
 #[derive(Clone, Copy, Debug, PartialEq, Eq)]
 pub enum SpanTable {
-    /// `card_spans`: what accepted downloads give.
+    /// `card_spans`: the spans that accepted downloads give.
     CardSpans,
-    /// `held`: what a driver holds.
+    /// `held`: the spans that a driver holds.
     Held,
 }
 
 impl SpanTable {
-    /// The text that reads the latest span that begins before a minute.
+    /// The SQL that reads the latest span that begins before a minute.
     fn before_text(self) -> &'static str
         ensures { result.now ≡ before_text self }
     {
@@ -36,7 +36,7 @@ impl SpanTable {
         }
     }
 
-    /// The text that reads the spans that begin in a range.
+    /// The SQL that reads the spans that begin in a range.
     fn begun_text(self) -> &'static str
         ensures { result.now ≡ begun_text self }
     {
@@ -50,7 +50,7 @@ impl SpanTable {
         }
     }
 
-    /// The text that adds a span.
+    /// The SQL that adds a span.
     fn insert_text(self) -> &'static str
         ensures { result.now ≡ insert_text self }
     {
@@ -64,7 +64,7 @@ impl SpanTable {
         }
     }
 
-    /// The text that adds eight spans.
+    /// The SQL that adds eight spans.
     fn eight_text(self) -> &'static str
         ensures { result.now ≡ eight_text self }
     {
@@ -79,7 +79,7 @@ impl SpanTable {
     }
 }
 
-/// The latest of a driver's spans that begin before a minute, if there is one.
+/// Reads the latest of a driver's spans that begin before a minute, if there is one.
 pub fn last_before<S: Alter>(
     tx: &mut Transaction<'_, S>,
     table: SpanTable,
@@ -94,7 +94,7 @@ pub fn last_before<S: Alter>(
     first_span(&rows)
 }
 
-/// The spans of a driver that begin from `start` to before `past`.
+/// Reads the spans of a driver that begin from `start` to before `past`.
 pub fn begun<S: Alter>(
     alloc: Global,
     tx: &mut Transaction<'_, S>,
@@ -110,7 +110,7 @@ pub fn begun<S: Alter>(
     stored_spans(alloc, &rows)
 }
 
-/// Adds a span of a driver.
+/// Adds a span to a driver.
 fn insert<S: Alter>(
     tx: &mut Transaction<'_, S>,
     table: SpanTable,
@@ -127,7 +127,7 @@ fn insert<S: Alter>(
     )
 }
 
-/// Adds eight spans of a driver by one statement.
+/// Adds eight spans to a driver in one statement.
 fn insert_eight<S: Alter>(
     tx: &mut Transaction<'_, S>,
     table: SpanTable,
@@ -149,7 +149,7 @@ fn insert_eight<S: Alter>(
     )
 }
 
-/// Adds spans of a driver, eight at a time as long as there are eight.
+/// Adds spans to a driver, eight per statement while eight are left, then one per statement.
 pub fn insert_all<S: Alter>(
     tx: &mut Transaction<'_, S>,
     table: SpanTable,

@@ -1,4 +1,4 @@
--- What the runs of spans mean.
+-- Merging spans gives their canonical list or their first contradiction; there is only one canonical list.
 use Rattle.std.proofs.Common.{◌≡◌, ◌≢◌, ℕ, zero, suc, ◌<◌, ◌≤◌, ◌⊎◌, inl, inr, ◌↔◌, ◌&&◌, ◌||◌, ◌==◌, not, nat_lt, Bool, true, false, cond, List, [], ◌∷◌, Result, Ok, Err, refl, sym, ap, ◌∙◌, subst, arith}
 use Rattle.std.proofs.lemmas.Bool.Decides.{nat_tests}
 use Rattle.std.proofs.Common.{length, slice_index_or}
@@ -79,7 +79,7 @@ le_self n = omega arith
 
 -- ---- what lists give
 
--- nothing is given before the first start
+-- no minute before the first start is given a mark
 pub later : (n : ℕ) (xs : List Span) (m : ℕ) (k : Mark) → StartsFrom n xs → Gives xs m k → n ≤ m
 later n [] m k h g = absurd g
 later n (s ∷ ss) m k h (inl c) = omega (arith, h.0, c.0.0)
@@ -136,7 +136,7 @@ apart_false last s h = joined_nums last.past s.start (same_mark s.mark last.mark
 
 -- ---- the runs
 
--- runs that begin as a span does
+-- the first run has the start and the mark of the span
 abbrev BeginsAs : Span → List Span → Type 0
 BeginsAs last [] = ⊥
 BeginsAs last (t ∷ ts) = (t.start ≡ last.start) × (t.mark ≡ last.mark)
@@ -145,7 +145,7 @@ abbrev Runs : Span → List Span → Result (List Span) ℕ → Type 0
 Runs last ss (Ok out) = IsCanonical out × GiveSame out (last ∷ ss) × BeginsAs last out
 Runs last ss (Err m) = IsFirstConflict (Gives (last ∷ ss)) m
 
--- a span before runs that it does not join
+-- a span that doesn't join the next one becomes a run before the runs of the rest
 front_runs : (last s : Span) (ss : List Span) (r : Result (List Span) ℕ) → last.start < last.past → StartsFrom last.start (s ∷ ss) → last.past ≤ s.start → (last.past ≡ s.start → s.mark ≢ last.mark) → Runs s ss r → Runs last (s ∷ ss) (with_front (last ∷ []) r)
 front_runs last s ss (Ok []) full from l ne h = absurd h.2
 front_runs last s ss (Ok (t ∷ ts)) full from l ne h =
@@ -161,7 +161,7 @@ front_runs last s ss (Err m) full from l ne h =
       least n lt a b (inr x) (inl y) d = own n a y.0 x
       least n lt a b (inr x) (inr y) d = h.1 n lt (a, b, x, y, d)
 
--- a span that starts within a run of another mark
+-- if the next span starts inside a run with another mark, its start is the first minute with two marks
 conflict_runs : (last s : Span) (ss : List Span) → last.start < last.past → StartsFrom last.start (s ∷ ss) → s.start < last.past → s.mark ≢ last.mark → IsFirstConflict (Gives (last ∷ s ∷ ss)) s.start
 conflict_runs last s ss full from l ne =
     ((s.mark, last.mark, inr (inl ((le_self s.start, from.1), refl)), inl ((from.0, l), refl), ne), λ n lt c. least n lt c.0 c.1 c.2 c.3 c.4) where
@@ -179,14 +179,14 @@ lt_or_le m a = go (nat_lt m a) refl where
   go true h = inl (grind (arith, nat_tests))
   go false h = inr (grind (arith, nat_tests))
 
--- the later of two ends
+-- the later of two ends is at least each of them
 later_end : (a b : ℕ) → (a ≤ cond (nat_lt a b) b a) × (b ≤ cond (nat_lt a b) b a)
 later_end a b = (grind (arith, nat_tests), grind (arith, nat_tests))
 
 before_end : (a b m : ℕ) → m < cond (nat_lt a b) b a → a ≤ m → m < b
 before_end a b m h l = grind (arith, nat_tests)
 
--- a span that a run takes in
+-- extending a run to the end of the next span gives the same as the two of them
 stretch_gives : (last s : Span) (ss : List Span) → last.start ≤ s.start → s.start < s.past → s.start ≤ last.past → s.mark ≡ last.mark → GiveSame (stretched last s ∷ ss) (last ∷ s ∷ ss)
 stretch_gives last s ss from full l same m k = (there, back) where
   ends : (last.past ≤ (stretched last s).past) × (s.past ≤ (stretched last s).past)
@@ -210,7 +210,7 @@ stretch_runs last s ss (Ok []) same h = absurd h.2
 stretch_runs last s ss (Ok (t ∷ ts)) same h = (h.0, same_trans (t ∷ ts) (stretched last s ∷ ss) (last ∷ s ∷ ss) h.1 same, h.2)
 stretch_runs last s ss (Err m) same h = same_first (stretched last s ∷ ss) (last ∷ s ∷ ss) m same h
 
--- a span that starts before the run's end
+-- the next span starts at or before the run's end
 joined_runs : (last s : Span) (ss : List Span) → last.start < last.past → StartsFrom last.start (s ∷ ss) → (last.start < (stretched last s).past → Runs (stretched last s) ss (merged_from (stretched last s) ss)) → (t : Bool) → same_mark s.mark last.mark ≡ t → (s.start ≤ last.past) × (last.past ≡ s.start → same_mark s.mark last.mark ≡ true) → Runs last (s ∷ ss) (cond (not t) (Err s.start) (merged_from (stretched last s) ss))
 joined_runs last s ss full from more true e h =
     let same = stretch_gives last s ss from.0 from.1 h.0 (marks_equal _ _ e) in
@@ -229,14 +229,14 @@ split_runs last s ss full from apart more = split (is_apart last s) refl where
       front_runs last s ss (merged_from s ss) full from h.0 (λ d. marks_differ _ _ (h.1 d)) apart
   split false e = joined_runs last s ss full from more (same_mark s.mark last.mark) refl (apart_false last s e)
 
--- the runs from a span on mean what the spans mean
+-- merging from a span on gives runs that give the same as the spans, or the first minute with two marks
 pub runs_of : (last : Span) (ss : List Span) → last.start < last.past → StartsFrom last.start ss → Runs last ss (merged_from last ss)
 runs_of last [] full from = ((full, tt, tt), λ m k. (λ g. g, λ g. g), (refl, refl))
 runs_of last (s ∷ ss) full from =
     split_runs last s ss full from (runs_of s ss from.1 from.2)
     (λ h. runs_of (stretched last s) ss h (starts_lower last.start s.start ss from.0 from.2))
 
--- the runs of spans in order are their canonical list, or the first minute with two marks
+-- merging spans in order gives their canonical list, or the first minute with two marks
 pub merged_means : (spans : List Span) → StartsFrom 0 spans → IsMerged spans (merged spans)
 merged_means [] h = (tt, λ m k. (λ g. g, λ g. g))
 merged_means (s ∷ ss) h = go (merged_from s ss) (runs_of s ss h.1 h.2) where
@@ -244,7 +244,7 @@ merged_means (s ∷ ss) h = go (merged_from s ss) (runs_of s ss h.1 h.2) where
   go (Ok out) h = (h.0, h.1)
   go (Err m) h = h
 
--- the same of what a function answered
+-- likewise for the result of a function
 pub merge_means : (spans : List Span) (r : Result (List Span) ℕ) → IsMerged spans r → (runs : List Span) → r ≡ Ok runs → IsCanonical runs × GiveSame runs spans
 merge_means spans r h runs e = subst (IsMerged spans) e h
 
@@ -253,7 +253,7 @@ merge_fault spans r h m e = subst (IsMerged spans) e h
 
 -- ---- one canonical list
 
--- the mark of the first minute
+-- the first span gives its mark to its first minute
 pub first_given : (s : Span) (ss : List Span) → s.start < s.past → Gives (s ∷ ss) s.start s.mark
 first_given s ss h = inl ((le_self s.start, h), refl)
 
@@ -285,7 +285,7 @@ moved_same xs ys p m k = (moved ys xs (IsPermutation-sym xs ys p) m k, moved xs 
 empty_gives : (s : Span) (m : ℕ) → is_full s ≡ false → Covers s m → ⊥
 empty_gives s m h c = let l : s.past ≤ s.start = grind (arith, nat_tests) in absurd (omega (arith, l, c.0, c.1))
 
--- spans that are empty give nothing
+-- empty spans give nothing, so the list without them gives the same
 pub full_same : (xs : List Span) → GiveSame (filter is_full xs) xs
 full_same [] m k = (λ g. g, λ g. g)
 full_same (s ∷ ss) m k = go (is_full s) refl (full_same ss m k) where
@@ -303,7 +303,7 @@ full_same (s ∷ ss) m k = go (is_full s) refl (full_same ss m k) where
     back (inl c) = absurd (empty_gives s m e c.0)
     back (inr g) = rest.1 g
 
--- spans that rise by their starts
+-- nonempty spans, sorted by their starts, are in order
 starts_rising : (n : ℕ) (xs : List Span) → AllByRecursion (λ s. is_full s ≡ true) xs → ((i j : ℕ) (d : Span) → i ≤ j → j < length xs → (slice_index_or xs i d).start ≤ (slice_index_or xs j d).start) → ((d : Span) → 0 < length xs → n ≤ (slice_index_or xs 0 d).start) → StartsFrom n xs
 starts_rising n [] full up low = tt
 starts_rising n (s ∷ ss) full up low = (
@@ -339,7 +339,7 @@ behind_start : (s : Span) (ss : List Span) (k : Mark) → IsCanonical (s ∷ ss)
 behind_start s ss k h (inl c) = c.1
 behind_start s ss k h (inr g) = let l = later s.past ss s.start k (canonical_starts s ss h) g in absurd (omega (arith, l, h.0))
 
--- the minute at a run's end does not have its mark
+-- no span of a canonical list gives the first span's mark to the minute at which it ends
 pub ends_there : (s : Span) (ss : List Span) → IsCanonical (s ∷ ss) → Gives (s ∷ ss) s.past s.mark → ⊥
 ends_there s ss h (inl c) = absurd (omega (arith, c.0.1))
 ends_there s [] h (inr g) = g

@@ -1,4 +1,4 @@
--- The date with a day number.
+-- The date of a day number.
 use Rattle.std.proofs.Common.{◌≡◌, ℕ, zero, suc, ◌+◌, ◌-◌, ◌*◌, ◌<◌, ◌≤◌, ◌%◌, nat_lt, Bool, true, false, cond, ℤ, pos, ◌+ℤ◌, unsigned_abs, w16, to_z, of_z, FitsSigned, refl, sym, ap, ◌∙◌, subst, arith}
 use Rattle.std.proofs.lemmas.Bool.Decides.{nat_tests}
 use Rattle.std.proofs.lemmas.Int.{to_z-of_z}
@@ -12,7 +12,7 @@ use Rattle.jiff_core.proofs.CalendarLemmas.{day_count-epoch, days_from_civil-day
 use Rattle.jiff_core.proofs.DateLemmas.{epoch_day_injective}
 use Rattle.tacho_time.specs.Calendar.{year_after, month_after, Civil, civil, HasNumber}
 
--- a year and the days in it, which come to the same day
+-- a year and a day in it, reached from the year y and n days, with the same day count
 record YearOf (f y n : ℕ) (r : ℕ × ℕ) : Type 0 where
   same : day_count (pos y) 1 1 + n ≡ day_count (pos r.0) 1 1 + r.1
   within : r.1 < days_in_year (pos r.0)
@@ -75,7 +75,7 @@ date_is n r q y m =
     let number = days_from_civil-day_count (pos r.0) q.0 (q.1 + 1) in
     (((omega (arith, signed_arith), omega (arith, signed_arith, y.to)), (m.from, m.to), (omega arith, omega (arith, m.within))), omega (arith, signed_arith, number, total))
 
--- the calendar has the date, and its number is n
+-- `civil n` is a date of the calendar, and its number is n
 civil_date : (n : ℕ) → n ≤ 47520 → IsCivilDate (pos (civil n).year) (civil n).month (civil n).day × (days_from_civil (pos (civil n).year) (civil n).month (civil n).day ≡ pos n)
 unfolding civil
 civil_date n h =
@@ -90,7 +90,7 @@ civil_date n h =
 pub civil_number : (n : ℕ) → n ≤ 47520 → HasNumber (civil n) n
 civil_number n h = let c = civil_date n h in record { dated = c.0; number = c.1 }
 
--- the parts of a date of jiff with that number
+-- a date of jiff has these parts
 pub record IsCivil (d : Date) (c : Civil) : Type 0 where
   pub year : unsigned_abs (to_z w16 (of_z w16 d.year)) ≡ c.year
   pub month : d.month ≡ c.month
@@ -105,11 +105,11 @@ civil_parts n d h e =
     let fits : FitsSigned w16 d.year = omega (arith, signed_arith) in
     record { year = ap unsigned_abs (to_z-of_z w16 d.year fits ∙ parts.0); month = parts.1; day = parts.2 }
 
--- a date so many days after the first one of the calendar
+-- a day count since the calendar's first day, as a day number
 pub since_first : (n : ℕ) (z : ℤ) → z +ℤ pos 4371587 ≡ pos (n + 4371587) → z ≡ pos n
 since_first n z h = omega (arith, signed_arith)
 
--- the weekday of a date with a number
+-- the weekday computed from a day number is that of the date with this number
 pub weekday_of_date : (date : Date) (n : ℕ) (given : Weekday) → epoch_day date ≡ pos n → monday_zero given ≡ (n + 3) % 7
     → monday_zero given ≡ weekday_of date
 weekday_of_date date n given number is =

@@ -6,20 +6,20 @@ use Rattle.std.specs.Int.{IsInRange}
 use Rattle.tacho_time.specs.Reading.{digits_from, digits_at}
 use Rattle.tacho_time.specs.Text.{two_digits}
 
--- what one digit more spells
+-- the first byte c is a digit, and the rest cs continues to spell k
 record IsDigit (n c : ℕ) (cs : List ℕ) (k : ℕ) : Type 0 where
   low : 48 ≤ c
   high : c ≤ 57
   rest : digits_from (n * 10 + (c - 48)) cs ≡ Some k
 
--- the first byte of what is spelled is a digit
+-- if bytes spell a number, the first byte is a digit
 one_more : (n c : ℕ) (cs : List ℕ) (k : ℕ) → digits_from n (c ∷ cs) ≡ Some k → IsDigit n c cs k
 one_more n c cs k h = go (is_ascii_digit c) refl h where
   go : (b : Bool) → is_ascii_digit c ≡ b → cond b (digits_from (n * 10 + (c - 48)) cs) None ≡ Some k → IsDigit n c cs k
   go true e g = record { low = grind (arith, nat_tests); high = grind (arith, nat_tests); rest = g }
   go false e g = cc
 
--- two numbers that are both what was found
+-- two numbers in equal options are equal
 same_some : (a b : ℕ) → Some a ≡ Some b → a ≡ b
 same_some a b h = cc
 
@@ -36,7 +36,7 @@ pair_spelled (a ∷ b ∷ []) n len h =
     (ap (λ (x : ℕ). x ∷ b ∷ []) tens ∙ ap (λ (x : ℕ). (48 + n / 10) ∷ x ∷ []) ones, omega (arith, first.low, first.high, second.low, second.high))
 pair_spelled (a ∷ b ∷ c ∷ xs) n len h = absurd (omega arith)
 
--- four digits of a number, by their values
+-- four digits that have the value n are the digits of n
 four_bytes : (a b c d n : ℕ) → IsInRange 48 57 a → IsInRange 48 57 b → IsInRange 48 57 c → IsInRange 48 57 d → 1000 * (a - 48) + 100 * (b - 48) + 10 * (c - 48) + (d - 48) ≡ n → (a ∷ b ∷ c ∷ d ∷ [] ≡ two_digits (n / 100) ++ two_digits (n % 100)) × (n < 10000)
 four_bytes a b c d n w x y z value =
     let century : n / 100 ≡ 10 * (a - 48) + (b - 48) = omega (arith, w, x, y, z) in
@@ -67,18 +67,18 @@ four_spelled (a ∷ b ∷ c ∷ d ∷ []) n len h =
     four_bytes a b c d n (w.low, w.high) (x.low, x.high) (y.low, y.high) (z.low, z.high) value
 four_spelled (a ∷ b ∷ c ∷ d ∷ e ∷ xs) n len h = absurd (omega arith)
 
--- a digit is read before the others
+-- reading a digit appends it to the number so far
 digit_read : (n c : ℕ) (cs : List ℕ) → c < 10 → digits_from n ((48 + c) ∷ cs) ≡ digits_from (n * 10 + c) cs
 digit_read n c cs h =
     let digit : is_ascii_digit (48 + c) ≡ true = grind (arith, nat_tests) in
     let value : n * 10 + (48 + c - 48) ≡ n * 10 + c = omega arith in
     ap (λ b. cond b (digits_from (n * 10 + (48 + c - 48)) cs) None) digit ∙ ap (λ (k : ℕ). digits_from k cs) value
 
--- the two digits of a number spell it
+-- the two digits of a number are read as it
 pub pair_read : (n : ℕ) → n < 100 → digits_at (two_digits n) ≡ Some n
 pair_read n h = digit_read 0 (n / 10) ((48 + n % 10) ∷ []) (omega arith) ∙ digit_read (0 * 10 + n / 10) (n % 10) [] (omega arith) ∙ ap (λ (x : ℕ). Some x) (omega arith)
 
--- its four digits do too
+-- the four digits of a number are read as it
 pub four_read : (n : ℕ) → n < 10000 → digits_at (two_digits (n / 100) ++ two_digits (n % 100)) ≡ Some n
 four_read n h =
     let third = 48 + n % 100 / 10 in

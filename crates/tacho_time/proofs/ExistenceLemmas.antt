@@ -1,4 +1,4 @@
--- Spans in whatever order have a canonical list, or a first minute with two marks.
+-- Spans in any order have a canonical list, or a first minute with two marks.
 use Rattle.std.proofs.Common.{◌≡◌, ℕ, ◌<◌, ◌≤◌, ◌⊎◌, inl, inr, nat_le, Bool, true, false, cond, List, [], ◌∷◌, Result, Ok, Err, refl, arith}
 use Rattle.std.proofs.lemmas.Bool.Decides.{nat_tests}
 use Rattle.tacho_time.specs.declared.span.Span.{Span}
@@ -7,12 +7,12 @@ use Rattle.tacho_time.specs.Spans.{Gives, GiveSame, IsCanonicalOf, IsFirstConfli
 use Rattle.tacho_time.specs.Merge.{merged, IsMerged, is_full}
 use Rattle.tacho_time.proofs.CanonicalLemmas.{same_trans, same_behind, merged_means, moved_result}
 
--- a span, put where it belongs among spans in order
+-- inserts a span at its place among spans in order
 abbrev put : Span → List Span → List Span
 put s [] = s ∷ []
 put s (t ∷ ts) = cond (nat_le s.start t.start) (s ∷ t ∷ ts) (t ∷ put s ts)
 
--- they stay in order
+-- inserting keeps them in order
 put_starts : (n : ℕ) (s : Span) (ts : List Span) → n ≤ s.start → s.start < s.past → StartsFrom n ts → StartsFrom n (put s ts)
 put_starts n s [] l full h = (l, full, tt)
 put_starts n s (t ∷ ts) l full h = go (nat_le s.start t.start) refl (λ k. put_starts t.start s ts k full h.2) where
@@ -28,7 +28,7 @@ swapped_same s t ts m k = (swap, swap) where
   swap (inr (inl q)) = inl q
   swap (inr (inr r)) = inr (inr r)
 
--- wherever a span is put, the spans give the same
+-- inserting a span gives the same as prepending it
 put_same : (s : Span) (ts : List Span) → GiveSame (put s ts) (s ∷ ts)
 put_same s [] = λ m k. (λ g. g, λ g. g)
 put_same s (t ∷ ts) = go (nat_le s.start t.start) (put_same s ts) where
@@ -36,14 +36,14 @@ put_same s (t ∷ ts) = go (nat_le s.start t.start) (put_same s ts) where
   go true rest = λ m k. (λ g. g, λ g. g)
   go false rest = same_trans (t ∷ put s ts) (t ∷ s ∷ ts) (s ∷ t ∷ ts) (same_behind t (put s ts) (s ∷ ts) rest) (swapped_same s t ts)
 
--- with an empty span, spans give the same
+-- prepending an empty span changes nothing
 empty_same : (s : Span) (ss : List Span) → is_full s ≡ false → GiveSame ss (s ∷ ss)
 empty_same s ss e m k = (λ g. inr g, back) where
   back : Gives (s ∷ ss) m k → Gives ss m k
   back (inl c) = let l : s.past ≤ s.start = grind (arith, nat_tests) in absurd (omega (arith, l, c.0.0, c.0.1))
   back (inr g) = g
 
--- spans in order that give what spans give
+-- for any spans, there are spans in order that give the same
 ordered : (spans : List Span) → (xs : List Span) × StartsFrom 0 xs × GiveSame xs spans
 ordered [] = ([], tt, λ m k. (λ g. g, λ g. g))
 ordered (s ∷ ss) = go (is_full s) refl (ordered ss) where

@@ -19,7 +19,7 @@ its_minute = refl
 its_month : month_text 24290 ≡ codes "2024-03"
 its_month = refl
 
--- the last minute that may be read
+-- the last minute that can be read
 last_minute : minute_text 68374079 ≡ codes "2099-12-31 23:59"
 unfolding civil year_after month_after
 last_minute = refl
@@ -37,14 +37,14 @@ leap_text = refl
 leap_day : day_at (codes "2024-02-29") ≡ Ok 19782
 leap_day = (day_texts (codes "2024-02-29") 19782).1 (omega arith, omega arith, sym leap_text)
 
--- a day that isn't there, and a text of another shape
+-- a day that doesn't exist, and a text with another shape
 no_such_day : day_at (codes "2023-02-29") ≡ Err NoSuchDate
 no_such_day = refl
 
 other_shape : day_at (codes "2024-3-04") ≡ Err Shape
 other_shape = refl
 
--- an hour that isn't there
+-- an hour that doesn't exist
 no_such_hour : minute_at (codes "2024-03-04 24:00") ≡ Err NoSuchDate
 no_such_hour = refl
 

@@ -1,4 +1,4 @@
--- Written days, minutes and months are read back, and nothing else is read.
+-- The texts that are written for days, minutes and months are read back, and no other texts are read.
 use Rattle.std.proofs.Common.{◌≡◌, ℕ, ◌+◌, ◌-◌, ◌*◌, ◌/◌, ◌%◌, ◌<◌, ◌≤◌, ◌↔◌, ◌&&◌, ◌==◌, nat_le, Bool, true, false, cond, List, ◌∷◌, ◌++◌, length, take, drop, slice_index, codes, Option, None, Some, Result, Ok, Err, ℤ, pos, negsuc, refl, sym, ap, ◌∙◌, arith}
 use Rattle.std.proofs.lemmas.Bool.Decides.{nat_tests}
 use Rattle.std.proofs.lemmas.List.{take-append-drop, drop-drop, drop_more, length-take-le, length-drop}
@@ -18,21 +18,21 @@ use Rattle.tacho_time.proofs.CivilLemmas.{civil_number}
 use Rattle.tacho_time.proofs.DigitLemmas.{pair_spelled, four_spelled, pair_read, four_read}
 use Rattle.tacho_time.proofs.ReadLemmas.{date_test, same_number}
 
--- a date as it is written
+-- the text of a date
 abbrev written : ℕ → ℕ → ℕ → List ℕ
 written y m d = two_digits (y / 100) ++ two_digits (y % 100) ++ codes "-" ++ two_digits m ++ codes "-" ++ two_digits d
 
--- what a text is from a place on, up to a sign and behind it
+-- a text from place i on: n bytes, a separator, and the bytes after it
 piece : (xs : List ℕ) (i n c : ℕ) → i + n < length xs → slice_index xs (i + n) ≡ c → drop i xs ≡ take n (drop i xs) ++ c ∷ drop (i + n + 1) xs
 piece xs i n c h e =
     sym (take-append-drop n (drop i xs))
     ∙ ap (λ l. take n (drop i xs) ++ l) (drop-drop n i xs ∙ drop_more xs (i + n) 0 h ∙ ap (λ (k : ℕ). k ∷ drop (i + n + 1) xs) e)
 
--- the parts of a date, with their signs
+-- the parts of a date with the separators between them
 abbrev with_signs : List ℕ → List ℕ → List ℕ → List ℕ
 with_signs y m d = y ++ 45 ∷ (m ++ 45 ∷ d)
 
--- a text of ten bytes, by its parts and signs
+-- a text of ten bytes consists of its parts and separators
 ten_parts : (text : List ℕ) → length text ≡ 10 → slice_index text 4 ≡ 45 → slice_index text 7 ≡ 45 → text ≡ with_signs (take 4 text) (take 2 (drop 5 text)) (drop 8 text)
 ten_parts text len first second =
     piece text 0 4 45 (omega arith) first ∙ ap (λ l. take 4 text ++ 45 ∷ l) (piece text 5 2 45 (omega arith) second)
@@ -42,7 +42,7 @@ record Spells (text : List ℕ) (p : DateParts) : Type 0 where
   bytes : text ≡ written p.year p.month p.day
   year : p.year < 10000
 
--- a text with such parts spells them
+-- a text whose parts are read as these numbers spells them
 ten_spelled : (text : List ℕ) (p : DateParts) → length text ≡ 10 → slice_index text 4 ≡ 45 → slice_index text 7 ≡ 45 → digits_at (take 4 text) ≡ Some p.year → digits_at (take 2 (drop 5 text)) ≡ Some p.month → digits_at (drop 8 text) ≡ Some p.day → Spells text p
 ten_spelled text p len first second y m d =
     let behind = length-drop 5 text in
@@ -58,15 +58,15 @@ ten_spelled text p len first second y m d =
       year = year.1;
     }
 
--- ---- what was read
+-- ---- what a text was read as
 
--- the three numbers of a date
+-- the three numbers are present, and are the parts of the date
 record HasParts (y m d : Option ℕ) (p : DateParts) : Type 0 where
   year : y ≡ Some p.year
   month : m ≡ Some p.month
   day : d ≡ Some p.day
 
--- a date has its three numbers
+-- if a date was made of three numbers, they are its parts
 parts_are : (y m d : Option ℕ) (p : DateParts) → date_parts y m d ≡ Some p → HasParts y m d p
 parts_are (Some y) (Some m) (Some d) p h =
     let e : record { year = y; month = m; day = d } ≡ p = cc in
@@ -75,17 +75,17 @@ parts_are (Some y) (Some m) None p h = cc
 parts_are (Some y) None d p h = cc
 parts_are None m d p h = cc
 
--- what is told under a test alone
+-- a value that is present only if a test passes
 some_if : {X : Type 0} (b : Bool) (o : Option X) (x : X) → cond b o None ≡ Some x → (b ≡ true) × (o ≡ Some x)
 some_if true o x h = (refl, h)
 some_if false o x h = cc
 
--- what is answered under a test, and else a fault
+-- a value if a test passes, and a fault otherwise
 ok_if : (b : Bool) (r : Result ℕ TimeFault) (fault : TimeFault) (n : ℕ) → cond b r (Err fault) ≡ Ok n → (b ≡ true) × (r ≡ Ok n)
 ok_if true r fault n h = (refl, h)
 ok_if false r fault n h = cc
 
--- a length and two signs that pass the test
+-- the test of a length and two separators
 shape_is : (len size a x b y : ℕ) → (len == size) && (a == x) && (b == y) ≡ true → (len ≡ size) × (a ≡ x) × (b ≡ y)
 shape_is len size a x b y t = (grind (arith, nat_tests), grind (arith, nat_tests), grind (arith, nat_tests))
 
@@ -97,17 +97,17 @@ date_spelled text p h =
     let shape = shape_is (length text) 10 (slice_index text 4) 45 (slice_index text 7) 45 test.0 in
     ten_spelled text p shape.0 shape.1 shape.2 is.year is.month is.day
 
--- a day that may be read
+-- the integer z is the day n, which is in the range that can be read
 record IsRead (z : ℤ) (n : ℕ) : Type 0 where
   number : z ≡ pos n
   low : 10959 ≤ n
   high : n ≤ 47481
 
--- two answers that are equal have one number
+-- equal results have equal numbers
 same_ok : (a b : ℕ) → ◌≡◌ {A = Result ℕ TimeFault} (Ok a) (Ok b) → a ≡ b
 same_ok a b h = cc
 
--- what is read of a day number is that number, in range
+-- a day number is read as itself, if it is in range
 day_read : (z : ℤ) (n : ℕ) → read_day z ≡ Ok n → IsRead z n
 day_read (pos k) n h =
     let test : (nat_le 10959 k && nat_le k 47481 ≡ true) × (◌≡◌ {A = Result ℕ TimeFault} (Ok k) (Ok n)) = ok_if _ _ OutOfRange n h in
@@ -116,11 +116,11 @@ day_read (pos k) n h =
     record { number = ap pos same; low = grind (arith, nat_tests); high = grind (arith, nat_tests) }
 day_read (negsuc k) n h = cc
 
--- a month and a day that pass the test
+-- the test of a month and a day
 tested : (m d k : ℕ) → nat_le 1 m && nat_le m 12 && nat_le 1 d && nat_le d k ≡ true → IsInRange 1 12 m × IsInRange 1 k d
 tested m d k t = grind (arith, nat_tests)
 
--- no other date has the number
+-- a date with the number n is written as the day n
 civil_only : (y m d n : ℕ) → IsCivilDate (pos y) m d → n ≤ 47520 → days_from_civil (pos y) m d ≡ pos n → written y m d ≡ day_text n
 civil_only y m d n h l e =
     let c = civil_number n l in
@@ -131,7 +131,7 @@ civil_only y m d n h l e =
     ∙ ap (λ (k : ℕ). written (civil n).year k d) same.1
     ∙ ap (λ (k : ℕ). written (civil n).year (civil n).month k) same.2
 
--- a text of a date with a day is the text of that day
+-- a text that is read as a date, whose day is n, is the text of the day n
 day_back : (text : List ℕ) (p : DateParts) (n : ℕ) → date_at text ≡ Some p → day_of_date p.year p.month p.day ≡ Ok n → (10959 ≤ n) × (n ≤ 47481) × (text ≡ day_text n)
 day_back text p n h d =
     let spelled = date_spelled text p h in
@@ -142,20 +142,20 @@ day_back text p n h d =
     let same = civil_only p.year p.month p.day n (year, parts.0, parts.1) (let high = is.high in omega arith) is.number in
     (is.low, is.high, spelled.bytes ∙ same)
 
--- the parts of a date whose text has a day
+-- the parts are present, and their day is n
 record HasDay (o : Option DateParts) (n : ℕ) : Type 0 where
   parts : DateParts
   is : o ≡ Some parts
   day : day_of_date parts.year parts.month parts.day ≡ Ok n
 
--- a day comes of a date
+-- if a day was found, the date's parts are present
 has_day : (o : Option DateParts) (n : ℕ) → day_of_parts o ≡ Ok n → HasDay o n
 has_day (Some p) n h = record { parts = p; is = refl; day = h }
 has_day None n h = cc
 
--- ---- what is written
+-- ---- what a written text is read as
 
--- the text of a date is read as it
+-- the text of a date is read as that date
 date_read : (y m d : ℕ) → y < 10000 → m < 100 → d < 100 → date_at (written y m d) ≡ Some (record { year = y; month = m; day = d })
 date_read y m d hy hm hd =
     ap (λ (o : Option ℕ). date_parts o (digits_at (two_digits m)) (digits_at (two_digits d))) (four_read y hy)
@@ -166,7 +166,7 @@ date_read y m d hy hm hd =
 day_in_range : (n : ℕ) → 10959 ≤ n → n ≤ 47481 → read_day (pos n) ≡ Ok n
 day_in_range n low high = grind (arith, nat_tests)
 
--- the calendar's date of a day
+-- the parts of a day's date
 abbrev civil_parts : ℕ → DateParts
 civil_parts n = record { year = (civil n).year; month = (civil n).month; day = (civil n).day }
 
@@ -176,7 +176,7 @@ record IsWritten (n : ℕ) : Type 0 where
   dated : is_date (civil n).year (civil n).month (civil n).day ≡ true
   day : day_of_date (civil n).year (civil n).month (civil n).day ≡ Ok n
 
--- the text of a day in range is read as it
+-- the text of a day in range is read as that day
 day_written : (n : ℕ) → 10959 ≤ n → n ≤ 47481 → IsWritten n
 day_written n low high =
     let c = civil_number n (omega arith) in
@@ -202,7 +202,7 @@ day_texts text n = (there, back) where
 
 -- ---- minutes
 
--- the day and the time of a minute that was read
+-- the day and the time that make up a minute
 record HasTime (date : Option DateParts) (hours minutes : Option ℕ) (n : ℕ) : Type 0 where
   parts : DateParts
   day : ℕ
@@ -216,23 +216,23 @@ record HasTime (date : Option DateParts) (hours minutes : Option ℕ) (n : ℕ) 
   within : minute < 60
   number : 1440 * day + 60 * hour + minute ≡ n
 
--- a minute of a day that was read
+-- the day was read, and the minute n is at this time of it
 record OfDay (r : Result ℕ TimeFault) (hour minute n : ℕ) : Type 0 where
   day : ℕ
   is : r ≡ Ok day
   number : 1440 * day + 60 * hour + minute ≡ n
 
--- a minute comes of a day
+-- if a minute was found, the day was read
 of_day : (r : Result ℕ TimeFault) (hour minute n : ℕ) → minute_of_day r hour minute ≡ Ok n → OfDay r hour minute n
 of_day (Ok day) hour minute n h = record { day = day; is = refl; number = same_ok (1440 * day + 60 * hour + minute) n h }
 of_day (Err fault) hour minute n h = cc
 
--- an hour and a minute that pass the test
+-- the test of an hour and a minute
 time_is : (dated : Bool) (hour minute : ℕ) → dated && is_time hour minute ≡ true → (hour < 24) × (minute < 60)
 time_is true hour minute t = (grind (arith, nat_tests), grind (arith, nat_tests))
 time_is false hour minute t = cc
 
--- a minute comes of a date and a time
+-- if a minute was found, its date and its time are present
 has_time : (date : Option DateParts) (hours minutes : Option ℕ) (n : ℕ) → minute_of_parts date hours minutes ≡ Ok n → HasTime date hours minutes n
 has_time (Some p) (Some hour) (Some minute) n h =
     let dated = is_date p.year p.month p.day in
@@ -244,11 +244,11 @@ has_time (Some p) (Some hour) None n h = cc
 has_time (Some p) None minutes n h = cc
 has_time None hours minutes n h = cc
 
--- the parts of a minute, with their signs
+-- the parts of a minute with the separators between them
 abbrev with_time : List ℕ → List ℕ → List ℕ → List ℕ
 with_time date hour minute = date ++ 32 ∷ (hour ++ 58 ∷ minute)
 
--- a text of sixteen bytes, by its parts and signs
+-- a text of sixteen bytes consists of its parts and separators
 sixteen_parts : (text : List ℕ) → length text ≡ 16 → slice_index text 10 ≡ 32 → slice_index text 13 ≡ 58 → text ≡ with_time (take 10 text) (take 2 (drop 11 text)) (drop 14 text)
 sixteen_parts text len blank colon =
     piece text 0 10 32 (omega arith) blank ∙ ap (λ l. take 10 text ++ 32 ∷ l) (piece text 11 2 58 (omega arith) colon)
@@ -275,11 +275,11 @@ minute_back text n len blank colon t =
           ∙ ap (λ l. with_time (day_text (n / 1440)) (two_digits (n % 1440 / 60)) l) (minute.0 ∙ ap two_digits minutes),
     )
 
--- an hour and a minute of a day pass the test
+-- an hour below 24 and a minute below 60 pass the test
 time_test : (hour minute : ℕ) → hour < 24 → minute < 60 → is_time hour minute ≡ true
 time_test hour minute early within = grind (arith, nat_tests)
 
--- a date with a day and a time of it have a minute
+-- a date that has a day, with a time of day, is read as a minute
 parts_read : (p : DateParts) (day hour minute : ℕ) → is_date p.year p.month p.day ≡ true → day_of_date p.year p.month p.day ≡ Ok day → hour < 24 → minute < 60 → minute_of_parts (Some p) (Some hour) (Some minute) ≡ Ok (1440 * day + 60 * hour + minute)
 parts_read p day hour minute dated is early within =
     let time = time_test hour minute early within in
@@ -287,7 +287,7 @@ parts_read p day hour minute dated is early within =
     ∙ ap (λ b. cond b (minute_of_day (day_of_date p.year p.month p.day) hour minute) (Err NoSuchDate)) time
     ∙ ap (λ (r : Result ℕ TimeFault). minute_of_day r hour minute) is
 
--- the text of a minute in range is read as it
+-- the text of a minute in range is read as that minute
 minute_written : (n : ℕ) → 15780960 ≤ n → n ≤ 68374079 → minute_at (minute_text n) ≡ Ok n
 minute_written n low high =
     let day = n / 1440 in
@@ -315,7 +315,7 @@ minute_texts text n = (there, back) where
 
 -- ---- months
 
--- the year and the month that a month was read from
+-- the year and the month of the year that make up a month
 record HasMonth (years months : Option ℕ) (n : ℕ) : Type 0 where
   year : ℕ
   month : ℕ
@@ -327,14 +327,14 @@ record HasMonth (years months : Option ℕ) (n : ℕ) : Type 0 where
   last : month ≤ 12
   number : 12 * year + (month - 1) ≡ n
 
--- a number between two others passes the test, and no other does
+-- the test of a range passes exactly for the numbers in it
 between : (low n high : ℕ) → nat_le low n && nat_le n high ≡ true → (low ≤ n) × (n ≤ high)
 between low n high t = (grind (arith, nat_tests), grind (arith, nat_tests))
 
 between_test : (low n high : ℕ) → low ≤ n → n ≤ high → nat_le low n && nat_le n high ≡ true
 between_test low n high l h = grind (arith, nat_tests)
 
--- a month comes of a year and a month of the year
+-- if a month was found, its year and its month of the year are present
 has_month : (years months : Option ℕ) (n : ℕ) → month_of_parts years months ≡ Ok n → HasMonth years months n
 has_month (Some year) (Some month) n h =
     let dated = ok_if (is_month month) (cond (nat_le 2000 year && nat_le year 2099) (Ok (month_number year month)) (Err OutOfRange)) NoSuchDate n h in
@@ -365,7 +365,7 @@ month_back text n len sign t =
           ∙ ap (λ l. (two_digits (n / 12 / 100) ++ two_digits (n / 12 % 100)) ++ 45 ∷ l) (month.0 ∙ ap two_digits months),
     )
 
--- the text of a month in range is read as it
+-- the text of a month in range is read as that month
 month_written : (n : ℕ) → 24000 ≤ n → n < 25200 → month_at (month_text n) ≡ Ok n
 month_written n low high =
     let year = n / 12 in
@@ -377,7 +377,7 @@ month_written n low high =
     ∙ ap (λ b. cond b (Ok (month_number year month)) (Err OutOfRange)) (between_test 2000 year 2099 (omega arith) (omega arith))
     ∙ ap (λ (k : ℕ). Ok k) number
 
--- a length and a sign that pass the test
+-- the test of a length and a separator
 month_shape : (len size a x : ℕ) → (len == size) && (a == x) ≡ true → (len ≡ size) × (a ≡ x)
 month_shape len size a x t = (grind (arith, nat_tests), grind (arith, nat_tests))
 

@@ -1,6 +1,6 @@
--- Trusted: Want of memory, which may come in place of any other answer.
+-- Trusted: Out of memory, which a function may return in place of any other result.
 use Rattle.std.specs.Prelude.{◌≡◌, ◌⊎◌}
 
--- the fault is want of memory, or it is as wanted
+-- the fault is out of memory, or the given statement holds
 abbrev pub OrMemory : {F : Type 0} → F → F → Type 0 → Type 0
 OrMemory memory fault Wanted = (fault ≡ memory) ⊎ Wanted

@@ -19,23 +19,23 @@ day_text n =
 abbrev pub minute_text : ℕ → List ℕ
 minute_text n = day_text (n / 1440) ++ codes " " ++ two_digits (n % 1440 / 60) ++ codes ":" ++ two_digits (n % 60)
 
--- `YYYY-MM`, of a month by its number: twelve times its year, and how many months of the year come before it
+-- `YYYY-MM`, of a month by its number: twelve times its year, and the number of months of that year before it
 abbrev pub month_text : ℕ → List ℕ
 month_text n = two_digits (n / 12 / 100) ++ two_digits (n / 12 % 100) ++ codes "-" ++ two_digits (n % 12 + 1)
 
--- the word of an activity
+-- the name of an activity
 abbrev pub activity_name : Activity → List ℕ
 activity_name Rest = codes "rest"
 activity_name Available = codes "available"
 activity_name Work = codes "work"
 activity_name Drive = codes "drive"
 
--- the word of a second driver, or of none
+-- `crew` if there is a second driver, else `single`
 abbrev pub manning_name : Bool → List ℕ
 manning_name true = codes "crew"
 manning_name false = codes "single"
 
--- start, past, activity and manning, with blanks between, and a line feed
+-- start, past, activity and manning, with spaces between them, and a line feed
 abbrev pub span_line : Span → List ℕ
 span_line s =
     minute_text s.start ++ codes " " ++ minute_text s.past ++ codes " "

@@ -11,7 +11,7 @@ use std::alloc::{AllocError, Global};
 pub enum SpanFault {
     /// The least minute with two marks.
     Contradiction(Minute),
-    /// There is no memory for it.
+    /// Out of memory.
     Memory,
 }
 
@@ -26,7 +26,7 @@ impl From<AllocError> for SpanFault {
     }
 }
 
-/// The runs of spans in order of their starts.
+/// Merges spans in order of their starts into runs.
 fn merge(alloc: Global, spans: &[Span]) -> Result<Vec<Span>, SpanFault>
     ensures { MatchResult result (λ runs. merged spans.now ≡ Ok runs.items) (λ fault. IsMergeFault fault (merged spans.now)) }
 {
@@ -49,7 +49,7 @@ fn merge(alloc: Global, spans: &[Span]) -> Result<Vec<Span>, SpanFault>
     Ok(runs)
 }
 
-/// Adds a run.
+/// Appends a run.
 fn add(runs: &mut Vec<Span>, run: Span) -> Result<(), AllocError>
     ensures { OnOk result (runs.new.items ≡ runs.old.items ++ run ∷ []) }
 {
@@ -57,14 +57,14 @@ fn add(runs: &mut Vec<Span>, run: Span) -> Result<(), AllocError>
     Ok(())
 }
 
-/// Whether a span begins a run of its own.
+/// Returns true if a span doesn't join the last run.
 fn starts_anew(last: &Span, span: &Span) -> bool
     ensures { result ≡ is_apart last.now span.now }
 {
     last.past < span.start || (last.past == span.start && !span.mark.is_same(last.mark))
 }
 
-/// The run, to the end of a span.
+/// Extends the run to the end of a span.
 fn stretch(last: &Span, span: &Span) -> Span
     ensures { result ≡ stretched last.now span.now }
 {
@@ -75,7 +75,7 @@ fn stretch(last: &Span, span: &Span) -> Span
     }
 }
 
-/// The canonical list of spans, of which none starts before the one before it.
+/// Returns the canonical list of spans, none of which is empty or starts before its predecessor.
 fn merge_ordered(alloc: Global, spans: &[Span]) -> Result<Vec<Span>, SpanFault>
     requires { StartsFrom 0 spans.now }
     ensures { MatchResult result (λ runs. IsCanonical runs.items × GiveSame runs.items spans.now) (IsFirstFault (Gives spans.now)) }
@@ -83,8 +83,8 @@ fn merge_ordered(alloc: Global, spans: &[Span]) -> Result<Vec<Span>, SpanFault>
     merge(alloc, spans)
 }
 
-/// The canonical list of what spans give: in order, disjoint, none empty, and two that touch have
-/// different marks. The spans come in any order, and may overlap or be empty.
+/// Returns the canonical list of what spans give: in order, disjoint, none empty; two that touch have different marks. The spans may come
+/// in any order, overlap, or be empty.
 pub fn canonical_spans(alloc: Global, spans: &[Span]) -> Result<Vec<Span>, SpanFault>
     ensures { MatchResult result (λ runs. IsCanonicalOf (Gives spans.now) runs.items) (IsFirstFault (Gives spans.now)) }
 {
@@ -95,7 +95,7 @@ pub fn canonical_spans(alloc: Global, spans: &[Span]) -> Result<Vec<Span>, SpanF
     }
 }
 
-/// Whether no span is empty, and none starts before the one before it, as those of a card mostly are.
+/// Returns true if no span is empty and none starts before its predecessor. Most spans of a card are like that.
 fn are_in_order(spans: &[Span]) -> bool
     ensures { IsTrue result → StartsFrom 0 spans.now }
 {
@@ -109,7 +109,7 @@ fn are_in_order(spans: &[Span]) -> bool
     true
 }
 
-/// The canonical list of spans in any order.
+/// Returns the canonical list of spans in any order.
 fn merge_in_order(alloc: Global, spans: &[Span]) -> Result<Vec<Span>, SpanFault>
     ensures { MatchResult result (λ runs. IsCanonicalOf (Gives spans.now) runs.items) (IsFirstFault (Gives spans.now)) }
 {
@@ -118,7 +118,7 @@ fn merge_in_order(alloc: Global, spans: &[Span]) -> Result<Vec<Span>, SpanFault>
     merge_ordered(alloc, &full)
 }
 
-/// The spans that are not empty.
+/// Returns the spans that aren't empty.
 fn full_spans(alloc: Global, spans: &[Span]) -> Result<Vec<Span>, AllocError>
     ensures { IfOk result (λ full. full.items ≡ filter is_full spans.now) }
 {

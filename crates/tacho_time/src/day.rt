@@ -22,7 +22,7 @@ impl Model for Day {
 }
 
 impl Day {
-    /// The day with that number.
+    /// Returns the day with this number.
     pub fn new(number: u32) -> Day
         requires { number ≤ 47520 }
         ensures { result ≡ number }
@@ -30,7 +30,7 @@ impl Day {
         Day { number }
     }
 
-    /// Its number.
+    /// Returns the day's number.
     pub fn number(self) -> u32
         ensures value { result ≡ self }
         ensures bound { result ≤ 47520 }

@@ -3,41 +3,39 @@ ghost use Rattle.std.specs.Io.KnownBytes.{ReadConsumes, WriteAppends};
 
 use std::io::{Read, Write};
 
-/// A reader or a writer has failed.
+/// A reader or writer has failed.
 #[derive(Clone, Copy, Debug, PartialEq, Eq)]
 pub struct Failed;
 
 /// Where bytes come from.
 pub trait Source {
-    /// The bytes that are unread, where they are known.
+    /// The unread bytes, if they are known.
     ghost unread: { Self → Option (List ℕ) };
 
-    /// Whether a call has failed.
+    /// True if a call has failed.
     ghost has_failed: { Self → Bool };
 
-    /// Takes some bytes to the front of the buffer, and answers how many. None, for a buffer that
-    /// isn't empty, is the input's end.
+    /// Reads some bytes into the front of the buffer and returns their number. For a buffer that isn't empty, 0 means the end of the input.
     fn take(&mut self, buffer: &mut [u8]) -> Result<usize, Failed>
         ensures bound { IfOk result (λ n. n ≤ length buffer.new) }
         ensures bytes { ReadConsumes (unread self.old) (unread self.new) result buffer.new }
         ensures failed { has_failed self.new ≡ is_err result }
         ensures stays { has_failed self.old ≡ true → IsErr result };
 
-    /// Whether a call has failed: every later one then fails too.
+    /// Returns true if a call has failed. Every later call then fails too.
     fn failed(&self) -> bool
         ensures { result ≡ has_failed self.now };
 }
 
 /// Where bytes go.
 pub trait Sink {
-    /// The bytes that were given, where they are known.
+    /// The bytes given so far, if they are known.
     ghost written: { Self → Option (List ℕ) };
 
-    /// Whether a call has failed.
+    /// True if a call has failed.
     ghost has_failed: { Self → Bool };
 
-    /// Gives some bytes from the front of the buffer, and answers how many: at least one, if it isn't
-    /// empty.
+    /// Writes some bytes from the front of the buffer and returns their number: at least one, unless the buffer is empty.
     fn give(&mut self, buffer: &[u8]) -> Result<usize, Failed>
         ensures bound { IfOk result (λ n. n ≤ length buffer.now) }
         ensures some { IfOk result (λ n. 0 < length buffer.now → 0 < n) }
@@ -45,13 +43,13 @@ pub trait Sink {
         ensures failed { has_failed self.new ≡ is_err result }
         ensures stays { has_failed self.old ≡ true → IsErr result };
 
-    /// Whether a call has failed: every later one then fails too.
+    /// Returns true if a call has failed. Every later call then fails too.
     fn failed(&self) -> bool
         ensures { result ≡ has_failed self.now };
 }
 
-/// A source or a sink over a reader or a writer of std, one call for one. A call that is interrupted
-/// and a write that takes none of some bytes count as failed.
+/// A source or sink over a reader or writer of std. Each call makes one call of std. An interrupted call counts as failed, and so does a
+/// write that takes none of the bytes.
 #[derive(Drop)]
 pub struct Device<T> {
     inner: T,
@@ -62,7 +60,7 @@ impl<T> Device<T> {
     ghost use Rattle.std.specs.Prelude.{◌≡◌, false};
     ghost use Rattle.tacho_time.specs.Device.{device_inner, device_failed};
 
-    /// A device that has not failed.
+    /// Returns a device that has not failed.
     pub fn new(inner: T) -> Device<T>
         ensures inner { device_inner result ≡ inner }
         ensures fresh { device_failed result ≡ false }
@@ -73,7 +71,7 @@ impl<T> Device<T> {
         }
     }
 
-    /// The reader or writer.
+    /// Returns the reader or writer.
     pub fn into_inner(self) -> T
         ensures { result ≡ device_inner self }
     {

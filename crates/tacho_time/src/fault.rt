@@ -1,9 +1,9 @@
 use thiserror::Error;
 
-/// Why a text is not read as a day, a minute or a month. The first that fits is told.
+/// Why a text isn't read as a day, a minute or a month. If several apply, the first is reported.
 #[derive(Clone, Copy, Debug, PartialEq, Eq, Error)]
 pub enum TimeFault {
-    /// Z1: not these digits and signs.
+    /// Z1: not the digits and separators of this form.
     #[error("not of the shape")]
     Shape,
     /// Z2: no such month, day of the Gregorian calendar, hour or minute.

@@ -1,4 +1,4 @@
-//! Laws about time and spans. A law is a function without a body: what it ensures is proved, and holds for all that it names.
+//! Laws about time and spans. A law is a function without a body: its `ensures` clause is proved, and holds for all values that it names.
 
 ghost use Rattle.std.specs.Prelude.{◌≡◌, ◌⊎◌, ℕ, ◌+◌, ◌%◌, ◌<◌, ◌≤◌, ◌↔◌, pos, List, Ok};
 ghost use Rattle.jiff_core.specs.Date.{epoch_day, weekday_of};
@@ -11,12 +11,12 @@ ghost use Rattle.tacho_time.specs.Reading.{day_at, minute_at, month_at};
 ghost use Rattle.tacho_time.specs.Spans.{Gives, IsCanonical, IsCanonicalOf, GiveSame, IsFirstConflict};
 ghost use Rattle.tacho_time.specs.Text.{day_text, minute_text, month_text};
 
-/// The date that is written of a day is the one that the calendar has at that number.
+/// The date that is written for a day is the calendar's date with that number.
 pub fn civil_dates()
     ensures { (n : ℕ) → n ≤ 47520 → HasNumber (civil n) n }
 {}
 
-/// The weekday that `weekday` gives for a day is that of the calendar's date with its number.
+/// The weekday that `weekday` gives for a day is that of the calendar's date with this number.
 pub fn weekday_of_dates()
     ensures { (date : Date) (n : ℕ) (given : Weekday) → epoch_day date ≡ pos n → monday_zero given ≡ (n + 3) % 7
         → monday_zero given ≡ weekday_of date }
@@ -37,7 +37,7 @@ pub fn month_is_read_back()
     ensures { (text : List ℕ) (n : ℕ) → (month_at text ≡ Ok n) ↔ ((24000 ≤ n) × (n < 25200) × (text ≡ month_text n)) }
 {}
 
-/// Lists that are canonical and give the same are the same, so a set of pairs has one canonical list.
+/// Canonical lists that give the same are equal. So a set of pairs has at most one canonical list.
 pub fn one_canonical_list()
     ensures { (xs ys : List Span) → IsCanonical xs → IsCanonical ys → GiveSame xs ys → xs ≡ ys }
 {}

@@ -1,4 +1,4 @@
-//! Minutes, days, marks and spans, their texts, and the streams that bytes come from and go to.
+//! Minutes, days, marks and spans, their texts, and streams to read bytes from and write bytes to.
 #![tactic(auto)]
 
 mod canonical;

@@ -1,5 +1,5 @@
-//! Lines of spans, put together as bytes. The text of the last minute is kept, since a span mostly begins at the minute at which the one
-//! before ended, and ends on the day on which it begins.
+//! Lines of spans, written as bytes. The text of the last minute is kept, since most spans begin at the minute at which the previous one
+//! ended, and end on the day on which they began.
 
 ghost use Rattle.std.specs.Prelude.{◌≡◌, ◌<◌, ◌++◌, ◌/◌, codes, flat_map, IfOk, OnOk, OnErr};
 ghost use Rattle.tacho_time.specs.Text.{two_digits, minute_text, activity_name, manning_name, span_line};
@@ -11,12 +11,12 @@ use crate::text::DAYS_TO_EPOCH;
 use jiff_core::civil::Date;
 use std::alloc::{AllocError, Global};
 
-/// How many bytes a line has at the most, and for how many spans room is taken before the first: more than a card file has.
+/// The most bytes that a line has, and the most spans for which memory is reserved at the start: more than a card file has.
 const LINE: usize = 51;
 
 const MOST: usize = 65_535;
 
-/// A minute, its day, and its text with a blank behind it.
+/// A minute, its day, and its text with a space after it.
 #[derive(Clone, Copy)]
 struct MinuteText {
     minute: Minute,
@@ -74,7 +74,7 @@ impl MinuteText {
         }
     }
 
-    /// Becomes the text of another minute. Of one on the same day the time alone is written.
+    /// Changes to another minute. On the same day, only the time is written again.
     fn turn(&mut self, minute: Minute)
         ensures { self.new.minute ≡ minute }
     {
@@ -97,7 +97,7 @@ impl MinuteText {
     }
 }
 
-/// Appends the end of a line: activity and manning, with a blank between.
+/// Appends the end of a line: activity and manning, with a space between them, and a line feed.
 fn push_mark(text: &mut Vec<u8>, mark: Mark) -> Result<(), AllocError>
     ensures { OnOk result (text.new.items ≡ text.old.items
         ++ activity_name mark.activity ++ codes " " ++ manning_name mark.crew ++ codes "\n") }
@@ -114,7 +114,7 @@ fn push_mark(text: &mut Vec<u8>, mark: Mark) -> Result<(), AllocError>
     }
 }
 
-/// Appends the line of a span, by the text of a minute that is kept: mostly that of its start, and then that of its past.
+/// Appends the line of a span. `last` keeps the text of a minute, which mostly is that of the span's start; it is then that of its past.
 fn push_line(text: &mut Vec<u8>, last: &mut MinuteText, span: &Span) -> Result<(), AllocError>
     ensures { OnOk result (text.new.items ≡ text.old.items ++ span_line span.now) }
 {
@@ -126,7 +126,7 @@ fn push_line(text: &mut Vec<u8>, last: &mut MinuteText, span: &Span) -> Result<(
     Ok(())
 }
 
-/// The lines of spans: start, past, activity and manning, with blanks between, and a line feed.
+/// Returns the lines of spans: start, past, activity and manning, with spaces between them, and a line feed.
 pub fn span_lines(alloc: Global, spans: &[Span]) -> Result<Vec<u8>, AllocError>
     ensures { IfOk result (λ text. text.items ≡ flat_map span_line spans.now) }
 {

@@ -23,7 +23,7 @@ impl Model for Minute {
 }
 
 impl Minute {
-    /// The minute with that number.
+    /// Returns the minute with this number.
     pub fn new(number: u32) -> Minute
         requires { number ≤ 68428800 }
         ensures { result ≡ number }
@@ -31,7 +31,7 @@ impl Minute {
         Minute { number }
     }
 
-    /// Its number.
+    /// Returns the minute's number.
     pub fn number(self) -> u32
         ensures value { result ≡ self }
         ensures bound { result ≤ 68428800 }
@@ -39,14 +39,14 @@ impl Minute {
         self.number
     }
 
-    /// The day that it lies in.
+    /// Returns the day that contains the minute.
     pub fn day(self) -> Day
         ensures { result ≡ self / 1440 }
     {
         Day::new(self.number / 1440)
     }
 
-    /// How many minutes of its day came before it.
+    /// Returns how many minutes of the same day come before it.
     pub fn of_day(self) -> u32
         ensures { result ≡ self % 1440 }
     {

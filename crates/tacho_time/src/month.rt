@@ -8,8 +8,7 @@ use crate::read;
 use jiff_core::civil::Date;
 use std::marker::Model;
 
-/// A month of the years 2000 to 2099, by its number: twelve times its year, and how many months of
-/// the year come before it.
+/// A month of the years 2000 to 2099, by its number: twelve times its year, and the number of months of that year before it.
 #[derive(Clone, Copy, Debug, PartialEq, Eq, PartialOrd, Ord)]
 pub struct Month {
     number: u32,
@@ -50,14 +49,14 @@ impl Month {
         })
     }
 
-    /// Its year, from 2000 to 2099.
+    /// Returns the month's year, from 2000 to 2099.
     pub fn year(self) -> u32
         ensures { result ≡ self / 12 }
     {
         self.number / 12
     }
 
-    /// Its number in the year, from 1 for January.
+    /// Returns the month's number in its year, from 1 for January.
     pub fn month(self) -> u32
         ensures { result ≡ self % 12 + 1 }
     {
@@ -65,7 +64,7 @@ impl Month {
     }
 }
 
-/// The minutes of a month: from the first of its first day to before the first of the next month.
+/// Returns the minutes of a month: the first minute of its first day, and that of the next month's first day, which is no longer in it.
 pub fn month_range(month: Month) -> (Minute, Minute)
     ensures start { pos result.0 ≡ pos 1440 *ℤ month_start month }
     ensures past { pos result.1 ≡ pos 1440 *ℤ month_start (month + 1) }
@@ -76,7 +75,7 @@ pub fn month_range(month: Month) -> (Minute, Minute)
     (Minute::new(1440 * start), Minute::new(1440 * past))
 }
 
-/// The first day of the month with that number, also of the one after the last.
+/// Returns the first day of the month with this number. The number may also be that of the month after the last one.
 fn first_day(number: u32) -> Day
     requires low { 24000 ≤ number }
     requires high { number ≤ 25200 }

@@ -6,7 +6,7 @@ use crate::fault::TimeFault;
 use crate::minute::Minute;
 use jiff_core::civil::Date;
 
-/// A date as it is written: its year, month and day.
+/// The year, month and day of a date, as they were written. The calendar may not have it.
 #[derive(Clone, Copy)]
 pub(crate) struct DateParts {
     year: u16,
@@ -14,7 +14,7 @@ pub(crate) struct DateParts {
     day: u16,
 }
 
-/// The number that at most four digits spell.
+/// Returns the number that at most four digits spell.
 pub(crate) fn digits(text: &[u8]) -> Option<u16>
     requires { length text.now ≤ 4 }
     ensures value { result ≡ digits_at text.now }
@@ -30,7 +30,7 @@ pub(crate) fn digits(text: &[u8]) -> Option<u16>
     Some(number)
 }
 
-/// The date of ten bytes `YYYY-MM-DD`, whether the calendar has it or not.
+/// Reads ten bytes `YYYY-MM-DD`, whether or not the calendar has that date.
 pub(crate) fn date_parts(text: &[u8]) -> Option<DateParts>
     ensures value { result ≡ date_at text.now }
     ensures bound { IfSome result AreWritten }
@@ -44,7 +44,7 @@ pub(crate) fn date_parts(text: &[u8]) -> Option<DateParts>
     Some(DateParts { year, month, day })
 }
 
-/// The day of a date, if there is one that may be read.
+/// Returns the day of a date, if the date exists and is in the range that can be read.
 pub(crate) fn day_of_date(date: DateParts) -> Result<Day, TimeFault>
     requires { AreWritten date }
     ensures { result ≡ date_day date.year date.month date.day }
@@ -60,7 +60,7 @@ pub(crate) fn day_of_date(date: DateParts) -> Result<Day, TimeFault>
     Ok(Day::new(number as u32))
 }
 
-/// The minute of a date and a time of the day, if there is one that may be read.
+/// Returns the minute of a date and a time of day, if they exist and are in the range that can be read.
 pub(crate) fn minute_of_parts(date: DateParts, hour: u16, minute: u16) -> Result<Minute, TimeFault>
     requires { AreWritten date }
     ensures { result ≡ parts_minute (Some date) (Some hour) (Some minute) }

@@ -31,12 +31,12 @@ impl Activity {
     }
 }
 
-/// What is known of a minute.
+/// What is recorded for a minute.
 #[derive(Clone, Copy, Debug, PartialEq, Eq)]
 pub struct Mark {
     /// What the driver did.
     pub activity: Activity,
-    /// Whether there was a second driver (crew), or this one alone (single).
+    /// True if there was a second driver (crew), false if the driver was alone (single).
     pub crew: bool,
 }
 
@@ -48,7 +48,7 @@ impl Mark {
         if self.crew { "crew" } else { "single" }
     }
 
-    /// Whether it is the same as another mark.
+    /// Returns true if the marks are the same.
     pub fn is_same(self, other: Mark) -> bool
         ensures { result ≡ same_mark self other }
     {
@@ -56,7 +56,7 @@ impl Mark {
     }
 }
 
-/// The minutes from `start` to before `past`, with their mark. It may be empty.
+/// The minutes from `start` to before `past`, with one mark. A span may be empty.
 #[derive(Clone, Copy, Debug, PartialEq, Eq)]
 pub struct Span {
     pub start: Minute,

@@ -10,7 +10,7 @@ use jiff_core::civil::Date;
 use std::alloc::{AllocError, Global};
 use std::fmt;
 
-/// A line while it is put together: none here is longer.
+/// A buffer for one line. No line of this crate is longer.
 pub type Line = ArrayString<64>;
 
 /// How many days before 1970-01-01 the calendar of `jiff` begins.
@@ -53,7 +53,7 @@ fn push_minute(line: &mut Line, minute: Minute)
     push_two_digits(line, minute.number() % 60);
 }
 
-/// A day as `YYYY-MM-DD`, without memory.
+/// Returns a day as `YYYY-MM-DD`, without allocating memory.
 pub fn day_line(day: Day) -> Line
     ensures text { result.bytes ≡ day_text day }
     ensures len { array_string_len result ≡ 10 }
@@ -63,7 +63,7 @@ pub fn day_line(day: Day) -> Line
     line
 }
 
-/// A minute as `YYYY-MM-DD HH:MM`, in UTC, without memory.
+/// Returns a minute as `YYYY-MM-DD HH:MM`, in UTC, without allocating memory.
 pub fn minute_line(minute: Minute) -> Line
     ensures text { result.bytes ≡ minute_text minute }
     ensures len { array_string_len result ≡ 16 }
@@ -89,7 +89,7 @@ pub fn write_minute(text: &mut String, minute: Minute) -> Result<(), AllocError>
     text.push_str(minute_line(minute).as_str())
 }
 
-/// Appends the line of a span: start, past, activity and manning, with blanks between, and a line feed.
+/// Appends the line of a span: start, past, activity and manning, with spaces between them, and a line feed.
 pub fn write_span(text: &mut String, span: &Span) -> Result<(), AllocError>
     ensures ok { OnOk result (string_bytes text.new ≡ string_bytes text.old ++ span_line span.now) }
     ensures err { OnErr result (string_bytes text.new ≡ string_bytes text.old) }

@@ -9,7 +9,7 @@ use std::marker::Model;
 /// The first minute of week 0: 1970-01-05 was a Monday.
 const FIRST_MONDAY: u32 = 5760;
 
-/// How many minutes a week has.
+/// The number of minutes in a week.
 const MINUTES_OF_WEEK: u32 = 10_080;
 
 /// A week from Monday 00:00 to Sunday 24:00 UTC, by its number from that of 1970-01-05 (week 0) to
@@ -30,7 +30,7 @@ impl Model for Week {
 }
 
 impl Week {
-    /// The week with that number.
+    /// Returns the week with this number.
     pub fn new(number: u32) -> Week
         requires { number ≤ 6788 }
         ensures { result ≡ number }
@@ -38,7 +38,7 @@ impl Week {
         Week { number }
     }
 
-    /// Its number.
+    /// Returns the week's number.
     pub fn number(self) -> u32
         ensures value { result ≡ self }
         ensures bound { result ≤ 6788 }
@@ -47,7 +47,7 @@ impl Week {
     }
 }
 
-/// The week that a minute lies in, from 1970-01-05 00:00 on.
+/// Returns the week that contains a minute. The minute is 1970-01-05 00:00 or later.
 pub fn week_of(minute: Minute) -> Week
     requires { 5760 ≤ minute }
     ensures from { 5760 + 10080 * result ≤ minute }
@@ -56,14 +56,14 @@ pub fn week_of(minute: Minute) -> Week
     Week::new((minute.number() - FIRST_MONDAY) / MINUTES_OF_WEEK)
 }
 
-/// The first minute of a week: its Monday's 00:00.
+/// Returns the first minute of a week: its Monday at 00:00.
 pub fn first_minute(week: Week) -> Minute
     ensures { result ≡ 5760 + 10080 * week }
 {
     Minute::new(FIRST_MONDAY + MINUTES_OF_WEEK * week.number())
 }
 
-/// The week after.
+/// Returns the next week.
 pub fn next_week(week: Week) -> Week
     requires { week < 6788 }
     ensures { result ≡ week + 1 }
@@ -71,7 +71,7 @@ pub fn next_week(week: Week) -> Week
     Week::new(week.number() + 1)
 }
 
-/// The day of the week of a day: day 0 was a Thursday.
+/// Returns the weekday of a day. Day 0 was a Thursday.
 pub fn weekday(day: Day) -> Weekday
     ensures { monday_zero result ≡ (day + 3) % 7 }
 {

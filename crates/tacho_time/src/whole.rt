@@ -5,31 +5,31 @@ ghost use Rattle.tacho_time.specs.declared.whole.ReadFault.{ReadFault};
 use crate::device::{Failed, Sink, Source};
 use std::alloc::{AllocError, Global};
 
-/// How many bytes are asked for in one call.
+/// How many bytes one call asks for.
 const CHUNK: usize = 4096;
 
-/// Why an input was not read.
+/// Why an input couldn't be read.
 #[derive(Clone, Copy, Debug, PartialEq, Eq)]
 pub enum ReadFault {
-    /// It has more bytes than the limit.
+    /// The input has more bytes than the limit.
     TooLarge,
     /// The source has failed.
     Failed,
-    /// There is no memory for it.
+    /// Out of memory.
     Memory,
 }
 
-/// Reads all that is unread, if that is no more than `limit` bytes.
+/// Reads all unread bytes, if there are at most `limit` of them.
 pub fn read_all<R: Source>(
     alloc: Global,
     reader: &mut R,
     limit: usize,
 ) -> Result<Vec<u8>, ReadFault>
-    // What is read is all that was unread.
+    // The bytes that are read are all that were unread.
     ensures whole { IfOk result (λ bytes. IfSome (R.unread reader.old) (λ input. bytes.items ≡ input)) }
     ensures within { IfOk result (λ bytes. length bytes.items ≤ limit) }
     ensures large { IsErrOf result ReadFault.TooLarge → IfSome (R.unread reader.old) (λ input. limit < length input) }
-    // Of a larger input, one byte more than the limit was taken.
+    // Of a larger input, one byte more than the limit is taken.
     ensures over { IsErrOf result ReadFault.TooLarge → (taken : List ℕ) × (length taken ≡ limit + 1) × Consumes (R.unread reader.old) (R.unread reader.new) taken }
     ensures failed { IsErrOf result ReadFault.Failed ↔ (R.has_failed reader.new ≡ true) }
 {
@@ -53,7 +53,7 @@ pub fn read_all<R: Source>(
     Err(ReadFault::TooLarge)
 }
 
-/// Writes all the bytes. A sink that fails was given a beginning of them.
+/// Writes all the bytes. If the sink fails, it has been given some first part of them.
 pub fn write_all<W: Sink>(writer: &mut W, bytes: &[u8]) -> Result<(), Failed>
     ensures all { OnOk result (Appends (W.written writer.old) (W.written writer.new) bytes.now) }
     ensures beginning { (n : ℕ) × (n ≤ length bytes.now) × Appends (W.written writer.old) (W.written writer.new) (take n bytes.now) }

@@ -1,4 +1,4 @@
-//! Command lines at an archive, and what they write.
+//! Command lines on an archive, and what they write.
 
 use std::alloc::{AllocError, Global};
 use std::process::Abort;
@@ -7,14 +7,14 @@ use tacho_cli::{parse, perform};
 use tacho_state::Keeper;
 use tacho_time::Device;
 
-/// A command line without the program's name and the archive's, its input, what it writes, and its status. An input or an output that
-/// begins with `hex:` is of the bytes that the digits spell.
+/// A command line without the names of the program and the archive, its input, what it writes, and its status. If an input or an output
+/// begins with `hex:`, it is the bytes that the digits give.
 pub(crate) type Command = (&'static str, &'static str, &'static str, u8);
 
-/// What is written where the archive's store fails, and the status.
+/// What is written if the archive's store fails, and the status.
 const STOPPED: (&[u8], u8) = (b"S12 store failed\n", 3);
 
-/// The command lines that read what an archive has of driver 17 in March 2024, and that it has no driver 18.
+/// Command lines that read what an archive has of driver 17 in March 2024, and that it has no driver 18.
 const READINGS: [&str; 8] = [
     "drivers",
     "entries 17",
@@ -26,7 +26,7 @@ const READINGS: [&str; 8] = [
     "entries 18",
 ];
 
-/// Those that read files.
+/// Command lines that read files.
 const FILES: [&str; 4] = ["file 17 1", "file 17 2", "file 17 3", "file 18 1"];
 
 /// The bytes of an input, or of what is written.
@@ -39,7 +39,7 @@ fn bytes_of(alloc: Global, text: &str) -> Result<Vec<u8>, Fail> {
     Ok(bytes)
 }
 
-/// The words of a command line, with the program's name and the archive's.
+/// The arguments of a command line, with the names of the program and the archive.
 fn words_of(alloc: Global, line: &str) -> Result<Vec<String>, AllocError> {
     let mut words = Vec::new(alloc);
     words.push(String::from_str(alloc, "tacho")?)?;
@@ -71,7 +71,7 @@ fn answer_to<K: Keeper>(
     Ok((writer.into_inner(), status))
 }
 
-/// Performs a command line. Whether it is answered as is wanted; it isn't where the archive's store fails. Any other answer ends the
+/// Runs a command line. Returns true if the answer is the expected one, and false if the archive's store failed. Any other answer fails the
 /// test.
 pub(crate) fn is_answered<K: Keeper>(
     rt: &impl Abort,
@@ -91,7 +91,7 @@ pub(crate) fn is_answered<K: Keeper>(
     Ok(true)
 }
 
-/// Performs command lines, each of which has to be answered as is wanted.
+/// Runs command lines, each of which must be answered as expected.
 pub(crate) fn take<K: Keeper>(
     rt: &impl Abort,
     alloc: Global,
@@ -106,7 +106,7 @@ pub(crate) fn take<K: Keeper>(
     Ok(())
 }
 
-/// All that is read of an archive: what each reading writes, with its status, and whether a key is driver 17's.
+/// Everything that can be read of an archive: what each reading writes, with its status, and whether a key is driver 17's.
 pub(crate) fn told<K: Keeper>(alloc: Global, keeper: &mut K) -> Result<String, Fail> {
     let mut text = String::new(alloc);
     for line in READINGS {

@@ -1,4 +1,4 @@
-//! Two disks in memory below a store, one of which takes so many calls and no more.
+//! Two disks in memory below a store, one of which takes only a given number of calls.
 
 ghost use Rattle.std.specs.Prelude.{◌≡◌, false, IfOk};
 
@@ -8,20 +8,20 @@ use std::alloc::Global;
 use std::process::Abort;
 use std::test::Fail;
 
-/// A disk in memory that takes so many calls, and fails each one behind them.
+/// A disk in memory that takes a given number of calls, and fails each later one.
 pub(crate) type Fused = Fuse<Memory>;
 
-/// How many calls a disk takes that doesn't stop.
+/// The number of calls for a disk that never fails.
 const ALL: u64 = u64::MAX;
 
-/// The file whose disk stops.
+/// The file whose disk fails.
 #[derive(Clone, Copy)]
 pub(crate) enum Stopping {
     Log,
     Tables,
 }
 
-/// A disk that has these bytes, and takes so many calls.
+/// A disk that has these bytes, and takes this number of calls.
 fn disk(alloc: Global, bytes: &[u8], calls: u64) -> Result<Fused, Fail> {
     let mut memory = Memory::new(alloc);
     memory.write_at(0, bytes)?;
@@ -37,7 +37,7 @@ pub(crate) fn empty(alloc: Global) -> Result<Files<Fused>, Fail> {
     })
 }
 
-/// Copies of two files, one of them on a disk that takes so many calls.
+/// Copies of two files, one of them on a disk that takes `calls` calls.
 pub(crate) fn copies(
     alloc: Global,
     files: &Files<Fused>,
@@ -54,7 +54,7 @@ pub(crate) fn copies(
     })
 }
 
-/// What a stop may leave of two files, on disks that take every call: all that was written, and what was there when each was last
+/// What a crash may leave of two files, on disks that take every call: everything that was written, and what each file had when it was last
 /// synced.
 pub(crate) fn restarted(
     alloc: Global,
@@ -66,12 +66,12 @@ pub(crate) fn restarted(
     Ok((written, files))
 }
 
-/// Whether both disks go on to take calls.
+/// True if both disks still take calls.
 pub(crate) fn go_on<D: Disk>(files: &mut Files<D>) -> bool {
     files.may_be_used() && files.log.len().is_ok() && files.db.len().is_ok()
 }
 
-/// The store of two files, or the files where a disk stopped.
+/// Opens the store of two files, or returns the files if a disk failed.
 pub(crate) fn open<D: Disk + Drop>(
     rt: &impl Abort,
     alloc: Global,
@@ -87,7 +87,7 @@ pub(crate) fn open<D: Disk + Drop>(
     }
 }
 
-/// The store of two files on disks that don't stop.
+/// Opens the store of two files on disks that don't fail.
 pub(crate) fn opened<D: Disk + Drop>(
     rt: &impl Abort,
     alloc: Global,
@@ -102,7 +102,7 @@ pub(crate) fn opened<D: Disk + Drop>(
     }
 }
 
-/// The files of a connection that is closed.
+/// Closes a connection, and returns its files.
 pub(crate) fn closed<D: Disk + Drop>(conn: Connection<FileStore<D>>) -> Files<D> {
     match conn.close_files() {
         Ok(files) => files,
@@ -110,7 +110,7 @@ pub(crate) fn closed<D: Disk + Drop>(conn: Connection<FileStore<D>>) -> Files<D>
     }
 }
 
-/// The files of a connection that is given up. Nothing more is written to them.
+/// Gives a connection up, and returns its files. Nothing further is written to them.
 pub(crate) fn given_up<D: Disk + Drop>(conn: Connection<FileStore<D>>) -> Files<D> {
     conn.into_store().close()
 }

@@ -1,4 +1,4 @@
-//! Tests of command lines at archives: at those in memory, at those of schema 1 that are carried over, and at those on disks that stop.
+//! Tests of command lines on archives: in memory, of schema 1 that are migrated, and on disks that fail.
 #![tactic(auto)]
 
 #[cfg(test)]

@@ -1,4 +1,4 @@
-//! Archives of schema 1: that they are refused, what they are carried over to, and what a stop leaves of that.
+//! Archives of schema 1: how they are refused, what a migration makes of them, and what a crash leaves of a migration.
 
 ghost use Rattle.std.specs.Prelude.{◌≡◌, false, IfErr, IfOk};
 
@@ -15,7 +15,7 @@ use tacho_shelf::Shelf;
 use tacho_state::StoreFault;
 use tacho_store::Archive;
 
-/// What makes an archive of schema 1: its tables, and Anna, with a weekend's rest that was entered and withdrawn.
+/// Statements that make an archive of schema 1: its tables, and Anna, with a weekend's rest that was entered and withdrawn.
 const OLD: [&str; 9] = [
     "CREATE TABLE meta (id INTEGER PRIMARY KEY, version INTEGER NOT NULL) STRICT",
     "CREATE TABLE drivers (driver INTEGER PRIMARY KEY, holder BLOB NOT NULL UNIQUE, secret TEXT NOT NULL UNIQUE, base INTEGER NOT NULL, name TEXT NOT NULL, downloads INTEGER NOT NULL, entries INTEGER NOT NULL) STRICT",
@@ -28,14 +28,14 @@ const OLD: [&str; 9] = [
     "INSERT INTO entries (driver, number, start, past, mark, withdrawn) VALUES (17, 1, 28499040, 28501920, 0, 1)",
 ];
 
-/// What makes the table of an archive of schema 2 that schema 1 doesn't have.
+/// The statement that makes the table of schema 2 that schema 1 doesn't have.
 const ENTRY_ROWS: &str =
     "CREATE TABLE entry_rows (driver INTEGER NOT NULL REFERENCES drivers(driver), number INTEGER NOT NULL, start INTEGER NOT NULL, past INTEGER NOT NULL, mark INTEGER NOT NULL, withdrawn INTEGER NOT NULL CHECK (withdrawn IN (0, 1)), author TEXT NOT NULL, note TEXT NOT NULL, PRIMARY KEY (driver, number)) STRICT";
 
-/// What says that an archive is of schema 2.
+/// The statement that says that an archive is of schema 2.
 const IS_NEW: &str = "INSERT INTO meta (id, version) VALUES (1, 2)";
 
-/// A store in which statements were run.
+/// A store in which the statements were run.
 fn executed<S: Alter + Drop>(
     rt: &impl Abort,
     mut conn: Connection<S>,
@@ -50,7 +50,7 @@ fn executed<S: Alter + Drop>(
     Ok(conn)
 }
 
-/// A store in memory in which statements were run.
+/// A store in memory in which the statements were run.
 fn store_of(
     rt: &impl Abort,
     alloc: Global,
@@ -61,7 +61,7 @@ fn store_of(
     executed(rt, Connection::open_in_memory(alloc)?, statements)
 }
 
-/// A store in memory in which all statements were run but the one at this place.
+/// A store in memory in which all statements except the one at this index were run.
 fn store_without(
     rt: &impl Abort,
     alloc: Global,
@@ -80,14 +80,14 @@ fn store_without(
     Ok(conn)
 }
 
-/// The archive that a store has, carried over where it is old.
+/// The archive of a store, migrated if it is of schema 1.
 fn migrated<S: Alter + Drop>(conn: Connection<S>) -> Result<Archive<S>, Fail>
     requires { conn.in_transaction ≡ false }
 {
     Ok(Archive::migrate(conn).map_err(|refused| refused.0)?)
 }
 
-/// The name of the driver and his weekend, once the archive is carried over.
+/// The driver's name and the weekend, after the migration.
 const WEEKEND: [Command; 2] = [
     (
         "drivers",
@@ -103,7 +103,7 @@ const WEEKEND: [Command; 2] = [
     ),
 ];
 
-/// A day off behind it, which Eva Lund enters.
+/// A day off after it, which Eva Lund enters.
 const DAY_OFF: [Command; 3] = [
     (
         "enter 17",
@@ -125,7 +125,7 @@ const DAY_OFF: [Command; 3] = [
     ),
 ];
 
-/// Commands behind which an archive is as that one.
+/// Commands that lead to the same archive as the migration.
 const OF_OLD: [Command; 3] = [
     ANNA,
     (
@@ -137,7 +137,7 @@ const OF_OLD: [Command; 3] = [
     ("withdraw 17 1", "", "withdrawn 1\n", 0),
 ];
 
-/// Asserts that a store has no archive of schema 2, and of what kind the refusal is. Hands the store back.
+/// Asserts that a store has no archive of schema 2, and which fault is reported. Returns the store.
 fn refused(
     rt: &impl Abort,
     made: Result<Archive<MemStore>, (StoreFault, Connection<MemStore>)>,
@@ -186,7 +186,7 @@ fn a_store_without_an_archive_is_not_carried_over(rt: HostRuntime) -> Result<(),
     Ok(())
 }
 
-/// Asserts that a store has no archive, neither as it is nor to be carried over.
+/// Asserts that a store has no archive, neither one to open nor one to migrate.
 fn assert_no_archive(rt: &impl Abort, conn: Connection<MemStore>) -> Result<(), Fail>
     requires { conn.in_transaction ≡ false }
 {
@@ -225,7 +225,7 @@ fn an_archive_that_lacks_a_table_is_none(rt: HostRuntime) -> Result<(), Fail> {
     Ok(())
 }
 
-/// Two files, whose store has run statements.
+/// Two files, in whose store the statements were run.
 fn filled<D: Disk + Drop>(
     rt: &impl Abort,
     alloc: Global,
@@ -236,7 +236,7 @@ fn filled<D: Disk + Drop>(
     Ok(closed(executed(rt, conn, statements)?))
 }
 
-/// Carries a store's archive over. Answers whether that was done, and the store's connection.
+/// Migrates a store's archive. Returns whether that was done, and the store's connection.
 fn carry_in<S: Alter + Drop>(
     rt: &impl Abort,
     conn: Connection<S>,
@@ -252,7 +252,7 @@ fn carry_in<S: Alter + Drop>(
     }
 }
 
-/// The same of two files, up to a stop. Answers whether that was done, and the files.
+/// Likewise for two files, up to a crash. Returns whether that was done, and the files.
 fn carry<D: Disk + Drop>(
     rt: &impl Abort,
     alloc: Global,
@@ -272,7 +272,7 @@ fn carry<D: Disk + Drop>(
     Ok((is_done, files))
 }
 
-/// Asserts of a store that its archive is as before a migration or carried over, and can be carried over then.
+/// Asserts that a store's archive is as it was before the migration, or migrated, and that it can be migrated then.
 fn judge_in<S: Alter + Drop>(
     rt: &impl Abort,
     alloc: Global,
@@ -302,7 +302,7 @@ fn judge_in<S: Alter + Drop>(
     Ok(outcome)
 }
 
-/// Asserts the same of the files that a stop has left, and that they are carried over where this was done.
+/// Likewise for the files that a crash has left. Also asserts that they are migrated if the migration was done.
 fn judge<D: Disk + Drop>(
     rt: &impl Abort,
     alloc: Global,
@@ -321,7 +321,7 @@ fn judge<D: Disk + Drop>(
     Ok(outcome)
 }
 
-/// What the stop behind so many calls leaves of a migration, of what was written and of what was synced. None where there is none.
+/// What a crash after `calls` calls leaves of a migration: of what was written, and of what was synced. None if no crash happens.
 fn stop(
     rt: &impl Abort,
     alloc: Global,
@@ -343,7 +343,7 @@ fn stop(
     Ok(Some([written, synced]))
 }
 
-/// What each stop of a kind leaves of a migration, up to the first run that meets none.
+/// What each crash of a kind leaves of a migration, up to the first run without a crash.
 fn outcomes(
     rt: &impl Abort,
     alloc: Global,
@@ -361,13 +361,13 @@ fn outcomes(
     Err("each run was stopped")?
 }
 
-/// What comes up of what was written, at the least.
+/// The outcomes that must occur for what was written, at least.
 const WRITTEN: &[Outcome] = &[Outcome::Before, Outcome::Behind, Outcome::Closed];
 
-/// What comes up of what was synced.
+/// The outcomes that must occur for what was synced.
 const SYNCED: &[Outcome] = &[Outcome::Before, Outcome::Closed];
 
-/// What is told of the old archive once it is carried over.
+/// The contents of the old archive after the migration.
 fn told_of_old(rt: &impl Abort, alloc: Global) -> Result<String, Fail> {
     let mut shelf = Shelf::new(alloc);
     take(rt, alloc, &mut shelf, "shelf", &OF_OLD)?;

@@ -1,4 +1,4 @@
-//! Rows of command lines at an archive in memory: what each is given, what it writes, and its status.
+//! Rows of command lines on an archive in memory: the input of each, what it writes, and its status.
 
 use crate::commands::{Command, take};
 use std::process::Abort;
@@ -10,11 +10,11 @@ use tacho_store::open_memory;
 pub(crate) const A_DAY: &str =
     "hex:05200000110d443132333435363738393031323330300504000028000000140000001465e50f0000010064000011e019fe23fc0014001065e6608000020000000011e0";
 
-/// One of the same days that contradicts it from 08:00 on the 4th.
+/// A card file of the same days that contradicts it from 08:00 on the 4th.
 pub(crate) const ANOTHER_DAY: &str =
     "hex:05200000110d443132333435363738393031323330300504000028000000140000001465e50f0000010064000011ea1a0823f20014001065e6608000020000080011e0";
 
-/// What the first card told at 08:30 on the 4th.
+/// What the first card said at 08:30 on the 4th.
 pub(crate) const NOON: &str =
     "hex:05200000110d443132333435363738393031323330300504000016000000000000001265e50f0000010000000011e019fe";
 
@@ -30,21 +30,21 @@ const NO_RECORDS: &str =
 pub(crate) const TWO_BLOCKS: &str =
     "hex:05200000110d443132333435363738393031323330300504000028000000140000001465e50f0000010064000011e019fe23fc0014001065e6608000020000000011e00504020028000000140000001465e50f0000010064000011ea1a0823f20014001065e6608000020000080011e0";
 
-/// A file whose last block is cut.
+/// A file whose last block is truncated.
 const CUT: &str =
     "hex:05200000110d443132333435363738393031323330300504000028000000140000001465e50f0000010064000011e019fe23fc0014001065e6608000020000000011e005040100";
 
-/// Anna, as she is registered.
+/// The text that registers Anna.
 pub(crate) const REGISTRATION: &str =
     "driver,holder,key,base,name\n17,0d4431323334353637383930313233,anna-key-1,2024-03-04,Anna Berg\n";
 
-/// She is registered.
+/// Registers Anna.
 pub(crate) const ANNA: Command = ("register", REGISTRATION, "registered 17\n", 0);
 
-/// Her day, imported.
+/// Imports Anna's card file.
 const IMPORT: Command = ("import both", A_DAY, "added driver 17 number 1\n", 0);
 
-/// What the rules say of it.
+/// The breaches in that card file.
 const BREACHES: &str = "\
 B1 Art 7 at 2024-03-04 13:00 since 2024-03-04 08:30 amount 240
 EXAMINED TO 2024-03-04 17:00 unknown
@@ -104,7 +104,7 @@ B1 Art 7 at 2024-03-04 13:00 since 2024-03-04 08:30 amount 240
 EXAMINED TO 2024-03-04 17:00 unknown
 ";
 
-/// Rows that begin with the driver registered.
+/// Rows that begin after the driver was registered.
 static ROWS: [(&str, &[Command]); 8] = [
     (
         "a day",

@@ -1,5 +1,4 @@
-//! Stops: archives on two disks, one of which takes no more calls behind a number of them, and what is there when the files are
-//! opened again.
+//! Crashes: archives on two disks, one of which fails after a number of calls, and what is found when the files are opened again.
 
 ghost use Rattle.std.specs.Prelude.{◌≡◌, false};
 
@@ -15,23 +14,23 @@ use tacho_shelf::Shelf;
 use tacho_state::{Keeper, StoreFault};
 use tacho_store::Archive;
 
-/// How many calls a run makes at most.
+/// The most calls that a run makes.
 pub(crate) const MOST: u64 = 10_000;
 
-/// What a stop has left of the command that it met.
+/// What a crash has left of the command that it interrupted.
 #[derive(Clone, Copy, Debug, PartialEq, Eq)]
 pub(crate) enum Outcome {
-    /// The archive is as before it.
+    /// The archive is as it was before the command.
     Before,
-    /// It has acted.
+    /// The command was done.
     Behind,
-    /// Both are one, as it changes nothing.
+    /// Both are the same, because the command changes nothing.
     Unchanged,
-    /// There was none: the files were being closed.
+    /// There was no command: the files were being closed.
     Closed,
 }
 
-/// A store, its disk that stops, and how many stops there are at least, of the script and of a migration.
+/// A store, its disk that fails, and the least number of crashes, in the script and in a migration.
 #[derive(Clone, Copy)]
 pub(crate) struct Kind {
     pub(crate) name: &'static str,
@@ -41,7 +40,7 @@ pub(crate) struct Kind {
     pub(crate) stops_of_migration: usize,
 }
 
-/// How the store works that the program has, but for memory that these archives don't need: its log is copied into the tables' file
+/// The options of the program's store, but with less memory, as these archives don't need more. Its log is copied into the tables' file
 /// when it is closed.
 pub(crate) const ROOMY: Options = Options {
     cache_pages: 50,
@@ -50,8 +49,8 @@ pub(crate) const ROOMY: Options = Options {
     seed: 7,
 };
 
-/// A store that reads pages anew for each command, writes some to its log before they are committed, and copies them into the tables'
-/// file behind most commands.
+/// A store that reads pages again for each command, writes some to its log before they are committed, and copies them into the tables' file
+/// after most commands.
 const NARROW: Options = Options {
     cache_pages: 2,
     spill_pages: 2,
@@ -94,7 +93,7 @@ pub(crate) const KINDS: [Kind; 4] = [
 /// A day's rest.
 const SATURDAY: &str = "start,past,activity\n2024-03-09 00:00,2024-03-10 00:00,rest\n";
 
-/// The commands that are stopped: each but the entry once more, and at the end one that is refused.
+/// The commands that are interrupted. Each except the entry is repeated, and the last one is refused.
 const SCRIPT: [Command; 12] = [
     ANNA,
     ("register", REGISTRATION, "S1 driver taken\n", 1),
@@ -115,10 +114,10 @@ const SCRIPT: [Command; 12] = [
     ),
 ];
 
-/// What is told of a store without tables.
+/// What is shown for a store without tables.
 const NOTHING: &str = "no archive\n";
 
-/// What is told before each command of the script and behind the last. The making of the archive is the first of them.
+/// The contents before each command of the script, and after the last one. Making the archive is the first command.
 fn states(rt: &impl Abort, alloc: Global) -> Result<Vec<String>, Fail> {
     let mut shelf = Shelf::new(alloc);
     let mut states = Vec::new(alloc);
@@ -131,8 +130,8 @@ fn states(rt: &impl Abort, alloc: Global) -> Result<Vec<String>, Fail> {
     Ok(states)
 }
 
-/// Gives an archive the commands of the script from one on. Answers how many of the script are done when its store fails, or at the
-/// end.
+/// Gives an archive the commands of the script from one on. Returns how many commands of the script are done when its store fails, or at
+/// the end.
 fn done_of_script<K: Keeper>(
     rt: &impl Abort,
     alloc: Global,
@@ -148,7 +147,7 @@ fn done_of_script<K: Keeper>(
     Ok(SCRIPT.len())
 }
 
-/// Makes an archive in a store and gives it the script. Answers how many commands were done, the making the first of them, and the
+/// Makes an archive in a store and gives it the script. Returns how many commands were done, where making the archive is the first, and the
 /// store's connection.
 fn run_in<S: Alter + Drop>(
     rt: &impl Abort,
@@ -174,7 +173,7 @@ fn run_in<S: Alter + Drop>(
     }
 }
 
-/// The same in two files, up to a stop. Answers how many commands were done, and the files.
+/// Likewise in two files, up to a crash. Returns how many commands were done, and the files.
 fn run<D: Disk + Drop>(
     rt: &impl Abort,
     alloc: Global,
@@ -195,7 +194,7 @@ fn run<D: Disk + Drop>(
     Ok((done, files))
 }
 
-/// The archive of a store, and what it tells. Where there are no tables, that is told, and it is made.
+/// The archive of a store, and its contents. If there are no tables, that is shown instead, and the archive is made.
 fn found<S: Alter + Drop>(
     rt: &impl Abort,
     alloc: Global,
@@ -220,7 +219,7 @@ fn found<S: Alter + Drop>(
     }
 }
 
-/// What is left of the command behind so many that were done, where this is told of the archive. Any other text ends the test.
+/// What is left of the command after the first `done` commands, if the archive has these contents. Any other text fails the test.
 fn outcome_of(
     rt: &impl Abort,
     row: &str,
@@ -243,7 +242,7 @@ fn outcome_of(
     })
 }
 
-/// Asserts of a store what is told of its archive behind so many commands, and gives this the rest of the script.
+/// Asserts the contents of a store's archive after `done` commands, and gives it the rest of the script.
 fn judge_in<S: Alter + Drop>(
     rt: &impl Abort,
     alloc: Global,
@@ -256,7 +255,7 @@ fn judge_in<S: Alter + Drop>(
 {
     let (mut archive, text) = found(rt, alloc, conn)?;
     let outcome = outcome_of(rt, row, states, done, &text)?;
-    // The making stands in no script.
+    // Making the archive is no command of the script.
     let from = if outcome == Outcome::Behind {
         done
     } else {
@@ -267,7 +266,7 @@ fn judge_in<S: Alter + Drop>(
     Ok((outcome, archive.close()))
 }
 
-/// The same in two files, which are closed then.
+/// Likewise in two files, which are closed then.
 fn judge_at<D: Disk + Drop>(
     rt: &impl Abort,
     alloc: Global,
@@ -282,8 +281,8 @@ fn judge_at<D: Disk + Drop>(
     Ok((outcome, closed(conn)))
 }
 
-/// Asserts of the files that a stop has left behind so many commands what is told of them; and that the rest of the script leads to
-/// the state behind all, which is there when they are opened again.
+/// Asserts the contents of the files that a crash has left after `done` commands. Also asserts that the rest of the script leads to the
+/// state after all commands, which is found when the files are opened again.
 fn judge<D: Disk + Drop>(
     rt: &impl Abort,
     alloc: Global,
@@ -299,7 +298,7 @@ fn judge<D: Disk + Drop>(
     Ok(outcome)
 }
 
-/// What the stop behind so many calls leaves of the script, of what was written and of what was synced. None where there is none.
+/// What a crash after `calls` calls leaves of the script: of what was written, and of what was synced. None if no crash happens.
 fn stop(
     rt: &impl Abort,
     alloc: Global,
@@ -320,7 +319,7 @@ fn stop(
     Ok(Some([written, synced]))
 }
 
-/// What each stop of a kind leaves of the script, up to the first run that meets none.
+/// What each crash of a kind leaves of the script, up to the first run without a crash.
 fn outcomes(
     rt: &impl Abort,
     alloc: Global,
@@ -337,7 +336,7 @@ fn outcomes(
     Err("each run was stopped")?
 }
 
-/// What comes up of what was written, at the least.
+/// The outcomes that must occur for what was written, at least.
 const WRITTEN: &[Outcome] = &[
     Outcome::Before,
     Outcome::Behind,
@@ -345,16 +344,16 @@ const WRITTEN: &[Outcome] = &[
     Outcome::Closed,
 ];
 
-/// What comes up of what was synced.
+/// The outcomes that must occur for what was synced.
 const SYNCED: &[Outcome] = &[Outcome::Before, Outcome::Unchanged, Outcome::Closed];
 
-/// Asserts that there were so many stops at least.
+/// Asserts that there were at least this many crashes.
 pub(crate) fn assert_many(rt: &impl Abort, name: &str, outcomes: &[[Outcome; 2]], least: usize) {
     let stops = outcomes.len();
     assert!(rt; least <= stops, "{name}: {stops} stops");
 }
 
-/// Asserts that outcomes came up, of what was written (0) or of what was synced (1).
+/// Asserts that outcomes occurred, for what was written (0) or for what was synced (1).
 pub(crate) fn assert_met(
     rt: &impl Abort,
     outcomes: &[[Outcome; 2]],

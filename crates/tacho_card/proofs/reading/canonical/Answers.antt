@@ -10,13 +10,13 @@ use Rattle.tacho_card.specs.Reading.{fault_of_spans}
 use Rattle.tacho_card.proofs.GivesLemmas.{IsConflictOf}
 use Rattle.tacho_card.proofs.reading.canonical.Goals as goal
 
--- the fault of spans, as that of a card
+-- a fault of spans, turned into one of a card
 conflict_of : (spans : List Span) (fault : SpanFault) → IsFirstFault (Gives spans) fault
     → IsConflictOf spans (fault_of_spans fault)
 conflict_of spans (Contradiction m) h = inr (m, refl, h)
 conflict_of spans NoMemory h = inl refl
 
--- what a fault is holds of the answer that hands it on
+-- a property of a fault is one of the result that passes it on
 handed_on : {V : Type 0} (items : V → List Span) (spans : List Span) (r : Result V CardFault) (fault : CardFault)
     → IsErr r × IsErrAnd r (λ found. found ≡ fault) → IsConflictOf spans fault
     → MatchResult r (λ runs. IsCanonicalOf (Gives spans) (items runs)) (IsConflictOf spans)

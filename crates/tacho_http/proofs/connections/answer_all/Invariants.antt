@@ -3,7 +3,7 @@ use Rattle.tacho_state.specs.State.{State}
 use Rattle.tacho_http.specs.Run.{Kept, Run, Went, WentKept}
 use Rattle.tacho_http.proofs.connections.answer_all.Given as goal
 
--- the run over the connections so far, and the others are as they came
+-- the connections so far are a run, and the others are unchanged
 abbrev pub invariant-loop-connection : goal.invariant-loop-connection
 invariant-loop-connection g l = record {
   bound : l.count ≤ l.connection-index;

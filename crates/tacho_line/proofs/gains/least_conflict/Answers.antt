@@ -10,7 +10,7 @@ use Rattle.tacho_line.specs.Gains.{conflict_of, line_fault, IsConflictOf}
 use Rattle.tacho_line.proofs.GainLemmas.{least_is, early_fault}
 use Rattle.tacho_line.proofs.gains.least_conflict.Goals as goal
 
--- what holds of a fault holds of the answer that hands it on
+-- a property of a fault is one of the result that passes it on
 handed_on : {V : Type 0} (P : V → Type 0) (Q : LineFault → Type 0) (r : Result V LineFault) (fault : LineFault)
     → IsErr r × IsErrAnd r (λ found. found ≡ fault) → Q fault → MatchResult r P Q
 handed_on P Q (Ok v) fault e q = let wrong = e.0 in cc

@@ -9,7 +9,7 @@ use Rattle.tacho_line.proofs.SearchLemmas.{parted_below, parted_up_to, starts_ri
 use Rattle.tacho_line.proofs.merge.places_around.Goals as goal
 use Rattle.tacho_line.proofs.merge.places_around.Goals.{After-partition_point-count}
 
--- what the second search looks through
+-- the spans that the second search goes through
 abbrev searched : After-partition_point-count → List Span
 searched c = take (length c.args.line.now - c.partition_point-first.result) (drop c.partition_point-first.result c.args.line.now)
 

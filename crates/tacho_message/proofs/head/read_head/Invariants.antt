@@ -2,7 +2,7 @@ use Rattle.std.proofs.Common.{◌≡◌, ◌≤◌, ◌-◌, false, length, take
 use Rattle.std.specs.Io.KnownBytes.{Consumes}
 use Rattle.tacho_message.proofs.head.read_head.Given as goal
 
--- the bytes so far, and no call has failed
+-- the bytes so far were read, and no read has failed
 abbrev pub invariant-loop-spans : goal.invariant-loop-spans
 invariant-loop-spans g l =
     let source = g.R.Source in

@@ -33,7 +33,7 @@ counted-tally-requires c =
     let b : (get_or xs i no_day).past ≤ 68374080 = t.ended in
     omega arith
 
--- a tally is no more than the days
+-- a tally's count is at most the number of days
 next_few : (key k count n i : ℕ) → count ≤ i → (key ≡ k → n ≡ count + 1) → (key ≢ k → n ≡ 1) → n ≤ i + 1
 next_few key k count n i few same other = elim (cases_lt key k) [
   | inl lt ↦ let e : n ≡ 1 = other (omega arith) in omega arith

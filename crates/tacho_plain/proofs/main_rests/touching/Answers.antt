@@ -6,7 +6,7 @@ use Rattle.tacho_plain.proofs.DaysLemmas.{starts_rise, pasts_rise, HaveEnded}
 use Rattle.tacho_plain.proofs.TouchingLemmas.{HaveStarted, in_range, part_each}
 use Rattle.tacho_plain.proofs.main_rests.touching.Goals as goal
 
--- the places that were found
+-- the partition points that were found
 ended : (c : goal.After-partition_point-past) → HaveEnded c.args.rests.now c.args.from c.partition_point-first.result
 ended c =
     IsPartitionPoint-from_clause (λ (s : Run). leb s.past c.args.from) c.args.rests.now c.partition_point-first.result

@@ -24,7 +24,7 @@ loop-at-init c =
           (judged_first line c.args.horizon first (first + 0) (first + (1 - 1)) (omega arith) (omega arith) is);
     }
 
--- whether some choice serves up to the week
+-- whether some choice serves the weeks up to this one
 served : (c : goal.Joined-not-can_serve) (line : Line) → AreRestsOf line 1440 c.args.weekly.now → IsInWeeks line
     → (IsTrue c.can_serve.result
     ↔ CanServe line (c.number-first.result + c.loop-at.start) (c.number-first.result + c.loop-at.at))

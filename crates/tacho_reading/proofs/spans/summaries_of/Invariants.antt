@@ -6,7 +6,7 @@ use Rattle.tacho_tables.specs.Tables.{told_driver}
 use Rattle.tacho_reading.specs.Standing.{summarized, HasDay}
 use Rattle.tacho_reading.proofs.spans.summaries_of.Given as goal
 
--- the drivers so far, before those of the rows that are left, which fit where all do
+-- the drivers so far, followed by those of the remaining rows, are all; the remaining rows are fit if all are
 abbrev pub invariant-loop-row : goal.invariant-loop-row
 invariant-loop-row l = record {
   listed : map told_summary l.drivers.items ++ map summarized (map told_driver (into_iter_items l.row-iterator))

@@ -2,7 +2,7 @@ use Rattle.std.proofs.Common.{◌-◌, ◌<◌, string_bytes}
 use Rattle.tacho_sheet.proofs.FormLemmas.{IsCutSoFar}
 use Rattle.tacho_sheet.proofs.form.push_rows.Given as goal
 
--- what was written so far is the rows before `start`, each of the most minutes
+-- the rows before `start` were written, each of the most minutes
 abbrev pub invariant-cut : goal.invariant-cut
 invariant-cut l = record {
   cut : IsCutSoFar l.fn.gap.start l.past (string_bytes l.fn.text) l.start (string_bytes l.text);

@@ -4,7 +4,7 @@ use Rattle.tacho_stretches.specs.Ranges.{parts, FollowOn}
 use Rattle.tacho_sheet.proofs.MonthLemmas.{IsCounted}
 use Rattle.tacho_sheet.proofs.months.examined_in.Given as goal
 
--- what is counted is no more than the minutes before `from`, and is those of them that are examined
+-- the count is that of the examined minutes before `from`, and at most the number of all minutes before `from`
 abbrev pub invariant-loop-stretch : goal.invariant-loop-stretch
 invariant-loop-stretch l = record {
   few : l.fn.start + l.examined ≤ l.from;

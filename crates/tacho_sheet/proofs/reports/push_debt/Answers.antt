@@ -4,7 +4,7 @@ use Rattle.tacho_sheet.specs.Reports.{paid_text}
 use Rattle.tacho_sheet.proofs.TextLemmas.{on_pushed}
 use Rattle.tacho_sheet.proofs.reports.push_debt.Goals as goal
 
--- the pieces of the line, of which five are written at once
+-- the pieces of the line, five of them written at once
 pieces : (t a b v n x m y d e t1 t2 t3 t4 t5 : List ℕ) → t1 ≡ t ++ a → t2 ≡ t1 ++ b → t3 ≡ t2 ++ (v ++ (n ++ (x ++ (m ++ y)))) → t4 ≡ t3 ++ d → t5 ≡ t4 ++ e
     → t5 ≡ t ++ (a ++ (b ++ (v ++ (n ++ (x ++ (m ++ (y ++ (d ++ e))))))))
 pieces t a b v n x m y d e t1 t2 t3 t4 t5 e1 e2 e3 e4 e5 = simp (e5, e4, e3, e2, e1, append_assoc) refl

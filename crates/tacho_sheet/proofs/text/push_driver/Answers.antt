@@ -5,7 +5,7 @@ use Rattle.tacho_time.specs.Text.{day_text}
 use Rattle.tacho_sheet.specs.Lines.{byte_digits}
 use Rattle.tacho_sheet.proofs.text.push_driver.Goals as goal
 
--- the pieces of the line, of which the last eight are written at once
+-- the pieces of the line, the last eight written at once
 pieces : (t n a h b d e t1 t2 t3 t4 t5 : List ℕ) → t1 ≡ t ++ (n ++ a) → t2 ≡ t1 ++ h → t3 ≡ t2 ++ b → t4 ≡ t3 ++ d → t5 ≡ t4 ++ e
     → t5 ≡ t ++ (n ++ (a ++ (h ++ (b ++ (d ++ e)))))
 pieces t n a h b d e t1 t2 t3 t4 t5 e1 e2 e3 e4 e5 = simp (e5, e4, e3, e2, e1, append_assoc) refl

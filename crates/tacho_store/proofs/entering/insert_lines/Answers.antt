@@ -8,7 +8,7 @@ use Rattle.tacho_reading.specs.Standing.{entry_row, entry_rows}
 use Rattle.tacho_store.proofs.EnteringLemmas.{any_default}
 use Rattle.tacho_store.proofs.entering.insert_lines.Goals as goal
 
--- the row of a driver's line with a number, and the rows of lines from a number on
+-- the row of a driver's line with a number, and the rows of lines numbered from a number
 abbrev row : ℕ → ℕ → Hours → EntryRow
 row n i line = entry_row n i (entry_of line)
 

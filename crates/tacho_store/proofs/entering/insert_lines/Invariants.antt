@@ -5,14 +5,14 @@ use Rattle.tacho_tables.proofs.Firsts.{joined}
 use Rattle.tacho_reading.specs.Standing.{entry_rows}
 use Rattle.tacho_store.proofs.entering.insert_lines.Given as goal
 
--- the rows of the fours so far were added, and the next number is that of the next line
+-- the rows of the groups of four so far were added, and the next number is that of the next line
 abbrev pub invariant-loop-a : goal.invariant-loop-a
 invariant-loop-a g l =
     (l.number ≡ l.first + 4 * l.a-index)
     × HasStill g.S.Store (entry_rows l.driver l.first (batch_of l.lines))
     (entry_rows l.driver l.number (batch_of (joined (drop l.a-index l.fours) l.rest))) l.fn.tx.conn l.tx.conn
 
--- and those of the lines after them
+-- so were the rows of the lines after them
 abbrev pub invariant-loop-line : goal.invariant-loop-line
 invariant-loop-line g l =
     (l.number ≡ l.first + 4 * (length l.lines / 4) + l.line-index)

@@ -2,7 +2,7 @@ use Rattle.std.proofs.Common.{◌≡◌, ◌+◌, ◌-◌, ◌≤◌, false, vec
 use Rattle.std.specs.Io.KnownBytes.{Consumes}
 use Rattle.tacho_time.proofs.whole.read_all.Given as goal
 
--- what was taken so far, and no call has failed
+-- the bytes taken so far, and no call has failed
 abbrev pub invariant-loop-chunk : goal.invariant-loop-chunk
 invariant-loop-chunk g l =
     let source = g.R.Source in

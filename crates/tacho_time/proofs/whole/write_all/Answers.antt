@@ -6,7 +6,7 @@ use Rattle.std.proofs.KnownBytes.{Appends-trans}
 use Rattle.std.proofs.Math.Seq.{take-add}
 use Rattle.tacho_time.proofs.whole.write_all.Goals as goal
 
--- what was given before, and n bytes of the rest
+-- the bytes given before, and n bytes of the rest
 given_more : (o p q : Option (List ℕ)) (a n : ℕ) (all : List ℕ) → Appends o p (take a all) → Appends p q (take n (take (length all - a) (drop a all))) → Appends o q (take (a + n) all)
 given_more o p q a n all before now =
     subst (Appends o q) (ap (λ l. take a all ++ take n l) (take_rest all a) ∙ sym (take-add a n all)) (Appends-trans o p q _ _ before now)

@@ -3,7 +3,7 @@ use Rattle.tacho_card.specs.CardFile.{blocks_from, blocks_of}
 use Rattle.tacho_card.proofs.FileLemmas.{fault_in}
 use Rattle.tacho_card.proofs.blocks.Blocks.read.Given as goal
 
--- the fault of what is left is that of all
+-- the fault of the remaining bytes is the fault of all bytes
 abbrev pub invariant-loop-offset : goal.invariant-loop-offset
 invariant-loop-offset l =
     (l.offset ≤ length l.bytes) × (fault_in (blocks_from (length l.bytes - l.offset) l.offset (drop l.offset l.bytes)) ≡ fault_in (blocks_of l.bytes))

@@ -3,7 +3,7 @@ use Rattle.tacho_card.specs.CardFile.{repeated as first_repeated}
 use Rattle.tacho_card.proofs.SingleLemmas.{marks}
 use Rattle.tacho_card.proofs.blocks.Blocks.repeated.Given as goal
 
--- the repetition in what is left is that in all
+-- the repetition found in the remaining blocks is that of all blocks
 abbrev pub invariant-loop-block : goal.invariant-loop-block
 invariant-loop-block l =
     (goal.iterator-loop-block).can_next l.block-iterator

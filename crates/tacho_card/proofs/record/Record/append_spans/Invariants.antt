@@ -3,7 +3,7 @@ use Rattle.tacho_card.specs.DailyRecord.{word_at}
 use Rattle.tacho_card.specs.RawSpans.{words_spans, record_spans}
 use Rattle.tacho_card.proofs.record.Record.append_spans.Given as goal
 
--- the spans so far, before those of what is left
+-- the spans so far, followed by those of the remaining words, are those of all words
 abbrev pub invariant-loop-i : goal.invariant-loop-i
 invariant-loop-i l =
     record {

@@ -2,7 +2,7 @@ use Rattle.std.proofs.Common.{◌≡◌, ◌+◌, ◌≤◌, ◌++◌, drop, len
 use Rattle.tacho_state.specs.Steps.{numbered_from}
 use Rattle.tacho_shelf.proofs.row.Row.entries.Given as goal
 
--- the entries of the rest, behind those that were listed, and the number of the next one
+-- the entries listed so far, followed by those of the remaining hours; and the number of the next entry
 abbrev pub invariant-loop-hours : goal.invariant-loop-hours
 invariant-loop-hours l =
     (l.entries.items ++ numbered_from l.number (drop l.hours-index l.hours-items) ≡ numbered_from 1 l.self.entries)

@@ -14,7 +14,7 @@ use Rattle.tacho_store.specs.Opening.{IsOld, IsLeftAlone, IsCarried, IsNotMigrat
 use Rattle.tacho_store.proofs.StopLemmas.{crash_by}
 use Rattle.tacho_store.proofs.archive.Archive.migrate.Goals as goal
 
--- an archive that was adopted is what a migration makes of schema 2
+-- an archive that was adopted is what a migration makes of a store of schema 2
 adopted_migrates : (old : Sqlite) {K : Type 0} {stands : K → State → Type 0} {is_live : K → Type 0} {leaves : K → List State → Type 0}
     {archive : K} → IsAdopted stands is_live leaves old archive → IsMigrated stands is_live leaves old archive
 adopted_migrates old it = record {
@@ -31,12 +31,12 @@ adopted_migrates old it = record {
 -- ---- a store before a migration
 
 module _ (old : Sqlite) (live : IsLive old) where
-  -- where its tables stood for a state of schema 1, that is its schema
+  -- if its tables represented a state of schema 1, it had that schema
   schema_was : IsTrue old.is_open → (s : OldState) → StoodFor old.now.trees s → old.now.schema ≡ old_schema
   unfolding StoodFor
   schema_was opened s stood = is_old_schema old.now stood.0 stood.1 (live opened).0
 
-  -- a store of schema 1 that was left alone, and then was to be carried over
+  -- a store of schema 1 that was only read, and whose migration came next
   module _ (mid new : Sqlite) (alone : IsLeftAlone old mid) (was : HasCleanDisk mid → IsTrue mid.is_open × IsOld old)
       {A : Type 0} {result : Result A StoreFault} (it : IsCarried mid new result) where
     -- it was open
@@ -47,11 +47,11 @@ module _ (old : Sqlite) (live : IsLive old) where
     first_found : HasCleanDisk new → ¬ IsBlank old
     first_found clean = (was (it.clean clean)).1.tables
 
-    -- they stood for no state of schema 2
+    -- they represented no state of schema 2
     first_old : HasCleanDisk new → (s : State) → StandsFor old.now.trees s → ⊥
     first_old clean = (was (it.clean clean)).1.none
 
-    -- and they stood for a state of schema 1 until they were to be carried over
+    -- they represented a state of schema 1 until the migration
     still_stood : HasCleanDisk new → (s : OldState) → StoodFor old.now.trees s
         → (mid.now.schema ≡ old_schema) × StoodFor mid.now.trees s
     still_stood clean s stood =
@@ -59,20 +59,20 @@ module _ (old : Sqlite) (live : IsLive old) where
         let same = alone.keeps.stood s stood (it.clean clean) (was (it.clean clean)).0 in
         subst (λ (d : Database). (d.schema ≡ old_schema) × StoodFor d.trees s) (sym same) (schema, stood)
 
-    -- carried over, they stand for that state with the office as the author
+    -- migrated, they represent that state with the office as the author
     seen_after : HasCleanDisk new → (s : OldState) → StoodFor old.now.trees s → OnOk result (Sees new (with_office s))
     seen_after clean s stood = let at = still_stood clean s stood in it.carried clean at.0 s at.1
 
-    -- and so does what a stop leaves then
+    -- so do the tables that a crash leaves then
     left_after : HasCleanDisk new → (s : OldState) → StoodFor old.now.trees s
         → OnOk result (LeavesOneOf new (with_office s ∷ []))
     left_after clean s stood = let at = still_stood clean s stood in it.kept clean at.0 s at.1
 
-    -- whatever the disk did, both calls survived
+    -- whatever the disk did, both calls survived a crash
     survived : Survives old new (λ _. Unit {0})
     survived = survives_then old mid new _ _ _ (λ _ db none. absurd none) (λ _ db may. may) alone.survives it.survives
 
-    -- where the second gave up nothing has changed, but that a stop may leave what was to be made
+    -- if the second call gave up, nothing has changed, except that a crash may leave the migrated tables
     not_migrated : (HasCleanDisk new → IsTrue new.is_open → new.now ≡ mid.now) → IsNotMigrated old new
     not_migrated same =
         let still = λ (clean : HasCleanDisk new) (opened : IsTrue new.is_open)
