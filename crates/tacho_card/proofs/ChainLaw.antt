@@ -2,9 +2,9 @@
 use Rattle.std.proofs.Common.{◌≡◌, ◌≢◌, ℕ, zero, suc, ◌+◌, ◌-◌, ◌<◌, ◌⊎◌, inl, inr, ◌↔◌, ◌==◌, Bool, true, false, cond, List, [], ◌∷◌, ◌++◌, length, Result, Ok, Err, is_ok, is_err, IsOk, IsErr, refl, sym, ap, ◌∙◌, subst, arith, append_assoc, append-nil}
 use Rattle.std.proofs.lemmas.Bool.Decides.{nat_tests}
 use Rattle.tacho_card.specs.declared.fault.CardFault.{CardFault}
-use Rattle.tacho_card.specs.DriverActivity.{DriverActivity, wrapped}
+use Rattle.tacho_card.specs.DriverActivity.{DriverActivity, wrap_place}
 use Rattle.tacho_card.specs.DailyRecord.{DailyRecord, length_at}
-use Rattle.tacho_card.specs.Chain.{is_empty, lengths, read_after, IsFront, readings, EndsChain, IsChain, chain_from, chain}
+use Rattle.tacho_card.specs.Chain.{has_no_records, lengths, read_after, IsFront, readings, EndsChain, IsChain, chain_from, chain}
 use Rattle.tacho_card.proofs.ChainLemmas.{read_length, chain_fault, chain_last, chain_more}
 
 -- ---- a chain's steps
@@ -15,7 +15,7 @@ left activity front = length activity.buffer - lengths activity.buffer front
 
 -- the place after the record at a place
 abbrev after : DriverActivity → ℕ → ℕ
-after activity place = wrapped activity.buffer (place + length_at activity.buffer place)
+after activity place = wrap_place activity.buffer (place + length_at activity.buffer place)
 
 -- a chain ends at the newest record, or at one with a fault
 abbrev Ends : DriverActivity → List ℕ → ℕ → Type 0
@@ -161,7 +161,7 @@ ends_goes activity front last whole ends before place (next ∷ rest) e =
 -- ---- the law
 
 -- if there are records, the recursion from the oldest one on is the chain
-from_oldest : (activity : DriverActivity) → is_empty activity ≡ false → from activity [] activity.oldest ≡ chain activity
+from_oldest : (activity : DriverActivity) → has_no_records activity ≡ false → from activity [] activity.oldest ≡ chain activity
 from_oldest activity h =
     let size : length activity.buffer - 0 ≡ length activity.buffer = omega arith in
     let fuel : length activity.buffer + 1 ≡ suc (length activity.buffer) = omega arith in
@@ -170,7 +170,7 @@ from_oldest activity h =
     ∙ ap (λ b. cond b [] (chain_from (suc (length activity.buffer)) activity.buffer activity.newest activity.oldest (length activity.buffer))) (sym h)
 
 -- if places end the chain, reading them gives the chain
-ends_chain : (activity : DriverActivity) (front : List ℕ) (last : ℕ) (items : List (Result DailyRecord CardFault)) → is_empty activity ≡ false → EndsChain activity front last items → items ≡ chain activity
+ends_chain : (activity : DriverActivity) (front : List ℕ) (last : ℕ) (items : List (Result DailyRecord CardFault)) → has_no_records activity ≡ false → EndsChain activity front last items → items ≡ chain activity
 ends_chain activity front last items some h =
     let rest = h.whole.begins in
     let goes = ends_goes activity front last h.whole h.ends [] activity.oldest rest.0 rest.1 in
@@ -193,7 +193,7 @@ goes_chain activity others h =
     )
 
 -- the chain ends at some place
-chain_ends : (activity : DriverActivity) → is_empty activity ≡ false → (front : List ℕ) × (last : ℕ) × EndsChain activity front last (chain activity)
+chain_ends : (activity : DriverActivity) → has_no_records activity ≡ false → (front : List ℕ) × (last : ℕ) × EndsChain activity front last (chain activity)
 chain_ends activity some =
     let rest = steps (left activity [] + 1) activity [] activity.oldest (omega arith) in
     let made = goes_chain activity rest.0 rest.1 in
@@ -207,15 +207,15 @@ not_true false h = refl
 
 -- the chain by places is the chain by recursion
 pub by_places : (activity : DriverActivity) (items : List (Result DailyRecord CardFault)) → IsChain activity items ↔ (items ≡ chain activity)
-by_places activity items = (there, back (is_empty activity) refl) where
-  none : is_empty activity ≡ true → [] ≡ chain activity
+by_places activity items = (there, back (has_no_records activity) refl) where
+  none : has_no_records activity ≡ true → [] ≡ chain activity
   none e = ap (λ b. cond b [] (chain_from (suc (length activity.buffer)) activity.buffer activity.newest activity.oldest (length activity.buffer))) (sym e)
 
   there : IsChain activity items → items ≡ chain activity
   there (inl h) = h.1 ∙ none h.0
   there (inr h) = ends_chain activity h.1.0 h.1.1 items (not_true _ h.0) h.1.2
 
-  back : (b : Bool) → is_empty activity ≡ b → items ≡ chain activity → IsChain activity items
+  back : (b : Bool) → has_no_records activity ≡ b → items ≡ chain activity → IsChain activity items
   back true e h = inl (e, h ∙ sym (none e))
   back false e h =
       let made = chain_ends activity e in

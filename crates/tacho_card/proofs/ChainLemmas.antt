@@ -2,7 +2,7 @@
 use Rattle.std.proofs.Common.{◌≡◌, ℕ, zero, suc, ◌+◌, ◌-◌, ◌<◌, ◌≤◌, ◌==◌, not, Bool, true, false, cond, nat_lt, List, [], ◌∷◌, length, Result, Ok, Err, refl, ap, ◌∙◌, arith, add-one}
 use Rattle.std.proofs.lemmas.Bool.Decides.{nat_tests}
 use Rattle.tacho_card.specs.declared.fault.CardFault.{CardFault}
-use Rattle.tacho_card.specs.DriverActivity.{wrapped}
+use Rattle.tacho_card.specs.DriverActivity.{wrap_place}
 use Rattle.tacho_card.specs.DailyRecord.{DailyRecord, length_at, is_length, record_at}
 use Rattle.tacho_card.specs.Chain.{followed_by, chain_from}
 
@@ -44,7 +44,7 @@ same_fuel (suc f) zero b n p l hf hg = absurd (omega arith)
 same_fuel (suc f) (suc g) b n p l hf hg =
     same_rest (record_at b p l) _ _ (λ e h.
     let len = read_length b p l e h in
-    ap (cond (p == n) []) (same_fuel f g b n (wrapped b (p + length_at b p)) (l - length_at b p) (omega arith) (omega arith)))
+    ap (cond (p == n) []) (same_fuel f g b n (wrap_place b (p + length_at b p)) (l - length_at b p) (omega arith) (omega arith)))
 
 -- a chain from a place: a fault, a last record, or a record before others
 pub chain_fault : (b : List ℕ) (n p l : ℕ) (f : CardFault) → record_at b p l ≡ Err f → chain_from (l + 1) b n p l ≡ Err f ∷ []
@@ -53,13 +53,13 @@ chain_fault b n p l f h = rw (add-one, h) refl
 
 pub chain_last : (b : List ℕ) (n p l : ℕ) (e : DailyRecord) → record_at b p l ≡ Ok e → p ≡ n → chain_from (l + 1) b n p l ≡ Ok e ∷ []
 unfolding chain_from
-chain_last b n p l e h same = rw (add-one, h) (ap (λ t. Ok e ∷ cond t [] (chain_from l b n (wrapped b (p + length_at b p)) (l - length_at b p))) (eq-test p n same))
+chain_last b n p l e h same = rw (add-one, h) (ap (λ t. Ok e ∷ cond t [] (chain_from l b n (wrap_place b (p + length_at b p)) (l - length_at b p))) (eq-test p n same))
 
-pub chain_more : (b : List ℕ) (n p l : ℕ) (e : DailyRecord) → record_at b p l ≡ Ok e → (p ≡ n → ⊥) → chain_from (l + 1) b n p l ≡ Ok e ∷ chain_from ((l - length_at b p) + 1) b n (wrapped b (p + length_at b p)) (l - length_at b p)
+pub chain_more : (b : List ℕ) (n p l : ℕ) (e : DailyRecord) → record_at b p l ≡ Ok e → (p ≡ n → ⊥) → chain_from (l + 1) b n p l ≡ Ok e ∷ chain_from ((l - length_at b p) + 1) b n (wrap_place b (p + length_at b p)) (l - length_at b p)
 unfolding chain_from
 chain_more b n p l e h other =
     let len = read_length b p l e h in
-    rw (add-one, h) (ap (λ t. Ok e ∷ cond t [] (chain_from l b n (wrapped b (p + length_at b p)) (l - length_at b p))) (ne-test p n other)
+    rw (add-one, h) (ap (λ t. Ok e ∷ cond t [] (chain_from l b n (wrap_place b (p + length_at b p)) (l - length_at b p))) (ne-test p n other)
     ∙ ap (λ xs. Ok e ∷ xs) (same_fuel l ((l - length_at b p) + 1) b n _ _ (omega arith) (omega arith)))
 
 -- taking the first item of a list leaves a shorter list

@@ -7,10 +7,10 @@ use Rattle.std.proofs.lemmas.Option.{same_Some, slice_get_within, slice_get-get_
 use Rattle.std.proofs.lemmas.Slice.Eq.{bytes_eq-Decides}
 use Rattle.tacho_card.specs.declared.fault.CardFault.{CardFault}
 use Rattle.tacho_card.specs.declared.fault.CardFault.TheVariants.{Twice, NoIdentification, ShortIdentification, TwoCards}
-use Rattle.tacho_card.specs.CardFile.{FileBlock, IsLaidEndToEnd, activity_data, identification, is_block, value_of, is_single, has, repeated, no_repetition, holder_in, is_short, holder_of, file_holder, with_holder, then_held, then_single, card_file}
+use Rattle.tacho_card.specs.CardFile.{FileBlock, IsLaidEndToEnd, activity_data, identification, is_block, value_of, is_once, has, first_repeat, no_repetition, holder_in, is_short, holder_of, file_holder, with_holder, then_held, then_single, card_file}
 use Rattle.tacho_card.specs.Faults.{MayStandOnce, IsRepetition, IsFirstRepetition, HaveNoRepetition, IsIdentification, HaveNoIdentification, HaveShortIdentification, HaveTwoHolders, IsFileFault, IsHolder}
 use Rattle.tacho_card.proofs.BlockLaw.{laid_read}
-use Rattle.tacho_card.proofs.FirstLemmas.{FirstFrom, first_here, first_behind, none_there, finds_none, finds_first}
+use Rattle.tacho_card.proofs.FirstLemmas.{FirstFrom, first_here, first_after, none_there, finds_none, finds_first}
 
 -- ---- tests of blocks
 
@@ -19,7 +19,7 @@ block_decides : (i k : ℕ) (b : FileBlock) → Decides (is_block i k b) ((b.ide
 block_decides i k b = Decides-and _ _ (Decides-eqb b.identifier i) (Decides-eqb b.kind k)
 
 -- decides whether the file may have a block only once
-single_decides : (b : FileBlock) → Decides (is_single b) (MayStandOnce b)
+single_decides : (b : FileBlock) → Decides (is_once b) (MayStandOnce b)
 single_decides b =
     Decides-and _ _ (Decides-or _ _ (Decides-eqb b.identifier activity_data) (Decides-eqb b.identifier identification))
     (Decides-or _ _ (Decides-eqb b.kind 0) (Decides-eqb b.kind 2))
@@ -33,7 +33,7 @@ abbrev Seen : FileBlock → List FileBlock → Type 0
 Seen b seen = (place : ℕ) × (place < length seen) × HoldsAt (IsLike b) seen place
 
 -- decides whether a block repeats one of the blocks seen
-repeats_decides : (seen : List FileBlock) (b : FileBlock) → Decides (is_single b && has b seen) (MayStandOnce b × Seen b seen)
+repeats_decides : (seen : List FileBlock) (b : FileBlock) → Decides (is_once b && has b seen) (MayStandOnce b × Seen b seen)
 repeats_decides seen b =
     Decides-and _ _ (single_decides b)
     (Decides-by_or (is_block b.identifier b.kind) (IsLike b) (has b) (block_decides b.identifier b.kind) refl (λ _ _. refl) seen)
@@ -46,7 +46,7 @@ next_there seen rest b =
     slice_get_read (seen ++ b ∷ rest) _ (length seen) b refl (omega (arith, length-append seen (b ∷ rest))) (sym (get_or-append_seam seen b rest b))
 
 -- if the test says so, the next block repeats one of those seen
-next_repeats : (seen rest : List FileBlock) (b : FileBlock) → is_single b && has b seen ≡ true → IsRepetition (seen ++ b ∷ rest) (length seen) b
+next_repeats : (seen rest : List FileBlock) (b : FileBlock) → is_once b && has b seen ≡ true → IsRepetition (seen ++ b ∷ rest) (length seen) b
 next_repeats seen rest b e =
     let h = (repeats_decides seen b).0 e in
     let long = length-append seen (b ∷ rest) in
@@ -63,7 +63,7 @@ next_repeats seen rest b e =
     }
 
 -- otherwise it repeats none
-next_is_new : (seen rest : List FileBlock) (b other : FileBlock) → is_single b && has b seen ≡ false → ¬ (IsRepetition (seen ++ b ∷ rest) (length seen) other)
+next_is_new : (seen rest : List FileBlock) (b other : FileBlock) → is_once b && has b seen ≡ false → ¬ (IsRepetition (seen ++ b ∷ rest) (length seen) other)
 next_is_new seen rest b other e r =
     let same : b ≡ other = same_Some b other (sym (next_there seen rest b) ∙ r.there) in
     let stood = λ (d : FileBlock). sym (get_or_from_slice_get (seen ++ b ∷ rest) r.earlier r.other d r.stood) ∙ get_or_append_left seen (b ∷ rest) d r.earlier r.before in
@@ -72,9 +72,9 @@ next_is_new seen rest b other e r =
     (subst (λ (x : FileBlock). MayStandOnce x × Seen x seen) (sym same) (r.once, (r.earlier, r.before, like)))
 
 -- after the blocks seen, the recursion finds the first repetition
-finds_from : (seen blocks : List FileBlock) → FirstFrom (IsRepetition (seen ++ blocks)) (length seen) (repeated seen blocks)
+finds_from : (seen blocks : List FileBlock) → FirstFrom (IsRepetition (seen ++ blocks)) (length seen) (first_repeat seen blocks)
 finds_from seen [] = λ place b l r. absurd (omega (arith, l, slice_get_within (seen ++ []) place b r.there, length-append seen []))
-finds_from seen (b ∷ blocks) = go (is_single b && has b seen) refl (finds_from (seen ++ b ∷ []) blocks) where
+finds_from seen (b ∷ blocks) = go (is_once b && has b seen) refl (finds_from (seen ++ b ∷ []) blocks) where
   all : List FileBlock
   all = seen ++ b ∷ blocks
 
@@ -82,26 +82,26 @@ finds_from seen (b ∷ blocks) = go (is_single b && has b seen) refl (finds_from
   longer = length-append seen (b ∷ [])
 
   found : Option FileBlock
-  found = repeated (seen ++ b ∷ []) blocks
+  found = first_repeat (seen ++ b ∷ []) blocks
 
-  go : (t : Bool) → (is_single b && has b seen) ≡ t → FirstFrom (IsRepetition ((seen ++ b ∷ []) ++ blocks)) (length (seen ++ b ∷ [])) found →
+  go : (t : Bool) → (is_once b && has b seen) ≡ t → FirstFrom (IsRepetition ((seen ++ b ∷ []) ++ blocks)) (length (seen ++ b ∷ [])) found →
       FirstFrom (IsRepetition all) (length seen) (cond t (Some b) found)
   go true e rest = first_here (IsRepetition all) (length seen) b (next_repeats seen blocks b e)
   go false e rest =
       let behind = subst (λ (xs : List FileBlock). FirstFrom (IsRepetition xs) (length (seen ++ b ∷ [])) found) (append_assoc seen (b ∷ []) blocks) rest in
-      first_behind (IsRepetition all) (length seen) _ (λ other. next_is_new seen blocks b other e)
+      first_after (IsRepetition all) (length seen) _ (λ other. next_is_new seen blocks b other e)
       (subst (λ (n : ℕ). FirstFrom (IsRepetition all) n found) longer behind)
 
 -- if none is found, there is no repetition
-none_found : (blocks : List FileBlock) → repeated [] blocks ≡ None → HaveNoRepetition blocks
+none_found : (blocks : List FileBlock) → first_repeat [] blocks ≡ None → HaveNoRepetition blocks
 none_found blocks e = none_there (IsRepetition blocks) _ (finds_from [] blocks) e
 
 -- if there is no repetition, none is found
-no_fault : (blocks : List FileBlock) → HaveNoRepetition blocks → repeated [] blocks ≡ None
+no_fault : (blocks : List FileBlock) → HaveNoRepetition blocks → first_repeat [] blocks ≡ None
 no_fault blocks h = finds_none (IsRepetition blocks) _ (finds_from [] blocks) h
 
 -- the block found is the first repetition
-first_found : (blocks : List FileBlock) (b : FileBlock) → repeated [] blocks ≡ Some b → IsFirstRepetition blocks b
+first_found : (blocks : List FileBlock) (b : FileBlock) → first_repeat [] blocks ≡ Some b → IsFirstRepetition blocks b
 first_found blocks b e =
     let found = subst (FirstFrom (IsRepetition blocks) 0) e (finds_from [] blocks) in
     record {
@@ -111,7 +111,7 @@ first_found blocks b e =
     }
 
 -- the first repetition is found
-first_fault : (blocks : List FileBlock) (b : FileBlock) → IsFirstRepetition blocks b → repeated [] blocks ≡ Some b
+first_fault : (blocks : List FileBlock) (b : FileBlock) → IsFirstRepetition blocks b → first_repeat [] blocks ≡ Some b
 first_fault blocks b h =
     finds_first (IsRepetition blocks) _ (finds_from [] blocks) h.place b h.repeats h.first
     (λ other r. same_Some other b (sym r.there ∙ h.repeats.there))
@@ -333,12 +333,12 @@ abbrev read_blocks : List FileBlock → Option FileBlock → Result (List FileBl
 read_blocks blocks o = then_held (no_repetition o blocks)
 
 -- without a repetition, a fault of the identifications is the one that is read
-held_fault : (blocks : List FileBlock) (fault : CardFault) → HaveNoRepetition blocks → Names blocks (Err fault) → read_blocks blocks (repeated [] blocks) ≡ Err fault
+held_fault : (blocks : List FileBlock) (fault : CardFault) → HaveNoRepetition blocks → Names blocks (Err fault) → read_blocks blocks (first_repeat [] blocks) ≡ Err fault
 held_fault blocks fault none h =
     ap (read_blocks blocks) (no_fault blocks none) ∙ ap (with_holder blocks) ((says blocks (Err fault) none).0 h)
 
 -- a fault of the blocks by places is the one found by recursion
-fault_read : (blocks : List FileBlock) (fault : CardFault) → IsFileFault blocks fault → read_blocks blocks (repeated [] blocks) ≡ Err fault
+fault_read : (blocks : List FileBlock) (fault : CardFault) → IsFileFault blocks fault → read_blocks blocks (first_repeat [] blocks) ≡ Err fault
 fault_read blocks (Twice i k) h = ap (read_blocks blocks) (first_fault blocks h.0 h.1) ∙ ap₂ (λ x y. Err (Twice x y)) h.2 h.3
 fault_read blocks NoIdentification h = held_fault blocks NoIdentification h.0 h.1
 fault_read blocks ShortIdentification h = held_fault blocks ShortIdentification h.0 h.1
@@ -358,9 +358,9 @@ only_holder blocks (Ok holder) fault h = cc
 only_holder blocks (Err f) fault h = cc
 
 -- a fault of the blocks found by recursion is one by places
-read_fault : (blocks : List FileBlock) (fault : CardFault) → read_blocks blocks (repeated [] blocks) ≡ Err fault → IsFileFault blocks fault
-read_fault blocks fault h = go (repeated [] blocks) refl h where
-  go : (o : Option FileBlock) → repeated [] blocks ≡ o → read_blocks blocks o ≡ Err fault → IsFileFault blocks fault
+read_fault : (blocks : List FileBlock) (fault : CardFault) → read_blocks blocks (first_repeat [] blocks) ≡ Err fault → IsFileFault blocks fault
+read_fault blocks fault h = go (first_repeat [] blocks) refl h where
+  go : (o : Option FileBlock) → first_repeat [] blocks ≡ o → read_blocks blocks o ≡ Err fault → IsFileFault blocks fault
   go None e h =
       let none = none_found blocks e in
       fault_held blocks fault none ((says blocks (Err fault) none).1 (only_holder blocks (file_holder blocks) fault h))
@@ -375,18 +375,18 @@ file_fault bytes blocks fault h =
     (λ f. read ∙ fault_read blocks fault f, λ e. read_fault blocks fault (sym read ∙ e))
 
 -- blocks that have no repetition and name a holder are read
-blocks_read : (blocks : List FileBlock) → HaveNoRepetition blocks × ((holder : List ℕ) × IsHolder blocks holder) → read_blocks blocks (repeated [] blocks) ≡ Ok blocks
+blocks_read : (blocks : List FileBlock) → HaveNoRepetition blocks × ((holder : List ℕ) × IsHolder blocks holder) → read_blocks blocks (first_repeat [] blocks) ≡ Ok blocks
 blocks_read blocks h =
     ap (read_blocks blocks) (no_fault blocks h.0) ∙ ap (with_holder blocks) ((says blocks (Ok h.1.0) h.0).0 h.1.1)
 
 -- blocks that are read have no repetition and name a holder
-read_holder : (blocks : List FileBlock) → read_blocks blocks (repeated [] blocks) ≡ Ok blocks → HaveNoRepetition blocks × ((holder : List ℕ) × IsHolder blocks holder)
-read_holder blocks h = go (repeated [] blocks) refl h where
+read_holder : (blocks : List FileBlock) → read_blocks blocks (first_repeat [] blocks) ≡ Ok blocks → HaveNoRepetition blocks × ((holder : List ℕ) × IsHolder blocks holder)
+read_holder blocks h = go (first_repeat [] blocks) refl h where
   named : HaveNoRepetition blocks → (r : Result (List ℕ) CardFault) → file_holder blocks ≡ r → with_holder blocks r ≡ Ok blocks → (holder : List ℕ) × IsHolder blocks holder
   named none (Ok holder) e same = (holder, (says blocks (Ok holder) none).1 e)
   named none (Err f) e same = cc
 
-  go : (o : Option FileBlock) → repeated [] blocks ≡ o → read_blocks blocks o ≡ Ok blocks → HaveNoRepetition blocks × ((holder : List ℕ) × IsHolder blocks holder)
+  go : (o : Option FileBlock) → first_repeat [] blocks ≡ o → read_blocks blocks o ≡ Ok blocks → HaveNoRepetition blocks × ((holder : List ℕ) × IsHolder blocks holder)
   go None e same = let none = none_found blocks e in (none, named none (file_holder blocks) refl same)
   go (Some b) e same = cc
 

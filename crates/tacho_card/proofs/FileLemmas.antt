@@ -14,9 +14,9 @@ fault_in (Ok blocks) = None
 fault_in (Err fault) = Some fault
 
 -- a block before the others doesn't change the fault
-fault_behind : (b : FileBlock) (r : Result (List FileBlock) CardFault) → fault_in (block_before b r) ≡ fault_in r
-fault_behind b (Ok blocks) = refl
-fault_behind b (Err fault) = refl
+fault_following : (b : FileBlock) (r : Result (List FileBlock) CardFault) → fault_in (block_before b r) ≡ fault_in r
+fault_following b (Ok blocks) = refl
+fault_following b (Err fault) = refl
 
 -- the fault of bytes that begin with a block that is cut, and with one that isn't
 cut_cells : (fuel offset : ℕ) (bytes : List ℕ) → 0 < length bytes → length bytes ≤ fuel → is_cut bytes ≡ true → fault_in (blocks_from fuel offset bytes) ≡ Some (Truncated offset)
@@ -29,7 +29,7 @@ whole_cells fuel offset [] some enough h = absurd (omega (arith, some))
 whole_cells zero offset (x ∷ xs) some enough h = absurd (omega (arith, enough))
 whole_cells (suc fuel) offset (x ∷ xs) some enough h =
     let less : fuel ≡ suc fuel - 1 = omega arith in
-    ap fault_in (whole_block fuel offset x xs h) ∙ fault_behind _ _ ∙ ap (λ f. fault_in (blocks_from f (offset + front_length (x ∷ xs)) (drop (front_length (x ∷ xs)) (x ∷ xs)))) less
+    ap fault_in (whole_block fuel offset x xs h) ∙ fault_following _ _ ∙ ap (λ f. fault_in (blocks_from f (offset + front_length (x ∷ xs)) (drop (front_length (x ∷ xs)) (x ∷ xs)))) less
 
 -- the fault of the remaining bytes from an offset on
 abbrev pub fault_from : List ℕ → ℕ → Option CardFault

@@ -7,8 +7,8 @@ use Rattle.tacho_card.specs.declared.fault.CardFault.{CardFault}
 use Rattle.tacho_card.specs.declared.fault.CardFault.TheVariants.{SelfContradiction}
 use Rattle.tacho_card.specs.declared.file.Part.{Part}
 use Rattle.tacho_card.specs.DriverActivity.{DriverActivity}
-use Rattle.tacho_card.specs.Reading.{IsReading, IsFaultOf}
-use Rattle.tacho_card.specs.RawSpans.{with_spans, activity_spans}
+use Rattle.tacho_card.specs.Reading.{IsReading, IsReadingFault}
+use Rattle.tacho_card.specs.RawSpans.{prepend_spans, activity_spans}
 use Rattle.tacho_card.specs.CardFile.{FileBlock, chosen_activity, those_there, ReadsChosen, ReadsFile}
 use Rattle.tacho_card.proofs.RawLemmas.{only_fault}
 use Rattle.tacho_card.proofs.GivesLemmas.{IsRaw, raw_none, raw_more, activity_fault, chain_with, fault_after, raw_reading}
@@ -21,7 +21,7 @@ abbrev HaveReading : List DriverActivity → Type 0
 HaveReading activities = (reading : Result (List Span) CardFault) × IsReading activities reading
 
 -- a fault of data other than out of memory is their reading
-own_fault : (activities : List DriverActivity) (m : ℕ) → IsFaultOf activities (SelfContradiction m) → IsReading activities (Err (SelfContradiction m))
+own_fault : (activities : List DriverActivity) (m : ℕ) → IsReadingFault activities (SelfContradiction m) → IsReading activities (Err (SelfContradiction m))
 own_fault activities m (inl e) = cc
 own_fault activities m (inr h) = h
 
@@ -35,9 +35,9 @@ raw_has activities raw h = go (list_or_conflict raw) where
 -- data whose spans are known, followed by further data, have a reading
 has_from : (front rest : List DriverActivity) (raw : List Span) → IsRaw front raw → HaveReading (front ++ rest)
 has_from front [] raw h = subst HaveReading (sym (append-nil front)) (raw_has front raw h)
-has_from front (activity ∷ rest) raw h = go (with_spans raw (activity_spans activity)) refl (λ new e. has_from (front ++ activity ∷ []) rest new (raw_more front activity raw new h e)) where
-  go : (r : Result (List Span) CardFault) → with_spans raw (activity_spans activity) ≡ r →
-      ((new : List Span) → with_spans raw (activity_spans activity) ≡ Ok new → HaveReading ((front ++ activity ∷ []) ++ rest)) →
+has_from front (activity ∷ rest) raw h = go (prepend_spans raw (activity_spans activity)) refl (λ new e. has_from (front ++ activity ∷ []) rest new (raw_more front activity raw new h e)) where
+  go : (r : Result (List Span) CardFault) → prepend_spans raw (activity_spans activity) ≡ r →
+      ((new : List Span) → prepend_spans raw (activity_spans activity) ≡ Ok new → HaveReading ((front ++ activity ∷ []) ++ rest)) →
       HaveReading (front ++ activity ∷ rest)
   go (Ok new) e more = subst HaveReading (append_assoc front (activity ∷ []) rest) (more new e)
   go (Err f) e more = (Err f, inl (fault_after front (activity ∷ rest) h.0 ∙ chain_with activity rest f (activity_fault activity f (only_fault raw (activity_spans activity) f e))))

@@ -13,23 +13,23 @@ pub first_here : {X : Type 0} (P : ℕ → X → Type 0) (n : ℕ) (x : X) → P
 first_here P n x h = (n, omega arith, h, λ earlier other l u. absurd (omega arith))
 
 -- a place that is at least n is n or after it
-here_or_behind : (n place : ℕ) → n ≤ place → (n ≡ place) ⊎ (n + 1 ≤ place)
-here_or_behind n place l = go (nat_lt n place) refl where
+here_or_after : (n place : ℕ) → n ≤ place → (n ≡ place) ⊎ (n + 1 ≤ place)
+here_or_after n place l = go (nat_lt n place) refl where
   go : (t : Bool) → nat_lt n place ≡ t → (n ≡ place) ⊎ (n + 1 ≤ place)
   go true h = inr (grind (arith, nat_tests))
   go false h = inl (grind (arith, nat_tests))
 
 -- if place n and the places after it have nothing, no place from n on has anything
 none_from : {X : Type 0} (P : ℕ → X → Type 0) (n place : ℕ) (x : X) → ((other : X) → ¬ (P n other)) → n ≤ place → (n + 1 ≤ place → ¬ (P place x)) → ¬ (P place x)
-none_from P n place x none l behind h = go (here_or_behind n place l) where
+none_from P n place x none l behind h = go (here_or_after n place l) where
   go : (n ≡ place) ⊎ (n + 1 ≤ place) → ⊥
   go (inl e) = none x (subst (λ (i : ℕ). P i x) (sym e) h)
   go (inr k) = behind k h
 
 -- if place n has nothing, the first place from n + 1 on is the first from n on
-pub first_behind : {X : Type 0} (P : ℕ → X → Type 0) (n : ℕ) (o : Option X) → ((other : X) → ¬ (P n other)) → FirstFrom P (n + 1) o → FirstFrom P n o
-first_behind P n None none rest = λ place x l. none_from P n place x none l (rest place x)
-first_behind P n (Some x) none rest = (
+pub first_after : {X : Type 0} (P : ℕ → X → Type 0) (n : ℕ) (o : Option X) → ((other : X) → ¬ (P n other)) → FirstFrom P (n + 1) o → FirstFrom P n o
+first_after P n None none rest = λ place x l. none_from P n place x none l (rest place x)
+first_after P n (Some x) none rest = (
   rest.0,
   omega (arith, rest.1),
   rest.2,

@@ -9,11 +9,11 @@ use Rattle.tacho_time.specs.Spans.{Gives, SamePairs, IsCanonicalOf, Conflicts, I
 use Rattle.tacho_card.specs.declared.fault.CardFault.{CardFault}
 use Rattle.tacho_card.specs.declared.fault.CardFault.TheVariants.{SelfContradiction, Memory}
 use Rattle.tacho_card.specs.ActivityChangeInfo.{time_of, mark_of}
-use Rattle.tacho_card.specs.DriverActivity.{DriverActivity, wrapped}
-use Rattle.tacho_card.specs.DailyRecord.{DailyRecord, is_length, is_read_day, length_at, day_at, word_at, words_fault, fault_or, record_at}
-use Rattle.tacho_card.specs.Chain.{is_empty, followed_by, chain_from, chain, fault_of}
-use Rattle.tacho_card.specs.Reading.{word_minute, RecordGives, ItemsGive, ActivitiesGive, chains_fault, IsReading, IsFaultOf}
-use Rattle.tacho_card.specs.RawSpans.{marked, closed_mark, word_past, words_spans, record_spans, with_spans, items_spans, activity_spans}
+use Rattle.tacho_card.specs.DriverActivity.{DriverActivity, wrap_place}
+use Rattle.tacho_card.specs.DailyRecord.{DailyRecord, is_length, is_read_day, length_at, record_day, word_at, words_fault, fault_or, record_at}
+use Rattle.tacho_card.specs.Chain.{has_no_records, followed_by, chain_from, chain, fault_of}
+use Rattle.tacho_card.specs.Reading.{word_minute, RecordGives, ItemsGive, ActivitiesGive, chains_fault, IsReading, IsReadingFault}
+use Rattle.tacho_card.specs.RawSpans.{span_of_mark, closed_mark, word_past, words_spans, record_spans, prepend_spans, items_spans, activity_spans}
 use Rattle.tacho_card.proofs.RawLemmas.{unless_zero, only_fault}
 
 -- ---- the words of a record
@@ -94,13 +94,13 @@ gives_either (x ∷ xs) ys m k (inr g) = go (gives_either xs ys m k g) where
   go (inr h) = inr h
 
 -- a span of a mark gives only this mark, and only from its start to before its end
-from_marked : (a b : ℕ) (o : Option Mark) (m : ℕ) (k : Mark) → Gives (marked a b o) m k → (a ≤ m) × (m < b) × (o ≡ Some k)
+from_marked : (a b : ℕ) (o : Option Mark) (m : ℕ) (k : Mark) → Gives (span_of_mark a b o) m k → (a ≤ m) × (m < b) × (o ≡ Some k)
 from_marked a b None m k g = absurd g
 from_marked a b (Some j) m k (inl c) = (c.0.0, c.0.1, ap Some c.1)
 from_marked a b (Some j) m k (inr g) = absurd g
 
 -- a span of a mark gives this mark from its start to before its end
-to_marked : (a b : ℕ) (o : Option Mark) (m : ℕ) (k : Mark) → a ≤ m → m < b → o ≡ Some k → Gives (marked a b o) m k
+to_marked : (a b : ℕ) (o : Option Mark) (m : ℕ) (k : Mark) → a ≤ m → m < b → o ≡ Some k → Gives (span_of_mark a b o) m k
 to_marked a b None m k l h e = cc
 to_marked a b (Some j) m k l h e = let f : j ≡ k = cc in inl ((l, h), f)
 
@@ -135,17 +135,17 @@ inner_past : (r : DailyRecord) (i n : ℕ) → word_past r i (suc n) ≡ word_mi
 inner_past r i n = unless_zero (suc n) _ _ (omega arith)
 
 -- before the end of a word, the day hasn't ended, and no later word has begun
-before_past : (r : DailyRecord) (i n m : ℕ) → Rises r → i + suc n ≡ r.count → m < word_past r i n → (m < 1440 * (day_at r.buffer r.place + 1)) × ((later : ℕ) → i < later → later < r.count → m < word_minute r later)
-before_past r i zero m up count h = ((day_end (day_at r.buffer r.place) m).0 h, λ later l u. absurd (omega arith))
+before_past : (r : DailyRecord) (i n m : ℕ) → Rises r → i + suc n ≡ r.count → m < word_past r i n → (m < 1440 * (record_day r.buffer r.place + 1)) × ((later : ℕ) → i < later → later < r.count → m < word_minute r later)
+before_past r i zero m up count h = ((day_end (record_day r.buffer r.place) m).0 h, λ later l u. absurd (omega arith))
 before_past r i (suc n) m up count h =
     let next : m < word_minute r (i + 1) = subst (λ (x : ℕ). m < x) (inner_past r i n) h in (
       within_day _ _ m next (up (i + 1) (i + 1) (le_self _) (omega arith)).1,
-      λ later l u. below_later (day_at r.buffer r.place) _ _ m next (up (i + 1) later (omega arith) u).0,
+      λ later l u. below_later (record_day r.buffer r.place) _ _ m next (up (i + 1) later (omega arith) u).0,
     )
 
 -- if the day hasn't ended and no later word has begun, the word hasn't ended
-not_past : (r : DailyRecord) (i n m : ℕ) → i + suc n ≡ r.count → m < 1440 * (day_at r.buffer r.place + 1) → ((later : ℕ) → i < later → later < r.count → m < word_minute r later) → m < word_past r i n
-not_past r i zero m count day later = (day_end (day_at r.buffer r.place) m).1 day
+not_past : (r : DailyRecord) (i n m : ℕ) → i + suc n ≡ r.count → m < 1440 * (record_day r.buffer r.place + 1) → ((later : ℕ) → i < later → later < r.count → m < word_minute r later) → m < word_past r i n
+not_past r i zero m count day later = (day_end (record_day r.buffer r.place) m).1 day
 not_past r i (suc n) m count day later = subst (λ (x : ℕ). m < x) (sym (inner_past r i n)) (later (i + 1) (omega arith) (omega arith))
 
 -- if a word gives a mark, it is the word's own mark, and the word isn't the last one of the newest record
@@ -165,7 +165,7 @@ own_closed newest r i n k h inner = go (r.place == newest) refl (n == 0) refl wh
   go false e z f = h
 
 -- what the span of the i-th word gives, the record gives by this word
-own_gives : (newest : ℕ) (r : DailyRecord) (i n m : ℕ) (k : Mark) → Rises r → i + suc n ≡ r.count → Gives (marked (word_minute r i) (word_past r i n) (closed_mark (r.place == newest) r i n)) m k → GivesFrom i newest r m k
+own_gives : (newest : ℕ) (r : DailyRecord) (i n m : ℕ) (k : Mark) → Rises r → i + suc n ≡ r.count → Gives (span_of_mark (word_minute r i) (word_past r i n) (closed_mark (r.place == newest) r i n)) m k → GivesFrom i newest r m k
 own_gives newest r i n m k up count g =
     let span = from_marked (word_minute r i) (word_past r i n) (closed_mark (r.place == newest) r i n) m k g in
     let before = before_past r i n m up count span.1 in
@@ -183,7 +183,7 @@ own_gives newest r i n m k up count g =
     )
 
 -- what the record gives by the i-th word, the span of this word gives
-gives_own : (newest : ℕ) (r : DailyRecord) (i n m : ℕ) (k : Mark) → i + suc n ≡ r.count → (g : RecordGives newest r m k) → g.word ≡ i → Gives (marked (word_minute r i) (word_past r i n) (closed_mark (r.place == newest) r i n)) m k
+gives_own : (newest : ℕ) (r : DailyRecord) (i n m : ℕ) (k : Mark) → i + suc n ≡ r.count → (g : RecordGives newest r m k) → g.word ≡ i → Gives (span_of_mark (word_minute r i) (word_past r i n) (closed_mark (r.place == newest) r i n)) m k
 gives_own newest r i n m k count g e =
     let holds : word_minute r i ≤ m = subst (λ (x : ℕ). word_minute r x ≤ m) e g.holds in
     let mark : mark_of (word_at r.buffer r.place i) ≡ Some k = subst (λ (x : ℕ). mark_of (word_at r.buffer r.place x) ≡ Some k) e g.marked in
@@ -197,7 +197,7 @@ unfolding words_spans
 words_give newest r i zero m k up count = (λ g. absurd g, λ g. let there = g.0.there in absurd (omega (arith, there, g.1, count)))
 words_give newest r i (suc n) m k up count = (λ g. there (words_give newest r (i + 1) n m k up (omega arith)).0 (gives_either own rest m k g), λ g. back (words_give newest r (i + 1) n m k up (omega arith)).1 g.0 (lt_or_eq i g.0.word g.1)) where
   own : List Span
-  own = marked (word_minute r i) (word_past r i n) (closed_mark (r.place == newest) r i n)
+  own = span_of_mark (word_minute r i) (word_past r i n) (closed_mark (r.place == newest) r i n)
 
   rest : List Span
   rest = words_spans (r.place == newest) r (i + 1) n
@@ -240,7 +240,7 @@ unfolding record_at
 read_sound b p l r h =
     let one = passed (not (is_length (length b) (length_at b p))) _ _ _ h in
     let two = passed (nat_lt l (length_at b p)) _ _ _ one in
-    let three = passed (not (is_read_day (day_at b p))) _ _ _ two in
+    let three = passed (not (is_read_day (record_day b p))) _ _ _ two in
     let read = no_fault (words_fault b p 0 0 ((length_at b p - 12) / 2)) (record { buffer = b; place = p; count = (length_at b p - 12) / 2 }) r three in
     subst (λ (x : DailyRecord). words_fault x.buffer x.place 0 0 x.count ≡ None) read.1 read.0
 
@@ -258,16 +258,16 @@ unless_sound false rest s = s
 from_sound : (fuel : ℕ) (b : List ℕ) (n p l : ℕ) → AllSound (chain_from fuel b n p l)
 unfolding chain_from
 from_sound zero b n p l = tt
-from_sound (suc fuel) b n p l = followed_sound (record_at b p l) _ (λ r e. read_sound b p l r e) (unless_sound (p == n) _ (from_sound fuel b n (wrapped b (p + length_at b p)) (l - length_at b p)))
+from_sound (suc fuel) b n p l = followed_sound (record_at b p l) _ (λ r e. read_sound b p l r e) (unless_sound (p == n) _ (from_sound fuel b n (wrap_place b (p + length_at b p)) (l - length_at b p)))
 
 -- no record of a chain has a word with a fault
 chain_sound : (activity : DriverActivity) → AllSound (chain activity)
-chain_sound activity = unless_sound (is_empty activity) _ (from_sound (suc (length activity.buffer)) activity.buffer activity.newest activity.oldest (length activity.buffer))
+chain_sound activity = unless_sound (has_no_records activity) _ (from_sound (suc (length activity.buffer)) activity.buffer activity.newest activity.oldest (length activity.buffer))
 
 -- ---- what chains give
 
 -- if spans before others give a result, the others have one
-with_ok : (front own : List Span) (x : Result (List Span) CardFault) → with_spans front x ≡ Ok own → (rest : List Span) × (x ≡ Ok rest) × (own ≡ front ++ rest)
+with_ok : (front own : List Span) (x : Result (List Span) CardFault) → prepend_spans front x ≡ Ok own → (rest : List Span) × (x ≡ Ok rest) × (own ≡ front ++ rest)
 with_ok front own (Ok rest) h = let e : own ≡ front ++ rest = cc in (rest, refl, e)
 with_ok front own (Err f) h = cc
 
@@ -356,7 +356,7 @@ activities_either (activity ∷ activities) more m k (inr g) = go (activities_ei
   go (inr h) = inr h
 
 -- spans of further data, appended to the spans so far, give what all these data give
-pub raw_more : (activities : List DriverActivity) (activity : DriverActivity) (raw new : List Span) → IsRaw activities raw → with_spans raw (activity_spans activity) ≡ Ok new → IsRaw (activities ++ activity ∷ []) new
+pub raw_more : (activities : List DriverActivity) (activity : DriverActivity) (raw new : List Span) → IsRaw activities raw → prepend_spans raw (activity_spans activity) ≡ Ok new → IsRaw (activities ++ activity ∷ []) new
 raw_more activities activity raw new h e =
     let parts = with_ok raw new (activity_spans activity) e in
     let own = activity_gives activity parts.0 parts.1 in (
@@ -376,7 +376,7 @@ raw_more activities activity raw new h e =
       back m k own same (inr (inr g)) = absurd g
 
 -- a fault of further data, or out of memory, is the fault of all data and of those that follow
-pub raw_fault : (activities : List DriverActivity) (activity : DriverActivity) (more : List DriverActivity) (raw : List Span) (f : CardFault) → IsRaw activities raw → OrMemory Memory f (activity_spans activity ≡ Err f) → IsFaultOf (activities ++ activity ∷ more) f
+pub raw_fault : (activities : List DriverActivity) (activity : DriverActivity) (more : List DriverActivity) (raw : List Span) (f : CardFault) → IsRaw activities raw → OrMemory Memory f (activity_spans activity ≡ Err f) → IsReadingFault (activities ++ activity ∷ more) f
 raw_fault activities activity more raw f h (inl e) = inl e
 raw_fault activities activity more raw f h (inr e) = inr (inl (fault_after activities (activity ∷ more) h.0 ∙ chain_with activity more f (activity_fault activity f e)))
 
@@ -403,12 +403,12 @@ pairs_first : (P Q : ℕ → Mark → Type 0) (m : ℕ) → SamePairs P Q → Is
 pairs_first P Q m f c = (pairs_conflict P Q m f c.0, λ n l d. c.1 n l (pairs_conflict Q P n (pairs_sym P Q f) d))
 
 -- the canonical list of what data give is their reading
-pub raw_reading : {V : Type 0} (items : V → List Span) (activities : List DriverActivity) (raw : List Span) (result : Result V CardFault) → IsRaw activities raw → MatchResult result (λ runs. IsCanonicalOf (Gives raw) (items runs)) (IsConflictOf raw) → MatchResult result (λ runs. IsReading activities (Ok (items runs))) (IsFaultOf activities)
+pub raw_reading : {V : Type 0} (items : V → List Span) (activities : List DriverActivity) (raw : List Span) (result : Result V CardFault) → IsRaw activities raw → MatchResult result (λ runs. IsCanonicalOf (Gives raw) (items runs)) (IsConflictOf raw) → MatchResult result (λ runs. IsReading activities (Ok (items runs))) (IsReadingFault activities)
 raw_reading items activities raw (Ok v) h e = (h.0, record { canonical = e.canonical; same = pairs_trans (Gives (items v)) (Gives raw) (ActivitiesGive activities) e.same h.1 })
 raw_reading items activities raw (Err f) h (inl e) = inl e
 raw_reading items activities raw (Err f) h (inr c) = inr (inr (h.0, (c.0, c.1, pairs_first (Gives raw) (ActivitiesGive activities) c.0 h.1 c.2)))
 
 -- a fault of the data that `?` passes on is that of their reading
-pub raw_failure : {V : Type 0} (items : V → List Span) (activities : List DriverActivity) (fault : CardFault) (result : Result V CardFault) → IsFaultOf activities fault → IsErr result × IsErrAnd result (λ found. found ≡ fault) → MatchResult result (λ runs. IsReading activities (Ok (items runs))) (IsFaultOf activities)
+pub raw_failure : {V : Type 0} (items : V → List Span) (activities : List DriverActivity) (fault : CardFault) (result : Result V CardFault) → IsReadingFault activities fault → IsErr result × IsErrAnd result (λ found. found ≡ fault) → MatchResult result (λ runs. IsReading activities (Ok (items runs))) (IsReadingFault activities)
 raw_failure items activities fault (Ok v) h e = let wrong = e.0 in cc
-raw_failure items activities fault (Err f) h e = subst (IsFaultOf activities) (sym e.1) h
+raw_failure items activities fault (Err f) h e = subst (IsReadingFault activities) (sym e.1) h

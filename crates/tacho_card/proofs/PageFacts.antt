@@ -12,7 +12,7 @@ use Rattle.tacho_card.specs.DriverActivity.{DriverActivity, driver_activity}
 use Rattle.tacho_card.specs.DailyRecord.{words_fault, record_at}
 use Rattle.tacho_card.specs.Chain.{chain_from, chain, fault_of}
 use Rattle.tacho_card.specs.Reading.{IsReading}
-use Rattle.tacho_card.specs.RawSpans.{words_spans, with_spans, items_spans, activity_spans}
+use Rattle.tacho_card.specs.RawSpans.{words_spans, prepend_spans, items_spans, activity_spans}
 use Rattle.tacho_card.proofs.GivesLemmas.{raw_none, raw_more}
 use Rattle.tacho_card.specs.CardFile.{blocks_from, blocks_of, blocks_or_none, card_file, chosen_activity}
 
@@ -134,7 +134,7 @@ given =
     ∷ record { start = midnight; past = 28492320; mark = drive }
     ∷ []
 
-its_spans : with_spans [] (activity_spans twice) ≡ Ok given
+its_spans : prepend_spans [] (activity_spans twice) ≡ Ok given
 unfolding chain_from record_at words_fault words_spans items_spans
 its_spans = refl
 

@@ -4,11 +4,11 @@ use Rattle.std.proofs.lemmas.Bool.Decides.{nat_tests, not_from_Decides, Decides-
 use Rattle.tacho_card.specs.declared.fault.CardFault.{CardFault}
 use Rattle.tacho_card.specs.declared.fault.CardFault.TheVariants.{RecordLength, Chain, DayRange, WordMinute, WordOrder}
 use Rattle.tacho_card.specs.ActivityChangeInfo.{time_of}
-use Rattle.tacho_card.specs.DriverActivity.{DriverActivity, wrapped}
-use Rattle.tacho_card.specs.DailyRecord.{DailyRecord, length_at, day_at, word_place, word_at, is_length, is_read_day, words_fault, fault_or, record_at}
+use Rattle.tacho_card.specs.DriverActivity.{DriverActivity, wrap_place}
+use Rattle.tacho_card.specs.DailyRecord.{DailyRecord, length_at, record_day, word_place, word_at, is_length, is_read_day, words_fault, fault_or, record_at}
 use Rattle.tacho_card.specs.Chain.{lengths, read_after}
-use Rattle.tacho_card.specs.Faults.{HasWords, IsTooLong, IsReadDay, IsWordFault, IsFirstWordFault, HaveNoWordFault, IsRecordFault, IsRecordReading}
-use Rattle.tacho_card.proofs.FirstLemmas.{FirstFrom, first_here, first_behind, none_there, finds_none, finds_first}
+use Rattle.tacho_card.specs.Faults.{HasWords, IsTooLong, HasReadDay, IsWordFault, IsFirstWordFault, HaveNoWordFault, IsRecordFault, IsRecordReading}
+use Rattle.tacho_card.proofs.FirstLemmas.{FirstFrom, first_here, first_after, none_there, finds_none, finds_first}
 
 -- ---- the words
 
@@ -49,7 +49,7 @@ finds_from b p n minute i (suc k) e h = go (nat_le 1440 time) refl (nat_lt time 
   time = time_of (word_at b p i)
 
   place : ℕ
-  place = wrapped b (word_place p i)
+  place = wrap_place b (word_place p i)
 
   others : Option CardFault
   others = words_fault b p time (i + 1) k
@@ -61,7 +61,7 @@ finds_from b p n minute i (suc k) e h = go (nat_le 1440 time) refl (nat_lt time 
   go false l false u rest =
       let day = not_from_Decides _ (late_decides time) l in
       let order = not_from_Decides _ (Decides-ltb time minute) u in
-      first_behind (Fault b p n) i _ (λ other f. has_none b p minute i h day order other f.1) rest
+      first_after (Fault b p n) i _ (λ other f. has_none b p minute i h day order other f.1) rest
 
 -- likewise for all words
 finds : (b : List ℕ) (p n : ℕ) → FirstFrom (Fault b p n) 0 (words_fault b p 0 0 n)
@@ -150,11 +150,11 @@ by_tests b p length_passes too_long day_passes fault =
 
 -- the recursion reads this, if the checks have these results
 tests_read : (b : List ℕ) (p left : ℕ) (t u v : Bool) (o : Option CardFault) → is_length (length b) (length_at b p) ≡ t → nat_lt left (length_at b p) ≡ u →
-    is_read_day (day_at b p) ≡ v → words_fault b p 0 0 ((length_at b p - 12) / 2) ≡ o → record_at b p left ≡ by_tests b p t u v o
+    is_read_day (record_day b p) ≡ v → words_fault b p 0 0 ((length_at b p - 12) / 2) ≡ o → record_at b p left ≡ by_tests b p t u v o
 unfolding record_at
 tests_read b p left t u v o e f g h =
-    ap (λ x. by_tests b p x (nat_lt left (length_at b p)) (is_read_day (day_at b p)) (words_fault b p 0 0 ((length_at b p - 12) / 2))) e
-    ∙ ap (λ x. by_tests b p t x (is_read_day (day_at b p)) (words_fault b p 0 0 ((length_at b p - 12) / 2))) f
+    ap (λ x. by_tests b p x (nat_lt left (length_at b p)) (is_read_day (record_day b p)) (words_fault b p 0 0 ((length_at b p - 12) / 2))) e
+    ∙ ap (λ x. by_tests b p t x (is_read_day (record_day b p)) (words_fault b p 0 0 ((length_at b p - 12) / 2))) f
     ∙ ap₂ (λ x y. by_tests b p t u x y) g h
 
 -- ---- the law
@@ -162,7 +162,7 @@ tests_read b p left t u v o e f g h =
 -- the record has a fault of its words, and none before
 abbrev HasWordFault : DriverActivity → List ℕ → ℕ → CardFault → Type 0
 HasWordFault activity front place fault =
-    (count : ℕ) × HasWords activity place count × ¬ (IsTooLong activity front place) × IsReadDay activity place × IsFirstWordFault activity.buffer place count fault
+    (count : ℕ) × HasWords activity place count × ¬ (IsTooLong activity front place) × HasReadDay activity place × IsFirstWordFault activity.buffer place count fault
 
 -- this fault is the record's fault
 word_fault_is : (activity : DriverActivity) (front : List ℕ) (place : ℕ) (fault : CardFault) → HasWordFault activity front place fault → IsRecordFault activity front place fault
@@ -178,7 +178,7 @@ word_fault_is activity front place fault h = go h.4.is where
 read_is : (activity : DriverActivity) (front : List ℕ) (place : ℕ) → IsRecordReading activity front place (read_after activity front place)
 read_is activity front place =
     subst (IsRecordReading activity front place) (sym (tests_read b place (left activity front) _ _ _ _ refl refl refl refl))
-    (go (is_length (length b) len) refl (nat_lt (left activity front) len) refl (is_read_day (day_at b place)) refl (words_fault b place 0 0 count) refl) where
+    (go (is_length (length b) len) refl (nat_lt (left activity front) len) refl (is_read_day (record_day b place)) refl (words_fault b place 0 0 count) refl) where
       b : List ℕ
       b = activity.buffer
 
@@ -195,27 +195,27 @@ read_is activity front place =
       room e f = not_from_Decides _ (long_decides activity front place count (words e)) f
 
       go : (t : Bool) → is_length (length b) len ≡ t → (u : Bool) → nat_lt (left activity front) len ≡ u →
-          (v : Bool) → is_read_day (day_at b place) ≡ v → (o : Option CardFault) → words_fault b place 0 0 count ≡ o →
+          (v : Bool) → is_read_day (record_day b place) ≡ v → (o : Option CardFault) → words_fault b place 0 0 count ≡ o →
           IsRecordReading activity front place (by_tests b place t u v o)
       go false e u f v g o h = (refl, λ n some. not_from_Decides _ (length_decides activity place) e (n, some))
       go true e true f v g o h = (refl, (count, words e), (long_decides activity front place count (words e)).0 f)
-      go true e false f false g o h = (refl, (count, words e), room e f, not_from_Decides _ (day_decides (day_at b place)) g)
+      go true e false f false g o h = (refl, (count, words e), room e f, not_from_Decides _ (day_decides (record_day b place)) g)
       go true e false f true g None h = (
         refl,
         record {
           buffer = refl;
           words = words e;
           room = room e f;
-          day = (day_decides (day_at b place)).0 g;
+          day = (day_decides (record_day b place)).0 g;
           in_order = none_found b place count h;
         },
       )
       go true e false f true g (Some fault) h =
-          word_fault_is activity front place fault (count, words e, room e f, (day_decides (day_at b place)).0 g, first_found b place count fault h)
+          word_fault_is activity front place fault (count, words e, room e f, (day_decides (record_day b place)).0 g, first_found b place count fault h)
 
 -- a record that passes the checks is read, or refused with the fault of its words
 words_read : (activity : DriverActivity) (front : List ℕ) (place count : ℕ) (o : Option CardFault) → HasWords activity place count → ¬ (IsTooLong activity front place) →
-    IsReadDay activity place → words_fault activity.buffer place 0 0 count ≡ o →
+    HasReadDay activity place → words_fault activity.buffer place 0 0 count ≡ o →
     read_after activity front place ≡ fault_or o (record { buffer = activity.buffer; place = place; count = count })
 words_read activity front place count o h room day e =
     let same = words_count (length_at activity.buffer place) count h.0 in
@@ -238,7 +238,7 @@ is_read activity front place (Err (Chain p)) h =
     tests_read activity.buffer place (left activity front) true true _ _ ((length_decides activity place).1 h.1) long refl refl ∙ ap (λ x. Err (Chain x)) (sym h.0)
 is_read activity front place (Err (DayRange p)) h =
     let room = fails _ (long_decides activity front place h.1.0 h.1.1) h.2 in
-    let day = fails _ (day_decides (day_at activity.buffer place)) h.3 in
+    let day = fails _ (day_decides (record_day activity.buffer place)) h.3 in
     tests_read activity.buffer place (left activity front) true false false _ ((length_decides activity place).1 h.1) room day refl ∙ ap (λ x. Err (DayRange x)) (sym h.0)
 is_read activity front place (Err fault) h =
     words_read activity front place h.0 (Some fault) h.1 h.2 h.3 (first_fault activity.buffer place h.0 fault h.4)

@@ -1,7 +1,7 @@
 -- The four blocks that a card file may have only once.
 use Rattle.std.proofs.Common.{◌≡◌, ℕ, ◌==◌, ◌&&◌, ◌||◌, Bool, true, false, cond, List, [], ◌∷◌, ◌++◌, set, slice_index_or, Option, None, Some, ◌⊎◌, inl, inr, refl, sym, ap, ap₂, ◌∙◌, subst, arith}
 use Rattle.std.proofs.lemmas.Bool.Decides.{nat_tests}
-use Rattle.tacho_card.specs.CardFile.{FileBlock, activity_data, identification, is_block, is_single, has, repeated}
+use Rattle.tacho_card.specs.CardFile.{FileBlock, activity_data, identification, is_block, is_once, has, first_repeat}
 use Rattle.tacho_card.specs.Singles.{single_place}
 
 -- some block has this identifier and kind
@@ -65,12 +65,12 @@ marks_at blocks b i k e f =
 
 -- what holds for a block that is one of the four
 record IsAt (b : FileBlock) (place : ℕ) : Type 0 where
-  single : is_single b ≡ true
+  single : is_once b ≡ true
   seen : (blocks : List FileBlock) → slice_index_or (marks blocks) place false ≡ has b blocks
   more : (blocks : List FileBlock) → set (marks blocks) place true ≡ marks (blocks ++ b ∷ [])
 
 -- a block with these numbers may be in the file only once
-single_by : (b : FileBlock) (i k : ℕ) → b.identifier ≡ i → b.kind ≡ k → is_single b ≡ (((i == activity_data) || (i == identification)) && ((k == 0) || (k == 2)))
+single_by : (b : FileBlock) (i k : ℕ) → b.identifier ≡ i → b.kind ≡ k → is_once b ≡ (((i == activity_data) || (i == identification)) && ((k == 0) || (k == 2)))
 single_by b i k e f = ap₂ (λ x y. ((x == activity_data) || (x == identification)) && ((y == 0) || (y == 2))) e f
 
 -- true if a block with these numbers was seen
@@ -155,22 +155,22 @@ past_test : (t : Bool) (b : FileBlock) (rest : Option FileBlock) → t ≡ false
 past_test t b rest h = ap (λ x. cond x (Some b) rest) h
 
 -- one of the four that was seen before
-pub repeats : (b : FileBlock) (place : ℕ) (blocks rest : List FileBlock) → single_place b ≡ Some place → slice_index_or (marks blocks) place false ≡ true → repeated blocks (b ∷ rest) ≡ Some b
+pub repeats : (b : FileBlock) (place : ℕ) (blocks rest : List FileBlock) → single_place b ≡ Some place → slice_index_or (marks blocks) place false ≡ true → first_repeat blocks (b ∷ rest) ≡ Some b
 repeats b place blocks rest h seen =
     let is = at_place b place h in
-    after_test (is_single b && has b blocks) b _ (ap₂ (λ x y. x && y) is.single (sym (is.seen blocks) ∙ seen))
+    after_test (is_once b && has b blocks) b _ (ap₂ (λ x y. x && y) is.single (sym (is.seen blocks) ∙ seen))
 
 -- one of the four that wasn't seen before
-pub first_time : (b : FileBlock) (place : ℕ) (blocks rest : List FileBlock) → single_place b ≡ Some place → slice_index_or (marks blocks) place false ≡ false → (set (marks blocks) place true ≡ marks (blocks ++ b ∷ [])) × (repeated blocks (b ∷ rest) ≡ repeated (blocks ++ b ∷ []) rest)
+pub first_time : (b : FileBlock) (place : ℕ) (blocks rest : List FileBlock) → single_place b ≡ Some place → slice_index_or (marks blocks) place false ≡ false → (set (marks blocks) place true ≡ marks (blocks ++ b ∷ [])) × (first_repeat blocks (b ∷ rest) ≡ first_repeat (blocks ++ b ∷ []) rest)
 first_time b place blocks rest h seen =
     let is = at_place b place h in
-    (is.more blocks, past_test (is_single b && has b blocks) b _ (ap₂ (λ x y. x && y) is.single (sym (is.seen blocks) ∙ seen)))
+    (is.more blocks, past_test (is_once b && has b blocks) b _ (ap₂ (λ x y. x && y) is.single (sym (is.seen blocks) ∙ seen)))
 
 -- any other block
-pub no_single : (b : FileBlock) (blocks rest : List FileBlock) → single_place b ≡ None → (marks blocks ≡ marks (blocks ++ b ∷ [])) × (repeated blocks (b ∷ rest) ≡ repeated (blocks ++ b ∷ []) rest)
+pub no_single : (b : FileBlock) (blocks rest : List FileBlock) → single_place b ≡ None → (marks blocks ≡ marks (blocks ++ b ∷ [])) × (first_repeat blocks (b ∷ rest) ≡ first_repeat (blocks ++ b ∷ []) rest)
 no_single b blocks rest h =
     let no = no_tests _ _ _ _ h in
     let single = not_single_tests b.identifier b.kind activity_data identification no.0 no.1 no.2 no.3 in (
       sym (marks_more blocks b _ _ _ _ no.0 no.1 no.2 no.3 ∙ simp or_false),
-      past_test (is_single b && has b blocks) b _ (ap (λ t. t && has b blocks) single),
+      past_test (is_once b && has b blocks) b _ (ap (λ t. t && has b blocks) single),
     )

@@ -4,15 +4,15 @@ use Rattle.std.proofs.lemmas.Bool.Decides.{nat_tests}
 use Rattle.tacho_card.specs.declared.fault.CardFault.{CardFault}
 use Rattle.tacho_card.specs.declared.fault.CardFault.TheVariants.{WordMinute, WordOrder}
 use Rattle.tacho_card.specs.ActivityChangeInfo.{time_of}
-use Rattle.tacho_card.specs.DriverActivity.{wrapped}
+use Rattle.tacho_card.specs.DriverActivity.{wrap_place}
 use Rattle.tacho_card.specs.DailyRecord.{word_place, word_at, words_fault}
 
 -- the fault of one word, or that of the words after it
 abbrev after_word : List ℕ → ℕ → ℕ → ℕ → Option CardFault → Option CardFault
 after_word buffer place before i rest =
     let minute = time_of (word_at buffer place i) in
-    cond (nat_le 1440 minute) (Some (WordMinute (wrapped buffer (word_place place i))))
-    (cond (nat_lt minute before) (Some (WordOrder (wrapped buffer (word_place place i)))) rest)
+    cond (nat_le 1440 minute) (Some (WordMinute (wrap_place buffer (word_place place i))))
+    (cond (nat_lt minute before) (Some (WordOrder (wrap_place buffer (word_place place i)))) rest)
 
 one_word : (b : List ℕ) (p before i n : ℕ) → i < n → words_fault b p before i (n - i) ≡ after_word b p before i (words_fault b p (time_of (word_at b p i)) (i + 1) (n - (i + 1)))
 unfolding words_fault
@@ -32,10 +32,10 @@ below_test m n x y h = grind (arith, nat_tests)
 not_below_test : {X : Type 0} (m n : ℕ) (x y : X) → n ≤ m → cond (nat_lt m n) x y ≡ y
 not_below_test m n x y h = grind (arith, nat_tests)
 
-pub late_word : (b : List ℕ) (p before i n w : ℕ) → i < n → w ≡ word_at b p i → 1440 ≤ time_of w → words_fault b p before i (n - i) ≡ Some (WordMinute (wrapped b (word_place p i)))
+pub late_word : (b : List ℕ) (p before i n w : ℕ) → i < n → w ≡ word_at b p i → 1440 ≤ time_of w → words_fault b p before i (n - i) ≡ Some (WordMinute (wrap_place b (word_place p i)))
 late_word b p before i n w h e m = let m' : 1440 ≤ time_of (word_at b p i) = rw (← e) m in one_word b p before i n h ∙ late_test _ _ _ m'
 
-pub early_word : (b : List ℕ) (p before i n w : ℕ) → i < n → w ≡ word_at b p i → time_of w < 1440 → time_of w < before → words_fault b p before i (n - i) ≡ Some (WordOrder (wrapped b (word_place p i)))
+pub early_word : (b : List ℕ) (p before i n w : ℕ) → i < n → w ≡ word_at b p i → time_of w < 1440 → time_of w < before → words_fault b p before i (n - i) ≡ Some (WordOrder (wrap_place b (word_place p i)))
 early_word b p before i n w h e m o =
     let m' : time_of (word_at b p i) < 1440 = rw (← e) m in
     let o' : time_of (word_at b p i) < before = rw (← e) o in

@@ -110,8 +110,8 @@ value_of identifier kind [] = None
 value_of identifier kind (b ∷ blocks) = if is_block identifier kind b then Some b.value else value_of identifier kind blocks
 
 -- true if the file may have a block with this identifier and kind only once: data of either generation, in either elementary file
-abbrev pub is_single : FileBlock → Bool
-is_single b = ((b.identifier == activity_data) || (b.identifier == identification)) && ((b.kind == 0) || (b.kind == 2))
+abbrev pub is_once : FileBlock → Bool
+is_once b = ((b.identifier == activity_data) || (b.identifier == identification)) && ((b.kind == 0) || (b.kind == 2))
 
 -- true if one of the blocks has the identifier and the kind of this one
 abbrev pub has : FileBlock → List FileBlock → Bool
@@ -119,9 +119,9 @@ has b [] = false
 has b (first ∷ blocks) = is_block b.identifier b.kind first || has b blocks
 
 -- the first block that repeats an earlier one, of those that the file may have only once; the blocks in `seen` come before
-abbrev pub repeated : List FileBlock → List FileBlock → Option FileBlock
-repeated seen [] = None
-repeated seen (b ∷ blocks) = if is_single b && has b seen then Some b else repeated (seen ++ b ∷ []) blocks
+abbrev pub first_repeat : List FileBlock → List FileBlock → Option FileBlock
+first_repeat seen [] = None
+first_repeat seen (b ∷ blocks) = if is_once b && has b seen then Some b else first_repeat (seen ++ b ∷ []) blocks
 
 -- the blocks, or C2 if one of them is repeated
 abbrev pub no_repetition : Option FileBlock → List FileBlock → Result (List FileBlock) CardFault
@@ -162,7 +162,7 @@ then_held (Err fault) = Err fault
 
 -- the blocks, or C2
 abbrev pub then_single : Result (List FileBlock) CardFault → Result (List FileBlock) CardFault
-then_single (Ok blocks) = no_repetition (repeated [] blocks) blocks
+then_single (Ok blocks) = no_repetition (first_repeat [] blocks) blocks
 then_single (Err fault) = Err fault
 
 -- the blocks of a card file, or the first of C1 to C5

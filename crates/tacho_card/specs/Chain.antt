@@ -1,12 +1,12 @@
 -- Trusted: The chain of the records of a cyclic buffer, from the oldest to the newest.
 use Rattle.std.specs.Prelude.{◌≡◌, ◌≢◌, ℕ, zero, suc, ◌+◌, ◌-◌, ◌&&◌, ◌==◌, ◌⊎◌, Bool, List, [], ◌∷◌, ◌++◌, length, Option, None, Some, Result, Ok, Err, IsOk, IsErr, IsTrue, if◌then◌else◌}
 use Rattle.tacho_card.specs.declared.fault.CardFault.{CardFault}
-use Rattle.tacho_card.specs.DriverActivity.{DriverActivity, wrapped}
+use Rattle.tacho_card.specs.DriverActivity.{DriverActivity, wrap_place}
 use Rattle.tacho_card.specs.DailyRecord.{DailyRecord, length_at, record_at}
 
 -- true if there are no records: both pointers are equal, and the length at this place is 0
-abbrev pub is_empty : DriverActivity → Bool
-is_empty activity = (activity.oldest == activity.newest) && (length_at activity.buffer activity.oldest == 0)
+abbrev pub has_no_records : DriverActivity → Bool
+has_no_records activity = (activity.oldest == activity.newest) && (length_at activity.buffer activity.oldest == 0)
 
 -- ---- by places
 
@@ -24,7 +24,7 @@ read_after activity front place = record_at activity.buffer place (length activi
 pub record IsFront (activity : DriverActivity) (places : List ℕ) : Type 0 where
   pub begins : (rest : List ℕ) × (places ≡ activity.oldest ∷ rest)
   pub goes_on : (front rest : List ℕ) (place next : ℕ) → places ≡ front ++ place ∷ next ∷ rest →
-      (place ≢ activity.newest) × IsOk (read_after activity front place) × (next ≡ wrapped activity.buffer (place + length_at activity.buffer place))
+      (place ≢ activity.newest) × IsOk (read_after activity front place) × (next ≡ wrap_place activity.buffer (place + length_at activity.buffer place))
 
 -- the results of reading the records at these places, after those of a front
 abbrev pub readings : DriverActivity → List ℕ → List ℕ → List (Result DailyRecord CardFault)
@@ -40,8 +40,8 @@ pub record EndsChain (activity : DriverActivity) (front : List ℕ) (last : ℕ)
 -- the records of the chain in order, followed by its fault if it has one
 abbrev pub IsChain : DriverActivity → List (Result DailyRecord CardFault) → Type 0
 IsChain activity items =
-    (IsTrue (is_empty activity) × (items ≡ []))
-    ⊎ ((is_empty activity ≢ Bool.true) × ((front : List ℕ) × (last : ℕ) × EndsChain activity front last items))
+    (IsTrue (has_no_records activity) × (items ≡ []))
+    ⊎ ((has_no_records activity ≢ Bool.true) × ((front : List ℕ) × (last : ℕ) × EndsChain activity front last items))
 
 -- ---- by recursion, in the order of an iterator
 
@@ -56,11 +56,11 @@ chain_from zero buffer newest place left = []
 chain_from (suc fuel) buffer newest place left =
     let len = length_at buffer place in
     followed_by (record_at buffer place left)
-    (if place == newest then [] else chain_from fuel buffer newest (wrapped buffer (place + len)) (left - len))
+    (if place == newest then [] else chain_from fuel buffer newest (wrap_place buffer (place + len)) (left - len))
 
 -- the records of the chain, followed by its fault if it has one
 abbrev pub chain : DriverActivity → List (Result DailyRecord CardFault)
-chain activity = if is_empty activity then [] else chain_from (suc (length activity.buffer)) activity.buffer activity.newest activity.oldest (length activity.buffer)
+chain activity = if has_no_records activity then [] else chain_from (suc (length activity.buffer)) activity.buffer activity.newest activity.oldest (length activity.buffer)
 
 -- the fault at the end of a chain
 abbrev pub fault_of : List (Result DailyRecord CardFault) → Option CardFault

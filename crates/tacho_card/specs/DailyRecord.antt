@@ -3,7 +3,7 @@ use Rattle.std.specs.Prelude.{ℕ, zero, suc, ◌+◌, ◌-◌, ◌*◌, ◌/◌
 use Rattle.tacho_card.specs.declared.fault.CardFault.{CardFault}
 use Rattle.tacho_card.specs.declared.fault.CardFault.TheVariants.{RecordLength, Chain, DayRange, WordMinute, WordOrder}
 use Rattle.tacho_card.specs.ActivityChangeInfo.{time_of}
-use Rattle.tacho_card.specs.DriverActivity.{wrapped, number_at}
+use Rattle.tacho_card.specs.DriverActivity.{wrap_place, number_at}
 
 -- a record in a buffer: the place at which it begins, and the number of its words
 pub record DailyRecord : Type 0 where
@@ -20,8 +20,8 @@ abbrev pub seconds_at : List ℕ → ℕ → ℕ
 seconds_at buffer place = number_at buffer (place + 4) * 65536 + number_at buffer (place + 6)
 
 -- the day of that time
-abbrev pub day_at : List ℕ → ℕ → ℕ
-day_at buffer place = seconds_at buffer place / 86400
+abbrev pub record_day : List ℕ → ℕ → ℕ
+record_day buffer place = seconds_at buffer place / 86400
 
 -- the place of the i-th word of the record at a place
 abbrev pub word_place : ℕ → ℕ → ℕ
@@ -44,8 +44,8 @@ unfoldable pub words_fault : List ℕ → ℕ → ℕ → ℕ → ℕ → Option
 words_fault buffer place before i zero = None
 words_fault buffer place before i (suc k) =
     let minute = time_of (word_at buffer place i) in
-    if nat_le 1440 minute then Some (WordMinute (wrapped buffer (word_place place i)))
-    else (if nat_lt minute before then Some (WordOrder (wrapped buffer (word_place place i)))
+    if nat_le 1440 minute then Some (WordMinute (wrap_place buffer (word_place place i)))
+    else (if nat_lt minute before then Some (WordOrder (wrap_place buffer (word_place place i)))
     else words_fault buffer place minute (i + 1) k)
 
 -- the fault, or the record if there is none
@@ -60,5 +60,5 @@ record_at buffer place left =
     let len = length_at buffer place in
     if not (is_length (length buffer) len) then Err (RecordLength place)
     else (if nat_lt left len then Err (Chain place)
-    else (if not (is_read_day (day_at buffer place)) then Err (DayRange place)
+    else (if not (is_read_day (record_day buffer place)) then Err (DayRange place)
     else (let count = (len - 12) / 2 in fault_or (words_fault buffer place 0 0 count) (record { buffer = buffer; place = place; count = count }))))

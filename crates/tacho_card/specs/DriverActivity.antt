@@ -10,12 +10,12 @@ pub record DriverActivity : Type 0 where
   pub buffer : List ℕ
 
 -- a place, wrapped around at the buffer's end
-abbrev pub wrapped : List ℕ → ℕ → ℕ
-wrapped buffer i = i % length buffer
+abbrev pub wrap_place : List ℕ → ℕ → ℕ
+wrap_place buffer i = i % length buffer
 
 -- the byte at a place that may wrap around
 abbrev pub byte_at : List ℕ → ℕ → ℕ
-byte_at buffer i = slice_index buffer (wrapped buffer i)
+byte_at buffer i = slice_index buffer (wrap_place buffer i)
 
 -- the number in two bytes, the most significant first
 abbrev pub number_at : List ℕ → ℕ → ℕ

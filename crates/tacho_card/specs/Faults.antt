@@ -4,8 +4,8 @@ use Rattle.std.specs.Prelude.{◌≡◌, ◌≢◌, ℕ, ◌+◌, ◌*◌, ◌<�
 use Rattle.tacho_card.specs.declared.fault.CardFault.{CardFault}
 use Rattle.tacho_card.specs.declared.fault.CardFault.TheVariants.{Twice, NoIdentification, ShortIdentification, TwoCards, RecordLength, Chain, DayRange, WordMinute, WordOrder}
 use Rattle.tacho_card.specs.ActivityChangeInfo.{time_of}
-use Rattle.tacho_card.specs.DriverActivity.{DriverActivity, wrapped}
-use Rattle.tacho_card.specs.DailyRecord.{DailyRecord, length_at, day_at, word_place, word_at}
+use Rattle.tacho_card.specs.DriverActivity.{DriverActivity, wrap_place}
+use Rattle.tacho_card.specs.DailyRecord.{DailyRecord, length_at, record_day, word_place, word_at}
 use Rattle.tacho_card.specs.Chain.{lengths}
 use Rattle.tacho_card.specs.CardFile.{FileBlock, activity_data, identification, holder_in}
 
@@ -79,15 +79,15 @@ abbrev pub IsTooLong : DriverActivity → List ℕ → ℕ → Type 0
 IsTooLong activity front place = length activity.buffer < lengths activity.buffer front + length_at activity.buffer place
 
 -- the record's day is from 2000-01-03 to 2099-12-31; C11: it isn't
-abbrev pub IsReadDay : DriverActivity → ℕ → Type 0
-IsReadDay activity place = (10959 ≤ day_at activity.buffer place) × (day_at activity.buffer place ≤ 47481)
+abbrev pub HasReadDay : DriverActivity → ℕ → Type 0
+HasReadDay activity place = (10959 ≤ record_day activity.buffer place) × (record_day activity.buffer place ≤ 47481)
 
 -- C12: the minute of a word isn't one of a day; C13: it is below that of the word before
 abbrev pub IsWordFault : List ℕ → ℕ → ℕ → CardFault → Type 0
 IsWordFault buffer place word fault =
-    ((1440 ≤ time_of (word_at buffer place word)) × (fault ≡ WordMinute (wrapped buffer (word_place place word))))
+    ((1440 ≤ time_of (word_at buffer place word)) × (fault ≡ WordMinute (wrap_place buffer (word_place place word))))
     ⊎ (((before : ℕ) × (before + 1 ≡ word) × (time_of (word_at buffer place word) < time_of (word_at buffer place before)))
-    × (fault ≡ WordOrder (wrapped buffer (word_place place word))))
+    × (fault ≡ WordOrder (wrap_place buffer (word_place place word))))
 
 -- the fault of the first of `count` words that has one
 pub record IsFirstWordFault (buffer : List ℕ) (place count : ℕ) (fault : CardFault) : Type 0 where
@@ -104,16 +104,16 @@ abbrev pub IsRecordFault : DriverActivity → List ℕ → ℕ → CardFault →
 IsRecordFault activity front place (RecordLength p) = (p ≡ place) × ((count : ℕ) → ¬ (HasWords activity place count))
 IsRecordFault activity front place (Chain p) = (p ≡ place) × ((count : ℕ) × HasWords activity place count) × IsTooLong activity front place
 IsRecordFault activity front place (DayRange p) =
-    (p ≡ place) × ((count : ℕ) × HasWords activity place count) × ¬ (IsTooLong activity front place) × ¬ (IsReadDay activity place)
+    (p ≡ place) × ((count : ℕ) × HasWords activity place count) × ¬ (IsTooLong activity front place) × ¬ (HasReadDay activity place)
 IsRecordFault activity front place fault =
-    (count : ℕ) × HasWords activity place count × ¬ (IsTooLong activity front place) × IsReadDay activity place × IsFirstWordFault activity.buffer place count fault
+    (count : ℕ) × HasWords activity place count × ¬ (IsTooLong activity front place) × HasReadDay activity place × IsFirstWordFault activity.buffer place count fault
 
 -- a record without a fault
 pub record IsSound (activity : DriverActivity) (front : List ℕ) (r : DailyRecord) : Type 0 where
   pub buffer : r.buffer ≡ activity.buffer
   pub words : HasWords activity r.place r.count
   pub room : ¬ (IsTooLong activity front r.place)
-  pub day : IsReadDay activity r.place
+  pub day : HasReadDay activity r.place
   pub in_order : HaveNoWordFault activity.buffer r.place r.count
 
 -- the result of reading at a place: a record without a fault, or its first fault

@@ -10,12 +10,12 @@ use Rattle.tacho_card.specs.declared.fault.CardFault.{CardFault}
 use Rattle.tacho_card.specs.declared.fault.CardFault.TheVariants.{SelfContradiction, Memory}
 use Rattle.tacho_card.specs.ActivityChangeInfo.{time_of, mark_of}
 use Rattle.tacho_card.specs.DriverActivity.{DriverActivity}
-use Rattle.tacho_card.specs.DailyRecord.{DailyRecord, day_at, word_at}
+use Rattle.tacho_card.specs.DailyRecord.{DailyRecord, record_day, word_at}
 use Rattle.tacho_card.specs.Chain.{chain, fault_of}
 
 -- the minute from which the i-th word of a record holds
 abbrev pub word_minute : DailyRecord → ℕ → ℕ
-word_minute r i = 1440 * day_at r.buffer r.place + time_of (word_at r.buffer r.place i)
+word_minute r i = 1440 * record_day r.buffer r.place + time_of (word_at r.buffer r.place i)
 
 -- A record gives a minute of its day the mark of the last word that holds at or before that minute. A word without a mark gives nothing.
 -- The last word of the newest record gives nothing either, since the card doesn't say how long it held.
@@ -24,7 +24,7 @@ pub record RecordGives (newest : ℕ) (r : DailyRecord) (m : ℕ) (mark : Mark) 
   pub there : word < r.count
   pub holds : word_minute r word ≤ m
   pub last : (later : ℕ) → word < later → later < r.count → m < word_minute r later
-  pub in_day : m < 1440 * (day_at r.buffer r.place + 1)
+  pub in_day : m < 1440 * (record_day r.buffer r.place + 1)
   pub marked : mark_of (word_at r.buffer r.place word) ≡ Some mark
   pub closed : ¬ ((r.place ≡ newest) × (word + 1 ≡ r.count))
 
@@ -57,8 +57,8 @@ IsReading activities (Err fault) =
     ⊎ ((chains_fault activities ≡ None) × ((m : ℕ) × (fault ≡ SelfContradiction m) × IsFirstConflict (ActivitiesGive activities) m))
 
 -- the fault is that of the reading, or out of memory
-abbrev pub IsFaultOf : List DriverActivity → CardFault → Type 0
-IsFaultOf activities fault = OrMemory Memory fault (IsReading activities (Err fault))
+abbrev pub IsReadingFault : List DriverActivity → CardFault → Type 0
+IsReadingFault activities fault = OrMemory Memory fault (IsReading activities (Err fault))
 
 -- the card fault for a fault of its spans
 abbrev pub fault_of_spans : SpanFault → CardFault

@@ -76,7 +76,7 @@ impl<'a> Model for Blocks<'a> {
 
 impl<'a> Blocks<'a> {
     ghost use Rattle.std.specs.Prelude.{◌≡◌, ◌<◌, [], length, option_map, IfSome};
-    ghost use Rattle.tacho_card.specs.CardFile.{blocks_of, repeated as first_repeated, value_of as first_value, file_holder};
+    ghost use Rattle.tacho_card.specs.CardFile.{blocks_of, first_repeat as first_repeated, value_of as first_value, file_holder};
 
     /// Returns the blocks of these bytes, or C1.
     pub(crate) fn read(bytes: &'a [u8]) -> Result<Blocks<'a>, CardFault>

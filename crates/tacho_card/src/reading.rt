@@ -1,8 +1,8 @@
 ghost use Rattle.std.specs.Prelude.{◌≡◌, ℕ, [], ◌∷◌, Ok, Err, MatchResult};
 ghost use Rattle.tacho_time.specs.Spans.{Gives, IsCanonicalOf, IsFirstConflict};
-ghost use Rattle.tacho_card.specs.Reading.{IsReading, IsFaultOf};
+ghost use Rattle.tacho_card.specs.Reading.{IsReading, IsReadingFault};
 ghost use Rattle.tacho_card.specs.CardFile.{those_there, ReadsFile};
-ghost use Rattle.tacho_card.specs.RawSpans.{with_spans, activity_spans};
+ghost use Rattle.tacho_card.specs.RawSpans.{prepend_spans, activity_spans};
 ghost use Rattle.tacho_time.specs.OrMemory.{OrMemory};
 
 use crate::cyclic::Cyclic;
@@ -14,7 +14,7 @@ use tacho_time::{Span, canonical_spans};
 /// Returns what activity data give, as a canonical list of spans, or their first fault: first those of the records in the order of the
 /// chain (C9 to C13), then C14.
 pub fn spans_of(alloc: Global, activity: &Cyclic) -> Result<Vec<Span>, CardFault>
-    ensures { MatchResult result (λ spans. IsReading (activity.now ∷ []) (Ok spans.items)) (IsFaultOf (activity.now ∷ [])) }
+    ensures { MatchResult result (λ spans. IsReading (activity.now ∷ []) (Ok spans.items)) (IsReadingFault (activity.now ∷ [])) }
 {
     let mut raw = Vec::new(alloc);
     append_activity(&mut raw, activity)?;
@@ -32,7 +32,7 @@ pub fn spans(alloc: Global, file: &CardFile, part: Part) -> Result<Vec<Span>, Ca
 
 /// Returns what all data that are present give together, or their first fault.
 fn spans_of_chosen(alloc: Global, chosen: &[Option<Cyclic>]) -> Result<Vec<Span>, CardFault>
-    ensures { MatchResult result (λ spans. IsReading (those_there chosen.now) (Ok spans.items)) (IsFaultOf (those_there chosen.now)) }
+    ensures { MatchResult result (λ spans. IsReading (those_there chosen.now) (Ok spans.items)) (IsReadingFault (those_there chosen.now)) }
 {
     let mut raw = Vec::new(alloc);
     for activity in chosen {
@@ -45,7 +45,7 @@ fn spans_of_chosen(alloc: Global, chosen: &[Option<Cyclic>]) -> Result<Vec<Span>
 
 /// Appends the spans of all records of activity data, in no particular order.
 fn append_activity(spans: &mut Vec<Span>, activity: &Cyclic) -> Result<(), CardFault>
-    ensures { MatchResult result (λ _. with_spans spans.old.items (activity_spans activity.now) ≡ Ok spans.new.items) (λ fault. OrMemory CardFault.Memory fault (activity_spans activity.now ≡ Err fault)) }
+    ensures { MatchResult result (λ _. prepend_spans spans.old.items (activity_spans activity.now) ≡ Ok spans.new.items) (λ fault. OrMemory CardFault.Memory fault (activity_spans activity.now ≡ Err fault)) }
 {
     let newest = activity.newest();
     for item in activity.records() {

@@ -1,7 +1,7 @@
 ghost use Rattle.std.specs.Prelude.{◌≡◌, ◌+◌, ◌*◌, ◌<◌, ◌≤◌, ◌++◌, length, OnOk};
 ghost use Rattle.tacho_card.specs.ActivityChangeInfo.{time_of};
-ghost use Rattle.tacho_card.specs.RawSpans.{marked};
-ghost use Rattle.tacho_card.specs.DailyRecord.{is_length as length_test, is_read_day as day_test, day_at, words_fault};
+ghost use Rattle.tacho_card.specs.RawSpans.{span_of_mark};
+ghost use Rattle.tacho_card.specs.DailyRecord.{is_length as length_test, is_read_day as day_test, record_day, words_fault};
 
 use crate::cyclic::{number_in, place_in};
 use crate::fault::CardFault;
@@ -20,7 +20,7 @@ pub struct Record<'a> {
 
 impl<'a> Model for Record<'a> {
     ghost use Rattle.std.specs.Prelude.{◌≡◌, ◌+◌, ◌*◌, ◌<◌, ◌≤◌, length, None, IsTrue};
-    ghost use Rattle.tacho_card.specs.DailyRecord.{DailyRecord, is_read_day, day_at, words_fault};
+    ghost use Rattle.tacho_card.specs.DailyRecord.{DailyRecord, is_read_day, record_day, words_fault};
 
     ghost Value = { DailyRecord };
 
@@ -28,12 +28,12 @@ impl<'a> Model for Record<'a> {
 
     ghost invariant = { λ r.
         (r.place < length r.buffer.now) × (12 + 2 * r.count ≤ length r.buffer.now) × (length r.buffer.now < 65536)
-        × IsTrue (is_read_day (day_at r.buffer.now r.place)) × (words_fault r.buffer.now r.place 0 0 r.count ≡ None) };
+        × IsTrue (is_read_day (record_day r.buffer.now r.place)) × (words_fault r.buffer.now r.place 0 0 r.count ≡ None) };
 }
 
 impl<'a> Record<'a> {
     ghost use Rattle.std.specs.Prelude.{◌≡◌, ◌<◌, ◌≤◌, ◌++◌, length, OnOk, OnErr};
-    ghost use Rattle.tacho_card.specs.DailyRecord.{day_at, word_at, record_at};
+    ghost use Rattle.tacho_card.specs.DailyRecord.{record_day, word_at, record_at};
     ghost use Rattle.tacho_card.specs.RawSpans.{record_spans};
 
     /// Returns the place at which the record begins in the buffer.
@@ -45,7 +45,7 @@ impl<'a> Record<'a> {
 
     /// Returns the day of the record.
     pub fn day(&self) -> Day
-        ensures { result ≡ day_at self.now.buffer self.now.place }
+        ensures { result ≡ record_day self.now.buffer self.now.place }
     {
         Day::new(day_in(self.buffer, self.place))
     }
@@ -139,7 +139,7 @@ fn append_marked(
     past: Minute,
     mark: Option<Mark>,
 ) -> Result<(), AllocError>
-    ensures { OnOk result (spans.new.items ≡ spans.old.items ++ marked start past mark) }
+    ensures { OnOk result (spans.new.items ≡ spans.old.items ++ span_of_mark start past mark) }
 {
     if let Some(mark) = mark {
         spans.push(Span { start, past, mark })?;
@@ -152,7 +152,7 @@ fn day_in(buffer: &[u8], place: usize) -> u32
     requires size { 12 ≤ length buffer.now }
     requires limit { length buffer.now < 65536 }
     requires place { place < length buffer.now }
-    ensures { result ≡ day_at buffer.now place }
+    ensures { result ≡ record_day buffer.now place }
 {
     let seconds = number_in(buffer, place + 4) as u32 * 65536 + number_in(buffer, place + 6) as u32;
     seconds / 86400

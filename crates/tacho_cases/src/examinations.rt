@@ -231,7 +231,7 @@ fn a_fourth_rest_is_enough(rt: HostRuntime) -> Result<(), Fail> {
 
 /// The weeks from the 25th and from 1 April have only the third rest, also if its week is chosen again.
 #[test]
-fn weeks_lack_rests_directly_behind_others(rt: HostRuntime) -> Result<(), Fail> {
+fn weeks_lack_rests_directly_after_others(rt: HostRuntime) -> Result<(), Fail> {
     let alloc = rt.alloc();
     let pieces = three_sundays(alloc, &[work(26, 38, 360, 420), work(38, 38, 1380, 1440)])?;
     let late = breach(Kind::B8, at(32, 180), at(26, 180), 9900);
@@ -252,7 +252,7 @@ fn weeks_lack_rests_directly_behind_others(rt: HostRuntime) -> Result<(), Fail> 
 /// rest from the 24th to count in the week from the 18th, which leaves no rest for the week from the 18th and the one from the 25th. From
 /// there on, the rest from the 24th counts in the week from the 25th, and is enough together with the rest from 1 April.
 #[test]
-fn a_rest_counts_in_another_week_behind_a_breach(rt: HostRuntime) -> Result<(), Fail> {
+fn a_rest_counts_in_another_week_after_a_breach(rt: HostRuntime) -> Result<(), Fail> {
     let pieces = [
         work(4, 4, 0, 60),
         work(4, 8, 360, 420),
@@ -307,7 +307,7 @@ fn a_rest_of_more_than_a_week_counts_once(rt: HostRuntime) -> Result<(), Fail> {
 
 /// With one more rest, from the 12th to the 14th, the weeks before don't need it.
 #[test]
-fn a_rest_of_more_than_a_week_counts_behind_it(rt: HostRuntime) -> Result<(), Fail> {
+fn a_rest_of_more_than_a_week_counts_after_it(rt: HostRuntime) -> Result<(), Fail> {
     let alloc = rt.alloc();
     let pieces = a_long_rest(alloc, &[work(11, 12, 360, 420)])?;
     assert!(rt; finds(alloc, &pieces, at(39, 0), &[], &[])?);
@@ -315,7 +315,7 @@ fn a_rest_of_more_than_a_week_counts_behind_it(rt: HostRuntime) -> Result<(), Fa
 }
 
 #[test]
-fn nothing_is_examined_behind_the_held_minutes(rt: HostRuntime) -> Result<(), Fail> {
+fn nothing_is_examined_after_the_held_minutes(rt: HostRuntime) -> Result<(), Fail> {
     let alloc = rt.alloc();
     let line = line_of(alloc, &[drive(4, 4, 480, 510)], at(4, 1020))?;
     let report = report_of(alloc, &line, 1)?;

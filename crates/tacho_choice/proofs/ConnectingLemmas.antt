@@ -12,7 +12,7 @@ use Rattle.tacho_hours.proofs.DebtsLemmas.{separate}
 use Rattle.tacho_hours.proofs.ByRunsLemmas.{one_run}
 use Rattle.tacho_choice.specs.declared.weekly_rests.WeeklyRests.{WeeklyRests}
 use Rattle.tacho_choice.specs.declared.outcome.Outcome.{Outcome}
-use Rattle.tacho_choice.specs.Weeks.{first_of, last_of, is_regular, IsInWeeks, IsWeekOf, CanReach}
+use Rattle.tacho_choice.specs.Weeks.{first_week_of, last_of, is_regular, IsInWeeks, IsWeekOf, CanReach}
 use Rattle.tacho_choice.proofs.ChoicesLemmas as abstract
 
 -- a run starts before the end of a week iff its first week is at most that week
@@ -46,7 +46,7 @@ module _ (line : Line) (is : IsInWeeks line) where
     ]
   ]
 
-  touches_is : (run : Run) (w : ℕ) → IsWeeklyRest line run → Touches run w ↔ ((first_of run ≤ w) × (w ≤ last_of run))
+  touches_is : (run : Run) (w : ℕ) → IsWeeklyRest line run → Touches run w ↔ ((first_week_of run ≤ w) × (w ≤ last_of run))
   touches_is run w rest =
       let p : 5760 < run.past = is.late run rest in (
         λ h. ((first_is run.start w).0 h.0, (last_is run.past w p).0 h.1),
@@ -56,11 +56,11 @@ module _ (line : Line) (is : IsInWeeks line) where
         ),
       )
 
-  pub order : (run : Run) → IsWeeklyRest line run → first_of run ≤ last_of run
+  pub order : (run : Run) → IsWeeklyRest line run → first_week_of run ≤ last_of run
   order run rest = let s : run.start < run.past = rest.rests.some in omega arith
 
-  pub alone : (w : ℕ) (r s : Run) → abstract.Leaves Run (IsWeeklyRest line) first_of last_of is_regular
-      (IsWhollyAtRest line) w r → abstract.Leaves Run (IsWeeklyRest line) first_of last_of is_regular
+  pub alone : (w : ℕ) (r s : Run) → abstract.Leaves Run (IsWeeklyRest line) first_week_of last_of is_regular
+      (IsWhollyAtRest line) w r → abstract.Leaves Run (IsWeeklyRest line) first_week_of last_of is_regular
       (IsWhollyAtRest line) w s → r ≡ s
   alone w r s a b =
       let rs : r.start < week_start (w + 1) = (first_is r.start w).1 a.1 in
@@ -71,7 +71,7 @@ module _ (line : Line) (is : IsInWeeks line) where
       in omega arith) in
       same_rest r s (week_start (w + 1)) a.0.rests b.0.rests (omega arith) rp (omega arith) sp
 
-  choice_is : (week_of : Run → ℕ) → IsChoice line week_of ↔ abstract.IsChoice Run (IsWeeklyRest line) first_of last_of
+  choice_is : (week_of : Run → ℕ) → IsChoice line week_of ↔ abstract.IsChoice Run (IsWeeklyRest line) first_week_of last_of
       is_regular (IsWhollyAtRest line) week_of
   choice_is week_of = (
     λ h r rest. (touches_is r (week_of r) rest).0 (h r rest),
@@ -79,7 +79,7 @@ module _ (line : Line) (is : IsInWeeks line) where
         rest).1 (h r rest),
   )
 
-  serves_to : (week_of : Run → ℕ) (w : ℕ) → Serves line week_of w → abstract.Serves Run (IsWeeklyRest line) first_of
+  serves_to : (week_of : Run → ℕ) (w : ℕ) → Serves line week_of w → abstract.Serves Run (IsWeeklyRest line) first_week_of
       last_of is_regular (IsWhollyAtRest line) week_of w
   serves_to week_of w (inl whole) = inl whole
   serves_to week_of w (inr (inl whole)) = inr (inl whole)
@@ -102,7 +102,7 @@ module _ (line : Line) (is : IsInWeeks line) where
         ),
       ))
 
-  serves_from : (week_of : Run → ℕ) (w : ℕ) → abstract.Serves Run (IsWeeklyRest line) first_of last_of is_regular
+  serves_from : (week_of : Run → ℕ) (w : ℕ) → abstract.Serves Run (IsWeeklyRest line) first_week_of last_of is_regular
       (IsWhollyAtRest line) week_of w → Serves line week_of w
   serves_from week_of w (inl whole) = inl whole
   serves_from week_of w (inr (inl whole)) = inr (inl whole)
@@ -122,7 +122,7 @@ module _ (line : Line) (is : IsInWeeks line) where
         other_counted = other.1;
       }))
 
-  pub can_serve_is : (a u : ℕ) → CanServe line a u ↔ abstract.CanServe Run (IsWeeklyRest line) first_of last_of
+  pub can_serve_is : (a u : ℕ) → CanServe line a u ↔ abstract.CanServe Run (IsWeeklyRest line) first_week_of last_of
       is_regular (IsWhollyAtRest line) a u
   can_serve_is a u = (
     λ h. record {
@@ -139,11 +139,11 @@ module _ (line : Line) (is : IsInWeeks line) where
     },
   )
 
-  pub week_to : (w : ℕ) (week : WeeklyRests) → IsWeekOf line w week → abstract.IsWeek Run (IsWeeklyRest line) first_of
+  pub week_to : (w : ℕ) (week : WeeklyRests) → IsWeekOf line w week → abstract.IsWeek Run (IsWeeklyRest line) first_week_of
       last_of is_regular (IsWhollyAtRest line) w week
   week_to w week h = record { entering = h.entering; inside = h.inside; starting = h.starting; through = h.through }
 
-  pub reach_to : (a u : ℕ) (s : Outcome) → CanReach line a u s → abstract.CanReach Run (IsWeeklyRest line) first_of
+  pub reach_to : (a u : ℕ) (s : Outcome) → CanReach line a u s → abstract.CanReach Run (IsWeeklyRest line) first_week_of
       last_of is_regular (IsWhollyAtRest line) a u s
   reach_to a u s h = record {
     week_of = h.week_of;
@@ -152,7 +152,7 @@ module _ (line : Line) (is : IsInWeeks line) where
     outcome = record { counted = h.counted; crossing = h.crossing };
   }
 
-  pub reach_from : (a u : ℕ) (s : Outcome) → abstract.CanReach Run (IsWeeklyRest line) first_of last_of is_regular
+  pub reach_from : (a u : ℕ) (s : Outcome) → abstract.CanReach Run (IsWeeklyRest line) first_week_of last_of is_regular
       (IsWhollyAtRest line) a u s → CanReach line a u s
   reach_from a u s h = record {
     week_of = h.week_of;

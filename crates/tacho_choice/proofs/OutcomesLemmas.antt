@@ -7,7 +7,7 @@ use Rattle.tacho_choice.specs.declared.counted.Counted.{Counted}
 use Rattle.tacho_choice.specs.declared.counted.Counted.TheVariants.{Nothing, One, More}
 use Rattle.tacho_choice.specs.declared.outcome.Outcome.{Outcome}
 use Rattle.tacho_choice.specs.declared.weekly_rests.WeeklyRests.{WeeklyRests}
-use Rattle.tacho_choice.specs.Step.{counted_of, first_place, may, serves, place_of_counted, place_of, Holds, IsNext}
+use Rattle.tacho_choice.specs.Step.{counted_of, first_place, may, serves, place_of_counted, place_of, HasOutcome, IsNext}
 use Rattle.tacho_choice.specs.Step.{IsLedTo}
 
 -- the case with this number, of the five
@@ -56,8 +56,8 @@ place_only a b e =
     let x = place_apart a.counted b.counted a.crossing b.crossing e in
     same_outcome a b (sym (counted_back a.counted) ∙ (ap counted_at x.0 ∙ counted_back b.counted)) x.1
 
-holds_set : (outcomes : List Bool) (s new : Outcome) → length outcomes ≡ 10 → Holds (set outcomes (place_of s) true)
-    new ↔ (Holds outcomes new ⊎ (new ≡ s))
+holds_set : (outcomes : List Bool) (s new : Outcome) → length outcomes ≡ 10 → HasOutcome (set outcomes (place_of s) true)
+    new ↔ (HasOutcome outcomes new ⊎ (new ≡ s))
 holds_set outcomes s new size =
     let within : place_of s < length outcomes = let b : place_of s < 10 = place_below s in omega arith in
     elim (cases_eq (place_of s) (place_of new)) [
@@ -94,7 +94,7 @@ at_place (suc (suc (suc (suc (suc (suc (suc (suc (suc zero))))))))) b =
 at_place (suc (suc (suc (suc (suc (suc (suc (suc (suc (suc n)))))))))) b = absurd (omega arith)
 
 pub some_holds : (outcomes : List Bool) (k : ℕ) → k < 10 → get_or outcomes k false ≡ true
-    → (s : Outcome) × Holds outcomes s
+    → (s : Outcome) × HasOutcome outcomes s
 some_holds outcomes k b h =
     let x = at_place k b in
     (x.0, subst (λ (j : ℕ). get_or outcomes j false ≡ true) (sym x.1) h)
@@ -121,7 +121,7 @@ crossing_by false n false few above below = refl
 -- an outcome in the set, with this `crossing`, that is valid together with what the next week counts
 abbrev pub Leads : Bool → List Bool → Bool → Counted → Outcome → Type 0
 Leads asks outcomes crossing counted old =
-    Holds outcomes old × (old.crossing ≡ crossing) × (asks ≡ true → serves old.counted counted ≡ true)
+    HasOutcome outcomes old × (old.crossing ≡ crossing) × (asks ≡ true → serves old.counted counted ≡ true)
 
 module _ (asks : Bool) (outcomes : List Bool) (crossing : Bool) (counted : Counted) where
   -- no outcome at one of the first n places does that
@@ -190,7 +190,7 @@ module _ (outcomes old : List Bool) (week : WeeklyRests) (asks before after allo
 
   -- either no outcome is added
   pub reach_not : allows ≡ false → (new : Outcome)
-      → Holds outcomes new ↔ (Holds outcomes new ⊎ IsLedTo week asks old before after new)
+      → HasOutcome outcomes new ↔ (HasOutcome outcomes new ⊎ IsLedTo week asks old before after new)
   reach_not no' new = (
     λ h. inl h,
     λ h. elim h [
@@ -201,7 +201,7 @@ module _ (outcomes old : List Bool) (week : WeeklyRests) (asks before after allo
   )
 
   pub reach_none : ((o : Outcome) → Leads asks old before counted o → ⊥) → (new : Outcome)
-      → Holds outcomes new ↔ (Holds outcomes new ⊎ IsLedTo week asks old before after new)
+      → HasOutcome outcomes new ↔ (HasOutcome outcomes new ⊎ IsLedTo week asks old before after new)
   reach_none none new = (
     λ h. inl h,
     λ h. elim h [ inl held ↦ held | inr led ↦ let x = led_leads new led in absurd (none x.0 x.1) ],
@@ -210,11 +210,11 @@ module _ (outcomes old : List Bool) (week : WeeklyRests) (asks before after allo
   -- or one outcome is added
   pub reach_put : (place : ℕ) → length outcomes ≡ 10 → allows ≡ true → ((o : Outcome) × Leads asks old before counted o)
       → place ≡ place_of (record { counted = counted; crossing = after }) → (new : Outcome)
-      → Holds (set outcomes place true) new ↔ (Holds outcomes new ⊎ IsLedTo week asks old before after new)
+      → HasOutcome (set outcomes place true) new ↔ (HasOutcome outcomes new ⊎ IsLedTo week asks old before after new)
   reach_put place size allowed (o, (held, from, served)) at new =
       let s : Outcome = record { counted = counted; crossing = after } in
-      let two : Holds (set outcomes place true) new ↔ (Holds outcomes new ⊎ (new ≡ s)) =
-      subst (λ (k : ℕ). Holds (set outcomes k true) new ↔ (Holds outcomes new ⊎ (new ≡ s))) (sym at)
+      let two : HasOutcome (set outcomes place true) new ↔ (HasOutcome outcomes new ⊎ (new ≡ s)) =
+      subst (λ (k : ℕ). HasOutcome (set outcomes k true) new ↔ (HasOutcome outcomes new ⊎ (new ≡ s))) (sym at)
       (holds_set outcomes s new size) in
       let led : IsLedTo week asks old before after s = (
         refl,
@@ -246,7 +246,7 @@ abbrev pub no_outcomes : List Bool
 no_outcomes = false ∷ false ∷ false ∷ false ∷ false ∷ false ∷ false ∷ false ∷ false ∷ false ∷ []
 
 none_held : (counted : Counted) (crossing : Bool)
-    → Holds no_outcomes (record { counted = counted; crossing = crossing })
+    → HasOutcome no_outcomes (record { counted = counted; crossing = crossing })
     → ⊥
 none_held Nothing true h = let e : false ≡ true = h in cc
 none_held Nothing false h = let e : false ≡ true = h in cc
@@ -259,19 +259,19 @@ none_held (More true) false h = let e : false ≡ true = h in cc
 none_held (More false) true h = let e : false ≡ true = h in cc
 none_held (More false) false h = let e : false ≡ true = h in cc
 
-pub holds_none : (new : Outcome) → Holds no_outcomes new → ⊥
+pub holds_none : (new : Outcome) → HasOutcome no_outcomes new → ⊥
 holds_none new h = none_held new.counted new.crossing h
 
 -- the step adds what is reached in each of the four ways
 pub step_four : (week : WeeklyRests) (asks : Bool) (old none one two three four : List Bool)
-    → ((new : Outcome) → Holds none new → ⊥)
-    → ((new : Outcome) → Holds one new ↔ (Holds none new ⊎ IsLedTo week asks old false false new))
-    → ((new : Outcome) → Holds two new ↔ (Holds one new ⊎ IsLedTo week asks old false true new))
-    → ((new : Outcome) → Holds three new ↔ (Holds two new ⊎ IsLedTo week asks old true false new))
-    → ((new : Outcome) → Holds four new ↔ (Holds three new ⊎ IsLedTo week asks old true true new))
-    → (new : Outcome) → Holds four new ↔ ((o : Outcome) × (Holds old o × IsNext week asks o new))
+    → ((new : Outcome) → HasOutcome none new → ⊥)
+    → ((new : Outcome) → HasOutcome one new ↔ (HasOutcome none new ⊎ IsLedTo week asks old false false new))
+    → ((new : Outcome) → HasOutcome two new ↔ (HasOutcome one new ⊎ IsLedTo week asks old false true new))
+    → ((new : Outcome) → HasOutcome three new ↔ (HasOutcome two new ⊎ IsLedTo week asks old true false new))
+    → ((new : Outcome) → HasOutcome four new ↔ (HasOutcome three new ⊎ IsLedTo week asks old true true new))
+    → (new : Outcome) → HasOutcome four new ↔ ((o : Outcome) × (HasOutcome old o × IsNext week asks o new))
 step_four week asks old none one two three four empty a b c d new =
-    let back : (x y : Bool) → IsLedTo week asks old x y new → (o : Outcome) × (Holds old o × IsNext week asks o new) =
+    let back : (x y : Bool) → IsLedTo week asks old x y new → (o : Outcome) × (HasOutcome old o × IsNext week asks o new) =
     λ x y led. let (at, (o, (held, from, next))) = led in (o, (held, next)) in (
       λ h4. elim ((d new).0 h4) [
         | inr led ↦ back true true led

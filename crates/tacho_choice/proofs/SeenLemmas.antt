@@ -16,9 +16,9 @@ use Rattle.tacho_hours.proofs.CoveringLemmas.{Covers, covered}
 use Rattle.tacho_hours.proofs.ExactlyLemmas.{contains_head, contains_tail, contains_cases, head_first, tail_order}
 use Rattle.tacho_choice.specs.declared.week.WeekOfRests.{WeekOfRests}
 use Rattle.tacho_choice.specs.declared.weekly_rests.WeeklyRests.{WeeklyRests}
-use Rattle.tacho_choice.specs.Weeks.{first_of, last_of, is_regular, AreRestsOfWeek, HasWeek, IsWeekOfRests, week_none}
+use Rattle.tacho_choice.specs.Weeks.{first_week_of, last_of, is_regular, AreRestsOfWeek, HasWeek, IsWeekOfRests, week_none}
 use Rattle.tacho_choice.specs.Weeks.{week_with}
-use Rattle.tacho_choice.specs.Weeks.{Asks, IsInWeeks}
+use Rattle.tacho_choice.specs.Weeks.{IsPairAsked, IsInWeeks}
 use Rattle.tacho_choice.proofs.ChoicesLemmas as abstract
 use Rattle.tacho_choice.proofs.GatheringLemmas as gathering
 
@@ -27,17 +27,17 @@ Never : ℕ → Type 0
 Never w = ⊥
 
 to_abstract : (S : Run → Type 0) (w : ℕ) (week : WeeklyRests) → AreRestsOfWeek S w week
-    → abstract.IsWeek Run S first_of last_of is_regular Never w week
+    → abstract.IsWeek Run S first_week_of last_of is_regular Never w week
 to_abstract S w week h =
     record { entering = h.entering; inside = h.inside; starting = h.starting; through = h.through }
 
 from_abstract : (S : Run → Type 0) (w : ℕ) (week : WeeklyRests)
-    → abstract.IsWeek Run S first_of last_of is_regular Never w week → AreRestsOfWeek S w week
+    → abstract.IsWeek Run S first_week_of last_of is_regular Never w week → AreRestsOfWeek S w week
 from_abstract S w week h =
     record { entering = h.entering; inside = h.inside; starting = h.starting; through = h.through }
 
 -- a rest that covers all of a week has a minute in it
-has_first : (w : ℕ) (rest : Run) → HasWeek w rest → first_of rest ≤ w
+has_first : (w : ℕ) (rest : Run) → HasWeek w rest → first_week_of rest ≤ w
 has_first w rest h = let a : rest.start ≤ week_start w = h.0 in omega arith
 
 has_last : (w : ℕ) (rest : Run) → HasWeek w rest → w ≤ last_of rest
@@ -46,17 +46,17 @@ has_last w rest h = let a : week_start (w + 1) ≤ rest.past = h.1 in omega arit
 -- the week of no rests
 pub seen_none : (S : Run → Type 0) (w : ℕ) → ((rest : Run) → S rest → ⊥) → IsWeekOfRests S w week_none
 seen_none S w none = record {
-  rests = from_abstract S w week_none.rests (gathering.week_none Run first_of last_of is_regular Never S w none);
+  rests = from_abstract S w week_none.rests (gathering.week_none Run first_week_of last_of is_regular Never S w none);
   whole = (λ e. absurd (let k : false ≡ true = e in cc), λ x. absurd (none x.0 x.1.0));
 }
 
 -- sets of rests that agree on the rests with a minute in the week have the same description
 pub seen_agree : (S T : Run → Type 0) (w : ℕ) (week : WeekOfRests)
-    → ((rest : Run) → first_of rest ≤ w → w ≤ last_of rest → S rest ↔ T rest)
+    → ((rest : Run) → first_week_of rest ≤ w → w ≤ last_of rest → S rest ↔ T rest)
     → IsWeekOfRests S w week → IsWeekOfRests T w week
 seen_agree S T w week same h = record {
   rests = from_abstract T w week.rests
-      (gathering.week_agree Run first_of last_of is_regular Never S T w week.rests same (to_abstract S w week.rests
+      (gathering.week_agree Run first_week_of last_of is_regular Never S T w week.rests same (to_abstract S w week.rests
       h.rests));
   whole = (
     λ e. let x = h.whole.0 e in (x.0, ((same x.0 (has_first w x.0 x.1.1) (has_last w x.0 x.1.1)).0 x.1.0, x.1.1)),
@@ -65,13 +65,13 @@ seen_agree S T w week same h = record {
 }
 
 -- the description with one more rest
-pub seen_more : (S : Run → Type 0) (w : ℕ) (week : WeekOfRests) (x : Run) → (S x → ⊥) → first_of x ≤ last_of x
+pub seen_more : (S : Run → Type 0) (w : ℕ) (week : WeekOfRests) (x : Run) → (S x → ⊥) → first_week_of x ≤ last_of x
     → IsWeekOfRests S w week → IsWeekOfRests (λ rest. S rest ⊎ (rest ≡ x)) w (week_with w x week)
 seen_more S w week x fresh order h =
     let here : Bool = leb x.start (week_start w) && leb (week_start (w + 1)) x.past in
     record {
       rests = from_abstract (λ rest. S rest ⊎ (rest ≡ x)) w (week_with w x week).rests
-          (gathering.week_more Run first_of last_of is_regular Never S w week.rests (to_abstract S w week.rests h.rests)
+          (gathering.week_more Run first_week_of last_of is_regular Never S w week.rests (to_abstract S w week.rests h.rests)
           x fresh order);
       whole = (
         λ e. elim (or_cases week.whole here e) [
@@ -192,7 +192,7 @@ in_weeks line runs are resting = record {
 -- something is required of two weeks unless one of them is entirely at rest
 pub asks_is : (line : Line) (u : ℕ) (rested whole : Bool)
     → (rested ≡ true) ↔ IsWhollyAtRest line u → (whole ≡ true) ↔ IsWhollyAtRest line (u + 1)
-    → Asks line u (not rested && not whole)
+    → IsPairAsked line u (not rested && not whole)
 asks_is line u true whole f g = (λ e. absurd (let k : false ≡ true = e in cc), λ e. inl (f.0 refl))
 asks_is line u false true f g = (λ e. absurd (let k : false ≡ true = e in cc), λ e. inr (g.0 refl))
 asks_is line u false false f g = (

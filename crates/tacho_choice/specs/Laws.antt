@@ -5,12 +5,12 @@ use Rattle.tacho_hours.specs.Choice.{CanServe}
 use Rattle.tacho_choice.specs.declared.weekly_rests.WeeklyRests.{WeeklyRests}
 use Rattle.tacho_choice.specs.declared.outcome.Outcome.{Outcome}
 use Rattle.tacho_choice.specs.Step.{IsNext, IsFirst}
-use Rattle.tacho_choice.specs.Weeks.{IsInWeeks, IsWeekOf, CanReach, Asks}
+use Rattle.tacho_choice.specs.Weeks.{IsInWeeks, IsWeekOf, CanReach, IsPairAsked}
 
 -- the outcomes of a week are exactly those to which a step leads from an outcome of the week before
 abbrev pub ChoicesReach : Type 0
 ChoicesReach = (line : Line) (first u : ℕ) (old new : WeeklyRests) (asks : Bool) (outcome : Outcome)
-    → IsInWeeks line → first ≤ u → IsWeekOf line u old → IsWeekOf line (u + 1) new → Asks line u asks
+    → IsInWeeks line → first ≤ u → IsWeekOf line u old → IsWeekOf line (u + 1) new → IsPairAsked line u asks
     → CanReach line first (u + 1) outcome
     ↔ ((before : Outcome) × (CanReach line first u before × IsNext new asks before outcome))
 

@@ -81,14 +81,14 @@ abbrev pub place_of : Outcome → ℕ
 place_of outcome = place_of_counted outcome.counted + first_place outcome.crossing
 
 -- the outcome is in the set
-abbrev pub Holds : List Bool → Outcome → Type 0
-Holds outcomes outcome = slice_index_or outcomes (place_of outcome) false ≡ true
+abbrev pub HasOutcome : List Bool → Outcome → Type 0
+HasOutcome outcomes outcome = slice_index_or outcomes (place_of outcome) false ≡ true
 
 -- an outcome reached from one of these with `crossing ≡ before`, where the rest that crosses the week's end is counted by then iff `after`
 abbrev pub IsLedTo : WeeklyRests → Bool → List Bool → Bool → Bool → Outcome → Type 0
 IsLedTo week asks outcomes before after new =
     (new.crossing ≡ after)
-    × ((old : Outcome) × (Holds outcomes old × (old.crossing ≡ before) × IsNext week asks old new))
+    × ((old : Outcome) × (HasOutcome outcomes old × (old.crossing ≡ before) × IsNext week asks old new))
 
 -- a week with one more rest, given by its first and its last week
 abbrev pub with_rest : WeeklyRests → ℕ → ℕ → ℕ → Bool → WeeklyRests

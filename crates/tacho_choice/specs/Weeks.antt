@@ -22,8 +22,8 @@ pub record IsInWeeks (line : Line) : Type 0 where
   pub late : (rest : Run) → IsWeeklyRest line rest → first_week < rest.past
 
 -- the first week in which a run has a minute; below, the last one
-abbrev pub first_of : Run → ℕ
-first_of run = (run.start - first_week) / minutes_of_week
+abbrev pub first_week_of : Run → ℕ
+first_week_of run = (run.start - first_week) / minutes_of_week
 
 abbrev pub last_of : Run → ℕ
 last_of run = (run.past - (first_week + 1)) / minutes_of_week
@@ -35,11 +35,11 @@ is_regular run = nat_le regular_weekly_rest (minutes_of run)
 -- the rests of a set that have a minute in the week: the one that crosses the week's start, those inside, the one that starts in the week
 -- and crosses its end, and whether the first of these also crosses its end
 pub record AreRestsOfWeek (S : Run → Type 0) (w : ℕ) (week : WeeklyRests) : Type 0 where
-  pub entering : IsOneOf is_regular (λ rest. S rest × (first_of rest < w) × (w ≤ last_of rest)) week.entering
-  pub inside : AreCounted is_regular (λ rest. S rest × (first_of rest ≡ w) × (last_of rest ≡ w)) week.inside
-  pub starting : IsOneOf is_regular (λ rest. S rest × (first_of rest ≡ w) × (w < last_of rest)) week.starting
+  pub entering : IsOneOf is_regular (λ rest. S rest × (first_week_of rest < w) × (w ≤ last_of rest)) week.entering
+  pub inside : AreCounted is_regular (λ rest. S rest × (first_week_of rest ≡ w) × (last_of rest ≡ w)) week.inside
+  pub starting : IsOneOf is_regular (λ rest. S rest × (first_week_of rest ≡ w) × (w < last_of rest)) week.starting
   pub through : (week.through ≡ true)
-      ↔ ((rest : Run) × ((S rest × (first_of rest < w) × (w ≤ last_of rest)) × (w < last_of rest)))
+      ↔ ((rest : Run) × ((S rest × (first_week_of rest < w) × (w ≤ last_of rest)) × (w < last_of rest)))
 
 -- the week has these weekly rests of the line
 abbrev pub IsWeekOf : Line → ℕ → WeeklyRests → Type 0
@@ -65,13 +65,13 @@ week_none = record {
 -- a week with one more rest
 abbrev pub week_with : ℕ → Run → WeekOfRests → WeekOfRests
 week_with w rest week = record {
-  rests = with_rest week.rests w (first_of rest) (last_of rest) (is_regular rest);
+  rests = with_rest week.rests w (first_week_of rest) (last_of rest) (is_regular rest);
   whole = week.whole || (nat_le rest.start (week_start w) && nat_le (week_start (w + 1)) rest.past);
 }
 
 -- something is required of a week and the next iff neither is entirely at rest
-abbrev pub Asks : Line → ℕ → Bool → Type 0
-Asks line w asks =
+abbrev pub IsPairAsked : Line → ℕ → Bool → Type 0
+IsPairAsked line w asks =
     (asks ≡ true → (IsWhollyAtRest line w → ⊥) × (IsWhollyAtRest line (w + 1) → ⊥))
     × (asks ≡ false → IsWhollyAtRest line w ⊎ IsWhollyAtRest line (w + 1))
 
@@ -83,5 +83,5 @@ pub record CanReach (line : Line) (first last : ℕ) (left : Outcome) : Type 0 w
   pub each : (w : ℕ) → first ≤ w → w + 1 ≤ last → Serves line week_of w
   pub counted : AreCounted is_regular (λ rest. IsWeeklyRest line rest × (week_of rest ≡ last)) left.counted
   pub crossing : (left.crossing ≡ true)
-      ↔ ((rest : Run) × ((IsWeeklyRest line rest × (first_of rest ≤ last) × (last < last_of rest)) ×
+      ↔ ((rest : Run) × ((IsWeeklyRest line rest × (first_week_of rest ≤ last) × (last < last_of rest)) ×
       (week_of rest ≤ last)))

@@ -2,8 +2,8 @@ ghost use Rattle.std.specs.Prelude.{◌≡◌, ◌<◌, ◌⊎◌, ◌↔◌, fa
 ghost use Rattle.tacho_choice.specs.declared.counted.Counted.TheVariants.{Nothing};
 ghost use Rattle.tacho_choice.specs.declared.outcome.Outcome.{Outcome as OutcomeValue};
 ghost use Rattle.tacho_choice.specs.Step.{counted_of, first_place as first_place_of, may, serves, with_rest};
-ghost use Rattle.tacho_choice.specs.Step.{Holds, IsNext, IsLedTo};
-ghost use Rattle.tacho_choice.specs.Weeks.{first_of, last_of, is_regular};
+ghost use Rattle.tacho_choice.specs.Step.{HasOutcome, IsNext, IsLedTo};
+ghost use Rattle.tacho_choice.specs.Weeks.{first_week_of, last_of, is_regular};
 
 use crate::counted::Counted;
 use crate::outcome::Outcome;
@@ -26,7 +26,7 @@ pub struct WeeklyRests {
 
 /// Returns the first week in which a rest has a minute.
 fn first(rest: Run) -> u32
-    ensures { result ≡ first_of rest }
+    ensures { result ≡ first_week_of rest }
 {
     rest.start.saturating_sub(FIRST_WEEK) / MINUTES_OF_WEEK
 }
@@ -55,7 +55,7 @@ fn first_place(crossing: bool) -> usize
 /// Returns true if one of these outcomes, with this `crossing`, is valid together with what is counted in the next week. If nothing is
 /// required (`asks` is false), any such outcome is valid.
 fn lead_to(asks: bool, outcomes: [bool; 10], crossing: bool, counted: Counted) -> bool
-    ensures { IsTrue result ↔ ((old : OutcomeValue) × (Holds outcomes old × (old.crossing ≡ crossing)
+    ensures { IsTrue result ↔ ((old : OutcomeValue) × (HasOutcome outcomes old × (old.crossing ≡ crossing)
         × (asks ≡ true → serves old.counted counted ≡ true))) }
 {
     let first = first_place(crossing);
@@ -82,7 +82,7 @@ impl WeeklyRests {
 
     /// Returns the week with one more weekly rest, if the rest has a minute in the week.
     pub fn with(self, week: u32, rest: Run) -> WeeklyRests
-        ensures { result ≡ with_rest self week (first_of rest) (last_of rest) (is_regular rest) }
+        ensures { result ≡ with_rest self week (first_week_of rest) (last_of rest) (is_regular rest) }
     {
         let (first, last) = (first(rest), last(rest));
         if first < week {
@@ -136,8 +136,8 @@ impl WeeklyRests {
         after: bool,
         outcomes: &mut [bool; 10],
     )
-        ensures { (new : OutcomeValue) → Holds outcomes.new new
-            ↔ (Holds outcomes.old new ⊎ IsLedTo self asks old before after new) }
+        ensures { (new : OutcomeValue) → HasOutcome outcomes.new new
+            ↔ (HasOutcome outcomes.old new ⊎ IsLedTo self asks old before after new) }
     {
         if !self.allows(before, after) {
             return;
@@ -154,8 +154,8 @@ impl WeeklyRests {
 
     /// Returns the outcomes of the week, given those of the week before.
     pub fn step(self, asks: bool, outcomes: [bool; 10]) -> [bool; 10]
-        ensures { (new : OutcomeValue) → Holds result new
-            ↔ ((old : OutcomeValue) × (Holds outcomes old × IsNext self asks old new)) }
+        ensures { (new : OutcomeValue) → HasOutcome result new
+            ↔ ((old : OutcomeValue) × (HasOutcome outcomes old × IsNext self asks old new)) }
     {
         let mut next = [false; 10];
         self.reach(asks, outcomes, false, false, &mut next);

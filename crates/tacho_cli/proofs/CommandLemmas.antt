@@ -20,7 +20,7 @@ use Rattle.tacho_time.specs.declared.span.Span.{Span}
 use Rattle.tacho_cli.specs.Card.{IsCardBy, IsListed}
 use Rattle.tacho_cli.specs.Dump.{IsDump, IsDumped, ReadsValue}
 use Rattle.tacho_cli.specs.Holder.{IsHolder, card_holder, holder_reply}
-use Rattle.tacho_cli.specs.Command.{Reply, fault_reply, card_reply, IsReplied, IsWrittenOut, Finishes}
+use Rattle.tacho_cli.specs.Command.{Reply, failure_reply, card_reply, IsReplyOrFailure, IsWrittenOut, Finishes}
 
 -- an input that the reader may have, with a property: the reader's bytes if they are known, otherwise some input
 pub record Input (P : List ℕ → Type 0) (unread : Option (List ℕ)) : Type 0 where
@@ -43,27 +43,27 @@ not_true false h = refl
 
 -- after a valid reply, if the reader has not failed
 pub replied : (Wanted : List ℕ → Reply → Type 0) (unread : Option (List ℕ)) (reader writer : Bool) (old new : Option (List ℕ)) (status : ℕ) (input : List ℕ) (reply : Reply)
-    → (reader ≡ true → ⊥) → IfSome unread (λ all. input ≡ all) → Wanted input reply ⊎ (reply ≡ fault_reply fault.Memory) → IsWrittenOut writer old new reply status
+    → (reader ≡ true → ⊥) → IfSome unread (λ all. input ≡ all) → Wanted input reply ⊎ (reply ≡ failure_reply fault.Memory) → IsWrittenOut writer old new reply status
     → Finishes Wanted unread reader writer old new status
 replied Wanted unread reader writer old new status input reply sound told wanted tells =
-    record { input = input; reply = reply; read = told; replied = subst (λ (b : Bool). IsReplied (Wanted input) b reply) (sym (not_true reader sound)) wanted; told = tells }
+    record { input = input; reply = reply; read = told; replied = subst (λ (b : Bool). IsReplyOrFailure (Wanted input) b reply) (sym (not_true reader sound)) wanted; told = tells }
 
 -- if the input was not read
 pub unread_leaves : (Wanted : List ℕ → Reply → Type 0) (limit : ℕ) (unread : Option (List ℕ)) (reader writer : Bool) (old new : Option (List ℕ)) (status : ℕ) (f : ReadFault)
-    → ((input : List ℕ) → limit < length input → Wanted input (fault_reply (fault.Told told.TooLarge)))
+    → ((input : List ℕ) → limit < length input → Wanted input (failure_reply (fault.Told told.TooLarge)))
     → (f ≡ read.TooLarge → IfSome unread (λ input. limit < length input))
     → (f ≡ read.Failed) ↔ (reader ≡ true)
-    → IsWrittenOut writer old new (fault_reply (read_fault f)) status
+    → IsWrittenOut writer old new (failure_reply (read_fault f)) status
     → Finishes Wanted unread reader writer old new status
 unread_leaves Wanted limit unread reader writer old new status read.TooLarge wanted large failed tells =
     let i = some_input (λ input. limit < length input) unread (replicate (limit + 1) 0) (large refl) (simp length-replicate (omega arith)) in
-    replied Wanted unread reader writer old new status i.input (fault_reply (fault.Told told.TooLarge)) (λ e. let no = failed.1 e in cc) i.told (inl (wanted i.input i.holds)) tells
+    replied Wanted unread reader writer old new status i.input (failure_reply (fault.Told told.TooLarge)) (λ e. let no = failed.1 e in cc) i.told (inl (wanted i.input i.holds)) tells
 unread_leaves Wanted limit unread reader writer old new status read.Failed wanted large failed tells =
     let i = any_input unread in
-    record { input = i.input; reply = fault_reply fault.Device; read = i.told; replied = subst (λ (b : Bool). IsReplied (Wanted i.input) b (fault_reply fault.Device)) (sym (failed.0 refl)) refl; told = tells }
+    record { input = i.input; reply = failure_reply fault.Device; read = i.told; replied = subst (λ (b : Bool). IsReplyOrFailure (Wanted i.input) b (failure_reply fault.Device)) (sym (failed.0 refl)) refl; told = tells }
 unread_leaves Wanted limit unread reader writer old new status read.Memory wanted large failed tells =
     let i = any_input unread in
-    replied Wanted unread reader writer old new status i.input (fault_reply fault.Memory) (λ e. let no = failed.1 e in cc) i.told (inr refl) tells
+    replied Wanted unread reader writer old new status i.input (failure_reply fault.Memory) (λ e. let no = failed.1 e in cc) i.told (inr refl) tells
 
 -- after a fault of a card
 pub refused : (Wanted : List ℕ → Reply → Type 0) (unread : Option (List ℕ)) (reader writer : Bool) (old new : Option (List ℕ)) (status : ℕ) (input : List ℕ) (f : CardFault)

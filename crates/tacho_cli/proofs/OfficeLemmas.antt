@@ -27,7 +27,7 @@ use Rattle.tacho_desk.specs.declared.task.Task.TheVariants as task
 use Rattle.tacho_desk.specs.declared.want.Want.{Want}
 use Rattle.tacho_desk.specs.declared.want.Want.TheVariants as want
 use Rattle.tacho_desk.proofs.MeantLemmas.{IsSameAsItself, nothing, served_as}
-use Rattle.tacho_cli.specs.Office.{AreFaulty, AreSound, DoesOver, HasNotRead, HasRead, IsFaultyOver, IsSoundOver, Performed, Performs}
+use Rattle.tacho_cli.specs.Office.{AreArgumentsFaulty, AreSound, DoesOver, HasNotRead, HasRead, IsFaultyOver, IsSoundOver, Performed, Performs}
 use Rattle.tacho_cli.proofs.CommandLemmas.{any_input, some_input}
 
 -- why an input was not read
@@ -134,22 +134,22 @@ over_without true t input (inl (large, e)) = cc
 over_without true t input (inr (within, h)) = input_without t input h
 over_without false t input h = h
 
-faults_without : (w : Want) (driver word input : List ℕ) → AreFaulty w driver word input fault.Device → ⊥
+faults_without : (w : Want) (driver word input : List ℕ) → AreArgumentsFaulty w driver word input fault.Device → ⊥
 faults_without w driver word input (Err f, is, e) =
     words_without w caller.Office driver word (subst (λ (f : Fault). IsTask w caller.Office driver word (Err f)) (sym e) is)
 faults_without w driver word input (Ok t, is, h) = over_without (takes_input w) t input h
 
 -- so X2 is not the answer when the archive isn't accessed
-unread_without : (w : Want) (driver word input : List ℕ) → IsUnread (AreFaulty w driver word input) (Err fault.Device) → ⊥
+unread_without : (w : Want) (driver word input : List ℕ) → IsUnread (AreArgumentsFaulty w driver word input) (Err fault.Device) → ⊥
 unread_without w driver word input (inl h) = faults_without w driver word input h
 unread_without w driver word input (inr memory) = cc
 
 -- nor is it an answer of the archive
 never_device : {K : Type 0} (old new : K) (w : Want) (driver word input : List ℕ) (answer : Answer)
-    → AsksOnly old new (AreSound w driver word input) (AreFaulty w driver word input) answer → answer ≡ Err fault.Device → ⊥
+    → AsksOnly old new (AreSound w driver word input) (AreArgumentsFaulty w driver word input) answer → answer ≡ Err fault.Device → ⊥
 never_device old new w driver word input answer (inl (sound, archive)) e = subst (λ (a : Answer). IsOfArchive a) e archive
 never_device old new w driver word input answer (inr (same, unread)) e =
-    unread_without w driver word input (subst (λ (a : Answer). IsUnread (AreFaulty w driver word input) a) e unread)
+    unread_without w driver word input (subst (λ (a : Answer). IsUnread (AreArgumentsFaulty w driver word input) a) e unread)
 
 -- a job, by its arguments and by whether the reader failed
 module _ (w : Want) (driver word : List ℕ) (unread : Option (List ℕ)) (failed : Bool) where
@@ -172,14 +172,14 @@ module _ (w : Want) (driver word : List ℕ) (unread : Option (List ℕ)) (faile
       (Ok t, is, subst (λ (b : Bool). DoesOver b t input s (Err (fault.Told told.TooLarge)) s) (sym one) (inl (large, refl, refl)))
 
   large_is_faulty : (t : Task) (input : List ℕ) → IsTask w caller.Office driver word (Ok t) → takes_input w ≡ true → 262144 < length input
-      → AreFaulty w driver word input (fault.Told told.TooLarge)
+      → AreArgumentsFaulty w driver word input (fault.Told told.TooLarge)
   large_is_faulty t input is one large =
       (Ok t, is, subst (λ (b : Bool). IsFaultyOver b t input (fault.Told told.TooLarge)) (sym one) (inl (large, refl)))
 
   -- the archive is accessed for a valid input, or not at all
   asks_over : {K : Type 0} (old new : K) (t : Task) (input : List ℕ) (answer : Answer) → IsTask w caller.Office driver word (Ok t)
       → takes_input w ≡ true → length input ≤ 262144 → AsksOnly old new (IsSound t input) (IsFaulty t input) answer
-      → AsksOnly old new (AreSound w driver word input) (AreFaulty w driver word input) answer
+      → AsksOnly old new (AreSound w driver word input) (AreArgumentsFaulty w driver word input) answer
   asks_over old new t input answer is one within (inl (sound, archive)) =
       inl ((t, is, subst (λ (b : Bool). IsSoundOver b t input) (sym one) (within, sound)), archive)
   asks_over old new t input (Ok told) is one within (inr (same, h)) = absurd h
@@ -190,7 +190,7 @@ module _ (w : Want) (driver word : List ℕ) (unread : Option (List ℕ)) (faile
   -- a task without an input accesses the archive, or memory ran out
   asks_without : {K : Type 0} (old new : K) (t : Task) (input : List ℕ) (answer : Answer) → IsTask w caller.Office driver word (Ok t)
       → takes_input w ≡ false → takes_input (want_of t) ≡ false → AsksOnly old new (IsSound t []) (IsFaulty t []) answer
-      → AsksOnly old new (AreSound w driver word input) (AreFaulty w driver word input) answer
+      → AsksOnly old new (AreSound w driver word input) (AreArgumentsFaulty w driver word input) answer
   asks_without old new t input answer is none also (inl (sound, archive)) =
       inl ((t, is, subst (λ (b : Bool). IsSoundOver b t input) (sym none) sound), archive)
   asks_without old new t input (Ok told) is none also (inr (same, h)) = absurd h

@@ -15,95 +15,95 @@ use Rattle.tacho_desk.specs.declared.want.MonthOfAll.TheVariants as all
 use Rattle.tacho_desk.specs.declared.want.MonthReading.TheVariants as month
 use Rattle.tacho_desk.specs.declared.want.Reading.TheVariants as reading
 use Rattle.tacho_desk.specs.declared.want.Want.TheVariants as want
-use Rattle.tacho_cli.specs.Fault.{fault_line, fault_status}
-use Rattle.tacho_cli.specs.Words.{Subcommand, act_named, driver_id, has_driver, the_table, word_id}
+use Rattle.tacho_cli.specs.Fault.{command_fault_line, exit_status}
+use Rattle.tacho_cli.specs.Words.{Subcommand, act_named, driver_id, has_driver, subcommands, word_id}
 use Rattle.tacho_cli.specs.declared.act.Act.{Act}
 use Rattle.tacho_cli.specs.declared.act.Act.TheVariants as act
 
 -- ---- subcommands
 
 -- what each does
-dump : act_named (codes "dump") the_table ≡ Some act.Dump
+dump : act_named (codes "dump") subcommands ≡ Some act.Dump
 dump = refl
 
-holder : act_named (codes "holder") the_table ≡ Some act.Holder
+holder : act_named (codes "holder") subcommands ≡ Some act.Holder
 holder = refl
 
-whole_card : act_named (codes "card") the_table ≡ Some act.Card
+whole_card : act_named (codes "card") subcommands ≡ Some act.Card
 whole_card = refl
 
-init : act_named (codes "init") the_table ≡ Some act.Init
+init : act_named (codes "init") subcommands ≡ Some act.Init
 init = refl
 
-migrate : act_named (codes "migrate") the_table ≡ Some act.Migrate
+migrate : act_named (codes "migrate") subcommands ≡ Some act.Migrate
 migrate = refl
 
-register : act_named (codes "register") the_table ≡ Some (act.AtDesk want.Register)
+register : act_named (codes "register") subcommands ≡ Some (act.AtDesk want.Register)
 register = refl
 
-import : act_named (codes "import") the_table ≡ Some (act.AtDesk want.Import)
+import : act_named (codes "import") subcommands ≡ Some (act.AtDesk want.Import)
 import = refl
 
-enter : act_named (codes "enter") the_table ≡ Some (act.AtDesk want.Enter)
+enter : act_named (codes "enter") subcommands ≡ Some (act.AtDesk want.Enter)
 enter = refl
 
-withdraw : act_named (codes "withdraw") the_table ≡ Some (act.AtDesk want.Withdraw)
+withdraw : act_named (codes "withdraw") subcommands ≡ Some (act.AtDesk want.Withdraw)
 withdraw = refl
 
-base : act_named (codes "base") the_table ≡ Some (act.AtDesk want.Base)
+base : act_named (codes "base") subcommands ≡ Some (act.AtDesk want.Base)
 base = refl
 
-spans : act_named (codes "spans") the_table ≡ Some (act.AtDesk (want.MonthReading month.Spans))
+spans : act_named (codes "spans") subcommands ≡ Some (act.AtDesk (want.MonthReading month.Spans))
 spans = refl
 
-gaps : act_named (codes "gaps") the_table ≡ Some (act.AtDesk (want.MonthReading month.Gaps))
+gaps : act_named (codes "gaps") subcommands ≡ Some (act.AtDesk (want.MonthReading month.Gaps))
 gaps = refl
 
-month_sheet : act_named (codes "sheet") the_table ≡ Some (act.AtDesk (want.MonthReading month.Sheet))
+month_sheet : act_named (codes "sheet") subcommands ≡ Some (act.AtDesk (want.MonthReading month.Sheet))
 month_sheet = refl
 
-breaches : act_named (codes "breaches") the_table ≡ Some (act.AtDesk (want.Reading reading.Breaches))
+breaches : act_named (codes "breaches") subcommands ≡ Some (act.AtDesk (want.Reading reading.Breaches))
 breaches = refl
 
-owed : act_named (codes "owed") the_table ≡ Some (act.AtDesk (want.Reading reading.Owed))
+owed : act_named (codes "owed") subcommands ≡ Some (act.AtDesk (want.Reading reading.Owed))
 owed = refl
 
-entries : act_named (codes "entries") the_table ≡ Some (act.AtDesk (want.Reading reading.Entries))
+entries : act_named (codes "entries") subcommands ≡ Some (act.AtDesk (want.Reading reading.Entries))
 entries = refl
 
-file : act_named (codes "file") the_table ≡ Some (act.AtDesk want.File)
+file : act_named (codes "file") subcommands ≡ Some (act.AtDesk want.File)
 file = refl
 
-drivers : act_named (codes "drivers") the_table ≡ Some (act.AtDesk want.Drivers)
+drivers : act_named (codes "drivers") subcommands ≡ Some (act.AtDesk want.Drivers)
 drivers = refl
 
-stretches : act_named (codes "stretches") the_table ≡ Some (act.AtDesk (want.Reading reading.Stretches))
+stretches : act_named (codes "stretches") subcommands ≡ Some (act.AtDesk (want.Reading reading.Stretches))
 stretches = refl
 
-debts : act_named (codes "debts") the_table ≡ Some (act.AtDesk (want.Reading reading.Debts))
+debts : act_named (codes "debts") subcommands ≡ Some (act.AtDesk (want.Reading reading.Debts))
 debts = refl
 
-overview : act_named (codes "overview") the_table ≡ Some (act.AtDesk (want.MonthOfAll all.Overview))
+overview : act_named (codes "overview") subcommands ≡ Some (act.AtDesk (want.MonthOfAll all.Overview))
 overview = refl
 
-incidents : act_named (codes "incidents") the_table ≡ Some (act.AtDesk (want.MonthOfAll all.Incidents))
+incidents : act_named (codes "incidents") subcommands ≡ Some (act.AtDesk (want.MonthOfAll all.Incidents))
 incidents = refl
 
-form : act_named (codes "form") the_table ≡ Some (act.AtDesk (want.Reading reading.Form))
+form : act_named (codes "form") subcommands ≡ Some (act.AtDesk (want.Reading reading.Form))
 form = refl
 
-serve : act_named (codes "serve") the_table ≡ Some act.Serve
+serve : act_named (codes "serve") subcommands ≡ Some act.Serve
 serve = refl
 
 -- another name is no subcommand
-other_name : act_named (codes "files") the_table ≡ None
+other_name : act_named (codes "files") subcommands ≡ None
 other_name = refl
 
 -- a subcommand and its arguments, as they are given
 abbrev given : Subcommand → Text
 given row = row.0 ++ flat_map (λ word. codes " " ++ word) row.1
 
-all_given : map given the_table
+all_given : map given subcommands
     ≡ codes "dump" ∷ codes "holder" ∷ codes "card part" ∷ codes "init archive" ∷ codes "migrate archive" ∷ codes "register archive"
     ∷ codes "import archive part" ∷ codes "enter archive driver" ∷ codes "withdraw archive driver number" ∷ codes "base archive driver date"
     ∷ codes "spans archive driver month" ∷ codes "gaps archive driver month" ∷ codes "sheet archive driver month"
@@ -123,28 +123,28 @@ abbrev read_words : Act → List Text → List Text
 read_words (act.AtDesk w) words = codes "archive" ∷ (one (driver_id (has_driver w)) ++ one (word_id w))
 read_words a words = words
 
-words_are_read : map (λ row. read_words row.2 row.1) the_table ≡ map (λ row. row.1) the_table
+words_are_read : map (λ row. read_words row.2 row.1) subcommands ≡ map (λ row. row.1) subcommands
 words_are_read = refl
 
 -- ---- faults
 
 -- status 1 after a refusal: of a date, of an input, of a number, of a part
-bad_shape : fault_status (fault.Told (told.Time time.Shape)) ≡ 1
+bad_shape : exit_status (fault.Told (told.Time time.Shape)) ≡ 1
 bad_shape = refl
 
-no_such_date : fault_status (fault.Told (told.Time time.NoSuchDate)) ≡ 1
+no_such_date : exit_status (fault.Told (told.Time time.NoSuchDate)) ≡ 1
 no_such_date = refl
 
-out_of_range : fault_status (fault.Told (told.Time time.OutOfRange)) ≡ 1
+out_of_range : exit_status (fault.Told (told.Time time.OutOfRange)) ≡ 1
 out_of_range = refl
 
-too_large : fault_status (fault.Told told.TooLarge) ≡ 1
+too_large : exit_status (fault.Told told.TooLarge) ≡ 1
 too_large = refl
 
-bad_number : fault_status (fault.Told told.Number) ≡ 1
+bad_number : exit_status (fault.Told told.Number) ≡ 1
 bad_number = refl
 
-bad_part : fault_status (fault.Told told.Part) ≡ 1
+bad_part : exit_status (fault.Told told.Part) ≡ 1
 bad_part = refl
 
 -- of a card or a card file
@@ -154,42 +154,42 @@ card_faults =
     ∷ card.ShortActivity ∷ card.Pointer ∷ card.RecordLength 12 ∷ card.Chain 12 ∷ card.DayRange 12 ∷ card.WordMinute 24 ∷ card.WordOrder 26
     ∷ card.SelfContradiction 28491840 ∷ []
 
-bad_cards : map (λ f. fault_status (fault.Told (told.Card f))) card_faults ≡ replicate 14 1
+bad_cards : map (λ f. exit_status (fault.Told (told.Card f))) card_faults ≡ replicate 14 1
 bad_cards = refl
 
-bad_files : map (λ f. fault_status (fault.Told (told.Store (store.Card f)))) card_faults ≡ replicate 14 1
+bad_files : map (λ f. exit_status (fault.Told (told.Store (store.Card f)))) card_faults ≡ replicate 14 1
 bad_files = refl
 
 -- of the archive
-refused_by_archive : map (λ f. fault_status (fault.Told (told.Store f)))
+refused_by_archive : map (λ f. exit_status (fault.Told (told.Store f)))
     (store.DriverTaken ∷ store.KeyTaken ∷ store.HolderTaken ∷ store.UnknownDriver ∷ store.NotYourCard ∷ store.Contradiction 28491840
     ∷ store.UnknownEntry ∷ store.AlreadyWithdrawn ∷ store.NotMonday ∷ store.UnknownDownload ∷ store.OldSchema ∷ store.Full ∷ [])
     ≡ replicate 12 1
 refused_by_archive = refl
 
 -- of a text of CSV
-bad_texts : map (λ f. fault_status (fault.Told (told.Sheet f)))
+bad_texts : map (λ f. exit_status (fault.Told (told.Sheet f)))
     (sheet.Head ∷ sheet.Fields 2 ∷ sheet.Time 2 ∷ sheet.Order 2 ∷ sheet.LeftOut 2 left_out.Ferry ∷ sheet.Activity 2 ∷ sheet.TooLong 2
     ∷ sheet.Csv ∷ sheet.Column column.Key ∷ sheet.Text 2 column.Author ∷ sheet.Text 2 column.Note ∷ [])
     ≡ replicate 11 1
 bad_texts = refl
 
 -- status 3 if memory ran out, the store failed, or a device failed
-no_memory : fault_status fault.Memory ≡ 3
+no_memory : exit_status fault.Memory ≡ 3
 no_memory = refl
 
-store_failed : fault_status (fault.Told (told.Store store.Store)) ≡ 3
+store_failed : exit_status (fault.Told (told.Store store.Store)) ≡ 3
 store_failed = refl
 
-device_failed : fault_status fault.Device ≡ 3
+device_failed : exit_status fault.Device ≡ 3
 device_failed = refl
 
 -- the lines of these faults
-no_memory_line : fault_line fault.Memory ≡ codes "M1 no memory\n"
+no_memory_line : command_fault_line fault.Memory ≡ codes "M1 no memory\n"
 no_memory_line = refl
 
-store_failed_line : fault_line (fault.Told (told.Store store.Store)) ≡ codes "S12 store failed\n"
+store_failed_line : command_fault_line (fault.Told (told.Store store.Store)) ≡ codes "S12 store failed\n"
 store_failed_line = refl
 
-device_failed_line : fault_line fault.Device ≡ codes "X2 device failed\n"
+device_failed_line : command_fault_line fault.Device ≡ codes "X2 device failed\n"
 device_failed_line = refl

@@ -13,7 +13,7 @@ use Rattle.tacho_cli.specs.declared.act.Act.TheVariants as act
 use Rattle.tacho_cli.specs.declared.job.Job.{Job}
 use Rattle.tacho_cli.specs.declared.words.Usage.{Usage}
 use Rattle.tacho_cli.specs.declared.words.Usage.TheVariants as usage
-use Rattle.tacho_cli.specs.Words.{act_named, tacho_app, the_table, with_table, with_words, IsActUsage, IsJob, IsJobOf, IsRefusal, IsUsage}
+use Rattle.tacho_cli.specs.Words.{act_named, tacho_app, subcommands, with_table, with_words, IsActUsage, IsJob, IsJobOf, IsRefusal, IsUsage}
 
 pub tacho_is_simple : is_simple tacho_app ≡ true
 unfolding clap_on_literals tacho_app with_table with_words
@@ -49,13 +49,13 @@ of_job (Err u) p = tt
 
 -- the job of the subcommand that was found
 pub job_met : (sub : Option (Text × List Row)) (name : Text) (rows : List Row) (a : Act) (result : Result Job Usage)
-    → sub ≡ Some (name, rows) → act_named name the_table ≡ Some a → IfOk result (IsJobOf a rows) → IfOk result (IsJob sub)
+    → sub ≡ Some (name, rows) → act_named name subcommands ≡ Some a → IfOk result (IsJobOf a rows) → IfOk result (IsJob sub)
 job_met sub name rows a (Ok j) is named h = (name, rows, a, is, named, h)
 job_met sub name rows a (Err u) is named h = tt
 
 -- the fault of the subcommand that was found
 act_usage : (taken : Bool) (sub : Option (Text × List Row)) (name : Text) (rows : List Row) (a : Act) (u : Usage) → sub ≡ Some (name, rows)
-    → act_named name the_table ≡ Some a → IsActUsage a rows u → IsUsage taken sub u
+    → act_named name subcommands ≡ Some a → IsActUsage a rows u → IsUsage taken sub u
 act_usage taken sub name rows act.Serve usage.Numbers is named h = (name, rows, is, named, h)
 act_usage taken sub name rows act.Dump usage.Numbers is named h = absurd h
 act_usage taken sub name rows act.Holder usage.Numbers is named h = absurd h
@@ -74,6 +74,6 @@ act_usage taken sub name rows act.Migrate (usage.Words text) is named h = absurd
 act_usage taken sub name rows (act.AtDesk w) (usage.Words text) is named h = absurd h
 
 pub usage_met : (taken : Bool) (sub : Option (Text × List Row)) (name : Text) (rows : List Row) (a : Act) (result : Result Job Usage)
-    → sub ≡ Some (name, rows) → act_named name the_table ≡ Some a → IfErr result (IsActUsage a rows) → IfErr result (IsUsage taken sub)
+    → sub ≡ Some (name, rows) → act_named name subcommands ≡ Some a → IfErr result (IsActUsage a rows) → IfErr result (IsUsage taken sub)
 usage_met taken sub name rows a (Ok j) is named h = tt
 usage_met taken sub name rows a (Err u) is named h = act_usage taken sub name rows a u is named h

@@ -5,7 +5,7 @@ use Rattle.tacho_card.specs.declared.fault.CardFault.{CardFault}
 use Rattle.tacho_desk.specs.declared.fault.Fault.{Fault}
 use Rattle.tacho_desk.specs.declared.fault.Fault.TheVariants as fault
 use Rattle.tacho_desk.specs.Fault.{card_fault}
-use Rattle.tacho_cli.specs.Fault.{fault_line, fault_status}
+use Rattle.tacho_cli.specs.Fault.{command_fault_line, exit_status}
 
 -- the text that is written, and the program's exit status
 pub record Reply : Type 0 where
@@ -13,16 +13,16 @@ pub record Reply : Type 0 where
   pub status : ℕ
 
 -- the reply to a fault of the command; below, to a fault of a card
-abbrev pub fault_reply : Fault → Reply
-fault_reply f = record { text = fault_line f; status = fault_status f }
+abbrev pub failure_reply : Fault → Reply
+failure_reply f = record { text = command_fault_line f; status = exit_status f }
 
 abbrev pub card_reply : CardFault → Reply
-card_reply f = fault_reply (card_fault f)
+card_reply f = failure_reply (card_fault f)
 
 -- if the reader failed, the reply is X2; otherwise it is a valid one, or M1 (out of memory)
-abbrev pub IsReplied : (Reply → Type 0) → Bool → Reply → Type 0
-IsReplied Wanted true reply = reply ≡ fault_reply fault.Device
-IsReplied Wanted false reply = Wanted reply ⊎ (reply ≡ fault_reply fault.Memory)
+abbrev pub IsReplyOrFailure : (Reply → Type 0) → Bool → Reply → Type 0
+IsReplyOrFailure Wanted true reply = reply ≡ failure_reply fault.Device
+IsReplyOrFailure Wanted false reply = Wanted reply ⊎ (reply ≡ failure_reply fault.Memory)
 
 -- if the writer failed, a prefix of the text is written, and the status is 3; otherwise the whole text is written, and the status is that
 -- of the reply
@@ -35,5 +35,5 @@ pub record Finishes (Wanted : List ℕ → Reply → Type 0) (unread : Option (L
   pub input : List ℕ
   pub reply : Reply
   pub read : IfSome unread (λ all. input ≡ all)
-  pub replied : IsReplied (Wanted input) reader_failed reply
+  pub replied : IsReplyOrFailure (Wanted input) reader_failed reply
   pub told : IsWrittenOut writer_failed old new reply status

@@ -10,10 +10,10 @@ use Rattle.tacho_desk.specs.declared.fault.Fault.{Fault}
 use Rattle.tacho_desk.specs.declared.fault.Fault.TheVariants as fault
 
 -- the line of a command's fault
-abbrev pub fault_line : Fault → List ℕ
-fault_line (fault.Told f) = told_line f
-fault_line fault.Device = codes "X2 device failed\n"
-fault_line fault.Memory = no_memory_line
+abbrev pub command_fault_line : Fault → List ℕ
+command_fault_line (fault.Told f) = told_line f
+command_fault_line fault.Device = codes "X2 device failed\n"
+command_fault_line fault.Memory = no_memory_line
 
 -- 3 if memory ran out or the store failed, otherwise 1
 abbrev pub told_status : Told → ℕ
@@ -25,7 +25,7 @@ told_status (told.Sheet sheet.Memory) = 3
 told_status f = 1
 
 -- 1 after a refusal, 3 if memory ran out, the store failed, or a device failed
-abbrev pub fault_status : Fault → ℕ
-fault_status (fault.Told f) = told_status f
-fault_status fault.Device = 3
-fault_status fault.Memory = 3
+abbrev pub exit_status : Fault → ℕ
+exit_status (fault.Told f) = told_status f
+exit_status fault.Device = 3
+exit_status fault.Memory = 3

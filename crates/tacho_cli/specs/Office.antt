@@ -12,7 +12,7 @@ use Rattle.tacho_desk.specs.declared.fault.Fault.{Fault}
 use Rattle.tacho_desk.specs.declared.fault.Fault.TheVariants as fault
 use Rattle.tacho_desk.specs.declared.task.Task.{Task}
 use Rattle.tacho_desk.specs.declared.want.Want.{Want}
-use Rattle.tacho_cli.specs.Command.{Reply, fault_reply, IsWrittenOut}
+use Rattle.tacho_cli.specs.Command.{Reply, failure_reply, IsWrittenOut}
 use Rattle.tacho_cli.specs.declared.job.Job.{Job}
 use Rattle.tacho_cli.specs.declared.job.Job.TheVariants as job
 
@@ -29,14 +29,14 @@ DoesOver true t input s = Sized input s (Does t input s)
 DoesOver false t input s = Does t [] s
 
 -- the task that is asked for, or the fault of the arguments
-abbrev pub DoesWanted : Bool → Wanted → List ℕ → State → Doing
-DoesWanted takes (Err f) input s = Refuses f s
-DoesWanted takes (Ok t) input s = DoesOver takes t input s
+abbrev pub DoesTask : Bool → Wanted → List ℕ → State → Doing
+DoesTask takes (Err f) input s = Refuses f s
+DoesTask takes (Ok t) input s = DoesOver takes t input s
 
 -- what the office asks for; its arguments are read from left to right, and then its input
 abbrev pub Performs : Want → List ℕ → List ℕ → List ℕ → State → Doing
 Performs want driver word input s answer after =
-    (wanted : Wanted) × IsTask want caller.Office driver word wanted × DoesWanted (takes_input want) wanted input s answer after
+    (wanted : Wanted) × IsTask want caller.Office driver word wanted × DoesTask (takes_input want) wanted input s answer after
 
 -- ---- access to the archive
 
@@ -53,13 +53,13 @@ abbrev pub IsFaultyOver : Bool → Task → List ℕ → Fault → Type 0
 IsFaultyOver true t input f = ((262144 < length input) × (f ≡ fault.Told told.TooLarge)) ⊎ ((length input ≤ 262144) × IsFaulty t input f)
 IsFaultyOver false t input f = ⊥
 
-abbrev pub IsFaultOf : Bool → Wanted → List ℕ → Fault → Type 0
-IsFaultOf takes (Err g) input f = f ≡ g
-IsFaultOf takes (Ok t) input f = IsFaultyOver takes t input f
+abbrev pub IsFaultOfTask : Bool → Wanted → List ℕ → Fault → Type 0
+IsFaultOfTask takes (Err g) input f = f ≡ g
+IsFaultOfTask takes (Ok t) input f = IsFaultyOver takes t input f
 
-abbrev pub AreFaulty : Want → List ℕ → List ℕ → List ℕ → Fault → Type 0
-AreFaulty want driver word input f =
-    (wanted : Wanted) × IsTask want caller.Office driver word wanted × IsFaultOf (takes_input want) wanted input f
+abbrev pub AreArgumentsFaulty : Want → List ℕ → List ℕ → List ℕ → Fault → Type 0
+AreArgumentsFaulty want driver word input f =
+    (wanted : Wanted) × IsTask want caller.Office driver word wanted × IsFaultOfTask (takes_input want) wanted input f
 
 -- ---- the reader
 
@@ -87,18 +87,18 @@ pub record Performed {K : Type 0} (stands : K → State → Type 0) (is_clean is
   pub device : failed ≡ true → (answer ≡ Err fault.Device) × (new ≡ old)
   pub serves : failed ≡ false → Serves stands is_clean is_live leaves is_same old new (is_command want) answer (Performs want driver word input)
   pub x2 : answer ≡ Err fault.Device → failed ≡ true
-  pub asks : failed ≡ false → AsksOnly old new (AreSound want driver word input) (AreFaulty want driver word input) answer
+  pub asks : failed ≡ false → AsksOnly old new (AreSound want driver word input) (AreArgumentsFaulty want driver word input) answer
 
 -- the reply to an answer
-abbrev pub reply_to : Answer → Reply
-reply_to (Ok told) = record { text = bytes_of told; status = 0 }
-reply_to (Err f) = fault_reply f
+abbrev pub reply_of_answer : Answer → Reply
+reply_of_answer (Ok told) = record { text = bytes_of told; status = 0 }
+reply_of_answer (Err f) = failure_reply f
 
 -- The reply to the answer is written whole, or, if the writer failed, in part.
 pub record Replied (IsAnswer : Answer → Type 0) (failed : Bool) (old new : Option (List ℕ)) (status : ℕ) : Type 0 where
   pub answer : Answer
   pub is : IsAnswer answer
-  pub told : IsWrittenOut failed old new (reply_to answer) status
+  pub told : IsWrittenOut failed old new (reply_of_answer answer) status
 
 -- a statement about a job at an archive, by what it asks for and its arguments
 abbrev pub OfDesk : Job → (Want → List ℕ → List ℕ → Type 0) → Type 0

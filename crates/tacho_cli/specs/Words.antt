@@ -41,8 +41,8 @@ with_table app (row ∷ table) = with_table (with_subcommand app (with_words (ne
 abbrev pub needs_subcommand : App → App
 needs_subcommand app = record app { top = record app.top { subcommand_required = true } }
 
-abbrev pub the_table : List Subcommand
-the_table =
+abbrev pub subcommands : List Subcommand
+subcommands =
     (codes "dump", [], act.Dump)
     ∷ (codes "holder", [], act.Holder)
     ∷ (codes "card", codes "part" ∷ [], act.Card)
@@ -71,7 +71,7 @@ the_table =
 
 -- `tacho` with its subcommands, one of which is required
 unfoldable pub tacho_app : App
-tacho_app = with_table (needs_subcommand (new_app (codes "tacho"))) the_table
+tacho_app = with_table (needs_subcommand (new_app (codes "tacho"))) subcommands
 
 -- ---- the job
 
@@ -143,7 +143,7 @@ IsJobOf a rows j = ⊥
 -- the job of the subcommand that the arguments name
 abbrev pub IsJob : Option (Text × List Row) → Job → Type 0
 IsJob sub j =
-    (name : Text) × (rows : List Row) × (a : Act) × (sub ≡ Some (name, rows)) × (act_named name the_table ≡ Some a) × IsJobOf a rows j
+    (name : Text) × (rows : List Row) × (a : Act) × (sub ≡ Some (name, rows)) × (act_named name subcommands ≡ Some a) × IsJobOf a rows j
 
 -- the job is done at an existing archive
 abbrev pub at_desk : Job → Bool
@@ -186,6 +186,6 @@ IsActUsage a rows u = ⊥
 abbrev pub IsUsage : Bool → Option (Text × List Row) → Usage → Type 0
 IsUsage taken sub (usage.Words text) = taken ≡ false
 IsUsage taken sub usage.Numbers =
-    (name : Text) × (rows : List Row) × (sub ≡ Some (name, rows)) × (act_named name the_table ≡ Some act.Serve) × HasNoNumbered rows
+    (name : Text) × (rows : List Row) × (sub ≡ Some (name, rows)) × (act_named name subcommands ≡ Some act.Serve) × HasNoNumbered rows
 IsUsage taken sub usage.Parser = Unit {0}
 IsUsage taken sub usage.Memory = Unit {0}

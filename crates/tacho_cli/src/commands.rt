@@ -5,7 +5,7 @@ ghost use Rattle.tacho_desk.specs.Words.{part_of as part_named};
 ghost use Rattle.tacho_cli.specs.Card.{IsCard, IsCardBy, IsListed, no_part_reply};
 ghost use Rattle.tacho_cli.specs.Command.{Finishes, IsWrittenOut};
 ghost use Rattle.tacho_cli.specs.Dump.{IsDump, IsDumped, ReadsValue};
-ghost use Rattle.tacho_cli.specs.Holder.{IsHolder, IsHeld, card_holder, holder_line};
+ghost use Rattle.tacho_cli.specs.Holder.{IsHolder, IsHolderText, card_holder, holder_line};
 
 use crate::reply::{tell, tell_fault};
 use std::alloc::{AllocError, Global};
@@ -109,7 +109,7 @@ fn card_text(alloc: Global, part: Part, bytes: &[u8]) -> Result<Vec<u8>, CardFau
 
 /// The line of a card file's holder.
 fn holder_text(alloc: Global, bytes: &[u8]) -> Result<String, CardFault>
-    ensures { MatchResult result (λ text. IsHeld bytes.now (string_bytes text)) (λ fault. (card_holder bytes.now ≡ Err fault) ⊎ (fault ≡ Memory)) }
+    ensures { MatchResult result (λ text. IsHolderText bytes.now (string_bytes text)) (λ fault. (card_holder bytes.now ≡ Err fault) ⊎ (fault ≡ Memory)) }
 {
     let file = CardFile::read(bytes)?;
     Ok(line_of_holder(alloc, &file.holder())?)

@@ -1,5 +1,5 @@
 ghost use Rattle.std.specs.Prelude.{◌≡◌};
-ghost use Rattle.tacho_cli.specs.Command.{IsWrittenOut, fault_reply};
+ghost use Rattle.tacho_cli.specs.Command.{IsWrittenOut, failure_reply};
 ghost use Rattle.tacho_cli.specs.Fault.{told_status};
 
 use tacho_card::CardFault;
@@ -20,7 +20,7 @@ pub(crate) fn tell<W: Sink>(writer: &mut W, text: &[u8], status: u8) -> u8
 
 /// Writes the line of a fault, and returns its status, or 3 if the writer failed. Allocates no memory.
 pub(crate) fn tell_fault<W: Sink>(writer: &mut W, fault: Fault) -> u8
-    ensures { IsWrittenOut (W.has_failed writer.new) (W.written writer.old) (W.written writer.new) (fault_reply fault) result }
+    ensures { IsWrittenOut (W.has_failed writer.new) (W.written writer.old) (W.written writer.new) (failure_reply fault) result }
 {
     match fault {
         Fault::Told(told) => tell(writer, fault_line(told).as_bytes(), status_of(&told)),

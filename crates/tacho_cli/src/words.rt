@@ -1,7 +1,7 @@
 ghost use Rattle.std.specs.Prelude.{◌≡◌, [], IfOk, IfErr, IfSome, codes, false, map, string_bytes};
 ghost use Rattle.clap.specs.Words.{app_of, fault_of, found_of, kind_of, new_app, rows_of, rule_of, subcommand_of, takes};
 ghost use Rattle.clap.specs.declared.builder.command.Command.TheViews.{out-Command as fields_of};
-ghost use Rattle.tacho_cli.specs.Words.{act_named, needs_subcommand, tacho_app, the_table, with_table, with_words, word_id, word_rule};
+ghost use Rattle.tacho_cli.specs.Words.{act_named, needs_subcommand, tacho_app, subcommands, with_table, with_words, word_id, word_rule};
 ghost use Rattle.tacho_cli.specs.Words.{IsActUsage, IsDriverText, IsJob, IsJobOf, IsRefusal, IsUsage, IsWord, IsWordText};
 
 use crate::act::{Act, names_driver, word_of};
@@ -276,7 +276,7 @@ fn act_in(table: &[Row], name: &str) -> Option<Act>
 
 /// What the subcommand with a name does.
 fn act_of(name: &str) -> Option<Act>
-    ensures { result ≡ act_named name.now the_table }
+    ensures { result ≡ act_named name.now subcommands }
 {
     act_in(TABLE.as_slice(), name)
 }

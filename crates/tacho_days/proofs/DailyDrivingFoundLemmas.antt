@@ -14,14 +14,14 @@ use Rattle.tacho_hours.specs.Driving.{driving}
 use Rattle.tacho_hours.specs.Runs.{minutes_of, IsRestRun}
 use Rattle.tacho_hours.specs.SoFar.{Reached, AreCollected}
 use Rattle.tacho_hours.specs.Days.{IsDuty, EarlierDay}
-use Rattle.tacho_hours.specs.Exactly.{AreSoMany}
+use Rattle.tacho_hours.specs.Exactly.{HasCount}
 use Rattle.tacho_hours.specs.Weeks.{IsInWeek}
 use Rattle.tacho_hours.specs.Order.{Apart}
-use Rattle.tacho_hours.specs.Breaches.{IsOver, IsTooMuch, IsExtended}
-use Rattle.tacho_hours.proofs.ExactlyLemmas.{exactly_as, exactly_skip, so_many_only}
+use Rattle.tacho_hours.specs.Breaches.{HasDrivingAbove, IsDrivingBreach, IsExtended}
+use Rattle.tacho_hours.proofs.ExactlyLemmas.{exactly_as, exactly_skip, how_many_only}
 use Rattle.tacho_hours.proofs.LongDrivingLemmas.{too_much_reaches}
 use Rattle.tacho_pass.specs.declared.count.Count.{Count}
-use Rattle.tacho_pass.specs.Found.{listed}
+use Rattle.tacho_pass.specs.Found.{as_list}
 use Rattle.tacho_pass.specs.Counts.{over_of, IsCounted}
 use Rattle.tacho_pass.proofs.CountLemmas.{collected_over}
 use Rattle.tacho_days.specs.DutyDays.{day_to, IsLastOf}
@@ -73,14 +73,14 @@ module _ (line : Line) (runs : List Run) (start place : ℕ) (reached : Reached 
     (r : Run) (is : IsRestRun line r) (at : r.start ≡ start)
     (enough : 540 ≤ minutes_of r) (from : ℕ) (l : IsLastOf 540 runs from) (u n : ℕ) (week : IsInWeek u from)
     (so : 540 < driving line from r.start
-    → AreSoMany (λ day. IsExtended line u day × (day.start ≤ from)) EarlierDay n) where
+    → HasCount (λ day. IsExtended line u day × (day.start ≤ from)) EarlierDay n) where
   -- more than ten hours of driving in this day
   IsLong : Breach → Type 0
-  IsLong b = IsTooMuch line B4 600 from r.start b
+  IsLong b = IsDrivingBreach line B4 600 from r.start b
 
   -- a third or later extended day
   IsOften : Breach → Type 0
-  IsOften b = (2 < n) × IsTooMuch line B5 540 from r.start b
+  IsOften b = (2 < n) × IsDrivingBreach line B5 540 from r.start b
 
   long_new : (b : Breach) → IsLong b → IsB4Seen line (runs ++ r ∷ []) b
   unfolding IsLong
@@ -110,7 +110,7 @@ module _ (line : Line) (runs : List Run) (start place : ℕ) (reached : Reached 
             week = week;
             over = more;
           };
-          so_many = so more;
+          how_many = so more;
           many = many;
           over = h.over;
           since = h.since;
@@ -127,21 +127,21 @@ module _ (line : Line) (runs : List Run) (start place : ℕ) (reached : Reached 
         inr (record {
           kind_is = h.kind;
           over =
-              subst (λ (m : ℕ). IsOver line 600 from m b) only.1
-              (subst (λ (m : ℕ). IsOver line 600 m h.is.day.past b) only.0 h.is.over);
+              subst (λ (m : ℕ). HasDrivingAbove line 600 from m b) only.1
+              (subst (λ (m : ℕ). HasDrivingAbove line 600 m h.is.day.past b) only.0 h.is.over);
           since = h.is.since ∙ only.0;
         })
   ]
 
   -- the number of extended days up to this one is n
   ordinal_is : (w other : ℕ) → IsInWeek w from → 540 < driving line from r.start
-      → AreSoMany (λ day. IsExtended line w day × (day.start ≤ from)) EarlierDay other → other ≡ n
+      → HasCount (λ day. IsExtended line w day × (day.start ≤ from)) EarlierDay other → other ≡ n
   ordinal_is w other (low, high) more many =
       let (low', high') = week in
       let e : w ≡ u = omega arith in
-      so_many_only (λ day. IsExtended line u day × (day.start ≤ from)) EarlierDay
+      how_many_only (λ day. IsExtended line u day × (day.start ≤ from)) EarlierDay
       (λ x y p q. never_both line x y p.0.duty q.0.duty) other n
-      (subst (λ (v : ℕ). AreSoMany (λ day. IsExtended line v day × (day.start ≤ from)) EarlierDay other) e many)
+      (subst (λ (v : ℕ). HasCount (λ day. IsExtended line v day × (day.start ≤ from)) EarlierDay other) e many)
       (so more)
 
   often_back : (b : Breach) → IsB5Seen line (runs ++ r ∷ []) b → IsB5Seen line runs b ⊎ IsOften b
@@ -151,14 +151,14 @@ module _ (line : Line) (runs : List Run) (start place : ℕ) (reached : Reached 
     | inr same ↦
         let only = duty_only line runs start place reached r is at enough from l h.is.day h.is.extended.duty same in
         let w : ℕ = h.is.week in
-        let over : IsOver line 540 from r.start b =
-        subst (λ (m : ℕ). IsOver line 540 from m b) only.1
-        (subst (λ (m : ℕ). IsOver line 540 m h.is.day.past b) only.0 h.is.over) in
-        let long : IsTooMuch line B5 540 from r.start b =
+        let over : HasDrivingAbove line 540 from r.start b =
+        subst (λ (m : ℕ). HasDrivingAbove line 540 from m b) only.1
+        (subst (λ (m : ℕ). HasDrivingAbove line 540 m h.is.day.past b) only.0 h.is.over) in
+        let long : IsDrivingBreach line B5 540 from r.start b =
         record { kind_is = h.kind; over = over; since = h.is.since ∙ only.0 } in
-        let many : AreSoMany (λ day. IsExtended line w day × (day.start ≤ from)) EarlierDay h.is.ordinal =
-        subst (λ (m : ℕ). AreSoMany (λ day. IsExtended line w day × (day.start ≤ m)) EarlierDay h.is.ordinal)
-        only.0 h.is.so_many in
+        let many : HasCount (λ day. IsExtended line w day × (day.start ≤ from)) EarlierDay h.is.ordinal =
+        subst (λ (m : ℕ). HasCount (λ day. IsExtended line w day × (day.start ≤ m)) EarlierDay h.is.ordinal)
+        only.0 h.is.how_many in
         let e : h.is.ordinal ≡ n =
         ordinal_is w h.is.ordinal (subst (λ (m : ℕ). IsInWeek w m) only.0 h.is.extended.week)
         (too_much_reaches line B5 540 from r.start b long) many in
@@ -202,7 +202,7 @@ module _ (line : Line) (runs : List Run) (start place : ℕ) (reached : Reached 
   module _ (nine ten : Count) (own : List Breach)
       (c : IsCounted line 540 from r.start nine) (d : IsCounted line 600 from r.start ten)
       (t : AreCollected (λ b. IsDrivingSeen line runs b) own) where
-    first_one : AreCollected (λ b. IsDrivingSeen line runs b ⊎ IsLong b) (own ++ listed (over_of B4 600 from ten))
+    first_one : AreCollected (λ b. IsDrivingSeen line runs b ⊎ IsLong b) (own ++ as_list (over_of B4 600 from ten))
     unfolding IsLong
     first_one =
         collected_over (λ b. IsDrivingSeen line runs b) line B4 600 from r.start ten own t d
@@ -210,19 +210,19 @@ module _ (line : Line) (runs : List Run) (start place : ℕ) (reached : Reached 
 
     both_if : (g : Bool) → nat_lt 2 n ≡ g
         → AreCollected (λ b. (IsDrivingSeen line runs b ⊎ IsLong b) ⊎ IsOften b)
-        (own ++ (listed (over_of B4 600 from ten) ++ (if g then listed (over_of B5 540 from nine) else [])))
+        (own ++ (as_list (over_of B4 600 from ten) ++ (if g then as_list (over_of B5 540 from nine) else [])))
     unfolding IsOften
     both_if true e =
-        let xs : List Breach = listed (over_of B4 600 from ten) in
-        let ys : List Breach = listed (over_of B5 540 from nine) in
+        let xs : List Breach = as_list (over_of B4 600 from ten) in
+        let ys : List Breach = as_list (over_of B5 540 from nine) in
         let many : 2 < n = grind (arith, nat_tests) in
-        let two : AreCollected (λ b. (IsDrivingSeen line runs b ⊎ IsLong b) ⊎ IsTooMuch line B5 540 from r.start b)
+        let two : AreCollected (λ b. (IsDrivingSeen line runs b ⊎ IsLong b) ⊎ IsDrivingBreach line B5 540 from r.start b)
         ((own ++ xs) ++ ys) =
         collected_over (λ b. IsDrivingSeen line runs b ⊎ IsLong b) line B5 540 from r.start nine (own ++ xs) first_one c
         five_apart in
         subst (λ (zs : List Breach). AreCollected (λ b. (IsDrivingSeen line runs b ⊎ IsLong b) ⊎ IsOften b) zs)
         (append_assoc own xs ys)
-        (exactly_as (λ b. (IsDrivingSeen line runs b ⊎ IsLong b) ⊎ IsTooMuch line B5 540 from r.start b)
+        (exactly_as (λ b. (IsDrivingSeen line runs b ⊎ IsLong b) ⊎ IsDrivingBreach line B5 540 from r.start b)
         (λ b. (IsDrivingSeen line runs b ⊎ IsLong b) ⊎ IsOften b) Apart ((own ++ xs) ++ ys)
         (λ b. (
           λ h. elim h [ inl old ↦ inl old | inr long ↦ inr (many, long) ],
@@ -230,7 +230,7 @@ module _ (line : Line) (runs : List Run) (start place : ℕ) (reached : Reached 
         ))
         two)
     both_if false e =
-        let xs : List Breach = listed (over_of B4 600 from ten) in
+        let xs : List Breach = as_list (over_of B4 600 from ten) in
         let few : n ≤ 2 = grind (arith, nat_tests) in
         subst (λ (zs : List Breach). AreCollected (λ b. (IsDrivingSeen line runs b ⊎ IsLong b) ⊎ IsOften b) (own ++ zs))
         (sym (append-nil xs))
@@ -239,9 +239,9 @@ module _ (line : Line) (runs : List Run) (start place : ℕ) (reached : Reached 
 
     -- all these breaches are found
     pub day_collected : AreCollected (λ b. IsDrivingSeen line (runs ++ r ∷ []) b)
-        (own ++ (listed (over_of B4 600 from ten) ++ (if nat_lt 2 n then listed (over_of B5 540 from nine) else [])))
+        (own ++ (as_list (over_of B4 600 from ten) ++ (if nat_lt 2 n then as_list (over_of B5 540 from nine) else [])))
     day_collected =
         exactly_as (λ b. (IsDrivingSeen line runs b ⊎ IsLong b) ⊎ IsOften b)
         (λ b. IsDrivingSeen line (runs ++ r ∷ []) b) Apart
-        (own ++ (listed (over_of B4 600 from ten) ++ (if nat_lt 2 n then listed (over_of B5 540 from nine) else [])))
+        (own ++ (as_list (over_of B4 600 from ten) ++ (if nat_lt 2 n then as_list (over_of B5 540 from nine) else [])))
         all_seen (both_if (nat_lt 2 n) refl)

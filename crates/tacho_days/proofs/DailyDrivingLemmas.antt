@@ -25,16 +25,16 @@ use Rattle.tacho_hours.proofs.ExactlyLemmas.{exactly_none, exactly_as}
 use Rattle.tacho_hours.proofs.DrivingLemmas.{driving_le, driving_before}
 use Rattle.tacho_hours.proofs.RunsLemmas.{run_of, reached_none, reached_rest, reached_busy, reached_gap, reached_end}
 use Rattle.tacho_pass.specs.declared.count.Count.{Count}
-use Rattle.tacho_pass.specs.Counts.{count_none, over_of, IsCounted, Does}
+use Rattle.tacho_pass.specs.Counts.{count_none, over_of, IsCounted, AllDrive}
 use Rattle.tacho_pass.specs.Heard.{is_rest, start_after, run_before, Continues}
-use Rattle.tacho_pass.specs.Found.{listed}
+use Rattle.tacho_pass.specs.Found.{as_list}
 use Rattle.tacho_pass.specs.Kinds.{is_b4_or_b5}
 use Rattle.tacho_pass.proofs.HearingLemmas.{line_append, line_at_end, joined_append, line_after, rests_yes, rests_no}
 use Rattle.tacho_pass.proofs.CountLemmas.{counted_start, counted_with, over_kinds}
 use Rattle.tacho_days.specs.declared.daily_driving.DutyDriving.{DutyDriving}
 use Rattle.tacho_days.specs.DutyDays.{day_to, IsLastOf}
 use Rattle.tacho_days.specs.DailyDriving.{week_at, duty_none, duty_with, ordinal_of, often_of, found_of, next_day}
-use Rattle.tacho_days.specs.DailyDriving.{duty_after, duty_found, duty_any, found_any, IsTally}
+use Rattle.tacho_days.specs.DailyDriving.{duty_after, duty_found, duty_any, duty_found_at_optional_run, IsTally}
 use Rattle.tacho_days.specs.DailyDriving.{IsDrivingSeen, IsDriven, DailyDrivingStands, IsDailyDriving, DailyDrivingDefined}
 use Rattle.tacho_days.proofs.DutyDaysLemmas.{last_next, last_keep, duty_new, duty_only, none_short, none_first}
 use Rattle.tacho_days.proofs.DutyDaysLemmas.{first_on, first_long}
@@ -43,13 +43,13 @@ use Rattle.tacho_days.proofs.DailyDrivingFoundLemmas.{none_seen, seen_keep, day_
 
 -- a breach that is put has the kind B4 or B5
 often_kinds : (b : Bool) (d : DutyDriving)
-    → All (λ (y : Breach). IsTrue (is_b4_or_b5 y.kind)) (if b then listed (over_of B5 540 d.from d.nine) else [])
+    → All (λ (y : Breach). IsTrue (is_b4_or_b5 y.kind)) (if b then as_list (over_of B5 540 d.from d.nine) else [])
 often_kinds true d = over_kinds is_b4_or_b5 B5 540 d.from d.nine refl
 often_kinds false d = All-nil (λ (y : Breach). IsTrue (is_b4_or_b5 y.kind))
 
 pub kinds_of : (d : DutyDriving) → All (λ (y : Breach). IsTrue (is_b4_or_b5 y.kind)) (found_of d)
 kinds_of d =
-    All-append (λ (y : Breach). IsTrue (is_b4_or_b5 y.kind)) (listed (over_of B4 600 d.from d.ten)) (often_of d)
+    All-append (λ (y : Breach). IsTrue (is_b4_or_b5 y.kind)) (as_list (over_of B4 600 d.from d.ten)) (often_of d)
     (over_kinds is_b4_or_b5 B4 600 d.from d.ten refl) (often_kinds (nat_lt 2 (ordinal_of d)) d)
 
 kinds_if : (b : Bool) (d : DutyDriving)
@@ -61,13 +61,13 @@ pub duty_kinds : (run : Run) (d : DutyDriving) → All (λ (y : Breach). IsTrue 
 duty_kinds run d = kinds_if (nat_le 540 (minutes_of run)) d
 
 pub any_kinds : (run : Option Run) (d : DutyDriving)
-    → All (λ (y : Breach). IsTrue (is_b4_or_b5 y.kind)) (found_any run d)
+    → All (λ (y : Breach). IsTrue (is_b4_or_b5 y.kind)) (duty_found_at_optional_run run d)
 any_kinds None d = All-nil (λ (y : Breach). IsTrue (is_b4_or_b5 y.kind))
 any_kinds (Some run) d = duty_kinds run d
 
 -- a count without driving gives no breach
 over_none : (g : Bool) (limit : ℕ) (c : Count) (b : Breach) → nat_lt limit c.minutes ≡ g → c.minutes ≡ 0
-    → listed (if g then Some b else None) ≡ []
+    → as_list (if g then Some b else None) ≡ []
 over_none true limit c b e none = absurd (let f : limit < c.minutes = grind (arith, nat_tests) in omega arith)
 over_none false limit c b e none = refl
 
@@ -81,10 +81,10 @@ none_found d nine ten =
     record { kind = B4; moment = d.ten.moment; since = d.from; amount = d.ten.minutes - 600 } in
     let five : Breach =
     record { kind = B5; moment = d.nine.moment; since = d.from; amount = d.nine.minutes - 540 } in
-    let e : listed (over_of B4 600 d.from d.ten) ≡ [] = over_none (nat_lt 600 d.ten.minutes) 600 d.ten four refl ten in
-    let f : listed (over_of B5 540 d.from d.nine) ≡ [] =
+    let e : as_list (over_of B4 600 d.from d.ten) ≡ [] = over_none (nat_lt 600 d.ten.minutes) 600 d.ten four refl ten in
+    let f : as_list (over_of B5 540 d.from d.nine) ≡ [] =
     over_none (nat_lt 540 d.nine.minutes) 540 d.nine five refl nine in
-    rw (e, often_none (nat_lt 2 (ordinal_of d)) (listed (over_of B5 540 d.from d.nine)) f) refl
+    rw (e, often_none (nat_lt 2 (ordinal_of d)) (as_list (over_of B5 540 d.from d.nine)) f) refl
 
 -- a rest run that starts where the runs that have ended stop
 module _ (line : Line) (start place : ℕ) (d : DutyDriving) (own : List Breach) (h : IsDriven line start place d own)
@@ -211,7 +211,7 @@ module _ (line : Line) (start place q : ℕ) (d : DutyDriving) (own : List Breac
       let f : l.run.past ≡ d.from = l.ends in
       omega arith
 
-  module _ (drives : Bool) (does : Does line drives place q)
+  module _ (drives : Bool) (does : AllDrive line drives place q)
       (busy : (m : ℕ) → place ≤ m → m < q → line m ≢ Rest) where
     -- no rest run ends at the span
     pub busy_step : place ≤ start → IsDriven line q q (duty_with drives place q d) own
@@ -240,7 +240,7 @@ module _ (line : Line) (start place q : ℕ) (d : DutyDriving) (own : List Breac
       reached_on : Reached line (h.runs ++ run_of start place ∷ []) q q
       reached_on = reached_gap line h.runs start place q h.reached gap more far busy
 
-      resting : Does line false start place
+      resting : AllDrive line false start place
       resting m above below = ap is_drive (h.reached.resting m above below)
 
       run_is : IsRestRun line (run_of start place)
@@ -319,7 +319,7 @@ module _ (spans : List Span) (s : Span) (base start : ℕ) (d : DutyDriving) (ow
     before : IsDriven line start s.start d own
     before = r.kept line (λ m below. c m (omega arith) ∙ line_append spans s m below)
 
-    does : Does line (is_drive s.mark.activity) s.start s.past
+    does : AllDrive line (is_drive s.mark.activity) s.start s.past
     does m above below = ap is_drive (at m above below)
 
     busy : is_rest s.mark.activity ≡ false → (m : ℕ) → s.start ≤ m → m < s.past → line m ≢ Rest
@@ -336,7 +336,7 @@ module _ (spans : List Span) (s : Span) (base start : ℕ) (d : DutyDriving) (ow
       → DailyDrivingStands (if b then start else s.past) s.past
       (duty_with (is_drive s.mark.activity) s.start s.past
       (duty_any (if b then None else (if g then Some (run_of start s.start) else None)) d))
-      (own ++ found_any (if b then None else (if g then Some (run_of start s.start) else None)) d) owed base
+      (own ++ duty_found_at_optional_run (if b then None else (if g then Some (run_of start s.start) else None)) d) owed base
       (spans ++ s ∷ [])
   by true g e f = record {
     none = r.none;
@@ -363,7 +363,7 @@ module _ (spans : List Span) (s : Span) (base start : ℕ) (d : DutyDriving) (ow
 
   pub driven_fed : DailyDrivingStands (start_after start s) s.past
       (duty_with (is_drive s.mark.activity) s.start s.past (duty_any (run_before start s) d))
-      (own ++ found_any (run_before start s) d) owed base (spans ++ s ∷ [])
+      (own ++ duty_found_at_optional_run (run_before start s) d) owed base (spans ++ s ∷ [])
   driven_fed = by (is_rest s.mark.activity) (nat_lt start s.start) refl refl
 
 -- before the first minute, nothing is counted

@@ -11,11 +11,11 @@ use Rattle.tacho_hours.specs.Line.{Line}
 use Rattle.tacho_hours.specs.Runs.{minutes_of, IsRestRun}
 use Rattle.tacho_hours.specs.SoFar.{Reached}
 use Rattle.tacho_hours.specs.Days.{IsDuty, EarlierDay}
-use Rattle.tacho_hours.specs.Exactly.{AreSoMany}
+use Rattle.tacho_hours.specs.Exactly.{HasCount}
 use Rattle.tacho_hours.specs.Weeks.{IsInWeek}
 use Rattle.tacho_hours.specs.Breaches.{IsExtended}
 use Rattle.tacho_hours.proofs.DebtsLemmas.{separate}
-use Rattle.tacho_hours.proofs.ExactlyLemmas.{exactly_none, exactly_as, exactly_add, so_many_as}
+use Rattle.tacho_hours.proofs.ExactlyLemmas.{exactly_none, exactly_as, exactly_add, how_many_as}
 use Rattle.tacho_days.specs.DutyDays.{day_to, IsLastOf}
 use Rattle.tacho_days.specs.DailyDriving.{week_at, IsExtendedSeen, IsTally}
 use Rattle.tacho_days.proofs.DutyDaysLemmas.{day_lasts, later, duty_only, day_only, day_before}
@@ -27,7 +27,7 @@ week_in m late = (omega arith, omega arith)
 -- before the first day
 pub tally_none : (line : Line) → IsTally line [] 0 0
 tally_none line = record {
-  so_many = record {
+  how_many = record {
     all = [];
     exactly = exactly_none (λ day. IsExtendedSeen line [] 0 day) EarlierDay (λ day h.
         let (k, within, e) = h.seen in omega arith);
@@ -52,9 +52,9 @@ module _ (line : Line) (runs : List Run) (r : Run) where
 
     pub tally_keep : (week count : ℕ) → IsTally line runs week count → IsTally line (runs ++ r ∷ []) week count
     tally_keep week count t = record {
-      so_many = so_many_as (λ day. IsExtendedSeen line runs week day)
+      how_many = how_many_as (λ day. IsExtendedSeen line runs week day)
           (λ day. IsExtendedSeen line (runs ++ r ∷ []) week day) EarlierDay count
-          (λ day. (λ h. wider week day h, λ h. narrower week day h)) t.so_many;
+          (λ day. (λ h. wider week day h, λ h. narrower week day h)) t.how_many;
       latest = λ day other h. t.latest day other (narrower other day h);
       known = elim t.known [ inl e ↦ inl e | inr (day, h) ↦ inr (day, wider week day h) ];
     }
@@ -123,20 +123,20 @@ module _ (line : Line) (runs : List Run) (start place : ℕ) (reached : Reached 
     -- one more extended day of the same week
     tally_same : (count : ℕ) → IsTally line runs u count → IsTally line (runs ++ r ∷ []) u (count + 1)
     tally_same count t = record {
-      so_many = record {
-        all = t.so_many.all ++ day_to from r ∷ [];
+      how_many = record {
+        all = t.how_many.all ++ day_to from r ∷ [];
         exactly =
             exactly_as
             (λ day. IsExtendedSeen line runs u day ⊎ (day_to from r ≡ day))
             (λ day. IsExtendedSeen line (runs ++ r ∷ []) u day) EarlierDay
-            (t.so_many.all ++ day_to from r ∷ []) one_more
+            (t.how_many.all ++ day_to from r ∷ []) one_more
             (exactly_add (λ day. IsExtendedSeen line runs u day)
-            (λ day. day_to from r ≡ day) EarlierDay t.so_many.all
-            (day_to from r) t.so_many.exactly refl (λ day e. e) earlier);
+            (λ day. day_to from r ≡ day) EarlierDay t.how_many.all
+            (day_to from r) t.how_many.exactly refl (λ day e. e) earlier);
         count =
-            let m : length t.so_many.all ≡ count = t.so_many.count in
+            let m : length t.how_many.all ≡ count = t.how_many.count in
             let new : List DutyDay = day_to from r ∷ [] in
-            omega (arith, m, length-append t.so_many.all new);
+            omega (arith, m, length-append t.how_many.all new);
       };
       latest = no_later;
       known = inr (day_to from r, here);
@@ -153,7 +153,7 @@ module _ (line : Line) (runs : List Run) (start place : ℕ) (reached : Reached 
         ] in
         omega arith) in
         record {
-          so_many = record {
+          how_many = record {
             all = day_to from r ∷ [];
             exactly =
                 exactly_as
@@ -184,9 +184,9 @@ module _ (line : Line) (runs : List Run) (start place : ℕ) (reached : Reached 
     -- these are the extended days of the week up to this one
     pub so_many_upto : ((run : Run) → IsRestRun line run → run.start ≤ r.start → Contains (runs ++ r ∷ []) run)
         → (n : ℕ) → IsTally line (runs ++ r ∷ []) u n
-        → AreSoMany (λ day. IsExtended line u day × (day.start ≤ from)) EarlierDay n
+        → HasCount (λ day. IsExtended line u day × (day.start ≤ from)) EarlierDay n
     so_many_upto all n t =
-        so_many_as (λ day. IsExtendedSeen line (runs ++ r ∷ []) u day)
+        how_many_as (λ day. IsExtendedSeen line (runs ++ r ∷ []) u day)
         (λ day. IsExtended line u day × (day.start ≤ from)) EarlierDay n
         (λ day. (
           λ h. (h.extended, starts_by day h.extended.duty h.seen),
@@ -195,4 +195,4 @@ module _ (line : Line) (runs : List Run) (start place : ℕ) (reached : Reached 
             seen = all day.rest h.duty.neighbours.second.rests (rest_by day h.duty by);
           },
         ))
-        t.so_many
+        t.how_many

@@ -10,16 +10,16 @@ use Rattle.tacho_hours.specs.declared.run.Run.{Run}
 use Rattle.tacho_hours.specs.declared.days.DutyDay.{DutyDay}
 use Rattle.tacho_hours.specs.declared.breach.Breach.{Breach}
 use Rattle.tacho_hours.specs.declared.breach.Kind.TheVariants.{B3}
-use Rattle.tacho_hours.specs.Exactly.{AreSoMany}
+use Rattle.tacho_hours.specs.Exactly.{HasCount}
 use Rattle.tacho_hours.specs.Line.{Line}
 use Rattle.tacho_hours.specs.Runs.{IsRestRun, Before, minutes_of}
 use Rattle.tacho_hours.specs.SoFar.{Reached, AreCollected}
 use Rattle.tacho_hours.specs.Days.{IsReduced, EarlierDay}
 use Rattle.tacho_hours.specs.Weeks.{IsWeeklyRest}
 use Rattle.tacho_hours.specs.Order.{Apart}
-use Rattle.tacho_hours.proofs.ExactlyLemmas.{exactly_skip, exactly_add, so_many_as, so_many_only}
+use Rattle.tacho_hours.proofs.ExactlyLemmas.{exactly_skip, exactly_add, how_many_as, how_many_only}
 use Rattle.tacho_hours.proofs.OrderLemmas.{same_breach}
-use Rattle.tacho_pass.specs.Found.{listed}
+use Rattle.tacho_pass.specs.Found.{as_list}
 use Rattle.tacho_days.specs.declared.daily_rest.RestingDay.{RestingDay}
 use Rattle.tacho_days.specs.DutyDays.{day_to, IsLastOf}
 use Rattle.tacho_days.specs.RestingDays.{reduced_of, often_breach, often_of}
@@ -41,10 +41,10 @@ abbrev pub ReducedUpTo : Line → Run → ℕ → DutyDay → Type 0
 ReducedUpTo line weekly to other = IsReduced line other × Before weekly other.rest × (other.rest.start ≤ to)
 
 -- their number is unique
-up_to_only : (line : Line) (weekly : Run) (to n m : ℕ) → AreSoMany (ReducedUpTo line weekly to) EarlierDay n
-    → AreSoMany (ReducedUpTo line weekly to) EarlierDay m → n ≡ m
+up_to_only : (line : Line) (weekly : Run) (to n m : ℕ) → HasCount (ReducedUpTo line weekly to) EarlierDay n
+    → HasCount (ReducedUpTo line weekly to) EarlierDay m → n ≡ m
 up_to_only line weekly to n m a b =
-    so_many_only (ReducedUpTo line weekly to) EarlierDay
+    how_many_only (ReducedUpTo line weekly to) EarlierDay
     (λ x y p q. never_both line x y p.0.duty q.0.duty) n m a b
 
 module _ (line : Line) (runs : List Run) (start place : ℕ) (reached : Reached line runs start place)
@@ -52,7 +52,7 @@ module _ (line : Line) (runs : List Run) (start place : ℕ) (reached : Reached 
     (all : (x : Run) → IsRestRun line x → x.start ≤ r.start → Contains (runs ++ r ∷ []) x)
     (enough : 540 ≤ minutes_of r) (from : ℕ) (l : IsLastOf 540 runs from)
     (weekly number : ℕ) (w : IsLastOf 1440 runs weekly)
-    (n : AreSoMany (IsReducedSince line runs weekly) EarlierDay number) where
+    (n : HasCount (IsReducedSince line runs weekly) EarlierDay number) where
   -- the last weekly rest
   weekly_is : IsWeeklyRest line w.run
   weekly_is = record { rests = rests line runs start place reached r is at w.run w.among; enough = w.enough }
@@ -74,10 +74,10 @@ module _ (line : Line) (runs : List Run) (start place : ℕ) (reached : Reached 
       ]
 
   -- the number of reduced rests up to this one
-  up_to : IsReduced line (day_to from r) → AreSoMany (ReducedUpTo line w.run r.start) EarlierDay (number + 1)
+  up_to : IsReduced line (day_to from r) → HasCount (ReducedUpTo line w.run r.start) EarlierDay (number + 1)
   up_to new =
       let ends : w.run.past ≡ weekly = w.ends in
-      so_many_as (IsReducedSince line (runs ++ r ∷ []) weekly) (ReducedUpTo line w.run r.start) EarlierDay (number + 1)
+      how_many_as (IsReducedSince line (runs ++ r ∷ []) weekly) (ReducedUpTo line w.run r.start) EarlierDay (number + 1)
       (λ day. (
         λ h.
             (let behind : weekly < day.rest.start = h.behind in
@@ -118,12 +118,12 @@ module _ (line : Line) (runs : List Run) (start place : ℕ) (reached : Reached 
         | inr sooner ↦ absurd (
             h.is.last w.run weekly_is sooner (subst (λ (x : Run). Before w.run x) same weekly_before))
       ] in
-      let so_many : AreSoMany (ReducedUpTo line w.run r.start) EarlierDay h.is.ordinal =
-      subst (λ (m : ℕ). AreSoMany (ReducedUpTo line w.run m) EarlierDay h.is.ordinal) (sym s)
-      (subst (λ (x : Run). AreSoMany (ReducedUpTo line x h.is.day.rest.start) EarlierDay h.is.ordinal) one
-      h.is.so_many) in
+      let how_many : HasCount (ReducedUpTo line w.run r.start) EarlierDay h.is.ordinal =
+      subst (λ (m : ℕ). HasCount (ReducedUpTo line w.run m) EarlierDay h.is.ordinal) (sym s)
+      (subst (λ (x : Run). HasCount (ReducedUpTo line x h.is.day.rest.start) EarlierDay h.is.ordinal) one
+      h.is.how_many) in
       let ordinal : h.is.ordinal ≡ number + 1 =
-      up_to_only line w.run r.start h.is.ordinal (number + 1) so_many (up_to reduced) in
+      up_to_only line w.run r.start h.is.ordinal (number + 1) how_many (up_to reduced) in
       let many : 3 < h.is.ordinal = h.is.many in
       let moment : b.moment ≡ h.is.day.rest.start = h.is.moment in
       let amount : b.amount + 3 ≡ h.is.ordinal = h.is.amount in
@@ -156,7 +156,7 @@ module _ (line : Line) (runs : List Run) (start place : ℕ) (reached : Reached 
           rest = weekly_is;
           before = weekly_before;
           last = weekly_last;
-          so_many = up_to new.reduced;
+          how_many = up_to new.reduced;
           many = new.many;
           moment = new.moment;
           since = new.since ∙ sym w.ends;
@@ -186,7 +186,7 @@ module _ (P : Breach → Type 0) (found : List Breach) (line : Line) (r : Run) (
   -- by cases: whether the rest is reduced, and whether the number is above the limit
   often_by : (g h : Bool) → reduced_of d.part (day_to d.from r) ≡ g → nat_lt 3 (d.number + 1) ≡ h
       → AreCollected (λ b. P b ⊎ IsOftenTo line d.from r d.weekly d.number b)
-      (found ++ listed (if g && h then Some (often_breach r d) else None))
+      (found ++ as_list (if g && h then Some (often_breach r d) else None))
   often_by true true e f =
       let new : Breach = often_breach r d in
       let many : 3 < d.number + 1 = grind (arith, nat_tests) in
@@ -217,5 +217,5 @@ module _ (P : Breach → Type 0) (found : List Breach) (line : Line) (r : Run) (
 
   -- as the code computes it
   pub collected_often : AreCollected (λ b. P b ⊎ IsOftenTo line d.from r d.weekly d.number b)
-      (found ++ listed (often_of r d))
+      (found ++ as_list (often_of r d))
   collected_often = often_by (reduced_of d.part (day_to d.from r)) (nat_lt 3 (d.number + 1)) refl refl

@@ -6,12 +6,12 @@ use Rattle.std.proofs.lemmas.Bool.Decides.{nat_tests}
 use Rattle.std.proofs.lemmas.List.Elements.{Contains-push, Contains-append_left, Contains-push_cases}
 use Rattle.tacho_hours.specs.declared.run.Run.{Run}
 use Rattle.tacho_hours.specs.declared.days.DutyDay.{DutyDay}
-use Rattle.tacho_hours.specs.Exactly.{AreSoMany}
+use Rattle.tacho_hours.specs.Exactly.{HasCount}
 use Rattle.tacho_hours.specs.Line.{Line}
 use Rattle.tacho_hours.specs.Runs.{IsRestRun, minutes_of}
 use Rattle.tacho_hours.specs.SoFar.{Reached}
 use Rattle.tacho_hours.specs.Days.{IsRegular, IsReduced, HasPortion, EarlierDay}
-use Rattle.tacho_hours.proofs.ExactlyLemmas.{exactly_none, exactly_add, so_many_as}
+use Rattle.tacho_hours.proofs.ExactlyLemmas.{exactly_none, exactly_add, how_many_as}
 use Rattle.tacho_days.specs.DutyDays.{day_to, IsLastOf}
 use Rattle.tacho_days.specs.RestingDays.{portion_of, regular_of, reduced_of}
 use Rattle.tacho_days.specs.DailyRests.{HasPart, IsReducedSince}
@@ -27,8 +27,8 @@ portion_no day n e h =
     let f : min day.rest.past (day.start + 1440) < day.past + n = grind (arith, nat_tests) in omega arith
 
 -- with one more thing, the number is one higher
-so_many_add : {A : Type 0} (P Q : A → Type 0) (R : A → A → Type 0) (n : ℕ) (new : A) → AreSoMany P R n
-    → Q new → ((x : A) → Q x → new ≡ x) → ((x : A) → P x → R x new) → AreSoMany (λ x. P x ⊎ Q x) R (n + 1)
+so_many_add : {A : Type 0} (P Q : A → Type 0) (R : A → A → Type 0) (n : ℕ) (new : A) → HasCount P R n
+    → Q new → ((x : A) → Q x → new ≡ x) → ((x : A) → P x → R x new) → HasCount (λ x. P x ⊎ Q x) R (n + 1)
 so_many_add P Q R n new a is one later' = record {
   all = a.all ++ new ∷ [];
   exactly = exactly_add P Q R a.all new a.exactly is one later';
@@ -36,11 +36,11 @@ so_many_add P Q R n new a is one later' = record {
 }
 
 -- without any, the number is 0
-so_many_none : {A : Type 0} (P : A → Type 0) (R : A → A → Type 0) → ((x : A) → P x → ⊥) → AreSoMany P R 0
+so_many_none : {A : Type 0} (P : A → Type 0) (R : A → A → Type 0) → ((x : A) → P x → ⊥) → HasCount P R 0
 so_many_none P R none = record { all = []; exactly = exactly_none P R none; count = refl }
 
 -- no reduced rest among no runs
-pub reduced_none : (line : Line) (since : ℕ) → AreSoMany (IsReducedSince line [] since) EarlierDay 0
+pub reduced_none : (line : Line) (since : ℕ) → HasCount (IsReducedSince line [] since) EarlierDay 0
 reduced_none line since =
     so_many_none (IsReducedSince line [] since) EarlierDay (λ day h. (let k : h.seen.0 < 0 = h.seen.1 in omega arith))
 
@@ -99,8 +99,8 @@ module _ (line : Line) (runs : List Run) (start place : ℕ) (reached : Reached 
   part_more from p le same = part_by from le p (nat_le 180 (minutes_of r)) refl same
 
   -- after the last run, there is no reduced rest yet
-  pub reduced_behind : AreSoMany (IsReducedSince line (runs ++ r ∷ []) r.past) EarlierDay 0
-  reduced_behind =
+  pub reduced_after : HasCount (IsReducedSince line (runs ++ r ∷ []) r.past) EarlierDay 0
+  reduced_after =
       so_many_none (IsReducedSince line (runs ++ r ∷ []) r.past) EarlierDay
       (λ day h.
       (let some : r.start < r.past = is.some in
@@ -115,10 +115,10 @@ module _ (line : Line) (runs : List Run) (start place : ℕ) (reached : Reached 
 
   -- a run that isn't a reduced rest changes nothing
   pub reduced_keep : (since number : ℕ) → ((day : DutyDay) → r ≡ day.rest → IsReduced line day → ⊥)
-      → AreSoMany (IsReducedSince line runs since) EarlierDay number
-      → AreSoMany (IsReducedSince line (runs ++ r ∷ []) since) EarlierDay number
+      → HasCount (IsReducedSince line runs since) EarlierDay number
+      → HasCount (IsReducedSince line (runs ++ r ∷ []) since) EarlierDay number
   reduced_keep since number none n =
-      so_many_as (IsReducedSince line runs since) (IsReducedSince line (runs ++ r ∷ []) since) EarlierDay number
+      how_many_as (IsReducedSince line runs since) (IsReducedSince line (runs ++ r ∷ []) since) EarlierDay number
       (λ day. (
         λ h. record {
           reduced = h.reduced;
@@ -217,7 +217,7 @@ module _ (line : Line) (runs : List Run) (start place : ℕ) (reached : Reached 
         (regular_by (portion_of (day_to from r) 660) (portion_of (day_to from r) 540) p refl refl same)
 
     module _ (since number : ℕ) (w : IsLastOf 1440 runs since)
-        (n : AreSoMany (IsReducedSince line runs since) EarlierDay number) where
+        (n : HasCount (IsReducedSince line runs since) EarlierDay number) where
       -- the reduced rests with one more
       reduced_both : IsReduced line (day_to from r) → (day : DutyDay)
           → (IsReducedSince line runs since day ⊎ (day_to from r ≡ day))
@@ -243,9 +243,9 @@ module _ (line : Line) (runs : List Run) (start place : ℕ) (reached : Reached 
 
       -- the number with one more reduced rest
       pub reduced_more : IsReduced line (day_to from r)
-          → AreSoMany (IsReducedSince line (runs ++ r ∷ []) since) EarlierDay (number + 1)
+          → HasCount (IsReducedSince line (runs ++ r ∷ []) since) EarlierDay (number + 1)
       reduced_more new =
-          so_many_as (λ day. IsReducedSince line runs since day ⊎ (day_to from r ≡ day))
+          how_many_as (λ day. IsReducedSince line runs since day ⊎ (day_to from r ≡ day))
           (IsReducedSince line (runs ++ r ∷ []) since) EarlierDay (number + 1) (reduced_both new)
           (so_many_add (IsReducedSince line runs since) (λ day. day_to from r ≡ day) EarlierDay number
           (day_to from r) n refl (λ day same. same)

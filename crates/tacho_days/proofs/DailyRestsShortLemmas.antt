@@ -15,7 +15,7 @@ use Rattle.tacho_hours.specs.Days.{HasPortion}
 use Rattle.tacho_hours.specs.Order.{Apart}
 use Rattle.tacho_hours.proofs.ExactlyLemmas.{exactly_skip, exactly_add}
 use Rattle.tacho_hours.proofs.OrderLemmas.{same_breach}
-use Rattle.tacho_pass.specs.Found.{listed}
+use Rattle.tacho_pass.specs.Found.{as_list}
 use Rattle.tacho_days.specs.DutyDays.{day_to, IsLastOf}
 use Rattle.tacho_days.specs.RestingDays.{portion_of, short_breach, short_of}
 use Rattle.tacho_days.specs.DailyRests.{IsB2Seen}
@@ -92,7 +92,7 @@ module _ (P : Breach → Type 0) (found : List Breach) (from : ℕ) (r : Run) (t
   -- by cases: whether the rest has its portion
   short_by : (g : Bool) → portion_of (day_to from r) 540 ≡ g
       → AreCollected (λ b. P b ⊎ IsShortTo from r b)
-      (found ++ listed (if g then None else Some (short_breach (day_to from r))))
+      (found ++ as_list (if g then None else Some (short_breach (day_to from r))))
   short_by false e =
       let new : Breach = short_breach (day_to from r) in
       let lt : min r.past (from + 1440) < r.start + 540 = grind (arith, nat_tests) in
@@ -112,5 +112,5 @@ module _ (P : Breach → Type 0) (found : List Breach) (from : ℕ) (r : Run) (t
       (exactly_skip P (IsShortTo from r) Apart found t (λ b h. h.short (portion_yes (day_to from r) 540 e)))
 
   -- as the code computes it
-  pub collected_short : AreCollected (λ b. P b ⊎ IsShortTo from r b) (found ++ listed (short_of (day_to from r)))
+  pub collected_short : AreCollected (λ b. P b ⊎ IsShortTo from r b) (found ++ as_list (short_of (day_to from r)))
   collected_short = short_by (portion_of (day_to from r) 540) refl

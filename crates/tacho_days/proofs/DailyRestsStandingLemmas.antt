@@ -16,7 +16,7 @@ use Rattle.tacho_hours.specs.declared.days.DutyDay.{DutyDay}
 use Rattle.tacho_hours.specs.declared.breach.Breach.{Breach}
 use Rattle.tacho_hours.specs.declared.breach.Kind.TheVariants.{B2, B3}
 use Rattle.tacho_hours.specs.declared.debt.Debt.{Debt}
-use Rattle.tacho_hours.specs.Exactly.{AreSoMany}
+use Rattle.tacho_hours.specs.Exactly.{HasCount}
 use Rattle.tacho_hours.specs.Line.{Line, line_of, IsExamined}
 use Rattle.tacho_hours.specs.Runs.{IsRestRun, AreRestRuns, minutes_of}
 use Rattle.tacho_hours.specs.SoFar.{Reached, AreCollected}
@@ -24,7 +24,7 @@ use Rattle.tacho_hours.specs.Days.{IsDuty, IsReduced, EarlierDay}
 use Rattle.tacho_hours.specs.Order.{Apart}
 use Rattle.tacho_hours.proofs.ExactlyLemmas.{exactly_none, exactly_as}
 use Rattle.tacho_hours.proofs.RunsLemmas.{run_of, reached_none, reached_rest, reached_busy, reached_gap, reached_end}
-use Rattle.tacho_pass.specs.Found.{listed}
+use Rattle.tacho_pass.specs.Found.{as_list}
 use Rattle.tacho_pass.specs.Heard.{is_rest, start_after, run_before, Continues}
 use Rattle.tacho_pass.specs.Kinds.{is_b2_or_b3}
 use Rattle.tacho_pass.proofs.HearingLemmas.{line_append, line_at_end, joined_append, line_after, rests_yes, rests_no}
@@ -32,12 +32,12 @@ use Rattle.tacho_days.specs.declared.daily_rest.RestingDay.{RestingDay}
 use Rattle.tacho_days.specs.DutyDays.{day_to, IsBeforeFirst}
 use Rattle.tacho_days.specs.RestingDays.{resting_none, portion_of, regular_of, reduced_of}
 use Rattle.tacho_days.specs.RestingDays.{short_breach, short_of, often_breach, often_of, rest_found}
-use Rattle.tacho_days.specs.RestingDays.{after_daily, after_weekly, after_part, after_rest, after_any, found_any}
-use Rattle.tacho_days.specs.DailyRests.{IsBehindRests, HasPart, IsReducedSince, IsB2Seen, IsB3Seen}
+use Rattle.tacho_days.specs.RestingDays.{after_daily, after_weekly, after_part, after_rest, after_optional_rest, found_at_optional_rest}
+use Rattle.tacho_days.specs.DailyRests.{IsAfterRests, HasPart, IsReducedSince, IsB2Seen, IsB3Seen}
 use Rattle.tacho_days.specs.DailyRests.{IsRestSeen, IsResting, DailyRestsStand, IsDailyRestBreach, DailyRestsDefined}
 use Rattle.tacho_days.proofs.DutyDaysLemmas.{last_next, last_keep, day_only, none_short, none_first}
 use Rattle.tacho_days.proofs.DutyDaysLemmas.{first_on, first_long}
-use Rattle.tacho_days.proofs.DailyRestsReducedLemmas.{part_none, part_more, reduced_none, reduced_behind}
+use Rattle.tacho_days.proofs.DailyRestsReducedLemmas.{part_none, part_more, reduced_none, reduced_after}
 use Rattle.tacho_days.proofs.DailyRestsReducedLemmas.{reduced_keep, reduced_more, reduced_is}
 use Rattle.tacho_days.proofs.DailyRestsShortLemmas.{IsShortTo, b2_both, b2_apart, collected_short}
 use Rattle.tacho_days.proofs.DailyRestsOftenLemmas.{IsOftenTo, b3_both, b3_apart, collected_often}
@@ -55,12 +55,12 @@ own_one : (x : Breach) → is_b2_or_b3 x.kind ≡ true → AreOwn (x ∷ [])
 own_one x e = All-cons (λ (b : Breach). IsTrue (is_b2_or_b3 b.kind)) x [] e own_none
 
 -- one breach if a test passes
-own_if : (g : Bool) (x : Breach) → is_b2_or_b3 x.kind ≡ true → AreOwn (listed (if g then Some x else None))
+own_if : (g : Bool) (x : Breach) → is_b2_or_b3 x.kind ≡ true → AreOwn (as_list (if g then Some x else None))
 own_if true x e = own_one x e
 own_if false x e = own_none
 
 -- one breach if a test fails
-own_unless : (g : Bool) (x : Breach) → is_b2_or_b3 x.kind ≡ true → AreOwn (listed (if g then None else Some x))
+own_unless : (g : Bool) (x : Breach) → is_b2_or_b3 x.kind ≡ true → AreOwn (as_list (if g then None else Some x))
 own_unless true x e = own_none
 own_unless false x e = own_one x e
 
@@ -73,13 +73,13 @@ own_all_if false found own = own_none
 pub rest_kinds : (r : Run) (d : RestingDay) → All (λ (b : Breach). IsTrue (is_b2_or_b3 b.kind)) (rest_found r d)
 rest_kinds r d =
     let day : DutyDay = day_to d.from r in
-    own_all_if (nat_le 540 (minutes_of r)) (listed (short_of day) ++ listed (often_of r d))
-    (All-append (λ (b : Breach). IsTrue (is_b2_or_b3 b.kind)) (listed (short_of day)) (listed (often_of r d))
+    own_all_if (nat_le 540 (minutes_of r)) (as_list (short_of day) ++ as_list (often_of r d))
+    (All-append (λ (b : Breach). IsTrue (is_b2_or_b3 b.kind)) (as_list (short_of day)) (as_list (often_of r d))
     (own_unless (portion_of day 540) (short_breach day) refl)
     (own_if (reduced_of d.part day && nat_lt 3 (d.number + 1)) (often_breach r d) refl))
 
 -- likewise for an optional rest
-pub any_kinds : (r : Option Run) (d : RestingDay) → All (λ (b : Breach). IsTrue (is_b2_or_b3 b.kind)) (found_any r d)
+pub any_kinds : (r : Option Run) (d : RestingDay) → All (λ (b : Breach). IsTrue (is_b2_or_b3 b.kind)) (found_at_optional_rest r d)
 any_kinds None d = own_none
 any_kinds (Some r) d = rest_kinds r d
 
@@ -92,7 +92,7 @@ none_seen line b h = elim h [
 
 -- a rest that has its portion and isn't reduced gives no breach
 nothing_by : (g k m : Bool) (x y : Breach) → g ≡ true → k ≡ false
-    → listed (if g then None else Some x) ++ listed (if k && m then Some y else None) ≡ []
+    → as_list (if g then None else Some x) ++ as_list (if k && m then Some y else None) ≡ []
 nothing_by true false m x y e f = refl
 nothing_by true true m x y e f = absurd (let h : true ≡ false = f in cc)
 nothing_by false k m x y e f = absurd (let h : false ≡ true = e in cc)
@@ -105,7 +105,7 @@ weekly_by false b c e = refl
 
 -- so the first rest gives no breach
 nothing_found : (r : Run) (d : RestingDay) → r.start ≡ 0 → d.from ≤ 0 → 1440 ≤ minutes_of r
-    → listed (short_of (day_to d.from r)) ++ listed (often_of r d) ≡ []
+    → as_list (short_of (day_to d.from r)) ++ as_list (often_of r d) ≡ []
 nothing_found r d first from long =
     let day : DutyDay = day_to d.from r in
     let k : r.start + 540 ≤ min r.past (d.from + 1440) = omega arith in
@@ -154,22 +154,22 @@ module _ (line : Line) (start place : ℕ) (d : RestingDay) (own : List Breach) 
         exactly_as (IsRestSeen line h.runs) (IsRestSeen line (h.runs ++ run_of start past ∷ [])) Apart own kept h.found
 
     -- the number of reduced rests stays the same
-    number_kept : AreSoMany (IsReducedSince line (h.runs ++ run_of start past ∷ []) d.weekly) EarlierDay d.number
+    number_kept : HasCount (IsReducedSince line (h.runs ++ run_of start past ∷ []) d.weekly) EarlierDay d.number
     number_kept =
         reduced_keep line h.runs start place h.reached (run_of start past) is refl d.weekly d.number
-        (λ day same reduced. none day reduced.duty same) h.so_many
+        (λ day same reduced. none day reduced.duty same) h.how_many
 
   module _ (upto : place ≤ past) (long : 540 ≤ past - start)
       (all : (x : Run) → IsRestRun line x → x.start ≤ start → Contains (h.runs ++ run_of start past ∷ []) x) where
     -- the first rest run ends no day
     first_found : IsBeforeFirst 1440 h.runs start place
         → AreCollected (IsRestSeen line (h.runs ++ run_of start past ∷ []))
-        (own ++ (listed (short_of (day_to d.from (run_of start past))) ++ listed (often_of (run_of start past) d)))
+        (own ++ (as_list (short_of (day_to d.from (run_of start past))) ++ as_list (often_of (run_of start past) d)))
     first_found first =
         let within : d.from ≤ start = h.within in
         let zero' : start ≡ 0 = first.first in
         let late : 1440 ≤ place = first.long in
-        let e : listed (short_of (day_to d.from (run_of start past))) ++ listed (often_of (run_of start past) d) ≡ [] =
+        let e : as_list (short_of (day_to d.from (run_of start past))) ++ as_list (often_of (run_of start past) d) ≡ [] =
         nothing_found (run_of start past) d zero' (omega arith) (omega arith) in
         subst (λ (xs : List Breach). AreCollected (IsRestSeen line (h.runs ++ run_of start past ∷ [])) (own ++ xs))
         (sym e)
@@ -177,7 +177,7 @@ module _ (line : Line) (start place : ℕ) (d : RestingDay) (own : List Breach) 
         (sym (append-nil own))
         (found_kept (none_first line h.runs start place h.reached (run_of start past) is refl first.none)))
 
-    module _ (behind : IsBehindRests h.runs d) where
+    module _ (behind : IsAfterRests h.runs d) where
       -- the test of a reduced rest is right
       test_is : IsTrue (reduced_of d.part (day_to d.from (run_of start past)))
           ↔ IsReduced line (day_to d.from (run_of start past))
@@ -187,11 +187,11 @@ module _ (line : Line) (start place : ℕ) (d : RestingDay) (own : List Breach) 
 
       -- by cases: the number of reduced rests
       number_by : (g : Bool) → reduced_of d.part (day_to d.from (run_of start past)) ≡ g
-          → AreSoMany (IsReducedSince line (h.runs ++ run_of start past ∷ []) d.weekly) EarlierDay
+          → HasCount (IsReducedSince line (h.runs ++ run_of start past ∷ []) d.weekly) EarlierDay
           (if g then d.number + 1 else d.number)
       number_by true e =
           reduced_more line h.runs start place h.reached (run_of start past) is refl long d.from behind.daily
-          d.weekly d.number behind.weekly h.so_many (test_is.0 e)
+          d.weekly d.number behind.weekly h.how_many (test_is.0 e)
       number_by false e =
           reduced_keep line h.runs start place h.reached (run_of start past) is refl d.weekly d.number
           (λ day same reduced.
@@ -202,10 +202,10 @@ module _ (line : Line) (start place : ℕ) (d : RestingDay) (own : List Breach) 
           test_is.1 (subst (λ (x : DutyDay). IsReduced line x) (sym f) reduced) in
           let k : false ≡ true = sym e ∙ g in
           cc))
-          h.so_many
+          h.how_many
 
       -- the number of reduced rests after this one
-      number_next : AreSoMany (IsReducedSince line (h.runs ++ run_of start past ∷ []) d.weekly) EarlierDay
+      number_next : HasCount (IsReducedSince line (h.runs ++ run_of start past ∷ []) d.weekly) EarlierDay
           (if reduced_of d.part (day_to d.from (run_of start past)) then d.number + 1 else d.number)
       number_next = number_by (reduced_of d.part (day_to d.from (run_of start past))) refl
 
@@ -224,7 +224,7 @@ module _ (line : Line) (start place : ℕ) (d : RestingDay) (own : List Breach) 
           let three : (IsB3Seen line h.runs b ⊎ IsOftenTo line d.from (run_of start past) d.weekly d.number b)
           ↔ IsB3Seen line (h.runs ++ run_of start past ∷ []) b =
           b3_both line h.runs start place h.reached (run_of start past) is refl all long d.from behind.daily
-          d.weekly d.number behind.weekly h.so_many b in (
+          d.weekly d.number behind.weekly h.how_many b in (
             λ k. elim k [
               | inl old ↦ elim old [
                 | inl seen ↦ elim seen [ inl x ↦ inl (two.0 (inl x)) | inr x ↦ inr (three.0 (inl x)) ]
@@ -239,12 +239,12 @@ module _ (line : Line) (start place : ℕ) (d : RestingDay) (own : List Breach) 
           )
 
       -- all of them are found
-      behind_found : AreCollected (IsRestSeen line (h.runs ++ run_of start past ∷ []))
-          (own ++ (listed (short_of (day_to d.from (run_of start past))) ++ listed (often_of (run_of start past) d)))
+      after_found : AreCollected (IsRestSeen line (h.runs ++ run_of start past ∷ []))
+          (own ++ (as_list (short_of (day_to d.from (run_of start past))) ++ as_list (often_of (run_of start past) d)))
       unfolding Wide
-      behind_found =
+      after_found =
           let one : AreCollected (λ b. IsRestSeen line h.runs b ⊎ IsShortTo d.from (run_of start past) b)
-          (own ++ listed (short_of (day_to d.from (run_of start past)))) =
+          (own ++ as_list (short_of (day_to d.from (run_of start past)))) =
           collected_short (IsRestSeen line h.runs) own d.from (run_of start past) h.found
           (λ b k kind since. elim k [
             | inl two ↦
@@ -253,31 +253,31 @@ module _ (line : Line) (start place : ℕ) (d : RestingDay) (own : List Breach) 
             | inr three ↦ (let g : B2 ≡ B3 = sym kind ∙ three.kind in cc)
           ]) in
           let all' : AreCollected Wide
-          ((own ++ listed (short_of (day_to d.from (run_of start past)))) ++ listed (often_of (run_of start past) d)) =
+          ((own ++ as_list (short_of (day_to d.from (run_of start past)))) ++ as_list (often_of (run_of start past) d)) =
           collected_often (λ b. IsRestSeen line h.runs b ⊎ IsShortTo d.from (run_of start past) b)
-          (own ++ listed (short_of (day_to d.from (run_of start past)))) line (run_of start past) d test_is one
+          (own ++ as_list (short_of (day_to d.from (run_of start past)))) line (run_of start past) d test_is one
           (λ b k kind moment. elim k [
             | inl seen ↦ elim seen [
               | inl two ↦ (let g : B2 ≡ B3 = sym two.kind ∙ kind in cc)
               | inr three ↦
                   b3_apart line h.runs start place h.reached (run_of start past) is refl all long d.from behind.daily
-                  d.weekly d.number behind.weekly h.so_many b three moment
+                  d.weekly d.number behind.weekly h.how_many b three moment
             ]
             | inr short ↦ (let g : B2 ≡ B3 = sym short.kind ∙ kind in cc)
           ]) in
           subst (λ (xs : List Breach). AreCollected (IsRestSeen line (h.runs ++ run_of start past ∷ [])) xs)
-          (append_assoc own (listed (short_of (day_to d.from (run_of start past))))
-          (listed (often_of (run_of start past) d)))
+          (append_assoc own (as_list (short_of (day_to d.from (run_of start past))))
+          (as_list (often_of (run_of start past) d)))
           (exactly_as Wide (IsRestSeen line (h.runs ++ run_of start past ∷ [])) Apart
-          ((own ++ listed (short_of (day_to d.from (run_of start past)))) ++ listed (often_of (run_of start past) d))
+          ((own ++ as_list (short_of (day_to d.from (run_of start past)))) ++ as_list (often_of (run_of start past) d))
           both all')
 
     -- so the breaches are found, whatever the run is
     pub found_next : AreCollected (IsRestSeen line (h.runs ++ run_of start past ∷ []))
-        (own ++ (listed (short_of (day_to d.from (run_of start past))) ++ listed (often_of (run_of start past) d)))
+        (own ++ (as_list (short_of (day_to d.from (run_of start past))) ++ as_list (often_of (run_of start past) d)))
     found_next = elim h.last [
       | inl first ↦ first_found first
-      | inr behind ↦ behind_found behind
+      | inr behind ↦ after_found behind
     ]
 
 -- the steps over a span from `place` to q
@@ -294,7 +294,7 @@ module _ (line : Line) (start place q : ℕ) (d : RestingDay) (own : List Breach
     ];
     within = h.within;
     part = h.part;
-    so_many = h.so_many;
+    how_many = h.how_many;
     found = h.found;
   }
 
@@ -314,7 +314,7 @@ module _ (line : Line) (start place q : ℕ) (d : RestingDay) (own : List Breach
           ];
           within = omega arith;
           part = h.part;
-          so_many = h.so_many;
+          how_many = h.how_many;
           found = h.found;
         }
 
@@ -335,7 +335,7 @@ module _ (line : Line) (start place q : ℕ) (d : RestingDay) (own : List Breach
 
       -- the breaches, with those of its day
       found_on : 540 ≤ place - start → AreCollected (IsRestSeen line (h.runs ++ run_of start place ∷ []))
-          (own ++ (listed (short_of (day_to d.from (run_of start place))) ++ listed (often_of (run_of start place) d)))
+          (own ++ (as_list (short_of (day_to d.from (run_of start place))) ++ as_list (often_of (run_of start place) d)))
       found_on long =
           found_next line start place d own h place run_is (omega arith) long
           (λ x is le. reached_on.all x is (omega arith))
@@ -352,8 +352,8 @@ module _ (line : Line) (start place q : ℕ) (d : RestingDay) (own : List Breach
           → IsResting line q q
           (if a then after_weekly (run_of start place) else
           (if b then after_daily (run_of start place) d else after_part (run_of start place) d))
-          (own ++ (if b then listed (short_of (day_to d.from (run_of start place)))
-          ++ listed (often_of (run_of start place) d) else []))
+          (own ++ (if b then as_list (short_of (day_to d.from (run_of start place)))
+          ++ as_list (often_of (run_of start place) d) else []))
       gap_if true true e f =
           let weekly : 1440 ≤ place - start = grind (arith, nat_tests) in
           let long : 540 ≤ place - start = omega arith in
@@ -366,7 +366,7 @@ module _ (line : Line) (start place q : ℕ) (d : RestingDay) (own : List Breach
             });
             within = omega arith;
             part = none_on;
-            so_many = reduced_behind line h.runs start place h.reached (run_of start place) run_is refl;
+            how_many = reduced_after line h.runs start place h.reached (run_of start place) run_is refl;
             found = found_on long;
           }
       gap_if true false e f =
@@ -389,7 +389,7 @@ module _ (line : Line) (start place q : ℕ) (d : RestingDay) (own : List Breach
               });
               within = omega arith;
               part = none_on;
-              so_many =
+              how_many =
                   number_next line start place d own h place run_is (omega arith) long
                   (λ x is le. reached_on.all x is (omega arith)) behind;
               found = found_on long;
@@ -417,7 +417,7 @@ module _ (line : Line) (start place q : ℕ) (d : RestingDay) (own : List Breach
               part =
                   part_more line h.runs start place h.reached (run_of start place) run_is refl
                   d.from d.part within h.part;
-              so_many = number_kept line start place d own h place run_is none;
+              how_many = number_kept line start place d own h place run_is none;
               found = subst
                   (λ (xs : List Breach). AreCollected (IsRestSeen line (h.runs ++ run_of start place ∷ [])) xs)
                   (sym (append-nil own)) (found_kept line start place d own h place run_is none);
@@ -455,8 +455,8 @@ module _ (spans : List Span) (s : Span) (base start : ℕ) (d : RestingDay) (own
   -- by cases: whether the span is rest, and whether a run ends before it
   by : (b g : Bool) → is_rest s.mark.activity ≡ b → nat_lt start s.start ≡ g
       → DailyRestsStand (if b then start else s.past) s.past
-      (after_any (if b then None else (if g then Some (run_of start s.start) else None)) d)
-      (own ++ found_any (if b then None else (if g then Some (run_of start s.start) else None)) d)
+      (after_optional_rest (if b then None else (if g then Some (run_of start s.start) else None)) d)
+      (own ++ found_at_optional_rest (if b then None else (if g then Some (run_of start s.start) else None)) d)
       owed base (spans ++ s ∷ [])
   by true g e f = record {
     none = r.none;
@@ -480,8 +480,8 @@ module _ (spans : List Span) (s : Span) (base start : ℕ) (d : RestingDay) (own
   }
 
   -- as the code computes it
-  pub rests_fed : DailyRestsStand (start_after start s) s.past (after_any (run_before start s) d)
-      (own ++ found_any (run_before start s) d) owed base (spans ++ s ∷ [])
+  pub rests_fed : DailyRestsStand (start_after start s) s.past (after_optional_rest (run_before start s) d)
+      (own ++ found_at_optional_rest (run_before start s) d) owed base (spans ++ s ∷ [])
   rests_fed = by (is_rest s.mark.activity) (nat_lt start s.start) refl refl
 
 -- before the first span
@@ -498,7 +498,7 @@ rests_none base late = record {
       λ k. absurd (let g : false ≡ true = k in cc),
       λ k. absurd (let n : k.among.0 < 0 = k.among.1 in omega arith),
     );
-    so_many = reduced_none line 0;
+    how_many = reduced_none line 0;
     found = exactly_none (IsRestSeen line []) Apart (none_seen line);
   };
 }
@@ -520,13 +520,13 @@ rests_end spans base past start d own owed r x =
     (all.each (run_of start FAR)).0 (Contains-push h.runs (run_of start FAR)) in
     let yes' : nat_le 540 (FAR - start) ≡ true = grind (arith, nat_tests) in
     let found : AreCollected (IsRestSeen line (h.runs ++ run_of start FAR ∷ []))
-    (own ++ (listed (short_of (day_to d.from (run_of start FAR))) ++ listed (often_of (run_of start FAR) d))) =
+    (own ++ (as_list (short_of (day_to d.from (run_of start FAR))) ++ as_list (often_of (run_of start FAR) d))) =
     found_next line start past d own h FAR is (omega arith) long (λ y is' le. (all.each y).1 is') in
     record {
       none = r.none;
       breaches = rw yes'
           (exactly_as (IsRestSeen line (h.runs ++ run_of start FAR ∷ [])) (IsDailyRestBreach line) Apart
-          (own ++ (listed (short_of (day_to d.from (run_of start FAR))) ++ listed (often_of (run_of start FAR) d)))
+          (own ++ (as_list (short_of (day_to d.from (run_of start FAR))) ++ as_list (often_of (run_of start FAR) d)))
           (λ b. (
             λ g. elim g [ inl two ↦ inl (two.kind, two.is) | inr three ↦ inr (three.kind, three.is) ],
             λ g. elim g [

@@ -13,10 +13,10 @@ use Rattle.tacho_hours.specs.Limits.{driving_in_day, driving_in_extended_day, ex
 use Rattle.tacho_hours.specs.Line.{Line, line_of, Joined}
 use Rattle.tacho_hours.specs.SoFar.{Reached, AreCollected}
 use Rattle.tacho_hours.specs.Days.{EarlierDay}
-use Rattle.tacho_hours.specs.Exactly.{AreSoMany}
+use Rattle.tacho_hours.specs.Exactly.{HasCount}
 use Rattle.tacho_hours.specs.Breaches.{IsExtended, IsB4, IsB5}
 use Rattle.tacho_pass.specs.Heard.{Continues}
-use Rattle.tacho_pass.specs.Found.{listed}
+use Rattle.tacho_pass.specs.Found.{as_list}
 use Rattle.tacho_pass.specs.Counts.{count_none, count_with, over_of, IsCounted}
 use Rattle.tacho_days.specs.declared.daily_driving.DutyDriving.{DutyDriving}
 use Rattle.tacho_days.specs.DutyDays.{is_long, IsLastOf, IsBeforeFirst}
@@ -30,8 +30,8 @@ abbrev pub duty_none : ℕ → DutyDriving
 duty_none from = record { from = from; nine = count_none; ten = count_none; week = 0; extended = 0 }
 
 -- each count is at most a minute's number, so no sum overflows
-abbrev pub are_few : DutyDriving → ℕ → Bool
-are_few d place = nat_le d.nine.minutes place && nat_le d.ten.minutes place
+abbrev pub driving_in_range : DutyDriving → ℕ → Bool
+driving_in_range d place = nat_le d.nine.minutes place && nat_le d.ten.minutes place
 
 -- the state with the minutes from `from` to before `to`
 abbrev pub duty_with : Bool → ℕ → ℕ → DutyDriving → DutyDriving
@@ -50,11 +50,11 @@ ordinal_of d = (if nat_eq d.week (week_at d.from) then d.extended else 0) + 1
 -- the breach of a third or later extended day of the week (Article 6(1), second subparagraph)
 abbrev pub often_of : DutyDriving → List Breach
 often_of d =
-    if nat_lt extended_days (ordinal_of d) then listed (over_of B5 driving_in_day d.from d.nine) else []
+    if nat_lt extended_days (ordinal_of d) then as_list (over_of B5 driving_in_day d.from d.nine) else []
 
 -- the breaches of a day: more than ten hours of driving, and too many extended days (Article 6(1))
 abbrev pub found_of : DutyDriving → List Breach
-found_of d = listed (over_of B4 driving_in_extended_day d.from d.ten) ++ often_of d
+found_of d = as_list (over_of B4 driving_in_extended_day d.from d.ten) ++ often_of d
 
 -- the state after a day, when the next one starts at `from`; the day was extended if it has more than nine hours of driving
 abbrev pub next_day : ℕ → DutyDriving → DutyDriving
@@ -80,9 +80,9 @@ duty_any None d = d
 duty_any (Some run) d = duty_after run d
 
 -- the breaches found at a rest run, if there is one
-abbrev pub found_any : Option Run → DutyDriving → List Breach
-found_any None d = []
-found_any (Some run) d = duty_found run d
+abbrev pub duty_found_at_optional_run : Option Run → DutyDriving → List Breach
+duty_found_at_optional_run None d = []
+duty_found_at_optional_run (Some run) d = duty_found run d
 
 -- an extended day of a week whose rest is among the runs (Article 6(1))
 pub record IsExtendedSeen (line : Line) (runs : List Run) (week : ℕ) (day : DutyDay) : Type 0 where
@@ -91,7 +91,7 @@ pub record IsExtendedSeen (line : Line) (runs : List Run) (week : ℕ) (day : Du
 
 -- the number of extended days of a week, among the days whose rest is one of the runs; none of the extended days is in a later week
 pub record IsTally (line : Line) (runs : List Run) (week count : ℕ) : Type 0 where
-  pub so_many : AreSoMany (λ day. IsExtendedSeen line runs week day) EarlierDay count
+  pub how_many : HasCount (λ day. IsExtendedSeen line runs week day) EarlierDay count
   pub latest : (day : DutyDay) (other : ℕ) → IsExtendedSeen line runs other day → other ≤ week
   pub known : (week ≡ 0) ⊎ ((day : DutyDay) × IsExtendedSeen line runs week day)
 

@@ -10,7 +10,7 @@ use Rattle.tacho_hours.specs.Line.{Line, line_of, Joined}
 use Rattle.tacho_hours.specs.Runs.{minutes_of}
 use Rattle.tacho_hours.specs.SoFar.{Reached, AreCollected}
 use Rattle.tacho_hours.specs.Days.{IsReduced, EarlierDay}
-use Rattle.tacho_hours.specs.Exactly.{AreSoMany}
+use Rattle.tacho_hours.specs.Exactly.{HasCount}
 use Rattle.tacho_hours.specs.Breaches.{IsB2, IsB3}
 use Rattle.tacho_hours.specs.Limits.{first_part_of_daily_rest, daily_rest, weekly_rest}
 use Rattle.tacho_pass.specs.Heard.{Continues}
@@ -18,7 +18,7 @@ use Rattle.tacho_days.specs.declared.daily_rest.RestingDay.{RestingDay}
 use Rattle.tacho_days.specs.DutyDays.{IsLastOf, IsBeforeFirst}
 
 -- there was a daily rest, and a weekly rest
-pub record IsBehindRests (runs : List Run) (d : RestingDay) : Type 0 where
+pub record IsAfterRests (runs : List Run) (d : RestingDay) : Type 0 where
   pub daily : IsLastOf daily_rest runs d.from
   pub weekly : IsLastOf weekly_rest runs d.weekly
 
@@ -55,10 +55,10 @@ IsRestSeen line runs breach = IsB2Seen line runs breach ⊎ IsB3Seen line runs b
 pub record IsResting (line : Line) (start place : ℕ) (d : RestingDay) (own : List Breach) : Type 0 where
   pub runs : List Run
   pub reached : Reached line runs start place
-  pub last : IsBeforeFirst weekly_rest runs start place ⊎ IsBehindRests runs d
+  pub last : IsBeforeFirst weekly_rest runs start place ⊎ IsAfterRests runs d
   pub within : d.from ≤ start
   pub part : IsTrue d.part ↔ HasPart runs d.from
-  pub so_many : AreSoMany (IsReducedSince line runs d.weekly) EarlierDay d.number
+  pub how_many : HasCount (IsReducedSince line runs d.weekly) EarlierDay d.number
   pub found : AreCollected (IsRestSeen line runs) own
 
 -- the state represents the spans: the above holds for each line that continues them

@@ -8,7 +8,7 @@ use Rattle.tacho_hours.specs.declared.breach.Kind.TheVariants.{B2, B3}
 use Rattle.tacho_hours.specs.Runs.{minutes_of}
 use Rattle.tacho_hours.specs.Limits.{minutes_of_day, regular_daily_rest, first_part_of_daily_rest, daily_rest}
 use Rattle.tacho_hours.specs.Limits.{weekly_rest, reduced_daily_rests}
-use Rattle.tacho_pass.specs.Found.{listed}
+use Rattle.tacho_pass.specs.Found.{as_list}
 use Rattle.tacho_days.specs.declared.daily_rest.RestingDay.{RestingDay}
 use Rattle.tacho_days.specs.DutyDays.{is_long, day_to}
 
@@ -57,7 +57,7 @@ often_of rest d =
 -- the breaches of a daily rest; none for a shorter rest
 abbrev pub rest_found : Run → RestingDay → List Breach
 rest_found rest d =
-    if is_long rest then listed (short_of (day_to d.from rest)) ++ listed (often_of rest d) else []
+    if is_long rest then as_list (short_of (day_to d.from rest)) ++ as_list (often_of rest d) else []
 
 -- the state after a daily rest that isn't a weekly rest
 abbrev pub after_daily : Run → RestingDay → RestingDay
@@ -90,11 +90,11 @@ after_rest rest d =
     (if is_long rest then after_daily rest d else after_part rest d)
 
 -- the state after a rest, if there is one
-abbrev pub after_any : Option Run → RestingDay → RestingDay
-after_any None d = d
-after_any (Some rest) d = after_rest rest d
+abbrev pub after_optional_rest : Option Run → RestingDay → RestingDay
+after_optional_rest None d = d
+after_optional_rest (Some rest) d = after_rest rest d
 
 -- the breaches found at a rest, if there is one
-abbrev pub found_any : Option Run → RestingDay → List Breach
-found_any None d = []
-found_any (Some rest) d = rest_found rest d
+abbrev pub found_at_optional_rest : Option Run → RestingDay → List Breach
+found_at_optional_rest None d = []
+found_at_optional_rest (Some rest) d = rest_found rest d

@@ -1,11 +1,11 @@
 ghost use Rattle.std.specs.Prelude.{◌≡◌, ◌<◌, ◌≤◌, ◌+◌, ◌++◌, ◌&&◌, ⊤, ℕ, nat_le, IsTrue, false, OnOk, MatchOption};
 ghost use Rattle.tacho_hours.specs.Limits.{first_week, latest};
-ghost use Rattle.tacho_pass.specs.Found.{Appends, listed};
+ghost use Rattle.tacho_pass.specs.Found.{Appends, as_list};
 ghost use Rattle.tacho_pass.specs.Kinds.{is_b4_or_b5};
 ghost use Rattle.tacho_days.specs.DutyDays.{is_long};
 ghost use Rattle.tacho_days.specs.DailyDriving.{DailyDrivingStands, DailyDrivingDefined};
-ghost use Rattle.tacho_days.specs.DailyDriving.{duty_none, are_few, duty_with, ordinal_of, often_of, next_day};
-ghost use Rattle.tacho_days.specs.DailyDriving.{duty_after, duty_found, duty_any, found_any};
+ghost use Rattle.tacho_days.specs.DailyDriving.{duty_none, driving_in_range, duty_with, ordinal_of, often_of, next_day};
+ghost use Rattle.tacho_days.specs.DailyDriving.{duty_after, duty_found, duty_any, duty_found_at_optional_run};
 
 use std::alloc::AllocError;
 use tacho_hours::limits::{DAILY_REST, DRIVING_IN_DAY, DRIVING_IN_EXTENDED_DAY, EXTENDED_DAYS};
@@ -44,11 +44,11 @@ impl DutyDriving {
 
     /// Adds the minutes from `from` to before `to`. Either all are driving or none is.
     fn add(&mut self, drives: bool, from: u32, to: u32)
-        requires few { IsTrue (are_few self.old from) }
+        requires few { IsTrue (driving_in_range self.old from) }
         requires some { from ≤ to }
         requires early { to ≤ latest }
         ensures with { self.new ≡ duty_with drives from to self.old }
-        ensures few { IsTrue (are_few self.new to) }
+        ensures few { IsTrue (driving_in_range self.new to) }
     {
         if drives {
             self.nine.add(DRIVING_IN_DAY, from, to);
@@ -75,7 +75,7 @@ impl DutyDriving {
     fn often(self) -> Option<Breach>
         requires from { first_week ≤ self.from }
         requires extended { self.extended ≤ latest }
-        ensures { listed result ≡ often_of self }
+        ensures { as_list result ≡ often_of self }
     {
         let DutyDriving { nine, from, .. } = self;
         if self.ordinal() > EXTENDED_DAYS {
@@ -133,7 +133,7 @@ impl DutyDriving {
         ensures after { self.new ≡ duty_after run self.old }
         ensures from { first_week ≤ self.new.from }
         ensures extended { self.new.extended ≤ self.old.extended + 1 }
-        ensures few { (place : ℕ) → IsTrue (are_few self.old place) → IsTrue (are_few self.new place) }
+        ensures few { (place : ℕ) → IsTrue (driving_in_range self.old place) → IsTrue (driving_in_range self.new place) }
     {
         if ends_day(run) {
             *self = self.next(Minute::new(run.past));
@@ -150,7 +150,7 @@ impl DutyDriving {
         found: &mut Found,
     ) -> Result<(), AllocError>
         requires day { first_week ≤ self.old.from }
-        requires few { IsTrue (are_few self.old from) }
+        requires few { IsTrue (driving_in_range self.old from) }
         requires extended { self.old.extended ≤ from }
         requires run { MatchOption run ⊤ (λ run. run.past ≡ from) }
         requires late { first_week ≤ from }
@@ -158,10 +158,10 @@ impl DutyDriving {
         requires early { to ≤ latest }
         ensures after { OnOk result (self.new ≡ duty_with drives from to (duty_any run self.old)) }
         ensures day { first_week ≤ self.new.from }
-        ensures few { IsTrue (are_few self.new to) }
+        ensures few { IsTrue (driving_in_range self.new to) }
         ensures extended { self.new.extended ≤ to }
         ensures breaches { OnOk result (
-            found.new.breaches.items ≡ found.old.breaches.items ++ found_any run self.old) }
+            found.new.breaches.items ≡ found.old.breaches.items ++ duty_found_at_optional_run run self.old) }
         ensures appends { Appends is_b4_or_b5 false found.old found.new }
     {
         if let Some(run) = run {
@@ -179,7 +179,7 @@ impl Judge for DutyDriving {
     ghost owes = { false };
 
     ghost fits = { λ d place. nat_le first_week d.from
-        && (are_few d place && nat_le d.extended place) };
+        && (driving_in_range d place && nat_le d.extended place) };
 
     ghost stands = { λ d start place own owed base spans. DailyDrivingStands start place d own owed base spans };
 

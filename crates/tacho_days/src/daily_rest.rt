@@ -6,7 +6,7 @@ ghost use Rattle.tacho_pass.specs.Kinds.{is_b2_or_b3};
 ghost use Rattle.tacho_days.specs.DailyRests.{DailyRestsStand, DailyRestsDefined};
 ghost use Rattle.tacho_days.specs.DutyDays.{day_to};
 ghost use Rattle.tacho_days.specs.RestingDays.{resting_none, regular_of, reduced_of};
-ghost use Rattle.tacho_days.specs.RestingDays.{short_of, often_of, rest_found, after_rest, after_any, found_any};
+ghost use Rattle.tacho_days.specs.RestingDays.{short_of, often_of, rest_found, after_rest, after_optional_rest, found_at_optional_rest};
 
 use std::alloc::AllocError;
 use tacho_hours::limits::{
@@ -169,10 +169,10 @@ impl RestingDay {
         requires start { MatchOption rest ⊤ (λ rest. rest.start ≤ latest) }
         requires past { MatchOption rest ⊤ (λ rest. rest.past ≤ latest) }
         requires few { self.old.number ≤ latest }
-        ensures after { OnOk result (self.new ≡ after_any rest self.old) }
+        ensures after { OnOk result (self.new ≡ after_optional_rest rest self.old) }
         ensures few { self.new.number ≤ self.old.number + 1 }
         ensures breaches { OnOk result (
-            found.new.breaches.items ≡ found.old.breaches.items ++ found_any rest self.old) }
+            found.new.breaches.items ≡ found.old.breaches.items ++ found_at_optional_rest rest self.old) }
         ensures appends { Appends is_b2_or_b3 false found.old found.new }
     {
         if let Some(rest) = rest {

@@ -14,7 +14,7 @@ use Rattle.tacho_stretches.specs.Stretches.{AreStretches, Judged}
 use Rattle.tacho_state.specs.Acts.{Reads}
 use Rattle.tacho_state.specs.Reported.{AreStretchesOf, IsHeldWithin}
 use Rattle.tacho_state.specs.State.{Driver, State, driver_of, held_spans}
-use Rattle.tacho_state.specs.Steps.{reported, told_of}
+use Rattle.tacho_state.specs.Steps.{report_reading, reading_of}
 use Rattle.tacho_state.specs.Summaries.{AreSummaries, Summary, summary_of, told_summary}
 use Rattle.tacho_state.specs.declared.fault.StoreFault.{StoreFault}
 use Rattle.tacho_state.specs.declared.summary.DriverSummary.{DriverSummary}
@@ -22,7 +22,7 @@ use Rattle.tacho_sheet.specs.Months.{AreIncidentRows, IsOverviewRow}
 use Rattle.tacho_sheet.specs.Reports.{AreBounds}
 use Rattle.tacho_sheet.proofs.MarkLemmas.{overview_same}
 use Rattle.tacho_desk.specs.Doing.{Doing, IsText, Serves}
-use Rattle.tacho_desk.specs.Fault.{IsGivenUp, store_fault}
+use Rattle.tacho_desk.specs.Fault.{IsFailure, fault_of_store}
 use Rattle.tacho_desk.specs.Tasks.{AreOfEach, IsOfAll, OfStretches}
 use Rattle.tacho_desk.specs.Told.{Long}
 use Rattle.tacho_desk.specs.declared.fault.Fault.TheVariants as fault
@@ -66,10 +66,10 @@ listed_there s drivers are =
 
 -- so none of them is answered as unknown
 pub none_unknown : (s : State) (drivers : List DriverSummary) (i : ℕ) (x : DriverSummary) → AreSummaries s (map told_summary drivers)
-    → i < length drivers → x ≡ get_or drivers i x → reported x.number s ≡ Ok tt
+    → i < length drivers → x ≡ get_or drivers i x → report_reading x.number s ≡ Ok tt
 none_unknown s drivers i x are within is =
     let there : IsThere s x.number = subst (λ (y : DriverSummary). IsThere s y.number) (sym is) (listed_there s drivers are i x within) in
-    ap (λ (o : Option Driver). told_of {A = Unit {0}} (λ d. Ok tt) o) there.1
+    ap (λ (o : Option Driver). reading_of {A = Unit {0}} (λ d. Ok tt) o) there.1
 
 -- ---- an archive that is read driver by driver
 
@@ -147,16 +147,16 @@ module _ {K : Type 0} (stands : K → State → Type 0) (is_clean is_live : K �
   }
 
   -- reading a driver who exists fails only if memory runs out or the store fails
-  given_up : (f : StoreFault) (told : Result (Unit {0}) StoreFault) → told ≡ Ok tt → (told ≡ Err f) ⊎ IsGivenUp (store_fault f)
-      → IsGivenUp (store_fault f)
+  given_up : (f : StoreFault) (told : Result (Unit {0}) StoreFault) → told ≡ Ok tt → (told ≡ Err f) ⊎ IsFailure (fault_of_store f)
+      → IsFailure (fault_of_store f)
   given_up f told there (inl is) = cc
   given_up f told there (inr up) = up
 
   pub not_read : StaysSame is_live is_same → {A : Type 0} (view : A → Unit {0}) (old now new : K) (drivers : List DriverSummary) (i : ℕ)
       (x : DriverSummary) (f : StoreFault) (Does : State → Doing) → i < length drivers → x ≡ get_or drivers i x
       → IsRead stands is_clean is_live leaves is_same old now drivers
-      → Reads stands is_clean is_live leaves is_same view now new (Err f) (reported x.number)
-      → Serves stands is_clean is_live leaves is_same old new false (Err (store_fault f)) Does
+      → Reads stands is_clean is_live leaves is_same view now new (Err f) (report_reading x.number)
+      → Serves stands is_clean is_live leaves is_same old new false (Err (fault_of_store f)) Does
   not_read same_then view old now new drivers i x f Does within item read on = record {
     clean = λ clean. read.clean (on.clean clean);
     live = λ clean. tt;
@@ -164,7 +164,7 @@ module _ {K : Type 0} (stands : K → State → Type 0) (is_clean is_live : K �
         let here = read.state (on.clean clean) s st in
         let there = none_unknown s drivers i x (read.listed (on.clean clean) s st) within item in (
           on.state clean s here,
-          inr (given_up f (reported x.number s) there (refusal_of view f (reported x.number s) (on.answer clean s here))),
+          inr (given_up f (report_reading x.number s) there (refusal_of view f (report_reading x.number s) (on.answer clean s here))),
         );
     same = λ unchanged. same_after same_then read.same read.state on;
     kept = λ is. cc;
@@ -225,7 +225,7 @@ AreIncidentsOf month x d = OfStretches (λ stretches. AreIncidentRows x.number x
 
 -- a text of the stretches of a driver who exists
 rows_of : (o : Option Driver) (Is : Driver → List Judged → List ℕ → Type 0) (stretches : List Judged) (before after : List ℕ)
-    → told_of {A = Unit {0}} (λ d. Ok tt) o ≡ Ok tt → IfSome o (λ d. AreStretches (held_spans d) (1440 * d.base) stretches)
+    → reading_of {A = Unit {0}} (λ d. Ok tt) o ≡ Ok tt → IfSome o (λ d. AreStretches (held_spans d) (1440 * d.base) stretches)
     → IfSome o (λ d. (row : List ℕ) × (after ≡ before ++ row) × Is d stretches row)
     → (d : Driver) × (o ≡ Some d) × (row : List ℕ) × (after ≡ before ++ row) × OfStretches (Is d) d row
 rows_of None Is stretches before after there are rows = cc
@@ -248,7 +248,7 @@ overview_by_marks (Some d) n name line_name line stretches month start past befo
     )
 
 pub overview_of : (n : ℕ) (s : State) (name line_name : List ℕ) (line : List Span) (stretches : List Judged) (month start past : ℕ)
-    (before after : List ℕ) → AreBounds month start past → line_name ≡ name → reported n s ≡ Ok tt → IsHeldWithin n start past s line
+    (before after : List ℕ) → AreBounds month start past → line_name ≡ name → report_reading n s ≡ Ok tt → IsHeldWithin n start past s line
     → AreStretchesOf n s stretches
     → ((base end : ℕ) → FollowOn (parts stretches) base end → (row : List ℕ) × (after ≡ before ++ row)
     × IsOverviewRow n line_name line stretches month row)
@@ -264,7 +264,7 @@ if_there None p = tt
 if_there (Some d) p = p
 
 pub incidents_of : (n : ℕ) (s : State) (name told_name : List ℕ) (stretches : List Judged) (month : ℕ) (before after : List ℕ)
-    → told_name ≡ name → reported n s ≡ Ok tt → AreStretchesOf n s stretches
+    → told_name ≡ name → report_reading n s ≡ Ok tt → AreStretchesOf n s stretches
     → (rows : List ℕ) × (after ≡ before ++ rows) × AreIncidentRows n told_name stretches month rows
     → (d : Driver) × (driver_of n s ≡ Some d) × (row : List ℕ) × (after ≡ before ++ row)
     × OfStretches (λ stretches. AreIncidentRows n name stretches month) d row

@@ -4,8 +4,8 @@ use Rattle.std.specs.Prelude.{IsErrAnd}
 use Rattle.tacho_state.specs.Acts.{Reads}
 use Rattle.tacho_state.specs.State.{State}
 use Rattle.tacho_state.specs.declared.fault.StoreFault.{StoreFault}
-use Rattle.tacho_desk.specs.Doing.{Doing, Done, IsKept, Serves, Stops}
-use Rattle.tacho_desk.specs.Fault.{IsGivenUp}
+use Rattle.tacho_desk.specs.Doing.{Doing, Done, IsDurable, Serves, CrashMayLeave}
+use Rattle.tacho_desk.specs.Fault.{IsFailure}
 use Rattle.tacho_desk.specs.Told.{Answer, answer_of}
 use Rattle.tacho_desk.specs.declared.fault.Fault.{Fault}
 use Rattle.tacho_desk.specs.declared.text.Text.{Text}
@@ -27,14 +27,14 @@ done_as stands s A B (Err f) h (st, inr g) = (st, inr g)
 -- for what is durable
 kept_as : (stands : State → Type 0) (leaves : List State → Type 0) (A B : Doing) (answer : Answer)
     → ((answer : Answer) (after : State) → A answer after → B answer after)
-    → IsKept stands leaves A answer → IsKept stands leaves B answer
+    → IsDurable stands leaves A answer → IsDurable stands leaves B answer
 kept_as stands leaves A B (Ok told) h d = (d.0, d.1, h (Ok told) d.0 d.2, d.3)
 kept_as stands leaves A B (Err f) h d = tt
 
 -- for the states that a crash may leave
 stops_as : (leaves : List State → Type 0) (past : List State) (A B : Doing) (answer : Answer)
     → ((answer : Answer) (after : State) → A answer after → B answer after)
-    → Stops leaves past A answer → Stops leaves past B answer
+    → CrashMayLeave leaves past A answer → CrashMayLeave leaves past B answer
 stops_as leaves past A B (Ok told) h (inl l) = inl l
 stops_as leaves past A B (Ok told) h (inr a) = inr (a.0, h (Ok told) a.0 a.1, a.2)
 stops_as leaves past A B (Err f) h (inl l) = inl l
@@ -77,7 +77,7 @@ module _ {K : Type 0} (stands : K → State → Type 0) (is_clean is_live : K �
   }
 
   -- nothing was done: the task answers this fault, or memory ran out, or the store failed
-  pub nothing : IsSameAsItself is_same → (keeper : K) (command : Bool) (f : Fault) (Does : State → Doing) → ((s : State) → Does s (Err f) s ⊎ IsGivenUp f)
+  pub nothing : IsSameAsItself is_same → (keeper : K) (command : Bool) (f : Fault) (Does : State → Doing) → ((s : State) → Does s (Err f) s ⊎ IsFailure f)
       → Serves stands is_clean is_live leaves is_same keeper keeper command (Err f) Does
   nothing same_self keeper command f Does h = record {
     clean = λ clean. clean;

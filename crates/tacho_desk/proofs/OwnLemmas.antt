@@ -16,7 +16,7 @@ use Rattle.tacho_state.specs.Least.{is_within, least_conflict}
 use Rattle.tacho_state.specs.Acts.{caller_number}
 use Rattle.tacho_state.specs.Registration.{Registration}
 use Rattle.tacho_state.specs.State.{Driver, State, driver_of, given_spans, held_spans, put}
-use Rattle.tacho_state.specs.Steps.{Content, Own, Turn, downloaded, entered, import_his, imported, kept_by, listed, most, own_turn, rebased, registered, settled, told_of, withdrawn}
+use Rattle.tacho_state.specs.Steps.{Content, Own, Turn, file_reading, enter_step, import_by_driver, import_step, kept_by, entries_reading, most_records, own_turn, rebase_step, register_step, turn_of, reading_of, withdraw_step}
 use Rattle.tacho_state.specs.declared.caller.Caller.TheVariants as caller
 use Rattle.tacho_state.specs.declared.fault.StoreFault.{StoreFault}
 use Rattle.tacho_sheet.specs.Entries.{Lines}
@@ -52,13 +52,13 @@ steps_stay words s turn f after keeps h = (let g = err_words words turn.answer f
 -- so does a refused registration
 registers_stay : (s : State) (read : Result Registration SheetFault) (f : Fault) (after : State) → RegistersRead s read (Err f) after → after ≡ s
 registers_stay s (Err g) f after h = h.1
-registers_stay s (Ok r) f after h = steps_stay _ s (registered r.number r.holder r.key r.base r.name s) f after (registered_keeps r.number r.holder r.key r.base r.name s) h
+registers_stay s (Ok r) f after h = steps_stay _ s (register_step r.number r.holder r.key r.base r.name s) f after (registered_keeps r.number r.holder r.key r.base r.name s) h
 
 -- so does a refused batch
 enters_stay : (n : ℕ) (s : State) (read : Lines) (f : Fault) (after : State) → EntersRead n s read (Err f) after → after ≡ s
 enters_stay n s (Err g) f after h = h.1
 enters_stay n s (Ok lines) f after h =
-    steps_stay (λ first. entered_told first (length lines)) s (entered n (batch_of lines) s) f after (entered_keeps n (batch_of lines) s) h
+    steps_stay (λ first. entered_told first (length lines)) s (enter_step n (batch_of lines) s) f after (entered_keeps n (batch_of lines) s) h
 
 -- a reading changes nothing
 reading_stays : (text : Reading) (n : ℕ) (s : State) (answer : Answer) (after : State) → ShowsReading text n s answer after → after ≡ s
@@ -85,10 +85,10 @@ all_stays all.Incidents m s answer after h = h.1
 pub refusals : RefusalsStay
 refusals task.Register input s f after h = registers_stay s h.0 f after h.2
 refusals (task.Import who p) input s f after h =
-    steps_stay imported_told s (imported (caller_number who) (part_number p) input h.0 s) f after (imported_keeps (caller_number who) (part_number p) input h.0 s) h.2
+    steps_stay imported_told s (import_step (caller_number who) (part_number p) input h.0 s) f after (imported_keeps (caller_number who) (part_number p) input h.0 s) h.2
 refusals (task.Enter n) input s f after h = enters_stay n s h.0 f after h.2
-refusals (task.Withdraw n number) input s f after h = steps_stay _ s (withdrawn n number s) f after (withdrawn_keeps n number s) h
-refusals (task.Base n day) input s f after h = steps_stay _ s (rebased n day s) f after (rebased_keeps n day s) h
+refusals (task.Withdraw n number) input s f after h = steps_stay _ s (withdraw_step n number s) f after (withdrawn_keeps n number s) h
+refusals (task.Base n day) input s f after h = steps_stay _ s (rebase_step n day s) f after (rebased_keeps n day s) h
 refusals (task.Reading n text) input s f after h = reading_stays text n s (Err f) after h
 refusals (task.MonthReading n month text) input s f after h = month_stays text month n s (Err f) after h
 refusals (task.File n number) input s f after h = h.1
@@ -98,11 +98,11 @@ refusals (task.MonthOfAll month text) input s f after h = all_stays text month s
 -- ---- rows
 
 -- the driver found by a number has this number
-his_number : (n : ℕ) (s : State) (d : Driver) → driver_of n s ≡ Some d → d.number ≡ n
-his_number n [] d e = cc
-his_number n (x ∷ s) d e = (elim (x.number == n) as (λ b. (x.number == n) ≡ b → cond b (Some x) (driver_of n s) ≡ Some d → d.number ≡ n) [
+own_number : (n : ℕ) (s : State) (d : Driver) → driver_of n s ≡ Some d → d.number ≡ n
+own_number n [] d e = cc
+own_number n (x ∷ s) d e = (elim (x.number == n) as (λ b. (x.number == n) ≡ b → cond b (Some x) (driver_of n s) ≡ Some d → d.number ≡ n) [
   | true ↦ λ is same. (let one : x ≡ d = cc in ap (λ (y : Driver). y.number) (sym one) ∙ eqb-true x.number n is)
-  | false ↦ λ is same. his_number n s d same
+  | false ↦ λ is same. own_number n s d same
 ]) refl e
 
 -- a driver who replaces one with the same number is found by this number
@@ -142,10 +142,10 @@ either n false x y h k = k
 -- nor does keeping a file
 kept_number : (part : ℕ) (file : List ℕ) (spans : List Span) (d : Driver) (o : Option ℕ) → NumberStays d.number (kept_by part file spans d o)
 kept_number part file spans d (Some m) = tt
-kept_number part file spans d None = either d.number (nat_lt (length d.downloads) most) _ _ refl tt
+kept_number part file spans d None = either d.number (nat_lt (length d.downloads) most_records) _ _ refl tt
 
 -- nor does an import
-import_number : (part : ℕ) (file : List ℕ) (content : Content) (d : Driver) → NumberStays d.number (import_his part file content d)
+import_number : (part : ℕ) (file : List ℕ) (content : Content) (d : Driver) → NumberStays d.number (import_by_driver part file content d)
 import_number part file content d =
     either d.number (bytes_eq d.holder content.holder) _ _
     (either d.number (is_within content.spans (given_spans d.downloads)) _ _ refl
@@ -153,7 +153,7 @@ import_number part file content d =
 
 -- one driver's command answers the same in two states in which the driver's rows are the same, and leaves them the same
 settled_same : {A : Type 0} (n : ℕ) (s other : State) (d : Driver) (r : Result (A × Driver) StoreFault) → driver_of n s ≡ Some d → driver_of n other ≡ Some d → NumberStays n r
-    → ((settled s r).answer ≡ (settled other r).answer) × (driver_of n (settled s r).after ≡ driver_of n (settled other r).after)
+    → ((turn_of s r).answer ≡ (turn_of other r).answer) × (driver_of n (turn_of s r).after ≡ driver_of n (turn_of other r).after)
 settled_same n s other d (Ok told) a b stays =
     let x = subst (λ (m : ℕ). driver_of m s ≡ Some d) (sym stays) a in
     let y = subst (λ (m : ℕ). driver_of m other ≡ Some d) (sym stays) b in
@@ -161,7 +161,7 @@ settled_same n s other d (Ok told) a b stays =
 settled_same n s other d (Err f) a b stays = (refl, a ∙ sym b)
 
 -- the rows of other drivers stay as they were
-settled_others : {A : Type 0} (n m : ℕ) (s : State) (r : Result (A × Driver) StoreFault) → NumberStays n r → m ≢ n → driver_of m (settled s r).after ≡ driver_of m s
+settled_others : {A : Type 0} (n m : ℕ) (s : State) (r : Result (A × Driver) StoreFault) → NumberStays n r → m ≢ n → driver_of m (turn_of s r).after ≡ driver_of m s
 settled_others n m s (Ok told) stays h = put_others m told.1 s (λ e. h (e ∙ stays))
 settled_others n m s (Err f) stays h = refl
 
@@ -170,28 +170,28 @@ own_same : {A : Type 0} (own : Own A) (n : ℕ) (s other : State) (o : Option Dr
     → ((own_turn own s o).answer ≡ (own_turn own other o).answer) × (driver_of n (own_turn own s o).after ≡ driver_of n (own_turn own other o).after)
 own_same own n s other None stays a b = (refl, a ∙ sym b)
 own_same own n s other (Some d) stays a b =
-    settled_same n s other d (own d) a b (subst (λ (m : ℕ). NumberStays m (own d)) (his_number n s d a) (stays d))
+    settled_same n s other d (own d) a b (subst (λ (m : ℕ). NumberStays m (own d)) (own_number n s d a) (stays d))
 
 -- the rows of other drivers stay, whether or not the driver exists
 own_others : {A : Type 0} (own : Own A) (n m : ℕ) (s : State) (o : Option Driver) → ((d : Driver) → NumberStays d.number (own d)) → driver_of n s ≡ o → m ≢ n
     → driver_of m (own_turn own s o).after ≡ driver_of m s
 own_others own n m s None stays a h = refl
-own_others own n m s (Some d) stays a h = settled_others n m s (own d) (subst (λ (k : ℕ). NumberStays k (own d)) (his_number n s d a) (stays d)) h
+own_others own n m s (Some d) stays a h = settled_others n m s (own d) (subst (λ (k : ℕ). NumberStays k (own d)) (own_number n s d a) (stays d)) h
 
 -- likewise for the import of the driver's card
 import_same : (n part : ℕ) (file : List ℕ) (content : Result Content CardFault) (s other : State) → driver_of n s ≡ driver_of n other
-    → ((imported (Some n) part file content s).answer ≡ (imported (Some n) part file content other).answer)
-    × (driver_of n (imported (Some n) part file content s).after ≡ driver_of n (imported (Some n) part file content other).after)
+    → ((import_step (Some n) part file content s).answer ≡ (import_step (Some n) part file content other).answer)
+    × (driver_of n (import_step (Some n) part file content s).after ≡ driver_of n (import_step (Some n) part file content other).after)
 import_same n part file (Err f) s other e = (refl, e)
 import_same n part file (Ok content) s other e =
-    subst (λ (o : Option Driver). ((own_turn (import_his part file content) s (driver_of n s)).answer ≡ (own_turn (import_his part file content) other o).answer)
-    × (driver_of n (own_turn (import_his part file content) s (driver_of n s)).after ≡ driver_of n (own_turn (import_his part file content) other o).after)) e
-    (own_same (import_his part file content) n s other (driver_of n s) (import_number part file content) refl (sym e))
+    subst (λ (o : Option Driver). ((own_turn (import_by_driver part file content) s (driver_of n s)).answer ≡ (own_turn (import_by_driver part file content) other o).answer)
+    × (driver_of n (own_turn (import_by_driver part file content) s (driver_of n s)).after ≡ driver_of n (own_turn (import_by_driver part file content) other o).after)) e
+    (own_same (import_by_driver part file content) n s other (driver_of n s) (import_number part file content) refl (sym e))
 
 -- the import of a driver's card changes no other driver's rows
-import_others : (n m part : ℕ) (file : List ℕ) (content : Result Content CardFault) (s : State) → m ≢ n → driver_of m (imported (Some n) part file content s).after ≡ driver_of m s
+import_others : (n m part : ℕ) (file : List ℕ) (content : Result Content CardFault) (s : State) → m ≢ n → driver_of m (import_step (Some n) part file content s).after ≡ driver_of m s
 import_others n m part file (Err f) s h = refl
-import_others n m part file (Ok content) s h = own_others (import_his part file content) n m s (driver_of n s) (import_number part file content) refl h
+import_others n m part file (Ok content) s h = own_others (import_by_driver part file content) n m s (driver_of n s) (import_number part file content) refl h
 
 -- ---- a driver's own tasks
 
@@ -202,15 +202,15 @@ shows_same Is n s other e answer after h = (other, (subst (λ (o : Option Driver
 
 -- so is a list of what the driver has
 lists_same : {A : Type 0} (words : A → Told) (f : Driver → Result A StoreFault) (n : ℕ) (s other : State) → driver_of n s ≡ driver_of n other → (answer : Answer) (after : State)
-    → Lists words s (told_of f (driver_of n s)) answer after → (left : State) × Lists words other (told_of f (driver_of n other)) answer left × (driver_of n after ≡ driver_of n left)
-lists_same words f n s other e answer after h = (other, (h.0 ∙ ap (λ (o : Option Driver). in_words words (told_of f o)) e, refl), ap (driver_of n) h.1 ∙ e)
+    → Lists words s (reading_of f (driver_of n s)) answer after → (left : State) × Lists words other (reading_of f (driver_of n other)) answer left × (driver_of n after ≡ driver_of n left)
+lists_same words f n s other e answer after h = (other, (h.0 ∙ ap (λ (o : Option Driver). in_words words (reading_of f o)) e, refl), ap (driver_of n) h.1 ∙ e)
 
 -- so is what an import answers
 imports_same : (n : ℕ) (p : Part) (input : List ℕ) (s other : State) → driver_of n s ≡ driver_of n other → (answer : Answer) (after : State) → Imports (caller.Driver n) p input s answer after
     → (left : State) × Imports (caller.Driver n) p input other answer left × (driver_of n after ≡ driver_of n left)
 imports_same n p input s other e answer after h =
     let same = import_same n (part_number p) input h.0 s other e in
-    let left = (imported (Some n) (part_number p) input h.0 other).after in
+    let left = (import_step (Some n) (part_number p) input h.0 other).after in
     (left, (h.0, h.1, (h.2.0 ∙ ap (in_words imported_told) same.0, refl)), ap (driver_of n) h.2.1 ∙ same.1)
 
 -- likewise for an equal number
@@ -345,7 +345,7 @@ module _ (one_content : (p : Part) (bytes : List ℕ) (a b : Result Content Card
       one_shown _ (one_of_report (λ d breaches debts horizon text. text ≡ breach_text breaches horizon) (λ d breaches debts horizon x y i j. i ∙ sym j)) n s a b after left h k
   one_reading reading.Owed n s a b after left h k =
       one_shown _ (one_of_report (λ d breaches debts horizon text. text ≡ owed_text debts horizon) (λ d breaches debts horizon x y i j. i ∙ sym j)) n s a b after left h k
-  one_reading reading.Entries n s a b after left h k = one_listed _ s (listed n s) a b after left h k
+  one_reading reading.Entries n s a b after left h k = one_listed _ s (entries_reading n s) a b after left h k
   one_reading reading.Stretches n s a b after left h k =
       one_shown _ (one_of_stretches (λ stretches text. text ≡ stretch_text stretches) (λ stretches x y i j. i ∙ sym j))
       n s a b after left h k
@@ -367,13 +367,13 @@ module _ (one_content : (p : Part) (bytes : List ℕ) (a b : Result Content Card
   pub one_answer : OneAnswer
   one_answer n (task.Import (caller.Driver m) p) his input s a b after left h k =
       let same = one_content p input h.0 k.0 h.1 k.1 in (
-        h.2.0 ∙ (ap (λ (content : Result Content CardFault). in_words imported_told (imported (Some m) (part_number p) input content s).answer) same ∙ sym k.2.0),
-        h.2.1 ∙ (ap (λ (content : Result Content CardFault). (imported (Some m) (part_number p) input content s).after) same ∙ sym k.2.1),
+        h.2.0 ∙ (ap (λ (content : Result Content CardFault). in_words imported_told (import_step (Some m) (part_number p) input content s).answer) same ∙ sym k.2.0),
+        h.2.1 ∙ (ap (λ (content : Result Content CardFault). (import_step (Some m) (part_number p) input content s).after) same ∙ sym k.2.1),
       )
   one_answer n (task.Import caller.Office p) his input s a b after left h k = absurd his
   one_answer n (task.Reading m text) his input s a b after left h k = one_reading text m s a b after left h k
   one_answer n (task.MonthReading m month text) his input s a b after left h k = one_month text month m s a b after left h k
-  one_answer n (task.File m number) his input s a b after left h k = one_listed _ s (downloaded m number s) a b after left h k
+  one_answer n (task.File m number) his input s a b after left h k = one_listed _ s (file_reading m number s) a b after left h k
   one_answer n task.Register his input s a b after left h k = absurd his
   one_answer n (task.Enter m) his input s a b after left h k = absurd his
   one_answer n (task.Withdraw m number) his input s a b after left h k = absurd his

@@ -4,7 +4,7 @@ use Rattle.tacho_card.specs.declared.file.Part.TheVariants as part
 use Rattle.tacho_state.specs.declared.caller.Caller.TheVariants as caller
 use Rattle.tacho_state.specs.declared.fault.StoreFault.TheVariants as store
 use Rattle.tacho_sheet.specs.declared.fault.Fault.TheVariants as told
-use Rattle.tacho_desk.specs.Fault.{store_fault}
+use Rattle.tacho_desk.specs.Fault.{fault_of_store}
 use Rattle.tacho_desk.specs.Wants.{is_command, is_own, takes_input}
 use Rattle.tacho_desk.specs.Words.{by_part, part_of}
 use Rattle.tacho_desk.specs.declared.fault.Fault.TheVariants as fault
@@ -50,8 +50,8 @@ capital = refl
 
 -- ---- faults
 
-pub memory : store_fault store.Memory ≡ fault.Memory
+pub memory : fault_of_store store.Memory ≡ fault.Memory
 memory = refl
 
-pub store_failed : store_fault store.Store ≡ fault.Told (told.Store store.Store)
+pub store_failed : fault_of_store store.Store ≡ fault.Told (told.Store store.Store)
 store_failed = refl

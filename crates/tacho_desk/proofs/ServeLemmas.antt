@@ -6,7 +6,7 @@ use Rattle.tacho_state.specs.Acts.{Acts, Answers, IsRefused, caller_number}
 use Rattle.tacho_state.specs.Content.{FileTells, part_number}
 use Rattle.tacho_state.specs.Registration.{Registration}
 use Rattle.tacho_state.specs.State.{State}
-use Rattle.tacho_state.specs.Steps.{Content, Turn, imported}
+use Rattle.tacho_state.specs.Steps.{Content, Turn, import_step}
 use Rattle.tacho_state.proofs.ContentLemmas.{some_content}
 use Rattle.tacho_state.specs.declared.caller.Caller.{Caller}
 use Rattle.tacho_state.specs.declared.entry.EntryLine.{EntryLine}
@@ -18,8 +18,8 @@ use Rattle.tacho_sheet.specs.Entries.{IsRead}
 use Rattle.tacho_sheet.specs.Rows.{IsReaderFault}
 use Rattle.tacho_sheet.specs.declared.fault.SheetFault.{SheetFault}
 use Rattle.tacho_sheet.specs.declared.fault.SheetFault.TheVariants as sheet
-use Rattle.tacho_desk.specs.Doing.{AsksOnly, Done, IsOfArchive, IsUnread, Serves, Steps, Stops, in_words}
-use Rattle.tacho_desk.specs.Fault.{IsGivenUp, sheet_fault, store_fault}
+use Rattle.tacho_desk.specs.Doing.{AsksOnly, Done, IsOfArchive, IsUnread, Serves, Steps, CrashMayLeave, in_words}
+use Rattle.tacho_desk.specs.Fault.{IsFailure, sheet_fault, fault_of_store}
 use Rattle.tacho_desk.specs.Tasks.{Enters, EntersRead, Imports, IsFaulty, IsSound, OrCsv, Registers, RegistersRead, imported_told}
 use Rattle.tacho_desk.specs.Told.{Answer, Told}
 use Rattle.tacho_desk.specs.declared.task.Task.TheVariants as task
@@ -37,7 +37,7 @@ taken x = Ok x
 
 -- the task was given up, or the archive refused it, or its file has a fault
 abbrev pub Refusal : StoreFault → Type 0
-Refusal f = IsGivenUp (store_fault f) ⊎ (IsRefused {A = Unit {0}} (Err f) ⊎ ((g : CardFault) × (f ≡ store.Card g)))
+Refusal f = IsFailure (fault_of_store f) ⊎ (IsRefused {A = Unit {0}} (Err f) ⊎ ((g : CardFault) × (f ≡ store.Card g)))
 
 -- each fault is one of these three
 refusal : (f : StoreFault) → Refusal f
@@ -59,7 +59,7 @@ refusal store.Full = inr (inl tt)
 
 -- a refusal of the archive is that of the step, or the call was given up
 pub refusal_of : {A B : Type 0} (view : A → B) (f : StoreFault) (told : Result B StoreFault) → Answers view (Err f) told
-    → (told ≡ Err f) ⊎ IsGivenUp (store_fault f)
+    → (told ≡ Err f) ⊎ IsFailure (fault_of_store f)
 refusal_of view store.Memory told h = inr tt
 refusal_of view store.Store told h = inr tt
 refusal_of view (store.Card f) told h = inl h
@@ -77,7 +77,7 @@ refusal_of view store.OldSchema told h = inl h
 refusal_of view store.Full told h = inl h
 
 -- a store's fault is no fault of the input or of a device, unless it is the fault of a file
-of_store : (f : StoreFault) → IsOfArchive (Err (store_fault f)) ⊎ ((g : CardFault) × (f ≡ store.Card g))
+of_store : (f : StoreFault) → IsOfArchive (Err (fault_of_store f)) ⊎ ((g : CardFault) × (f ≡ store.Card g))
 of_store store.Memory = inl tt
 of_store store.Store = inl tt
 of_store (store.Card g) = inr (g, refl)
@@ -122,9 +122,9 @@ module _ {K : Type 0} (stands : K → State → Type 0) (is_clean is_live : K �
 
   -- if memory ran out, the task was given up
   given_up : {A : Type 0} (Is : Result A SheetFault → Type 0) (f : SheetFault) → OrCsv Is (Err f) ⊎ (f ≡ sheet.Memory)
-      → OrCsv Is (Err f) ⊎ IsGivenUp (sheet_fault f)
+      → OrCsv Is (Err f) ⊎ IsFailure (sheet_fault f)
   given_up Is f (inl is) = inl is
-  given_up Is f (inr e) = inr (subst (λ (g : SheetFault). IsGivenUp (sheet_fault g)) (sym e) tt)
+  given_up Is f (inr e) = inr (subst (λ (g : SheetFault). IsFailure (sheet_fault g)) (sym e) tt)
 
   -- a text of hours that could not be read
   pub unread_lines : IsSameAsItself is_same → (keeper : K) (n : ℕ) (input : List ℕ) (f : SheetFault) → IsReaderFault f ⊎ IsRead input (Err f)
@@ -132,8 +132,8 @@ module _ {K : Type 0} (stands : K → State → Type 0) (is_clean is_live : K �
   unread_lines same_self keeper n input f h =
       nothing stands is_clean is_live leaves is_same same_self keeper true (sheet_fault f) (Enters n input) (λ s. said s (given_up (IsRead input) f (read_fault (IsRead input) f h)))
     where
-      said : (s : State) → OrCsv (IsRead input) (Err f) ⊎ IsGivenUp (sheet_fault f)
-          → Enters n input s (Err (sheet_fault f)) s ⊎ IsGivenUp (sheet_fault f)
+      said : (s : State) → OrCsv (IsRead input) (Err f) ⊎ IsFailure (sheet_fault f)
+          → Enters n input s (Err (sheet_fault f)) s ⊎ IsFailure (sheet_fault f)
       said s (inl is) = inl (Err f, is, (refl, refl))
       said s (inr g) = inr g
 
@@ -151,8 +151,8 @@ module _ {K : Type 0} (stands : K → State → Type 0) (is_clean is_live : K �
   unread_driver same_self keeper input f h =
       nothing stands is_clean is_live leaves is_same same_self keeper true (sheet_fault f) (Registers input) (λ s. said s (given_up (IsDriverRead input) f (read_fault (IsDriverRead input) f h)))
     where
-      said : (s : State) → OrCsv (IsDriverRead input) (Err f) ⊎ IsGivenUp (sheet_fault f)
-          → Registers input s (Err (sheet_fault f)) s ⊎ IsGivenUp (sheet_fault f)
+      said : (s : State) → OrCsv (IsDriverRead input) (Err f) ⊎ IsFailure (sheet_fault f)
+          → Registers input s (Err (sheet_fault f)) s ⊎ IsFailure (sheet_fault f)
       said s (inl is) = inl (Err f, is, (refl, refl))
       said s (inr g) = inr g
 
@@ -181,7 +181,7 @@ module _ {K : Type 0} (stands : K → State → Type 0) (is_clean is_live : K �
   pub refused_by : {A B : Type 0} (view : A → B) (words : B → Told) (old new : K) (f : StoreFault) (step : State → Turn B) → ((s : State) → Keeps s (step s))
       → ((g : CardFault) → f ≡ store.Card g → is_clean new → (s : State) (past : List State) → stands old s → leaves old past → leaves new past)
       → Acts stands is_clean is_live leaves is_same is_same_of view old new (Err f) step
-      → Serves stands is_clean is_live leaves is_same old new true (Err (store_fault f)) (λ s. Steps words (step s))
+      → Serves stands is_clean is_live leaves is_same old new true (Err (fault_of_store f)) (λ s. Steps words (step s))
   refused_by {A = A} {B = B} view words old new f step keeps of_file acts = record {
     clean = acts.clean;
     live = λ clean. tt;
@@ -191,8 +191,8 @@ module _ {K : Type 0} (stands : K → State → Type 0) (is_clean is_live : K �
     crash = λ clean s past st l. stopped_by clean s past st l (refusal f);
   }
     where
-      done_by : (s : State) → stands new s → ((step s).answer ≡ Err f) ⊎ IsGivenUp (store_fault f)
-          → Done (stands new) s (Steps words (step s)) (Err (store_fault f))
+      done_by : (s : State) → stands new s → ((step s).answer ≡ Err f) ⊎ IsFailure (fault_of_store f)
+          → Done (stands new) s (Steps words (step s)) (Err (fault_of_store f))
       done_by s st (inl e) = (st, inl (sym (ap (in_words words) e), sym (keeps s f e)))
       done_by s st (inr g) = (st, inr g)
 
@@ -200,7 +200,7 @@ module _ {K : Type 0} (stands : K → State → Type 0) (is_clean is_live : K �
       refuses f h = h
 
       stopped_by : is_clean new → (s : State) (past : List State) → stands old s → leaves old past → Refusal f
-          → Stops (leaves new) past (Steps words (step s)) (Err (store_fault f))
+          → CrashMayLeave (leaves new) past (Steps words (step s)) (Err (fault_of_store f))
       stopped_by clean s past st l (inl g) = inr (g, (in_words words (step s).answer, (step s).after, (refl, refl), acts.crash clean s past st l))
       stopped_by clean s past st l (inr (inl h)) = inl (acts.refused clean (refuses f h) past l)
       stopped_by clean s past st l (inr (inr h)) = inl (of_file h.0 h.1 clean s past st l)
@@ -225,7 +225,7 @@ module _ {K : Type 0} (stands : K → State → Type 0) (is_clean is_live : K �
   pub refused_without_file : {A B : Type 0} (view : A → B) (words : B → Told) (old new : K) (f : StoreFault) (step : State → Turn B) → ((s : State) → Keeps s (step s))
       → ((s : State) → TellsNoFile (step s).answer)
       → Acts stands is_clean is_live leaves is_same is_same_of view old new (Err f) step
-      → Serves stands is_clean is_live leaves is_same old new true (Err (store_fault f)) (λ s. Steps words (step s))
+      → Serves stands is_clean is_live leaves is_same old new true (Err (fault_of_store f)) (λ s. Steps words (step s))
   refused_without_file {B = B} view words old new f step keeps none acts =
       refused_by view words old new f step keeps (λ g e clean s past st l. absurd (none s g (said f g e (step s).answer (acts.answer clean s st)))) acts
     where
@@ -240,12 +240,12 @@ module _ {K : Type 0} (stands : K → State → Type 0) (is_clean is_live : K �
       → ((g : CardFault) → answered f ≡ Err (store.Card g) → FileTells p input (Err g))
       → ((content : Result Content CardFault) → FileTells p input content
       → Acts stands is_clean is_live leaves is_same is_same_of (λ (done : Imported). done) old new (Err f)
-      (imported (caller_number caller) (part_number p) input content))
-      → Serves stands is_clean is_live leaves is_same old new true (Err (store_fault f)) (Imports caller p input)
+      (import_step (caller_number caller) (part_number p) input content))
+      → Serves stands is_clean is_live leaves is_same old new true (Err (fault_of_store f)) (Imports caller p input)
   import_refused old new caller p input f unreadable readable acts =
       let c = some_content p input in
-      let step = imported (caller_number caller) (part_number p) input c.0 in
-      served_as stands is_clean is_live leaves is_same old new true (Err (store_fault f)) (λ s. Steps imported_told (step s))
+      let step = import_step (caller_number caller) (part_number p) input c.0 in
+      served_as stands is_clean is_live leaves is_same old new true (Err (fault_of_store f)) (λ s. Steps imported_told (step s))
       (Imports caller p input)
       (λ s answer after does. (c.0, c.1, does))
       (refused_by (λ (done : Imported). done) imported_told old new f step
@@ -257,11 +257,11 @@ module _ {K : Type 0} (stands : K → State → Type 0) (is_clean is_live : K �
   pub import_taken : (old new : K) (caller : Caller) (p : Part) (input : List ℕ) (x : Imported)
       → ((content : Result Content CardFault) → FileTells p input content
       → Acts stands is_clean is_live leaves is_same is_same_of (λ (done : Imported). done) old new (Ok x)
-      (imported (caller_number caller) (part_number p) input content))
+      (import_step (caller_number caller) (part_number p) input content))
       → Serves stands is_clean is_live leaves is_same old new true (Ok (imported_told x)) (Imports caller p input)
   import_taken old new caller p input x acts =
       let c = some_content p input in
-      let step = imported (caller_number caller) (part_number p) input c.0 in
+      let step = import_step (caller_number caller) (part_number p) input c.0 in
       served_as stands is_clean is_live leaves is_same old new true (Ok (imported_told x)) (λ s. Steps imported_told (step s))
       (Imports caller p input)
       (λ s answer after does. (c.0, c.1, does))
@@ -271,21 +271,21 @@ module _ {K : Type 0} (stands : K → State → Type 0) (is_clean is_live : K �
 pub import_asks : {K : Type 0} (old new : K) (caller : Caller) (p : Part) (input : List ℕ) (f : StoreFault)
     → ((g : CardFault) → FileTells p input (Err g) → ((answered f ≡ Err store.Memory) ⊎ (answered f ≡ Err (store.Card g))) × (new ≡ old))
     → ((g : CardFault) → answered f ≡ Err (store.Card g) → FileTells p input (Err g))
-    → AsksOnly old new (IsSound (task.Import caller p) input) (IsFaulty (task.Import caller p) input) (Err (store_fault f))
+    → AsksOnly old new (IsSound (task.Import caller p) input) (IsFaulty (task.Import caller p) input) (Err (fault_of_store f))
 import_asks old new caller p input f unreadable readable = by (some_content p input).0 (some_content p input).1 (of_store f)
   where
     said : (g : CardFault) → FileTells p input (Err g) → (answered f ≡ Err store.Memory) ⊎ (answered f ≡ Err (store.Card g))
-        → IsUnread (IsFaulty (task.Import caller p) input) (Err (store_fault f))
-    said g is (inl e) = (let same : f ≡ store.Memory = cc in inr (ap store_fault same))
-    said g is (inr e) = (let same : f ≡ store.Card g = cc in inl (g, is, ap store_fault same))
+        → IsUnread (IsFaulty (task.Import caller p) input) (Err (fault_of_store f))
+    said g is (inl e) = (let same : f ≡ store.Memory = cc in inr (ap fault_of_store same))
+    said g is (inr e) = (let same : f ≡ store.Card g = cc in inl (g, is, ap fault_of_store same))
 
     faulty_file : (g : CardFault) → FileTells p input (Err g)
-        → AsksOnly old new (IsSound (task.Import caller p) input) (IsFaulty (task.Import caller p) input) (Err (store_fault f))
+        → AsksOnly old new (IsSound (task.Import caller p) input) (IsFaulty (task.Import caller p) input) (Err (fault_of_store f))
     faulty_file g is = (let un = unreadable g is in inr (un.1, said g is un.0))
 
     by : (content : Result Content CardFault) → FileTells p input content
-        → IsOfArchive (Err (store_fault f)) ⊎ ((g : CardFault) × (f ≡ store.Card g))
-        → AsksOnly old new (IsSound (task.Import caller p) input) (IsFaulty (task.Import caller p) input) (Err (store_fault f))
+        → IsOfArchive (Err (fault_of_store f)) ⊎ ((g : CardFault) × (f ≡ store.Card g))
+        → AsksOnly old new (IsSound (task.Import caller p) input) (IsFaulty (task.Import caller p) input) (Err (fault_of_store f))
     by (Ok content) is (inl archive) = inl ((content, is), archive)
     by (Ok content) is (inr (g, e)) = faulty_file g (readable g (ap answered e))
     by (Err g) is of = faulty_file g is

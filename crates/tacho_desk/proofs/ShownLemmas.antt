@@ -7,9 +7,9 @@ use Rattle.tacho_rules.specs.Report.{IsReport}
 use Rattle.tacho_rules.specs.declared.report.Report.{Report}
 use Rattle.tacho_stretches.specs.Start.{IsEndOfHeld}
 use Rattle.tacho_stretches.specs.Stretches.{AreStretches, Judged}
-use Rattle.tacho_state.specs.Reported.{AreStretchesOf, IsHeldWithin, IsReportOf}
+use Rattle.tacho_state.specs.Reported.{AreStretchesOf, IsHeldWithin, IsDriverReport}
 use Rattle.tacho_state.specs.State.{Driver, State, driver_of, held_spans}
-use Rattle.tacho_state.specs.Steps.{named, reported, told_of}
+use Rattle.tacho_state.specs.Steps.{name_reading, report_reading, reading_of}
 use Rattle.tacho_sheet.specs.Form.{IsForm}
 use Rattle.tacho_sheet.specs.Reports.{AgreeIn, AreBounds, IsGapText, IsMonthSheet, IsSpanCsv}
 use Rattle.tacho_sheet.proofs.MarkLemmas.{form_same, gap_text_same, month_sheet_same, span_csv_same}
@@ -28,30 +28,30 @@ agree_in month start past a b bounds e first end others =
 module _ (month start past : ℕ) (bounds : AreBounds month start past) where
   -- the text of a month
   month_shown : (Is : List Span → List ℕ → Type 0) → ((a b : List Span) (text : List ℕ) → AgreeIn month a b → Is a text → Is b text)
-      → (o : Option Driver) (line : List Span) (text : List ℕ) → told_of {A = Unit {0}} (λ d. Ok tt) o ≡ Ok tt
+      → (o : Option Driver) (line : List Span) (text : List ℕ) → reading_of {A = Unit {0}} (λ d. Ok tt) o ≡ Ok tt
       → IfSome o (λ d. AgreeWithin start past line (held_spans d)) → Is line text → IsTextOf (λ d. Is (held_spans d)) o (Ok (Long text))
   month_shown Is same None line text e within is = cc
   month_shown Is same (Some d) line text e within is =
       same line (held_spans d) text (agree_in month start past line (held_spans d) bounds within) is
 
   -- the CSV of what the driver holds
-  pub spans_shown : (n : ℕ) (s : State) (line : List Span) (text : List ℕ) → reported n s ≡ Ok tt → IsHeldWithin n start past s line
+  pub spans_shown : (n : ℕ) (s : State) (line : List Span) (text : List ℕ) → report_reading n s ≡ Ok tt → IsHeldWithin n start past s line
       → IsSpanCsv line month text → IsTextOf (λ d. IsSpanCsv (held_spans d) month) (driver_of n s) (Ok (Long text))
   spans_shown n s line text = month_shown (λ line. IsSpanCsv line month) (λ a b. span_csv_same a b month) (driver_of n s) line text
 
   -- the text of what the driver doesn't hold
-  pub gaps_shown : (n : ℕ) (s : State) (line : List Span) (text : List ℕ) → reported n s ≡ Ok tt → IsHeldWithin n start past s line
+  pub gaps_shown : (n : ℕ) (s : State) (line : List Span) (text : List ℕ) → report_reading n s ≡ Ok tt → IsHeldWithin n start past s line
       → IsGapText line month text → IsTextOf (λ d. IsGapText (held_spans d) month) (driver_of n s) (Ok (Long text))
   gaps_shown n s line text = month_shown (λ line. IsGapText line month) (λ a b. gap_text_same a b month) (driver_of n s) line text
 
   -- a sheet of the driver's name, of the line and of the report is the driver's sheet
   sheet_of : (n : ℕ) (o : Option Driver) (name : List ℕ) (line : List Span) (report : Report) (text : List ℕ)
-      → told_of (λ d. Ok d.name) o ≡ Ok name → IfSome o (λ d. AgreeWithin start past line (held_spans d))
+      → reading_of (λ d. Ok d.name) o ≡ Ok name → IfSome o (λ d. AgreeWithin start past line (held_spans d))
       → IfSome o (λ d. IsReport (held_spans d) (1440 * d.base) report.horizon report.breaches.items report.debts.items)
       → IsMonthSheet n name line report.breaches.items report.horizon month text
       → IsTextOf (λ d. OfReport (λ breaches debts horizon. IsMonthSheet n d.name (held_spans d) breaches horizon month) d) o (Ok (Long text))
-  sheet_of n None name line report text named within r is = cc
-  sheet_of n (Some d) name line report text named within r is =
+  sheet_of n None name line report text name_reading within r is = cc
+  sheet_of n (Some d) name line report text name_reading within r is =
       let his : name ≡ d.name = cc in (
         report.horizon,
         report.breaches.items,
@@ -64,7 +64,7 @@ module _ (month start past : ℕ) (bounds : AreBounds month start past) where
 
   -- the sheet of the driver with a number
   pub sheet_shown : (n : ℕ) (s : State) (name : List ℕ) (line : List Span) (report : Report) (text : List ℕ)
-      → named n s ≡ Ok name → IsHeldWithin n start past s line → IsReportOf n s report
+      → name_reading n s ≡ Ok name → IsHeldWithin n start past s line → IsDriverReport n s report
       → IsMonthSheet n name line report.breaches.items report.horizon month text
       → IsTextOf (λ d. OfReport (λ breaches debts horizon. IsMonthSheet n d.name (held_spans d) breaches horizon month) d) (driver_of n s) (Ok (Long text))
   sheet_shown n s name line report text = sheet_of n (driver_of n s) name line report text
@@ -73,13 +73,13 @@ module _ (month start past : ℕ) (bounds : AreBounds month start past) where
 
 -- a text of the stretches of a driver
 of_stretches : (Is : List Judged → List ℕ → Type 0) (o : Option Driver) (stretches : List Judged) (text : List ℕ)
-    → told_of {A = Unit {0}} (λ d. Ok tt) o ≡ Ok tt → IfSome o (λ d. AreStretches (held_spans d) (1440 * d.base) stretches)
+    → reading_of {A = Unit {0}} (λ d. Ok tt) o ≡ Ok tt → IfSome o (λ d. AreStretches (held_spans d) (1440 * d.base) stretches)
     → Is stretches text → IsTextOf (OfStretches Is) o (Ok (Long text))
 of_stretches Is None stretches text there are is = cc
 of_stretches Is (Some d) stretches text there are is = (stretches, are, is)
 
 pub stretches_shown : (Is : List Judged → List ℕ → Type 0) (n : ℕ) (s : State) (stretches : List Judged) (text : List ℕ)
-    → reported n s ≡ Ok tt → AreStretchesOf n s stretches → Is stretches text → IsTextOf (OfStretches Is) (driver_of n s) (Ok (Long text))
+    → report_reading n s ≡ Ok tt → AreStretchesOf n s stretches → Is stretches text → IsTextOf (OfStretches Is) (driver_of n s) (Ok (Long text))
 stretches_shown Is n s stretches text = of_stretches Is (driver_of n s) stretches text
 
 -- the range for which a form is made goes from the base to the end of what is held
@@ -89,7 +89,7 @@ AreEnds stretches start past =
 
 -- the form of a driver
 form_of : (o : Option Driver) (stretches : List Judged) (start past : ℕ) (line : List Span) (text : List ℕ)
-    → told_of {A = Unit {0}} (λ d. Ok tt) o ≡ Ok tt → IfSome o (λ d. AreStretches (held_spans d) (1440 * d.base) stretches)
+    → reading_of {A = Unit {0}} (λ d. Ok tt) o ≡ Ok tt → IfSome o (λ d. AreStretches (held_spans d) (1440 * d.base) stretches)
     → AreEnds stretches start past → IfSome o (λ d. AgreeWithin start past line (held_spans d)) → IsForm line start past text
     → IsTextOf IsFormOf o (Ok (Long text))
 form_of None stretches start past line text there are ends within is = cc
@@ -102,7 +102,7 @@ form_of (Some d) stretches start past line text there are ends within is =
           (subst (λ (base : ℕ). IsForm (held_spans d) base past text) both.0 his),
     )
 
-pub form_shown : (n : ℕ) (s : State) (stretches : List Judged) (start past : ℕ) (line : List Span) (text : List ℕ) → reported n s ≡ Ok tt
+pub form_shown : (n : ℕ) (s : State) (stretches : List Judged) (start past : ℕ) (line : List Span) (text : List ℕ) → report_reading n s ≡ Ok tt
     → AreStretchesOf n s stretches → AreEnds stretches start past → IsHeldWithin n start past s line → IsForm line start past text
     → IsTextOf IsFormOf (driver_of n s) (Ok (Long text))
 form_shown n s stretches start past line text = form_of (driver_of n s) stretches start past line text

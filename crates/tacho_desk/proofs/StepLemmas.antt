@@ -2,8 +2,8 @@
 use Rattle.std.proofs.Common.{◌≡◌, ◌+◌, ◌++◌, ℕ, Bool, true, false, List, Option, Some, None, Result, Ok, Err, ap, refl, if◌then◌else◌, is_some, length, nat_lt}
 use Rattle.tacho_card.specs.declared.fault.CardFault.{CardFault}
 use Rattle.tacho_state.specs.Least.{least_conflict}
-use Rattle.tacho_state.specs.State.{Driver, Entry, State, driver_of, entered_spans, entry_from, held_spans, holding, keyed}
-use Rattle.tacho_state.specs.Steps.{Content, Own, Turn, entered, entered_by, enter_own, imported, import_his, import_own, is_monday, most, own_turn, rebased, rebase_own, refused, registered, settled, withdrawn, withdrawn_by, withdraw_own}
+use Rattle.tacho_state.specs.State.{Driver, Entry, State, driver_of, entered_spans, entry_from, held_spans, holding, driver_with_key}
+use Rattle.tacho_state.specs.Steps.{Content, Own, Turn, enter_step, entered_by, enter_own, import_step, import_by_driver, import_own, is_monday, most_records, own_turn, rebase_step, rebase_own, refusal_turn, register_step, turn_of, withdraw_step, withdrawn_by, withdraw_own}
 use Rattle.tacho_state.specs.declared.fault.StoreFault.{StoreFault}
 use Rattle.tacho_state.specs.declared.fault.StoreFault.TheVariants.{Card, DriverTaken, KeyTaken, HolderTaken, NotMonday}
 
@@ -11,7 +11,7 @@ abbrev pub Keeps : {A : Type 0} → State → Turn A → Type 0
 Keeps s turn = (f : StoreFault) → turn.answer ≡ Err f → turn.after ≡ s
 
 -- so does one driver's command
-settled_keeps : {A : Type 0} (s : State) (r : Result (A × Driver) StoreFault) → Keeps s (settled s r)
+settled_keeps : {A : Type 0} (s : State) (r : Result (A × Driver) StoreFault) → Keeps s (turn_of s r)
 settled_keeps s (Ok told) f e = cc
 settled_keeps s (Err g) f e = refl
 
@@ -26,33 +26,33 @@ either_keeps s true turn other h k = h
 either_keeps s false turn other h k = k
 
 -- a refusal keeps the state
-refused_keeps : {A : Type 0} (s : State) (g : StoreFault) → Keeps {A = A} s (refused g s)
+refused_keeps : {A : Type 0} (s : State) (g : StoreFault) → Keeps {A = A} s (refusal_turn g s)
 refused_keeps s g f e = refl
 
 -- a registration
-pub registered_keeps : (number : ℕ) (holder key : List ℕ) (base : ℕ) (name : List ℕ) (s : State) → Keeps s (registered number holder key base name s)
+pub registered_keeps : (number : ℕ) (holder key : List ℕ) (base : ℕ) (name : List ℕ) (s : State) → Keeps s (register_step number holder key base name s)
 registered_keeps number holder key base name s =
     either_keeps s (is_some (driver_of number s)) _ _ (refused_keeps s DriverTaken)
-    (either_keeps s (is_some (keyed key s)) _ _ (refused_keeps s KeyTaken)
+    (either_keeps s (is_some (driver_with_key key s)) _ _ (refused_keeps s KeyTaken)
     (either_keeps s (is_some (holding holder s)) _ _ (refused_keeps s HolderTaken)
     (either_keeps s (is_monday base) _ _ (λ f e. cc) (refused_keeps s NotMonday))))
 
 -- an import, for the office or a driver
-pub imported_keeps : (caller : Option ℕ) (part : ℕ) (file : List ℕ) (content : Result Content CardFault) (s : State) → Keeps s (imported caller part file content s)
+pub imported_keeps : (caller : Option ℕ) (part : ℕ) (file : List ℕ) (content : Result Content CardFault) (s : State) → Keeps s (import_step caller part file content s)
 imported_keeps caller part file (Err fault) s f e = refl
 imported_keeps None part file (Ok content) s f e = own_keeps (import_own part file content.spans) s (holding content.holder s) f e
-imported_keeps (Some n) part file (Ok content) s f e = own_keeps (import_his part file content) s (driver_of n s) f e
+imported_keeps (Some n) part file (Ok content) s f e = own_keeps (import_by_driver part file content) s (driver_of n s) f e
 
 -- a batch of hours
-pub entered_keeps : (n : ℕ) (batch : List Entry) (s : State) → Keeps s (entered n batch s)
+pub entered_keeps : (n : ℕ) (batch : List Entry) (s : State) → Keeps s (enter_step n batch s)
 entered_keeps n batch s = own_keeps (enter_own batch) s (driver_of n s)
 
 -- a withdrawal
-pub withdrawn_keeps : (n number : ℕ) (s : State) → Keeps s (withdrawn n number s)
+pub withdrawn_keeps : (n number : ℕ) (s : State) → Keeps s (withdraw_step n number s)
 withdrawn_keeps n number s = own_keeps (withdraw_own number) s (driver_of n s)
 
 -- a change of a base
-pub rebased_keeps : (n base : ℕ) (s : State) → Keeps s (rebased n base s)
+pub rebased_keeps : (n base : ℕ) (s : State) → Keeps s (rebase_step n base s)
 rebased_keeps n base s = own_keeps (rebase_own base) s (driver_of n s)
 
 -- ---- only an import reports the fault of a file
@@ -61,7 +61,7 @@ abbrev pub TellsNoFile : {A : Type 0} → Result A StoreFault → Type 0
 TellsNoFile r = (f : CardFault) → r ≡ Err (Card f) → ⊥
 
 -- one driver's command
-none_settled : {A : Type 0} (s : State) (r : Result (A × Driver) StoreFault) → TellsNoFile r → TellsNoFile (settled s r).answer
+none_settled : {A : Type 0} (s : State) (r : Result (A × Driver) StoreFault) → TellsNoFile r → TellsNoFile (turn_of s r).answer
 none_settled s (Ok told) h f e = cc
 none_settled s (Err g) h f e = h f (let same : g ≡ Card f = cc in ap Err same)
 
@@ -83,20 +83,20 @@ none_turned false turn other h k = k
 
 -- a registration
 pub registered_tells_no_file : (number : ℕ) (holder key : List ℕ) (base : ℕ) (name : List ℕ) (s : State)
-    → TellsNoFile (registered number holder key base name s).answer
+    → TellsNoFile (register_step number holder key base name s).answer
 registered_tells_no_file number holder key base name s =
     none_turned (is_some (driver_of number s)) _ _ (λ f e. cc)
-    (none_turned (is_some (keyed key s)) _ _ (λ f e. cc)
+    (none_turned (is_some (driver_with_key key s)) _ _ (λ f e. cc)
     (none_turned (is_some (holding holder s)) _ _ (λ f e. cc)
     (none_turned (is_monday base) _ _ (λ f e. cc) (λ f e. cc))))
 
 -- a batch that contradicts, is too large, or is entered
 none_entered : (batch : List Entry) (d : Driver) (o : Option ℕ) → TellsNoFile (entered_by batch d o)
 none_entered batch d (Some m) = λ f e. cc
-none_entered batch d None = none_either (nat_lt most (length d.entries + length batch)) _ _ (λ f e. cc) (λ f e. cc)
+none_entered batch d None = none_either (nat_lt most_records (length d.entries + length batch)) _ _ (λ f e. cc) (λ f e. cc)
 
 -- a batch of hours
-pub entered_tells_no_file : (n : ℕ) (batch : List Entry) (s : State) → TellsNoFile (entered n batch s).answer
+pub entered_tells_no_file : (n : ℕ) (batch : List Entry) (s : State) → TellsNoFile (enter_step n batch s).answer
 entered_tells_no_file n batch s = none_own (enter_own batch) s (driver_of n s)
     (λ d. none_entered batch d (least_conflict (held_spans d ++ entered_spans batch)))
 
@@ -106,10 +106,10 @@ none_withdrawn number d None = λ f e. cc
 none_withdrawn number d (Some entry) = none_either entry.withdrawn _ _ (λ f e. cc) (λ f e. cc)
 
 -- a withdrawal
-pub withdrawn_tells_no_file : (n number : ℕ) (s : State) → TellsNoFile (withdrawn n number s).answer
+pub withdrawn_tells_no_file : (n number : ℕ) (s : State) → TellsNoFile (withdraw_step n number s).answer
 withdrawn_tells_no_file n number s = none_own (withdraw_own number) s (driver_of n s) (λ d. none_withdrawn number d (entry_from 1 number d.entries))
 
 -- a change of a base
-pub rebased_tells_no_file : (n base : ℕ) (s : State) → TellsNoFile (rebased n base s).answer
+pub rebased_tells_no_file : (n base : ℕ) (s : State) → TellsNoFile (rebase_step n base s).answer
 rebased_tells_no_file n base s = none_own (rebase_own base) s (driver_of n s)
     (λ d. none_either (is_monday base) _ _ (λ f e. cc) (λ f e. cc))

@@ -7,7 +7,7 @@ use Rattle.tacho_state.specs.Steps.{Turn}
 use Rattle.tacho_sheet.specs.declared.fault.Fault.TheVariants as told
 use Rattle.tacho_desk.specs.declared.fault.Fault.{Fault}
 use Rattle.tacho_desk.specs.declared.fault.Fault.TheVariants as fault
-use Rattle.tacho_desk.specs.Fault.{IsGivenUp, store_fault}
+use Rattle.tacho_desk.specs.Fault.{IsFailure, fault_of_store}
 use Rattle.tacho_desk.specs.Told.{Answer, Told, Long}
 
 -- a relation between the answer and the state after it
@@ -21,7 +21,7 @@ Refuses f s answer after = (answer ≡ Err f) × (after ≡ s)
 -- the archive's answer, as text
 abbrev pub in_words : {A : Type 0} → (A → Told) → Result A StoreFault → Answer
 in_words words (Ok x) = Ok (words x)
-in_words words (Err f) = Err (store_fault f)
+in_words words (Err f) = Err (fault_of_store f)
 
 -- a step of the archive, with its answer as text; a step that is refused leaves the state as it was
 abbrev pub Steps : {A : Type 0} → (A → Told) → Turn A → Doing
@@ -38,7 +38,7 @@ IsText Is answer = ⊥
 
 -- the answer is a text with this property for the driver; S4 if there is none
 abbrev pub IsTextOf : (Driver → List ℕ → Type 0) → Option Driver → Answer → Type 0
-IsTextOf Is None answer = answer ≡ Err (store_fault store.UnknownDriver)
+IsTextOf Is None answer = answer ≡ Err (fault_of_store store.UnknownDriver)
 IsTextOf Is (Some d) answer = IsText (Is d) answer
 
 -- the answer is a text for the driver with the number; the state stays as it was
@@ -51,19 +51,19 @@ Shows Is n s answer after = IsTextOf Is (driver_of n s) answer × (after ≡ s)
 -- and the fault is one that the task allows, or memory ran out, or the store failed
 abbrev pub Done : (State → Type 0) → State → Doing → Answer → Type 0
 Done stands s Does (Ok told) = (after : State) × stands after × Does (Ok told) after
-Done stands s Does (Err f) = stands s × (Does (Err f) s ⊎ IsGivenUp f)
+Done stands s Does (Err f) = stands s × (Does (Err f) s ⊎ IsFailure f)
 
 -- on success the result is durable: a crash leaves the state after it and no other
-abbrev pub IsKept : (State → Type 0) → (List State → Type 0) → Doing → Answer → Type 0
-IsKept stands leaves Does (Ok told) = (after : State) × stands after × Does (Ok told) after × leaves (after ∷ [])
-IsKept stands leaves Does (Err f) = Unit {0}
+abbrev pub IsDurable : (State → Type 0) → (List State → Type 0) → Doing → Answer → Type 0
+IsDurable stands leaves Does (Ok told) = (after : State) × stands after × Does (Ok told) after × leaves (after ∷ [])
+IsDurable stands leaves Does (Err f) = Unit {0}
 
 -- a crash may leave what it could leave before the call; and on success also the state after the answer; and if memory ran out or the store
 -- failed, also the state after some answer that the task allows
-abbrev pub Stops : (List State → Type 0) → List State → Doing → Answer → Type 0
-Stops leaves past Does (Ok told) = leaves past ⊎ ((after : State) × Does (Ok told) after × leaves (after ∷ past))
-Stops leaves past Does (Err f) =
-    leaves past ⊎ (IsGivenUp f × ((answer : Answer) × (after : State) × Does answer after × leaves (after ∷ past)))
+abbrev pub CrashMayLeave : (List State → Type 0) → List State → Doing → Answer → Type 0
+CrashMayLeave leaves past Does (Ok told) = leaves past ⊎ ((after : State) × Does (Ok told) after × leaves (after ∷ past))
+CrashMayLeave leaves past Does (Err f) =
+    leaves past ⊎ (IsFailure f × ((answer : Answer) × (after : State) × Does answer after × leaves (after ∷ past)))
 
 -- the call is a reading, or it is refused, and so changes nothing
 abbrev pub ChangesNothing : Bool → Answer → Type 0
@@ -79,9 +79,9 @@ pub record Serves {K : Type 0} (stands : K → State → Type 0) (is_clean is_li
   pub live : is_clean new → OnOk answer (is_live new)
   pub done : is_clean new → (s : State) → stands old s → Done (stands new) s (Does s) answer
   pub same : ChangesNothing command answer → is_clean new → (s : State) → stands old s → is_same old new
-  pub kept : command ≡ true → is_clean new → (s : State) → stands old s → IsKept (stands new) (leaves new) (Does s) answer
+  pub kept : command ≡ true → is_clean new → (s : State) → stands old s → IsDurable (stands new) (leaves new) (Does s) answer
   pub crash : is_clean new → (s : State) (past : List State) → stands old s → leaves old past
-      → Stops (leaves new) past (Does s) answer
+      → CrashMayLeave (leaves new) past (Does s) answer
 
 -- ---- access to the archive
 

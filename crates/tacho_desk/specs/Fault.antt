@@ -23,9 +23,9 @@ abbrev pub card_fault : CardFault → Fault
 card_fault card.Memory = fault.Memory
 card_fault f = fault.Told (told.Card f)
 
-abbrev pub store_fault : StoreFault → Fault
-store_fault store.Memory = fault.Memory
-store_fault f = fault.Told (told.Store f)
+abbrev pub fault_of_store : StoreFault → Fault
+fault_of_store store.Memory = fault.Memory
+fault_of_store f = fault.Told (told.Store f)
 
 abbrev pub sheet_fault : SheetFault → Fault
 sheet_fault sheet.Memory = fault.Memory
@@ -35,7 +35,7 @@ abbrev pub time_fault : TimeFault → Fault
 time_fault f = fault.Told (told.Time f)
 
 -- out of memory, or the store failed
-abbrev pub IsGivenUp : Fault → Type 0
-IsGivenUp fault.Memory = Unit {0}
-IsGivenUp (fault.Told (told.Store store.Store)) = Unit {0}
-IsGivenUp f = ⊥
+abbrev pub IsFailure : Fault → Type 0
+IsFailure fault.Memory = Unit {0}
+IsFailure (fault.Told (told.Store store.Store)) = Unit {0}
+IsFailure f = ⊥

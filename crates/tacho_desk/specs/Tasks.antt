@@ -13,13 +13,13 @@ use Rattle.tacho_state.specs.Batch.{batch_of}
 use Rattle.tacho_state.specs.Content.{FileTells, part_number}
 use Rattle.tacho_state.specs.Registration.{Registration}
 use Rattle.tacho_state.specs.State.{Driver, State, driver_of, held_spans}
-use Rattle.tacho_state.specs.Steps.{Content, registered, imported, entered, withdrawn, rebased, listed, downloaded}
+use Rattle.tacho_state.specs.Steps.{Content, register_step, import_step, enter_step, withdraw_step, rebase_step, entries_reading, file_reading}
 use Rattle.tacho_state.specs.Summaries.{AreSummaries, Summary}
 use Rattle.tacho_state.specs.declared.caller.Caller.{Caller}
 use Rattle.tacho_state.specs.declared.entry.EntryLine.{EntryLine}
 use Rattle.tacho_state.specs.declared.fault.StoreFault.TheVariants as store
 use Rattle.tacho_state.specs.declared.imported.Imported.{Imported}
-use Rattle.tacho_state.specs.declared.imported.Imported.TheVariants as imported
+use Rattle.tacho_state.specs.declared.imported.Imported.TheVariants as import_step
 use Rattle.tacho_sheet.specs.declared.fault.SheetFault.{SheetFault}
 use Rattle.tacho_sheet.specs.declared.fault.SheetFault.TheVariants as sheet
 use Rattle.tacho_sheet.specs.Done.{base_line, entered_text, imported_text, number_line}
@@ -31,7 +31,7 @@ use Rattle.tacho_sheet.specs.Stretches.{stretch_text, debt_text}
 use Rattle.tacho_sheet.specs.Reports.{breach_text, owed_text, IsGapText, IsMonthSheet, IsSpanCsv}
 use Rattle.tacho_sheet.specs.Text.{entry_line, summary_line}
 use Rattle.tacho_desk.specs.Doing.{Doing, IsText, Lists, Refuses, Shows, Steps}
-use Rattle.tacho_desk.specs.Fault.{sheet_fault, store_fault}
+use Rattle.tacho_desk.specs.Fault.{sheet_fault, fault_of_store}
 use Rattle.tacho_desk.specs.Told.{Told, Added, Line, Long, File}
 use Rattle.tacho_desk.specs.declared.fault.Fault.{Fault}
 use Rattle.tacho_desk.specs.declared.task.Task.{Task}
@@ -54,21 +54,21 @@ OrCsv Is read = Is read ⊎ (read ≡ Err sheet.Csv)
 -- the fault E1, E2, E8 or E9; or the step of the registration
 abbrev pub RegistersRead : State → Result Registration SheetFault → Doing
 RegistersRead s (Err f) = Refuses (sheet_fault f) s
-RegistersRead s (Ok r) = Steps (λ _. Added (number_line (codes "registered ") r.number)) (registered r.number r.holder r.key r.base r.name s)
+RegistersRead s (Ok r) = Steps (λ _. Added (number_line (codes "register_step ") r.number)) (register_step r.number r.holder r.key r.base r.name s)
 
 abbrev pub Registers : List ℕ → State → Doing
 Registers input s answer after = (read : Result Registration SheetFault) × OrCsv (IsDriverRead input) read × RegistersRead s read answer after
 
 -- the answer for a file that was added, or one that was there already
 abbrev pub imported_told : Imported → Told
-imported_told (imported.Added driver number) = Added (imported_text (imported.Added driver number))
-imported_told (imported.Repeated driver) = Line (imported_text (imported.Repeated driver))
+imported_told (import_step.Added driver number) = Added (imported_text (import_step.Added driver number))
+imported_told (import_step.Repeated driver) = Line (imported_text (import_step.Repeated driver))
 
 -- the step of an import for a caller
 abbrev pub Imports : Caller → Part → List ℕ → State → Doing
 Imports caller p input s answer after =
     (content : Result Content CardFault) × FileTells p input content
-    × Steps imported_told (imported (caller_number caller) (part_number p) input content s) answer after
+    × Steps imported_told (import_step (caller_number caller) (part_number p) input content s) answer after
 
 -- the answer for the entries of a batch, or for an empty batch
 abbrev pub entered_told : ℕ → ℕ → Told
@@ -77,16 +77,16 @@ entered_told first count = if count == 0 then Line (entered_text first count) el
 -- the fault, one of E1 to E8 or E10; or the step of the batch
 abbrev pub EntersRead : ℕ → State → Lines → Doing
 EntersRead n s (Err f) = Refuses (sheet_fault f) s
-EntersRead n s (Ok lines) = Steps (λ first. entered_told first (length lines)) (entered n (batch_of lines) s)
+EntersRead n s (Ok lines) = Steps (λ first. entered_told first (length lines)) (enter_step n (batch_of lines) s)
 
 abbrev pub Enters : ℕ → List ℕ → State → Doing
 Enters n input s answer after = (read : Lines) × OrCsv (IsRead input) read × EntersRead n s read answer after
 
 abbrev pub Withdraws : ℕ → ℕ → State → Doing
-Withdraws n number s = Steps (λ _. Line (number_line (codes "withdrawn ") number)) (withdrawn n number s)
+Withdraws n number s = Steps (λ _. Line (number_line (codes "withdraw_step ") number)) (withdraw_step n number s)
 
 abbrev pub Rebases : ℕ → ℕ → State → Doing
-Rebases n day s = Steps (λ _. Line (base_line day)) (rebased n day s)
+Rebases n day s = Steps (λ _. Line (base_line day)) (rebase_step n day s)
 
 -- ---- readings
 
@@ -108,7 +108,7 @@ IsFormOf d text = (end : ℕ) × IsEndOfHeld (held_spans d) (1440 * d.base) end 
 abbrev pub ShowsReading : Reading → ℕ → State → Doing
 ShowsReading reading.Breaches n s = Shows (OfReport (λ breaches debts horizon text. text ≡ breach_text breaches horizon)) n s
 ShowsReading reading.Owed n s = Shows (OfReport (λ breaches debts horizon text. text ≡ owed_text debts horizon)) n s
-ShowsReading reading.Entries n s = Lists (λ entries. Long (flat_map entry_line entries)) s (listed n s)
+ShowsReading reading.Entries n s = Lists (λ entries. Long (flat_map entry_line entries)) s (entries_reading n s)
 ShowsReading reading.Stretches n s = Shows (OfStretches (λ stretches text. text ≡ stretch_text stretches)) n s
 ShowsReading reading.Debts n s = Shows (OfStretches (λ stretches text. text ≡ debt_text stretches)) n s
 ShowsReading reading.Form n s = Shows IsFormOf n s
@@ -120,7 +120,7 @@ ShowsMonth month.Gaps m n s = Shows (λ d. IsGapText (held_spans d) m) n s
 ShowsMonth month.Sheet m n s = Shows (λ d. OfReport (λ breaches debts horizon. IsMonthSheet n d.name (held_spans d) breaches horizon m) d) n s
 
 abbrev pub ShowsFile : ℕ → ℕ → State → Doing
-ShowsFile n number s = Lists (λ file. File file) s (downloaded n number s)
+ShowsFile n number s = Lists (λ file. File file) s (file_reading n number s)
 
 -- the list of all drivers, a line for each, in the order of their numbers
 abbrev pub ShowsDrivers : State → Doing
@@ -130,9 +130,9 @@ ShowsDrivers s answer after =
 -- the texts of the listed drivers, in sequence
 abbrev pub AreOfEach : (Summary → Driver → List ℕ → Type 0) → State → List Summary → List ℕ → Type 0
 AreOfEach Is s [] text = text ≡ []
-AreOfEach Is s (x ∷ listed) text =
+AreOfEach Is s (x ∷ entries_reading) text =
     (d : Driver) × (driver_of x.number s ≡ Some d)
-    × (front : List ℕ) × (back : List ℕ) × (text ≡ front ++ back) × Is x d front × AreOfEach Is s listed back
+    × (front : List ℕ) × (back : List ℕ) × (text ≡ front ++ back) × Is x d front × AreOfEach Is s entries_reading back
 
 -- a head, and a text of each driver of the state, in the order of their numbers
 abbrev pub IsOfAll : List ℕ → (Summary → Driver → List ℕ → Type 0) → State → List ℕ → Type 0
@@ -187,6 +187,6 @@ IsSound t input = Unit {0}
 -- the input has this fault
 abbrev pub IsFaulty : Task → List ℕ → Fault → Type 0
 IsFaulty task.Register input f = (e : SheetFault) × OrCsv (IsDriverRead input) (Err e) × (f ≡ sheet_fault e)
-IsFaulty (task.Import caller part) input f = (e : CardFault) × FileTells part input (Err e) × (f ≡ store_fault (store.Card e))
+IsFaulty (task.Import caller part) input f = (e : CardFault) × FileTells part input (Err e) × (f ≡ fault_of_store (store.Card e))
 IsFaulty (task.Enter n) input f = (e : SheetFault) × OrCsv (IsRead input) (Err e) × (f ≡ sheet_fault e)
 IsFaulty t input f = ⊥

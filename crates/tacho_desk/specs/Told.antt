@@ -18,16 +18,16 @@ bytes_of (Line line) = line
 bytes_of (Long text) = text
 bytes_of (File bytes) = bytes
 
-abbrev pub told_of : Text → Told
-told_of (text.Added line) = Added line.items
-told_of (text.Line line) = Line line.items
-told_of (text.Long string) = Long (string_bytes string)
-told_of (text.File bytes) = File bytes.items
+abbrev pub told_text : Text → Told
+told_text (text.Added line) = Added line.items
+told_text (text.Line line) = Line line.items
+told_text (text.Long string) = Long (string_bytes string)
+told_text (text.File bytes) = File bytes.items
 
 -- the text of a success, or the fault
 abbrev pub Answer : Type 0
 Answer = Result Told Fault
 
 abbrev pub answer_of : Result Text Fault → Answer
-answer_of (Ok text) = Ok (told_of text)
+answer_of (Ok text) = Ok (told_text text)
 answer_of (Err f) = Err f

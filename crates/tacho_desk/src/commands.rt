@@ -5,7 +5,7 @@ ghost use Rattle.tacho_state.specs.Batch.{IsBatch};
 ghost use Rattle.tacho_desk.specs.Doing.{AsksOnly, IsOfArchive, Serves};
 ghost use Rattle.tacho_desk.specs.Tasks.{Enters, EntersRead, Imports, IsFaulty, IsSound, Rebases, Registers, RegistersRead, Withdraws, entered_told, imported_told};
 ghost use Rattle.tacho_desk.specs.declared.task.Task.TheVariants as task;
-ghost use Rattle.tacho_desk.specs.Told.{answer_of, told_of};
+ghost use Rattle.tacho_desk.specs.Told.{answer_of, told_text};
 
 use crate::base::BaseDay;
 use crate::fault::Fault;
@@ -60,7 +60,7 @@ pub(crate) fn import<K: Keeper>(
 
 /// The line of an import, by whether the file was added or was there already.
 fn imported_text(imported: Imported) -> Text
-    ensures { told_of result ≡ imported_told imported }
+    ensures { told_text result ≡ imported_told imported }
 {
     let line = imported_line(imported);
     match imported {
@@ -101,7 +101,7 @@ fn enter_lines<K: Keeper>(
 
 /// The line of a batch, by whether it had lines.
 fn entered_text(entered: Entered) -> Text
-    ensures { told_of result ≡ entered_told entered.first entered.count }
+    ensures { told_text result ≡ entered_told entered.first entered.count }
 {
     let line = entered_line(entered);
     if entered.count == 0 {

@@ -46,9 +46,9 @@ impl From<CardFault> for Fault {
 
 impl From<StoreFault> for Fault {
     ghost use Rattle.std.specs.Prelude.{◌≡◌};
-    ghost use Rattle.tacho_desk.specs.Fault.{store_fault};
+    ghost use Rattle.tacho_desk.specs.Fault.{fault_of_store};
 
-    ghost from_gives = { λ fault gives. gives ≡ store_fault fault };
+    ghost from_gives = { λ fault gives. gives ≡ fault_of_store fault };
 
     fn from(fault: StoreFault) -> Fault {
         match fault {

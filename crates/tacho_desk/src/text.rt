@@ -15,11 +15,11 @@ pub enum Text {
 
 impl Text {
     ghost use Rattle.std.specs.Prelude.{◌≡◌};
-    ghost use Rattle.tacho_desk.specs.Told.{bytes_of, told_of};
+    ghost use Rattle.tacho_desk.specs.Told.{bytes_of, told_text};
 
     /// The bytes of the text.
     pub fn bytes(&self) -> &[u8]
-        ensures { result.now ≡ bytes_of (told_of self.now) }
+        ensures { result.now ≡ bytes_of (told_text self.now) }
     {
         match self {
             Text::Added(line) => line.as_slice(),

@@ -3,8 +3,8 @@ ghost use Rattle.tacho_hours.specs.Weeks.{week_start};
 ghost use Rattle.tacho_pass.specs.Found.{Appends};
 ghost use Rattle.tacho_pass.specs.Kinds.{is_b1};
 ghost use Rattle.tacho_driving.specs.Periods.{BreaksStand, BreaksDefined};
-ghost use Rattle.tacho_driving.specs.Periods.{period_none, are_few, completes as completes_it, after_run, found_at, after_any};
-ghost use Rattle.tacho_driving.specs.Periods.{found_any, period_with};
+ghost use Rattle.tacho_driving.specs.Periods.{period_none, period_in_range, completes as completes_it, after_run, found_at, after_optional_run};
+ghost use Rattle.tacho_driving.specs.Periods.{found_at_optional_run, period_with};
 
 use std::alloc::AllocError;
 use tacho_hours::limits::{
@@ -46,11 +46,11 @@ impl Period {
 
     /// Adds the minutes from `from` to before `to`. Either all are driving or none is.
     fn add(&mut self, drives: bool, from: u32, to: u32)
-        requires few { IsTrue (are_few self.old from) }
+        requires few { IsTrue (period_in_range self.old from) }
         requires some { from ≤ to }
         requires early { to ≤ week_start 6788 }
         ensures with { self.new ≡ period_with drives from to self.old }
-        ensures few { IsTrue (are_few self.new to) }
+        ensures few { IsTrue (period_in_range self.new to) }
     {
         if drives {
             self.over.add(DRIVING_BEFORE_BREAK, from, to);
@@ -61,7 +61,7 @@ impl Period {
     /// Moves past a rest run, which may end the period.
     fn end(&mut self, run: Run, found: &mut Found) -> Result<(), AllocError>
         ensures after { OnOk result (self.new ≡ after_run run self.old) }
-        ensures few { (place : ℕ) → IsTrue (are_few self.old place) → IsTrue (are_few self.new place) }
+        ensures few { (place : ℕ) → IsTrue (period_in_range self.old place) → IsTrue (period_in_range self.new place) }
         ensures breaches { OnOk result (found.new.breaches.items ≡ found.old.breaches.items ++ found_at run self.old) }
         ensures appends { Appends is_b1 false found.old found.new }
     {
@@ -87,12 +87,12 @@ impl Period {
         to: u32,
         found: &mut Found,
     ) -> Result<(), AllocError>
-        requires few { IsTrue (are_few self.old from) }
+        requires few { IsTrue (period_in_range self.old from) }
         requires some { from ≤ to }
         requires early { to ≤ week_start 6788 }
-        ensures after { OnOk result (self.new ≡ period_with drives from to (after_any run self.old)) }
-        ensures few { IsTrue (are_few self.new to) }
-        ensures breaches { OnOk result (found.new.breaches.items ≡ found.old.breaches.items ++ found_any run self.old) }
+        ensures after { OnOk result (self.new ≡ period_with drives from to (after_optional_run run self.old)) }
+        ensures few { IsTrue (period_in_range self.new to) }
+        ensures breaches { OnOk result (found.new.breaches.items ≡ found.old.breaches.items ++ found_at_optional_run run self.old) }
         ensures appends { Appends is_b1 false found.old found.new }
     {
         if let Some(run) = run {
@@ -111,7 +111,7 @@ impl Judge for Period {
 
     ghost owes = { false };
 
-    ghost fits = { are_few };
+    ghost fits = { period_in_range };
 
     ghost stands = { λ p start place own owed base spans. BreaksStand start place p own owed base spans };
 

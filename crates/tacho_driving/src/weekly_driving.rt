@@ -5,7 +5,7 @@ ghost use Rattle.tacho_pass.specs.Found.{Appends};
 ghost use Rattle.tacho_pass.specs.Kinds.{is_b6_or_b7};
 ghost use Rattle.tacho_pass.specs.Counts.{count_none};
 ghost use Rattle.tacho_driving.specs.Sums.{WeekSumsStand, WeekSumsDefined};
-ghost use Rattle.tacho_driving.specs.Sums.{are_few, filled, closed, breaches_of, turned, turn_found, through, through_found};
+ghost use Rattle.tacho_driving.specs.Sums.{sums_in_range, fill_week, close_week, sum_breaches, turn_week, turn_found, through, through_found};
 
 use std::alloc::AllocError;
 use tacho_hours::limits::{DRIVING_IN_TWO_WEEKS, DRIVING_IN_WEEK};
@@ -55,11 +55,11 @@ impl Sums {
 
     /// Adds the minutes from `from` to before `to`, all in the same week. Either all are driving or none is.
     fn fill(&mut self, drives: bool, from: u32, to: u32)
-        requires few { IsTrue (are_few self.old from) }
+        requires few { IsTrue (sums_in_range self.old from) }
         requires some { from ≤ to }
         requires early { to ≤ week_start 6788 }
-        ensures filled { self.new ≡ filled drives from to self.old }
-        ensures few { IsTrue (are_few self.new to) }
+        ensures filled { self.new ≡ fill_week drives from to self.old }
+        ensures few { IsTrue (sums_in_range self.new to) }
     {
         if drives {
             self.here.add(DRIVING_IN_WEEK, from, to);
@@ -71,7 +71,7 @@ impl Sums {
     /// Moves past the end of the week.
     fn close(&mut self)
         requires { self.old.week ≤ 6786 }
-        ensures { self.new ≡ closed self.old }
+        ensures { self.new ≡ close_week self.old }
     {
         *self = Sums {
             week: self.week + 1,
@@ -84,10 +84,10 @@ impl Sums {
     /// Adds the minutes from `from` to the end of the week, and continues in the next week.
     fn turn(&mut self, drives: bool, from: u32, found: &mut Found) -> Result<(), AllocError>
         requires week { self.old.week ≤ 6786 }
-        requires few { IsTrue (are_few self.old from) }
+        requires few { IsTrue (sums_in_range self.old from) }
         requires before { from ≤ week_start (self.old.week + 2) }
-        ensures turned { OnOk result (self.new ≡ turned drives from self.old) }
-        ensures few { OnOk result (IsTrue (are_few self.new (week_start (self.old.week + 2)))) }
+        ensures turned { OnOk result (self.new ≡ turn_week drives from self.old) }
+        ensures few { OnOk result (IsTrue (sums_in_range self.new (week_start (self.old.week + 2)))) }
         ensures breaches { OnOk result
             (found.new.breaches.items ≡ found.old.breaches.items ++ turn_found drives from self.old) }
         ensures appends { Appends is_b6_or_b7 false found.old found.new }
@@ -108,13 +108,13 @@ impl Sums {
         ends: u32,
         found: &mut Found,
     ) -> Result<(), AllocError>
-        requires few { IsTrue (are_few self.old from) }
+        requires few { IsTrue (sums_in_range self.old from) }
         requires before { from ≤ week_start (self.old.week + 2) }
         requires some { from ≤ to }
         requires early { to ≤ week_start 6788 }
         requires ends { week_start (self.old.week + 1 + ends) ≤ to }
         ensures through { OnOk result (self.new ≡ through ends drives from to self.old) }
-        ensures few { OnOk result (IsTrue (are_few self.new to)) }
+        ensures few { OnOk result (IsTrue (sums_in_range self.new to)) }
         ensures week { OnOk result (self.new.week ≡ self.old.week + ends) }
         ensures breaches { OnOk result
             (found.new.breaches.items ≡ found.old.breaches.items ++ through_found ends drives from self.old) }
@@ -134,7 +134,7 @@ impl Sums {
 /// Appends the breaches of the week and of the two weeks to what is found.
 fn put_breaches(sums: &Sums, found: &mut Found) -> Result<(), AllocError>
     requires { sums.now.week ≤ 6786 }
-    ensures breaches { OnOk result (found.new.breaches.items ≡ found.old.breaches.items ++ breaches_of sums.now) }
+    ensures breaches { OnOk result (found.new.breaches.items ≡ found.old.breaches.items ++ sum_breaches sums.now) }
     ensures appends { Appends is_b6_or_b7 false found.old found.new }
 {
     let start = first_minute(Week::new(sums.week));
@@ -152,7 +152,7 @@ impl Judge for Sums {
 
     ghost owes = { false };
 
-    ghost fits = { λ s place. are_few s place
+    ghost fits = { λ s place. sums_in_range s place
         && (nat_le (week_start (s.week + 1)) place && nat_le place (week_start (s.week + 2))) };
 
     ghost stands = { λ s start place own owed base spans. WeekSumsStand place s own owed base spans };

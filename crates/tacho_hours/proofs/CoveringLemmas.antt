@@ -53,19 +53,19 @@ starts_by line (suc m) here = elim (rest_or (line m)) [
 ]
 
 -- a minute up to which the line is at rest from p on, and at which it isn't
-pub record EndsBehind (line : Line) (p : ℕ) : Type 0 where
+pub record EndsAfter (line : Line) (p : ℕ) : Type 0 where
   pub past : ℕ
   pub above : p ≤ past
   pub rest : (k : ℕ) → p ≤ k → k < past → line k ≡ Rest
   pub until : (past ≡ FAR) ⊎ (line past ≢ Rest)
 
 -- each minute has such an end
-pub ends_behind : (line : Line) (n p : ℕ) → p + n ≡ FAR → EndsBehind line p
-ends_behind line zero p e =
+pub ends_after : (line : Line) (n p : ℕ) → p + n ≡ FAR → EndsAfter line p
+ends_after line zero p e =
     record { past = p; above = omega arith; rest = λ k above below. absurd (omega arith); until = inl (omega arith) }
-ends_behind line (suc n) p e = elim (rest_or (line p)) [
+ends_after line (suc n) p e = elim (rest_or (line p)) [
   | inl rest ↦
-      let r : EndsBehind line (p + 1) = ends_behind line n (p + 1) (omega arith) in
+      let r : EndsAfter line (p + 1) = ends_after line n (p + 1) (omega arith) in
       let b : p + 1 ≤ r.past = r.above in
       record {
         past = r.past;
@@ -90,7 +90,7 @@ pub record Covers (line : Line) (m : ℕ) : Type 0 where
 pub covered : (line : Line) (m : ℕ) → m < FAR → line m ≡ Rest → Covers line m
 covered line m near here =
     let s : StartsBy line m = starts_by line m here in
-    let p : EndsBehind line (m + 1) = ends_behind line (FAR - (m + 1)) (m + 1) (omega arith) in
+    let p : EndsAfter line (m + 1) = ends_after line (FAR - (m + 1)) (m + 1) (omega arith) in
     let a : s.start ≤ m = s.below in
     let b : m + 1 ≤ p.past = p.above in
     record {

@@ -124,8 +124,8 @@ driving_reaches line from to k m a =
     omega arith
 
 -- after the spans, the line is at rest
-pub line_behind : (spans : List Span) (base past m : ℕ) → Joined spans base past → past ≤ m → line_of spans m ≡ Rest
-line_behind [] base past m j late = refl
-line_behind (s ∷ spans) base past m j late =
+pub line_from_past : (spans : List Span) (base past m : ℕ) → Joined spans base past → past ≤ m → line_of spans m ≡ Rest
+line_from_past [] base past m j late = refl
+line_from_past (s ∷ spans) base past m j late =
     let le : s.past ≤ past = joined_le spans s.past past j.2 in
-    line_past s spans m (omega arith) ∙ line_behind spans s.past past m j.2 late
+    line_past s spans m (omega arith) ∙ line_from_past spans s.past past m j.2 late

@@ -5,7 +5,7 @@ use Rattle.std.specs.List.{All, AllPairs, Contains}
 use Rattle.std.proofs.lemmas.Bool.{cases_lt}
 use Rattle.std.proofs.lemmas.List.Elements.{Contains-push, Contains-append_left, Contains-push_cases, Contains-get_or}
 use Rattle.std.proofs.lemmas.List.Quantifiers.{all_pairs_push}
-use Rattle.tacho_hours.specs.Exactly.{AreExactly, AreSoMany}
+use Rattle.tacho_hours.specs.Exactly.{AreExactly, HasCount}
 
 -- a list contains its head
 pub contains_head : {A : Type 0} (x : A) (xs : List A) → Contains (x ∷ xs) x
@@ -91,8 +91,8 @@ module _ {A : Type 0} (P : A → Type 0) (R : A → A → Type 0) (never : (x y 
       (λ x h. (b.each x).1 ((a.each x).0 h)) (λ x h. (a.each x).1 ((b.each x).0 h))
 
   -- and only one number of them
-  pub so_many_only : (n m : ℕ) → AreSoMany P R n → AreSoMany P R m → n ≡ m
-  so_many_only n m a b =
+  pub how_many_only : (n m : ℕ) → HasCount P R n → HasCount P R m → n ≡ m
+  how_many_only n m a b =
       sym a.count ∙ (ap (λ (xs : List A). length xs) (one_exactly a.all b.all a.exactly b.exactly) ∙ b.count)
 
 -- the property can be replaced by an equivalent one
@@ -102,9 +102,9 @@ exactly_as P Q R xs same a =
     record { each = λ x. (λ h. (same x).0 ((a.each x).0 h), λ h. (a.each x).1 ((same x).1 h)); in_order = a.in_order }
 
 -- likewise for the number
-pub so_many_as : {A : Type 0} (P Q : A → Type 0) (R : A → A → Type 0) (n : ℕ)
-    → ((x : A) → P x ↔ Q x) → AreSoMany P R n → AreSoMany Q R n
-so_many_as P Q R n same a = record { all = a.all; exactly = exactly_as P Q R a.all same a.exactly; count = a.count }
+pub how_many_as : {A : Type 0} (P Q : A → Type 0) (R : A → A → Type 0) (n : ℕ)
+    → ((x : A) → P x ↔ Q x) → HasCount P R n → HasCount Q R n
+how_many_as P Q R n same a = record { all = a.all; exactly = exactly_as P Q R a.all same a.exactly; count = a.count }
 
 -- if nothing has the property, the list is empty
 pub exactly_none : {A : Type 0} (P : A → Type 0) (R : A → A → Type 0) → ((x : A) → P x → ⊥) → AreExactly P R []

@@ -6,11 +6,11 @@ use Rattle.tacho_hours.specs.Line.{Line}
 use Rattle.tacho_hours.specs.Driving.{driving}
 use Rattle.tacho_hours.proofs.DrivingLemmas.{driving_minute_only, driving_reaches}
 use Rattle.tacho_hours.proofs.OrderLemmas.{same_breach}
-use Rattle.tacho_hours.specs.Breaches.{IsTooMuch}
+use Rattle.tacho_hours.specs.Breaches.{IsDrivingBreach}
 
 -- a range has at most one breach of a kind
 pub too_much_only : (line : Line) (kind : Kind) (limit from to : ℕ) (a b : Breach)
-    → IsTooMuch line kind limit from to a → IsTooMuch line kind limit from to b → a ≡ b
+    → IsDrivingBreach line kind limit from to a → IsDrivingBreach line kind limit from to b → a ≡ b
 too_much_only line kind limit from to a b p q = same_breach a b
     (p.kind_is ∙ sym q.kind_is)
     (driving_minute_only line from to (limit + 1) a.moment b.moment p.over.moment q.over.moment)
@@ -22,14 +22,14 @@ too_much_only line kind limit from to a b p q = same_breach a b
 
 -- if no more is driven than allowed, there is none
 pub too_little : (line : Line) (kind : Kind) (limit from to : ℕ) (breach : Breach)
-    → driving line from to ≤ limit → IsTooMuch line kind limit from to breach → ⊥
+    → driving line from to ≤ limit → IsDrivingBreach line kind limit from to breach → ⊥
 too_little line kind limit from to breach few p =
     let m : limit + 1 ≤ driving line from to = driving_reaches line from to (limit + 1) breach.moment p.over.moment in
     omega arith
 
 -- if there is such a breach, more is driven than allowed
 pub too_much_reaches : (line : Line) (kind : Kind) (limit from to : ℕ) (breach : Breach)
-    → IsTooMuch line kind limit from to breach → limit < driving line from to
+    → IsDrivingBreach line kind limit from to breach → limit < driving line from to
 too_much_reaches line kind limit from to breach p =
     let m : limit + 1 ≤ driving line from to = driving_reaches line from to (limit + 1) breach.moment p.over.moment in
     omega arith

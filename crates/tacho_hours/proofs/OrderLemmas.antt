@@ -12,7 +12,7 @@ use Rattle.std.proofs.lemmas.Map.Keys.{IsDistinct-from_apart, IsDistinct-IsPermu
 use Rattle.tacho_hours.specs.declared.breach.Breach.{Breach}
 use Rattle.tacho_hours.specs.declared.breach.Kind.{Kind}
 use Rattle.tacho_hours.specs.declared.breach.Kind.TheVariants.{B1, B2, B3, B4, B5, B6, B7, B8, B9, B10}
-use Rattle.tacho_hours.specs.Order.{Earlier, Agree, AreApart, AreBreaches, place_of_kind}
+use Rattle.tacho_hours.specs.Order.{Earlier, Agree, HaveOwnPlaces, AreBreaches, place_of_kind}
 use Rattle.tacho_hours.proofs.ExactlyLemmas.{one_exactly, same_list}
 
 -- the kind at a place
@@ -87,7 +87,7 @@ agree_no a b e h =
     (place_of_kind b.kind) b.since e h.moment (ap place_of_kind h.kind) h.since
 
 -- breaches that are apart are also apart in any other order
-pub still_apart : (xs ys : List Breach) → IsPermutation xs ys → AreApart xs → AreApart ys
+pub still_apart : (xs ys : List Breach) → IsPermutation xs ys → HaveOwnPlaces xs → HaveOwnPlaces ys
 still_apart xs ys p apart i j d below within =
     agree_no (get_or ys i d) (get_or ys j d)
     (apart_from_distinct agree ys i j d

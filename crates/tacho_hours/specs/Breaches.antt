@@ -3,7 +3,7 @@
 use Rattle.std.specs.Prelude.{◌≡◌, ℕ, ◌+◌, ◌-◌, ◌<◌, ◌≤◌, List, Contains, min, None}
 use Rattle.tacho_hours.specs.declared.run.Run.{Run}
 use Rattle.tacho_hours.specs.Runs.{AreRestRuns, Before, AreNeighbours}
-use Rattle.tacho_hours.specs.Driving.{driving, IsDrivingMinute, IsExcess}
+use Rattle.tacho_hours.specs.Driving.{driving, IsDrivingMinute, IsDrivingAbove}
 use Rattle.tacho_hours.specs.Breaks.{AreCompleteBreaks}
 use Rattle.tacho_hours.specs.declared.breach.Kind.{Kind}
 use Rattle.tacho_hours.specs.declared.breach.Kind.TheVariants.{B1, B2, B3, B4, B5, B6, B7, B8, B9, B10}
@@ -12,7 +12,7 @@ use Rattle.tacho_hours.specs.declared.debt.Debt.{Debt}
 use Rattle.tacho_hours.specs.declared.days.DutyDay.{DutyDay}
 use Rattle.tacho_hours.specs.Line.{Line}
 use Rattle.tacho_hours.specs.Days.{EarlierDay, IsDuty, HasPortion, IsReduced}
-use Rattle.tacho_hours.specs.Exactly.{AreSoMany}
+use Rattle.tacho_hours.specs.Exactly.{HasCount}
 use Rattle.tacho_hours.specs.Order.{AreBreaches}
 use Rattle.tacho_hours.specs.Weeks.{week_start, IsInWeek, IsWeeklyRest}
 use Rattle.tacho_hours.specs.Choice.{CanServe}
@@ -23,25 +23,25 @@ use Rattle.tacho_hours.specs.Limits.{driving_in_day, driving_in_extended_day, ex
 use Rattle.tacho_hours.specs.Limits.{driving_in_week, driving_in_two_weeks, weekly_rest, six_days}
 
 -- more driving than the limit in a range: the moment is the first driving minute above the limit
-abbrev pub IsOver : Line → ℕ → ℕ → ℕ → Breach → Type 0
-IsOver line limit from to breach = IsExcess line limit from to breach.moment breach.amount
+abbrev pub HasDrivingAbove : Line → ℕ → ℕ → ℕ → Breach → Type 0
+HasDrivingAbove line limit from to breach = IsDrivingAbove line limit from to breach.moment breach.amount
 
 -- a breach of this kind for too much driving in a range, judged from the first minute of the range
-pub record IsTooMuch (line : Line) (kind : Kind) (limit from to : ℕ) (breach : Breach) : Type 0 where
+pub record IsDrivingBreach (line : Line) (kind : Kind) (limit from to : ℕ) (breach : Breach) : Type 0 where
   pub kind_is : breach.kind ≡ kind
-  pub over : IsOver line limit from to breach
+  pub over : HasDrivingAbove line limit from to breach
   pub since : breach.since ≡ from
 
 -- Article 7: more than four and a half hours (270 minutes) of driving between neighbouring complete breaks (Article 4(q))
 pub record IsB1 (line : Line) (breaks : List Run) (breach : Breach) : Type 0 where
-  pub a : Run
-  pub b : Run
-  pub first : Contains breaks a
-  pub second : Contains breaks b
-  pub before : Before a b
-  pub between : (c : Run) → Contains breaks c → Before a c → Before c b → ⊥
-  pub over : IsOver line driving_before_break a.past b.start breach
-  pub since : IsDrivingMinute line a.past b.start 1 breach.since
+  pub earlier : Run
+  pub later : Run
+  pub first : Contains breaks earlier
+  pub second : Contains breaks later
+  pub before : Before earlier later
+  pub between : (other : Run) → Contains breaks other → Before earlier other → Before other later → ⊥
+  pub over : HasDrivingAbove line driving_before_break earlier.past later.start breach
+  pub since : IsDrivingMinute line earlier.past later.start 1 breach.since
 
 -- Article 8(2): a daily rest with fewer than nine hours (540 minutes) within the 24 hours from the day's start
 pub record IsB2 (line : Line) (breach : Breach) : Type 0 where
@@ -61,7 +61,7 @@ pub record IsB3 (line : Line) (breach : Breach) : Type 0 where
   pub rest : IsWeeklyRest line weekly
   pub before : Before weekly day.rest
   pub last : (run : Run) → IsWeeklyRest line run → Before weekly run → Before run day.rest → ⊥
-  pub so_many : AreSoMany
+  pub how_many : HasCount
       (λ other. IsReduced line other × Before weekly other.rest × (other.rest.start ≤ day.rest.start))
       EarlierDay ordinal
   pub many : reduced_daily_rests < ordinal
@@ -73,7 +73,7 @@ pub record IsB3 (line : Line) (breach : Breach) : Type 0 where
 pub record IsB4 (line : Line) (breach : Breach) : Type 0 where
   pub day : DutyDay
   pub duty : IsDuty line day
-  pub over : IsOver line driving_in_extended_day day.start day.past breach
+  pub over : HasDrivingAbove line driving_in_extended_day day.start day.past breach
   pub since : breach.since ≡ day.start
 
 -- Article 6(1), an extended day: a duty day of the week with more than nine hours (540 minutes) of driving
@@ -88,32 +88,32 @@ pub record IsB5 (line : Line) (breach : Breach) : Type 0 where
   pub week : ℕ
   pub ordinal : ℕ
   pub extended : IsExtended line week day
-  pub so_many : AreSoMany (λ other. IsExtended line week other × (other.start ≤ day.start)) EarlierDay ordinal
+  pub how_many : HasCount (λ other. IsExtended line week other × (other.start ≤ day.start)) EarlierDay ordinal
   pub many : extended_days < ordinal
-  pub over : IsOver line driving_in_day day.start day.past breach
+  pub over : HasDrivingAbove line driving_in_day day.start day.past breach
   pub since : breach.since ≡ day.start
 
 -- Article 6(2): more than 56 hours (3360 minutes) of driving in a week
 pub record IsB6 (line : Line) (breach : Breach) : Type 0 where
   pub week : ℕ
-  pub over : IsOver line driving_in_week (week_start week) (week_start (week + 1)) breach
+  pub over : HasDrivingAbove line driving_in_week (week_start week) (week_start (week + 1)) breach
   pub since : breach.since ≡ week_start week
 
 -- Article 6(3): more than 90 hours (5400 minutes) of driving in two neighbouring weeks
 pub record IsB7 (line : Line) (breach : Breach) : Type 0 where
   pub week : ℕ
-  pub over : IsOver line driving_in_two_weeks (week_start week) (week_start (week + 2)) breach
+  pub over : HasDrivingAbove line driving_in_two_weeks (week_start week) (week_start (week + 2)) breach
   pub since : breach.since ≡ week_start week
 
 -- Article 8(6), second subparagraph: the next weekly rest starts later than six days (8640 minutes) after the end of the last one
 pub record IsB8 (line : Line) (breach : Breach) : Type 0 where
-  pub a : Run
-  pub b : Run
-  pub neighbours : AreNeighbours line weekly_rest a b
-  pub moment : breach.moment ≡ a.past + six_days
-  pub since : breach.since ≡ a.past
+  pub earlier : Run
+  pub later : Run
+  pub neighbours : AreNeighbours line weekly_rest earlier later
+  pub moment : breach.moment ≡ earlier.past + six_days
+  pub since : breach.since ≡ earlier.past
   pub late : 0 < breach.amount
-  pub amount : breach.moment + breach.amount ≡ b.start
+  pub amount : breach.moment + breach.amount ≡ later.start
 
 -- Articles 8(6), first subparagraph, and 8(9): from the week of the base on, and again from each week at which the rule failed, the first
 -- week up to which no choice of a week for each weekly rest is valid. The breach is for that week and the one before it.

@@ -25,6 +25,6 @@ pub record IsDrivingMinute (line : Line) (from to k m : ℕ) : Type 0 where
   pub earlier : driving line from m + 1 ≡ k
 
 -- more driving than the limit in a range: m is the first driving minute above the limit, and n is the number of minutes above it
-pub record IsExcess (line : Line) (limit from to m n : ℕ) : Type 0 where
+pub record IsDrivingAbove (line : Line) (limit from to m n : ℕ) : Type 0 where
   pub moment : IsDrivingMinute line from to (limit + 1) m
   pub amount : n + limit ≡ driving line from to

@@ -7,7 +7,7 @@ pub record AreExactly {T : Type 0} (P : T → Type 0) (Before : T → T → Type
   pub in_order : AllPairs Before list
 
 -- n things have the property: an ordered list of all of them has length n
-pub record AreSoMany {T : Type 0} (P : T → Type 0) (Before : T → T → Type 0) (n : ℕ) : Type 0 where
+pub record HasCount {T : Type 0} (P : T → Type 0) (Before : T → T → Type 0) (n : ℕ) : Type 0 where
   pub all : List T
   pub exactly : AreExactly P Before all
   pub count : length all ≡ n

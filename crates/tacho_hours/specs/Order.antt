@@ -35,8 +35,8 @@ abbrev pub Apart : Breach → Breach → Type 0
 Apart a b = ¬ (Agree a b)
 
 -- no two breaches of the list have the same place
-abbrev pub AreApart : List Breach → Type 0
-AreApart found = AllPairs Apart found
+abbrev pub HaveOwnPlaces : List Breach → Type 0
+HaveOwnPlaces found = AllPairs Apart found
 
 -- exactly these breaches, each once, in order
 abbrev pub AreBreaches : (Breach → Type 0) → List Breach → Type 0

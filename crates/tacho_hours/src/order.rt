@@ -1,7 +1,7 @@
 ghost use Rattle.std.specs.Prelude.{◌≡◌, ◌↔◌, AllPairs, Contains};
 ghost use Rattle.tacho_hours.specs.declared.breach.Breach.{Breach as BreachValue};
 ghost use Rattle.tacho_hours.specs.Order.{Earlier, place_of_kind};
-ghost use Rattle.tacho_hours.specs.Order.{AreApart};
+ghost use Rattle.tacho_hours.specs.Order.{HaveOwnPlaces};
 
 use crate::breach::{Breach, Kind};
 
@@ -27,7 +27,7 @@ fn place_of(kind: Kind) -> u8
 /// place, each is before those after it.
 pub fn put_in_order(found: &mut Vec<Breach>)
     ensures same { (breach : BreachValue) → Contains found.new.items breach ↔ Contains found.old.items breach }
-    ensures order { AreApart found.old.items → AllPairs Earlier found.new.items }
+    ensures order { HaveOwnPlaces found.old.items → AllPairs Earlier found.new.items }
 {
     found.sort_unstable_by_key(|breach| {
         (

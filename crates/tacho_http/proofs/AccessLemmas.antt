@@ -15,8 +15,8 @@ use Rattle.tacho_message.specs.declared.method.Method.TheVariants as method
 use Rattle.tacho_message.specs.declared.reply.Status.{Status}
 use Rattle.tacho_message.specs.declared.reply.Status.TheVariants as status
 use Rattle.tacho_http.specs.Access.{OwnWants, PostsAreCommands}
-use Rattle.tacho_http.specs.Asked.{Wish, granted, is_post, same_asker, wish_at, wish_of}
-use Rattle.tacho_http.specs.Routes.{Named, Rows, TableRow, named_at, named_by, rows_of_table, the_table, with_read, with_route}
+use Rattle.tacho_http.specs.Asked.{Wish, wish_granted, is_post, same_asker, wish_at, wish_of}
+use Rattle.tacho_http.specs.Routes.{Named, Rows, TableRow, named_at, named_by, rows_of_table, route_table, with_read, with_route}
 use Rattle.tacho_http.specs.declared.places.Asker.{Asker}
 use Rattle.tacho_http.specs.declared.places.Asker.TheVariants.{Driver}
 use Rattle.tacho_http.specs.declared.places.Place.{Place}
@@ -112,8 +112,8 @@ module _ (P : Place → Type 0) where
   in_named path (Some route) h = h
 
   -- what is true of each place in the table is true of the place that a path names
-  in_route : (path : List ℕ) → AllKeys P the_table → IfSome (named_at path) (λ named. P named.place)
-  in_route path h = in_named path _ (in_seek (λ route. P route.value) 0 (rows_of_table [] the_table) path (in_table [] the_table h tt))
+  in_route : (path : List ℕ) → AllKeys P route_table → IfSome (named_at path) (λ named. P named.place)
+  in_route path h = in_named path _ (in_seek (λ route. P route.value) 0 (rows_of_table [] route_table) path (in_table [] route_table h tt))
 
 -- ---- what is granted at a place, by what it offers
 
@@ -129,7 +129,7 @@ fits holds true (Some want) = holds want
 
 -- what is granted is what is offered
 of_offer : (holds : Want → Bool) (a : Asker) (named : Named) (offer : Option Want) → fits holds (same_asker a named.place.asker) offer ≡ true
-    → Grants holds (granted a named offer)
+    → Grants holds (wish_granted a named offer)
 of_offer holds a named None h = tt
 of_offer holds a named (Some want) h = by (same_asker a named.place.asker) h
   where
@@ -144,7 +144,7 @@ abbrev IsFit : Place → Type 0
 IsFit place = (fits is_own (same_asker Driver place.asker) place.get ≡ true) × (fits is_own (same_asker Driver place.asker) place.post ≡ true)
 
 -- each row of the table does so
-each_fits : AllKeys IsFit the_table
+each_fits : AllKeys IsFit route_table
 each_fits = assumption refl
 
 -- at a place
@@ -164,7 +164,7 @@ abbrev Posts : Place → Type 0
 Posts place = fits is_command true place.post ≡ true
 
 -- in each row of the table, only commands are posted
-each_posts : AllKeys Posts the_table
+each_posts : AllKeys Posts route_table
 each_posts = assumption refl
 
 -- the test also holds if the place is for the other asker
@@ -194,7 +194,7 @@ abbrev Reads : Place → Type 0
 Reads place = fits is_reading true place.get ≡ true
 
 -- in each row of the table, a GET is offered only readings
-each_reads : AllKeys Reads the_table
+each_reads : AllKeys Reads route_table
 each_reads = assumption refl
 
 -- at a place, a request other than POST is granted only readings

@@ -8,7 +8,7 @@ use Rattle.httparse.specs.declared.spans.HeaderSpan.{HeaderSpan}
 use Rattle.httparse.specs.declared.spans.RequestSpans.{RequestSpans}
 use Rattle.httparse.proofs.GrammarLemmas.{ReadsRequest-append}
 use Rattle.tacho_message.specs.Fields.{values_under}
-use Rattle.tacho_message.specs.Head.{BeginsWith, IsUnfinished as HeadUnfinished, Refuses}
+use Rattle.tacho_message.specs.Head.{BeginsWith, IsUnfinished as HeadUnfinished, IsHeadFault}
 use Rattle.tacho_message.specs.Request.{fields_of, key_of, only_of}
 use Rattle.tacho_message.specs.declared.head.HeadFault.{HeadFault}
 use Rattle.tacho_state.specs.declared.caller.Caller.{Caller}
@@ -37,9 +37,9 @@ begins_with input came more headers spans h short few same within at =
     }
 
 -- a refusal with the limits of the buffers is a refusal with these limits
-pub refused : (limit room : ℕ) (input : List ℕ) (f : HeadFault) → Refuses limit room input f → limit ≡ 8192 → room ≡ 32 → Refuses 8192 32 input f
+pub refused : (limit room : ℕ) (input : List ℕ) (f : HeadFault) → IsHeadFault limit room input f → limit ≡ 8192 → room ≡ 32 → IsHeadFault 8192 32 input f
 refused limit room input f r l m =
-    subst (λ (n : ℕ). Refuses 8192 n input f) m (subst (λ (n : ℕ). Refuses n room input f) l r)
+    subst (λ (n : ℕ). IsHeadFault 8192 n input f) m (subst (λ (n : ℕ). IsHeadFault n room input f) l r)
 
 -- an unfinished head is no whole request, whoever asks
 pub no_request : (IsBy : List ℕ → Caller → Type 0) (limit : ℕ) (old new : Option (List ℕ)) → HeadUnfinished limit old new → limit ≡ 8192

@@ -27,8 +27,8 @@ use Rattle.tacho_http.specs.declared.places.Asker.TheVariants as asker
 use Rattle.tacho_message.specs.declared.reply.Status.{Status}
 use Rattle.tacho_message.specs.declared.reply.Status.TheVariants as status
 use Rattle.tacho_http.specs.Laws.{IsFrom, Keeps503, KeepsOthers, OneReply, SameReply}
-use Rattle.tacho_http.specs.Reply.{Reply, done_reply, fixed, reply_to}
-use Rattle.tacho_http.specs.Serve.{ByCaller, ByKeys, ByOwner, ByWhom, DoesWanted, Reacts, Runs, RepliesOnly, WithBody, WithWish, bad, body_of, headed, large, unavailable}
+use Rattle.tacho_http.specs.Reply.{Reply, done_reply, reply_of_status, reply_to}
+use Rattle.tacho_http.specs.Serve.{ByCaller, ByKeys, ByOwner, ByWhom, RepliesToTask, Reacts, Runs, RepliesOnly, WithBody, WithWish, bad, body_of, headed, large, unavailable}
 
 -- ---- 503
 
@@ -46,7 +46,7 @@ module _ (refusals : RefusalsStay) where
   answer_kept t body s (Err f) after does e = refusals t body s f after does
 
   -- or its arguments were
-  wanted_kept : (wanted : Wanted) (body : List ℕ) (s : State) (reply : Reply) (after : State) → DoesWanted wanted body s reply after → reply.status ≡ status.Unavailable → after ≡ s
+  wanted_kept : (wanted : Wanted) (body : List ℕ) (s : State) (reply : Reply) (after : State) → RepliesToTask wanted body s reply after → reply.status ≡ status.Unavailable → after ≡ s
   wanted_kept (Err f) body s reply after h e = h.1
   wanted_kept (Ok t) body s reply after h e = answer_kept t body s h.0 after h.1 (subst (λ (r : Reply). r.status ≡ status.Unavailable) h.2 e)
 
@@ -104,27 +104,27 @@ module _ (refusals : RefusalsStay) where
 -- ---- a driver's requests are for the driver's own tasks
 
 -- the import of the driver's card
-part_is_his : (n : ℕ) (o : Option Part) (t : Task) → Ok t ≡ by_part o (λ p. task.Import (caller.Driver n) p) → IsHis n t
-part_is_his n None t e = cc
-part_is_his n (Some p) t e = (let same : t ≡ task.Import (caller.Driver n) p = cc in subst (IsHis n) (sym same) refl)
+part_is_own : (n : ℕ) (o : Option Part) (t : Task) → Ok t ≡ by_part o (λ p. task.Import (caller.Driver n) p) → IsHis n t
+part_is_own n None t e = cc
+part_is_own n (Some p) t e = (let same : t ≡ task.Import (caller.Driver n) p = cc in subst (IsHis n) (sym same) refl)
 
 -- a task with a day or a month
-time_is_his : (n : ℕ) (read : Result ℕ TimeFault) (make : ℕ → Task) (t : Task) → ((m : ℕ) → IsHis n (make m)) → Ok t ≡ by_time read (λ m. Ok (make m)) → IsHis n t
-time_is_his n (Err f) make t h e = cc
-time_is_his n (Ok m) make t h e = (let same : t ≡ make m = cc in subst (IsHis n) (sym same) (h m))
+time_is_own : (n : ℕ) (read : Result ℕ TimeFault) (make : ℕ → Task) (t : Task) → ((m : ℕ) → IsHis n (make m)) → Ok t ≡ by_time read (λ m. Ok (make m)) → IsHis n t
+time_is_own n (Err f) make t h e = cc
+time_is_own n (Ok m) make t h e = (let same : t ≡ make m = cc in subst (IsHis n) (sym same) (h m))
 
 -- the arguments make this task
 abbrev wants : Task → Wanted
 wants t = Ok t
 
 -- a task of the driver
-plain_is_his : (n : ℕ) (t own : Task) → IsHis n own → wants t ≡ wants own → IsHis n t
-plain_is_his n t own h e = (let same : t ≡ own = cc in subst (IsHis n) (sym same) h)
+plain_is_own : (n : ℕ) (t own : Task) → IsHis n own → wants t ≡ wants own → IsHis n t
+plain_is_own n t own h e = (let same : t ≡ own = cc in subst (IsHis n) (sym same) h)
 
 -- a file of the driver
-number_is_his : (n m : ℕ) (text : List ℕ) (t : Task) → m ≡ n → ByNumber most_number text (λ k w. w ≡ Ok (task.File m k)) (Ok t) → IsHis n t
-number_is_his n m text t same (inl h) = (let none = h.1 in cc)
-number_is_his n m text t same (inr h) = plain_is_his n t (task.File m h.0) same h.2
+number_is_own : (n m : ℕ) (text : List ℕ) (t : Task) → m ≡ n → ByNumber most_number text (λ k w. w ≡ Ok (task.File m k)) (Ok t) → IsHis n t
+number_is_own n m text t same (inl h) = (let none = h.1 in cc)
+number_is_own n m text t same (inr h) = plain_is_own n t (task.File m h.0) same h.2
 
 -- a task about the driver who asks
 about_him : (n : ℕ) (driver : List ℕ) (Is : ℕ → Wanted → Type 0) (t : Task) → ((m : ℕ) → m ≡ n → Is m (Ok t) → IsHis n t)
@@ -133,21 +133,21 @@ about_him n driver Is t h (inl none) = absurd none.0
 about_him n driver Is t h (inr is) = h is.0 is.1 is.2
 
 -- what a driver may ask for makes a task of that driver
-task_is_his : (w : Want) (n : ℕ) (driver word : List ℕ) (t : Task) → is_own w ≡ true → IsTask w (caller.Driver n) driver word (Ok t) → IsHis n t
-task_is_his want.Import n driver word t own is = part_is_his n (part_of word) t is
-task_is_his (want.Reading text) n driver word t own is =
-    about_him n driver (λ m w. w ≡ Ok (task.Reading m text)) t (λ m same e. plain_is_his n t (task.Reading m text) same e) is
-task_is_his (want.MonthReading text) n driver word t own is =
+task_is_own : (w : Want) (n : ℕ) (driver word : List ℕ) (t : Task) → is_own w ≡ true → IsTask w (caller.Driver n) driver word (Ok t) → IsHis n t
+task_is_own want.Import n driver word t own is = part_is_own n (part_of word) t is
+task_is_own (want.Reading text) n driver word t own is =
+    about_him n driver (λ m w. w ≡ Ok (task.Reading m text)) t (λ m same e. plain_is_own n t (task.Reading m text) same e) is
+task_is_own (want.MonthReading text) n driver word t own is =
     about_him n driver (λ m w. w ≡ by_time (month_at word) (λ month. Ok (task.MonthReading m month text))) t
-    (λ m same e. time_is_his n (month_at word) (λ month. task.MonthReading m month text) t (λ month. same) e) is
-task_is_his want.File n driver word t own is =
-    about_him n driver (λ m. ByNumber most_number word (λ k w. w ≡ Ok (task.File m k))) t (λ m same e. number_is_his n m word t same e) is
-task_is_his want.Register n driver word t own is = cc
-task_is_his want.Enter n driver word t own is = cc
-task_is_his want.Withdraw n driver word t own is = cc
-task_is_his want.Base n driver word t own is = cc
-task_is_his want.Drivers n driver word t own is = cc
-task_is_his (want.MonthOfAll text) n driver word t own is = cc
+    (λ m same e. time_is_own n (month_at word) (λ month. task.MonthReading m month text) t (λ month. same) e) is
+task_is_own want.File n driver word t own is =
+    about_him n driver (λ m. ByNumber most_number word (λ k w. w ≡ Ok (task.File m k))) t (λ m same e. number_is_own n m word t same e) is
+task_is_own want.Register n driver word t own is = cc
+task_is_own want.Enter n driver word t own is = cc
+task_is_own want.Withdraw n driver word t own is = cc
+task_is_own want.Base n driver word t own is = cc
+task_is_own want.Drivers n driver word t own is = cc
+task_is_own (want.MonthOfAll text) n driver word t own is = cc
 
 -- a request with a driver's key is that driver's request
 own_request : (office key : List ℕ) (h : RequestHead) (rest : List ℕ) (n : ℕ) (s : State) (reply : Reply) (after : State) → key_of h ≡ Some key → bytes_eq key office ≡ false
@@ -175,7 +175,7 @@ module _ (own_wants : OwnWants) (same_answers : SameAnswers) (others_stay : Othe
 
   -- the reply to a driver's own task
   wanted_same : (n : ℕ) (s other : State) → driver_of n s ≡ driver_of n other → (wanted : Wanted) → ((t : Task) → wanted ≡ Ok t → IsHis n t) → (body : List ℕ) (reply : Reply) (after : State)
-      → DoesWanted wanted body s reply after → (left : State) × DoesWanted wanted body other reply left × (driver_of n after ≡ driver_of n left)
+      → RepliesToTask wanted body s reply after → (left : State) × RepliesToTask wanted body other reply left × (driver_of n after ≡ driver_of n left)
   wanted_same n s other e (Err f) his body reply after h = told_same n s other e (reply_to (Err f)) reply after h
   wanted_same n s other e (Ok t) his body reply after h =
       let x = same_answers n t (his t refl) body s other e h.0 after h.1 in (x.0, (h.0, x.1, h.2), x.2)
@@ -184,24 +184,24 @@ module _ (own_wants : OwnWants) (same_answers : SameAnswers) (others_stay : Othe
   run_same : (n : ℕ) (s other : State) → driver_of n s ≡ driver_of n other → (w : Wish) → is_own w.want ≡ true → (k : ℕ) (rest : List ℕ) (reply : Reply) (after : State)
       → Runs w k (caller.Driver n) rest s reply after → (left : State) × Runs w k (caller.Driver n) rest other reply left × (driver_of n after ≡ driver_of n left)
   run_same n s other e w own k rest reply after (inl h) =
-      let x = told_same n s other e (fixed status.BadRequest) reply after h.1 in (x.0, inl (h.0, x.1), x.2)
+      let x = told_same n s other e (reply_of_status status.BadRequest) reply after h.1 in (x.0, inl (h.0, x.1), x.2)
   run_same n s other e w own k rest reply after (inr h) =
       let wanted = h.1.0 in
-      let x = wanted_same n s other e wanted (λ t is. task_is_his w.want n w.driver w.word t own (subst (IsTask w.want (caller.Driver n) w.driver w.word) is h.1.1)) (take k rest) reply after h.1.2 in
+      let x = wanted_same n s other e wanted (λ t is. task_is_own w.want n w.driver w.word t own (subst (IsTask w.want (caller.Driver n) w.driver w.word) is h.1.1)) (take k rest) reply after h.1.2 in
       (x.0, inr (h.0, (wanted, h.1.1, x.1)), x.2)
 
   -- with the length of its body
   body_same : (n : ℕ) (s other : State) → driver_of n s ≡ driver_of n other → (w : Wish) → is_own w.want ≡ true → (length : Result ℕ Status) (rest : List ℕ) (reply : Reply) (after : State)
       → WithBody length w (caller.Driver n) rest s reply after
       → (left : State) × WithBody length w (caller.Driver n) rest other reply left × (driver_of n after ≡ driver_of n left)
-  body_same n s other e w own (Err refusal) rest reply after h = told_same n s other e (fixed refusal) reply after h
+  body_same n s other e w own (Err refusal) rest reply after h = told_same n s other e (reply_of_status refusal) reply after h
   body_same n s other e w own (Ok k) rest reply after h = run_same n s other e w own k rest reply after h
 
   -- with what it asks for
   want_same : (n : ℕ) (s other : State) → driver_of n s ≡ driver_of n other → (found : Result Wish Status) → ((w : Wish) → found ≡ Ok w → is_own w.want ≡ true)
       → (h : RequestHead) (rest : List ℕ) (reply : Reply) (after : State) → WithWish found (caller.Driver n) h rest s reply after
       → (left : State) × WithWish found (caller.Driver n) h rest other reply left × (driver_of n after ≡ driver_of n left)
-  want_same n s other e (Err refusal) own h rest reply after does = told_same n s other e (fixed refusal) reply after does
+  want_same n s other e (Err refusal) own h rest reply after does = told_same n s other e (reply_of_status refusal) reply after does
   want_same n s other e (Ok w) own h rest reply after does =
       body_same n s other e w (own w refl) (body_of h w.want) rest reply after does
 
@@ -232,9 +232,9 @@ module _ (own_wants : OwnWants) (same_answers : SameAnswers) (others_stay : Othe
       → Runs w k (caller.Driver n) rest s reply after → driver_of m after ≡ driver_of m s
   run_others n m differ s w own k rest reply after (inl h) = ap (driver_of m) h.1.1
   run_others n m differ s w own k rest reply after (inr h) =
-      by_wanted h.1.0 (λ t is. task_is_his w.want n w.driver w.word t own (subst (IsTask w.want (caller.Driver n) w.driver w.word) is h.1.1)) h.1.2
+      by_wanted h.1.0 (λ t is. task_is_own w.want n w.driver w.word t own (subst (IsTask w.want (caller.Driver n) w.driver w.word) is h.1.1)) h.1.2
     where
-      by_wanted : (wanted : Wanted) → ((t : Task) → wanted ≡ Ok t → IsHis n t) → DoesWanted wanted (take k rest) s reply after → driver_of m after ≡ driver_of m s
+      by_wanted : (wanted : Wanted) → ((t : Task) → wanted ≡ Ok t → IsHis n t) → RepliesToTask wanted (take k rest) s reply after → driver_of m after ≡ driver_of m s
       by_wanted (Err f) his h = ap (driver_of m) h.1
       by_wanted (Ok t) his h = others_stay n t (his t refl) (take k rest) s h.0 after h.1 m differ
 
@@ -273,7 +273,7 @@ module _ (own_wants : OwnWants) (same_answers : SameAnswers) (others_stay : Othe
 
   -- the reply to a driver's own task is the only one
   wanted_once : (n : ℕ) (s : State) (wanted : Wanted) → ((t : Task) → wanted ≡ Ok t → IsHis n t) → (body : List ℕ) (p q : Reply) (after left : State)
-      → DoesWanted wanted body s p after → DoesWanted wanted body s q left → (p ≡ q) × (after ≡ left)
+      → RepliesToTask wanted body s p after → RepliesToTask wanted body s q left → (p ≡ q) × (after ≡ left)
   wanted_once n s (Err f) his body p q after left h k = told_once s (reply_to (Err f)) p q after left h k
   wanted_once n s (Ok t) his body p q after left h k =
       let x = one_answer n t (his t refl) body s h.0 k.0 after left h.1 k.1 in (h.2 ∙ (ap reply_to x.0 ∙ sym k.2), x.1)
@@ -281,24 +281,24 @@ module _ (own_wants : OwnWants) (same_answers : SameAnswers) (others_stay : Othe
   -- with its body
   run_once : (n : ℕ) (s : State) (w : Wish) → is_own w.want ≡ true → (k : ℕ) (rest : List ℕ) (p q : Reply) (after left : State)
       → Runs w k (caller.Driver n) rest s p after → Runs w k (caller.Driver n) rest s q left → (p ≡ q) × (after ≡ left)
-  run_once n s w own k rest p q after left (inl h) (inl g) = told_once s (fixed status.BadRequest) p q after left h.1 g.1
+  run_once n s w own k rest p q after left (inl h) (inl g) = told_once s (reply_of_status status.BadRequest) p q after left h.1 g.1
   run_once n s w own k rest p q after left (inl h) (inr g) = (let x = h.0 in let y = g.0 in absurd (omega arith))
   run_once n s w own k rest p q after left (inr h) (inl g) = (let x = h.0 in let y = g.0 in absurd (omega arith))
   run_once n s w own k rest p q after left (inr h) (inr g) =
       let same = task_once w.want (caller.Driver n) w.driver w.word h.1.0 g.1.0 h.1.1 g.1.1 in
-      wanted_once n s h.1.0 (λ t is. task_is_his w.want n w.driver w.word t own (subst (IsTask w.want (caller.Driver n) w.driver w.word) is h.1.1)) (take k rest) p q after left h.1.2
-      (subst (λ (wanted : Wanted). DoesWanted wanted (take k rest) s q left) (sym same) g.1.2)
+      wanted_once n s h.1.0 (λ t is. task_is_own w.want n w.driver w.word t own (subst (IsTask w.want (caller.Driver n) w.driver w.word) is h.1.1)) (take k rest) p q after left h.1.2
+      (subst (λ (wanted : Wanted). RepliesToTask wanted (take k rest) s q left) (sym same) g.1.2)
 
   -- with the length of its body
   body_once : (n : ℕ) (s : State) (w : Wish) → is_own w.want ≡ true → (length : Result ℕ Status) (rest : List ℕ) (p q : Reply) (after left : State)
       → WithBody length w (caller.Driver n) rest s p after → WithBody length w (caller.Driver n) rest s q left → (p ≡ q) × (after ≡ left)
-  body_once n s w own (Err refusal) rest p q after left h k = told_once s (fixed refusal) p q after left h k
+  body_once n s w own (Err refusal) rest p q after left h k = told_once s (reply_of_status refusal) p q after left h k
   body_once n s w own (Ok size) rest p q after left h k = run_once n s w own size rest p q after left h k
 
   -- with what it asks for
   want_once : (n : ℕ) (s : State) (found : Result Wish Status) → ((w : Wish) → found ≡ Ok w → is_own w.want ≡ true) → (h : RequestHead) (rest : List ℕ) (p q : Reply) (after left : State)
       → WithWish found (caller.Driver n) h rest s p after → WithWish found (caller.Driver n) h rest s q left → (p ≡ q) × (after ≡ left)
-  want_once n s (Err refusal) own h rest p q after left x y = told_once s (fixed refusal) p q after left x y
+  want_once n s (Err refusal) own h rest p q after left x y = told_once s (reply_of_status refusal) p q after left x y
   want_once n s (Ok w) own h rest p q after left x y =
       body_once n s w (own w refl) (body_of h w.want) rest p q after left x y
 

@@ -15,7 +15,7 @@ use Rattle.tacho_message.specs.Reply.{head_bytes}
 use Rattle.tacho_message.specs.declared.reply.MediaType.TheVariants as media
 use Rattle.tacho_message.specs.declared.reply.Status.TheVariants as status
 use Rattle.tacho_http.specs.Answer.{is_done}
-use Rattle.tacho_http.specs.Reply.{bytes_of_reply, fault_status, fixed, fixed_text, reply_to, store_status}
+use Rattle.tacho_http.specs.Reply.{bytes_of_reply, fault_status, reply_of_status, fixed_text, reply_to, store_status}
 
 -- ---- the statuses of refusals
 
@@ -95,15 +95,15 @@ pub unavailable : fixed_text status.Unavailable ≡ codes "unavailable\n"
 unavailable = refl
 
 -- the reply to out of memory, and to a store failure, has only the fixed text
-pub no_memory : reply_to (Err fault.Memory) ≡ fixed status.Unavailable
+pub no_memory : reply_to (Err fault.Memory) ≡ reply_of_status status.Unavailable
 no_memory = refl
 
-pub store_failed : reply_to (Err (fault.Told (told.Store store.Store))) ≡ fixed status.Unavailable
+pub store_failed : reply_to (Err (fault.Told (told.Store store.Store))) ≡ reply_of_status status.Unavailable
 store_failed = refl
 
 -- ---- whole replies
 
-pub another_is_forbidden : bytes_of_reply (fixed status.Forbidden)
+pub another_is_forbidden : bytes_of_reply (reply_of_status status.Forbidden)
     ≡ codes "HTTP/1.1 403 Forbidden\r\ncontent-type: text/plain; charset=utf-8\r\ncontent-length: 10\r\nconnection: close\r\n\r\nforbidden\n"
 unfolding head_bytes digits
 another_is_forbidden = refl

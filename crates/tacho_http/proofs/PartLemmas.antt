@@ -15,7 +15,7 @@ use Rattle.matchit.specs.Router.{RouteOf}
 use Rattle.matchit.specs.Rows.{RowsOf, catch_all_token, param_token}
 use Rattle.matchit.specs.Seek.{better, first, has_slash, longest_from, longest_suffix, or_else, own, param_step, same_text, seek, segment, step, with_suffix}
 use Rattle.matchit.proofs.OnLiterals.{matchit_on_literals}
-use Rattle.tacho_http.specs.Routes.{Rows, rows_of_table, the_table}
+use Rattle.tacho_http.specs.Routes.{Rows, rows_of_table, route_table}
 use Rattle.tacho_http.specs.declared.places.Place.{Place}
 
 -- ---- which paths the tokens of a pattern match
@@ -128,10 +128,10 @@ module _ {K : Type 0} (R : K → Type 0) where
           (parts.1, λ m. h.1 (inl (ascii, (path, ap (λ y. y ∷ path) (sym is), m))), later)
 
   -- likewise for the rows that begin with a parameter, after the parameter
-  step_behind : (path : List ℕ) (rs : RowsOf K) → Lead path rs → Behind path (step param_token rs)
-  step_behind path [] h = tt
-  step_behind path (([], key) ∷ rest) h = step_behind path rest h.2
-  step_behind path ((x ∷ tokens, key) ∷ rest) h = by (x == param_token) refl (step_behind path rest h.2)
+  step_after : (path : List ℕ) (rs : RowsOf K) → Lead path rs → Behind path (step param_token rs)
+  step_after path [] h = tt
+  step_after path (([], key) ∷ rest) h = step_after path rest h.2
+  step_after path ((x ∷ tokens, key) ∷ rest) h = by (x == param_token) refl (step_after path rest h.2)
     where
       by : (same : Bool) → (x == param_token) ≡ same → Behind path (step param_token rest)
           → Behind path (cond same ((tokens, key) ∷ step param_token rest) (step param_token rest))
@@ -233,7 +233,7 @@ module _ {K : Type 0} (R : K → Type 0) where
   seek_leads (suc skip) rs (b ∷ path) t h = seek_leads skip rs path t.1 h
   seek_leads zero rs (b ∷ path) t h =
       either_leads _ _ (seek_leads 0 (step b rs) path t.1 (step_leads b path rs t.0 h))
-      (either_leads _ _ (seek_leads _ _ path t.1 (param_leads b path (step param_token rs) (step_behind (b ∷ path) rs h)))
+      (either_leads _ _ (seek_leads _ _ path t.1 (param_leads b path (step param_token rs) (step_after (b ∷ path) rs h)))
       (catch_leads (b ∷ path) rs h))
 
 -- ---- a walk along a pattern that the path matches
@@ -484,15 +484,15 @@ fit_leads path ((tokens, route) ∷ rest) h =
     )
 
 -- the table's rows are fit
-table_is_fit : are_fit (rows_of_table [] the_table) ≡ true
+table_is_fit : are_fit (rows_of_table [] route_table) ≡ true
 unfolding matchit_on_literals rows_of_table is_utf8 chars encode
 table_is_fit = refl
 
 -- the parts in braces match valid UTF-8 in a valid path
-pub parts_are_text : (path : List ℕ) → IsUtf8 path → (route : RouteOf Place) → first (rows_of_table [] the_table) path ≡ Some route
+pub parts_are_text : (path : List ℕ) → IsUtf8 path → (route : RouteOf Place) → first (rows_of_table [] route_table) path ≡ Some route
     → AllText (walk route.pattern route.text path route.names 0 0)
 parts_are_text path utf8 route e =
-    let rows = rows_of_table [] the_table in
+    let rows = rows_of_table [] route_table in
     let found : IfSome (first rows path) (IsRead path) =
     seek_leads (IsRead path) 0 rows path (utf8_is_bytes path utf8) (fit_leads path rows table_is_fit) in
     let read : IsRead path route = subst (λ (o : Option (RouteOf Place)). IfSome o (IsRead path)) e found in

@@ -15,8 +15,8 @@ use Rattle.tacho_state.specs.declared.fault.StoreFault.TheVariants as store
 use Rattle.tacho_card.specs.declared.fault.CardFault.TheVariants as card
 use Rattle.tacho_sheet.specs.declared.fault.Fault.TheVariants as told
 use Rattle.tacho_sheet.specs.declared.fault.SheetFault.TheVariants as sheet
-use Rattle.tacho_desk.specs.Doing.{ChangesNothing, Done, IsKept, Serves, Stops as TaskStops}
-use Rattle.tacho_desk.specs.Fault.{IsGivenUp}
+use Rattle.tacho_desk.specs.Doing.{ChangesNothing, Done, IsDurable, Serves, CrashMayLeave as TaskCrashMayLeave}
+use Rattle.tacho_desk.specs.Fault.{IsFailure}
 use Rattle.tacho_desk.specs.Tasks.{Does}
 use Rattle.tacho_desk.specs.Told.{Added, Answer, File, Line, Long, Told}
 use Rattle.tacho_desk.specs.Words.{IsTask}
@@ -33,9 +33,9 @@ use Rattle.tacho_message.specs.declared.method.Method.{Method}
 use Rattle.tacho_message.specs.declared.method.Method.TheVariants as method
 use Rattle.tacho_message.specs.declared.reply.Status.{Status}
 use Rattle.tacho_message.specs.declared.reply.Status.TheVariants as status
-use Rattle.tacho_http.specs.Answer.{Answered, Answers, Asks, Exchanged, Given, Gives, IsBegun, IsPosted, IsUndone, IsUnfinished, IsWritten, LacksMore, MayAsk, Responds, Stopped, Stops, is_done}
-use Rattle.tacho_http.specs.Asked.{Wish, asker_of, granted, is_post, offered, same_asker, wish_at, wish_of}
-use Rattle.tacho_http.specs.Reply.{Reply, fixed, reply_of, reply_to}
+use Rattle.tacho_http.specs.Answer.{Answered, AnswersInput, Asks, Exchanged, HasRepliedOrFailed, HasReplied, IsBegun, IsPosted, IsUndone, IsUnfinished, IsWritten, LacksMore, MayAsk, Responds, CrashMayLeaveResult, CrashMayLeaveReply, is_done}
+use Rattle.tacho_http.specs.Asked.{Wish, asker_of, wish_granted, is_post, want_at, same_asker, wish_at, wish_of}
+use Rattle.tacho_http.specs.Reply.{Reply, reply_of_status, reply_of, reply_to}
 use Rattle.tacho_http.specs.Routes.{Named, named_at}
 use Rattle.tacho_http.specs.declared.places.Asker.{Asker}
 use Rattle.tacho_desk.specs.Wants.{takes_input}
@@ -49,28 +49,28 @@ use Rattle.tacho_http.specs.declared.response.Response.{Response}
 -- for a reply
 gives_as : (stands : State → Type 0) (leaves : List State → Type 0) (command other : Bool) (s : State) (A B : Reaction) (reply : Reply)
     → (other ≡ true → command ≡ true) → ((reply : Reply) (after : State) → A reply after → B reply after)
-    → Gives stands leaves command s A reply → Gives stands leaves other s B reply
+    → HasReplied stands leaves command s A reply → HasReplied stands leaves other s B reply
 gives_as stands leaves command other s A B reply more h (inl g) = inl (g.0, g.1, h reply g.0 g.2, λ is done. g.3 (more is) done)
 gives_as stands leaves command other s A B reply more h (inr g) = inr g
 
 -- likewise if the reader failed
 given_as : (stands : State → Type 0) (leaves : List State → Type 0) (command other : Bool) (s : State) (A B : Reaction) (result : Result Response Failed)
     → (other ≡ true → command ≡ true) → ((reply : Reply) (after : State) → A reply after → B reply after)
-    → Given stands leaves command s A result → Given stands leaves other s B result
+    → HasRepliedOrFailed stands leaves command s A result → HasRepliedOrFailed stands leaves other s B result
 given_as stands leaves command other s A B (Ok response) more h g = gives_as stands leaves command other s A B (reply_of response) more h g
 given_as stands leaves command other s A B (Err failed) more h g = g
 
 -- for the states that a crash may leave
 stops_as : (leaves : List State → Type 0) (past : List State) (A B : Reaction) (reply : Reply)
     → ((reply : Reply) (after : State) → A reply after → B reply after)
-    → Stops leaves past A reply → Stops leaves past B reply
+    → CrashMayLeaveReply leaves past A reply → CrashMayLeaveReply leaves past B reply
 stops_as leaves past A B reply h (inl l) = inl l
 stops_as leaves past A B reply h (inr g) = inr (g.0, g.1, g.2, h g.0 g.1 g.3, g.4)
 
 -- likewise if the reader failed
 stopped_as : (leaves : List State → Type 0) (past : List State) (A B : Reaction) (result : Result Response Failed)
     → ((reply : Reply) (after : State) → A reply after → B reply after)
-    → Stopped leaves past A result → Stopped leaves past B result
+    → CrashMayLeaveResult leaves past A result → CrashMayLeaveResult leaves past B result
 stopped_as leaves past A B (Ok response) h g = stops_as leaves past A B (reply_of response) h g
 stopped_as leaves past A B (Err failed) h g = g
 
@@ -82,7 +82,7 @@ undone_as command other (Ok response) less (inr none) = inr none
 undone_as command other (Err failed) less undone = undone
 
 -- if memory ran out or the store failed, the reply is 503
-gave_up : (f : Fault) → IsGivenUp f → reply_to (Err f) ≡ fixed status.Unavailable
+gave_up : (f : Fault) → IsFailure f → reply_to (Err f) ≡ reply_of_status status.Unavailable
 gave_up fault.Memory h = refl
 gave_up fault.Device h = absurd h
 gave_up (fault.Told (told.Store store.Store)) h = refl
@@ -178,30 +178,30 @@ never_done : {P : Type 0} (f : Fault) (status : Status) → status ≡ (reply_to
 never_done f s same done = (let none = refused f in let said = ap is_done same in cc)
 
 -- nor does a reply of 503
-not_available : {P : Type 0} (reply : Reply) → reply ≡ fixed status.Unavailable → is_done reply.status ≡ true → P
+not_available : {P : Type 0} (reply : Reply) → reply ≡ reply_of_status status.Unavailable → is_done reply.status ≡ true → P
 not_available reply is done = (let said = ap (λ (r : Reply). is_done r.status) is in cc)
 
 module _ (stands : State → Type 0) (leaves : List State → Type 0) (s : State) (t : Task) (body : List ℕ) (Wants : Reaction)
     (h : (answer : Answer) (after : State) → Does t body s answer after → Wants (reply_to answer) after) where
   -- after a command that was done, a crash leaves only the state after it
   replied : (command : Bool) (answer : Answer) → Done stands s (Does t body s) answer
-      → (command ≡ true → IsKept stands leaves (Does t body s) answer) → Gives stands leaves command s Wants (reply_to answer)
+      → (command ≡ true → IsDurable stands leaves (Does t body s) answer) → HasReplied stands leaves command s Wants (reply_to answer)
   replied true (Ok text) d kept = (let k = kept refl in inl (k.0, k.1, h (Ok text) k.0 k.2, λ is done. k.3))
   replied false (Ok text) d kept = inl (d.0, d.1, h (Ok text) d.0 d.2, λ is. cc)
   replied command (Err f) (st, inl d) kept = inl (s, st, h (Err f) s d, λ is done. never_done f _ refl done)
   replied command (Err f) (st, inr g) kept = inr (gave_up f g, st)
 
   -- the states that a crash may leave, after a task
-  stopped : (past : List State) (answer : Answer) → TaskStops leaves past (Does t body s) answer → Stops leaves past Wants (reply_to answer)
+  stopped : (past : List State) (answer : Answer) → TaskCrashMayLeave leaves past (Does t body s) answer → CrashMayLeaveReply leaves past Wants (reply_to answer)
   stopped past (Ok text) (inl l) = inl l
   stopped past (Ok text) (inr a) = inr (reply_to (Ok text), a.0, inl refl, h (Ok text) a.0 a.1, a.2)
   stopped past (Err f) (inl l) = inl l
   stopped past (Err f) (inr a) = inr (reply_to a.1.0, a.1.1, inr (gave_up f a.0), h a.1.0 a.1.1 a.1.2, a.1.3)
 
 -- if a request was done, the archive is live
-is_live_behind : {P : Type 0} (answer : Answer) → OnOk answer P → is_done (reply_to answer).status ≡ true → P
-is_live_behind (Ok text) live done = live
-is_live_behind (Err f) live done = never_done f _ refl done
+is_live_after : {P : Type 0} (answer : Answer) → OnOk answer P → is_done (reply_to answer).status ≡ true → P
+is_live_after (Ok text) live done = live
+is_live_after (Err f) live done = never_done f _ refl done
 
 -- the reply to a task that was done says so
 told_done : (text : Told) → is_done (reply_to (Ok text)).status ≡ true
@@ -231,14 +231,14 @@ either true x y h k = h
 either false x y h k = k
 
 -- 405 and 403
-refuses_granted : (a : Asker) (named : Named) (offer : Option Want) → Refuses (granted a named offer)
+refuses_granted : (a : Asker) (named : Named) (offer : Option Want) → Refuses (wish_granted a named offer)
 refuses_granted a named None = refl
 refuses_granted a named (Some want) = either (same_asker a named.place.asker) _ _ tt refl
 
 -- and 404
 refuses_wish : (a : Asker) (m : Option Method) (found : Option Named) → Refuses (wish_at a m found)
 refuses_wish a m None = refl
-refuses_wish a m (Some named) = refuses_granted a named (offered m named.place)
+refuses_wish a m (Some named) = refuses_granted a named (want_at m named.place)
 
 -- a length that can't be read, is too large, or isn't 0 although no body is taken
 refuses_within : (takes : Bool) (told : Option ℕ) → Refuses (body_within takes told)
@@ -365,7 +365,7 @@ module _ {K : Type 0} (stands : K → State → Type 0) (is_clean is_live : K �
       let i = some_left unread in nothing_of keeper command unread i.0 i.1 response Wants none (h i.0)
 
   -- memory ran out
-  pub unavailable : (keeper : K) (command : Bool) (unread : Option (List ℕ)) (response : Response) (Wants : List ℕ → State → Reaction) → reply_of response ≡ fixed status.Unavailable
+  pub unavailable : (keeper : K) (command : Bool) (unread : Option (List ℕ)) (response : Response) (Wants : List ℕ → State → Reaction) → reply_of response ≡ reply_of_status status.Unavailable
       → Responds stands is_clean is_live leaves is_same keeper keeper command unread (Ok response) Wants
   unavailable keeper command unread response Wants is =
       let i = some_left unread in record {
@@ -396,7 +396,7 @@ module _ {K : Type 0} (stands : K → State → Type 0) (is_clean is_live : K �
 
   -- the input ended before the end of the body
   pub cut_short : (keeper : K) (command : Bool) (unread : Option (List ℕ)) (response : Response) (w : Wish) (n : ℕ) (c : Caller) (behind : List ℕ)
-      → reply_of response ≡ fixed status.BadRequest → IsCutShort behind unread n
+      → reply_of response ≡ reply_of_status status.BadRequest → IsCutShort behind unread n
       → Responds stands is_clean is_live leaves is_same keeper keeper command unread (Ok response)
       (λ left s. Runs w n c (behind ++ left) s)
   cut_short keeper command unread response w n c behind is cut =
@@ -421,14 +421,14 @@ module _ {K : Type 0} (stands : K → State → Type 0) (is_clean is_live : K �
     left = read.left;
     told = read.told;
     clean = serves.clean;
-    live = λ clean done. is_live_behind answer (serves.live clean) (subst (λ (r : Reply). is_done r.status ≡ true) is done);
+    live = λ clean done. is_live_after answer (serves.live clean) (subst (λ (r : Reply). is_done r.status ≡ true) is done);
     given = λ clean s st.
-        subst (Gives (stands new) (leaves new) command s (Runs w n c (behind ++ read.left) s)) (sym is)
+        subst (HasReplied (stands new) (leaves new) command s (Runs w n c (behind ++ read.left) s)) (sym is)
         (replied (stands new) (leaves new) s t body (Runs w n c (behind ++ read.left) s) (done_for s) command answer (serves.done clean s st)
         (λ is. serves.kept is clean s st));
     same = λ undone. serves.same (changes_nothing command answer response.status (ap (λ (r : Reply). r.status) is) undone);
     crash = λ clean s past st l.
-        subst (Stops (leaves new) past (Runs w n c (behind ++ read.left) s)) (sym is)
+        subst (CrashMayLeaveReply (leaves new) past (Runs w n c (behind ++ read.left) s)) (sym is)
         (stopped (stands new) (leaves new) s t body (Runs w n c (behind ++ read.left) s) (done_for s) past answer (serves.crash clean s past st l));
   }
     where
@@ -452,7 +452,7 @@ module _ {K : Type 0} (stands : K → State → Type 0) (is_clean is_live : K �
 
   -- the path names no place, or the place doesn't offer this method, or it is for the other asker
   pub no_wish : (keeper : K) (unread : Option (List ℕ)) (response : Response) (c : Caller) (h : RequestHead) (behind : List ℕ) (refusal : Status)
-      → reply_of response ≡ fixed refusal → is_done refusal ≡ false → wish_of (asker_of c) h.method h.target ≡ Err refusal
+      → reply_of response ≡ reply_of_status refusal → is_done refusal ≡ false → wish_of (asker_of c) h.method h.target ≡ Err refusal
       → Responds stands is_clean is_live leaves is_same keeper keeper (is_post (method_of h.method)) unread (Ok response) (λ left s. ByCaller c h (behind ++ left) s)
   no_wish keeper unread response c h behind refusal is none refused =
       nothing keeper (is_post (method_of h.method)) unread response (λ left s. ByCaller c h (behind ++ left) s) (ap (λ (r : Reply). is_done r.status) is ∙ none)
@@ -460,7 +460,7 @@ module _ {K : Type 0} (stands : K → State → Type 0) (is_clean is_live : K �
 
   -- the length of the body is missing, bad, or too large
   pub no_length : (keeper : K) (unread : Option (List ℕ)) (response : Response) (c : Caller) (h : RequestHead) (behind : List ℕ) (w : Wish) (refusal : Status)
-      → reply_of response ≡ fixed refusal → is_done refusal ≡ false → wish_of (asker_of c) h.method h.target ≡ Ok w → body_of h w.want ≡ Err refusal
+      → reply_of response ≡ reply_of_status refusal → is_done refusal ≡ false → wish_of (asker_of c) h.method h.target ≡ Ok w → body_of h w.want ≡ Err refusal
       → Responds stands is_clean is_live leaves is_same keeper keeper (is_post (method_of h.method)) unread (Ok response) (λ left s. ByCaller c h (behind ++ left) s)
   no_length keeper unread response c h behind w refusal is none wanted refused =
       nothing keeper (is_post (method_of h.method)) unread response (λ left s. ByCaller c h (behind ++ left) s) (ap (λ (r : Reply). is_done r.status) is ∙ none)
@@ -485,7 +485,7 @@ module _ {K : Type 0} (stands : K → State → Type 0) (is_clean is_live : K �
       → is_done response.status ≡ false
       → Reads stands is_clean is_live leaves is_same (λ (n : Option ℕ). n) old new found (owner key)
       → ((left : List ℕ) (s : State) → stands old s → is_clean new
-      → Wants left s (reply_of response) s ⊎ (reply_of response ≡ fixed status.Unavailable))
+      → Wants left s (reply_of response) s ⊎ (reply_of response ≡ reply_of_status status.Unavailable))
       → Responds stands is_clean is_live leaves is_same old new command unread (Ok response) Wants
   asked_in_vain old new command unread response key Wants found none reads h =
       let i = some_left unread in record {
@@ -498,14 +498,14 @@ module _ {K : Type 0} (stands : K → State → Type 0) (is_clean is_live : K �
         crash = λ c s past st l. inl (reads.crash c past l);
       }
     where
-      gives : (s : State) → stands new s → Wants (some_left unread).0 s (reply_of response) s ⊎ (reply_of response ≡ fixed status.Unavailable)
-          → Gives (stands new) (leaves new) command s (Wants (some_left unread).0 s) (reply_of response)
+      gives : (s : State) → stands new s → Wants (some_left unread).0 s (reply_of response) s ⊎ (reply_of response ≡ reply_of_status status.Unavailable)
+          → HasReplied (stands new) (leaves new) command s (Wants (some_left unread).0 s) (reply_of response)
       gives s st (inl wants) = inl (s, st, wants, λ is done. (let x = none in cc))
       gives s st (inr is) = inr (is, st)
 
   -- the key is nobody's
   pub by_nobody : (old new : K) (command : Bool) (unread : Option (List ℕ)) (response : Response) (office key : List ℕ) (h : RequestHead) (behind : List ℕ)
-      → bytes_eq key office ≡ false → reply_of response ≡ fixed status.Forbidden
+      → bytes_eq key office ≡ false → reply_of response ≡ reply_of_status status.Forbidden
       → Reads stands is_clean is_live leaves is_same (λ (n : Option ℕ). n) old new (Ok None) (owner key)
       → Responds stands is_clean is_live leaves is_same old new command unread (Ok response) (λ left s. ByKey office key h (behind ++ left) s)
   by_nobody old new command unread response office key h behind e is reads =
@@ -515,7 +515,7 @@ module _ {K : Type 0} (stands : K → State → Type 0) (is_clean is_live : K �
 
   -- the owner of the key couldn't be looked up
   pub by_none : (old new : K) (command : Bool) (unread : Option (List ℕ)) (response : Response) (office key : List ℕ) (h : RequestHead) (behind : List ℕ) (f : StoreFault)
-      → reply_of response ≡ fixed status.Unavailable
+      → reply_of response ≡ reply_of_status status.Unavailable
       → Reads stands is_clean is_live leaves is_same (λ (n : Option ℕ). n) old new (Err f) (owner key)
       → Responds stands is_clean is_live leaves is_same old new command unread (Ok response) (λ left s. ByKey office key h (behind ++ left) s)
   by_none old new command unread response office key h behind f is reads =
@@ -671,8 +671,8 @@ module _ {K : Type 0} (stands : K → State → Type 0) (is_clean is_live : K �
           headed h (behind ++ r.left) reply after (begins r.left) (subst (λ (k : Option (List ℕ)). ByKeys office k h (behind ++ r.left) s reply after) (sym has) wants)
 
       answers : (s : State) (result : Result Response Failed)
-          → Given (stands new) (leaves new) (is_post (method_of h.method)) s (ByKey office key h (behind ++ r.left) s) result
-          → MatchResult result (λ response. Answers (stands new) (leaves new) (is_post (method_of h.method)) office input s (reply_of response)) (λ failed. stands new s)
+          → HasRepliedOrFailed (stands new) (leaves new) (is_post (method_of h.method)) s (ByKey office key h (behind ++ r.left) s) result
+          → MatchResult result (λ response. AnswersInput (stands new) (leaves new) (is_post (method_of h.method)) office input s (reply_of response)) (λ failed. stands new s)
       answers s (Ok response) (inl g) = (g.0, g.1, reacts s (reply_of response) g.0 g.2, g.3)
       answers s (Ok response) (inr g) = (
         s,
@@ -743,7 +743,7 @@ module _ {K : Type 0} {stands : K → State → Type 0} {is_clean is_live : K �
     command = a.command;
     posted = a.posted;
     is_posted = λ read. absurd read;
-    reply = fixed status.Unavailable;
+    reply = reply_of_status status.Unavailable;
     replied = same;
     live = λ clean. tt;
     settled = a.answers;
@@ -764,7 +764,7 @@ module _ {K : Type 0} {stands : K → State → Type 0} {is_clean is_live : K �
   left_known (Err failed) none a = λ c s st. a.known c s st refl
 
 -- a request without a key, or with more than one, gets 403
-pub unkeyed : (s : State) (office input rest : List ℕ) (h : RequestHead) (reply : Reply) → BeginsWith 8192 32 input h rest → key_of h ≡ None → reply ≡ fixed status.Forbidden
+pub unkeyed : (s : State) (office input rest : List ℕ) (h : RequestHead) (reply : Reply) → BeginsWith 8192 32 input h rest → key_of h ≡ None → reply ≡ reply_of_status status.Forbidden
     → Reacts office input s reply s
 unkeyed s office input rest h reply begins has is =
     headed h rest reply s begins (subst (λ (k : Option (List ℕ)). ByKeys office k h rest s reply s) (sym has) (is, refl))

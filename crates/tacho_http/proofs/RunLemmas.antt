@@ -5,7 +5,7 @@ use Rattle.std.proofs.lemmas.List.{take_more, take_more_set, drop_more, drop-set
 use Rattle.std.proofs.Math.ListN.{set}
 use Rattle.std.specs.Prelude.{◌↔◌, IsErrOf, MatchResult, is_ok}
 use Rattle.tacho_state.specs.State.{State}
-use Rattle.tacho_http.specs.Answer.{Exchanged, IsReplied, Settles, Stops, StopsAt, is_done}
+use Rattle.tacho_http.specs.Answer.{Exchanged, IsReplied, Settles, CrashMayLeaveReply, CrashMayLeaveServed, is_done}
 use Rattle.tacho_http.specs.Reply.{Reply}
 use Rattle.tacho_http.specs.Run.{Ended, Kept, Leaves, Run, Went, WentKept}
 use Rattle.tacho_http.specs.Serve.{Reacts}
@@ -99,7 +99,7 @@ module _ {K : Type 0} {stands : K → State → Type 0} {is_clean is_live : K �
   -- the states that a crash may leave after it
   leaves_by : (s t : State) (past : List State) (done : Bool) → is_done x.reply.status ≡ done → (command : Bool) → x.command ≡ command
       → (x.command ≡ true → is_done x.reply.status ≡ true → leaves mid (t ∷ []))
-      → Stops (leaves mid) past (Reacts office x.input s) x.reply
+      → CrashMayLeaveReply (leaves mid) past (Reacts office x.input s) x.reply
       → (future : List State) × leaves mid future × Leaves office x.input s x.reply t past future
   leaves_by s t past true is true c kept stopped = (t ∷ [], kept c is, record { one = inr (inl refl); kept = λ p d. refl })
   leaves_by s t past true is false c kept (inl l) = (past, l, record { one = inl refl; kept = λ p d. (let no = x.posted p in cc) })
@@ -114,7 +114,7 @@ module _ {K : Type 0} {stands : K → State → Type 0} {is_clean is_live : K �
   went_kept clean a st l = by result x.replied e f (x.settled clean a.state st) (x.crash clean a.state a.past st l)
     where
       by : (result : Result Served IoFault) → IsReplied old new x.reply result → (IsErrOf result io.Read ↔ (reader_failed ≡ true)) → (IsErrOf result io.Write ↔ (writer_failed ≡ true))
-          → Settles (stands mid) (leaves mid) x.command office x.input a.state x.reply result → StopsAt (leaves mid) a.past office x.input a.state x.reply result
+          → Settles (stands mid) (leaves mid) x.command office x.input a.state x.reply result → CrashMayLeaveServed (leaves mid) a.past office x.input a.state x.reply result
           → (b : Kept) × stands mid b.state × leaves mid b.past × WentKept office unread old new reader_failed writer_failed (counted result) a b
       by (Ok served) wrote e f s stopped =
           let l = leaves_by a.state s.0 a.past (is_done x.reply.status) refl x.command refl s.3 stopped in (

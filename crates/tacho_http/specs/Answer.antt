@@ -13,7 +13,7 @@ use Rattle.tacho_state.specs.Steps.{owner}
 use Rattle.tacho_state.specs.declared.caller.Caller.{Caller}
 use Rattle.tacho_state.specs.declared.caller.Caller.TheVariants as caller
 use Rattle.tacho_http.specs.Asked.{Wish, asker_of, is_post, wish_of}
-use Rattle.tacho_http.specs.Reply.{Reply, bytes_of_reply, fixed, reply_of}
+use Rattle.tacho_http.specs.Reply.{Reply, bytes_of_reply, reply_of_status, reply_of}
 use Rattle.tacho_http.specs.Serve.{Reacts, Reaction, body_of}
 use Rattle.tacho_http.specs.declared.exchange.IoFault.{IoFault}
 use Rattle.tacho_http.specs.declared.exchange.IoFault.TheVariants as io
@@ -28,26 +28,26 @@ is_done other = false
 
 -- the reply is one that the request may get, and the archive has the state after it; if this is a command that was done, a crash leaves
 -- that state and no other. Or the reply is 503, and the archive has the state before.
-abbrev pub Gives : (State → Type 0) → (List State → Type 0) → Bool → State → Reaction → Reply → Type 0
-Gives stands leaves command s Wants reply =
+abbrev pub HasReplied : (State → Type 0) → (List State → Type 0) → Bool → State → Reaction → Reply → Type 0
+HasReplied stands leaves command s Wants reply =
     ((after : State) × stands after × Wants reply after × (command ≡ true → is_done reply.status ≡ true → leaves (after ∷ [])))
-    ⊎ ((reply ≡ fixed status.Unavailable) × stands s)
+    ⊎ ((reply ≡ reply_of_status status.Unavailable) × stands s)
 
 -- a crash may leave what it could leave before the call, or also the state after the reply, or, if the reply is 503, after some reply that
 -- the request may get
-abbrev pub Stops : (List State → Type 0) → List State → Reaction → Reply → Type 0
-Stops leaves past Wants reply =
-    leaves past ⊎ ((other : Reply) × (after : State) × ((other ≡ reply) ⊎ (reply ≡ fixed status.Unavailable)) × Wants other after × leaves (after ∷ past))
+abbrev pub CrashMayLeaveReply : (List State → Type 0) → List State → Reaction → Reply → Type 0
+CrashMayLeaveReply leaves past Wants reply =
+    leaves past ⊎ ((other : Reply) × (after : State) × ((other ≡ reply) ⊎ (reply ≡ reply_of_status status.Unavailable)) × Wants other after × leaves (after ∷ past))
 
 -- likewise; if the reader failed, the archive has the state before
-abbrev pub Given : (State → Type 0) → (List State → Type 0) → Bool → State → Reaction → Result Response Failed → Type 0
-Given stands leaves command s Wants (Ok response) = Gives stands leaves command s Wants (reply_of response)
-Given stands leaves command s Wants (Err failed) = stands s
+abbrev pub HasRepliedOrFailed : (State → Type 0) → (List State → Type 0) → Bool → State → Reaction → Result Response Failed → Type 0
+HasRepliedOrFailed stands leaves command s Wants (Ok response) = HasReplied stands leaves command s Wants (reply_of response)
+HasRepliedOrFailed stands leaves command s Wants (Err failed) = stands s
 
 -- the states that a crash may leave; if the reader failed, those from before the call
-abbrev pub Stopped : (List State → Type 0) → List State → Reaction → Result Response Failed → Type 0
-Stopped leaves past Wants (Ok response) = Stops leaves past Wants (reply_of response)
-Stopped leaves past Wants (Err failed) = leaves past
+abbrev pub CrashMayLeaveResult : (List State → Type 0) → List State → Reaction → Result Response Failed → Type 0
+CrashMayLeaveResult leaves past Wants (Ok response) = CrashMayLeaveReply leaves past Wants (reply_of response)
+CrashMayLeaveResult leaves past Wants (Err failed) = leaves past
 
 -- nothing was posted, or nothing was done, or the reader failed
 abbrev pub IsUndone : Bool → Result Response Failed → Type 0
@@ -64,9 +64,9 @@ pub record Responds {K : Type 0} (stands : K → State → Type 0) (is_clean is_
   pub told : IfSome unread (λ all. left ≡ all)
   pub clean : is_clean new → is_clean old
   pub live : is_clean new → IfOk result (λ response. is_done response.status ≡ true → is_live new)
-  pub given : is_clean new → (s : State) → stands old s → Given (stands new) (leaves new) command s (Wants left s) result
+  pub given : is_clean new → (s : State) → stands old s → HasRepliedOrFailed (stands new) (leaves new) command s (Wants left s) result
   pub same : IsUndone command result → is_clean new → (s : State) → stands old s → is_same old new
-  pub crash : is_clean new → (s : State) (past : List State) → stands old s → leaves old past → Stopped (leaves new) past (Wants left s) result
+  pub crash : is_clean new → (s : State) (past : List State) → stands old s → leaves old past → CrashMayLeaveResult (leaves new) past (Wants left s) result
 
 -- ---- how much of a request was read
 
@@ -118,8 +118,8 @@ IsPosted input = (h : RequestHead) × (rest : List ℕ) × BeginsWith 8192 32 in
 
 -- the reply is one that the input may get, and the archive has the state after it; if this is a command that was done, a crash leaves that
 -- state and no other
-abbrev pub Answers : (State → Type 0) → (List State → Type 0) → Bool → List ℕ → List ℕ → State → Reply → Type 0
-Answers stands leaves command office input s reply =
+abbrev pub AnswersInput : (State → Type 0) → (List State → Type 0) → Bool → List ℕ → List ℕ → State → Reply → Type 0
+AnswersInput stands leaves command office input s reply =
     (after : State) × stands after × Reacts office input s reply after × (command ≡ true → is_done reply.status ≡ true → leaves (after ∷ []))
 
 -- A request was read from a reader and answered; the input is the reader's, if its bytes are known, otherwise some input. Or the reader
@@ -134,9 +134,9 @@ pub record Answered {K : Type 0} (stands : K → State → Type 0) (is_clean is_
   pub clean : is_clean new → is_clean old
   pub live : is_clean new → IfOk result (λ response. is_done response.status ≡ true → is_live new)
   pub answers : is_clean new → (s : State) → stands old s
-      → MatchResult result (λ response. Answers (stands new) (leaves new) command office input s (reply_of response)) (λ failed. stands new s)
+      → MatchResult result (λ response. AnswersInput (stands new) (leaves new) command office input s (reply_of response)) (λ failed. stands new s)
   pub same : IsUndone command result → is_clean new → (s : State) → stands old s → is_same old new
-  pub crash : is_clean new → (s : State) (past : List State) → stands old s → leaves old past → Stopped (leaves new) past (Reacts office input s) result
+  pub crash : is_clean new → (s : State) (past : List State) → stands old s → leaves old past → CrashMayLeaveResult (leaves new) past (Reacts office input s) result
   pub unfinished : IsErr result → IsUnfinished (MayAsk office) unread left
   pub known : is_clean new → (s : State) → stands old s → IsErr result → IsUnfinished (Asks s office) unread left
 
@@ -156,15 +156,15 @@ IsReplied old new reply (Err io.Read) = new ≡ old
 
 -- the request was answered; or the reader failed, and the archive has the state before
 abbrev pub Settles : (State → Type 0) → (List State → Type 0) → Bool → List ℕ → List ℕ → State → Reply → Result Served IoFault → Type 0
-Settles stands leaves command office input s reply (Ok served) = Answers stands leaves command office input s reply
-Settles stands leaves command office input s reply (Err io.Write) = Answers stands leaves command office input s reply
+Settles stands leaves command office input s reply (Ok served) = AnswersInput stands leaves command office input s reply
+Settles stands leaves command office input s reply (Err io.Write) = AnswersInput stands leaves command office input s reply
 Settles stands leaves command office input s reply (Err io.Read) = stands s
 
 -- a crash may leave what it could leave before the call, or also the state after the reply; if the reader failed, only the former
-abbrev pub StopsAt : (List State → Type 0) → List State → List ℕ → List ℕ → State → Reply → Result Served IoFault → Type 0
-StopsAt leaves past office input s reply (Ok served) = Stops leaves past (Reacts office input s) reply
-StopsAt leaves past office input s reply (Err io.Write) = Stops leaves past (Reacts office input s) reply
-StopsAt leaves past office input s reply (Err io.Read) = leaves past
+abbrev pub CrashMayLeaveServed : (List State → Type 0) → List State → List ℕ → List ℕ → State → Reply → Result Served IoFault → Type 0
+CrashMayLeaveServed leaves past office input s reply (Ok served) = CrashMayLeaveReply leaves past (Reacts office input s) reply
+CrashMayLeaveServed leaves past office input s reply (Err io.Write) = CrashMayLeaveReply leaves past (Reacts office input s) reply
+CrashMayLeaveServed leaves past office input s reply (Err io.Read) = leaves past
 
 -- the reader failed, or nothing was posted, or nothing was done
 abbrev pub IsUndoneBy : Bool → Reply → Result Served IoFault → Type 0
@@ -192,4 +192,4 @@ pub record Exchanged {K : Type 0} (stands : K → State → Type 0) (is_clean is
   pub settled : is_clean new → (s : State) → stands old s → Settles (stands new) (leaves new) command office input s reply result
   pub same : IsUndoneBy command reply result → is_clean new → (s : State) → stands old s → is_same old new
   pub crash : is_clean new → (s : State) (past : List State) → stands old s → leaves old past
-      → StopsAt (leaves new) past office input s reply result
+      → CrashMayLeaveServed (leaves new) past office input s reply result

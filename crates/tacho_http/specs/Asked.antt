@@ -26,10 +26,10 @@ pub record Wish : Type 0 where
   pub word : List ℕ
 
 -- what a place offers for a method, if anything
-abbrev pub offered : Option Method → Place → Option Want
-offered None place = None
-offered (Some method.Get) place = place.get
-offered (Some method.Post) place = place.post
+abbrev pub want_at : Option Method → Place → Option Want
+want_at None place = None
+want_at (Some method.Get) place = place.get
+want_at (Some method.Post) place = place.post
 
 -- the place is for this asker
 abbrev pub same_asker : Asker → Asker → Bool
@@ -38,15 +38,15 @@ same_asker Driver Driver = true
 same_asker a b = false
 
 -- 405, 403, or what is asked for
-abbrev pub granted : Asker → Named → Option Want → Result Wish Status
-granted a named None = Err status.MethodNotAllowed
-granted a named (Some want) =
+abbrev pub wish_granted : Asker → Named → Option Want → Result Wish Status
+wish_granted a named None = Err status.MethodNotAllowed
+wish_granted a named (Some want) =
     if same_asker a named.place.asker then Ok (record { want = want; driver = named.driver; word = named.word }) else Err status.Forbidden
 
 -- 404, 405, 403, or what is asked for
 abbrev pub wish_at : Asker → Option Method → Option Named → Result Wish Status
 wish_at a m None = Err status.NotFound
-wish_at a m (Some named) = granted a named (offered m named.place)
+wish_at a m (Some named) = wish_granted a named (want_at m named.place)
 
 abbrev pub wish_of : Asker → List ℕ → List ℕ → Result Wish Status
 wish_of a text path = wish_at a (method_of text) (named_at path)

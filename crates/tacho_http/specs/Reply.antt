@@ -7,7 +7,7 @@ use Rattle.tacho_sheet.specs.Lines.{fault_line}
 use Rattle.tacho_sheet.specs.declared.fault.Fault.{Fault as ToldFault}
 use Rattle.tacho_sheet.specs.declared.fault.Fault.TheVariants as told
 use Rattle.tacho_sheet.specs.declared.fault.SheetFault.TheVariants as sheet
-use Rattle.tacho_desk.specs.Told.{Answer, Told, Added, Line, Long, File, bytes_of, told_of}
+use Rattle.tacho_desk.specs.Told.{Answer, Told, Added, Line, Long, File, bytes_of, told_text}
 use Rattle.tacho_desk.specs.declared.fault.Fault.{Fault}
 use Rattle.tacho_desk.specs.declared.fault.Fault.TheVariants as fault
 use Rattle.tacho_message.specs.Reply.{reply_bytes}
@@ -46,8 +46,8 @@ fixed_text status.Created = []
 fixed_text status.Conflict = []
 fixed_text status.UnprocessableEntity = []
 
-abbrev pub fixed : Status → Reply
-fixed s = text_reply s (fixed_text s)
+abbrev pub reply_of_status : Status → Reply
+reply_of_status s = text_reply s (fixed_text s)
 
 -- the status of the archive's refusals; below, also of bad arguments in a path and of bad rows in a body
 abbrev pub store_status : StoreFault → Status
@@ -81,13 +81,13 @@ fault_status (told.Sheet f) = status.UnprocessableEntity
 
 -- the line of the fault, unless the status is 503 (out of memory, a failed store, an old schema): then the fixed text
 abbrev pub told_reply : Status → ToldFault → Reply
-told_reply status.Unavailable f = fixed status.Unavailable
+told_reply status.Unavailable f = reply_of_status status.Unavailable
 told_reply s f = text_reply s (fault_line f)
 
 abbrev pub fault_reply : Fault → Reply
 fault_reply (fault.Told f) = told_reply (fault_status f) f
-fault_reply fault.Device = fixed status.Unavailable
-fault_reply fault.Memory = fixed status.Unavailable
+fault_reply fault.Device = reply_of_status status.Unavailable
+fault_reply fault.Memory = reply_of_status status.Unavailable
 
 -- 201 if something was added
 abbrev pub done_reply : Told → Reply
@@ -105,7 +105,7 @@ reply_to (Err f) = fault_reply f
 abbrev pub body_bytes : Body → List ℕ
 body_bytes (body.Fixed text) = text.now
 body_bytes (body.Line line) = line.bytes
-body_bytes (body.Told text) = bytes_of (told_of text)
+body_bytes (body.Told text) = bytes_of (told_text text)
 
 abbrev pub reply_of : Response → Reply
 reply_of r = record { status = r.status; media = r.media; body = body_bytes r.body }

@@ -23,8 +23,8 @@ abbrev pub table_row : List ℕ → Asker → Option Want → Option Want → Ta
 table_row path a get post = (path, record { asker = a; get = get; post = post })
 
 -- what the office may ask for, and what a driver may; no other path is answered
-abbrev pub the_table : List TableRow
-the_table =
+abbrev pub route_table : List TableRow
+route_table =
     table_row (codes "/drivers") Office None (Some Register)
     ∷ table_row (codes "/cards/{word}") Office None (Some Import)
     ∷ table_row (codes "/drivers/{driver}/entries") Office (Some (Reading Entries)) (Some Enter)
@@ -86,4 +86,4 @@ named_by path route = record {
 }
 
 abbrev pub named_at : List ℕ → Option Named
-named_at path = option_map (named_by path) (first (rows_of_table [] the_table) path)
+named_at path = option_map (named_by path) (first (rows_of_table [] route_table) path)

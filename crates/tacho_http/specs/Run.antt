@@ -3,7 +3,7 @@ use Rattle.std.specs.Prelude.{◌≡◌, ◌⊎◌, ◌+◌, ℕ, List, [], ◌�
 use Rattle.tacho_message.specs.declared.reply.Status.TheVariants as status
 use Rattle.tacho_state.specs.State.{State}
 use Rattle.tacho_http.specs.Answer.{IsBegun, IsPosted, IsWritten, is_done}
-use Rattle.tacho_http.specs.Reply.{Reply, fixed}
+use Rattle.tacho_http.specs.Reply.{Reply, reply_of_status}
 use Rattle.tacho_http.specs.Serve.{Reacts}
 
 -- how a connection ended: it was answered, and counts; or only the writer failed, during the reply; or only the reader failed, and nothing
@@ -29,7 +29,7 @@ pub record Kept : Type 0 where
 -- the states that a crash may leave after a reply: those from before, or also the state after the reply, or, after 503, the state after
 -- some other reply; after a command that was done, only the state after it
 pub record Leaves (office input : List ℕ) (s : State) (reply : Reply) (t : State) (past future : List State) : Type 0 where
-  pub one : (future ≡ past) ⊎ ((future ≡ t ∷ []) ⊎ ((other : Reply) × (after : State) × ((other ≡ reply) ⊎ (reply ≡ fixed status.Unavailable))
+  pub one : (future ≡ past) ⊎ ((future ≡ t ∷ []) ⊎ ((other : Reply) × (after : State) × ((other ≡ reply) ⊎ (reply ≡ reply_of_status status.Unavailable))
       × Reacts office input s other after × (future ≡ after ∷ past)))
   pub kept : IsPosted input → is_done reply.status ≡ true → future ≡ t ∷ []
 

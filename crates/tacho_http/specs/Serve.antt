@@ -11,14 +11,14 @@ use Rattle.tacho_desk.specs.Told.{Answer}
 use Rattle.tacho_desk.specs.Wants.{takes_input}
 use Rattle.tacho_desk.specs.Words.{IsTask, Wanted}
 use Rattle.tacho_desk.specs.declared.want.Want.{Want}
-use Rattle.tacho_message.specs.Head.{BeginsWith, Refuses}
+use Rattle.tacho_message.specs.Head.{BeginsWith, IsHeadFault}
 use Rattle.tacho_message.specs.Length.{body_length, method_of}
 use Rattle.tacho_message.specs.Request.{fields_of, key_of}
 use Rattle.tacho_message.specs.declared.head.HeadFault.TheVariants as head
 use Rattle.tacho_message.specs.declared.reply.Status.{Status}
 use Rattle.tacho_message.specs.declared.reply.Status.TheVariants as status
 use Rattle.tacho_http.specs.Asked.{Wish, asker_of, wish_of}
-use Rattle.tacho_http.specs.Reply.{Reply, fixed, reply_to}
+use Rattle.tacho_http.specs.Reply.{Reply, reply_of_status, reply_to}
 
 -- a reply, and the state after it
 abbrev pub Reaction : Type 1
@@ -31,22 +31,22 @@ RepliesOnly told s reply after = (reply ≡ told) × (after ≡ s)
 -- ---- the checks in their order
 
 -- 400 if an argument is bad, otherwise the reply to what the task answers
-abbrev pub DoesWanted : Wanted → List ℕ → State → Reaction
-DoesWanted (Err f) body s = RepliesOnly (reply_to (Err f)) s
-DoesWanted (Ok t) body s = λ reply after. (answer : Answer) × Does t body s answer after × (reply ≡ reply_to answer)
+abbrev pub RepliesToTask : Wanted → List ℕ → State → Reaction
+RepliesToTask (Err f) body s = RepliesOnly (reply_to (Err f)) s
+RepliesToTask (Ok t) body s = λ reply after. (answer : Answer) × Does t body s answer after × (reply ≡ reply_to answer)
 
 -- 400 if the input ends before the end of the body; bytes after the body are ignored
 abbrev pub Bodied : ℕ → List ℕ → State → (List ℕ → Reaction) → Reaction
 Bodied n rest s With reply after =
-    ((length rest < n) × RepliesOnly (fixed status.BadRequest) s reply after) ⊎ ((n ≤ length rest) × With (take n rest) reply after)
+    ((length rest < n) × RepliesOnly (reply_of_status status.BadRequest) s reply after) ⊎ ((n ≤ length rest) × With (take n rest) reply after)
 
 -- what is asked for is done with its body; its arguments are read from left to right
 abbrev pub Runs : Wish → ℕ → Caller → List ℕ → State → Reaction
-Runs w n c rest s = Bodied n rest s (λ body reply after. (wanted : Wanted) × IsTask w.want c w.driver w.word wanted × DoesWanted wanted body s reply after)
+Runs w n c rest s = Bodied n rest s (λ body reply after. (wanted : Wanted) × IsTask w.want c w.driver w.word wanted × RepliesToTask wanted body s reply after)
 
 -- 400, 411 or 413 if the length of the body is refused
 abbrev pub WithBody : Result ℕ Status → Wish → Caller → List ℕ → State → Reaction
-WithBody (Err refusal) w c rest s = RepliesOnly (fixed refusal) s
+WithBody (Err refusal) w c rest s = RepliesOnly (reply_of_status refusal) s
 WithBody (Ok n) w c rest s = Runs w n c rest s
 
 -- how many bytes of a body are read for what is asked for
@@ -55,7 +55,7 @@ body_of h want = body_length (method_of h.method) (takes_input want) (fields_of 
 
 -- 404, 405 or 403 if what is asked for is refused
 abbrev pub WithWish : Result Wish Status → Caller → RequestHead → List ℕ → State → Reaction
-WithWish (Err refusal) c h rest s = RepliesOnly (fixed refusal) s
+WithWish (Err refusal) c h rest s = RepliesOnly (reply_of_status refusal) s
 WithWish (Ok w) c h rest s = WithBody (body_of h w.want) w c rest s
 
 -- a request by a caller
@@ -65,7 +65,7 @@ ByCaller c h rest s = WithWish (wish_of (asker_of c) h.method h.target) c h rest
 -- 403 if the key is nobody's
 abbrev pub ByOwner : Result (Option ℕ) StoreFault → RequestHead → List ℕ → State → Reaction
 ByOwner (Ok (Some n)) h rest s = ByCaller (caller.Driver n) h rest s
-ByOwner other h rest s = RepliesOnly (fixed status.Forbidden) s
+ByOwner other h rest s = RepliesOnly (reply_of_status status.Forbidden) s
 
 -- the office's key is checked first
 abbrev pub ByWhom : Bool → List ℕ → RequestHead → List ℕ → State → Reaction
@@ -77,7 +77,7 @@ ByKey office key h rest s = ByWhom (bytes_eq key office) key h rest s
 
 -- 403 unless there is exactly one key
 abbrev pub ByKeys : List ℕ → Option (List ℕ) → RequestHead → List ℕ → State → Reaction
-ByKeys office None h rest s = RepliesOnly (fixed status.Forbidden) s
+ByKeys office None h rest s = RepliesOnly (reply_of_status status.Forbidden) s
 ByKeys office (Some key) h rest s = ByKey office key h rest s
 
 -- The replies that an input may get, each with the state after it: by its head; or 400 or 431, if it has no head of at most 8,192 bytes and
@@ -85,6 +85,6 @@ ByKeys office (Some key) h rest s = ByKey office key h rest s
 pub data Reacts (office input : List ℕ) (s : State) : Reply → State → Type 0 where
   headed : (h : RequestHead) (rest : List ℕ) (reply : Reply) (after : State) → BeginsWith 8192 32 input h rest → ByKeys office (key_of h) h rest s reply after
       → Reacts office input s reply after
-  bad : Refuses 8192 32 input head.Bad → Reacts office input s (fixed status.BadRequest) s
-  large : Refuses 8192 32 input head.TooLarge → Reacts office input s (fixed status.FieldsTooLarge) s
-  unavailable : (h : RequestHead) (rest key : List ℕ) → BeginsWith 8192 32 input h rest → key_of h ≡ Some key → Reacts office input s (fixed status.Unavailable) s
+  bad : IsHeadFault 8192 32 input head.Bad → Reacts office input s (reply_of_status status.BadRequest) s
+  large : IsHeadFault 8192 32 input head.TooLarge → Reacts office input s (reply_of_status status.FieldsTooLarge) s
+  unavailable : (h : RequestHead) (rest key : List ℕ) → BeginsWith 8192 32 input h rest → key_of h ≡ Some key → Reacts office input s (reply_of_status status.Unavailable) s

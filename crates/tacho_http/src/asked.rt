@@ -1,5 +1,5 @@
 ghost use Rattle.std.specs.Prelude.{◌≡◌, option_map};
-ghost use Rattle.tacho_http.specs.Asked.{asker_of as asker_named, offered, same_asker, wish_at, wish_found};
+ghost use Rattle.tacho_http.specs.Asked.{asker_of as asker_named, want_at, same_asker, wish_at, wish_found};
 
 use crate::places::{Asker, Found, Place};
 use tacho_desk::Want;
@@ -33,7 +33,7 @@ fn is_same(a: Asker, b: Asker) -> bool
 
 /// What a place offers for a method, if anything.
 fn offered_at(method: Option<Method>, place: Place) -> Option<Want>
-    ensures { result ≡ offered method place }
+    ensures { result ≡ want_at method place }
 {
     match method {
         Some(Method::Get) => place.get,

@@ -1,5 +1,5 @@
 ghost use Rattle.std.specs.Prelude.{◌≡◌, [], IfOk, OnOk, map, option_map};
-ghost use Rattle.tacho_http.specs.Routes.{with_route, the_table, rows_of_table, named_at, or_empty, table_row};
+ghost use Rattle.tacho_http.specs.Routes.{with_route, route_table, rows_of_table, named_at, or_empty, table_row};
 ghost use Rattle.matchit.specs.Params.{AllText, named, walk};
 
 use self::Asker::{Driver, Office};
@@ -110,7 +110,7 @@ fn routes_of(alloc: Global, table: &[Row]) -> Result<Router<Place>, InsertError>
 
 /// Makes the router of all paths.
 pub(crate) fn routes(alloc: Global) -> Result<Router<Place>, InsertError>
-    ensures { IfOk result (λ r. r ≡ rows_of_table [] the_table) }
+    ensures { IfOk result (λ r. r ≡ rows_of_table [] route_table) }
 {
     routes_of(alloc, TABLE.as_slice())
 }
@@ -136,7 +136,7 @@ fn part_of<'p>(params: &Params<'_, 'p>, name: &str) -> &'p str
 
 /// Finds what a path names.
 pub(crate) fn find<'p>(router: &Router<Place>, path: &'p str) -> Option<Found<'p>>
-    requires { router.now ≡ rows_of_table [] the_table }
+    requires { router.now ≡ rows_of_table [] route_table }
     ensures { option_map (λ f. record { place = f.place; driver = f.driver.now; word = f.word.now }) result ≡ named_at path.now }
 {
     match router.at(path) {

@@ -1,6 +1,6 @@
 ghost use Rattle.std.specs.Prelude.{◌≡◌};
-ghost use Rattle.tacho_desk.specs.Told.{answer_of, told_of};
-ghost use Rattle.tacho_http.specs.Reply.{body_bytes, done_reply, fault_reply, fault_status, fixed as fixed_reply, fixed_text, reply_of, reply_to, store_status};
+ghost use Rattle.tacho_desk.specs.Told.{answer_of, told_text};
+ghost use Rattle.tacho_http.specs.Reply.{body_bytes, done_reply, fault_reply, fault_status, reply_of_status as fixed_reply, fixed_text, reply_of, reply_to, store_status};
 
 use tacho_card::CardFault;
 use tacho_desk::{Fault, Text};
@@ -126,7 +126,7 @@ pub(crate) fn refusal(fault: Fault) -> Response
 
 /// The reply to a task that was done: 201 if something was added. Allocates no memory.
 fn done(text: Text) -> Response
-    ensures { reply_of result ≡ done_reply (told_of text) }
+    ensures { reply_of result ≡ done_reply (told_text text) }
 {
     let (status, media) = match &text {
         Text::Added(_) => (Status::Created, MediaType::Text),

@@ -15,7 +15,7 @@ use Rattle.tacho_time.specs.declared.span.Mark.{Mark}
 use Rattle.tacho_time.specs.Spans.{Gives, IsCanonical, IsCanonicalOf, SamePairs}
 use Rattle.tacho_time.proofs.CanonicalLemmas.{later, first_given, canonical_starts}
 use Rattle.tacho_line.specs.Line.{mark_at, Holds, Together, AreNotHeld, IsWithin}
-use Rattle.tacho_line.specs.Join.{ShareNone, EitherGives, ending_before, ending_from, starting_by, starting_behind}
+use Rattle.tacho_line.specs.Join.{ShareNone, EitherGives, ending_before, ending_from, starting_by, starting_after}
 use Rattle.tacho_line.proofs.LineLemmas.{held_given, given_held}
 use Rattle.tacho_line.proofs.MergeLemmas.{IsBefore, IsApart, append_gives, front_gives, back_gives, canonical_join, front_is_canonical, back_is_canonical, parts_before, parts_apart, split_list, front_part, rest_part}
 
@@ -29,14 +29,14 @@ ending_minutes a (s ∷ ss) m k g = go (nat_lt s.past a) refl g (ending_minutes 
   go true e (inr x) more = more x
   go false e x more = absurd x
 
-starting_minutes : (b : ℕ) (xs : List Span) (m : ℕ) (k : Mark) → IsCanonical xs → Gives (starting_behind b xs) m k → b < m
+starting_minutes : (b : ℕ) (xs : List Span) (m : ℕ) (k : Mark) → IsCanonical xs → Gives (starting_after b xs) m k → b < m
 starting_minutes b [] m k h g = absurd g
 starting_minutes b (s ∷ ss) m k h g = go (nat_le s.start b) refl g (starting_minutes b ss m k h.2) where
   kept : b < s.start → Gives (s ∷ ss) m k → b < m
   kept l (inl c) = omega (arith, l, c.0.0)
   kept l (inr x) = let from = later s.past ss m k (canonical_starts s ss h) x in omega (arith, l, from, h.0)
 
-  go : (t : Bool) → nat_le s.start b ≡ t → Gives (cond t (starting_behind b ss) (s ∷ ss)) m k → (Gives (starting_behind b ss) m k → b < m) → b < m
+  go : (t : Bool) → nat_le s.start b ≡ t → Gives (cond t (starting_after b ss) (s ∷ ss)) m k → (Gives (starting_after b ss) m k → b < m) → b < m
   go true e x more = more x
   go false e x more = kept (grind (arith, nat_tests)) x
 
@@ -136,7 +136,7 @@ module _ (front middle back spans merged : List Span) (a b : ℕ)
 -- ---- the line
 
 -- a list consists of the spans before a range, those that overlap or touch it, and the rest
-parts : (a b : ℕ) (line : List Span) → line ≡ ending_before a line ++ (starting_by b (ending_from a line) ++ starting_behind b (ending_from a line))
+parts : (a b : ℕ) (line : List Span) → line ≡ ending_before a line ++ (starting_by b (ending_from a line) ++ starting_after b (ending_from a line))
 parts a b line =
     split_list (λ s. nat_lt s.past a) line ∙ ap (λ x. ending_before a line ++ x) (split_list (λ s. nat_le s.start b) (ending_from a line))
 
@@ -155,11 +155,11 @@ either_is line spans added h r = record {
   same = (λ m k. ((λ g. either_together line spans m k h ((r.same m k).0 g)), λ g. (r.same m k).1 (together_either line spans m k g)));
 }
 
-pub added_is : (line spans merged : List Span) (n a b : ℕ) (first last : Span) → IsCanonical line → IsCanonical spans → length spans ≡ n + 1 → (slice_index_or spans 0 first).start ≡ a → (slice_index_or spans n last).past ≡ b → IsCanonicalOf (EitherGives (starting_by b (ending_from a line)) spans) merged → IsCanonicalOf (Together line spans) (ending_before a line ++ (merged ++ starting_behind b (ending_from a line)))
+pub added_is : (line spans merged : List Span) (n a b : ℕ) (first last : Span) → IsCanonical line → IsCanonical spans → length spans ≡ n + 1 → (slice_index_or spans 0 first).start ≡ a → (slice_index_or spans n last).past ≡ b → IsCanonicalOf (EitherGives (starting_by b (ending_from a line)) spans) merged → IsCanonicalOf (Together line spans) (ending_before a line ++ (merged ++ starting_after b (ending_from a line)))
 added_is line spans merged n a b first last h c l from to run =
     let front = ending_before a line in
     let middle = starting_by b (ending_from a line) in
-    let back = starting_behind b (ending_from a line) in
+    let back = starting_after b (ending_from a line) in
     let whole = parts a b line in
     let known = subst IsCanonical whole h in
     let rest_known = subst IsCanonical (split_list (λ s. nat_le s.start b) (ending_from a line)) (back_is_canonical front (ending_from a line) (subst IsCanonical (split_list (λ s. nat_lt s.past a) line) h)) in
@@ -181,7 +181,7 @@ part_apart line spans a b h new m j k x y =
 
 pub part_canonical : (line : List Span) (a b : ℕ) → IsCanonical line → IsCanonical (starting_by b (ending_from a line))
 part_canonical line a b h =
-    front_is_canonical (starting_by b (ending_from a line)) (starting_behind b (ending_from a line)) (subst IsCanonical (split_list (λ s. nat_le s.start b) (ending_from a line)) (back_is_canonical (ending_before a line) (ending_from a line) (subst IsCanonical (split_list (λ s. nat_lt s.past a) line) h)))
+    front_is_canonical (starting_by b (ending_from a line)) (starting_after b (ending_from a line)) (subst IsCanonical (split_list (λ s. nat_le s.start b) (ending_from a line)) (back_is_canonical (ending_before a line) (ending_from a line) (subst IsCanonical (split_list (λ s. nat_lt s.past a) line) h)))
 
 -- adding no spans changes nothing
 pub none_added : (line : List Span) → IsCanonical line → IsCanonicalOf (Together line []) line
@@ -193,7 +193,7 @@ none_added line h = either_is line [] line h (record { canonical = h; same = (λ
 -- the list in which the merged spans replace those that were merged
 pub spans_added : (line spans merged new : List Span) (first last : Span) → IsCanonical line → IsCanonical spans → slice_get spans 0 ≡ Some first → slice_get spans (length spans - 1) ≡ Some last
     → IsCanonicalOf (EitherGives (starting_by last.past (ending_from first.start line)) spans) merged
-    → new ≡ ending_before first.start line ++ (merged ++ starting_behind last.past (ending_from first.start line)) → IsCanonicalOf (Together line spans) new
+    → new ≡ ending_before first.start line ++ (merged ++ starting_after last.past (ending_from first.start line)) → IsCanonicalOf (Together line spans) new
 spans_added line spans merged new first last h c from to run e =
     let some = slice_get_within spans 0 first from in
     let own = get_or_from_slice_get spans 0 first first from in

@@ -12,10 +12,10 @@ use Rattle.tacho_time.proofs.CanonicalLemmas.{later, canonical_starts, marks_equ
 use Rattle.tacho_line.specs.declared.gap.Gap.{Gap}
 use Rattle.tacho_line.specs.declared.line.LineFault.{LineFault}
 use Rattle.tacho_line.specs.declared.line.LineFault.TheVariants.{Contradiction, Memory}
-use Rattle.tacho_line.specs.Line.{mark_at, Together, IsWithin, InGaps, AreApart, AreGaps, is_empty, empty_from, first_empty, AreGains, IsGainFault}
-use Rattle.tacho_line.specs.Search.{behind, overlap}
+use Rattle.tacho_line.specs.Line.{mark_at, Together, IsWithin, InGaps, AreGapsApart, AreGaps, is_empty, empty_from, first_empty, AreGains, IsGainFault}
+use Rattle.tacho_line.specs.Search.{from_minute, overlap}
 use Rattle.tacho_line.specs.Walk.{gap_between, gaps_from, later_of, cut_to}
-use Rattle.tacho_line.specs.Gains.{conflict_in, first_of, conflict_of, span_between, new_from, lacking_of, IsConflictOf}
+use Rattle.tacho_line.specs.Gains.{conflict_in, first_or, conflict_of, span_between, new_from, lacking_of, IsConflictOf}
 use Rattle.tacho_line.proofs.LineLemmas.{canonical_from, held_given, given_held, overlap_holds}
 use Rattle.tacho_line.proofs.RangeLemmas.{Meet, overlap_meet, overlap_canonical, gaps_are, cuts_give, gives_cuts, later_facts, later_least, later_below}
 use Rattle.tacho_line.proofs.MergeLemmas.{append_gives, front_gives, back_gives, canonical_join, parts_before, parts_apart, front_part, rest_part}
@@ -63,7 +63,7 @@ gaps_marked mark [] m k g e = absurd g
 gaps_marked mark (x ∷ gaps) m k (inl c) e = inl (c, e)
 gaps_marked mark (x ∷ gaps) m k (inr g) e = inr (gaps_marked mark gaps m k g e)
 
-marked_canonical : (mark : Mark) (gaps : List Gap) → AreApart gaps → IsCanonical (marked mark gaps)
+marked_canonical : (mark : Mark) (gaps : List Gap) → AreGapsApart gaps → IsCanonical (marked mark gaps)
 marked_canonical mark [] h = tt
 marked_canonical mark (x ∷ []) h = (h.0, tt, tt)
 marked_canonical mark (x ∷ y ∷ gaps) h = (h.0, (omega (arith, h.1), λ e d. absurd (omega (arith, h.1, e))), marked_canonical mark (y ∷ gaps) h.2)
@@ -170,7 +170,7 @@ run_conflict r (s ∷ ss) full h e = go (same_mark s.mark r.mark) refl (run_conf
   go false t more = other_mark r s ss full h e.0 e.1 (marks_differ s.mark r.mark t)
 
 part_given : (line : List Span) (start past m : ℕ) (k : Mark) → Gives (overlap line start past) m k → Gives line m k
-part_given line start past m k g = rest_part (λ s. nat_le s.past start) line m k (front_part (λ s. nat_lt s.start past) (behind start line) m k g)
+part_given line start past m k g = rest_part (λ s. nat_le s.past start) line m k (front_part (λ s. nat_lt s.start past) (from_minute start line) m k g)
 
 given_part : (line : List Span) (start past m : ℕ) (k : Mark) → IsCanonical line → IsWithin start past m → Gives line m k → Gives (overlap line start past) m k
 given_part line start past m k h w g = held_given (overlap line start past) m k (overlap_holds line start past m h w ∙ given_held line m k h g)
@@ -199,7 +199,7 @@ some_run line runs r n c = go c.1 c.3 c.4 where
   go k (inl x) d = inl (c.0, k, c.2, inl x, d)
   go k (inr x) d = inr (c.0, k, c.2, x, d)
 
-more_runs : (line runs : List Span) (r : Span) (o rest : Option ℕ) → IsCanonical (r ∷ runs) → First (Clashes line (r ∷ [])) o → First (Clashes line runs) rest → First (Clashes line (r ∷ runs)) (first_of o rest)
+more_runs : (line runs : List Span) (r : Span) (o rest : Option ℕ) → IsCanonical (r ∷ runs) → First (Clashes line (r ∷ [])) o → First (Clashes line runs) rest → First (Clashes line (r ∷ runs)) (first_or o rest)
 more_runs line runs r (Some m) rest h f g =
     ((f.0.0, f.0.1, f.0.2, one_run r runs m f.0.1 f.0.3, f.0.4), λ n l c. early n l (some_run line runs r n c)) where
       early : (n : ℕ) → n < m → Clashes line (r ∷ []) n ⊎ Clashes line runs n → ⊥

@@ -6,7 +6,7 @@ use Rattle.tacho_time.specs.declared.span.Span.{Span}
 use Rattle.tacho_time.specs.Spans.{Gives, IsCanonical, GoesOn}
 use Rattle.tacho_time.proofs.CanonicalLemmas.{one_list}
 use Rattle.tacho_line.specs.declared.gap.Gap.{Gap}
-use Rattle.tacho_line.specs.Line.{InGaps, BeginsBehind, AreApart, AreGaps}
+use Rattle.tacho_line.specs.Line.{InGaps, BeginsAfter, AreGapsApart, AreGaps}
 
 -- a fixed mark; a gap as a span with this mark; a span as a gap
 abbrev one_mark : Mark
@@ -24,11 +24,11 @@ gaps_again [] = refl
 gaps_again (g ∷ gaps) = ap (λ gs. g ∷ gs) (gaps_again gaps)
 
 -- gaps that are apart are canonical as spans
-goes_on : (g : Gap) (gaps : List Gap) → BeginsBehind g gaps → GoesOn (as_span g) (map as_span gaps)
+goes_on : (g : Gap) (gaps : List Gap) → BeginsAfter g gaps → GoesOn (as_span g) (map as_span gaps)
 goes_on g [] h = tt
 goes_on g (next ∷ gaps) h = (omega (arith, h), λ touch. absurd (omega (arith, h, touch)))
 
-canonical : (gaps : List Gap) → AreApart gaps → IsCanonical (map as_span gaps)
+canonical : (gaps : List Gap) → AreGapsApart gaps → IsCanonical (map as_span gaps)
 canonical [] h = tt
 canonical (g ∷ gaps) h = (h.0, goes_on g gaps h.1, canonical gaps h.2)
 

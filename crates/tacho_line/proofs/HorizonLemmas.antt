@@ -8,10 +8,10 @@ use Rattle.tacho_time.proofs.CanonicalLemmas.{lt_or_le}
 use Rattle.tacho_line.specs.declared.horizon.Cause.TheVariants.{Unknown, Crew}
 use Rattle.tacho_line.specs.declared.horizon.Horizon.{Horizon}
 use Rattle.tacho_line.specs.Line.{mark_at, IsWithin, IsSingle, IsCrew, IsCause, IsHorizon}
-use Rattle.tacho_line.specs.Search.{behind}
+use Rattle.tacho_line.specs.Search.{from_minute}
 use Rattle.tacho_line.specs.Walk.{horizon_from}
-use Rattle.tacho_line.proofs.SearchLemmas.{rest_canonical, EndsBehind, behind_ends, next_ends}
-use Rattle.tacho_line.proofs.LineLemmas.{first_holds, rest_holds, none_before, canonical_from, behind_holds}
+use Rattle.tacho_line.proofs.SearchLemmas.{rest_canonical, EndsAfter, after_ends, next_ends}
+use Rattle.tacho_line.proofs.LineLemmas.{first_holds, rest_holds, none_before, canonical_from, after_holds}
 
 -- after a single span that has the base, the horizon of the rest is that of all
 walk_on : (base : ℕ) (s : Span) (ss : List Span) (h : Horizon) → s.start < s.past → s.start ≤ base → base < s.past → s.mark.crew ≡ false → IsHorizon ss s.past h → IsHorizon (s ∷ ss) base h
@@ -24,7 +24,7 @@ walk_on base s ss h full from to single more = record {
   held m w (inl l) = subst IsSingle (sym (first_holds s ss m (omega (arith, from, w.0)) l)) single
   held m w (inr l) = subst IsSingle (sym (rest_holds s ss m l)) (more.single m (l, w.1))
 
-pub walk : (base : ℕ) (xs : List Span) → IsCanonical xs → EndsBehind base xs → IsHorizon xs base (horizon_from base xs)
+pub walk : (base : ℕ) (xs : List Span) → IsCanonical xs → EndsAfter base xs → IsHorizon xs base (horizon_from base xs)
 walk base [] h e = record { from = omega arith; single = (λ m w. absurd (omega (arith, w.0, w.1))); cause = refl }
 walk base (s ∷ ss) h e = go (nat_lt base s.start) refl (s.mark.crew) refl (walk s.past ss h.2 (next_ends s ss h)) where
   go : (b : Bool) → nat_lt base s.start ≡ b → (d : Bool) → s.mark.crew ≡ d → IsHorizon ss s.past (horizon_from s.past ss)
@@ -41,12 +41,12 @@ walk base (s ∷ ss) h e = go (nat_lt base s.start) refl (s.mark.crew) refl (wal
   }
   go false t false u more = let l : s.start ≤ base = grind (arith, nat_tests) in walk_on base s ss _ h.0 l e u more
 
-pub horizon_is : (base : ℕ) (xs : List Span) (h : Horizon) → IsCanonical xs → h ≡ horizon_from base (behind base xs) → IsHorizon xs base h
+pub horizon_is : (base : ℕ) (xs : List Span) (h : Horizon) → IsCanonical xs → h ≡ horizon_from base (from_minute base xs) → IsHorizon xs base h
 horizon_is base xs h known e =
-    let found = walk base (behind base xs) (rest_canonical (λ s. nat_le s.past base) xs known) (behind_ends base xs) in
-    let own : IsHorizon (behind base xs) base h = subst (λ (x : Horizon). IsHorizon (behind base xs) base x) (sym e) found in
+    let found = walk base (from_minute base xs) (rest_canonical (λ s. nat_le s.past base) xs known) (after_ends base xs) in
+    let own : IsHorizon (from_minute base xs) base h = subst (λ (x : Horizon). IsHorizon (from_minute base xs) base x) (sym e) found in
     record {
       from = own.from;
-      single = (λ m w. subst IsSingle (behind_holds base xs m w.0) (own.single m w));
-      cause = subst (λ (o : Option Mark). IsCause o h.cause) (behind_holds base xs h.minute own.from) own.cause;
+      single = (λ m w. subst IsSingle (after_holds base xs m w.0) (own.single m w));
+      cause = subst (λ (o : Option Mark). IsCause o h.cause) (after_holds base xs h.minute own.from) own.cause;
     }

@@ -6,7 +6,7 @@ use Rattle.tacho_time.specs.declared.span.Mark.{Mark}
 use Rattle.tacho_time.specs.Spans.{Gives, IsCanonical, StartsFrom}
 use Rattle.tacho_time.proofs.CanonicalLemmas.{later, starts_lower, canonical_starts}
 use Rattle.tacho_line.specs.Line.{covers, mark_at, Holds, IsWithin}
-use Rattle.tacho_line.specs.Search.{behind, before, overlap}
+use Rattle.tacho_line.specs.Search.{from_minute, before, overlap}
 use Rattle.tacho_line.proofs.SearchLemmas.{rest_canonical}
 
 -- ---- one span
@@ -66,10 +66,10 @@ line_map line m mark h = (held_given line m mark, given_held line m mark h)
 -- ---- searches keep the spans that they look for
 
 -- spans that end at or before the base don't hold any minute from the base on
-pub behind_holds : (base : ℕ) (xs : List Span) (m : ℕ) → base ≤ m → mark_at (behind base xs) m ≡ mark_at xs m
-behind_holds base [] m l = refl
-behind_holds base (s ∷ ss) m l = go (nat_le s.past base) refl (behind_holds base ss m l) where
-  go : (b : Bool) → nat_le s.past base ≡ b → mark_at (behind base ss) m ≡ mark_at ss m → mark_at (cond b (behind base ss) (s ∷ ss)) m ≡ mark_at (s ∷ ss) m
+pub after_holds : (base : ℕ) (xs : List Span) (m : ℕ) → base ≤ m → mark_at (from_minute base xs) m ≡ mark_at xs m
+after_holds base [] m l = refl
+after_holds base (s ∷ ss) m l = go (nat_le s.past base) refl (after_holds base ss m l) where
+  go : (b : Bool) → nat_le s.past base ≡ b → mark_at (from_minute base ss) m ≡ mark_at ss m → mark_at (cond b (from_minute base ss) (s ∷ ss)) m ≡ mark_at (s ∷ ss) m
   go true e more = let over : s.past ≤ base = grind (arith, nat_tests) in more ∙ sym (rest_holds s ss m (omega (arith, over, l)))
   go false e more = refl
 
@@ -84,13 +84,13 @@ before_holds past (s ∷ ss) m h l = go (nat_lt s.start past) refl (before_holds
       sym (none_before s.start (s ∷ ss) m (canonical_from s ss h) (omega (arith, from, l)))
 
 pub overlap_holds : (xs : List Span) (start past m : ℕ) → IsCanonical xs → IsWithin start past m → mark_at (overlap xs start past) m ≡ mark_at xs m
-overlap_holds xs start past m h w = before_holds past (behind start xs) m (rest_canonical (λ s. nat_le s.past start) xs h) w.1 ∙ behind_holds start xs m w.0
+overlap_holds xs start past m h w = before_holds past (from_minute start xs) m (rest_canonical (λ s. nat_le s.past start) xs h) w.1 ∙ after_holds start xs m w.0
 
 -- the first span that ends after a minute
-pub behind_first : (m : ℕ) (xs : List Span) (s : Span) (ss : List Span) → behind m xs ≡ s ∷ ss → m < s.past
-behind_first m [] s ss e = cc
-behind_first m (t ∷ ts) s ss e = go (nat_le t.past m) refl e (behind_first m ts s ss) where
-  go : (b : Bool) → nat_le t.past m ≡ b → cond b (behind m ts) (t ∷ ts) ≡ s ∷ ss → (behind m ts ≡ s ∷ ss → m < s.past) → m < s.past
+pub after_first : (m : ℕ) (xs : List Span) (s : Span) (ss : List Span) → from_minute m xs ≡ s ∷ ss → m < s.past
+after_first m [] s ss e = cc
+after_first m (t ∷ ts) s ss e = go (nat_le t.past m) refl e (after_first m ts s ss) where
+  go : (b : Bool) → nat_le t.past m ≡ b → cond b (from_minute m ts) (t ∷ ts) ≡ s ∷ ss → (from_minute m ts ≡ s ∷ ss → m < s.past) → m < s.past
   go true d h more = more h
   go false d h more =
       let under : m < t.past = grind (arith, nat_tests) in
@@ -99,14 +99,14 @@ behind_first m (t ∷ ts) s ss e = go (nat_le t.past m) refl e (behind_first m t
 
 -- ---- the mark found by a search
 
-pub found_mark : (m : ℕ) (xs : List Span) (s : Span) (ss : List Span) → behind m xs ≡ s ∷ ss → s.start ≤ m → mark_at xs m ≡ Some s.mark
+pub found_mark : (m : ℕ) (xs : List Span) (s : Span) (ss : List Span) → from_minute m xs ≡ s ∷ ss → s.start ≤ m → mark_at xs m ≡ Some s.mark
 found_mark m xs s ss e l =
-    sym (behind_holds m xs m (omega arith)) ∙ ap (λ (x : List Span). mark_at x m) e ∙ first_holds s ss m l (behind_first m xs s ss e)
+    sym (after_holds m xs m (omega arith)) ∙ ap (λ (x : List Span). mark_at x m) e ∙ first_holds s ss m l (after_first m xs s ss e)
 
-pub no_mark : (m : ℕ) (xs : List Span) (s : Span) (ss : List Span) → IsCanonical xs → behind m xs ≡ s ∷ ss → m < s.start → mark_at xs m ≡ None
+pub no_mark : (m : ℕ) (xs : List Span) (s : Span) (ss : List Span) → IsCanonical xs → from_minute m xs ≡ s ∷ ss → m < s.start → mark_at xs m ≡ None
 no_mark m xs s ss h e l =
     let known = subst IsCanonical e (rest_canonical (λ x. nat_le x.past m) xs h) in
-    sym (behind_holds m xs m (omega arith)) ∙ ap (λ (x : List Span). mark_at x m) e ∙ none_before s.start (s ∷ ss) m (canonical_from s ss known) l
+    sym (after_holds m xs m (omega arith)) ∙ ap (λ (x : List Span). mark_at x m) e ∙ none_before s.start (s ∷ ss) m (canonical_from s ss known) l
 
-pub no_span : (m : ℕ) (xs : List Span) → behind m xs ≡ [] → mark_at xs m ≡ None
-no_span m xs e = sym (behind_holds m xs m (omega arith)) ∙ ap (λ (x : List Span). mark_at x m) e
+pub no_span : (m : ℕ) (xs : List Span) → from_minute m xs ≡ [] → mark_at xs m ≡ None
+no_span m xs e = sym (after_holds m xs m (omega arith)) ∙ ap (λ (x : List Span). mark_at x m) e

@@ -5,10 +5,10 @@ use Rattle.tacho_time.specs.declared.span.Span.{Span}
 use Rattle.tacho_time.specs.declared.span.Mark.{Mark}
 use Rattle.tacho_time.specs.Spans.{Covers, Gives, GoesOn, IsCanonical, IsCanonicalOf, GiveSame}
 use Rattle.tacho_time.specs.Merge.{same_mark}
-use Rattle.tacho_time.proofs.CanonicalLemmas.{lt_or_le, later, first_given, canonical_starts, ends_there, marks_equal, marks_differ, both_true, same_trans, same_behind}
+use Rattle.tacho_time.proofs.CanonicalLemmas.{lt_or_le, later, first_given, canonical_starts, ends_there, marks_equal, marks_differ, both_true, same_trans, same_following}
 use Rattle.tacho_line.specs.Search.{front_of, rest_of, before}
 use Rattle.tacho_line.proofs.SearchLemmas.{rest_canonical, front_canonical}
-use Rattle.tacho_line.specs.Join.{ShareNone, EitherGives, StartsBehind, AreInOrder, starting_from, in_order, touches, joined_from, joined}
+use Rattle.tacho_line.specs.Join.{ShareNone, EitherGives, StartsAfter, AreSpansInOrder, starting_from, in_order, touches, joined_from, join_spans}
 
 -- ---- one list after another
 
@@ -84,17 +84,17 @@ parts_apart (s ∷ ss) ys h m k (inr x) y = parts_apart ss ys h.2 m k x y
 
 -- ---- spans in order, one list after another
 
-starts_behind_one : (s : Span) (ys : List Span) → s.start < s.past → AreInOrder ys → IsBefore (s ∷ []) ys → StartsBehind s ys
-starts_behind_one s [] h c b = tt
-starts_behind_one s (t ∷ ts) h c b =
+starts_after_one : (s : Span) (ys : List Span) → s.start < s.past → AreSpansInOrder ys → IsBefore (s ∷ []) ys → StartsAfter s ys
+starts_after_one s [] h c b = tt
+starts_after_one s (t ∷ ts) h c b =
     let l = b (s.past - 1) t.start s.mark t.mark (last_given s h) (first_given t ts c.0) in omega (arith, l, h)
 
-order_join : (xs ys : List Span) → AreInOrder xs → AreInOrder ys → IsBefore xs ys → AreInOrder (xs ++ ys)
+order_join : (xs ys : List Span) → AreSpansInOrder xs → AreSpansInOrder ys → IsBefore xs ys → AreSpansInOrder (xs ++ ys)
 order_join [] ys h c b = c
-order_join (s ∷ []) ys h c b = (h.0, starts_behind_one s ys h.0 c b, c)
+order_join (s ∷ []) ys h c b = (h.0, starts_after_one s ys h.0 c b, c)
 order_join (s ∷ t ∷ ts) ys h c b = (h.0, h.1, order_join (t ∷ ts) ys h.2 c (λ m n j k x y. b m n j k (inr x) y))
 
-canonical_in_order : (xs : List Span) → IsCanonical xs → AreInOrder xs
+canonical_in_order : (xs : List Span) → IsCanonical xs → AreSpansInOrder xs
 canonical_in_order [] h = tt
 canonical_in_order (s ∷ []) h = (h.0, tt, tt)
 canonical_in_order (s ∷ t ∷ ts) h = (h.0, h.1.0, canonical_in_order (t ∷ ts) h.2)
@@ -138,8 +138,8 @@ late_minutes a (s ∷ ss) m k h g = go (nat_lt s.start a) refl g (late_minutes a
   go false e x more = kept (grind (arith, nat_tests)) x
 
 -- a minute at or after a span's start that isn't in the span is after it
-behind_span : (s : Span) (m : ℕ) (k : Mark) → s.start ≤ m → (Covers s m → ⊥) → s.past ≤ m
-behind_span s m k l shared = go (lt_or_le m s.past) where
+after_span : (s : Span) (m : ℕ) (k : Mark) → s.start ≤ m → (Covers s m → ⊥) → s.past ≤ m
+after_span s m k l shared = go (lt_or_le m s.past) where
   go : (m < s.past) ⊎ (s.past ≤ m) → s.past ≤ m
   go (inl x) = absurd (shared (l, x))
   go (inr x) = x
@@ -180,19 +180,19 @@ gives_order held (s ∷ ss) m k g =
         side (inl y) = front_gives (before s.start held) (s ∷ in_order (starting_from s.start held) ss) m k y
         side (inr y) = back_gives (before s.start held) (s ∷ in_order (starting_from s.start held) ss) m k (inr (more (inl y)))
 
-order_is : (held spans : List Span) → IsCanonical held → IsCanonical spans → ShareNone held spans → AreInOrder (in_order held spans)
+order_is : (held spans : List Span) → IsCanonical held → IsCanonical spans → ShareNone held spans → AreSpansInOrder (in_order held spans)
 order_is held [] h c shared = canonical_in_order held h
 order_is held (s ∷ ss) h c shared = go (order_is (starting_from s.start held) ss (rest_canonical (λ x. nat_lt x.start s.start) held h) c.2 (λ m j k x y. shared m j k (rest_part (λ x. nat_lt x.start s.start) held m j x) (inr y))) where
   -- the minutes that come after the span in the list are after it
-  behind_it : (n : ℕ) (k : Mark) → Gives (in_order (starting_from s.start held) ss) n k → s.past ≤ n
-  behind_it n k g = side (order_gives (starting_from s.start held) ss n k g) where
+  past_it : (n : ℕ) (k : Mark) → Gives (in_order (starting_from s.start held) ss) n k → s.past ≤ n
+  past_it n k g = side (order_gives (starting_from s.start held) ss n k g) where
     side : EitherGives (starting_from s.start held) ss n k → s.past ≤ n
-    side (inl x) = behind_span s n k (late_minutes s.start held n k h x) (λ w. shared n k s.mark (rest_part (λ y. nat_lt y.start s.start) held n k x) (inl (w, refl)))
+    side (inl x) = after_span s n k (late_minutes s.start held n k h x) (λ w. shared n k s.mark (rest_part (λ y. nat_lt y.start s.start) held n k x) (inl (w, refl)))
     side (inr x) = later s.past ss n k (canonical_starts s ss c) x
 
   from_it : (n : ℕ) (k : Mark) → Gives (s ∷ in_order (starting_from s.start held) ss) n k → s.start ≤ n
   from_it n k (inl w) = w.0.0
-  from_it n k (inr x) = let l = behind_it n k x in omega (arith, l, c.0)
+  from_it n k (inr x) = let l = past_it n k x in omega (arith, l, c.0)
 
   early : (m : ℕ) (j : Mark) → Gives (before s.start held) m j → m < s.start
   early m j x = side (early_minutes s.start held m j x) where
@@ -201,10 +201,10 @@ order_is held (s ∷ ss) h c shared = go (order_is (starting_from s.start held) 
     side (inr y) = absurd (shared s.start j s.mark (front_part (λ y. nat_lt y.start s.start) held s.start j y) (first_given s ss c.0))
 
   one_before : (m n : ℕ) (j k : Mark) → Gives (s ∷ []) m j → Gives (in_order (starting_from s.start held) ss) n k → m < n
-  one_before m n j k (inl w) y = let l = behind_it n k y in omega (arith, l, w.0.1)
+  one_before m n j k (inl w) y = let l = past_it n k y in omega (arith, l, w.0.1)
   one_before m n j k (inr w) y = absurd w
 
-  go : AreInOrder (in_order (starting_from s.start held) ss) → AreInOrder (before s.start held ++ s ∷ in_order (starting_from s.start held) ss)
+  go : AreSpansInOrder (in_order (starting_from s.start held) ss) → AreSpansInOrder (before s.start held ++ s ∷ in_order (starting_from s.start held) ss)
   go more =
       order_join (before s.start held) (s ∷ in_order (starting_from s.start held) ss) (canonical_in_order (before s.start held) (front_canonical (λ x. nat_lt x.start s.start) held h))
       (order_join (s ∷ []) (in_order (starting_from s.start held) ss) (c.0, tt, tt) more one_before)
@@ -231,9 +231,9 @@ not_both : (a b : ℕ) (t : Bool) → (a == b) && t ≡ false → a ≡ b → t 
 not_both a b true h e = grind (arith, nat_tests)
 not_both a b false h e = refl
 
-stretched_behind : (last s : Span) (ss : List Span) → StartsBehind s ss → StartsBehind (record last { past = s.past }) ss
-stretched_behind last s [] h = tt
-stretched_behind last s (t ∷ ts) h = h
+stretched_after : (last s : Span) (ss : List Span) → StartsAfter s ss → StartsAfter (record last { past = s.past }) ss
+stretched_after last s [] h = tt
+stretched_after last s (t ∷ ts) h = h
 
 stretched_gives : (last s : Span) (ss : List Span) → last.start < last.past → s.start < s.past → last.past ≡ s.start → s.mark ≡ last.mark → GiveSame (record last { past = s.past } ∷ ss) (last ∷ s ∷ ss)
 stretched_gives last s ss full own touch same m k = (there, back) where
@@ -257,13 +257,13 @@ stretched_runs last s ss (t ∷ ts) same h = (h.0, same_trans (t ∷ ts) (record
 apart_runs : (last s : Span) (ss out : List Span) → last.start < last.past → last.past ≤ s.start → touches last s ≡ false → Runs s ss out → Runs last (s ∷ ss) (last ∷ out)
 apart_runs last s ss [] full l e h = absurd h.2
 apart_runs last s ss (t ∷ ts) full l e h =
-    ((full, (omega (arith, l, h.2.0), λ d m. marks_differ s.mark last.mark (not_both last.past s.start (same_mark s.mark last.mark) e (d ∙ h.2.0)) (sym h.2.1 ∙ sym m)), h.0), same_behind last (t ∷ ts) (s ∷ ss) h.1, (refl, refl))
+    ((full, (omega (arith, l, h.2.0), λ d m. marks_differ s.mark last.mark (not_both last.past s.start (same_mark s.mark last.mark) e (d ∙ h.2.0)) (sym h.2.1 ∙ sym m)), h.0), same_following last (t ∷ ts) (s ∷ ss) h.1, (refl, refl))
 
-runs_are : (last : Span) (ss : List Span) → AreInOrder (last ∷ ss) → Runs last ss (joined_from last ss)
+runs_are : (last : Span) (ss : List Span) → AreSpansInOrder (last ∷ ss) → Runs last ss (joined_from last ss)
 runs_are last [] h = ((h.0, tt, tt), (λ m k. (λ g. g, λ g. g)), (refl, refl))
 runs_are last (s ∷ ss) h =
     go (touches last s) refl
-    (λ l. runs_are (record last { past = s.past }) ss (l, stretched_behind last s ss h.2.1, h.2.2))
+    (λ l. runs_are (record last { past = s.past }) ss (l, stretched_after last s ss h.2.1, h.2.2))
     (runs_are s ss h.2) where
       go : (b : Bool) → touches last s ≡ b → (last.start < s.past → Runs (record last { past = s.past }) ss (joined_from (record last { past = s.past }) ss)) → Runs s ss (joined_from s ss)
           → Runs last (s ∷ ss) (cond b (joined_from (record last { past = s.past }) ss) (last ∷ joined_from s ss))
@@ -272,13 +272,13 @@ runs_are last (s ∷ ss) h =
           stretched_runs last s ss _ (stretched_gives last s ss h.0 h.2.0 t.0 (marks_equal s.mark last.mark t.1)) (more (omega (arith, h.0, h.1, h.2.0)))
       go false e more apart = apart_runs last s ss _ h.0 h.1 e apart
 
-joined_are : (xs : List Span) → AreInOrder xs → IsCanonical (joined xs) × GiveSame (joined xs) xs
+joined_are : (xs : List Span) → AreSpansInOrder xs → IsCanonical (join_spans xs) × GiveSame (join_spans xs) xs
 joined_are [] h = (tt, λ m k. (λ g. g, λ g. g))
 joined_are (s ∷ ss) h = let r = runs_are s ss h in (r.0, r.1)
 
 -- ---- the merge
 
-pub merge_is : (held spans : List Span) → IsCanonical held → IsCanonical spans → ShareNone held spans → IsCanonicalOf (EitherGives held spans) (joined (in_order held spans))
+pub merge_is : (held spans : List Span) → IsCanonical held → IsCanonical spans → ShareNone held spans → IsCanonicalOf (EitherGives held spans) (join_spans (in_order held spans))
 merge_is held spans h c shared =
     let r = joined_are (in_order held spans) (order_is held spans h c shared) in
     record {

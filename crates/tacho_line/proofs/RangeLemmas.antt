@@ -6,10 +6,10 @@ use Rattle.tacho_time.specs.declared.span.Mark.{Mark}
 use Rattle.tacho_time.specs.Spans.{Covers, Gives, GoesOn, IsCanonical, IsCanonicalOf}
 use Rattle.tacho_time.proofs.CanonicalLemmas.{lt_or_le}
 use Rattle.tacho_line.specs.declared.gap.Gap.{Gap}
-use Rattle.tacho_line.specs.Line.{mark_at, HoldsWithin, IsWithin, InGaps, BeginsBehind, AreApart, AreGaps}
-use Rattle.tacho_line.specs.Search.{behind, before, overlap}
+use Rattle.tacho_line.specs.Line.{mark_at, HoldsWithin, IsWithin, InGaps, BeginsAfter, AreGapsApart, AreGaps}
+use Rattle.tacho_line.specs.Search.{from_minute, before, overlap}
 use Rattle.tacho_line.specs.Walk.{gap_between, gaps_from, later_of, earlier_of, cut_to}
-use Rattle.tacho_line.proofs.SearchLemmas.{rest_canonical, front_canonical, EndsBehind, behind_ends, next_ends}
+use Rattle.tacho_line.proofs.SearchLemmas.{rest_canonical, front_canonical, EndsAfter, after_ends, next_ends}
 use Rattle.tacho_line.proofs.LineLemmas.{first_holds, rest_holds, none_before, canonical_from, overlap_holds, held_given, given_held}
 
 -- ---- spans that overlap a range
@@ -25,7 +25,7 @@ meet_less a b past [] l h = tt
 meet_less a b past (s ∷ ss) l h = (omega (arith, l, h.0), h.1, meet_less a b past ss l h.2)
 
 -- spans that overlap a range also overlap one that starts later, if the first span does
-meet_again : (a b past : ℕ) (xs : List Span) → IsCanonical xs → EndsBehind b xs → Meet a past xs → Meet b past xs
+meet_again : (a b past : ℕ) (xs : List Span) → IsCanonical xs → EndsAfter b xs → Meet a past xs → Meet b past xs
 meet_again a b past [] h e w = tt
 meet_again a b past (s ∷ ss) h e w = (e, w.1, meet_less b s.past past ss (omega (arith, e)) (meet_again a s.past past ss h.2 (next_ends s ss h) w.2))
 
@@ -33,11 +33,11 @@ meet_again a b past (s ∷ ss) h e w = (e, w.1, meet_less b s.past past ss (omeg
 next_meet : (s : Span) (past : ℕ) (ss : List Span) (a : ℕ) → IsCanonical (s ∷ ss) → Meet a past ss → Meet s.past past ss
 next_meet s past ss a h e = meet_again a s.past past ss h.2 (next_ends s ss h) e
 
-meet_ends : (start past : ℕ) (xs : List Span) → Meet start past xs → EndsBehind start xs
+meet_ends : (start past : ℕ) (xs : List Span) → Meet start past xs → EndsAfter start xs
 meet_ends start past [] h = tt
 meet_ends start past (s ∷ ss) h = h.0
 
-before_meet : (start past : ℕ) (xs : List Span) → IsCanonical xs → EndsBehind start xs → Meet start past (before past xs)
+before_meet : (start past : ℕ) (xs : List Span) → IsCanonical xs → EndsAfter start xs → Meet start past (before past xs)
 before_meet start past [] h e = tt
 before_meet start past (s ∷ ss) h e = go (nat_lt s.start past) refl (before_meet s.past past ss h.2 (next_ends s ss h)) where
   go : (b : Bool) → nat_lt s.start past ≡ b → Meet s.past past (before past ss) → Meet start past (cond b (s ∷ before past ss) [])
@@ -45,10 +45,10 @@ before_meet start past (s ∷ ss) h e = go (nat_lt s.start past) refl (before_me
   go false t more = tt
 
 pub overlap_meet : (xs : List Span) (start past : ℕ) → IsCanonical xs → Meet start past (overlap xs start past)
-overlap_meet xs start past h = before_meet start past (behind start xs) (rest_canonical (λ s. nat_le s.past start) xs h) (behind_ends start xs)
+overlap_meet xs start past h = before_meet start past (from_minute start xs) (rest_canonical (λ s. nat_le s.past start) xs h) (after_ends start xs)
 
 pub overlap_canonical : (xs : List Span) (start past : ℕ) → IsCanonical xs → IsCanonical (overlap xs start past)
-overlap_canonical xs start past h = front_canonical (λ s. nat_lt s.start past) (behind start xs) (rest_canonical (λ s. nat_le s.past start) xs h)
+overlap_canonical xs start past h = front_canonical (λ s. nat_lt s.start past) (from_minute start xs) (rest_canonical (λ s. nat_le s.past start) xs h)
 
 -- ---- slices
 
@@ -119,7 +119,7 @@ abbrev GapsFrom : ℕ → List Gap → Type 0
 GapsFrom m [] = Unit {0}
 GapsFrom m (g ∷ gaps) = m ≤ g.start
 
-gaps_start : (m past : ℕ) (xs : List Span) → IsCanonical xs → EndsBehind m xs → GapsFrom m (gaps_from m past xs)
+gaps_start : (m past : ℕ) (xs : List Span) → IsCanonical xs → EndsAfter m xs → GapsFrom m (gaps_from m past xs)
 gaps_start m past [] h e = go (nat_lt m past) where
   go : (b : Bool) → GapsFrom m (cond b (record { start = m; past = past } ∷ []) [])
   go true = omega arith
@@ -134,18 +134,18 @@ gaps_start m past (s ∷ ss) h e = go (nat_lt m s.start) (gaps_from s.past past 
   go false gaps g = later_gaps gaps g
 
 -- a gap that ends at a span, before gaps after that span
-begins_behind : (m : ℕ) (s : Span) (gaps : List Gap) → s.start < s.past → GapsFrom s.past gaps → BeginsBehind (record { start = m; past = s.start }) gaps
-begins_behind m s [] h g = tt
-begins_behind m s (next ∷ gaps) h g = omega (arith, h, g)
+begins_after : (m : ℕ) (s : Span) (gaps : List Gap) → s.start < s.past → GapsFrom s.past gaps → BeginsAfter (record { start = m; past = s.start }) gaps
+begins_after m s [] h g = tt
+begins_after m s (next ∷ gaps) h g = omega (arith, h, g)
 
-pub gaps_apart : (m past : ℕ) (xs : List Span) → IsCanonical xs → EndsBehind m xs → AreApart (gaps_from m past xs)
+pub gaps_apart : (m past : ℕ) (xs : List Span) → IsCanonical xs → EndsAfter m xs → AreGapsApart (gaps_from m past xs)
 gaps_apart m past [] h e = go (nat_lt m past) refl where
-  go : (b : Bool) → nat_lt m past ≡ b → AreApart (cond b (record { start = m; past = past } ∷ []) [])
+  go : (b : Bool) → nat_lt m past ≡ b → AreGapsApart (cond b (record { start = m; past = past } ∷ []) [])
   go true t = (grind (arith, nat_tests), tt, tt)
   go false t = tt
 gaps_apart m past (s ∷ ss) h e = go (nat_lt m s.start) refl (gaps_from s.past past ss) (gaps_start s.past past ss h.2 (next_ends s ss h)) (gaps_apart s.past past ss h.2 (next_ends s ss h)) where
-  go : (b : Bool) → nat_lt m s.start ≡ b → (gaps : List Gap) → GapsFrom s.past gaps → AreApart gaps → AreApart (cond b (record { start = m; past = s.start } ∷ []) [] ++ gaps)
-  go true t gaps g more = (grind (arith, nat_tests), begins_behind m s gaps h.0 g, more)
+  go : (b : Bool) → nat_lt m s.start ≡ b → (gaps : List Gap) → GapsFrom s.past gaps → AreGapsApart gaps → AreGapsApart (cond b (record { start = m; past = s.start } ∷ []) [] ++ gaps)
+  go true t gaps g more = (grind (arith, nat_tests), begins_after m s gaps h.0 g, more)
   go false t gaps g more = more
 
 -- a minute of a list of gaps is in its first gap or in the others

@@ -5,7 +5,7 @@ use Rattle.std.specs.List.Sorted.{IsPartitionPoint, IsPartitionedBy, IsNonDecrea
 use Rattle.tacho_time.specs.declared.span.Span.{Span}
 use Rattle.tacho_time.specs.Spans.{GoesOn, IsCanonical, StartsFrom}
 use Rattle.tacho_time.proofs.CanonicalLemmas.{canonical_starts}
-use Rattle.tacho_line.specs.Search.{front_of, rest_of, behind}
+use Rattle.tacho_line.specs.Search.{front_of, rest_of, from_minute}
 
 -- ---- starts increase along the list, and so do ends
 
@@ -95,22 +95,22 @@ no_first (t ∷ ts) l = absurd (omega (arith, l))
 -- ---- spans that end after a minute
 
 -- the first span ends after the minute, and so do later ones
-abbrev pub EndsBehind : ℕ → List Span → Type 0
-EndsBehind m [] = Unit {0}
-EndsBehind m (s ∷ ss) = m < s.past
+abbrev pub EndsAfter : ℕ → List Span → Type 0
+EndsAfter m [] = Unit {0}
+EndsAfter m (s ∷ ss) = m < s.past
 
-pub behind_ends : (m : ℕ) (xs : List Span) → EndsBehind m (behind m xs)
-behind_ends m [] = tt
-behind_ends m (s ∷ ss) = go (nat_le s.past m) refl (behind_ends m ss) where
-  go : (b : Bool) → nat_le s.past m ≡ b → EndsBehind m (behind m ss) → EndsBehind m (cond b (behind m ss) (s ∷ ss))
+pub after_ends : (m : ℕ) (xs : List Span) → EndsAfter m (from_minute m xs)
+after_ends m [] = tt
+after_ends m (s ∷ ss) = go (nat_le s.past m) refl (after_ends m ss) where
+  go : (b : Bool) → nat_le s.past m ≡ b → EndsAfter m (from_minute m ss) → EndsAfter m (cond b (from_minute m ss) (s ∷ ss))
   go true e more = more
   go false e more = grind (arith, nat_tests)
 
-pub next_ends : (s : Span) (ss : List Span) → IsCanonical (s ∷ ss) → EndsBehind s.past ss
+pub next_ends : (s : Span) (ss : List Span) → IsCanonical (s ∷ ss) → EndsAfter s.past ss
 next_ends s [] h = tt
 next_ends s (t ∷ ts) h = omega (arith, h.1.0, h.2.0)
 
 -- ---- a range of places
 
-pub range_behind : (xs : List Span) (i n : ℕ) → slice_range xs i (i + n) ≡ take n (drop i xs)
-range_behind xs i n = ap (λ (k : ℕ). take k (drop i xs)) (omega arith)
+pub range_after : (xs : List Span) (i n : ℕ) → slice_range xs i (i + n) ≡ take n (drop i xs)
+range_after xs i n = ap (λ (k : ℕ). take k (drop i xs)) (omega arith)

@@ -18,14 +18,14 @@ conflict_in r [] = None
 conflict_in r (s ∷ ss) = if same_mark s.mark r.mark then conflict_in r ss else Some (later_of s.start r.start)
 
 -- the first minute if there is one, else the second
-abbrev pub first_of : Option ℕ → Option ℕ → Option ℕ
-first_of (Some m) rest = Some m
-first_of None rest = rest
+abbrev pub first_or : Option ℕ → Option ℕ → Option ℕ
+first_or (Some m) rest = Some m
+first_or None rest = rest
 
 -- the first minute for which a line and runs have two marks
 abbrev pub conflict_of : List Span → List Span → Option ℕ
 conflict_of line [] = None
-conflict_of line (r ∷ runs) = first_of (conflict_in r (overlap line r.start r.past)) (conflict_of line runs)
+conflict_of line (r ∷ runs) = first_or (conflict_in r (overlap line r.start r.past)) (conflict_of line runs)
 
 -- the span between two minutes, if it is not empty
 abbrev pub span_between : Mark → ℕ → ℕ → List Span

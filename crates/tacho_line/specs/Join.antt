@@ -15,14 +15,14 @@ abbrev pub EitherGives : List Span → List Span → ℕ → Mark → Type 0
 EitherGives xs ys m k = Gives xs m k ⊎ Gives ys m k
 
 -- the list starts at the span's end or later
-abbrev pub StartsBehind : Span → List Span → Type 0
-StartsBehind s [] = Unit {0}
-StartsBehind s (t ∷ ts) = s.past ≤ t.start
+abbrev pub StartsAfter : Span → List Span → Type 0
+StartsAfter s [] = Unit {0}
+StartsAfter s (t ∷ ts) = s.past ≤ t.start
 
 -- in order, disjoint, none empty; two that touch may have the same mark
-abbrev pub AreInOrder : List Span → Type 0
-AreInOrder [] = Unit {0}
-AreInOrder (s ∷ ss) = (s.start < s.past) × StartsBehind s ss × AreInOrder ss
+abbrev pub AreSpansInOrder : List Span → Type 0
+AreSpansInOrder [] = Unit {0}
+AreSpansInOrder (s ∷ ss) = (s.start < s.past) × StartsAfter s ss × AreSpansInOrder ss
 
 -- the spans that start at minute m or later
 abbrev pub starting_from : ℕ → List Span → List Span
@@ -43,9 +43,9 @@ joined_from last [] = last ∷ []
 joined_from last (s ∷ ss) = if touches last s then joined_from (record last { past = s.past }) ss else last ∷ joined_from s ss
 
 -- likewise for a list that may be empty
-abbrev pub joined : List Span → List Span
-joined [] = []
-joined (s ∷ ss) = joined_from s ss
+abbrev pub join_spans : List Span → List Span
+join_spans [] = []
+join_spans (s ∷ ss) = joined_from s ss
 
 -- ---- the list around the added spans
 
@@ -62,5 +62,5 @@ abbrev pub starting_by : ℕ → List Span → List Span
 starting_by past spans = front_of (λ s. nat_le s.start past) spans
 
 -- the other spans, starting with the first that starts after this minute
-abbrev pub starting_behind : ℕ → List Span → List Span
-starting_behind past spans = rest_of (λ s. nat_le s.start past) spans
+abbrev pub starting_after : ℕ → List Span → List Span
+starting_after past spans = rest_of (λ s. nat_le s.start past) spans

@@ -78,18 +78,18 @@ InGaps [] m = ⊥
 InGaps (g ∷ gaps) m = IsWithin g.start g.past m ⊎ InGaps gaps m
 
 -- the next gap begins after the end of this one, with a held minute between them
-abbrev pub BeginsBehind : Gap → List Gap → Type 0
-BeginsBehind g [] = Unit {0}
-BeginsBehind g (next ∷ gaps) = g.past < next.start
+abbrev pub BeginsAfter : Gap → List Gap → Type 0
+BeginsAfter g [] = Unit {0}
+BeginsAfter g (next ∷ gaps) = g.past < next.start
 
 -- in order, none empty, no two touch
-abbrev pub AreApart : List Gap → Type 0
-AreApart [] = Unit {0}
-AreApart (g ∷ gaps) = (g.start < g.past) × BeginsBehind g gaps × AreApart gaps
+abbrev pub AreGapsApart : List Gap → Type 0
+AreGapsApart [] = Unit {0}
+AreGapsApart (g ∷ gaps) = (g.start < g.past) × BeginsAfter g gaps × AreGapsApart gaps
 
 -- the maximal ranges of minutes that the line doesn't hold, within the range from `start` to before `past`
 pub record AreGaps (line : List Span) (start past : ℕ) (gaps : List Gap) : Type 0 where
-  pub apart : AreApart gaps
+  pub apart : AreGapsApart gaps
   pub lacking : (m : ℕ) → InGaps gaps m ↔ (IsWithin start past m × (mark_at line m ≡ None))
 
 -- what the line holds in the range

@@ -13,8 +13,8 @@ rest_of p [] = []
 rest_of p (s ∷ ss) = if p s then rest_of p ss else s ∷ ss
 
 -- the spans that end after a minute
-abbrev pub behind : ℕ → List Span → List Span
-behind m spans = rest_of (λ s. nat_le s.past m) spans
+abbrev pub from_minute : ℕ → List Span → List Span
+from_minute m spans = rest_of (λ s. nat_le s.past m) spans
 
 -- the spans that start before a minute
 abbrev pub before : ℕ → List Span → List Span
@@ -22,4 +22,4 @@ before m spans = front_of (λ s. nat_lt s.start m) spans
 
 -- the spans that overlap a range
 abbrev pub overlap : List Span → ℕ → ℕ → List Span
-overlap spans start past = before past (behind start spans)
+overlap spans start past = before past (from_minute start spans)

@@ -2,7 +2,7 @@ ghost use Rattle.std.specs.Prelude.{◌≡◌, ◌++◌, ◌∷◌, [], ◌≤�
 ghost use Rattle.tacho_time.specs.Spans.{IsCanonical, IsCanonicalOf, SamePairs};
 ghost use Rattle.tacho_line.specs.Line.{Holds, Together, AreNotHeld};
 ghost use Rattle.tacho_line.specs.Search.{before};
-ghost use Rattle.tacho_line.specs.Join.{ShareNone, EitherGives, ending_before, ending_from, starting_by, starting_behind, in_order as in_order_of, starting_from, touches as touches_with, joined as joined_of};
+ghost use Rattle.tacho_line.specs.Join.{ShareNone, EitherGives, ending_before, ending_from, starting_by, starting_after, in_order as in_order_of, starting_from, touches as touches_with, join_spans as joined_of};
 
 use std::alloc::{AllocError, Global};
 use tacho_time::{Minute, Span};
@@ -31,7 +31,7 @@ fn places_around(line: &[Span], start: Minute, past: Minute) -> (usize, usize)
     ensures within { (result.0 ≤ result.1) × (result.1 ≤ length line.now) }
     ensures front { take result.0 line.now ≡ ending_before start line.now }
     ensures middle { slice_range line.now result.0 result.1 ≡ starting_by past (ending_from start line.now) }
-    ensures back { drop result.1 line.now ≡ starting_behind past (ending_from start line.now) }
+    ensures back { drop result.1 line.now ≡ starting_after past (ending_from start line.now) }
 {
     let first = line.partition_point(|span| span.past < start);
     let count = line[first..].partition_point(|span| span.start <= past);

@@ -1,14 +1,14 @@
 ghost use Rattle.std.specs.Prelude.{◌≡◌};
 ghost use Rattle.tacho_time.specs.Spans.{IsCanonical};
 ghost use Rattle.tacho_line.specs.Line.{mark_at as mark_of};
-ghost use Rattle.tacho_line.specs.Search.{behind as behind_of, before as before_of, overlap as overlap_of};
+ghost use Rattle.tacho_line.specs.Search.{from_minute as after_of, before as before_of, overlap as overlap_of};
 
 use tacho_time::{Mark, Minute, Span};
 
 /// Returns the spans that end after a minute.
 pub(crate) fn behind(spans: &[Span], minute: Minute) -> &[Span]
     requires { IsCanonical spans.now }
-    ensures { result.now ≡ behind_of minute spans.now }
+    ensures { result.now ≡ after_of minute spans.now }
 {
     let first = spans.partition_point(|span| span.past <= minute);
     &spans[first..]

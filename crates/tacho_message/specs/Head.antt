@@ -31,16 +31,16 @@ IsBad limit room input =
     ⊎ NeverHasRequest (take limit input)
 
 -- why a head is refused
-abbrev pub Refuses : ℕ → ℕ → List ℕ → HeadFault → Type 0
-Refuses limit room input Bad = HasNoHead limit room input × IsBad limit room input
-Refuses limit room input TooLarge = HasNoHead limit room input × IsTooLarge limit room input
-Refuses limit room input Read = ⊤
+abbrev pub IsHeadFault : ℕ → ℕ → List ℕ → HeadFault → Type 0
+IsHeadFault limit room input Bad = HasNoHead limit room input × IsBad limit room input
+IsHeadFault limit room input TooLarge = HasNoHead limit room input × IsTooLarge limit room input
+IsHeadFault limit room input Read = ⊤
 
 -- an input that is refused: the reader's unread bytes if they are known, otherwise some input
 pub record IsRefused (limit room : ℕ) (unread : Option (List ℕ)) (fault : HeadFault) : Type 0 where
   pub input : List ℕ
   pub told : IfSome unread (λ all. input ≡ all)
-  pub refused : Refuses limit room input fault
+  pub refused : IsHeadFault limit room input fault
 
 -- what the reader has given so far is no head yet, and there is room for more of one
 pub record IsUnfinished (limit : ℕ) (old new : Option (List ℕ)) : Type 0 where

@@ -31,10 +31,10 @@ abbrev pub body_coded : Bool → List (List ℕ) → List (List ℕ) → Result 
 body_coded takes [] lengths = body_told takes lengths
 body_coded takes (coding ∷ more) lengths = Err status.BadRequest
 
-abbrev pub posted : Bool → List (List ℕ × List ℕ) → Result ℕ Status
-posted takes fields = body_coded takes (values_under (codes "transfer-encoding") fields) (values_under (codes "content-length") fields)
+abbrev pub post_length : Bool → List (List ℕ × List ℕ) → Result ℕ Status
+post_length takes fields = body_coded takes (values_under (codes "transfer-encoding") fields) (values_under (codes "content-length") fields)
 
 -- how many bytes of a body are read; for other methods than POST none, whatever the fields say
 abbrev pub body_length : Option Method → Bool → List (List ℕ × List ℕ) → Result ℕ Status
-body_length (Some method.Post) takes fields = posted takes fields
+body_length (Some method.Post) takes fields = post_length takes fields
 body_length other takes fields = Ok 0

@@ -1,6 +1,6 @@
 ghost use Rattle.std.specs.Prelude.{◌≡◌, All, length, map};
 ghost use Rattle.httparse.specs.Spans.{header_bytes, IsHeaderWithin};
-ghost use Rattle.tacho_message.specs.Length.{body_length, body_told, body_within, posted};
+ghost use Rattle.tacho_message.specs.Length.{body_length, body_told, body_within, post_length};
 ghost use Rattle.tacho_message.specs.Fields.{length_told};
 
 use crate::fields::{Values, length_of, values_of};
@@ -32,7 +32,7 @@ fn length_within(takes_body: bool, value: &[u8]) -> Result<u64, Status>
 /// The length of a posted body, by the fields of its request.
 fn posted_length(takes_body: bool, buffer: &[u8], fields: &[HeaderSpan]) -> Result<u64, Status>
     requires { All (IsHeaderWithin (length buffer.now)) fields.now }
-    ensures { result ≡ posted takes_body (map (header_bytes buffer.now) fields.now) }
+    ensures { result ≡ post_length takes_body (map (header_bytes buffer.now) fields.now) }
 {
     if !matches!(
         values_of(buffer, fields, b"transfer-encoding"),

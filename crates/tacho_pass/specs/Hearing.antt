@@ -12,8 +12,8 @@ module _ {J : Type 0} {g : Ghosts J} where
   IsHeardTo h place = h.runs.place ≡ place
 
   -- memory ran out, and nothing further is found
-  abbrev pub IsRefused : Hearing J g → Type 0
-  IsRefused h = h.failed ≡ true
+  abbrev pub HasHearingFailed : Hearing J g → Type 0
+  HasHearingFailed h = h.failed ≡ true
 
   -- memory didn't run out, and the state of the rule, with its own breaches and debts so far, represents the spans from the base on
   abbrev pub IsHearingOf : Hearing J g → Found → ℕ → List Span → Type 0

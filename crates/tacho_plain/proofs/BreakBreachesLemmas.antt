@@ -93,8 +93,8 @@ module _ (line : Line) (breaks : List Run) (are : AreRuns breaks) where
       let in' : k < length breaks = h.within in
       let next : k - 1 + 1 ≡ k = omega arith in
       record {
-        a = get_or breaks (k - 1) no_run;
-        b = get_or breaks k no_run;
+        earlier = get_or breaks (k - 1) no_run;
+        later = get_or breaks k no_run;
         first = Contains-get_or breaks (k - 1) no_run (omega arith);
         second = Contains-get_or breaks k no_run in';
         before = are.in_order (k - 1) k no_run (omega arith) in';
@@ -108,10 +108,10 @@ module _ (line : Line) (breaks : List Run) (are : AreRuns breaks) where
   by_place : (n : ℕ) (breach : Breach) → length breaks ≤ n → breach.kind ≡ B1
       → IsB1 line breaks breach → OfBelow (IsLongAt line breaks) 1 n breach
   by_place n breach most kind h =
-      let (i, in', e, f) = neighbours_at breaks are h.a h.b h.first h.second h.before h.between in
+      let (i, in', e, f) = neighbours_at breaks are h.earlier h.later h.first h.second h.before h.between in
       let same : i + 1 - 1 ≡ i = omega arith in
-      let e' : h.a ≡ get_or breaks (i + 1 - 1) no_run = e ∙ ap (λ (k : ℕ). get_or breaks k no_run) (sym same) in
-      let long : IsLongPeriod line h.a.past h.b.start breach = record { kind = kind; over = h.over; since = h.since } in
+      let e' : h.earlier ≡ get_or breaks (i + 1 - 1) no_run = e ∙ ap (λ (k : ℕ). get_or breaks k no_run) (sym same) in
+      let long : IsLongPeriod line h.earlier.past h.later.start breach = record { kind = kind; over = h.over; since = h.since } in
       record {
         place = i + 1;
         from = omega arith;
@@ -120,7 +120,7 @@ module _ (line : Line) (breaks : List Run) (are : AreRuns breaks) where
           within = in';
           long =
               subst (λ (a : Run). IsLongPeriod line a.past (get_or breaks (i + 1) no_run).start breach)
-              e' (subst (λ (b : Run). IsLongPeriod line h.a.past b.start breach) f long);
+              e' (subst (λ (b : Run). IsLongPeriod line h.earlier.past b.start breach) f long);
         };
       }
 

@@ -22,7 +22,7 @@ use Rattle.tacho_hours.specs.SoFar.{AreCollected}
 use Rattle.tacho_hours.specs.Breaches.{AreDayBreaches, IsDayBreach, IsB2, IsB3, IsB4, IsB5}
 use Rattle.tacho_hours.proofs.RunsLemmas.{line_before}
 use Rattle.tacho_plain.specs.DayBreaches.{IsInTime, AreTheDays, IsRestKind, IsDriveKind}
-use Rattle.tacho_hours.proofs.DrivingLemmas.{line_behind}
+use Rattle.tacho_hours.proofs.DrivingLemmas.{line_from_past}
 
 -- a breach that is ordered before another has a different place
 apart_if : (a b : Breach) → Earlier a b → Agree a b → ⊥
@@ -190,7 +190,7 @@ module _ (spans : List Span) (base past : ℕ) (x : IsExamined spans base past) 
   pub before_past : (m : ℕ) → line_of spans m ≢ Rest → m < 68374080
   before_past m busy = elim (cases_lt m past) [
     | inl lt ↦ let b : past ≤ 68374080 = x.within in omega arith
-    | inr ge ↦ absurd (busy (line_behind spans base past m x.joined ge))
+    | inr ge ↦ absurd (busy (line_from_past spans base past m x.joined ge))
   ]
 
   -- a duty day is in time

@@ -206,9 +206,9 @@ abbrev pub HasBetween : List Run → ℕ → ℕ → Type 0
 HasBetween runs from to = (run : Run) × Contains runs run × (from ≤ run.start) × (run.past ≤ to)
 
 -- a run that starts at `from` or later is at the partition point or after it
-behind_cut : (runs : List Run) (from n k : ℕ) → IsCut runs from n
+after_cut : (runs : List Run) (from n k : ℕ) → IsCut runs from n
     → k < length runs → from ≤ (get_or runs k no_run).start → n ≤ k
-behind_cut runs from n k cut within late = elim (cases_lt k n) [
+after_cut runs from n k cut within late = elim (cases_lt k n) [
   | inl lt ↦ absurd (
       let h : (get_or runs k no_run).start < from =
       ltb-true (get_or runs k no_run).start from (cut.0 k no_run (omega arith) lt) in
@@ -231,7 +231,7 @@ first_between runs some order from to n cut within = (
       (let e : get_or runs k no_run ≡ run = get_or_default runs k no_run run in' ∙ is in
       let s : (get_or runs k no_run).start ≡ run.start = ap (λ (x : Run). x.start) e in
       let p : (get_or runs k no_run).past ≡ run.past = ap (λ (x : Run). x.past) e in
-      let low : n ≤ k = behind_cut runs from n k cut in' (omega arith) in
+      let low : n ≤ k = after_cut runs from n k cut in' (omega arith) in
       let rise : (get_or runs n no_run).past ≤ (get_or runs k no_run).past =
       pasts_rise runs some order n k no_run low in' in
       le-leb (get_or runs n no_run).past to (omega arith)),
@@ -245,6 +245,6 @@ none_between runs from to n cut none = (
   λ (run, (k, in', is), late, early).
       (let e : get_or runs k no_run ≡ run = get_or_default runs k no_run run in' ∙ is in
       let s : (get_or runs k no_run).start ≡ run.start = ap (λ (x : Run). x.start) e in
-      let low : n ≤ k = behind_cut runs from n k cut in' (omega arith) in
+      let low : n ≤ k = after_cut runs from n k cut in' (omega arith) in
       absurd (omega arith)),
 )

@@ -13,7 +13,7 @@ use Rattle.tacho_hours.specs.Line.{IsExamined, line_of, Joined}
 use Rattle.tacho_hours.specs.Driving.{driving, IsDrivingMinute}
 use Rattle.tacho_hours.proofs.RunsLemmas.{place_of, place_is, line_within, line_past, line_before}
 use Rattle.tacho_hours.proofs.DrivingLemmas.{driving_all, driving_before, driving_le, driving_none}
-use Rattle.tacho_hours.proofs.DrivingLemmas.{driving_run, line_behind}
+use Rattle.tacho_hours.proofs.DrivingLemmas.{driving_run, line_from_past}
 
 -- the remaining spans determine the line from their first minute on
 pub record Left (spans left : List Span) (past : ℕ) : Type 0 where
@@ -158,14 +158,14 @@ counted_enough spans left s past from to n r late =
     let h : min to s.start ≡ to = omega arith in r.count ∙ ap (driving (line_of spans) from) h
 
 -- spans that ended before the range add nothing
-pub counted_behind : (spans left : List Span) (past from to k : ℕ) → Counted spans left past from to 0
+pub counted_after : (spans left : List Span) (past from to k : ℕ) → Counted spans left past from to 0
     → All (λ (s : Span). s.past ≤ from) (take k left) → Counted spans (drop k left) past from to 0
-counted_behind spans left past from to zero r ended = r
-counted_behind spans [] past from to (suc k) r ended = r
-counted_behind spans (s ∷ left) past from to (suc k) r ended =
+counted_after spans left past from to zero r ended = r
+counted_after spans [] past from to (suc k) r ended = r
+counted_after spans (s ∷ left) past from to (suc k) r ended =
     let e : s.past ≤ from = ended 0 s (omega arith) in
     let rest : All (λ (x : Span). x.past ≤ from) (take k left) = λ i d within. ended (suc i) d (omega arith) in
-    counted_behind spans left past from to k (counted_outside spans left s past from to 0 r (omega arith)) rest
+    counted_after spans left past from to k (counted_outside spans left s past from to 0 r (omega arith)) rest
 
 -- where a loop over the spans after the first k begins
 pub counted_from : (spans : List Span) (base past from to k : ℕ)
@@ -175,7 +175,7 @@ counted_from spans base past from to k j ended =
     let e : length (drop k spans) ≡ length spans - k = length-drop k spans in
     let f : take (length spans - k) (drop k spans) ≡ drop k spans =
     take_all (length spans - k) (drop k spans) (omega arith) in
-    rw f (counted_behind spans spans past from to k (counted_none spans base past from to j) ended)
+    rw f (counted_after spans spans past from to k (counted_none spans base past from to j) ended)
 
 -- in a loop at index i, with the span s
 pub counted_here : (spans later : List Span) (i : ℕ) (s : Span) (past from to n : ℕ)
@@ -228,7 +228,7 @@ pub drives_within : (spans : List Span) (base past m from to k : ℕ)
 drives_within spans base past m from to k x h = elim (cases_lt m past) [
   | inl lt ↦ let b : past ≤ 68374080 = x.within in omega arith
   | inr ge ↦ absurd (
-      let e : line_of spans m ≡ Rest = line_behind spans base past m x.joined ge in
+      let e : line_of spans m ≡ Rest = line_from_past spans base past m x.joined ge in
       let f : Rest ≡ Drive = sym e ∙ h.drives in
       cc)
 ]

@@ -15,7 +15,7 @@ use Rattle.tacho_plain.specs.Rests.{AreInTime}
 use Rattle.tacho_hours.proofs.ExactlyLemmas.{at_index}
 use Rattle.tacho_hours.proofs.RunsLemmas.{line_before}
 use Rattle.tacho_plain.proofs.RunsLemmas.{rests_are}
-use Rattle.tacho_hours.proofs.DrivingLemmas.{line_behind}
+use Rattle.tacho_hours.proofs.DrivingLemmas.{line_from_past}
 use Rattle.tacho_hours.proofs.CoveringLemmas.{Covers, covered}
 use Rattle.tacho_plain.specs.RestBreaches.{IsLastRun}
 use Rattle.tacho_plain.proofs.DayBreachesLemmas.{before_past}
@@ -38,7 +38,7 @@ module _ (spans : List Span) (base past : ℕ) (x : IsExamined spans base past) 
   no_end : (run : Run) → IsRestRun (line_of spans) run → past < run.past → run.past ≡ FAR
   no_end run is late = elim is.until [
     | inl far ↦ far
-    | inr busy ↦ absurd (busy (line_behind spans base past run.past x.joined (omega arith)))
+    | inr busy ↦ absurd (busy (line_from_past spans base past run.past x.joined (omega arith)))
   ]
 
   -- there is a rest run without an end
@@ -46,7 +46,7 @@ module _ (spans : List Span) (base past : ℕ) (x : IsExamined spans base past) 
   far_run =
       let w : past ≤ 68374080 = x.within in
       let c : Covers (line_of spans) past =
-      covered (line_of spans) past (omega arith) (line_behind spans base past past x.joined (omega arith)) in
+      covered (line_of spans) past (omega arith) (line_from_past spans base past past x.joined (omega arith)) in
       (c.run, c.rests, no_end c.run c.rests c.to)
 
   module _ (runs : List Run) (are : AreRestRuns (line_of spans) runs) where

@@ -16,7 +16,7 @@ use Rattle.tacho_hours.proofs.OrderLemmas.{same_breach}
 use Rattle.tacho_hours.proofs.ExactlyLemmas.{OfBelow, below_none, below_skip, below_add, exactly_as}
 
 -- the breach of a rest that starts more than six days after the end of another
-pub record IsLateBehind (a b : Run) (breach : Breach) : Type 0 where
+pub record IsLateAfter (a b : Run) (breach : Breach) : Type 0 where
   pub kind_is : breach.kind ≡ B8
   pub moment : breach.moment ≡ a.past + 8640
   pub since : breach.since ≡ a.past
@@ -24,7 +24,7 @@ pub record IsLateBehind (a b : Run) (breach : Breach) : Type 0 where
   pub amount : breach.moment + breach.amount ≡ b.start
 
 -- there is at most one such breach for two rests
-only : (a b : Run) (x y : Breach) → IsLateBehind a b x → IsLateBehind a b y → x ≡ y
+only : (a b : Run) (x y : Breach) → IsLateAfter a b x → IsLateAfter a b y → x ≡ y
 only a b x y p q = same_breach x y
     (p.kind_is ∙ sym q.kind_is)
     (p.moment ∙ sym q.moment)
@@ -39,7 +39,7 @@ only a b x y p q = same_breach x y
 -- the breach of the rest at a place, after the one before it
 pub record IsLateAt (weekly : List Run) (place : ℕ) (breach : Breach) : Type 0 where
   pub within : place < length weekly
-  pub late : IsLateBehind (get_or weekly (place - 1) no_run) (get_or weekly place no_run) breach
+  pub late : IsLateAfter (get_or weekly (place - 1) no_run) (get_or weekly place no_run) breach
 
 -- the breaches of the rests at places below n
 abbrev pub LateBelow : List Run → ℕ → Breach → Type 0
@@ -63,7 +63,7 @@ module _ (weekly : List Run) (x : AreInTime weekly) (n : ℕ) (some : 1 ≤ n) (
       omega arith))
 
   -- it starts later
-  pub late_add : (new : Breach) → IsLateBehind (get_or weekly (n - 1) no_run) (get_or weekly n no_run) new
+  pub late_add : (new : Breach) → IsLateAfter (get_or weekly (n - 1) no_run) (get_or weekly n no_run) new
       → AreCollected (LateBelow weekly (n + 1)) (found ++ new ∷ [])
   late_add new is = below_add (IsLateAt weekly) Apart 1 n found new some r (record { within = within; late = is })
       (λ breach h. only (get_or weekly (n - 1) no_run) (get_or weekly n no_run) new breach is h.late)
@@ -86,13 +86,13 @@ late_all line weekly are n most found r = exactly_as (LateBelow weekly n) (IsLat
       let one : 1 ≤ k = h.from in
       let in' : k < length weekly = h.of.within in
       let e : k - 1 + 1 ≡ k = omega arith in
-      let late : IsLateBehind (get_or weekly (k - 1) no_run) (get_or weekly (k - 1 + 1) no_run) breach =
-      subst (λ (i : ℕ). IsLateBehind (get_or weekly (k - 1) no_run) (get_or weekly i no_run) breach)
+      let late : IsLateAfter (get_or weekly (k - 1) no_run) (get_or weekly (k - 1 + 1) no_run) breach =
+      subst (λ (i : ℕ). IsLateAfter (get_or weekly (k - 1) no_run) (get_or weekly i no_run) breach)
       (sym e) h.of.late in (
         h.of.late.kind_is,
         record {
-          a = get_or weekly (k - 1) no_run;
-          b = get_or weekly (k - 1 + 1) no_run;
+          earlier = get_or weekly (k - 1) no_run;
+          later = get_or weekly (k - 1 + 1) no_run;
           neighbours = next_are_neighbours line 1440 weekly are (k - 1) (omega arith);
           moment = late.moment;
           since = late.since;
@@ -101,10 +101,10 @@ late_all line weekly are n most found r = exactly_as (LateBelow weekly n) (IsLat
         },
       )),
   λ h.
-      (let (i, in', e, f) = neighbours_are_next line 1440 weekly are h.1.a h.1.b h.1.neighbours in
+      (let (i, in', e, f) = neighbours_are_next line 1440 weekly are h.1.earlier h.1.later h.1.neighbours in
       let g : i + 1 - 1 ≡ i = omega arith in
-      let e' : h.1.a ≡ get_or weekly (i + 1 - 1) no_run = e ∙ ap (λ (k : ℕ). get_or weekly k no_run) (sym g) in
-      let late : IsLateBehind h.1.a h.1.b breach =
+      let e' : h.1.earlier ≡ get_or weekly (i + 1 - 1) no_run = e ∙ ap (λ (k : ℕ). get_or weekly k no_run) (sym g) in
+      let late : IsLateAfter h.1.earlier h.1.later breach =
       record { kind_is = h.0; moment = h.1.moment; since = h.1.since; late = h.1.late; amount = h.1.amount } in
       record {
         place = i + 1;
@@ -113,8 +113,8 @@ late_all line weekly are n most found r = exactly_as (LateBelow weekly n) (IsLat
         of = record {
           within = in';
           late =
-              subst (λ (a : Run). IsLateBehind a (get_or weekly (i + 1) no_run) breach)
-              e' (subst (λ (b : Run). IsLateBehind h.1.a b breach) f late);
+              subst (λ (a : Run). IsLateAfter a (get_or weekly (i + 1) no_run) breach)
+              e' (subst (λ (b : Run). IsLateAfter h.1.earlier b breach) f late);
         };
       }),
 )) r

@@ -12,7 +12,7 @@ use Rattle.tacho_hours.specs.declared.breach.Kind.TheVariants.{B3, B5}
 use Rattle.tacho_hours.specs.Runs.{IsRestRun, AreRestRuns, Before, minutes_of, IsRestOf, AreRestsOf}
 use Rattle.tacho_hours.specs.Line.{Line}
 use Rattle.tacho_hours.specs.Days.{EarlierDay, IsDuty, IsReduced}
-use Rattle.tacho_hours.specs.Exactly.{AreSoMany}
+use Rattle.tacho_hours.specs.Exactly.{HasCount}
 use Rattle.tacho_hours.specs.Weeks.{IsInWeek, IsWeeklyRest}
 use Rattle.tacho_hours.specs.Breaches.{IsExtended, IsB3, IsB5}
 use Rattle.tacho_plain.proofs.DaysLemmas.{HaveEnded, pasts_rise}
@@ -23,7 +23,7 @@ use Rattle.tacho_plain.specs.DailyRests.{IsLastEnd}
 use Rattle.tacho_hours.proofs.OrderLemmas.{same_breach}
 use Rattle.tacho_plain.proofs.DayFoundLemmas.{no_day, IsOfDays, long_before}
 use Rattle.tacho_hours.proofs.LongDrivingLemmas.{too_much_only}
-use Rattle.tacho_hours.proofs.ExactlyLemmas.{so_many_only, so_many_as}
+use Rattle.tacho_hours.proofs.ExactlyLemmas.{how_many_only, how_many_as}
 use Rattle.tacho_plain.proofs.TallyLemmas.{Tallied, IsTallied, AreKeys, tally_counts}
 
 -- a duty day has a minute, and so has its rest
@@ -61,7 +61,7 @@ pub record B5Of (line : Line) (day : DutyDay) (breach : Breach) : Type 0 where
   pub week : ℕ
   pub ordinal : ℕ
   pub extended : IsExtended line week day
-  pub so_many : AreSoMany (ExtendedUpTo line week day) EarlierDay ordinal
+  pub how_many : HasCount (ExtendedUpTo line week day) EarlierDay ordinal
   pub many : 2 < ordinal
   pub long : IsLongDay line B5 540 day breach
 
@@ -82,7 +82,7 @@ b5_to line day b p = (
     week = p.week;
     ordinal = p.ordinal;
     extended = p.extended;
-    so_many = p.so_many;
+    how_many = p.how_many;
     many = p.many;
     over = p.long.over;
     since = p.long.since;
@@ -102,7 +102,7 @@ b5_back line days are times b (k, h) =
         week = h.week;
         ordinal = h.ordinal;
         extended = h.extended;
-        so_many = h.so_many;
+        how_many = h.how_many;
         many = h.many;
         long = record { kind_is = k; over = h.over; since = h.since };
       },
@@ -113,9 +113,9 @@ module _ (line : Line) (xs : List DutyDay) (are : AreTheDays (IsLongDuty line) x
     (times : All (λ (x : DutyDay). IsInTime x) xs) (i : ℕ) (within : i < length xs)
     (key count : ℕ) (r : Tallied InWeek (take (i + 1) xs) key count) where
   -- it counts the extended days of the week up to this day
-  extended_counts : AreSoMany (ExtendedUpTo line key (get_or xs i no_day)) EarlierDay count
+  extended_counts : HasCount (ExtendedUpTo line key (get_or xs i no_day)) EarlierDay count
   extended_counts =
-      so_many_as (IsTallied (IsLongDuty line) InWeek key (get_or xs i no_day))
+      how_many_as (IsTallied (IsLongDuty line) InWeek key (get_or xs i no_day))
       (ExtendedUpTo line key (get_or xs i no_day)) EarlierDay count
       (λ other. (
         λ h. (record { duty = h.holds.duty; week = h.has; over = h.holds.over }, h.upto),
@@ -134,7 +134,7 @@ module _ (line : Line) (xs : List DutyDay) (are : AreTheDays (IsLongDuty line) x
         week = key;
         ordinal = count;
         extended = record { duty = m.duty; week = in'; over = m.over };
-        so_many = extended_counts;
+        how_many = extended_counts;
         many = many;
         long = long;
       }
@@ -145,10 +145,10 @@ module _ (line : Line) (xs : List DutyDay) (are : AreTheDays (IsLongDuty line) x
       let m : IsLongDuty line (get_or xs i no_day) =
       (are.each (get_or xs i no_day)).0 (Contains-get_or xs i no_day within) in
       let e : p.week ≡ key = (week_keys line).one (get_or xs i no_day) p.week key m p.extended.week in' in
-      let s : AreSoMany (ExtendedUpTo line key (get_or xs i no_day)) EarlierDay p.ordinal =
-      subst (λ (w : ℕ). AreSoMany (ExtendedUpTo line w (get_or xs i no_day)) EarlierDay p.ordinal) e p.so_many in
+      let s : HasCount (ExtendedUpTo line key (get_or xs i no_day)) EarlierDay p.ordinal =
+      subst (λ (w : ℕ). HasCount (ExtendedUpTo line w (get_or xs i no_day)) EarlierDay p.ordinal) e p.how_many in
       let f : p.ordinal ≡ count =
-      so_many_only (ExtendedUpTo line key (get_or xs i no_day)) EarlierDay
+      how_many_only (ExtendedUpTo line key (get_or xs i no_day)) EarlierDay
       (λ x y p q. one_way line x y p.0.duty q.0.duty) p.ordinal count s extended_counts in
       let g : 2 < p.ordinal = p.many in
       omega arith
@@ -176,7 +176,7 @@ pub record B3Of (line : Line) (day : DutyDay) (breach : Breach) : Type 0 where
   pub kind : breach.kind ≡ B3
   pub reduced : IsReduced line day
   pub last : IsLast line day weekly
-  pub so_many : AreSoMany (ReducedUpTo line weekly day) EarlierDay ordinal
+  pub how_many : HasCount (ReducedUpTo line weekly day) EarlierDay ordinal
   pub many : 3 < ordinal
   pub moment : breach.moment ≡ day.rest.start
   pub since : breach.since ≡ weekly.past
@@ -194,7 +194,7 @@ b3_to line day b p = (
     rest = p.last.rest;
     before = p.last.before;
     last = p.last.last;
-    so_many = p.so_many;
+    how_many = p.how_many;
     many = p.many;
     moment = p.moment;
     since = p.since;
@@ -217,7 +217,7 @@ b3_back line days are times b (k, h) =
         kind = k;
         reduced = h.reduced;
         last = record { rest = h.rest; before = h.before; last = h.last };
-        so_many = h.so_many;
+        how_many = h.how_many;
         many = h.many;
         moment = h.moment;
         since = h.since;
@@ -335,11 +335,11 @@ module _ (line : Line) (runs : List Run) (all : AreRestRuns line runs) where
   b3_is = record {
     only = λ day a b p q.
         (let w : p.weekly ≡ q.weekly = last_only day p.weekly q.weekly p.last q.last in
-        let s : AreSoMany (ReducedUpTo line q.weekly day) EarlierDay p.ordinal =
-        subst (λ (z : Run). AreSoMany (ReducedUpTo line z day) EarlierDay p.ordinal) w p.so_many in
+        let s : HasCount (ReducedUpTo line q.weekly day) EarlierDay p.ordinal =
+        subst (λ (z : Run). HasCount (ReducedUpTo line z day) EarlierDay p.ordinal) w p.how_many in
         let o : p.ordinal ≡ q.ordinal =
-        so_many_only (ReducedUpTo line q.weekly day) EarlierDay
-        (λ x y p q. one_way line x y p.0.duty q.0.duty) p.ordinal q.ordinal s q.so_many in
+        how_many_only (ReducedUpTo line q.weekly day) EarlierDay
+        (λ x y p q. one_way line x y p.0.duty q.0.duty) p.ordinal q.ordinal s q.how_many in
         let m : a.amount + 3 ≡ p.ordinal = p.amount in
         let n : b.amount + 3 ≡ q.ordinal = q.amount in
         same_breach a b (p.kind ∙ sym q.kind) (p.moment ∙ sym q.moment)
@@ -394,9 +394,9 @@ module _ (line : Line) (runs : List Run) (all : AreRestRuns line runs) where
 
     -- it counts the reduced rests up to this day's
     reduced_counts : (weekly : Run) → IsLast line (get_or xs i no_day) weekly → weekly.past ≡ key
-        → AreSoMany (ReducedUpTo line weekly (get_or xs i no_day)) EarlierDay count
+        → HasCount (ReducedUpTo line weekly (get_or xs i no_day)) EarlierDay count
     reduced_counts weekly last e =
-        so_many_as (IsTallied (IsReduced line) (SinceWeekly line) key (get_or xs i no_day))
+        how_many_as (IsTallied (IsReduced line) (SinceWeekly line) key (get_or xs i no_day))
         (ReducedUpTo line weekly (get_or xs i no_day)) EarlierDay count
         (λ other. (
           λ h.
@@ -430,7 +430,7 @@ module _ (line : Line) (runs : List Run) (all : AreRestRuns line runs) where
       kind = kind;
       reduced = here;
       last = p;
-      so_many = reduced_counts w p e;
+      how_many = reduced_counts w p e;
       many = many;
       moment = moment;
       since = since ∙ sym e;
@@ -442,11 +442,11 @@ module _ (line : Line) (runs : List Run) (all : AreRestRuns line runs) where
         → (b : Breach) → B3Of line (get_or xs i no_day) b → ⊥
     b3_few (w, p, e) few b q =
         let same : q.weekly ≡ w = last_only (get_or xs i no_day) q.weekly w q.last p in
-        let s : AreSoMany (ReducedUpTo line w (get_or xs i no_day)) EarlierDay q.ordinal =
-        subst (λ (z : Run). AreSoMany (ReducedUpTo line z (get_or xs i no_day)) EarlierDay q.ordinal)
-        same q.so_many in
+        let s : HasCount (ReducedUpTo line w (get_or xs i no_day)) EarlierDay q.ordinal =
+        subst (λ (z : Run). HasCount (ReducedUpTo line z (get_or xs i no_day)) EarlierDay q.ordinal)
+        same q.how_many in
         let o : q.ordinal ≡ count =
-        so_many_only (ReducedUpTo line w (get_or xs i no_day)) EarlierDay
+        how_many_only (ReducedUpTo line w (get_or xs i no_day)) EarlierDay
         (λ x y p q. one_way line x y p.0.duty q.0.duty) q.ordinal count s (reduced_counts w p e) in
         let m : 3 < q.ordinal = q.many in
         omega arith

@@ -11,12 +11,12 @@ use Rattle.tacho_hours.specs.Breaches.{IsLacking}
 use Rattle.tacho_hours.proofs.AnewLemmas.{IsStart, starts_late, none_at, fails_at}
 use Rattle.tacho_hours.proofs.LackingWeekLemmas.{serves_less, LackingBelow}
 use Rattle.tacho_hours.proofs.LackingWeekLemmas.{lacking_none, lacking_skip, lacking_add, lacking_all}
-use Rattle.tacho_choice.specs.Weeks.{first_of, IsInWeeks}
+use Rattle.tacho_choice.specs.Weeks.{first_week_of, IsInWeeks}
 
 -- a single week can always be served
 pub one_serves : (line : Line) (a : ℕ) → IsInWeeks line → CanServe line a a
 one_serves line a is = record {
-  week_of = first_of;
+  week_of = first_week_of;
   choice = λ rest weekly.
       (let some : rest.start < rest.past = weekly.rests.some in
       let late : 5760 < rest.past = is.late rest weekly in

@@ -7,16 +7,16 @@ use Rattle.std.proofs.lemmas.List.{take_more, length-take-le, get_or-take, get_o
 use Rattle.std.proofs.lemmas.List.Elements.{Contains-push, Contains-append_left, Contains-push_cases, Contains-get_or}
 use Rattle.tacho_hours.specs.declared.days.DutyDay.{DutyDay}
 use Rattle.tacho_hours.specs.Days.{EarlierDay}
-use Rattle.tacho_hours.specs.Exactly.{AreSoMany}
+use Rattle.tacho_hours.specs.Exactly.{HasCount}
 use Rattle.tacho_plain.proofs.KeptLemmas.{AreKept, kept_none, kept_nothing, kept_add}
 use Rattle.tacho_plain.proofs.KeptLemmas.{kept_skip, seen_before}
-use Rattle.tacho_hours.proofs.ExactlyLemmas.{so_many_as}
+use Rattle.tacho_hours.proofs.ExactlyLemmas.{how_many_as}
 use Rattle.tacho_plain.specs.DayBreaches.{IsInTime, AreTheDays}
 use Rattle.tacho_plain.proofs.DayFoundLemmas.{no_day}
 
 -- how many of the days that were seen have the key `key`, which is the latest
 pub record Tallied (K : DutyDay → ℕ → Type 0) (seen : List DutyDay) (key count : ℕ) : Type 0 where
-  pub tally : AreSoMany (λ other. Contains seen other × K other key) EarlierDay count
+  pub tally : HasCount (λ other. Contains seen other × K other key) EarlierDay count
   pub few : count ≤ length seen
   pub latest : (other : DutyDay) (k : ℕ) → Contains seen other → K other k → k ≤ key
   pub known : (key ≡ 0) ⊎ ((other : DutyDay) × Contains seen other × K other key)
@@ -163,10 +163,10 @@ module _ (M : DutyDay → Type 0) (K : DutyDay → ℕ → Type 0) (keys : AreKe
 
     -- the tally counts the days with this key up to this day
     pub tally_counts : (key count : ℕ) → Tallied K (take (i + 1) xs) key count
-        → AreSoMany (IsTallied M K key (get_or xs i no_day)) EarlierDay count
+        → HasCount (IsTallied M K key (get_or xs i no_day)) EarlierDay count
     tally_counts key count r =
         let l : length (take (i + 1) xs) ≡ i + 1 = length-take-le (i + 1) xs (omega arith) in
-        so_many_as (λ other. Contains (take (i + 1) xs) other × K other key)
+        how_many_as (λ other. Contains (take (i + 1) xs) other × K other key)
         (IsTallied M K key (get_or xs i no_day)) EarlierDay count
         (λ other. (
           λ ((j, below, e), has).

@@ -10,7 +10,7 @@ use Rattle.tacho_hours.specs.Choice.{CanServe}
 use Rattle.tacho_choice.specs.declared.outcome.Outcome.{Outcome}
 use Rattle.tacho_choice.specs.declared.week.WeekOfRests.{WeekOfRests}
 use Rattle.tacho_choice.specs.Step.{place_of, IsFirst, IsNext}
-use Rattle.tacho_choice.specs.Weeks.{IsInWeeks, IsWeekOfRests, CanReach, Asks, week_none}
+use Rattle.tacho_choice.specs.Weeks.{IsInWeeks, IsWeekOfRests, CanReach, IsPairAsked, week_none}
 use Rattle.tacho_choice.proofs.LawfulLemmas.{reach_law, start_law, serve_law}
 use Rattle.tacho_choice.proofs.OutcomesLemmas.{place_below, place_only}
 use Rattle.tacho_choice.proofs.SeenLemmas.{asks_is, seen_whole}
@@ -65,8 +65,8 @@ module _ (line : Line) (start : ℕ) (weeks : List WeekOfRests) (is : IsInWeeks 
       subst (λ (w : ℕ). IsWeekOfRests (IsWeeklyRest line) w new) e (are.each at within) in
       let rested : (new.whole ≡ true) ↔ IsWhollyAtRest line (u + 1) =
       subst (λ (w : ℕ). (new.whole ≡ true) ↔ IsWhollyAtRest line w) e (whole_is at within) in
-      let pair : Asks line u asks =
-      subst (Asks line u) (sym asked) (asks_is line u old.whole new.whole (whole_is (at - 1) (omega arith)) rested) in
+      let pair : IsPairAsked line u asks =
+      subst (IsPairAsked line u) (sym asked) (asks_is line u old.whole new.whole (whole_is (at - 1) (omega arith)) rested) in
       subst (λ (w : ℕ). CanReach line (start + first) w left
       ↔ ((before : Outcome) × (CanReach line (start + first) u before × IsNext new.rests asks before left))) (sym e)
       (reach_law line (start + first) u old.rests new.rests asks left is

@@ -16,7 +16,7 @@ use Rattle.tacho_hours.specs.Order.{Apart, Earlier}
 use Rattle.tacho_hours.specs.SoFar.{AreCollected}
 use Rattle.tacho_hours.proofs.ExactlyLemmas.{exactly_none, exactly_as, exactly_skip, exactly_add}
 use Rattle.tacho_hours.specs.Breaches.{IsB6, IsB7, IsWeekBreach, AreWeekBreaches}
-use Rattle.tacho_hours.proofs.DrivingLemmas.{line_behind}
+use Rattle.tacho_hours.proofs.DrivingLemmas.{line_from_past}
 use Rattle.tacho_hours.proofs.RunsLemmas.{line_before}
 use Rattle.tacho_hours.proofs.LongDrivingLemmas.{too_much_only, too_little}
 use Rattle.tacho_plain.specs.WeekBreaches.{IsLongWeek, IsLongPair, IsOfWeeks, AreOfWeeks}
@@ -130,7 +130,7 @@ drives_between spans base past m from to k x h = (
   elim (cases_lt m past) [
     | inl lt ↦ lt
     | inr ge ↦ absurd (
-        let e : line_of spans m ≡ Rest = line_behind spans base past m x.joined ge in
+        let e : line_of spans m ≡ Rest = line_from_past spans base past m x.joined ge in
         let f : Rest ≡ Drive = sym e ∙ h.drives in
         cc)
   ],

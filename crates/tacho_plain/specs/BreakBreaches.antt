@@ -4,11 +4,11 @@ use Rattle.tacho_hours.specs.declared.breach.Breach.{Breach}
 use Rattle.tacho_hours.specs.declared.breach.Kind.TheVariants.{B1}
 use Rattle.tacho_hours.specs.Line.{Line}
 use Rattle.tacho_hours.specs.Driving.{IsDrivingMinute}
-use Rattle.tacho_hours.specs.Breaches.{IsOver}
+use Rattle.tacho_hours.specs.Breaches.{HasDrivingAbove}
 use Rattle.tacho_hours.specs.Limits.{driving_before_break}
 
 -- B1, of one driving period: more than four and a half hours of driving from one minute up to another (Article 7)
 pub record IsLongPeriod (line : Line) (from to : ℕ) (breach : Breach) : Type 0 where
   pub kind : breach.kind ≡ B1
-  pub over : IsOver line driving_before_break from to breach
+  pub over : HasDrivingAbove line driving_before_break from to breach
   pub since : IsDrivingMinute line from to 1 breach.since

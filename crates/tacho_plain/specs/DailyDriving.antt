@@ -7,11 +7,11 @@ use Rattle.tacho_hours.specs.Line.{Line}
 use Rattle.tacho_hours.specs.Days.{IsDuty}
 use Rattle.tacho_hours.specs.Driving.{driving}
 use Rattle.tacho_hours.specs.Limits.{driving_in_day}
-use Rattle.tacho_hours.specs.Breaches.{IsTooMuch}
+use Rattle.tacho_hours.specs.Breaches.{IsDrivingBreach}
 
 -- B4 and B5, of one day: more driving minutes in it than allowed (Article 6(1))
 abbrev pub IsLongDay : Line → Kind → ℕ → DutyDay → Breach → Type 0
-IsLongDay line kind limit day breach = IsTooMuch line kind limit day.start day.past breach
+IsLongDay line kind limit day breach = IsDrivingBreach line kind limit day.start day.past breach
 
 -- a duty day with more than nine hours of driving (Article 6(1))
 pub record IsLongDuty (line : Line) (day : DutyDay) : Type 0 where

@@ -7,15 +7,15 @@ use Rattle.tacho_hours.specs.Line.{Line}
 use Rattle.tacho_hours.specs.Weeks.{week_start}
 use Rattle.tacho_hours.specs.SoFar.{AreCollected}
 use Rattle.tacho_hours.specs.Limits.{driving_in_week, driving_in_two_weeks}
-use Rattle.tacho_hours.specs.Breaches.{IsTooMuch}
+use Rattle.tacho_hours.specs.Breaches.{IsDrivingBreach}
 
 -- more than 56 hours (3360 minutes) in a week (Article 6(2))
 abbrev pub IsLongWeek : Line → ℕ → Breach → Type 0
-IsLongWeek line w breach = IsTooMuch line B6 driving_in_week (week_start w) (week_start (w + 1)) breach
+IsLongWeek line w breach = IsDrivingBreach line B6 driving_in_week (week_start w) (week_start (w + 1)) breach
 
 -- more than 90 hours (5400 minutes) in a week and the next (Article 6(3))
 abbrev pub IsLongPair : Line → ℕ → Breach → Type 0
-IsLongPair line w breach = IsTooMuch line B7 driving_in_two_weeks (week_start w) (week_start (w + 2)) breach
+IsLongPair line w breach = IsDrivingBreach line B7 driving_in_two_weeks (week_start w) (week_start (w + 2)) breach
 
 -- a breach of one of the weeks from `first` to before `end`
 pub record IsOfWeeks (line : Line) (first end : ℕ) (breach : Breach) : Type 0 where

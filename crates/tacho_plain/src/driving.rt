@@ -1,6 +1,6 @@
 ghost use Rattle.std.specs.Prelude.{◌≡◌, ◌<◌, ◌≤◌, All, MatchOption, length, take};
 ghost use Rattle.tacho_hours.specs.Line.{line_of, IsExamined};
-ghost use Rattle.tacho_hours.specs.Driving.{driving, IsDrivingMinute, IsExcess};
+ghost use Rattle.tacho_hours.specs.Driving.{driving, IsDrivingMinute, IsDrivingAbove};
 
 use crate::examined::Examined;
 use tacho_pass::is_drive;
@@ -82,7 +82,7 @@ pub fn excess_between(examined: &Examined<'_>, from: u32, to: u32, limit: u32) -
     requires { IsExamined examined.now.spans.now examined.now.base examined.now.past }
     ensures { MatchOption result
         (driving (line_of examined.now.spans.now) from to ≤ limit)
-        (λ excess. IsExcess (line_of examined.now.spans.now) limit from to excess.moment excess.amount) }
+        (λ excess. IsDrivingAbove (line_of examined.now.spans.now) limit from to excess.moment excess.amount) }
 {
     let minutes = driving_minutes(examined, from, to);
     if minutes <= limit {

@@ -1,7 +1,7 @@
 ghost use Rattle.std.specs.Prelude.{◌≤◌, ◌+◌, IfOk, MatchOption};
 ghost use Rattle.tacho_hours.specs.Line.{line_of, IsExamined};
 ghost use Rattle.tacho_hours.specs.Driving.{driving};
-ghost use Rattle.tacho_hours.specs.Breaches.{AreWeekBreaches, IsTooMuch};
+ghost use Rattle.tacho_hours.specs.Breaches.{AreWeekBreaches, IsDrivingBreach};
 ghost use Rattle.tacho_plain.specs.WeekBreaches.{AreOfWeeks};
 
 use crate::driving::{Excess, excess_between};
@@ -22,7 +22,7 @@ fn breach_between(
     requires { IsExamined examined.now.spans.now examined.now.base examined.now.past }
     ensures { MatchOption result
         (driving (line_of examined.now.spans.now) since to ≤ most)
-        (λ breach. IsTooMuch (line_of examined.now.spans.now) kind most since to breach) }
+        (λ breach. IsDrivingBreach (line_of examined.now.spans.now) kind most since to breach) }
 {
     let Excess { moment, amount } = excess_between(examined, since.number(), to.number(), most)?;
     Some(Breach {

@@ -15,21 +15,21 @@ use Rattle.tacho_state.specs.Disjoint.{AreDisjoint}
 use Rattle.tacho_state.specs.State.{Driver, State, driver_of}
 use Rattle.tacho_tables.specs.declared.rows.StoredSpan.{StoredSpan}
 use Rattle.tacho_tables.specs.Rows.{SpanRow}
-use Rattle.tacho_tables.specs.Tables.{Tables, IsLatest, is_before, is_begun, is_near, is_of, span_of}
-use Rattle.tacho_reading.specs.Standing.{TablesStandFor, IsReadNear, row_span, spans_of}
-use Rattle.tacho_reading.specs.Apart.{AreAside, AreApart, rows_of, near_from}
+use Rattle.tacho_tables.specs.Tables.{Tables, IsLatest, is_before, is_begun, is_row_near, is_of, span_of}
+use Rattle.tacho_reading.specs.Standing.{TablesRepresent, IsReadNear, row_span, spans_of}
+use Rattle.tacho_reading.specs.Apart.{AreAside, AreRowsApart, driver_rows, near_from}
 use Rattle.tacho_reading.proofs.NearRowLemmas.{card_kept, held_kept}
 
 -- ---- rows that are apart
 
 -- no row is empty
-full_in : (xs : List SpanRow) (x : SpanRow) → AreApart xs → Has xs x → x.start < x.past
+full_in : (xs : List SpanRow) (x : SpanRow) → AreRowsApart xs → Has xs x → x.start < x.past
 full_in [] x h c = absurd c
 full_in (y ∷ ys) x h (inl e) = subst (λ (z : SpanRow). z.start < z.past) (sym e) h.0
 full_in (y ∷ ys) x h (inr c) = full_in ys x h.2 c
 
 -- two rows are the same, or one ends before the other begins
-beside : (xs : List SpanRow) (x r : SpanRow) → AreApart xs → Has xs x → Has xs r → (x ≡ r) ⊎ AreAside x r
+beside : (xs : List SpanRow) (x r : SpanRow) → AreRowsApart xs → Has xs x → Has xs r → (x ≡ r) ⊎ AreAside x r
 beside [] x r h c d = absurd c
 beside (y ∷ ys) x r h (inl e) (inl f) = inl (e ∙ sym f)
 beside (y ∷ ys) x r h (inl e) (inr d) = inr (subst (λ (z : SpanRow). AreAside z r) (sym e) (all_has (AreAside y) ys r h.1 d))
@@ -86,7 +86,7 @@ abbrev pub IsFrom : ℕ → ℕ → ℕ → SpanRow → Type 0
 IsFrom start past from x = (nat_le from x.start && nat_lt x.start past) ≡ (nat_lt x.start past && nat_lt start x.past)
 
 -- if no row begins before the range, `from` is the range's start
-from_none : (start past : ℕ) (xs : List SpanRow) → AreApart xs → filter (λ r. nat_lt r.start start) xs ≡ []
+from_none : (start past : ℕ) (xs : List SpanRow) → AreRowsApart xs → filter (λ r. nat_lt r.start start) xs ≡ []
     → (x : SpanRow) → Has xs x → IsFrom start past start x
 from_none start past xs h none x c = go (nat_lt x.start start) refl where
   full : x.start < x.past
@@ -100,7 +100,7 @@ from_none start past xs h none x c = go (nat_lt x.start start) refl where
       late start start past x after (omega (arith, after, full))
 
 -- if some row does, `from` follows from the latest such row, which may reach into the range
-from_some : (start past : ℕ) (xs : List SpanRow) (r : SpanRow) → AreApart xs → Has (filter (λ r. nat_lt r.start start) xs) r
+from_some : (start past : ℕ) (xs : List SpanRow) (r : SpanRow) → AreRowsApart xs → Has (filter (λ r. nat_lt r.start start) xs) r
     → AllByRecursion (λ (x : SpanRow). x.start ≤ r.start) (filter (λ r. nat_lt r.start start) xs)
     → (x : SpanRow) → Has xs x → IsFrom start past (near_from start past (Some (span_of r))) x
 from_some start past xs r h one latest x c = go (nat_lt r.start past && nat_lt start r.past) refl (nat_lt x.start start) refl where
@@ -157,42 +157,42 @@ from_some start past xs r h one latest x c = go (nat_lt r.start past && nat_lt s
 -- ---- the rows of a driver
 
 -- filtering the rows by driver and by another test filters the driver's rows by that test
-own_filter : (n : ℕ) (q : SpanRow → Bool) (rows : List SpanRow) → filter (λ r. (r.driver == n) && q r) rows ≡ filter q (rows_of n rows)
+own_filter : (n : ℕ) (q : SpanRow → Bool) (rows : List SpanRow) → filter (λ r. (r.driver == n) && q r) rows ≡ filter q (driver_rows n rows)
 own_filter n q [] = refl
 own_filter n q (r ∷ rows) = go (r.driver == n) (own_filter n q rows) where
-  own : (v : Bool) → filter (λ r. (r.driver == n) && q r) rows ≡ filter q (rows_of n rows)
+  own : (v : Bool) → filter (λ r. (r.driver == n) && q r) rows ≡ filter q (driver_rows n rows)
       → cond v (r ∷ filter (λ r. (r.driver == n) && q r) rows) (filter (λ r. (r.driver == n) && q r) rows)
-      ≡ cond v (r ∷ filter q (rows_of n rows)) (filter q (rows_of n rows))
+      ≡ cond v (r ∷ filter q (driver_rows n rows)) (filter q (driver_rows n rows))
   own true e = ap (λ (x : List SpanRow). r ∷ x) e
   own false e = e
 
-  go : (o : Bool) → filter (λ r. (r.driver == n) && q r) rows ≡ filter q (rows_of n rows)
+  go : (o : Bool) → filter (λ r. (r.driver == n) && q r) rows ≡ filter q (driver_rows n rows)
       → cond (o && q r) (r ∷ filter (λ r. (r.driver == n) && q r) rows) (filter (λ r. (r.driver == n) && q r) rows)
-      ≡ filter q (cond o (r ∷ rows_of n rows) (rows_of n rows))
+      ≡ filter q (cond o (r ∷ driver_rows n rows) (driver_rows n rows))
   go true e = own (q r) e
   go false e = e
 
-module _ (n start past : ℕ) (rows : List SpanRow) (apart : AreApart (rows_of n rows)) where
+module _ (n start past : ℕ) (rows : List SpanRow) (apart : AreRowsApart (driver_rows n rows)) where
   -- the rows before the range are the driver's rows before it
-  before_own : filter (is_before n start) rows ≡ filter (λ r. nat_lt r.start start) (rows_of n rows)
+  before_own : filter (is_before n start) rows ≡ filter (λ r. nat_lt r.start start) (driver_rows n rows)
   before_own = own_filter n (λ r. nat_lt r.start start) rows
 
   -- with the latest row before the range, `near_from` is such a `from`
   pub from_found : (b : Option StoredSpan) → MatchOption b (filter (is_before n start) rows ≡ [])
       (λ s. (r : SpanRow) × IsLatest r (filter (is_before n start) rows) × (s ≡ span_of r))
-      → (x : SpanRow) → Has (rows_of n rows) x → IsFrom start past (near_from start past b) x
-  from_found None none x c = from_none start past (rows_of n rows) apart (sym before_own ∙ none) x c
+      → (x : SpanRow) → Has (driver_rows n rows) x → IsFrom start past (near_from start past b) x
+  from_found None none x c = from_none start past (driver_rows n rows) apart (sym before_own ∙ none) x c
   from_found (Some s) (r, latest, is) x c =
       let at_most = recursion_from_All (λ (x : SpanRow). x.start ≤ r.start) (filter (is_before n start) rows) latest.latest in
       subst (λ (y : StoredSpan). IsFrom start past (near_from start past (Some y)) x) (sym is)
-      (from_some start past (rows_of n rows) r apart
+      (from_some start past (driver_rows n rows) r apart
       (subst (λ (ys : List SpanRow). Has ys r) before_own (has_contained (filter (is_before n start) rows) r latest.one))
       (subst (λ (ys : List SpanRow). AllByRecursion (λ (x : SpanRow). x.start ≤ r.start) ys) before_own at_most) x c)
 
   -- the rows that begin from there on are those that are near the range
   begun_near : (b : Option StoredSpan) → MatchOption b (filter (is_before n start) rows ≡ [])
       (λ s. (r : SpanRow) × IsLatest r (filter (is_before n start) rows) × (s ≡ span_of r))
-      → AllByRecursion (λ x. is_begun n (near_from start past b) past x ≡ is_near n start past x) rows
+      → AllByRecursion (λ x. is_begun n (near_from start past b) past x ≡ is_row_near n start past x) rows
   begun_near b h = all_from _ rows (λ x c. go x c (x.driver == n) refl) where
     go : (x : SpanRow) → Has rows x → (o : Bool) → (x.driver == n) ≡ o
         → (o && (nat_le (near_from start past b) x.start && nat_lt x.start past)) ≡ (o && (nat_lt x.start past && nat_lt start x.past))
@@ -204,16 +204,16 @@ module _ (n start past : ℕ) (rows : List SpanRow) (apart : AreApart (rows_of n
       (λ s. (r : SpanRow) × IsLatest r (filter (is_before n start) rows) × (s ≡ span_of r))
       → IsPermutation (map span_of (filter (is_begun n (near_from start past b) past) rows)) found → IsReadNear rows n start past found
   read_begun b found h p = subst (λ (ys : List SpanRow). IsPermutation (map span_of ys) found)
-      (filter_same (is_begun n (near_from start past b) past) (is_near n start past) rows (begun_near b h)) p
+      (filter_same (is_begun n (near_from start past b) past) (is_row_near n start past) rows (begun_near b h)) p
 
   -- the rows that remain after these are deleted are those that aren't near it
   pub left_begun : (b : Option StoredSpan) → MatchOption b (filter (is_before n start) rows ≡ [])
       (λ s. (r : SpanRow) × IsLatest r (filter (is_before n start) rows) × (s ≡ span_of r))
-      → filter (λ r. not (is_begun n (near_from start past b) past r)) rows ≡ filter (λ r. not (is_near n start past r)) rows
-  left_begun b h = filter_same (λ r. not (is_begun n (near_from start past b) past r)) (λ r. not (is_near n start past r)) rows
+      → filter (λ r. not (is_begun n (near_from start past b) past r)) rows ≡ filter (λ r. not (is_row_near n start past r)) rows
+  left_begun b h = filter_same (λ r. not (is_begun n (near_from start past b) past r)) (λ r. not (is_row_near n start past r)) rows
       (negated rows (begun_near b h)) where
-        negated : (xs : List SpanRow) → AllByRecursion (λ x. is_begun n (near_from start past b) past x ≡ is_near n start past x) xs
-            → AllByRecursion (λ x. not (is_begun n (near_from start past b) past x) ≡ not (is_near n start past x)) xs
+        negated : (xs : List SpanRow) → AllByRecursion (λ x. is_begun n (near_from start past b) past x ≡ is_row_near n start past x) xs
+            → AllByRecursion (λ x. not (is_begun n (near_from start past b) past x) ≡ not (is_row_near n start past x)) xs
         negated [] h = tt
         negated (x ∷ xs) h = (ap not h.0, negated xs h.1)
 
@@ -247,13 +247,13 @@ aside_of r x full_r full_x share = go (nat_le r.past x.start) (nat_le x.past r.s
 
 -- a row whose span shares no minute with the spans of others lies before or after each of them
 asides_of : (n : ℕ) (r : SpanRow) (rows : List SpanRow) → r.start < r.past → ShareNone (row_span r ∷ []) (spans_of n rows)
-    → AreDisjoint (spans_of n rows) → AllByRecursion (AreAside r) (rows_of n rows)
+    → AreDisjoint (spans_of n rows) → AllByRecursion (AreAside r) (driver_rows n rows)
 asides_of n r [] full share h = tt
 asides_of n r (x ∷ rows) full share h = go (x.driver == n) share h (asides_of n r rows full) where
   go : (o : Bool) → ShareNone (row_span r ∷ []) (cond o (row_span x ∷ spans_of n rows) (spans_of n rows))
       → AreDisjoint (cond o (row_span x ∷ spans_of n rows) (spans_of n rows))
-      → (ShareNone (row_span r ∷ []) (spans_of n rows) → AreDisjoint (spans_of n rows) → AllByRecursion (AreAside r) (rows_of n rows))
-      → AllByRecursion (AreAside r) (cond o (x ∷ rows_of n rows) (rows_of n rows))
+      → (ShareNone (row_span r ∷ []) (spans_of n rows) → AreDisjoint (spans_of n rows) → AllByRecursion (AreAside r) (driver_rows n rows))
+      → AllByRecursion (AreAside r) (cond o (x ∷ driver_rows n rows) (driver_rows n rows))
   go true share h more = (aside_of r x full h.0 (λ m j k g i. share m j k g (first m k i)), more (λ m j k g i. share m j k g (inr i)) h.2) where
     first : (m : ℕ) (k : Mark) → Gives (row_span x ∷ []) m k → Gives (row_span x ∷ spans_of n rows) m k
     first m k (inl g) = inl g
@@ -261,17 +261,17 @@ asides_of n r (x ∷ rows) full share h = go (x.driver == n) share h (asides_of 
   go false share h more = more share h
 
 -- rows of disjoint spans have no minute in common
-apart_of : (n : ℕ) (rows : List SpanRow) → AreDisjoint (spans_of n rows) → AreApart (rows_of n rows)
+apart_of : (n : ℕ) (rows : List SpanRow) → AreDisjoint (spans_of n rows) → AreRowsApart (driver_rows n rows)
 apart_of n [] h = tt
 apart_of n (r ∷ rows) h = go (r.driver == n) h (apart_of n rows) where
-  go : (o : Bool) → AreDisjoint (cond o (row_span r ∷ spans_of n rows) (spans_of n rows)) → (AreDisjoint (spans_of n rows) → AreApart (rows_of n rows))
-      → AreApart (cond o (r ∷ rows_of n rows) (rows_of n rows))
+  go : (o : Bool) → AreDisjoint (cond o (row_span r ∷ spans_of n rows) (spans_of n rows)) → (AreDisjoint (spans_of n rows) → AreRowsApart (driver_rows n rows))
+      → AreRowsApart (cond o (r ∷ driver_rows n rows) (driver_rows n rows))
   go true h more = (h.0, asides_of n r rows h.0 h.1 h.2, more h.2)
   go false h more = more h
 
 -- so a driver's rows in an archive's tables have no minute in common
-pub card_apart : (t : Tables) (s : State) (n : ℕ) (d : Driver) → TablesStandFor t s → driver_of n s ≡ Some d → AreApart (rows_of n t.card_spans)
+pub card_apart : (t : Tables) (s : State) (n : ℕ) (d : Driver) → TablesRepresent t s → driver_of n s ≡ Some d → AreRowsApart (driver_rows n t.card_spans)
 card_apart t s n d of is = apart_of n t.card_spans (card_kept t s n d of is).disjoint
 
-pub held_apart : (t : Tables) (s : State) (n : ℕ) (d : Driver) → TablesStandFor t s → driver_of n s ≡ Some d → AreApart (rows_of n t.held)
+pub held_apart : (t : Tables) (s : State) (n : ℕ) (d : Driver) → TablesRepresent t s → driver_of n s ≡ Some d → AreRowsApart (driver_rows n t.held)
 held_apart t s n d of is = apart_of n t.held (held_kept t s n d of is).disjoint

@@ -11,12 +11,12 @@ use Rattle.tacho_tables.specs.declared.rows.StoredDriver.{StoredDriver}
 use Rattle.tacho_tables.specs.declared.rows.StoredSpan.{StoredSpan}
 use Rattle.tacho_tables.specs.Rows.{SpanRow}
 use Rattle.tacho_tables.specs.Tables.{Tables, HasTables, IsLatest, is_before, is_of, is_onward, span_of}
-use Rattle.tacho_reading.specs.Apart.{AreApart, rows_of, near_from}
-use Rattle.tacho_reading.specs.Begun.{is_behind, IsBegun}
+use Rattle.tacho_reading.specs.Apart.{AreRowsApart, driver_rows, near_from}
+use Rattle.tacho_reading.specs.Begun.{is_after, IsBegun}
 use Rattle.tacho_reading.specs.Finding.{IsStored}
 use Rattle.tacho_reading.proofs.ApartLemmas.{IsFrom, from_found, held_apart}
 
-module _ (n base : ℕ) (rows : List SpanRow) (apart : AreApart (rows_of n rows)) where
+module _ (n base : ℕ) (rows : List SpanRow) (apart : AreRowsApart (driver_rows n rows)) where
   -- the latest row before the base, if there is one
   abbrev Latest : Option StoredSpan → Type 0
   Latest b = MatchOption b (filter (is_before n base) rows ≡ [])
@@ -47,9 +47,9 @@ module _ (n base : ℕ) (rows : List SpanRow) (apart : AreApart (rows_of n rows)
         early past m = let a = s.start in let l : a < base = before in grind (arith, nat_tests)
 
   -- a row begins from there on iff it ends after the base
-  begins_behind : (b : Option StoredSpan) → Latest b → (x : SpanRow) → Has (rows_of n rows) x
+  begins_after : (b : Option StoredSpan) → Latest b → (x : SpanRow) → Has (driver_rows n rows) x
       → nat_le (near_from base (base + 1) b) x.start ≡ nat_lt base x.past
-  begins_behind b h x c =
+  begins_after b h x c =
       let past = base + x.start + 1 in
       let from : IsFrom base past (near_from base past b) x = from_found n base past rows apart b h x c in
       let start = x.start in
@@ -62,13 +62,13 @@ module _ (n base : ℕ) (rows : List SpanRow) (apart : AreApart (rows_of n rows)
         whole u v false e f = absurd (let wrong = e in cc)
 
   -- so the rows that begin from there on are those that end after the base
-  onward_behind : (b : Option StoredSpan) → Latest b
-      → filter (is_onward n (near_from base (base + 1) b)) rows ≡ filter (is_behind n base) rows
-  onward_behind b h = filter_same (is_onward n (near_from base (base + 1) b)) (is_behind n base) rows
+  onward_after : (b : Option StoredSpan) → Latest b
+      → filter (is_onward n (near_from base (base + 1) b)) rows ≡ filter (is_after n base) rows
+  onward_after b h = filter_same (is_onward n (near_from base (base + 1) b)) (is_after n base) rows
       (all_from _ rows (λ x c. go x c (x.driver == n) refl)) where
         go : (x : SpanRow) → Has rows x → (o : Bool) → (x.driver == n) ≡ o
             → (o && nat_le (near_from base (base + 1) b) x.start) ≡ (o && nat_lt base x.past)
-        go x c true e = begins_behind b h x (has_kept (is_of n) rows x c e)
+        go x c true e = begins_after b h x (has_kept (is_of n) rows x c e)
         go x c false e = refl
 
 -- the start is that of the first row that ends after the base, or after a minute that is earlier
@@ -83,7 +83,7 @@ is_begun db n s d it base from minute start b is stored at least first h = recor
   is = is;
   base = at ∙ ap (λ (k : ℕ). 1440 * k) stored.base;
   rows = λ t stand of.
-      subst (λ (k : ℕ). filter (is_onward n k) t.held ≡ filter (is_behind n (min base from)) t.held) (sym first)
-      (subst (λ (k : ℕ). filter (is_onward n (near_from minute (minute + 1) b)) t.held ≡ filter (is_behind n k) t.held) least
-      (onward_behind n minute t.held (held_apart t s n d of is) b (h t stand)));
+      subst (λ (k : ℕ). filter (is_onward n k) t.held ≡ filter (is_after n (min base from)) t.held) (sym first)
+      (subst (λ (k : ℕ). filter (is_onward n (near_from minute (minute + 1) b)) t.held ≡ filter (is_after n k) t.held) least
+      (onward_after n minute t.held (held_apart t s n d of is) b (h t stand)));
 }

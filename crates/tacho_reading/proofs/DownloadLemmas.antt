@@ -7,7 +7,7 @@ use Rattle.tacho_state.specs.State.{Download, Driver, State, driver_of, download
 use Rattle.tacho_state.specs.Steps.{file_of}
 use Rattle.tacho_tables.specs.Rows.{DownloadRow}
 use Rattle.tacho_tables.specs.Tables.{Tables, is_download}
-use Rattle.tacho_reading.specs.Standing.{TablesStandFor, download_rows, downloads_of}
+use Rattle.tacho_reading.specs.Standing.{TablesRepresent, rows_of_downloads, downloads_of}
 use Rattle.tacho_reading.proofs.RowLemmas.{eq_self, eq_not, eq_true}
 use Rattle.tacho_reading.proofs.DriverRowLemmas.{first_or_rest, none_there}
 use Rattle.tacho_reading.proofs.StateLemmas.{found_number, found_of}
@@ -32,75 +32,75 @@ among_own n number (r ∷ rows) = go (r.driver == n) (among_own n number rows) w
   go false e = e
 
 -- the rows of later numbers don't have this number
-later_rows : (n i number : ℕ) (ds : List Download) → number < i → filter (has_own_number number) (download_rows n i ds) ≡ []
+later_rows : (n i number : ℕ) (ds : List Download) → number < i → filter (has_own_number number) (rows_of_downloads n i ds) ≡ []
 later_rows n i number [] l = refl
 later_rows n i number (d ∷ ds) l =
-    let more = filter (has_own_number number) (download_rows n (i + 1) ds) in
+    let more = filter (has_own_number number) (rows_of_downloads n (i + 1) ds) in
     ap (λ b. cond b (download_row n i d ∷ more) more) (eq_not i number (λ f. absurd (omega (arith, f, l))))
     ∙ later_rows n (i + 1) number ds (omega (arith, l))
 
 -- if no row has the number, there is no such download
-rows_none : (n i number : ℕ) (ds : List Download) → filter (has_own_number number) (download_rows n i ds) ≡ []
+rows_none : (n i number : ℕ) (ds : List Download) → filter (has_own_number number) (rows_of_downloads n i ds) ≡ []
     → download_from i number ds ≡ None
 rows_none n i number [] e = refl
 rows_none n i number (d ∷ ds) e = go (i == number) e (rows_none n (i + 1) number ds) where
-  go : (b : Bool) → cond b (download_row n i d ∷ filter (has_own_number number) (download_rows n (i + 1) ds))
-      (filter (has_own_number number) (download_rows n (i + 1) ds)) ≡ []
-      → (filter (has_own_number number) (download_rows n (i + 1) ds) ≡ [] → download_from (i + 1) number ds ≡ None)
+  go : (b : Bool) → cond b (download_row n i d ∷ filter (has_own_number number) (rows_of_downloads n (i + 1) ds))
+      (filter (has_own_number number) (rows_of_downloads n (i + 1) ds)) ≡ []
+      → (filter (has_own_number number) (rows_of_downloads n (i + 1) ds) ≡ [] → download_from (i + 1) number ds ≡ None)
       → cond b (Some d) (download_from (i + 1) number ds) ≡ None
   go true f more = cc
   go false f more = more f
 
 -- if there is no such download, no row has the number
 none_rows : (n i number : ℕ) (ds : List Download) → download_from i number ds ≡ None
-    → filter (has_own_number number) (download_rows n i ds) ≡ []
+    → filter (has_own_number number) (rows_of_downloads n i ds) ≡ []
 none_rows n i number [] e = refl
 none_rows n i number (d ∷ ds) e = go (i == number) e (none_rows n (i + 1) number ds) where
   go : (b : Bool) → cond b (Some d) (download_from (i + 1) number ds) ≡ None
-      → (download_from (i + 1) number ds ≡ None → filter (has_own_number number) (download_rows n (i + 1) ds) ≡ [])
-      → cond b (download_row n i d ∷ filter (has_own_number number) (download_rows n (i + 1) ds))
-      (filter (has_own_number number) (download_rows n (i + 1) ds)) ≡ []
+      → (download_from (i + 1) number ds ≡ None → filter (has_own_number number) (rows_of_downloads n (i + 1) ds) ≡ [])
+      → cond b (download_row n i d ∷ filter (has_own_number number) (rows_of_downloads n (i + 1) ds))
+      (filter (has_own_number number) (rows_of_downloads n (i + 1) ds)) ≡ []
   go true f more = cc
   go false f more = more f
 
 -- a row with the number has the download's file
-row_file : (n i number : ℕ) (ds : List Download) (row : DownloadRow) → Contains (filter (has_own_number number) (download_rows n i ds)) row
+row_file : (n i number : ℕ) (ds : List Download) (row : DownloadRow) → Contains (filter (has_own_number number) (rows_of_downloads n i ds)) row
     → file_of (download_from i number ds) ≡ Ok row.file
 row_file n i number [] row h = absurd (none_there row h)
 row_file n i number (d ∷ ds) row h = go (i == number) refl h (row_file n (i + 1) number ds row) where
   go : (b : Bool) → (i == number) ≡ b → Contains
-      (cond b (download_row n i d ∷ filter (has_own_number number) (download_rows n (i + 1) ds))
-      (filter (has_own_number number) (download_rows n (i + 1) ds))) row
-      → (Contains (filter (has_own_number number) (download_rows n (i + 1) ds)) row
+      (cond b (download_row n i d ∷ filter (has_own_number number) (rows_of_downloads n (i + 1) ds))
+      (filter (has_own_number number) (rows_of_downloads n (i + 1) ds))) row
+      → (Contains (filter (has_own_number number) (rows_of_downloads n (i + 1) ds)) row
       → file_of (download_from (i + 1) number ds) ≡ Ok row.file) → file_of (cond b (Some d) (download_from (i + 1) number ds)) ≡ Ok row.file
-  go true o w more = either (first_or_rest (download_row n i d) row (filter (has_own_number number) (download_rows n (i + 1) ds)) w) where
-    none : filter (has_own_number number) (download_rows n (i + 1) ds) ≡ []
+  go true o w more = either (first_or_rest (download_row n i d) row (filter (has_own_number number) (rows_of_downloads n (i + 1) ds)) w) where
+    none : filter (has_own_number number) (rows_of_downloads n (i + 1) ds) ≡ []
     none = let f = eq_true i number o in later_rows n (i + 1) number ds (omega (arith, f))
 
-    either : (download_row n i d ≡ row) ⊎ Contains (filter (has_own_number number) (download_rows n (i + 1) ds)) row
+    either : (download_row n i d ≡ row) ⊎ Contains (filter (has_own_number number) (rows_of_downloads n (i + 1) ds)) row
         → file_of (Some d) ≡ Ok row.file
     either (inl f) = ap (λ (r : DownloadRow). Ok r.file) f
     either (inr f) = absurd (none_there row (subst (λ (rows : List DownloadRow). Contains rows row) none f))
   go false o w more = more w
 
 -- a driver's rows with a number are rows of the driver's downloads
-numbered_rows : (t : Tables) (s : State) (n number : ℕ) (d : Driver) → TablesStandFor t s → driver_of n s ≡ Some d
-    → filter (is_download n number) t.downloads ≡ filter (has_own_number number) (download_rows n 1 d.downloads)
+numbered_rows : (t : Tables) (s : State) (n number : ℕ) (d : Driver) → TablesRepresent t s → driver_of n s ≡ Some d
+    → filter (is_download n number) t.downloads ≡ filter (has_own_number number) (rows_of_downloads n 1 d.downloads)
 numbered_rows t s n number d h k =
     among_own n number t.downloads
     ∙ ap (λ (x : List DownloadRow). filter (has_own_number number) x)
-    (subst (λ (j : ℕ). downloads_of j t.downloads ≡ download_rows j 1 d.downloads) (found_number n s d k)
+    (subst (λ (j : ℕ). downloads_of j t.downloads ≡ rows_of_downloads j 1 d.downloads) (found_number n s d k)
     (found_of t n s d k h.each).downloads)
 
 -- the driver has no such download iff no row has the number
-pub download_none : (t : Tables) (s : State) (n number : ℕ) (d : Driver) → TablesStandFor t s → driver_of n s ≡ Some d
+pub download_none : (t : Tables) (s : State) (n number : ℕ) (d : Driver) → TablesRepresent t s → driver_of n s ≡ Some d
     → (filter (is_download n number) t.downloads ≡ []) ↔ (download_from 1 number d.downloads ≡ None)
 download_none t s n number d h k =
     let rows = numbered_rows t s n number d h k in
     (λ e. rows_none n 1 number d.downloads (sym rows ∙ e), λ e. rows ∙ none_rows n 1 number d.downloads e)
 
 -- a row with the number has the file of the driver's download
-pub download_some : (t : Tables) (s : State) (n number : ℕ) (d : Driver) (row : DownloadRow) → TablesStandFor t s → driver_of n s ≡ Some d
+pub download_some : (t : Tables) (s : State) (n number : ℕ) (d : Driver) (row : DownloadRow) → TablesRepresent t s → driver_of n s ≡ Some d
     → Contains (filter (is_download n number) t.downloads) row
     → file_of (download_from 1 number d.downloads) ≡ Ok row.file
 download_some t s n number d row h k w = row_file n 1 number d.downloads row
@@ -110,12 +110,12 @@ download_some t s n number d row h k w = row_file n 1 number d.downloads row
 
 -- its row comes after the others
 pub rows_append : (n i : ℕ) (ds : List Download) (x : Download)
-    → download_rows n i (ds ++ x ∷ []) ≡ download_rows n i ds ++ download_row n (i + length ds) x ∷ []
+    → rows_of_downloads n i (ds ++ x ∷ []) ≡ rows_of_downloads n i ds ++ download_row n (i + length ds) x ∷ []
 rows_append n i [] x = ap (λ (k : ℕ). download_row n k x ∷ []) (omega arith)
 rows_append n i (d ∷ ds) x =
     let e : (i + 1) + length ds ≡ i + length (d ∷ ds) = omega arith in
     ap (λ (y : List DownloadRow). download_row n i d ∷ y) (rows_append n (i + 1) ds x)
-    ∙ ap (λ (k : ℕ). download_row n i d ∷ (download_rows n (i + 1) ds ++ download_row n k x ∷ [])) e
+    ∙ ap (λ (k : ℕ). download_row n i d ∷ (rows_of_downloads n (i + 1) ds ++ download_row n k x ∷ [])) e
 
 -- the row is one of its driver's
 pub own_added : (n : ℕ) (rows : List DownloadRow) (r : DownloadRow) → r.driver ≡ n

@@ -3,10 +3,10 @@ use Rattle.std.proofs.Common.{◌≡◌, ◌≢◌, ℕ, zero, suc, ◌<◌, ◌
 use Rattle.std.specs.List.{Contains, slice_index_or}
 use Rattle.std.specs.Str.{bytes_eq}
 use Rattle.std.proofs.lemmas.Slice.Eq.{bytes_eq-Decides}
-use Rattle.tacho_state.specs.State.{Driver, State, driver_of, keyed, holding}
+use Rattle.tacho_state.specs.State.{Driver, State, driver_of, driver_with_key, holding}
 use Rattle.tacho_tables.specs.Rows.{DriverRow}
 use Rattle.tacho_tables.specs.Tables.{Tables, has_number, has_secret, has_holder}
-use Rattle.tacho_reading.specs.Standing.{driver_columns, HasNot, HasNoKey, HasNoHolder, AreDistinct, TablesStandFor}
+use Rattle.tacho_reading.specs.Standing.{driver_columns, HasNot, HasNoKey, IsHolderFree, AreDistinct, TablesRepresent}
 use Rattle.tacho_reading.proofs.RowLemmas.{eq_self, eq_true, eq_not}
 use Rattle.tacho_reading.proofs.StateLemmas.{found_not}
 
@@ -76,8 +76,8 @@ by_number : (n : ℕ) (s : State) → first_passing (has_number n) s ≡ driver_
 by_number n [] = refl
 by_number n (d ∷ s) = ap (λ (x : Option Driver). cond (d.number == n) (Some d) x) (by_number n s)
 
--- the first driver with a key is `keyed`
-by_key : (key : List ℕ) (s : State) → first_passing (has_secret key) s ≡ keyed key s
+-- the first driver with a key is `driver_with_key`
+by_key : (key : List ℕ) (s : State) → first_passing (has_secret key) s ≡ driver_with_key key s
 by_key key [] = refl
 by_key key (d ∷ s) = ap (λ (x : Option Driver). cond (bytes_eq d.key key) (Some d) x) (by_key key s)
 
@@ -118,7 +118,7 @@ no_key_row key (d ∷ s) h =
     (bytes_not d.key key h.0) ∙ no_key_row key s h.1
 
 -- no row has a holder who isn't in the state
-no_holder_row : (holder : List ℕ) (s : State) → HasNoHolder holder s → filter (has_holder holder) (map driver_columns s) ≡ []
+no_holder_row : (holder : List ℕ) (s : State) → IsHolderFree holder s → filter (has_holder holder) (map driver_columns s) ≡ []
 no_holder_row holder [] h = refl
 no_holder_row holder (d ∷ s) h =
     ap (λ b. cond b (driver_columns d ∷ filter (has_holder holder) (map driver_columns s))
@@ -139,7 +139,7 @@ once_holder : (holder : List ℕ) (s : State) → AreDistinct s → PassesOnce (
 once_holder holder [] h = tt
 once_holder holder (d ∷ s) h = (
   (λ e. no_holder_row holder s
-      (subst (λ (k : List ℕ). HasNoHolder k s) (bytes_true d.holder holder e) h.2)),
+      (subst (λ (k : List ℕ). IsHolderFree k s) (bytes_true d.holder holder e) h.2)),
   once_holder holder s h.3,
 )
 
@@ -174,37 +174,37 @@ row_passes : (p : DriverRow → Bool) (t : Tables) (s : State) (row : DriverRow)
 row_passes p t s row h o w = row_found p s row o (subst (λ (x : List DriverRow). Contains (filter p x) row) h w)
 
 -- no row has the number iff there is no such driver
-pub number_none : (t : Tables) (s : State) (n : ℕ) → TablesStandFor t s → (filter (has_number n) t.drivers ≡ []) ↔ (driver_of n s ≡ None)
+pub number_none : (t : Tables) (s : State) (n : ℕ) → TablesRepresent t s → (filter (has_number n) t.drivers ≡ []) ↔ (driver_of n s ≡ None)
 number_none t s n h = subst (λ (x : Option Driver). (filter (has_number n) t.drivers ≡ []) ↔ (x ≡ None)) (by_number n s)
     (none_passes (has_number n) t s h.drivers)
 
 -- no row has the key iff there is no such driver
-pub key_none : (t : Tables) (s : State) (key : List ℕ) → TablesStandFor t s → (filter (has_secret key) t.drivers ≡ []) ↔ (keyed key s ≡ None)
+pub key_none : (t : Tables) (s : State) (key : List ℕ) → TablesRepresent t s → (filter (has_secret key) t.drivers ≡ []) ↔ (driver_with_key key s ≡ None)
 key_none t s key h = subst (λ (x : Option Driver). (filter (has_secret key) t.drivers ≡ []) ↔ (x ≡ None)) (by_key key s)
     (none_passes (has_secret key) t s h.drivers)
 
 -- no row has the holder iff there is no such driver
-pub holder_none : (t : Tables) (s : State) (holder : List ℕ) → TablesStandFor t s
+pub holder_none : (t : Tables) (s : State) (holder : List ℕ) → TablesRepresent t s
     → (filter (has_holder holder) t.drivers ≡ []) ↔ (holding holder s ≡ None)
 holder_none t s holder h = subst (λ (x : Option Driver). (filter (has_holder holder) t.drivers ≡ []) ↔ (x ≡ None)) (by_holder holder s)
     (none_passes (has_holder holder) t s h.drivers)
 
 -- a row with the number is that of the driver with this number
-pub number_some : (t : Tables) (s : State) (n : ℕ) (row : DriverRow) → TablesStandFor t s → Contains (filter (has_number n) t.drivers) row
+pub number_some : (t : Tables) (s : State) (n : ℕ) (row : DriverRow) → TablesRepresent t s → Contains (filter (has_number n) t.drivers) row
     → (d : Driver) × (driver_of n s ≡ Some d) × (row ≡ driver_columns d)
 number_some t s n row h w =
     let it = row_passes (has_number n) t s row h.drivers (once_number n s h.distinct) w in
     (it.0, sym (by_number n s) ∙ it.1, it.2)
 
 -- a row with the key is that of the driver with this key
-pub key_some : (t : Tables) (s : State) (key : List ℕ) (row : DriverRow) → TablesStandFor t s → Contains (filter (has_secret key) t.drivers) row
-    → (d : Driver) × (keyed key s ≡ Some d) × (row ≡ driver_columns d)
+pub key_some : (t : Tables) (s : State) (key : List ℕ) (row : DriverRow) → TablesRepresent t s → Contains (filter (has_secret key) t.drivers) row
+    → (d : Driver) × (driver_with_key key s ≡ Some d) × (row ≡ driver_columns d)
 key_some t s key row h w =
     let it = row_passes (has_secret key) t s row h.drivers (once_key key s h.distinct) w in
     (it.0, sym (by_key key s) ∙ it.1, it.2)
 
 -- a row with the holder is that of the driver with this holder
-pub holder_some : (t : Tables) (s : State) (holder : List ℕ) (row : DriverRow) → TablesStandFor t s
+pub holder_some : (t : Tables) (s : State) (holder : List ℕ) (row : DriverRow) → TablesRepresent t s
     → Contains (filter (has_holder holder) t.drivers) row
     → (d : Driver) × (holding holder s ≡ Some d) × (driver_of d.number s ≡ Some d) × (row ≡ driver_columns d)
 holder_some t s holder row h w =

@@ -12,7 +12,7 @@ use Rattle.tacho_time.specs.Spans.{Gives, IsFirstConflict}
 use Rattle.tacho_state.specs.declared.fault.StoreFault.{StoreFault}
 use Rattle.tacho_state.specs.declared.fault.StoreFault.TheVariants.{Memory, Store}
 use Rattle.tacho_tables.specs.declared.rows.StoredSpan.{StoredSpan}
-use Rattle.tacho_reading.specs.Standing.{IsFit, AreFaulty, stored_span}
+use Rattle.tacho_reading.specs.Standing.{IsFit, HaveNoLine, stored_span}
 
 -- a fault other than out of memory is a contradiction
 conflict_of : (spans : List Span) (fault : SpanFault) (answer : StoreFault) → IsFirstFault (Gives spans) fault
@@ -26,7 +26,7 @@ conflict_of spans fault answer first (inr why) store =
 pub faulty_rows : {V : Type 0} (rows : List StoredSpan) (spans : List Span) (fault : SpanFault) (answer : StoreFault)
     → spans ≡ map stored_span rows → IsFirstFault (Gives spans) fault
     → OrMemory Memory answer ((answer ≡ Store) × ((minute : ℕ) × (fault ≡ Contradiction minute)))
-    → ◌≡◌ {A = Result V StoreFault} (Err answer) (Err Store) → AreFaulty rows
+    → ◌≡◌ {A = Result V StoreFault} (Err answer) (Err Store) → HaveNoLine rows
 faulty_rows rows spans fault answer same first why is =
     inr (subst (λ (x : List Span). (minute : ℕ) × IsFirstConflict (Gives x) minute) same
     (conflict_of spans fault answer first why (let store = is in cc)))
@@ -45,10 +45,10 @@ back_fits [] ys h = h
 back_fits (x ∷ xs) ys h = back_fits xs ys (All-tail IsFit x (xs ++ ys) h)
 
 -- rows that aren't all fit are faulty, together with any others
-pub front_faulty : (xs ys : List StoredSpan) → ¬ All IsFit xs → AreFaulty (xs ++ ys)
+pub front_faulty : (xs ys : List StoredSpan) → ¬ All IsFit xs → HaveNoLine (xs ++ ys)
 front_faulty xs ys h = inl (λ all. h (front_fits xs ys all))
 
-pub back_faulty : (xs ys : List StoredSpan) → ¬ All IsFit ys → AreFaulty (xs ++ ys)
+pub back_faulty : (xs ys : List StoredSpan) → ¬ All IsFit ys → HaveNoLine (xs ++ ys)
 back_faulty xs ys h = inl (λ all. h (back_fits xs ys all))
 
 -- the spans of the rows of both tables

@@ -16,10 +16,10 @@ use Rattle.tacho_state.specs.declared.fault.StoreFault.{StoreFault}
 use Rattle.tacho_state.specs.declared.fault.StoreFault.TheVariants.{Memory, Store}
 use Rattle.tacho_state.specs.Acts.{Answers}
 use Rattle.tacho_state.specs.State.{Driver, Entry, State, driver_of}
-use Rattle.tacho_state.specs.Steps.{numbered_from, listed}
+use Rattle.tacho_state.specs.Steps.{numbered_from, entries_reading}
 use Rattle.tacho_tables.specs.Rows.{EntryRow}
 use Rattle.tacho_tables.specs.Tables.{Tables, HasTables, ListedEntry, is_entry_of, listed_entry}
-use Rattle.tacho_reading.specs.Standing.{StandsFor, activity_number, numbered_activity, entry_row, entry_rows, listed_as}
+use Rattle.tacho_reading.specs.Standing.{Represents, activity_number, numbered_activity, entry_row, rows_of_entries, listed_as}
 use Rattle.tacho_reading.proofs.EntryLemmas.{entry_all}
 use Rattle.tacho_reading.proofs.TimelineLemmas.{gave_up}
 
@@ -42,11 +42,11 @@ less_is i j h = grind (arith, nat_tests)
 
 -- the numbers of a driver's rows increase
 rows_above : (n i j : ℕ) (es : List Entry) → i < j
-    → AllByRecursion (λ (x : ListedEntry). nat_cmp i x.number ≡ Less) (map listed_entry (entry_rows n j es))
+    → AllByRecursion (λ (x : ListedEntry). nat_cmp i x.number ≡ Less) (map listed_entry (rows_of_entries n j es))
 rows_above n i j [] h = tt
 rows_above n i j (e ∷ es) h = (less_is i j h, rows_above n i (j + 1) es (omega (arith, h)))
 
-rows_rise : (n i : ℕ) (es : List Entry) → IsAscending (λ x y. by_number x y ≡ Less) (map listed_entry (entry_rows n i es))
+rows_rise : (n i : ℕ) (es : List Entry) → IsAscending (λ x y. by_number x y ≡ Less) (map listed_entry (rows_of_entries n i es))
 rows_rise n i [] = tt
 rows_rise n i (e ∷ es) = (rows_above n i (i + 1) es (omega arith), rows_rise n (i + 1) es)
 
@@ -79,27 +79,27 @@ row_listed n i e =
     ap (λ (a : Activity). listed_with i e a (not (cond e.withdrawn 1 0 == 0))) (activity_is e.activity)
     ∙ ap (listed_with i e e.activity) (flag_is e.withdrawn)
 
-rows_listed : (n i : ℕ) (es : List Entry) → map listed_as (map listed_entry (entry_rows n i es)) ≡ numbered_from i es
+rows_listed : (n i : ℕ) (es : List Entry) → map listed_as (map listed_entry (rows_of_entries n i es)) ≡ numbered_from i es
 unfolding listed_with
 rows_listed n i [] = refl
 rows_listed n i (e ∷ es) =
-    ap (λ (x : Listed). x ∷ map listed_as (map listed_entry (entry_rows n (i + 1) es))) (row_listed n i e)
+    ap (λ (x : Listed). x ∷ map listed_as (map listed_entry (rows_of_entries n (i + 1) es))) (row_listed n i e)
     ∙ ap (λ (x : List Listed). listed_with i e e.activity e.withdrawn ∷ x) (rows_listed n (i + 1) es)
 
 -- ---- what is read
 
 -- a driver's rows ordered by number are listed as the driver's entries
-pub entries_told : (db : Trees) (n : ℕ) (s : State) (d : Driver) (found : List ListedEntry) → StandsFor db s → driver_of n s ≡ Some d
+pub entries_told : (db : Trees) (n : ℕ) (s : State) (d : Driver) (found : List ListedEntry) → Represents db s → driver_of n s ≡ Some d
     → ((a : Tables) → HasTables db a → IsPermutation (map listed_entry (filter (is_entry_of n) a.entries)) found)
     → ((a : Tables) → HasTables db a → IsSorted by_number found) → map listed_as found ≡ numbered_from 1 d.entries
-unfolding StandsFor
+unfolding Represents
 entries_told db n s d found (t, stand, of) is same sorted =
-    let rows : IsPermutation (map listed_entry (entry_rows n 1 d.entries)) found =
+    let rows : IsPermutation (map listed_entry (rows_of_entries n 1 d.entries)) found =
     subst (λ (x : List EntryRow). IsPermutation (map listed_entry x) found) (entry_all t s n d of is) (same t stand) in
     ap (map listed_as) (sorted_unique by_number total _ found (rows_rise n 1 d.entries) rows (sorted t stand)) ∙ rows_listed n 1 d.entries
 
 -- these entries are answered, or the call gave up
 pub entries_answer : {V : Type 0} (items : V → List Listed) (n : ℕ) (s : State) (d : Driver) (r : Result V StoreFault) → driver_of n s ≡ Some d
-    → IfOk r (λ v. items v ≡ numbered_from 1 d.entries) → IfErr r (λ f. (f ≡ Memory) ⊎ (f ≡ Store)) → Answers items r (listed n s)
+    → IfOk r (λ v. items v ≡ numbered_from 1 d.entries) → IfErr r (λ f. (f ≡ Memory) ⊎ (f ≡ Store)) → Answers items r (entries_reading n s)
 entries_answer items n s d (Ok v) is told up = rw is (ap Ok (sym told))
-entries_answer items n s d (Err f) is told up = gave_up items f (listed n s) up
+entries_answer items n s d (Err f) is told up = gave_up items f (entries_reading n s) up

@@ -5,7 +5,7 @@ use Rattle.tacho_state.specs.declared.fault.StoreFault.{StoreFault}
 use Rattle.tacho_state.specs.Acts.{Answers}
 use Rattle.tacho_tables.specs.declared.fault.TableFault.{TableFault}
 use Rattle.tacho_tables.specs.declared.fault.TableFault.TheVariants as table
-use Rattle.tacho_reading.specs.Faults.{store_fault}
+use Rattle.tacho_reading.specs.Faults.{fault_of_tables}
 
 -- a result that is Ok after its faults were mapped was the same Ok before
 pub was_ok : {T E : Type 0} (r : Result T E) (x : T) (P : T → Type 0)
@@ -22,7 +22,7 @@ on_ok_mapped (Err e) (Err f) Q P R weaker cases h = tt
 
 -- a call on the tables that ends a command answers Ok, or it gives up
 pub answers_mapped : {A : Type 0} (r : Result A TableFault) (t : Result A StoreFault) (told : Result A StoreFault)
-    → MatchResult r (λ y. t ≡ Ok y) (λ e. IsErrAnd t (λ f. f ≡ store_fault e)) → ((y : A) → told ≡ Ok y) → Answers (λ y. y) t told
+    → MatchResult r (λ y. t ≡ Ok y) (λ e. IsErrAnd t (λ f. f ≡ fault_of_tables e)) → ((y : A) → told ≡ Ok y) → Answers (λ y. y) t told
 answers_mapped (Ok y) t told cases is = subst (λ u. Answers (λ y. y) u told) (sym cases) (is y)
 answers_mapped (Err e) (Ok x) told cases is = absurd cases
 answers_mapped (Err table.Memory) (Err f) told cases is = subst (λ g. Answers (λ y. y) (Err g) told) (sym cases) tt
@@ -30,7 +30,7 @@ answers_mapped (Err table.Store) (Err f) told cases is = subst (λ g. Answers (�
 
 -- a call on the tables that ends a reading answers what it found, or it gives up
 pub answers_found : {A : Type 0} (r : Result A TableFault) (t : Result A StoreFault) (told : Result A StoreFault)
-    → MatchResult r (λ y. t ≡ Ok y) (λ e. IsErrAnd t (λ f. f ≡ store_fault e)) → IfOk r (λ y. told ≡ Ok y) → Answers (λ y. y) t told
+    → MatchResult r (λ y. t ≡ Ok y) (λ e. IsErrAnd t (λ f. f ≡ fault_of_tables e)) → IfOk r (λ y. told ≡ Ok y) → Answers (λ y. y) t told
 answers_found (Ok y) t told cases is = subst (λ u. Answers (λ y. y) u told) (sym cases) is
 answers_found (Err e) (Ok x) told cases is = absurd cases
 answers_found (Err table.Memory) (Err f) told cases is = subst (λ g. Answers (λ y. y) (Err g) told) (sym cases) tt

@@ -7,11 +7,11 @@ use Rattle.tacho_time.specs.declared.span.Span.{Span}
 use Rattle.tacho_time.specs.declared.span.Mark.{Mark}
 use Rattle.tacho_time.specs.Spans.{Covers, Gives, IsCanonicalOf}
 use Rattle.tacho_state.specs.Disjoint.{Keeps, near}
-use Rattle.tacho_state.specs.State.{Driver, State, Given, Held, driver_of}
+use Rattle.tacho_state.specs.State.{Driver, State, IsDownloaded, Held, driver_of}
 use Rattle.tacho_tables.specs.declared.rows.StoredSpan.{StoredSpan}
 use Rattle.tacho_tables.specs.Rows.{SpanRow}
-use Rattle.tacho_tables.specs.Tables.{Tables, is_near, span_of}
-use Rattle.tacho_reading.specs.Standing.{TablesStandFor, spans_of, stored_span, IsReadNear}
+use Rattle.tacho_tables.specs.Tables.{Tables, is_row_near, span_of}
+use Rattle.tacho_reading.specs.Standing.{TablesRepresent, spans_of, stored_span, IsReadNear}
 use Rattle.tacho_reading.proofs.RowLemmas.{near_spans}
 use Rattle.tacho_reading.proofs.DriverRowLemmas.{first_or_rest, none_there}
 use Rattle.tacho_reading.proofs.StateLemmas.{found_number, found_of}
@@ -46,7 +46,7 @@ pub read_line : (rows : List SpanRow) (n a b : ℕ) (found : List StoredSpan) (l
 read_line rows n a b found line p h =
     let read : IsPermutation (near a b (spans_of n rows)) (map stored_span found) =
     subst (λ (x : List Span). IsPermutation x (map stored_span found)) (near_spans n a b rows)
-    (IsPermutation-map stored_span (map span_of (filter (is_near n a b) rows)) found p)
+    (IsPermutation-map stored_span (map span_of (filter (is_row_near n a b) rows)) found p)
     in
     record {
       canonical = h.canonical;
@@ -58,11 +58,11 @@ read_line rows n a b found line p h =
     }
 
 -- a driver's card spans keep what the driver is given
-pub card_kept : (t : Tables) (s : State) (n : ℕ) (d : Driver) → TablesStandFor t s → driver_of n s ≡ Some d
-    → Keeps (spans_of n t.card_spans) (Given d)
-card_kept t s n d h k = subst (λ (j : ℕ). Keeps (spans_of j t.card_spans) (Given d)) (found_number n s d k)
+pub card_kept : (t : Tables) (s : State) (n : ℕ) (d : Driver) → TablesRepresent t s → driver_of n s ≡ Some d
+    → Keeps (spans_of n t.card_spans) (IsDownloaded d)
+card_kept t s n d h k = subst (λ (j : ℕ). Keeps (spans_of j t.card_spans) (IsDownloaded d)) (found_number n s d k)
     (found_of t n s d k h.each).card_spans
 
 -- a driver's held rows keep what the driver holds
-pub held_kept : (t : Tables) (s : State) (n : ℕ) (d : Driver) → TablesStandFor t s → driver_of n s ≡ Some d → Keeps (spans_of n t.held) (Held d)
+pub held_kept : (t : Tables) (s : State) (n : ℕ) (d : Driver) → TablesRepresent t s → driver_of n s ≡ Some d → Keeps (spans_of n t.held) (Held d)
 held_kept t s n d h k = subst (λ (j : ℕ). Keeps (spans_of j t.held) (Held d)) (found_number n s d k) (found_of t n s d k h.each).held

@@ -4,34 +4,34 @@ use Rattle.std.specs.Prelude.{MatchOption, Contains, ok_or}
 use Rattle.sqlite.specs.Tree.{Trees}
 use Rattle.tacho_state.specs.declared.fault.StoreFault.{StoreFault}
 use Rattle.tacho_state.specs.declared.fault.StoreFault.TheVariants.{UnknownDriver, UnknownDownload}
-use Rattle.tacho_state.specs.State.{Driver, State, driver_of, keyed, download_from}
-use Rattle.tacho_state.specs.Steps.{told_of, owner, file_of, downloaded}
+use Rattle.tacho_state.specs.State.{Driver, State, driver_of, driver_with_key, download_from}
+use Rattle.tacho_state.specs.Steps.{reading_of, owner, file_of, file_reading}
 use Rattle.tacho_state.specs.Acts.{Answers}
 use Rattle.tacho_tables.specs.Rows.{DownloadRow}
 use Rattle.tacho_tables.specs.Tables.{Tables, HasTables, is_download}
-use Rattle.tacho_reading.specs.Standing.{StandsFor}
+use Rattle.tacho_reading.specs.Standing.{Represents}
 use Rattle.tacho_reading.proofs.DownloadLemmas.{download_none, download_some}
 
 -- S4: there is no such driver
 pub nobody : {A : Type 0} (n : ℕ) (s : State) (f : Driver → Result A StoreFault) → driver_of n s ≡ None
-    → told_of f (driver_of n s) ≡ Err UnknownDriver
-nobody n s f none = ap (told_of f) none
+    → reading_of f (driver_of n s) ≡ Err UnknownDriver
+nobody n s f none = ap (reading_of f) none
 
 -- the number of the driver with this key, if there is one
 pub owner_told : (key : List ℕ) (s : State) (found : Option ℕ)
-    → MatchOption found (keyed key s ≡ None) (λ n. (d : Driver) × (keyed key s ≡ Some d) × (n ≡ d.number)) → owner key s ≡ Ok found
+    → MatchOption found (driver_with_key key s ≡ None) (λ n. (d : Driver) × (driver_with_key key s ≡ Some d) × (n ≡ d.number)) → owner key s ≡ Ok found
 owner_told key s None none = rw none refl
 owner_told key s (Some n) (d, is, number) = rw (is, number) refl
 
 -- S10, or the bytes of the file
 pub file_told : {X : Type 0} (items : X → List ℕ) (db : Trees) (n number : ℕ) (s : State) (found : Option X) (d : Driver)
-    → driver_of n s ≡ Some d → StandsFor db s
+    → driver_of n s ≡ Some d → Represents db s
     → ((a : Tables) → HasTables db a → MatchOption found (filter (is_download n number) a.downloads ≡ [])
     (λ x. (r : DownloadRow) × Contains (filter (is_download n number) a.downloads) r × (items x ≡ r.file)))
-    → Answers items (ok_or found UnknownDownload) (downloaded n number s)
-unfolding StandsFor
+    → Answers items (ok_or found UnknownDownload) (file_reading n number s)
+unfolding Represents
 file_told items db n number s None d is (t, stand, of) h = rw (is, (download_none t s n number d of is).0 (h t stand)) refl
 file_told items db n number s (Some x) d is (t, stand, of) h =
     let row = h t stand in
-    ap (told_of (λ (d : Driver). file_of (download_from 1 number d.downloads))) is ∙ download_some t s n number d row.0 of is row.1
+    ap (reading_of (λ (d : Driver). file_of (download_from 1 number d.downloads))) is ∙ download_some t s n number d row.0 of is row.1
     ∙ ap Ok (sym row.2)

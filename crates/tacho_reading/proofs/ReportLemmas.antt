@@ -21,34 +21,34 @@ use Rattle.tacho_line.specs.Line.{mark_at, IsSingle, IsCrew, IsCause, IsHorizon}
 use Rattle.tacho_line.proofs.MergeLemmas.{append_gives, front_gives, back_gives}
 use Rattle.tacho_hours.specs.Line.{line_of, Joined, IsBase, IsExamined}
 use Rattle.tacho_hours.proofs.RunsLemmas.{line_before, line_within, line_past, joined_le}
-use Rattle.tacho_hours.proofs.DrivingLemmas.{line_behind}
+use Rattle.tacho_hours.proofs.DrivingLemmas.{line_from_past}
 use Rattle.tacho_pass.specs.declared.found.Found.{Found}
 use Rattle.tacho_rules.specs.declared.report.Report.{Report}
 use Rattle.tacho_rules.specs.declared.scan.Scan.{Scan}
-use Rattle.tacho_rules.specs.Report.{examined, IsReport}
+use Rattle.tacho_rules.specs.Report.{examined_line, IsReport}
 use Rattle.tacho_rules.specs.Scan.{AreFindings, IsScanOf}
 use Rattle.tacho_state.specs.State.{Driver, State, driver_of, held_spans}
-use Rattle.tacho_state.specs.Steps.{told_of, named, reported}
-use Rattle.tacho_state.specs.Reported.{IsReportOf}
+use Rattle.tacho_state.specs.Steps.{reading_of, name_reading, report_reading}
+use Rattle.tacho_state.specs.Reported.{IsDriverReport}
 use Rattle.tacho_state.proofs.MapLemmas.{held_map}
 use Rattle.tacho_tables.specs.declared.rows.StoredDriver.{StoredDriver}
 use Rattle.tacho_tables.specs.Rows.{SpanRow}
 use Rattle.tacho_tables.specs.Tables.{Tables, HasTables, is_onward}
 use Rattle.tacho_reading.specs.declared.reading.Beginning.{Beginning}
-use Rattle.tacho_reading.specs.Begun.{is_behind, IsBegun}
+use Rattle.tacho_reading.specs.Begun.{is_after, IsBegun}
 use Rattle.tacho_reading.specs.Finding.{IsStored}
-use Rattle.tacho_reading.specs.Standing.{StandsFor, row_span, spans_of}
+use Rattle.tacho_reading.specs.Standing.{Represents, row_span, spans_of}
 use Rattle.tacho_reading.specs.Taken.{cut, cuts, AreWhole, StopsBefore, AreFed}
 use Rattle.tacho_reading.proofs.NearRowLemmas.{permuted_gives, held_kept}
 
 -- the stored name is the driver's
 pub name_told : (n : ℕ) (s : State) (d : Driver) (it : StoredDriver) → driver_of n s ≡ Some d → IsStored it d
-    → named n s ≡ Ok (string_bytes it.name)
+    → name_reading n s ≡ Ok (string_bytes it.name)
 name_told n s d it is stored = rw is (ap Ok (sym stored.name))
 
 -- there is a driver to report on
-pub somebody : (n : ℕ) (s : State) (d : Driver) → driver_of n s ≡ Some d → reported n s ≡ Ok tt
-somebody n s d is = ap (told_of (λ d. Ok tt)) is
+pub somebody : (n : ℕ) (s : State) (d : Driver) → driver_of n s ≡ Some d → report_reading n s ≡ Ok tt
+somebody n s d is = ap (reading_of (λ d. Ok tt)) is
 
 -- ---- what spans give
 
@@ -148,9 +148,9 @@ sorted_rise (r ∷ x ∷ rows) h =
       more,
     )
 
-rise_behind : (xs ys : List SpanRow) → Rise (xs ++ ys) → Rise ys
-rise_behind [] ys h = h
-rise_behind (x ∷ xs) ys h = rise_behind xs ys h.1
+rise_after : (xs ys : List SpanRow) → Rise (xs ++ ys) → Rise ys
+rise_after [] ys h = h
+rise_after (x ∷ xs) ys h = rise_after xs ys h.1
 
 given_later : (n : ℕ) (rows : List SpanRow) (m : ℕ) (k : Mark) → AllByRecursion (λ (x : SpanRow). n ≤ x.start) rows
     → Gives (map row_span rows) m k → n ≤ m
@@ -220,7 +220,7 @@ module _ (held : List Span) (base : ℕ) (h : Horizon) (taken others : List Span
   }
 
   -- the line of these spans is the examined line
-  as_examined : (m : ℕ) → line_of left m ≡ examined held base h.minute m
+  as_examined : (m : ℕ) → line_of left m ≡ examined_line held base h.minute m
   as_examined m = elim (cases_lt m base) [
     | inl before ↦
         let e : line_of left m ≡ Rest = line_before left base h.minute m whole.joined before in
@@ -234,7 +234,7 @@ module _ (held : List Span) (base : ℕ) (h : Horizon) (taken others : List Span
           ap (λ (o : Option Mark). option_map_or (λ (x : Mark). x.activity) o Rest) (held_there m k c.1) in
           grind (arith, nat_tests, e, f)
       | inr behind ↦
-          let e : line_of left m ≡ Rest = line_behind left base h.minute m whole.joined behind in
+          let e : line_of left m ≡ Rest = line_from_past left base h.minute m whole.joined behind in
           grind (arith, nat_tests, e)
     ]
   ]
@@ -260,28 +260,28 @@ module _ (held : List Span) (base : ℕ) (h : Horizon) (taken others : List Span
 -- ---- the driver's rows
 
 -- from the base on, the driver's rows that end after it give what all the driver's rows give
-pub behind_gives : (n base m : ℕ) (k : Mark) (rows : List SpanRow) → base ≤ m
-    → Gives (map row_span (filter (is_behind n base) rows)) m k ↔ Gives (spans_of n rows) m k
-behind_gives n base m k [] le = (λ g. g, λ g. g)
-behind_gives n base m k (r ∷ rows) le = go (r.driver == n) (nat_lt base r.past) refl
-    (behind_gives n base m k rows le) where
-      go : (o b : Bool) → nat_lt base r.past ≡ b → Gives (map row_span (filter (is_behind n base) rows)) m k ↔ Gives
+pub after_gives : (n base m : ℕ) (k : Mark) (rows : List SpanRow) → base ≤ m
+    → Gives (map row_span (filter (is_after n base) rows)) m k ↔ Gives (spans_of n rows) m k
+after_gives n base m k [] le = (λ g. g, λ g. g)
+after_gives n base m k (r ∷ rows) le = go (r.driver == n) (nat_lt base r.past) refl
+    (after_gives n base m k rows le) where
+      go : (o b : Bool) → nat_lt base r.past ≡ b → Gives (map row_span (filter (is_after n base) rows)) m k ↔ Gives
           (spans_of n rows) m k
           → Gives
-          (map row_span (cond (o && b) (r ∷ filter (is_behind n base) rows) (filter (is_behind n base) rows))) m k
+          (map row_span (cond (o && b) (r ∷ filter (is_after n base) rows) (filter (is_after n base) rows))) m k
           ↔ Gives (cond o (row_span r ∷ spans_of n rows) (spans_of n rows)) m k
       go true true e more = (left, right) where
-        left : Gives (row_span r ∷ map row_span (filter (is_behind n base) rows)) m k
+        left : Gives (row_span r ∷ map row_span (filter (is_after n base) rows)) m k
             → Gives (row_span r ∷ spans_of n rows) m k
         left (inl c) = inl c
         left (inr g) = inr (more.0 g)
 
         right : Gives (row_span r ∷ spans_of n rows) m k
-            → Gives (row_span r ∷ map row_span (filter (is_behind n base) rows)) m k
+            → Gives (row_span r ∷ map row_span (filter (is_after n base) rows)) m k
         right (inl c) = inl c
         right (inr g) = inr (more.1 g)
       go true false e more = (λ g. inr (more.0 g), right) where
-        right : Gives (row_span r ∷ spans_of n rows) m k → Gives (map row_span (filter (is_behind n base) rows)) m k
+        right : Gives (row_span r ∷ spans_of n rows) m k → Gives (map row_span (filter (is_after n base) rows)) m k
         right (inl c) =
             let a = r.past in
             let l : a ≤ base = grind (arith, nat_tests) in
@@ -292,33 +292,33 @@ behind_gives n base m k (r ∷ rows) le = go (r.driver == n) (nat_lt base r.past
 -- so what a scan found from these rows is the driver's report
 pub report_told : (db : Trees) (n from : ℕ) (s : State) (b : Beginning) (h : Horizon) (scan : Scan) (was : Found)
     (fed : Scan) (found : Found) (report : Report)
-    → StandsFor db s → IsBegun db n from s b → b.base ≤ from → IsBase b.base → IsScanOf scan was b.base []
+    → Represents db s → IsBegun db n from s b → b.base ≤ from → IsBase b.base → IsScanOf scan was b.base []
     → ((t : Tables) → HasTables db t → AreFed n b.start b.base t.held scan was fed found h) → report.horizon ≡ h
     → ((base : ℕ) (spans : List Span) → IsScanOf fed found base spans → IsExamined spans base h.minute
     → AreFindings (line_of spans) base h.minute report.breaches.items report.debts.items)
-    → IsReportOf n s report
-unfolding StandsFor
+    → IsDriverReport n s report
+unfolding Represents
 report_told db n from s b h scan was fed found report (t, stand, of) begun early monday none feeds same finds =
     let d = begun.driver in
     let least : min b.base from ≡ b.base = omega (arith, early) in
-    let onward : filter (is_onward n b.start) t.held ≡ filter (is_behind n b.base) t.held =
-    subst (λ (k : ℕ). filter (is_onward n b.start) t.held ≡ filter (is_behind n k) t.held) least (begun.rows t stand of) in
+    let onward : filter (is_onward n b.start) t.held ≡ filter (is_after n b.base) t.held =
+    subst (λ (k : ℕ). filter (is_onward n b.start) t.held ≡ filter (is_after n k) t.held) least (begun.rows t stand of) in
     let f = feeds t stand in
     let keeps = held_kept t s n d of begun.is in
-    let rows : IsPermutation (map row_span (filter (is_behind n b.base) t.held))
+    let rows : IsPermutation (map row_span (filter (is_after n b.base) t.held))
     (map row_span f.taken ++ map row_span f.others) =
-    subst (IsPermutation (map row_span (filter (is_behind n b.base) t.held))) (map-append row_span f.taken f.others)
-    (IsPermutation-map row_span (filter (is_behind n b.base) t.held) (f.taken ++ f.others)
+    subst (IsPermutation (map row_span (filter (is_after n b.base) t.held))) (map-append row_span f.taken f.others)
+    (IsPermutation-map row_span (filter (is_after n b.base) t.held) (f.taken ++ f.others)
     (subst (λ (xs : List SpanRow). IsPermutation xs (f.taken ++ f.others)) onward f.onward.same)) in
     let gives : (m : ℕ) (k : Mark) → b.base ≤ m → Gives (map row_span f.taken ++ map row_span f.others) m k ↔
     (mark_at (held_spans d) m ≡ Some k) =
     λ m k le. (
-      λ g. (held_map d (spans_of n t.held) m k keeps).0 ((keeps.same m k).0 ((behind_gives n b.base m k t.held le).0
+      λ g. (held_map d (spans_of n t.held) m k keeps).0 ((keeps.same m k).0 ((after_gives n b.base m k t.held le).0
           (permuted_gives _ _ m k (IsPermutation-sym _ _ rows) g))),
-      λ e. permuted_gives _ _ m k rows ((behind_gives n b.base m k t.held le).1
+      λ e. permuted_gives _ _ m k rows ((after_gives n b.base m k t.held le).1
           ((keeps.same m k).1 ((held_map d (spans_of n t.held) m k keeps).1 e))),
     ) in
-    let rise = rise_behind f.taken f.others (sorted_rise (f.taken ++ f.others) f.onward.sorted) in
+    let rise = rise_after f.taken f.others (sorted_rise (f.taken ++ f.others) f.onward.sorted) in
     let is : IsReport (held_spans d) b.base report.horizon report.breaches.items report.debts.items =
     report_found (held_spans d) b.base h f.taken f.others f.took.whole f.stops rise gives report monday same
     (finds b.base (cuts b.base (map row_span f.taken)) (f.took.fed [] none)) in

@@ -10,7 +10,7 @@ use Rattle.tacho_time.specs.declared.span.Activity.TheVariants.{Rest, Available,
 use Rattle.tacho_time.specs.declared.span.Activity.{Activity}
 use Rattle.tacho_state.specs.Disjoint as disjoint
 use Rattle.tacho_tables.specs.Rows.{SpanRow}
-use Rattle.tacho_tables.specs.Tables.{is_near, span_of}
+use Rattle.tacho_tables.specs.Tables.{is_row_near, span_of}
 use Rattle.tacho_reading.specs.Standing.{IsMark, mark_number, numbered_mark, row_span, span_row, spans_of, stored_span}
 
 -- ---- numbers
@@ -110,17 +110,17 @@ added_marks n rows spans h = All-append (λ r. IsMark r.mark) rows (map (span_ro
 
 -- a driver's rows near a range represent the driver's spans near it
 pub near_spans : (n a b : ℕ) (rows : List SpanRow)
-    → map stored_span (map span_of (filter (is_near n a b) rows)) ≡ disjoint.near a b (spans_of n rows)
+    → map stored_span (map span_of (filter (is_row_near n a b) rows)) ≡ disjoint.near a b (spans_of n rows)
 near_spans n a b [] = refl
 near_spans n a b (r ∷ rows) = go (r.driver == n) (near_spans n a b rows) where
-  own : (v : Bool) → map stored_span (map span_of (filter (is_near n a b) rows)) ≡ disjoint.near a b (spans_of n rows)
-      → map stored_span (map span_of (cond v (r ∷ filter (is_near n a b) rows) (filter (is_near n a b) rows))) ≡ cond v
+  own : (v : Bool) → map stored_span (map span_of (filter (is_row_near n a b) rows)) ≡ disjoint.near a b (spans_of n rows)
+      → map stored_span (map span_of (cond v (r ∷ filter (is_row_near n a b) rows) (filter (is_row_near n a b) rows))) ≡ cond v
       (row_span r ∷ disjoint.near a b (spans_of n rows)) (disjoint.near a b (spans_of n rows))
   own true e = ap (λ (x : List Span). row_span r ∷ x) e
   own false e = e
 
-  go : (o : Bool) → map stored_span (map span_of (filter (is_near n a b) rows)) ≡ disjoint.near a b (spans_of n rows)
-      → map stored_span (map span_of (cond (o && disjoint.is_near a b (row_span r)) (r ∷ filter (is_near n a b) rows)
-      (filter (is_near n a b) rows))) ≡ disjoint.near a b (cond o (row_span r ∷ spans_of n rows) (spans_of n rows))
+  go : (o : Bool) → map stored_span (map span_of (filter (is_row_near n a b) rows)) ≡ disjoint.near a b (spans_of n rows)
+      → map stored_span (map span_of (cond (o && disjoint.is_near a b (row_span r)) (r ∷ filter (is_row_near n a b) rows)
+      (filter (is_row_near n a b) rows))) ≡ disjoint.near a b (cond o (row_span r ∷ spans_of n rows) (spans_of n rows))
   go true e = own (disjoint.is_near a b (row_span r)) e
   go false e = e

@@ -2,32 +2,32 @@
 use Rattle.std.proofs.Common.{◌≡◌, ◌≢◌, ℕ, ◌==◌, Bool, true, false, cond, List, [], ◌∷◌, Some, map, refl, sym, ap, ◌∙◌, subst}
 use Rattle.tacho_time.specs.declared.span.Span.{Span}
 use Rattle.tacho_state.specs.Disjoint.{Keeps}
-use Rattle.tacho_state.specs.State.{Driver, State, Given, Held, driver_of, put}
+use Rattle.tacho_state.specs.State.{Driver, State, IsDownloaded, Held, driver_of, put}
 use Rattle.tacho_tables.specs.Rows.{DriverRow}
 use Rattle.tacho_tables.specs.Tables.{Tables}
-use Rattle.tacho_reading.specs.Standing.{driver_columns, downloads_of, entries_of, spans_of, RowsStandFor, RowsStandForEach, HasNot, HasNoKey, HasNoHolder, AreDistinct, AreKnown, AreMarked, TablesStandFor}
+use Rattle.tacho_reading.specs.Standing.{driver_columns, downloads_of, driver_entry_rows, spans_of, RowsRepresent, RowsRepresentEach, HasNot, HasNoKey, IsHolderFree, AreDistinct, AreKnown, AreMarked, TablesRepresent}
 use Rattle.tacho_reading.proofs.RowLemmas.{eq_true, eq_false}
 
 -- both tables have the same rows of this driver
 pub record SameOfDriver (n : ℕ) (t u : Tables) : Type 0 where
   pub downloads : downloads_of n u.downloads ≡ downloads_of n t.downloads
-  pub entries : entries_of n u.entries ≡ entries_of n t.entries
+  pub entries : driver_entry_rows n u.entries ≡ driver_entry_rows n t.entries
   pub card_spans : spans_of n u.card_spans ≡ spans_of n t.card_spans
   pub held : spans_of n u.held ≡ spans_of n t.held
 
 -- tables with the same rows of a driver still represent the driver
-moved : (t u : Tables) (d : Driver) → SameOfDriver d.number t u → RowsStandFor t d → RowsStandFor u d
+moved : (t u : Tables) (d : Driver) → SameOfDriver d.number t u → RowsRepresent t d → RowsRepresent u d
 moved t u d s h = record {
   downloads = s.downloads ∙ h.downloads;
   read = h.read;
   entries = s.entries ∙ h.entries;
   full = h.full;
-  card_spans = subst (λ (x : List Span). Keeps x (Given d)) (sym s.card_spans) h.card_spans;
+  card_spans = subst (λ (x : List Span). Keeps x (IsDownloaded d)) (sym s.card_spans) h.card_spans;
   held = subst (λ (x : List Span). Keeps x (Held d)) (sym s.held) h.held;
 }
 
 -- likewise for all drivers with other numbers than the changed one
-moved_each : (t u : Tables) (n : ℕ) (s : State) → HasNot n s → ((j : ℕ) → j ≢ n → SameOfDriver j t u) → RowsStandForEach t s → RowsStandForEach u s
+moved_each : (t u : Tables) (n : ℕ) (s : State) → HasNot n s → ((j : ℕ) → j ≢ n → SameOfDriver j t u) → RowsRepresentEach t s → RowsRepresentEach u s
 moved_each t u n [] o f h = tt
 moved_each t u n (d ∷ s) o f h = (moved t u d (f d.number o.0) h.0, moved_each t u n s o.1 f h.1)
 
@@ -40,11 +40,11 @@ found_number n (x ∷ s) d e = go (x.number == n) refl e (found_number n s d) wh
   go false o f more = more f
 
 -- the tables represent the driver who is found
-pub found_of : (t : Tables) (n : ℕ) (s : State) (d : Driver) → driver_of n s ≡ Some d → RowsStandForEach t s → RowsStandFor t d
+pub found_of : (t : Tables) (n : ℕ) (s : State) (d : Driver) → driver_of n s ≡ Some d → RowsRepresentEach t s → RowsRepresent t d
 found_of t n [] d e h = cc
 found_of t n (x ∷ s) d e h = go (x.number == n) e (λ f. found_of t n s d f h.1) where
-  go : (b : Bool) → cond b (Some x) (driver_of n s) ≡ Some d → (driver_of n s ≡ Some d → RowsStandFor t d) → RowsStandFor t d
-  go true f more = let same : x ≡ d = cc in subst (RowsStandFor t) same h.0
+  go : (b : Bool) → cond b (Some x) (driver_of n s) ≡ Some d → (driver_of n s ≡ Some d → RowsRepresent t d) → RowsRepresent t d
+  go true f more = let same : x ≡ d = cc in subst (RowsRepresent t) same h.0
   go false f more = more f
 
 -- if the first driver has the number, it is the driver who is found
@@ -96,11 +96,11 @@ no_key_put key n d old (x ∷ s) e k same h = go (x.number == d.number) refl (λ
 
 -- no new holder is added
 no_holder_put : (holder : List ℕ) (n : ℕ) (d old : Driver) (s : State) → driver_of n s ≡ Some old → d.number ≡ n → d.holder ≡ old.holder
-    → HasNoHolder holder s → HasNoHolder holder (put d s)
+    → IsHolderFree holder s → IsHolderFree holder (put d s)
 no_holder_put holder n d old [] e k same h = tt
 no_holder_put holder n d old (x ∷ s) e k same h = go (x.number == d.number) refl (λ w. no_holder_put holder n d old s w k same h.1) where
-  go : (b : Bool) → (x.number == d.number) ≡ b → (driver_of n s ≡ Some old → HasNoHolder holder (put d s))
-      → HasNoHolder holder (cond b (d ∷ s) (x ∷ put d s))
+  go : (b : Bool) → (x.number == d.number) ≡ b → (driver_of n s ≡ Some old → IsHolderFree holder (put d s))
+      → IsHolderFree holder (cond b (d ∷ s) (x ∷ put d s))
   go true o more =
       let here : (x.number == n) ≡ true = subst (λ (j : ℕ). (x.number == j) ≡ true) k o in
       ((λ g. h.0 (ap (λ (y : Driver). y.holder) (found_head n x old s e here) ∙ sym same ∙ g)), h.1)
@@ -122,7 +122,7 @@ distinct_put n d old (x ∷ s) e k same h = go (x.number == d.number) refl (λ w
       let head = found_head n x old s e (subst (λ (j : ℕ). (x.number == j) ≡ true) k o) in (
         subst (λ (j : ℕ). HasNot j s) (eq_true x.number d.number o) h.0,
         subst (λ (j : List ℕ). HasNoKey j s) (ap (λ (y : Driver). y.key) head ∙ sym same.key) h.1,
-        subst (λ (j : List ℕ). HasNoHolder j s) (ap (λ (y : Driver). y.holder) head ∙ sym same.holder) h.2,
+        subst (λ (j : List ℕ). IsHolderFree j s) (ap (λ (y : Driver). y.holder) head ∙ sym same.holder) h.2,
         h.3,
       )
   go false o more =
@@ -130,11 +130,11 @@ distinct_put n d old (x ∷ s) e k same h = go (x.number == d.number) refl (λ w
       (has_put x.number d s h.0, no_key_put x.key n d old s tail k same.key h.1, no_holder_put x.holder n d old s tail k same.holder h.2, more tail)
 
 -- the tables represent each driver
-each_put : (t u : Tables) (n : ℕ) (d : Driver) (s : State) → d.number ≡ n → AreDistinct s → RowsStandForEach t s → RowsStandFor u d
-    → ((j : ℕ) → j ≢ n → SameOfDriver j t u) → RowsStandForEach u (put d s)
+each_put : (t u : Tables) (n : ℕ) (d : Driver) (s : State) → d.number ≡ n → AreDistinct s → RowsRepresentEach t s → RowsRepresent u d
+    → ((j : ℕ) → j ≢ n → SameOfDriver j t u) → RowsRepresentEach u (put d s)
 each_put t u n d [] e k h own f = tt
 each_put t u n d (x ∷ s) e k h own f = go (x.number == d.number) refl (each_put t u n d s e k.3 h.1 own f) where
-  go : (b : Bool) → (x.number == d.number) ≡ b → RowsStandForEach u (put d s) → RowsStandForEach u (cond b (d ∷ s) (x ∷ put d s))
+  go : (b : Bool) → (x.number == d.number) ≡ b → RowsRepresentEach u (put d s) → RowsRepresentEach u (cond b (d ∷ s) (x ∷ put d s))
   go true o more = (own, moved_each t u n s (subst (λ (m : ℕ). HasNot m s) (eq_true x.number d.number o ∙ e) k.0) f h.1)
   go false o more = (moved t u x (f x.number (λ g. eq_false x.number d.number o (g ∙ sym e))) h.0, more)
 
@@ -151,9 +151,9 @@ known_put t u n d old s e h f = record {
   other j w g = found_not n s old e (subst (λ (m : ℕ). HasNot m s) g w)
 
 -- if one driver changes, and no rows but that driver's, the tables represent the new state
-pub put_is : (t u : Tables) (n : ℕ) (d old : Driver) (s : State) → TablesStandFor t s → driver_of n s ≡ Some old → d.number ≡ n → SamePerson d old
-    → u.drivers ≡ map driver_columns (put d s) → RowsStandFor u d → ((j : ℕ) → j ≢ n → SameOfDriver j t u) → AreMarked u
-    → TablesStandFor u (put d s)
+pub put_is : (t u : Tables) (n : ℕ) (d old : Driver) (s : State) → TablesRepresent t s → driver_of n s ≡ Some old → d.number ≡ n → SamePerson d old
+    → u.drivers ≡ map driver_columns (put d s) → RowsRepresent u d → ((j : ℕ) → j ≢ n → SameOfDriver j t u) → AreMarked u
+    → TablesRepresent u (put d s)
 put_is t u n d old s h e k same r own f marked = record {
   drivers = r;
   distinct = distinct_put n d old s e k same h.distinct;

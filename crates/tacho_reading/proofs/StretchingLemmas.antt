@@ -32,15 +32,15 @@ use Rattle.tacho_state.proofs.MapLemmas.{held_map}
 use Rattle.tacho_tables.specs.declared.rows.StoredSpan.{StoredSpan}
 use Rattle.tacho_tables.specs.Next.{GivesNext, onward_text}
 use Rattle.tacho_tables.specs.Rows.{AreRowsOf, SpanRow, span_columns}
-use Rattle.tacho_tables.specs.Tables.{Tables, HasTables, IsArchive, is_near, span_of, span_shown}
+use Rattle.tacho_tables.specs.Tables.{Tables, HasTables, IsArchive, is_row_near, span_of, span_shown}
 use Rattle.tacho_tables.proofs.NextLemmas.{shown_onward}
 use Rattle.tacho_reading.specs.declared.reading.Beginning.{Beginning}
-use Rattle.tacho_reading.specs.Begun.{is_behind, IsBegun}
-use Rattle.tacho_reading.specs.Standing.{StandsFor, row_span, stored_span, spans_of, IsReadNear}
+use Rattle.tacho_reading.specs.Begun.{is_after, IsBegun}
+use Rattle.tacho_reading.specs.Standing.{Represents, row_span, stored_span, spans_of, IsReadNear}
 use Rattle.tacho_reading.specs.Stretching.{HasTakenOn, HasTakenRows, HasTakenHeld, is_stored_near}
 use Rattle.tacho_reading.proofs.LineWithinLemmas.{agreed_of}
 use Rattle.tacho_reading.proofs.NearRowLemmas.{permuted_gives, held_kept}
-use Rattle.tacho_reading.proofs.ReportLemmas.{behind_gives}
+use Rattle.tacho_reading.proofs.ReportLemmas.{after_gives}
 use Rattle.tacho_reading.proofs.TakenLemmas.{HasGivenNext, IsSteady, given_none, given_more, steady_self, steady_then, told_split}
 
 -- ---- the loop
@@ -165,24 +165,24 @@ marks_are line other m same = go (mark_at line m) refl (mark_at other m) refl wh
 
 -- what a pass found from the driver's rows are the stretches of what the driver holds
 pub stretches_told : (db : Trees) (n start past : ℕ) (s : State) (b : Beginning) (was pass : StretchPass) (before near : List StoredSpan)
-    (found : List Judged) → StandsFor db s → IsBegun db n start s b → IsPassOf was b.base []
+    (found : List Judged) → Represents db s → IsBegun db n start s b → IsPassOf was b.base []
     → ((t : Tables) → HasTables db t → HasTakenHeld n b.start start past t.held was pass before near)
     → ((base : ℕ) (spans : List Span) → IsPassOf pass base spans → AreStretches spans base found)
     → AreStretchesOf n s found
-unfolding StandsFor
+unfolding Represents
 stretches_told db n start past s b was pass before near found (t, stand, of) begun none takes finds =
     let d = begun.driver in
     let f = takes t stand in
     let keeps = held_kept t s n d of begun.is in
     let from = min b.base start in
-    let rows : IsPermutation (map row_span (filter (is_behind n from) t.held)) (map row_span f.onward) =
-    IsPermutation-map row_span (filter (is_behind n from) t.held) f.onward
+    let rows : IsPermutation (map row_span (filter (is_after n from) t.held)) (map row_span f.onward) =
+    IsPermutation-map row_span (filter (is_after n from) t.held) f.onward
     (subst (λ (xs : List SpanRow). IsPermutation xs f.onward) (begun.rows t stand of) f.are_onward.same) in
     let gives : (m : ℕ) (k : Mark) → from ≤ m → Gives (map row_span f.onward) m k ↔ (mark_at (held_spans d) m ≡ Some k) =
     λ m k le. (
-      λ g. (held_map d (spans_of n t.held) m k keeps).0 ((keeps.same m k).0 ((behind_gives n from m k t.held le).0
+      λ g. (held_map d (spans_of n t.held) m k keeps).0 ((keeps.same m k).0 ((after_gives n from m k t.held le).0
           (permuted_gives _ _ m k (IsPermutation-sym _ _ rows) g))),
-      λ e. permuted_gives _ _ m k rows ((behind_gives n from m k t.held le).1
+      λ e. permuted_gives _ _ m k rows ((after_gives n from m k t.held le).1
           ((keeps.same m k).1 ((held_map d (spans_of n t.held) m k keeps).1 e))),
     ) in
     let is : AreStretches (held_spans d) b.base found =
@@ -195,15 +195,15 @@ stretches_told db n start past s b was pass before near found (t, stand, of) beg
 
 -- if the range doesn't begin before `first`, the rows in it that end after `first` are all rows in it
 near_after : (n first start past : ℕ) (rows : List SpanRow) → first ≤ start
-    → filter (λ (r : SpanRow). is_stored_near start past (span_of r)) (filter (is_behind n first) rows)
-    ≡ filter (is_near n start past) rows
+    → filter (λ (r : SpanRow). is_stored_near start past (span_of r)) (filter (is_after n first) rows)
+    ≡ filter (is_row_near n start past) rows
 near_after n first start past [] le = refl
 near_after n first start past (r ∷ rows) le = go (r.driver == n) (nat_lt first r.past) early (near_after n first start past rows le) where
   all : List SpanRow
-  all = filter (is_behind n first) rows
+  all = filter (is_after n first) rows
 
   near : List SpanRow
-  near = filter (is_near n start past) rows
+  near = filter (is_row_near n start past) rows
 
   kept : List SpanRow → List SpanRow
   kept xs = filter (λ (x : SpanRow). is_stored_near start past (span_of x)) xs
@@ -225,22 +225,22 @@ near_after n first start past (r ∷ rows) le = go (r.driver == n) (nat_lt first
 
 -- so the rows that were kept are the driver's rows near the range
 near_read : (n first start past : ℕ) (rows onward : List SpanRow) → first ≤ start
-    → IsPermutation (filter (is_behind n first) rows) onward
+    → IsPermutation (filter (is_after n first) rows) onward
     → IsReadNear rows n start past (filter (is_stored_near start past) (map span_of onward))
 near_read n first start past rows onward le same =
     let near : SpanRow → Bool = λ r. is_stored_near start past (span_of r) in
-    let kept : IsPermutation (filter (is_near n start past) rows) (filter near onward) =
+    let kept : IsPermutation (filter (is_row_near n start past) rows) (filter near onward) =
     subst (λ (xs : List SpanRow). IsPermutation xs (filter near onward)) (near_after n first start past rows le)
-    (IsPermutation-filter near (filter (is_behind n first) rows) onward same) in
-    subst (IsPermutation (map span_of (filter (is_near n start past) rows))) (sym (filter-map (is_stored_near start past) span_of onward))
-    (IsPermutation-map span_of (filter (is_near n start past) rows) (filter near onward) kept)
+    (IsPermutation-filter near (filter (is_after n first) rows) onward same) in
+    subst (IsPermutation (map span_of (filter (is_row_near n start past) rows))) (sym (filter-map (is_stored_near start past) span_of onward))
+    (IsPermutation-map span_of (filter (is_row_near n start past) rows) (filter near onward) kept)
 
 -- their line is what the driver holds in the range
 pub line_told : (db : Trees) (n start past : ℕ) (s : State) (b : Beginning) (was pass : StretchPass) (before near : List StoredSpan)
-    (line : List Span) → StandsFor db s → IsBegun db n start s b → before ≡ []
+    (line : List Span) → Represents db s → IsBegun db n start s b → before ≡ []
     → ((t : Tables) → HasTables db t → HasTakenHeld n b.start start past t.held was pass before near)
     → IsCanonicalOf (Gives (map stored_span near)) line → IsHeldWithin n start past s line
-unfolding StandsFor
+unfolding Represents
 line_told db n start past s b was pass before near line (t, stand, of) begun none takes canonical =
     let d = begun.driver in
     let f = takes t stand in

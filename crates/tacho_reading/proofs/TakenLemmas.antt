@@ -39,9 +39,9 @@ use Rattle.tacho_tables.specs.declared.fault.TableFault.{TableFault}
 use Rattle.tacho_tables.specs.declared.fault.TableFault.TheVariants as table
 use Rattle.tacho_tables.specs.Next.{Tells, GivesNext, IsKept, AreOnward, IsAsked, BeginsOnward, onward_text}
 use Rattle.tacho_reading.specs.Standing.{row_span, stored_span}
-use Rattle.tacho_reading.specs.Faults.{store_fault}
+use Rattle.tacho_reading.specs.Faults.{fault_of_tables}
 use Rattle.tacho_reading.specs.Taken.{HasTakenSome, IsRefusalOf, IsLeftAt}
-use Rattle.tacho_reading.specs.Taken.{cut, cuts, HasTaken, StopsAt, AreTold, HasFed, StopsBefore, AreFed, ReadsRows, ReadsSettled}
+use Rattle.tacho_reading.specs.Taken.{cut, cuts, HasTaken, IsHorizonCause, AreTold, HasFed, StopsBefore, AreFed, ReadsRows, ReadsSettled}
 
 -- ---- spans
 
@@ -72,9 +72,9 @@ taken_none base scan found at early = record {
 }
 
 -- a span that ends by the base leaves the scan as it was
-pub taken_behind : (base minute : ℕ) (s : Span) (scan : Scan) (found : Found) → IsAt scan minute → minute ≤ 68374080
+pub taken_after : (base minute : ℕ) (s : Span) (scan : Scan) (found : Found) → IsAt scan minute → minute ≤ 68374080
     → s.past ≤ base → HasTaken base minute minute (s ∷ []) scan found scan found
-taken_behind base minute s scan found at early behind =
+taken_after base minute s scan found at early behind =
     let none : cuts base (s ∷ []) ≡ [] = rw (le-leb s.past base behind) refl in
     record {
       whole = record {
@@ -317,7 +317,7 @@ module _ {S : Type 0} (g : Ghosts S) (old mid new : Held S) (base minute : ℕ) 
 
   -- a row stops the scan
   pub feeding_stopped : (row : StoredSpan) (cause : Cause) → GivesNext g mid new (Some row)
-      → StopsAt minute cause (stored_span row) → HasCleanDisk (state g new)
+      → IsHorizonCause minute cause (stored_span row) → HasCleanDisk (state g new)
       → HasFed g old new base scan was fed found (record { minute = minute; cause = cause })
   feeding_stopped row cause (next, tells, moves) stops clean = record {
     spans = h.spans;
@@ -342,7 +342,7 @@ module _ {S : Type 0} (g : Ghosts S) (old now : Held S) (base minute : ℕ) (sca
   left_where_refused row then has Store r = rw (r.1, r.2) taken_some
   left_where_refused row then has fault r = absurd r
 
-  pub left_where_failed : (fault : TableFault) → IsLeftAt base scan was fed found (store_fault fault)
+  pub left_where_failed : (fault : TableFault) → IsLeftAt base scan was fed found (fault_of_tables fault)
   left_where_failed table.Memory = inr taken_some
   left_where_failed table.Store = taken_some
 
@@ -417,11 +417,11 @@ module _ {S : Type 0} (g : Ghosts S) (driver start base : ℕ) (all : List SpanR
 
   -- after the rows that were taken comes the row that stops the scan
   stops_there : (h : Horizon) (row : Row) (tail : List Row) (next : StoredSpan) → Tells row next
-      → StopsAt h.minute h.cause (stored_span next)
+      → IsHorizonCause h.minute h.cause (stored_span next)
       → (others : List SpanRow) → row ∷ tail ≡ map span_shown others → StopsBefore h (map row_span others)
   stops_there h row tail next tells stops [] e = absurd (let wrong = e in cc)
   stops_there h row tail next tells stops (x ∷ others) e =
-      subst (λ (s : StoredSpan). StopsAt h.minute h.cause (stored_span s)) (told_row row next x tells (head_is e)) stops
+      subst (λ (s : StoredSpan). IsHorizonCause h.minute h.cause (stored_span s)) (told_row row next x tells (head_is e)) stops
 
   -- a scan that was fed the query's rows was fed the driver's rows
   was_fed : (h : Horizon) → IsTrue (state g new).is_open → HasFed g old new base scan was fed found h

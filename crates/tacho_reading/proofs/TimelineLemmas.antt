@@ -9,7 +9,7 @@ use Rattle.tacho_time.specs.Spans.{Gives, IsCanonicalOf}
 use Rattle.tacho_line.specs.Line.{mark_at}
 use Rattle.tacho_line.proofs.LineLemmas.{line_map}
 use Rattle.tacho_state.specs.State.{Driver, State, held_mark, driver_of}
-use Rattle.tacho_state.specs.Steps.{lined}
+use Rattle.tacho_state.specs.Steps.{line_reading}
 use Rattle.tacho_state.specs.Acts.{Answers, IsAnswered}
 use Rattle.tacho_state.specs.declared.fault.StoreFault.{StoreFault}
 use Rattle.tacho_state.specs.declared.fault.StoreFault.TheVariants.{Memory, Store}
@@ -17,7 +17,7 @@ use Rattle.tacho_state.proofs.MapLemmas.{held_map}
 use Rattle.tacho_tables.specs.declared.rows.StoredSpan.{StoredSpan}
 use Rattle.tacho_tables.specs.Rows.{SpanRow}
 use Rattle.tacho_tables.specs.Tables.{Tables, HasTables, is_of, span_of}
-use Rattle.tacho_reading.specs.Standing.{StandsFor, spans_of, stored_span, row_span}
+use Rattle.tacho_reading.specs.Standing.{Represents, spans_of, stored_span, row_span}
 use Rattle.tacho_reading.proofs.NearRowLemmas.{permuted_gives, held_kept}
 
 -- the rows of a driver represent the driver's spans
@@ -46,11 +46,11 @@ line_is d helds line of held m = same_option (mark_at line m) (held_mark d m) (�
     (λ e. kept.0 (given.0 (map.0 e)), λ e. map.1 (given.1 (kept.1 e))))
 
 -- so the line of all the driver's rows, in any order, is the driver's timeline
-pub line_told : (db : Trees) (n : ℕ) (s : State) (d : Driver) (found : List StoredSpan) (line : List Span) → StandsFor db s
+pub line_told : (db : Trees) (n : ℕ) (s : State) (d : Driver) (found : List StoredSpan) (line : List Span) → Represents db s
     → driver_of n s ≡ Some d
     → ((a : Tables) → HasTables db a → IsPermutation (map span_of (filter (is_of n) a.held)) found)
     → IsCanonicalOf (Gives (map stored_span found)) line → mark_at line ≡ held_mark d
-unfolding StandsFor
+unfolding Represents
 line_told db n s d found line (t, stand, of) is read canonical =
     let keeps = held_kept t s n d of is in
     let rows : IsPermutation (spans_of n t.held) (map stored_span found) =
@@ -83,6 +83,6 @@ not_answered {A = A} f (Err found) (inr up) e is = subst (λ g. IsAnswered {A = 
 -- the timeline is answered, or the call gave up
 pub line_answers : (n : ℕ) (s : State) (d : Driver) (r : Result (List Span) StoreFault) → driver_of n s ≡ Some d
     → IfOk r (λ line. mark_at line ≡ held_mark d) → IfErr r (λ f. (f ≡ Memory) ⊎ (f ≡ Store))
-    → Answers (λ line. mark_at line) r (lined n s)
+    → Answers (λ line. mark_at line) r (line_reading n s)
 line_answers n s d (Ok line) is told up = rw is (ap Ok (sym told))
-line_answers n s d (Err f) is told up = gave_up (λ line. mark_at line) f (lined n s) up
+line_answers n s d (Err f) is told up = gave_up (λ line. mark_at line) f (line_reading n s) up

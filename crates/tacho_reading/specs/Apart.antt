@@ -10,13 +10,13 @@ abbrev pub AreAside : SpanRow → SpanRow → Type 0
 AreAside r x = (r.past ≤ x.start) ⊎ (x.past ≤ r.start)
 
 -- no row is empty, and no two rows have a minute in common
-abbrev pub AreApart : List SpanRow → Type 0
-AreApart [] = Unit {0}
-AreApart (r ∷ rows) = (r.start < r.past) × AllByRecursion (AreAside r) rows × AreApart rows
+abbrev pub AreRowsApart : List SpanRow → Type 0
+AreRowsApart [] = Unit {0}
+AreRowsApart (r ∷ rows) = (r.start < r.past) × AllByRecursion (AreAside r) rows × AreRowsApart rows
 
 -- a driver's rows
-abbrev pub rows_of : ℕ → List SpanRow → List SpanRow
-rows_of n rows = filter (is_of n) rows
+abbrev pub driver_rows : ℕ → List SpanRow → List SpanRow
+driver_rows n rows = filter (is_of n) rows
 
 -- the start of the first row that has a minute in the range, computed from the latest row that begins before the range
 abbrev pub near_from : ℕ → ℕ → Option StoredSpan → ℕ

@@ -5,11 +5,11 @@ use Rattle.tacho_state.specs.State.{Driver, State, driver_of}
 use Rattle.tacho_tables.specs.Rows.{SpanRow}
 use Rattle.tacho_tables.specs.Tables.{Tables, HasTables, is_onward}
 use Rattle.tacho_reading.specs.declared.reading.Beginning.{Beginning}
-use Rattle.tacho_reading.specs.Standing.{TablesStandFor}
+use Rattle.tacho_reading.specs.Standing.{TablesRepresent}
 
 -- a row of the driver that ends after a minute
-abbrev pub is_behind : ℕ → ℕ → SpanRow → Bool
-is_behind driver minute r = (r.driver == driver) && nat_lt minute r.past
+abbrev pub is_after : ℕ → ℕ → SpanRow → Bool
+is_after driver minute r = (r.driver == driver) && nat_lt minute r.past
 
 -- `b.base` is the first minute of the driver's base. The driver's rows that begin at `b.start` or later are those that end after the base,
 -- or after minute `from` if that is earlier.
@@ -17,5 +17,5 @@ pub record IsBegun (db : Trees) (n from : ℕ) (s : State) (b : Beginning) : Typ
   pub driver : Driver
   pub is : driver_of n s ≡ Some driver
   pub base : b.base ≡ 1440 * driver.base
-  pub rows : (t : Tables) → HasTables db t → TablesStandFor t s → filter (is_onward n b.start) t.held ≡ filter
-      (is_behind n (min b.base from)) t.held
+  pub rows : (t : Tables) → HasTables db t → TablesRepresent t s → filter (is_onward n b.start) t.held ≡ filter
+      (is_after n (min b.base from)) t.held

@@ -11,7 +11,7 @@ use Rattle.tacho_state.specs.Steps.{Turn}
 use Rattle.tacho_state.specs.Acts.{Answers, IsAnswered, IsOfNoFile}
 use Rattle.tacho_tables.specs.Tables.{Tables, HasTables, IsArchive}
 use Rattle.tacho_tables.specs.Calls.{Stays}
-use Rattle.tacho_reading.specs.Standing.{StandsFor, KeepsRowsOf}
+use Rattle.tacho_reading.specs.Standing.{Represents, KeepsRowsOf}
 
 module _ {S : Type 0} (g : Ghosts S) (old new : MutBor (Held S)) where
   module _ {A : Type 0} (result : Result A StoreFault) where
@@ -28,19 +28,19 @@ module _ {S : Type 0} (g : Ghosts S) (old new : MutBor (Held S)) where
       pub same : HasCleanDisk (state g new.now) → IsArchive (state g old.now).now
           → OnOk result (IsUnchanged (state g old.now) (state g new.now))
       pub told : HasCleanDisk (state g new.now) → IsArchive (state g old.now).now
-          → (s : State) → StandsFor (state g old.now).now.trees s → fact (state g old.now).now.trees s
+          → (s : State) → Represents (state g old.now).now.trees s → fact (state g old.now).now.trees s
 
     -- The call answers as the step does. If it answers Ok, the tables represent the step's state, and have the same rows of each driver
     -- that the step doesn't change.
     pub record Steps {B : Type 0} (view : A → B) (step : State → Turn B) : Type 0 where
       pub goes : Goes
       pub answer : HasCleanDisk (state g new.now) → IsArchive (state g old.now).now
-          → (s : State) → StandsFor (state g old.now).now.trees s → Answers view result (step s).answer
+          → (s : State) → Represents (state g old.now).now.trees s → Answers view result (step s).answer
       pub made : HasCleanDisk (state g new.now) → IsArchive (state g old.now).now
-          → (s : State) → StandsFor (state g old.now).now.trees s
-          → OnOk result (IsArchive (state g new.now).now × StandsFor (state g new.now).now.trees (step s).after)
+          → (s : State) → Represents (state g old.now).now.trees s
+          → OnOk result (IsArchive (state g new.now).now × Represents (state g new.now).now.trees (step s).after)
       pub others : HasCleanDisk (state g new.now) → IsArchive (state g old.now).now
-          → (s : State) → StandsFor (state g old.now).now.trees s
+          → (s : State) → Represents (state g old.now).now.trees s
           → (n : ℕ) → driver_of n (step s).after ≡ driver_of n s
           → OnOk result (KeepsRowsOf n (state g old.now).now.trees (state g new.now).now.trees)
 
@@ -50,13 +50,13 @@ module _ {S : Type 0} (g : Ghosts S) (old new : MutBor (Held S)) where
       pub keeps : HasCleanDisk (state g new.now) → IsArchive (state g old.now).now → KeepsCommit (state g old.now) (state g new.now)
       pub of_no_file : IsOfNoFile result
       pub answer : HasCleanDisk (state g new.now) → IsArchive (state g old.now).now
-          → (s : State) → StandsFor (state g old.now).now.trees s
+          → (s : State) → Represents (state g old.now).now.trees s
           → (p : P) → given p (state g old.now).now.trees s → Answers view result (step p s).answer
       pub made : HasCleanDisk (state g new.now) → IsArchive (state g old.now).now
-          → (s : State) → StandsFor (state g old.now).now.trees s → (p : P) → given p (state g old.now).now.trees s
-          → OnOk result (IsArchive (state g new.now).now × StandsFor (state g new.now).now.trees (step p s).after)
+          → (s : State) → Represents (state g old.now).now.trees s → (p : P) → given p (state g old.now).now.trees s
+          → OnOk result (IsArchive (state g new.now).now × Represents (state g new.now).now.trees (step p s).after)
       pub others : HasCleanDisk (state g new.now) → IsArchive (state g old.now).now
-          → (s : State) → StandsFor (state g old.now).now.trees s → (p : P) → given p (state g old.now).now.trees s
+          → (s : State) → Represents (state g old.now).now.trees s → (p : P) → given p (state g old.now).now.trees s
           → (n : ℕ) → driver_of n (step p s).after ≡ driver_of n s
           → OnOk result (KeepsRowsOf n (state g old.now).now.trees (state g new.now).now.trees)
 

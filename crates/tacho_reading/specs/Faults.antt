@@ -4,6 +4,6 @@ use Rattle.tacho_state.specs.declared.fault.StoreFault.TheVariants as store
 use Rattle.tacho_tables.specs.declared.fault.TableFault.{TableFault}
 use Rattle.tacho_tables.specs.declared.fault.TableFault.TheVariants as table
 
-abbrev pub store_fault : TableFault → StoreFault
-store_fault table.Memory = store.Memory
-store_fault table.Store = store.Store
+abbrev pub fault_of_tables : TableFault → StoreFault
+fault_of_tables table.Memory = store.Memory
+fault_of_tables table.Store = store.Store

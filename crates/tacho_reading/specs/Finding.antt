@@ -6,10 +6,10 @@ use Rattle.tacho_state.specs.State.{Driver, State, driver_of}
 use Rattle.tacho_tables.specs.declared.rows.StoredDriver.{StoredDriver}
 
 -- the fault is the step's answer, or the call gave up
-abbrev pub Refuses : {A : Type 0} → StoreFault → Result A StoreFault → Type 0
-Refuses Memory told = Unit {0}
-Refuses Store told = Unit {0}
-Refuses fault told = told ≡ Err fault
+abbrev pub IsFindingFault : {A : Type 0} → StoreFault → Result A StoreFault → Type 0
+IsFindingFault Memory told = Unit {0}
+IsFindingFault Store told = Unit {0}
+IsFindingFault fault told = told ≡ Err fault
 
 -- the stored row is that of the driver
 pub record IsStored (it : StoredDriver) (d : Driver) : Type 0 where

@@ -11,7 +11,7 @@ use Rattle.tacho_state.specs.Steps.{Turn}
 use Rattle.tacho_state.specs.Acts.{Acts, Reads}
 use Rattle.tacho_tables.specs.Schema.{no_schema}
 use Rattle.tacho_tables.specs.Tables.{IsArchive}
-use Rattle.tacho_reading.specs.Standing.{StandsFor, KeepsRowsOf}
+use Rattle.tacho_reading.specs.Standing.{Represents, KeepsRowsOf}
 
 -- the fact holds for one of the states
 abbrev pub IsOfOne : (State → Type 0) → List State → Type 0
@@ -24,7 +24,7 @@ IsBlank c = c.now.schema ≡ no_schema
 
 -- the connection sees an archive's tables, and they represent the state
 abbrev pub Sees : Sqlite → State → Type 0
-Sees c s = IsArchive c.now × StandsFor c.now.trees s
+Sees c s = IsArchive c.now × Represents c.now.trees s
 
 -- likewise, while the connection is open; if a failure has shut it, nothing is said
 abbrev pub SeesWhileOpen : Sqlite → State → Type 0
@@ -32,13 +32,13 @@ SeesWhileOpen c s = IsTrue c.is_open → Sees c s
 
 -- whatever a crash may leave now is an archive's database, and represents one of these states
 abbrev pub LeavesOneOf : Sqlite → List State → Type 0
-LeavesOneOf c states = (db : Trees) → c.may_leave db → IsOfOne (StandsFor db) states
+LeavesOneOf c states = (db : Trees) → c.may_leave db → IsOfOne (Represents db) states
 
 -- the call gave up: it ran out of memory, or the store failed
-abbrev pub IsGivenUp : StoreFault → Type 0
-IsGivenUp Memory = Unit {0}
-IsGivenUp Store = Unit {0}
-IsGivenUp fault = ⊥
+abbrev pub HasGivenUp : StoreFault → Type 0
+HasGivenUp Memory = Unit {0}
+HasGivenUp Store = Unit {0}
+HasGivenUp fault = ⊥
 
 -- the second connection sees the same rows as the first, while it is open
 abbrev pub IsSame : Sqlite → Sqlite → Type 0

@@ -9,13 +9,13 @@ use Rattle.tacho_time.specs.Spans.{Gives, IsFirstConflict}
 use Rattle.tacho_card.specs.declared.file.Part.{Part}
 use Rattle.tacho_state.specs.declared.entry.Entry.{Entry as Listed}
 use Rattle.tacho_state.specs.Limits.{IsName, IsNote}
-use Rattle.tacho_state.specs.State.{Download, Entry, Driver, State, Given, Held, AreFull, driver_of}
+use Rattle.tacho_state.specs.State.{Download, Entry, Driver, State, IsDownloaded, Held, AreFull, driver_of}
 use Rattle.tacho_state.specs.Disjoint.{Keeps}
 use Rattle.tacho_state.specs.Content.{FileTells, part_number}
 use Rattle.tacho_state.specs.Summaries.{Summary}
 use Rattle.tacho_tables.specs.Rows.{SpanRow, DownloadRow, EntryRow, DriverRow}
 use Rattle.tacho_tables.specs.declared.rows.StoredSpan.{StoredSpan}
-use Rattle.tacho_tables.specs.Tables.{ListedDriver, ListedEntry, Tables, HasTables, has_number, is_of, is_near, is_kept_near, span_of, entry_span_of}
+use Rattle.tacho_tables.specs.Tables.{ListedDriver, ListedEntry, Tables, HasTables, has_number, is_of, is_row_near, is_kept_near, span_of, entry_span_of}
 
 -- ---- marks as numbers: 0 rest, 1 available, 2 work, 3 drive, and 4 more for crew
 
@@ -55,9 +55,9 @@ spans_of n [] = []
 spans_of n (r ∷ rows) = if r.driver == n then row_span r ∷ spans_of n rows else spans_of n rows
 
 -- the rows of a driver's downloads and entries; the first has number `i`
-abbrev pub download_rows : ℕ → ℕ → List Download → List DownloadRow
-download_rows n i [] = []
-download_rows n i (d ∷ ds) = record { driver = n; number = i; part = d.part; file = d.file } ∷ download_rows n (i + 1) ds
+abbrev pub rows_of_downloads : ℕ → ℕ → List Download → List DownloadRow
+rows_of_downloads n i [] = []
+rows_of_downloads n i (d ∷ ds) = record { driver = n; number = i; part = d.part; file = d.file } ∷ rows_of_downloads n (i + 1) ds
 
 abbrev pub entry_row : ℕ → ℕ → Entry → EntryRow
 entry_row n i e = record {
@@ -71,9 +71,9 @@ entry_row n i e = record {
   note = e.note;
 }
 
-abbrev pub entry_rows : ℕ → ℕ → List Entry → List EntryRow
-entry_rows n i [] = []
-entry_rows n i (e ∷ es) = entry_row n i e ∷ entry_rows n (i + 1) es
+abbrev pub rows_of_entries : ℕ → ℕ → List Entry → List EntryRow
+rows_of_entries n i [] = []
+rows_of_entries n i (e ∷ es) = entry_row n i e ∷ rows_of_entries n (i + 1) es
 
 -- a driver's own row: the columns downloads and entries count the numbers that were given out
 abbrev pub driver_columns : Driver → DriverRow
@@ -82,8 +82,8 @@ driver_columns d = record { driver = d.number; holder = d.holder; secret = d.key
 abbrev pub downloads_of : ℕ → List DownloadRow → List DownloadRow
 downloads_of n rows = filter (λ r. r.driver == n) rows
 
-abbrev pub entries_of : ℕ → List EntryRow → List EntryRow
-entries_of n rows = filter (λ r. r.driver == n) rows
+abbrev pub driver_entry_rows : ℕ → List EntryRow → List EntryRow
+driver_entry_rows n rows = filter (λ r. r.driver == n) rows
 
 -- ---- what the tables represent
 
@@ -95,17 +95,17 @@ AreRead (d ∷ ds) =
 
 -- the rows of one driver: `card_spans` give exactly what the driver's downloads give, and `held` exactly what the driver holds, each in
 -- disjoint rows
-pub record RowsStandFor (t : Tables) (d : Driver) : Type 0 where
-  pub downloads : downloads_of d.number t.downloads ≡ download_rows d.number 1 d.downloads
+pub record RowsRepresent (t : Tables) (d : Driver) : Type 0 where
+  pub downloads : downloads_of d.number t.downloads ≡ rows_of_downloads d.number 1 d.downloads
   pub read : AreRead d.downloads
-  pub entries : entries_of d.number t.entries ≡ entry_rows d.number 1 d.entries
+  pub entries : driver_entry_rows d.number t.entries ≡ rows_of_entries d.number 1 d.entries
   pub full : AreFull d.entries
-  pub card_spans : Keeps (spans_of d.number t.card_spans) (Given d)
+  pub card_spans : Keeps (spans_of d.number t.card_spans) (IsDownloaded d)
   pub held : Keeps (spans_of d.number t.held) (Held d)
 
-abbrev pub RowsStandForEach : Tables → State → Type 0
-RowsStandForEach t [] = Unit {0}
-RowsStandForEach t (d ∷ s) = RowsStandFor t d × RowsStandForEach t s
+abbrev pub RowsRepresentEach : Tables → State → Type 0
+RowsRepresentEach t [] = Unit {0}
+RowsRepresentEach t (d ∷ s) = RowsRepresent t d × RowsRepresentEach t s
 
 -- no driver of the state has this number, this key, or this holder
 abbrev pub HasNot : ℕ → State → Type 0
@@ -116,19 +116,19 @@ abbrev pub HasNoKey : List ℕ → State → Type 0
 HasNoKey key [] = Unit {0}
 HasNoKey key (d ∷ s) = (d.key ≢ key) × HasNoKey key s
 
-abbrev pub HasNoHolder : List ℕ → State → Type 0
-HasNoHolder holder [] = Unit {0}
-HasNoHolder holder (d ∷ s) = (d.holder ≢ holder) × HasNoHolder holder s
+abbrev pub IsHolderFree : List ℕ → State → Type 0
+IsHolderFree holder [] = Unit {0}
+IsHolderFree holder (d ∷ s) = (d.holder ≢ holder) × IsHolderFree holder s
 
 -- no two drivers have the same number, the same key or the same holder
 abbrev pub AreDistinct : State → Type 0
 AreDistinct [] = Unit {0}
-AreDistinct (d ∷ s) = HasNot d.number s × HasNoKey d.key s × HasNoHolder d.holder s × AreDistinct s
+AreDistinct (d ∷ s) = HasNot d.number s × HasNoKey d.key s × IsHolderFree d.holder s × AreDistinct s
 
 -- each row belongs to a driver of the state
 pub record AreKnown (t : Tables) (s : State) : Type 0 where
   pub downloads : (n : ℕ) → HasNot n s → downloads_of n t.downloads ≡ []
-  pub entries : (n : ℕ) → HasNot n s → entries_of n t.entries ≡ []
+  pub entries : (n : ℕ) → HasNot n s → driver_entry_rows n t.entries ≡ []
   pub card_spans : (n : ℕ) → HasNot n s → spans_of n t.card_spans ≡ []
   pub held : (n : ℕ) → HasNot n s → spans_of n t.held ≡ []
 
@@ -138,23 +138,23 @@ pub record AreMarked (t : Tables) : Type 0 where
   pub held : All (λ r. IsMark r.mark) t.held
 
 -- the tables represent the state
-pub record TablesStandFor (t : Tables) (s : State) : Type 0 where
+pub record TablesRepresent (t : Tables) (s : State) : Type 0 where
   pub drivers : t.drivers ≡ map driver_columns s
   pub distinct : AreDistinct s
-  pub each : RowsStandForEach t s
+  pub each : RowsRepresentEach t s
   pub known : AreKnown t s
   pub marked : AreMarked t
 
 -- the stored rows represent the state
-unfoldable pub StandsFor : Trees → State → Type 0
-StandsFor db s = (t : Tables) × HasTables db t × TablesStandFor t s
+unfoldable pub Represents : Trees → State → Type 0
+Represents db s = (t : Tables) × HasTables db t × TablesRepresent t s
 
 -- the two tables have the same rows of one driver
 pub record HaveSameRowsOf (n : ℕ) (t u : Tables) : Type 0 where
   pub drivers : filter (has_number n) t.drivers ≡ filter (has_number n) u.drivers
   pub downloads : downloads_of n t.downloads ≡ downloads_of n u.downloads
   pub card_spans : filter (is_of n) t.card_spans ≡ filter (is_of n) u.card_spans
-  pub entries : entries_of n t.entries ≡ entries_of n u.entries
+  pub entries : driver_entry_rows n t.entries ≡ driver_entry_rows n u.entries
   pub held : filter (is_of n) t.held ≡ filter (is_of n) u.held
 
 -- the rows stored before and after are the same for one driver
@@ -163,7 +163,7 @@ KeepsRowsOf n db next = (t : Tables) × (u : Tables) × HasTables db t × HasTab
 
 -- the rows stored after represent the state after, and are the same for each driver that is the same in both states
 pub record Follows (db next : Trees) (s after : State) : Type 0 where
-  pub stands : StandsFor next after
+  pub stands : Represents next after
   pub others : (n : ℕ) → driver_of n after ≡ driver_of n s → KeepsRowsOf n db next
 
 -- ---- rows in another order, and rows that were read
@@ -197,12 +197,12 @@ abbrev pub stored_span : StoredSpan → Span
 stored_span s = record { start = s.start; past = s.past; mark = numbered_mark s.mark }
 
 -- stored rows that have no line: some row isn't fit, or two of them contradict
-abbrev pub AreFaulty : List StoredSpan → Type 0
-AreFaulty rows = (¬ All IsFit rows) ⊎ ((minute : ℕ) × IsFirstConflict (Gives (map stored_span rows)) minute)
+abbrev pub HaveNoLine : List StoredSpan → Type 0
+HaveNoLine rows = (¬ All IsFit rows) ⊎ ((minute : ℕ) × IsFirstConflict (Gives (map stored_span rows)) minute)
 
 -- the rows that are read near a range, in any order
 abbrev pub IsReadNear : List SpanRow → ℕ → ℕ → ℕ → List StoredSpan → Type 0
-IsReadNear rows n start past found = IsPermutation (map span_of (filter (is_near n start past) rows)) found
+IsReadNear rows n start past found = IsPermutation (map span_of (filter (is_row_near n start past) rows)) found
 
 -- the entries that aren't withdrawn and are read near a range, in any order
 abbrev pub IsKeptNear : List EntryRow → ℕ → ℕ → ℕ → List StoredSpan → Type 0
@@ -217,9 +217,9 @@ listed_as it = record {
 }
 
 -- a stored driver as they are listed
-abbrev pub summarized : ListedDriver → Summary
-summarized d = record { number = d.driver; holder = d.holder; base = d.base; downloads = d.downloads; entries = d.entries; name = d.name }
+abbrev pub summary_of_listed : ListedDriver → Summary
+summary_of_listed d = record { number = d.driver; holder = d.holder; base = d.base; downloads = d.downloads; entries = d.entries; name = d.name }
 
 -- the driver's base is the number of a day: 47520 is the last
-abbrev pub HasDay : ListedDriver → Type 0
-HasDay d = d.base ≤ 47520
+abbrev pub HasBaseDay : ListedDriver → Type 0
+HasBaseDay d = d.base ≤ 47520

@@ -57,16 +57,16 @@ pub record HasTaken (base from past : ℕ) (spans : List Span) (old : Scan) (was
 -- ---- where a scan stops
 
 -- a span after a gap, or a span that is crew: `minute` is the horizon, and this is the cause
-abbrev pub StopsAt : ℕ → Cause → Span → Type 0
-StopsAt minute Unknown s = minute < s.start
-StopsAt minute Crew s = Covers s minute × (s.mark.crew ≡ true)
+abbrev pub IsHorizonCause : ℕ → Cause → Span → Type 0
+IsHorizonCause minute Unknown s = minute < s.start
+IsHorizonCause minute Crew s = Covers s minute × (s.mark.crew ≡ true)
 
 -- what one row does to a scan that is at `minute`: the scan takes it up to another minute, or the row stops the scan
 abbrev pub IsStepOf : ℕ → ℕ → StoredSpan → Scan → Found → Scan → Found → Step → Type 0
 IsStepOf base minute row old was new found (On past) =
     HasTaken base minute past (stored_span row ∷ []) old was new found
 IsStepOf base minute row old was new found (Stop cause) =
-    StopsAt minute cause (stored_span row) × (new ≡ old) × (found ≡ was)
+    IsHorizonCause minute cause (stored_span row) × (new ≡ old) × (found ≡ was)
 
 -- a row that an archive can have written: it isn't empty, ends by the end of 2099, and, cut at the base, begins at `minute` or later
 pub record CanFollow (base minute : ℕ) (row : StoredSpan) : Type 0 where
@@ -96,7 +96,7 @@ abbrev pub HasStopped : {S : Type 0} → Ghosts S → List ℕ → Row → Held 
 HasStopped {S = S} g sql params old new rows h =
     ((h.cause ≡ Unknown) × (last : Held S) × ((state g last).now ≡ (state g old).now)
     × Shown sql params (state g last) (state g new) rows)
-    ⊎ ((row : Row) × (next : StoredSpan) × Tells row next × StopsAt h.minute h.cause (stored_span next)
+    ⊎ ((row : Row) × (next : StoredSpan) × Tells row next × IsHorizonCause h.minute h.cause (stored_span next)
     × HasGiven g sql params new (rows ++ row ∷ []))
 
 -- a scan took the spans of the next rows, from the base to the horizon, and stopped there
@@ -112,7 +112,7 @@ pub record HasFed {S : Type 0} (g : Ghosts S) (old new : Held S) (base : ℕ) (s
 -- nothing comes after the horizon, or the first span after it stops a scan there
 abbrev pub StopsBefore : Horizon → List Span → Type 0
 StopsBefore h [] = h.cause ≡ Unknown
-StopsBefore h (s ∷ spans) = StopsAt h.minute h.cause s
+StopsBefore h (s ∷ spans) = IsHorizonCause h.minute h.cause s
 
 -- of the driver's rows that begin at `start` or later, in order, a scan took those from the base up to the horizon
 pub record AreFed (driver start base : ℕ) (rows : List SpanRow) (scan : Scan) (was : Found) (fed : Scan) (found : Found)

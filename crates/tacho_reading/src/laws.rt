@@ -6,12 +6,12 @@ ghost use Rattle.sqlite.specs.Tree.{Trees};
 ghost use Rattle.tacho_time.specs.Spans.{Gives, IsCanonicalOf};
 ghost use Rattle.tacho_time.specs.declared.span.Span.{Span};
 ghost use Rattle.tacho_state.specs.Disjoint.{Keeps, near};
-ghost use Rattle.tacho_state.specs.State.{Driver, Entry, State, Given, Held, driver_of, keyed, holding, download_from, entry_from};
+ghost use Rattle.tacho_state.specs.State.{Driver, Entry, State, IsDownloaded, Held, driver_of, driver_with_key, holding, download_from, entry_from};
 ghost use Rattle.tacho_state.specs.Steps.{file_of};
 ghost use Rattle.tacho_tables.specs.declared.rows.StoredSpan.{StoredSpan as StoredValue};
 ghost use Rattle.tacho_tables.specs.Rows.{DriverRow, DownloadRow, EntryRow, SpanRow};
 ghost use Rattle.tacho_tables.specs.Tables.{Tables, HasTables, has_number, has_secret, has_holder, is_download, is_entry, is_entry_of};
-ghost use Rattle.tacho_reading.specs.Standing.{TablesStandFor, SameRows, spans_of, driver_columns, entry_row, entry_rows, stored_span, IsReadNear};
+ghost use Rattle.tacho_reading.specs.Standing.{TablesRepresent, SameRows, spans_of, driver_columns, entry_row, rows_of_entries, stored_span, IsReadNear};
 
 /// Stored rows represent lists of rows in any order.
 pub fn any_order()
@@ -20,36 +20,36 @@ pub fn any_order()
 
 /// A driver is found by number in the tables exactly as in the state.
 pub fn drivers_are_found()
-    ensures none { (t : Tables) (s : State) (n : ℕ) → TablesStandFor t s
+    ensures none { (t : Tables) (s : State) (n : ℕ) → TablesRepresent t s
         → (filter (has_number n) t.drivers ≡ []) ↔ (driver_of n s ≡ None) }
-    ensures some { (t : Tables) (s : State) (n : ℕ) (row : DriverRow) → TablesStandFor t s
+    ensures some { (t : Tables) (s : State) (n : ℕ) (row : DriverRow) → TablesRepresent t s
         → Contains (filter (has_number n) t.drivers) row
         → (d : Driver) × (driver_of n s ≡ Some d) × (row ≡ driver_columns d) }
 {}
 
 /// A driver is found by key in the tables exactly as in the state.
 pub fn keys_are_found()
-    ensures none { (t : Tables) (s : State) (key : List ℕ) → TablesStandFor t s
-        → (filter (has_secret key) t.drivers ≡ []) ↔ (keyed key s ≡ None) }
-    ensures some { (t : Tables) (s : State) (key : List ℕ) (row : DriverRow) → TablesStandFor t s
+    ensures none { (t : Tables) (s : State) (key : List ℕ) → TablesRepresent t s
+        → (filter (has_secret key) t.drivers ≡ []) ↔ (driver_with_key key s ≡ None) }
+    ensures some { (t : Tables) (s : State) (key : List ℕ) (row : DriverRow) → TablesRepresent t s
         → Contains (filter (has_secret key) t.drivers) row
-        → (d : Driver) × (keyed key s ≡ Some d) × (row ≡ driver_columns d) }
+        → (d : Driver) × (driver_with_key key s ≡ Some d) × (row ≡ driver_columns d) }
 {}
 
 /// A driver is found by their card's holder in the tables exactly as in the state.
 pub fn holders_are_found()
-    ensures none { (t : Tables) (s : State) (holder : List ℕ) → TablesStandFor t s
+    ensures none { (t : Tables) (s : State) (holder : List ℕ) → TablesRepresent t s
         → (filter (has_holder holder) t.drivers ≡ []) ↔ (holding holder s ≡ None) }
-    ensures some { (t : Tables) (s : State) (holder : List ℕ) (row : DriverRow) → TablesStandFor t s
+    ensures some { (t : Tables) (s : State) (holder : List ℕ) (row : DriverRow) → TablesRepresent t s
         → Contains (filter (has_holder holder) t.drivers) row
         → (d : Driver) × (holding holder s ≡ Some d) × (driver_of d.number s ≡ Some d) × (row ≡ driver_columns d) }
 {}
 
 /// A driver's rows keep what the driver's downloads give, and what the driver holds.
 pub fn rows_are_kept()
-    ensures card { (t : Tables) (s : State) (n : ℕ) (d : Driver) → TablesStandFor t s → driver_of n s ≡ Some d
-        → Keeps (spans_of n t.card_spans) (Given d) }
-    ensures held { (t : Tables) (s : State) (n : ℕ) (d : Driver) → TablesStandFor t s → driver_of n s ≡ Some d
+    ensures card { (t : Tables) (s : State) (n : ℕ) (d : Driver) → TablesRepresent t s → driver_of n s ≡ Some d
+        → Keeps (spans_of n t.card_spans) (IsDownloaded d) }
+    ensures held { (t : Tables) (s : State) (n : ℕ) (d : Driver) → TablesRepresent t s → driver_of n s ≡ Some d
         → Keeps (spans_of n t.held) (Held d) }
 {}
 
@@ -62,9 +62,9 @@ pub fn rows_are_near()
 
 /// Downloads are found by number in the tables exactly as in the state.
 pub fn downloads_are_found()
-    ensures none { (t : Tables) (s : State) (n number : ℕ) (d : Driver) → TablesStandFor t s → driver_of n s ≡ Some d
+    ensures none { (t : Tables) (s : State) (n number : ℕ) (d : Driver) → TablesRepresent t s → driver_of n s ≡ Some d
         → (filter (is_download n number) t.downloads ≡ []) ↔ (download_from 1 number d.downloads ≡ None) }
-    ensures some { (t : Tables) (s : State) (n number : ℕ) (d : Driver) (row : DownloadRow) → TablesStandFor t s
+    ensures some { (t : Tables) (s : State) (n number : ℕ) (d : Driver) (row : DownloadRow) → TablesRepresent t s
         → driver_of n s ≡ Some d
         → Contains (filter (is_download n number) t.downloads) row
         → file_of (download_from 1 number d.downloads) ≡ Ok row.file }
@@ -72,12 +72,12 @@ pub fn downloads_are_found()
 
 /// Entries are found by number in the tables exactly as in the state.
 pub fn entries_are_found()
-    ensures none { (t : Tables) (s : State) (n number : ℕ) (d : Driver) → TablesStandFor t s → driver_of n s ≡ Some d
+    ensures none { (t : Tables) (s : State) (n number : ℕ) (d : Driver) → TablesRepresent t s → driver_of n s ≡ Some d
         → (filter (is_entry n number) t.entries ≡ []) ↔ (entry_from 1 number d.entries ≡ None) }
-    ensures some { (t : Tables) (s : State) (n number : ℕ) (d : Driver) (row : EntryRow) → TablesStandFor t s
+    ensures some { (t : Tables) (s : State) (n number : ℕ) (d : Driver) (row : EntryRow) → TablesRepresent t s
         → driver_of n s ≡ Some d
         → Contains (filter (is_entry n number) t.entries) row
         → (e : Entry) × (entry_from 1 number d.entries ≡ Some e) × (row ≡ entry_row n number e) }
-    ensures all { (t : Tables) (s : State) (n : ℕ) (d : Driver) → TablesStandFor t s → driver_of n s ≡ Some d
-        → filter (is_entry_of n) t.entries ≡ entry_rows n 1 d.entries }
+    ensures all { (t : Tables) (s : State) (n : ℕ) (d : Driver) → TablesRepresent t s → driver_of n s ≡ Some d
+        → filter (is_entry_of n) t.entries ≡ rows_of_entries n 1 d.entries }
 {}

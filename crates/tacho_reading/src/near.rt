@@ -5,7 +5,7 @@ ghost use Rattle.std.specs.Prelude.{◌≡◌};
 ghost use Rattle.tacho_tables.specs.Calls.{Finds};
 ghost use Rattle.tacho_tables.specs.Spans.{spans_in};
 ghost use Rattle.tacho_reading.specs.Standing.{IsReadNear};
-ghost use Rattle.tacho_reading.specs.Apart.{AreApart, rows_of, near_from};
+ghost use Rattle.tacho_reading.specs.Apart.{AreRowsApart, driver_rows, near_from};
 
 use sqlite::{Alter, Transaction};
 use std::alloc::Global;
@@ -30,7 +30,7 @@ pub fn rows_near<S: Alter>(
     start: u32,
     past: u32,
 ) -> Result<Vec<StoredSpan>, TableFault>
-    ensures { Finds S.Store tx.old.conn tx.new.conn result (λ t found. AreApart (rows_of driver (spans_in table t))
+    ensures { Finds S.Store tx.old.conn tx.new.conn result (λ t found. AreRowsApart (driver_rows driver (spans_in table t))
         → IsReadNear (spans_in table t) driver start past found.items) }
 {
     let before = spans::last_before(tx, table, driver, start)?;

@@ -5,9 +5,9 @@ ghost use Rattle.tacho_line.specs.Line.{mark_at};
 ghost use Rattle.tacho_hours.specs.Limits.{latest};
 ghost use Rattle.tacho_hours.specs.Line.{IsBase};
 ghost use Rattle.tacho_state.specs.State.{State};
-ghost use Rattle.tacho_state.specs.Steps.{owner, named, lined, listed, downloaded, reported};
-ghost use Rattle.tacho_state.specs.Reported.{AreStretchesOf, IsHeldWithin, IsReportOf};
-ghost use Rattle.tacho_stretches.specs.Stretches.{judged};
+ghost use Rattle.tacho_state.specs.Steps.{owner, name_reading, line_reading, entries_reading, file_reading, report_reading};
+ghost use Rattle.tacho_state.specs.Reported.{AreStretchesOf, IsHeldWithin, IsDriverReport};
+ghost use Rattle.tacho_stretches.specs.Stretches.{judged_of};
 ghost use Rattle.tacho_state.specs.Summaries.{AreSummaries, told_summary};
 ghost use Rattle.tacho_state.specs.Acts.{Answers};
 ghost use Rattle.tacho_reading.specs.Calls.{Tells};
@@ -91,7 +91,7 @@ pub fn drivers<S: Alter>(
 /// Reads a driver's name, within a transaction: S4.
 fn name_in<S: Alter>(tx: &mut Transaction<'_, S>, driver: u32) -> Result<String, StoreFault>
     ensures { Tells S.Store tx.old.conn tx.new.conn result
-        (λ _ s. Answers (λ name. string_bytes name) result (named driver s)) }
+        (λ _ s. Answers (λ name. string_bytes name) result (name_reading driver s)) }
 {
     let stored = driver_with(tx, driver)?;
     Ok(stored.name)
@@ -101,7 +101,7 @@ fn name_in<S: Alter>(tx: &mut Transaction<'_, S>, driver: u32) -> Result<String,
 pub fn name<S: Alter>(conn: &mut Connection<S>, driver: u32) -> Result<String, StoreFault>
     requires { conn.old.in_transaction ≡ false }
     ensures autocommit { conn.new.in_transaction ≡ false }
-    ensures reads { ReadsOn S.Store (λ name. string_bytes name) conn.old conn.new result (named driver) }
+    ensures reads { ReadsOn S.Store (λ name. string_bytes name) conn.old conn.new result (name_reading driver) }
 {
     let _settled = conn.is_autocommit();
     let mut tx = conn.transaction();
@@ -120,7 +120,7 @@ fn download_in<S: Alter>(
     number: u32,
 ) -> Result<Vec<u8>, StoreFault>
     ensures { Tells S.Store tx.old.conn tx.new.conn result
-        (λ _ s. Answers (λ bytes. bytes.items) result (downloaded driver number s)) }
+        (λ _ s. Answers (λ bytes. bytes.items) result (file_reading driver number s)) }
 {
     driver_with(tx, driver)?;
     let file = downloads::file(tx, driver, number).map_err(store_fault)?;
@@ -135,7 +135,7 @@ pub fn download<S: Alter>(
 ) -> Result<Vec<u8>, StoreFault>
     requires { conn.old.in_transaction ≡ false }
     ensures autocommit { conn.new.in_transaction ≡ false }
-    ensures reads { ReadsOn S.Store (λ bytes. bytes.items) conn.old conn.new result (downloaded driver number) }
+    ensures reads { ReadsOn S.Store (λ bytes. bytes.items) conn.old conn.new result (file_reading driver number) }
 {
     let _settled = conn.is_autocommit();
     let mut tx = conn.transaction();
@@ -154,7 +154,7 @@ fn line_in<S: Alter>(
     driver: u32,
 ) -> Result<Line, StoreFault>
     ensures { Tells S.Store tx.old.conn tx.new.conn result
-        (λ _ s. Answers (λ line. mark_at line) result (lined driver s)) }
+        (λ _ s. Answers (λ line. mark_at line) result (line_reading driver s)) }
 {
     driver_with(tx, driver)?;
     let rows = held::of_driver(alloc, tx, driver).map_err(store_fault)?;
@@ -169,7 +169,7 @@ pub fn line<S: Alter>(
 ) -> Result<Line, StoreFault>
     requires { conn.old.in_transaction ≡ false }
     ensures autocommit { conn.new.in_transaction ≡ false }
-    ensures reads { ReadsOn S.Store (λ line. mark_at line) conn.old conn.new result (lined driver) }
+    ensures reads { ReadsOn S.Store (λ line. mark_at line) conn.old conn.new result (line_reading driver) }
 {
     let _settled = conn.is_autocommit();
     let mut tx = conn.transaction();
@@ -190,7 +190,7 @@ fn line_within_in<S: Alter>(
     past: Minute,
 ) -> Result<Line, StoreFault>
     ensures { Tells S.Store tx.old.conn tx.new.conn result
-        (λ _ s. Answers (λ _. tt) result (reported driver s) × IfOk result (IsHeldWithin driver start past s)) }
+        (λ _ s. Answers (λ _. tt) result (report_reading driver s) × IfOk result (IsHeldWithin driver start past s)) }
 {
     driver_with(tx, driver)?;
     let rows = rows_near(
@@ -215,7 +215,7 @@ pub fn line_within<S: Alter>(
 ) -> Result<Line, StoreFault>
     requires { conn.old.in_transaction ≡ false }
     ensures autocommit { conn.new.in_transaction ≡ false }
-    ensures reads { ReadsOn S.Store (λ _. tt) conn.old conn.new result (reported driver) }
+    ensures reads { ReadsOn S.Store (λ _. tt) conn.old conn.new result (report_reading driver) }
     ensures within { HasCleanDisk (state S.Store conn.new) → (s : State) → SeesWhileOpen (state S.Store conn.old) s
         → IfOk result (IsHeldWithin driver start past s) }
 {
@@ -236,7 +236,7 @@ fn entries_in<S: Alter>(
     driver: u32,
 ) -> Result<Vec<Entry>, StoreFault>
     ensures { Tells S.Store tx.old.conn tx.new.conn result
-        (λ _ s. Answers (λ entries. entries.items) result (listed driver s)) }
+        (λ _ s. Answers (λ entries. entries.items) result (entries_reading driver s)) }
 {
     driver_with(tx, driver)?;
     let rows = entries::of_driver(alloc, tx, driver).map_err(store_fault)?;
@@ -251,7 +251,7 @@ pub fn entries<S: Alter>(
 ) -> Result<Vec<Entry>, StoreFault>
     requires { conn.old.in_transaction ≡ false }
     ensures autocommit { conn.new.in_transaction ≡ false }
-    ensures reads { ReadsOn S.Store (λ entries. entries.items) conn.old conn.new result (listed driver) }
+    ensures reads { ReadsOn S.Store (λ entries. entries.items) conn.old conn.new result (entries_reading driver) }
 {
     let _settled = conn.is_autocommit();
     let mut tx = conn.transaction();
@@ -281,7 +281,7 @@ fn begin_in<S: Alter>(
 ) -> Result<Beginning, StoreFault>
     ensures base { IfOk result (λ begin. IsBase begin.base × (begin.base ≤ latest)) }
     ensures begun { Tells S.Store tx.old.conn tx.new.conn result
-        (λ db s. Answers (λ _. tt) result (reported driver s) × IfOk result (IsBegun db driver from s)) }
+        (λ db s. Answers (λ _. tt) result (report_reading driver s) × IfOk result (IsBegun db driver from s)) }
 {
     let stored = driver_with(tx, driver)?;
     let Some(base) = base_of(stored.base) else {
@@ -304,7 +304,7 @@ fn begin<S: Alter>(
     requires { conn.old.in_transaction ≡ false }
     ensures autocommit { conn.new.in_transaction ≡ false }
     ensures base { IfOk result (λ begin. IsBase begin.base × (begin.base ≤ latest)) }
-    ensures reads { ReadsOn S.Store (λ _. tt) conn.old conn.new result (reported driver) }
+    ensures reads { ReadsOn S.Store (λ _. tt) conn.old conn.new result (report_reading driver) }
     ensures begun { HasCleanDisk (state S.Store conn.new) → (s : State) → SeesWhileOpen (state S.Store conn.old) s
         → IfOk result (IsBegun (state S.Store conn.new).now.trees driver from s) }
 {
@@ -326,9 +326,9 @@ pub fn report<S: Alter>(
 ) -> Result<Report, StoreFault>
     requires { conn.old.in_transaction ≡ false }
     ensures autocommit { conn.new.in_transaction ≡ false }
-    ensures reads { ReadsOn S.Store (λ _. tt) conn.old conn.new result (reported driver) }
+    ensures reads { ReadsOn S.Store (λ _. tt) conn.old conn.new result (report_reading driver) }
     ensures report { HasCleanDisk (state S.Store conn.new) → (s : State) → SeesWhileOpen (state S.Store conn.old) s
-        → IfOk result (IsReportOf driver s) }
+        → IfOk result (IsDriverReport driver s) }
 {
     let Beginning { base, start } = begin(conn, driver, Minute::new(LATEST))?;
     let mut scan = Scan::new(base);
@@ -345,9 +345,9 @@ pub fn stretches<S: Alter>(
 ) -> Result<Vec<Stretch>, StoreFault>
     requires { conn.old.in_transaction ≡ false }
     ensures autocommit { conn.new.in_transaction ≡ false }
-    ensures reads { ReadsOn S.Store (λ _. tt) conn.old conn.new result (reported driver) }
+    ensures reads { ReadsOn S.Store (λ _. tt) conn.old conn.new result (report_reading driver) }
     ensures stretches { HasCleanDisk (state S.Store conn.new) → (s : State) → SeesWhileOpen (state S.Store conn.old) s
-        → IfOk result (λ found. AreStretchesOf driver s (map judged found.items)) }
+        → IfOk result (λ found. AreStretchesOf driver s (map judged_of found.items)) }
 {
     let end = Minute::new(LATEST);
     let (_, found) = line_and_stretches(alloc, conn, driver, end, end)?;
@@ -365,11 +365,11 @@ pub fn line_and_stretches<S: Alter>(
 ) -> Result<(Line, Vec<Stretch>), StoreFault>
     requires { conn.old.in_transaction ≡ false }
     ensures autocommit { conn.new.in_transaction ≡ false }
-    ensures reads { ReadsOn S.Store (λ _. tt) conn.old conn.new result (reported driver) }
+    ensures reads { ReadsOn S.Store (λ _. tt) conn.old conn.new result (report_reading driver) }
     ensures within { HasCleanDisk (state S.Store conn.new) → (s : State) → SeesWhileOpen (state S.Store conn.old) s
         → IfOk result (λ found. IsHeldWithin driver start past s found.0) }
     ensures stretches { HasCleanDisk (state S.Store conn.new) → (s : State) → SeesWhileOpen (state S.Store conn.old) s
-        → IfOk result (λ found. AreStretchesOf driver s (map judged found.1.items)) }
+        → IfOk result (λ found. AreStretchesOf driver s (map judged_of found.1.items)) }
 {
     let Beginning { base, start: first } = begin(conn, driver, start)?;
     let mut pass = StretchPass::new(alloc, base);

@@ -4,7 +4,7 @@ ghost use Rattle.tacho_time.specs.Spans.{Gives, IsCanonical, IsCanonicalOf};
 ghost use Rattle.tacho_state.specs.Disjoint.{AreInRange};
 ghost use Rattle.tacho_state.specs.Summaries.{told_summary};
 ghost use Rattle.tacho_tables.specs.Tables.{row_of, told_driver, told_entry};
-ghost use Rattle.tacho_reading.specs.Standing.{activity_number, mark_number, numbered_activity, numbered_mark, stored_span, span_row, listed_as, summarized, HasDay, IsFit, IsListed, AreFaulty};
+ghost use Rattle.tacho_reading.specs.Standing.{activity_number, mark_number, numbered_activity, numbered_mark, stored_span, span_row, listed_as, summary_of_listed, HasBaseDay, IsFit, IsListed, HaveNoLine};
 
 use std::alloc::{AllocError, Global};
 use tacho_line::Line;
@@ -119,7 +119,7 @@ pub fn fault_of_rows(fault: SpanFault) -> StoreFault
 pub fn line_of_stored(alloc: Global, rows: &[StoredSpan]) -> Result<Line, StoreFault>
     ensures line { IfOk result (λ line. IsCanonicalOf (Gives (map stored_span rows.now)) line) }
     ensures fault { IfErr result (λ fault. OrMemory StoreFault.Memory fault (fault ≡ StoreFault.Store)) }
-    ensures cause { result ≡ Err StoreFault.Store → AreFaulty rows.now }
+    ensures cause { result ≡ Err StoreFault.Store → HaveNoLine rows.now }
 {
     let spans = spans_of(alloc, rows)?;
     match line_of(alloc, &spans) {
@@ -175,8 +175,8 @@ fn day_of(number: u32) -> Option<Day>
 
 /// Returns what is listed of a stored driver, if an archive can have written the row.
 fn summary_of(row: StoredDriver) -> Option<DriverSummary>
-    ensures some { IfSome result (λ summary. told_summary summary ≡ summarized (told_driver row)) }
-    ensures none { IsNone result ↔ (¬ HasDay (told_driver row)) }
+    ensures some { IfSome result (λ summary. told_summary summary ≡ summary_of_listed (told_driver row)) }
+    ensures none { IsNone result ↔ (¬ HasBaseDay (told_driver row)) }
 {
     Some(DriverSummary {
         number: row.number,
@@ -193,9 +193,9 @@ pub fn summaries_of(
     alloc: Global,
     rows: Vec<StoredDriver>,
 ) -> Result<Vec<DriverSummary>, StoreFault>
-    ensures drivers { IfOk result (λ drivers. map told_summary drivers.items ≡ map summarized (map told_driver rows.items)) }
+    ensures drivers { IfOk result (λ drivers. map told_summary drivers.items ≡ map summary_of_listed (map told_driver rows.items)) }
     ensures fault { IfErr result (λ fault. OrMemory StoreFault.Memory fault (fault ≡ StoreFault.Store)) }
-    ensures cause { result ≡ Err StoreFault.Store → ¬ All HasDay (map told_driver rows.items) }
+    ensures cause { result ≡ Err StoreFault.Store → ¬ All HasBaseDay (map told_driver rows.items) }
 {
     let mut drivers = Vec::new(alloc);
     for row in rows {

@@ -4,7 +4,7 @@ ghost use Rattle.std.specs.Prelude.{◌≡◌, ◌++◌, ◌∷◌, [], false, f
 ghost use Rattle.sqlite.specs.State.{HasCleanDisk};
 ghost use Rattle.sqlite.specs.Held.{state};
 ghost use Rattle.tacho_tables.specs.Tables.{Tables, HasTables, IsArchive};
-ghost use Rattle.tacho_reading.specs.Kept.{IsGivenUp};
+ghost use Rattle.tacho_reading.specs.Kept.{HasGivenUp};
 ghost use Rattle.tacho_reading.specs.Standing.{stored_span};
 ghost use Rattle.tacho_reading.specs.Taken.{ReadsRows, ReadsSettled};
 ghost use Rattle.tacho_reading.specs.Stretching.{HasTakenOn, HasTakenRows, HasTakenHeld, is_stored_near};
@@ -21,7 +21,7 @@ use tacho_time::Minute;
 /// Feeds the pass the span of one row. A row that no archive writes, or that begins before the last one ended, is a store failure.
 fn take(row: &StoredSpan, pass: &mut StretchPass) -> Result<(), StoreFault>
     ensures took { OnOk result (HasTakenOn pass.old pass.new (stored_span row.now ∷ [])) }
-    ensures refused { IfErr result IsGivenUp }
+    ensures refused { IfErr result HasGivenUp }
 {
     let Some(span) = span_of(row) else {
         return Err(StoreFault::Store);
@@ -57,7 +57,7 @@ fn take_rows<S: Alter>(
     near: &mut Vec<StoredSpan>,
 ) -> Result<(), StoreFault>
     ensures reads { ReadsRows S.Store result rows.old.conn rows.new.conn }
-    ensures refused { IfErr result IsGivenUp }
+    ensures refused { IfErr result HasGivenUp }
     ensures took { HasCleanDisk (state S.Store rows.new.conn.now)
         → OnOk result (HasTakenRows S.Store rows.old.conn.now rows.new.conn.now start past pass.old pass.new near.old.items near.new.items) }
 {
@@ -85,7 +85,7 @@ pub fn take_held<S: Alter>(
 ) -> Result<(), StoreFault>
     requires settled { conn.old.in_transaction ≡ false }
     ensures reads { ReadsSettled S.Store result conn.old conn.new }
-    ensures refused { IfErr result IsGivenUp }
+    ensures refused { IfErr result HasGivenUp }
     ensures took { HasCleanDisk (state S.Store conn.new) → IsArchive (state S.Store conn.old).now
         → (t : Tables) → HasTables (state S.Store conn.old).now.trees t
         → OnOk result (HasTakenHeld driver first start past t.held pass.old pass.new near.old.items near.new.items) }

@@ -27,12 +27,12 @@ use Rattle.tacho_hours.proofs.ExactlyLemmas.{exactly_as}
 use Rattle.tacho_pass.specs.Kinds.{is_b9}
 use Rattle.tacho_choice.specs.declared.outcome.TheConstants.{ANY}
 use Rattle.tacho_choice.specs.declared.week.WeekOfRests.{WeekOfRests}
-use Rattle.tacho_choice.specs.Weeks.{first_of, last_of, IsInWeeks, IsWeekOf, IsWeekOfRests, week_none, week_with}
+use Rattle.tacho_choice.specs.Weeks.{first_week_of, last_of, IsInWeeks, IsWeekOf, IsWeekOfRests, week_none, week_with}
 use Rattle.tacho_choice.proofs.ConnectingLemmas.{order}
 use Rattle.tacho_choice.proofs.SeenLemmas.{seen_none, seen_agree, seen_more, seen_whole}
 use Rattle.tacho_rests.specs.Choices.{unserved_breach, week_of_last, IsStep, IsJudged, IsLackingBefore, IsSeen}
 use Rattle.tacho_rests.specs.Choices.{IsLastSeen}
-use Rattle.tacho_rests.specs.Choices.{IsAtFirst, IsBehind, AreChoices}
+use Rattle.tacho_rests.specs.Choices.{IsAtFirst, IsAfter, AreChoices}
 use Rattle.tacho_rests.proofs.ClosingLemmas.{some_left, closed_anew, closed_on, none_on, fails_on}
 
 -- the breaches for the weeks before week n, by the number of the week
@@ -187,7 +187,7 @@ module _ (line : Line) (weeks : IsInWeeks line) (horizon first start w : ℕ) (c
   all_seen = seen_agree (IsSeen line start) (IsWeeklyRest line) w current
       (λ x a b. (
         λ seen. seen.0,
-        λ is. (is, let first : first_of x ≤ w = a in all x is (omega arith)),
+        λ is. (is, let first : first_week_of x ≤ w = a in all x is (omega arith)),
       )) s.current_is
 
   here : IsWeekOf line w current.rests
@@ -198,9 +198,9 @@ module _ (line : Line) (weeks : IsInWeeks line) (horizon first start w : ℕ) (c
 
   module _ (next : List Bool) (more : List Breach) (j : IsJudged w current rested outcomes next more) where
     -- the first week
-    first_behind : IsAtFirst first w rested outcomes own → IsBehind line horizon first (w + 1) current.whole next
+    first_after : IsAtFirst first w rested outcomes own → IsAfter line horizon first (w + 1) current.whole next
         (own ++ more)
-    first_behind at =
+    first_after at =
         let first_week : IsWeekOf line first current.rests = subst (λ (v : ℕ). IsWeekOf line v current.rests) at.here
         here in
         let asked : (not rested && not current.whole) ≡ false = rw at.rests refl in
@@ -228,7 +228,7 @@ module _ (line : Line) (weeks : IsInWeeks line) (horizon first start w : ℕ) (c
         ]
 
     -- a week after a closed one
-    module _ (b : IsBehind line horizon first w rested outcomes own) where
+    module _ (b : IsAfter line horizon first w rested outcomes own) where
       next_week : IsWeekOf line (b.u + 1) current.rests
       next_week = subst (λ (v : ℕ). IsWeekOf line v current.rests) (sym b.here) here
 
@@ -260,8 +260,8 @@ module _ (line : Line) (weeks : IsInWeeks line) (horizon first start w : ℕ) (c
           let f : week_start (b.u + 1 - 1) ≡ week_start b.u = omega arith in
           rw (e, f) refl)
 
-      next_behind : IsBehind line horizon first (w + 1) current.whole next (own ++ more)
-      next_behind = elim j [
+      next_following : IsAfter line horizon first (w + 1) current.whole next (own ++ more)
+      next_following = elim j [
         | inl served ↦
             let (step, (left, some)) = served.0 in
             record {
@@ -316,7 +316,7 @@ module _ (line : Line) (weeks : IsInWeeks line) (horizon first start w : ℕ) (c
     choices_close = record {
       current_is = last_alone line weeks start w last s.last_is;
       last_is = last_on line start w last s.last_is;
-      behind = inr (elim s.behind [ inl at ↦ first_behind at | inr b ↦ next_behind b ]);
+      behind = inr (elim s.behind [ inl at ↦ first_after at | inr b ↦ next_following b ]);
     }
 
 -- after all weeks that have ended were closed, all breaches are found

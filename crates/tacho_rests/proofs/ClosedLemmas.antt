@@ -25,7 +25,7 @@ use Rattle.tacho_hours.proofs.ByRunsLemmas.{one_run}
 use Rattle.tacho_hours.proofs.MainRestLemmas.{one_week}
 use Rattle.tacho_rests.specs.Turns.{OwesBefore, AreDebtsBefore, StartsBefore, AreTurns, IsNewDebt, IsWeekOf, IsMainOf}
 use Rattle.tacho_rests.specs.Turns.{IsOwedOf}
-use Rattle.tacho_rests.specs.Paying.{push_few, takes, pay_all, longer, longest, debt_for, is_main, turn, turns}
+use Rattle.tacho_rests.specs.Paying.{push_few, takes, pay_all, longer, longest_rest, debt_for, is_main, turn, turns}
 use Rattle.tacho_rests.proofs.TurnsLemmas.{before_turn, first_is, turns_pay, turns_add, turns_end}
 use Rattle.tacho_rests.proofs.PayingLemmas.{IsOpen, shares_none, pay_turns, skip_turns}
 
@@ -136,10 +136,10 @@ best_more end seen (Some main) rest before is =
 -- with all rests
 best_all : (end : ℕ) (seen rests : List Run) (main : Option Run) → AllPairs StartsBefore rests
     → ((x y : Run) → Contains seen x → Contains rests y → x.start < y.start) → IsBest end seen main
-    → IsBest end (seen ++ rests) (longest end main rests)
+    → IsBest end (seen ++ rests) (longest_rest end main rests)
 best_all end seen [] main order before is = subst (λ (xs : List Run). IsBest end xs main) (sym (append-nil seen)) is
 best_all end seen (rest ∷ rests) main order before is =
-    subst (λ (xs : List Run). IsBest end xs (longest end (longer end main rest) rests))
+    subst (λ (xs : List Run). IsBest end xs (longest_rest end (longer end main rest) rests))
     (append_assoc seen (rest ∷ []) rests)
     (best_all end (seen ++ rest ∷ []) rests (longer end main rest) (tail_order StartsBefore rest rests order)
     (λ x y in' in''. elim (Contains-push_cases seen rest x in') [
@@ -148,7 +148,7 @@ best_all end seen (rest ∷ rests) main order before is =
     ])
     (best_more end seen main rest (λ x in'. before x rest in' (contains_head rest rests)) is))
 
-best_of : (end : ℕ) (rests : List Run) → AllPairs StartsBefore rests → IsBest end rests (longest end None rests)
+best_of : (end : ℕ) (rests : List Run) → AllPairs StartsBefore rests → IsBest end rests (longest_rest end None rests)
 unfolding IsBest
 best_of end rests order = best_all end [] rests None order (λ x y (k, within, is) in'. absurd (omega arith))
     (λ x (k, within, is). absurd (omega arith))
@@ -195,8 +195,8 @@ module _ (line : Line) (horizon end w b e : ℕ) (rests : List Run) (debts : Lis
       }
 
   -- the rest that is found is the main rest
-  pub main_found : IsMainOf line horizon w (longest end None rests)
-  main_found = main_of (longest end None rests) (best_of end rests t.in_order)
+  pub main_found : IsMainOf line horizon w (longest_rest end None rests)
+  main_found = main_of (longest_rest end None rests) (best_of end rests t.in_order)
 
 -- a week has one main rest
 one_main : (line : Line) (horizon w : ℕ) (runs : List Run) → AreRestRuns line runs → (a b : Run)

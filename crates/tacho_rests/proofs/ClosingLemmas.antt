@@ -17,14 +17,14 @@ use Rattle.tacho_choice.specs.declared.outcome.Outcome.{Outcome}
 use Rattle.tacho_choice.specs.declared.outcome.TheConstants.{ANY}
 use Rattle.tacho_choice.specs.declared.weekly_rests.WeeklyRests.{WeeklyRests}
 use Rattle.tacho_choice.specs.Counted.{IsOneOf}
-use Rattle.tacho_choice.specs.Step.{Holds, IsNext, IsFirst, plus_where}
-use Rattle.tacho_choice.specs.Weeks.{first_of, last_of, is_regular, IsInWeeks, IsWeekOf, CanReach}
+use Rattle.tacho_choice.specs.Step.{HasOutcome, IsNext, IsFirst, plus_where}
+use Rattle.tacho_choice.specs.Weeks.{first_week_of, last_of, is_regular, IsInWeeks, IsWeekOf, CanReach}
 use Rattle.tacho_choice.proofs.ConnectingLemmas.{order, can_serve_is}
 use Rattle.tacho_choice.proofs.LawfulLemmas.{reach_law, start_law, serve_law}
 use Rattle.tacho_choice.proofs.SeenLemmas.{asks_is}
 use Rattle.tacho_rests.specs.Choices.{IsStep, IsClosed}
 
-any_holds : (crossing : Bool) → Holds ANY (record { counted = Nothing; crossing = crossing })
+any_holds : (crossing : Bool) → HasOutcome ANY (record { counted = Nothing; crossing = crossing })
 any_holds true = refl
 any_holds false = refl
 
@@ -48,13 +48,13 @@ module _ (line : Line) (is : IsInWeeks line) (horizon first : ℕ) where
   })
 
   edge_there : (w : ℕ) (r : Run) (edge : Option Bool)
-      → IsOneOf is_regular (λ rest. IsWeeklyRest line rest × (first_of rest < w) × (w ≤ last_of rest)) edge
-      → IsWeeklyRest line r × (first_of r < w) × (w ≤ last_of r) → is_some edge ≡ true
+      → IsOneOf is_regular (λ rest. IsWeeklyRest line rest × (first_week_of rest < w) × (w ≤ last_of rest)) edge
+      → IsWeeklyRest line r × (first_week_of r < w) × (w ≤ last_of r) → is_some edge ≡ true
   edge_there w r None none e = absurd (none r e)
   edge_there w r (Some l) some e = refl
 
   any_first : (w : ℕ) (week : WeeklyRests) → IsWeekOf line w week → (s : Outcome)
-      → ((old : Outcome) × (Holds ANY old × IsNext week false old s)) ↔ IsFirst week s
+      → ((old : Outcome) × (HasOutcome ANY old × IsNext week false old s)) ↔ IsFirst week s
   any_first w week here s = (
     λ x. elim (cases_Bool (is_some week.entering)) [
       | inl some ↦
@@ -88,13 +88,13 @@ module _ (line : Line) (is : IsInWeeks line) (horizon first : ℕ) where
   -- a week from which choices start: some outcome is left of it, and these are the outcomes
   module _ (a : ℕ) (week : WeeklyRests) (here : IsWeekOf line a week) (next : List Bool)
       (step : IsStep week false ANY next) where
-    each_anew : (s : Outcome) → Holds next s ↔ CanReach line a a s
+    each_anew : (s : Outcome) → HasOutcome next s ↔ CanReach line a a s
     each_anew s = (
       λ h. (start_law line a week s is here).1 ((any_first a week here s).0 ((step s).0 h)),
       λ h. (step s).1 ((any_first a week here s).1 ((start_law line a week s is here).0 h)),
     )
 
-    pub some_left : (s : Outcome) × Holds next s
+    pub some_left : (s : Outcome) × HasOutcome next s
     some_left =
         let some = (serve_law line a a week is here).0 (serve_none a) in
         (some.0, (each_anew some.0).1 some.1)
@@ -118,7 +118,7 @@ module _ (line : Line) (is : IsInWeeks line) (horizon first : ℕ) where
       (week : WeeklyRests) (here : IsWeekOf line (u + 1) week)
       (whole : Bool) (wholly : (whole ≡ true) ↔ IsWhollyAtRest line (u + 1)) (next : List Bool)
       (step : IsStep week (not rested && not whole) outcomes next) where
-    each_next : (s : Outcome) → Holds next s ↔ CanReach line r.start (u + 1) s
+    each_next : (s : Outcome) → HasOutcome next s ↔ CanReach line r.start (u + 1) s
     each_next s =
         let law = reach_law line r.start u r.week week (not rested && not whole) s is r.within r.is_week here
         (asks_is line u rested whole r.rests wholly) in (
@@ -126,11 +126,11 @@ module _ (line : Line) (is : IsInWeeks line) (horizon first : ℕ) where
           λ h. let x = law.0 h in (step s).1 (x.0, ((r.each x.0).1 x.1.0, x.1.1)),
         )
 
-    serves_on : (s : Outcome) → Holds next s → CanServe line r.start (u + 1)
+    serves_on : (s : Outcome) → HasOutcome next s → CanServe line r.start (u + 1)
     serves_on s some = (serve_law line r.start (u + 1) week is here).1 (s, (each_next s).0 some)
 
     -- some choice is valid up to this week, so there is no breach
-    pub closed_on : (s : Outcome) → Holds next s → IsClosed line horizon first (u + 1) whole next
+    pub closed_on : (s : Outcome) → HasOutcome next s → IsClosed line horizon first (u + 1) whole next
     closed_on s some = record {
       start = r.start;
       starts = r.starts;
@@ -142,13 +142,13 @@ module _ (line : Line) (is : IsInWeeks line) (horizon first : ℕ) where
       is_week = here;
     }
 
-    pub none_on : (s : Outcome) → Holds next s → Fails (CanServe line) (EndedBy horizon) first (u + 1) → ⊥
+    pub none_on : (s : Outcome) → HasOutcome next s → Fails (CanServe line) (EndedBy horizon) first (u + 1) → ⊥
     none_on s some =
         none_at (CanServe line) (EndedBy horizon) first (serves_less line) r.start u r.starts r.within r.serves
         (serves_on s some)
 
     -- or no choice is valid up to this week
-    pub fails_on : ((s : Outcome) → Holds next s → ⊥) → EndedBy horizon (u + 1)
+    pub fails_on : ((s : Outcome) → HasOutcome next s → ⊥) → EndedBy horizon (u + 1)
         → Fails (CanServe line) (EndedBy horizon) first (u + 1)
     fails_on none ended =
         fails_at (CanServe line) (EndedBy horizon) first (serves_less line) r.start u r.starts r.within r.serves ended

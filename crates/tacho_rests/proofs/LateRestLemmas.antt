@@ -17,7 +17,7 @@ use Rattle.tacho_hours.proofs.DebtsLemmas.{separate}
 use Rattle.tacho_hours.proofs.ByRunsLemmas.{one_run}
 use Rattle.tacho_hours.proofs.OrderLemmas.{same_breach}
 use Rattle.tacho_hours.proofs.ExactlyLemmas.{exactly_as, exactly_skip, exactly_add}
-use Rattle.tacho_pass.specs.Found.{listed}
+use Rattle.tacho_pass.specs.Found.{as_list}
 use Rattle.tacho_rests.specs.Lateness.{late_of, IsLateBefore, IsLastRest, IsLateSoFar}
 
 -- if no weekly rest starts, nothing changes
@@ -28,8 +28,8 @@ late_keep line start next end own from none s = record {
   last = last_keep end s.last;
   found = exactly_as (λ breach. IsLateBefore line start breach) (λ breach. IsLateBefore line next breach) Apart own
       (λ breach. (
-        λ h. record { kind = h.kind; is = h.is; before = let b : h.is.b.start < start = h.before in omega arith },
-        λ h. record { kind = h.kind; is = h.is; before = none h.is.b h.is.neighbours.second h.before },
+        λ h. record { kind = h.kind; is = h.is; before = let b : h.is.later.start < start = h.before in omega arith },
+        λ h. record { kind = h.kind; is = h.is; before = none h.is.later h.is.neighbours.second h.before },
       )) s.found;
 } where
   last_keep : (end : Option ℕ)
@@ -52,13 +52,13 @@ module _ (line : Line) (runs : List Run) (are : AreRestRuns line runs) (start ne
     (only : (x : Run) → IsRestOf line 1440 x → x.start < next → (x.start < start) ⊎ (x ≡ rest)) where
   -- a late start of this rest
   Here : Breach → Type 0
-  Here breach = (kind : breach.kind ≡ B8) × (h : IsB8 line breach) × (h.b ≡ rest)
+  Here breach = (kind : breach.kind ≡ B8) × (h : IsB8 line breach) × (h.later ≡ rest)
 
   before_here : (breach : Breach) → IsLateBefore line start breach → IsLateBefore line next breach
   before_here breach h = record {
     kind = h.kind;
     is = h.is;
-    before = let b : h.is.b.start < start = h.before in omega arith;
+    before = let b : h.is.later.start < start = h.before in omega arith;
   }
 
   both_next : (breach : Breach) → (IsLateBefore line start breach ⊎ Here breach) ↔ IsLateBefore line next breach
@@ -68,7 +68,7 @@ module _ (line : Line) (runs : List Run) (are : AreRestRuns line runs) (start ne
       | inl old ↦ before_here breach old
       | inr new ↦ record { kind = new.0; is = new.1; before = subst (λ (x : Run). x.start < next) (sym new.2) below }
     ],
-    λ h. elim (only h.is.b h.is.neighbours.second h.before) [
+    λ h. elim (only h.is.later h.is.neighbours.second h.before) [
       | inl old ↦ inl (record { kind = h.kind; is = h.is; before = old })
       | inr same ↦ inr (h.kind, h.is, same)
     ],
@@ -126,18 +126,18 @@ module _ (line : Line) (runs : List Run) (are : AreRestRuns line runs) (start ne
           | inr same ↦ absurd (let e : a.start ≡ rest.start = ap (λ (x : Run). x.start) same in omega arith)
         ]
 
-    since_is : (breach : Breach) (h : IsB8 line breach) → h.b ≡ rest → h.a.past ≡ p
+    since_is : (breach : Breach) (h : IsB8 line breach) → h.later ≡ rest → h.earlier.past ≡ p
     since_is breach h same =
-        ap (λ (x : Run). x.past) (one_last h.a (subst (λ (x : Run). AreNeighbours line 1440 h.a x) same h.neighbours))
+        ap (λ (x : Run). x.past) (one_last h.earlier (subst (λ (x : Run). AreNeighbours line 1440 h.earlier x) same h.neighbours))
         ∙ last.ends
 
-    start_is : (breach : Breach) (h : IsB8 line breach) → h.b ≡ rest → h.b.start ≡ rest.start
+    start_is : (breach : Breach) (h : IsB8 line breach) → h.later ≡ rest → h.later.start ≡ rest.start
     start_is breach h same = ap (λ (x : Run). x.start) same
 
     late_if : (own : List Breach) (b : Bool) → nat_lt (p + 8640) rest.start ≡ b
         → AreCollected (λ breach. IsLateBefore line start breach) own
         → AreCollected (λ breach. IsLateBefore line next breach)
-        (own ++ listed
+        (own ++ as_list
         (if b then Some (record { kind = B8; moment = p + 8640; since = p; amount = rest.start - (p + 8640) })
         else None))
     unfolding Here
@@ -147,8 +147,8 @@ module _ (line : Line) (runs : List Run) (are : AreRestRuns line runs) (start ne
         let ends : last.rest.past ≡ p = last.ends in
         let is' : IsB8 line new =
         record {
-          a = last.rest;
-          b = rest;
+          earlier = last.rest;
+          later = rest;
           neighbours = neighbours;
           moment = omega arith;
           since = omega arith;
@@ -159,18 +159,18 @@ module _ (line : Line) (runs : List Run) (are : AreRestRuns line runs) (start ne
         Apart (own ++ new ∷ []) both_next
         (exactly_add (λ breach. IsLateBefore line start breach) Here Apart own new r (refl, is', refl)
         (λ breach h.
-        (let a : h.1.a.past ≡ p = since_is breach h.1 h.2 in
-        let b : h.1.b.start ≡ rest.start = start_is breach h.1 h.2 in
-        let m : breach.moment ≡ h.1.a.past + 8640 = h.1.moment in
-        let s : breach.since ≡ h.1.a.past = h.1.since in
-        let n : breach.moment + breach.amount ≡ h.1.b.start = h.1.amount in
+        (let a : h.1.earlier.past ≡ p = since_is breach h.1 h.2 in
+        let b : h.1.later.start ≡ rest.start = start_is breach h.1 h.2 in
+        let m : breach.moment ≡ h.1.earlier.past + 8640 = h.1.moment in
+        let s : breach.since ≡ h.1.earlier.past = h.1.since in
+        let n : breach.moment + breach.amount ≡ h.1.later.start = h.1.amount in
         same_breach new breach (sym h.0) (omega arith) (omega arith) (omega arith)))
         (λ breach h agree.
-        (let s : breach.since ≡ h.is.a.past = h.is.since in
+        (let s : breach.since ≡ h.is.earlier.past = h.is.since in
         let t : breach.since ≡ p = agree.since in
-        let old : h.is.b.start < start = h.before in
-        let most : h.is.b.start ≤ last.rest.start = last.last h.is.b h.is.neighbours.second old in
-        let order : h.is.a.past < h.is.b.start = h.is.neighbours.before in
+        let old : h.is.later.start < start = h.before in
+        let most : h.is.later.start ≤ last.rest.start = last.last h.is.later h.is.neighbours.second old in
+        let order : h.is.earlier.past < h.is.later.start = h.is.neighbours.before in
         let some : last.rest.start < last.rest.past = last.is.rests.some in
         omega arith)))
     late_if own false e r =
@@ -180,18 +180,18 @@ module _ (line : Line) (runs : List Run) (are : AreRestRuns line runs) (start ne
         Apart own both_next
         (exactly_skip (λ breach. IsLateBefore line start breach) Here Apart own r
         (λ breach h.
-        (let a : h.1.a.past ≡ p = since_is breach h.1 h.2 in
-        let b : h.1.b.start ≡ rest.start = start_is breach h.1 h.2 in
-        let m : breach.moment ≡ h.1.a.past + 8640 = h.1.moment in
+        (let a : h.1.earlier.past ≡ p = since_is breach h.1 h.2 in
+        let b : h.1.later.start ≡ rest.start = start_is breach h.1 h.2 in
+        let m : breach.moment ≡ h.1.earlier.past + 8640 = h.1.moment in
         let l : 0 < breach.amount = h.1.late in
-        let n : breach.moment + breach.amount ≡ h.1.b.start = h.1.amount in
+        let n : breach.moment + breach.amount ≡ h.1.later.start = h.1.amount in
         omega arith))))
 
   found_next : (end : Option ℕ) (own : List Breach)
       → MatchOption end
       ((other : Run) → IsRestOf line 1440 other → other.start < start → ⊥) (λ p. IsLastRest line start p)
       → AreCollected (λ breach. IsLateBefore line start breach) own
-      → AreCollected (λ breach. IsLateBefore line next breach) (own ++ listed (late_of end rest))
+      → AreCollected (λ breach. IsLateBefore line next breach) (own ++ as_list (late_of end rest))
   unfolding Here
   found_next None own none r = subst (λ (xs : List Breach). AreCollected (λ breach. IsLateBefore line next breach) xs)
       (sym (append-nil own))
@@ -199,17 +199,17 @@ module _ (line : Line) (runs : List Run) (are : AreRestRuns line runs) (start ne
       Apart own both_next
       (exactly_skip (λ breach. IsLateBefore line start breach) Here Apart own r
       (λ breach h.
-      (let order : h.1.a.past < h.1.b.start = h.1.neighbours.before in
-      let some : h.1.a.start < h.1.a.past = h.1.neighbours.first.rests.some in
-      let b : h.1.b.start ≡ rest.start = ap (λ (x : Run). x.start) h.2 in
-      elim (only h.1.a h.1.neighbours.first (omega arith)) [
-        | inl old ↦ none h.1.a h.1.neighbours.first old
-        | inr same ↦ (let e : h.1.a.start ≡ rest.start = ap (λ (x : Run). x.start) same in omega arith)
+      (let order : h.1.earlier.past < h.1.later.start = h.1.neighbours.before in
+      let some : h.1.earlier.start < h.1.earlier.past = h.1.neighbours.first.rests.some in
+      let b : h.1.later.start ≡ rest.start = ap (λ (x : Run). x.start) h.2 in
+      elim (only h.1.earlier h.1.neighbours.first (omega arith)) [
+        | inl old ↦ none h.1.earlier h.1.neighbours.first old
+        | inr same ↦ (let e : h.1.earlier.start ≡ rest.start = ap (λ (x : Run). x.start) same in omega arith)
       ]))))
   found_next (Some p) own last r = late_if p last own (nat_lt (p + 8640) rest.start) refl r
 
   pub late_next : (end : Option ℕ) (own : List Breach) → IsLateSoFar line start end own
-      → IsLateSoFar line next (Some rest.past) (own ++ listed (late_of end rest))
+      → IsLateSoFar line next (Some rest.past) (own ++ as_list (late_of end rest))
   late_next end own s = record { last = last_here; found = found_next end own s.last s.found }
 
 -- after the last run, all breaches are found
@@ -219,5 +219,5 @@ pub late_all : (line : Line) (start : ℕ) (end : Option ℕ) (own : List Breach
 late_all line start end own all s = exactly_as (λ breach. IsLateBefore line start breach) (λ breach. IsLate line breach)
     Apart own (λ breach. (
       λ h. (h.kind, h.is),
-      λ h. record { kind = h.0; is = h.1; before = all h.1.b h.1.neighbours.second.rests },
+      λ h. record { kind = h.0; is = h.1; before = all h.1.later h.1.neighbours.second.rests },
     )) s.found

@@ -20,7 +20,7 @@ use Rattle.tacho_hours.proofs.RunsLemmas.{run_of}
 use Rattle.tacho_hours.proofs.ByRunsLemmas.{one_run}
 use Rattle.tacho_pass.specs.Kinds.{is_b8}
 use Rattle.tacho_pass.specs.Heard.{is_rest, start_after, run_before, Continues, IsHeard, IsLineTo}
-use Rattle.tacho_pass.specs.Found.{listed}
+use Rattle.tacho_pass.specs.Found.{as_list}
 use Rattle.tacho_pass.proofs.HearingLemmas.{line_append, line_at_end, joined_append, rests_yes, rests_no, heard_rest}
 use Rattle.tacho_pass.proofs.HearingLemmas.{heard_busy, heard_gap, by_span, line_to}
 use Rattle.tacho_rests.specs.declared.late_rest.Late.{Late}
@@ -34,7 +34,7 @@ module _ (line : Line) (runs : List Run) (are : AreRestRuns line runs) (start ne
     (only : (x : Run) → IsRestRun line x → x.start < next → (x.start < start) ⊎ (x.start ≡ start)) where
   run_if : (end : Option ℕ) (own : List Breach) (b : Bool) → nat_le 1440 (minutes_of run) ≡ b
       → IsLateSoFar line start end own
-      → IsLateSoFar line next (if b then Some run.past else end) (own ++ listed (if b then late_of end run else None))
+      → IsLateSoFar line next (if b then Some run.past else end) (own ++ as_list (if b then late_of end run else None))
   run_if end own true e s =
       late_next line runs are start next run
       (record { rests = is; enough = let f : 1440 ≤ minutes_of run = grind (arith, nat_tests) in f })
@@ -55,7 +55,7 @@ module _ (line : Line) (runs : List Run) (are : AreRestRuns line runs) (start ne
       ]) s)
 
   pub late_run_next : (end : Option ℕ) (own : List Breach) → IsLateSoFar line start end own
-      → IsLateSoFar line next (end_after end run) (own ++ listed (late_run end run))
+      → IsLateSoFar line next (end_after end run) (own ++ as_list (late_run end run))
   late_run_next end own s = run_if end own (nat_le 1440 (minutes_of run)) refl s
 
 -- one more span
@@ -109,7 +109,7 @@ module _ (spans : List Span) (s : Span) (base start : ℕ) (late : Late) (own : 
 
     ends : is_rest s.mark.activity ≡ false → start < s.start
         → IsLateUpTo line s.past s.past (end_after late.end (run_of start s.start))
-        (own ++ listed (late_run late.end (run_of start s.start)))
+        (own ++ as_list (late_run late.end (run_of start s.start)))
     ends e gap =
         let h : (e : ℕ) × (5760 ≤ e) × IsHeard line s.past s.past e = heard_on e gap in
         record {
@@ -151,13 +151,13 @@ module _ (spans : List Span) (s : Span) (base start : ℕ) (late : Late) (own : 
   -- a rest run ends at the span
   pub late_fed : (run : Run) → run_before start s ≡ Some run
       → LateStands (record { end = end_after late.end run }) (start_after start s) s.past
-      (own ++ listed (late_run late.end run)) owed base (spans ++ s ∷ [])
+      (own ++ as_list (late_run late.end run)) owed base (spans ++ s ∷ [])
   late_fed run is =
       let of = run_some start s run is in
       subst (λ (n : ℕ). LateStands (record { end = end_after late.end run }) n s.past
-      (own ++ listed (late_run late.end run)) owed base (spans ++ s ∷ [])) (sym (after_busy of.0))
+      (own ++ as_list (late_run late.end run)) owed base (spans ++ s ∷ [])) (sym (after_busy of.0))
       (subst (λ (x : Run). LateStands (record { end = end_after late.end x }) s.past s.past
-      (own ++ listed (late_run late.end x)) owed base (spans ++ s ∷ [])) of.2
+      (own ++ as_list (late_run late.end x)) owed base (spans ++ s ∷ [])) of.2
       (record {
         none = r.none;
         joined = joined;
@@ -174,11 +174,11 @@ module _ (spans : List Span) (base past start : ℕ) (late : Late) (own : List B
   line_is : IsLineTo (line_of spans) past (run_of start FAR)
   line_is = line_to spans base past x start at_end.e at_end.heard
 
-  pub late_ends : LateDefined (own ++ listed (late_run late.end (run_of start FAR))) owed base past spans
+  pub late_ends : LateDefined (own ++ as_list (late_run late.end (run_of start FAR))) owed base past spans
   late_ends = record {
     none = r.none;
     breaches = late_all (line_of spans) (start + 1) (end_after late.end (run_of start FAR))
-        (own ++ listed (late_run late.end (run_of start FAR)))
+        (own ++ as_list (late_run late.end (run_of start FAR)))
         (λ y is. (let most : y.start ≤ start = line_is.all y is in omega arith))
         (late_run_next (line_of spans) all.0 all.1 start (start + 1) (run_of start FAR) line_is.is refl (omega arith)
         (λ y is below. elim (cases_lt y.start start) [ inl old ↦ inl old | inr here ↦ inr (omega arith) ]) late.end own
@@ -188,7 +188,7 @@ module _ (spans : List Span) (base past start : ℕ) (late : Late) (own : List B
 -- all breaches have the kind B8
 of_if : (p : ℕ) (run : Run) (b : Bool)
     → All (λ (y : Breach). IsTrue (is_b8 y.kind))
-    (listed (if b then Some (record { kind = B8; moment = p + 8640; since = p; amount = run.start - (p + 8640) })
+    (as_list (if b then Some (record { kind = B8; moment = p + 8640; since = p; amount = run.start - (p + 8640) })
     else None))
 of_if p run true =
     All-cons (λ (y : Breach). IsTrue (is_b8 y.kind))
@@ -196,14 +196,14 @@ of_if p run true =
     (All-nil (λ (y : Breach). IsTrue (is_b8 y.kind)))
 of_if p run false = All-nil (λ (y : Breach). IsTrue (is_b8 y.kind))
 
-of_late : (end : Option ℕ) (run : Run) → All (λ (y : Breach). IsTrue (is_b8 y.kind)) (listed (late_of end run))
+of_late : (end : Option ℕ) (run : Run) → All (λ (y : Breach). IsTrue (is_b8 y.kind)) (as_list (late_of end run))
 of_late None run = All-nil (λ (y : Breach). IsTrue (is_b8 y.kind))
 of_late (Some p) run = of_if p run (nat_lt (p + 8640) run.start)
 
 kinds_if : (end : Option ℕ) (run : Run) (b : Bool)
-    → All (λ (y : Breach). IsTrue (is_b8 y.kind)) (listed (if b then late_of end run else None))
+    → All (λ (y : Breach). IsTrue (is_b8 y.kind)) (as_list (if b then late_of end run else None))
 kinds_if end run false = All-nil (λ (y : Breach). IsTrue (is_b8 y.kind))
 kinds_if end run true = of_late end run
 
-pub late_kinds : (end : Option ℕ) (run : Run) → All (λ (y : Breach). IsTrue (is_b8 y.kind)) (listed (late_run end run))
+pub late_kinds : (end : Option ℕ) (run : Run) → All (λ (y : Breach). IsTrue (is_b8 y.kind)) (as_list (late_run end run))
 late_kinds end run = kinds_if end run (nat_le 1440 (minutes_of run))

@@ -12,7 +12,7 @@ use Rattle.tacho_hours.specs.Line.{Line}
 use Rattle.tacho_hours.specs.Weeks.{week_start, IsInWeek}
 use Rattle.tacho_pass.specs.Heard.{IsNext, IsLineTo}
 use Rattle.tacho_rests.specs.Turns.{IsLedger, IsOpened, IsOwed}
-use Rattle.tacho_rests.specs.Paying.{push_few, rests_with, due_of, closed, overdue_of}
+use Rattle.tacho_rests.specs.Paying.{push_few, rests_with, due_of, close_debts, overdue_of}
 use Rattle.tacho_rests.proofs.OverdueOfLemmas.{overdue_append, overdue_same}
 use Rattle.tacho_rests.proofs.SoFarLemmas.{next_short, next_long, next_week, next_after, last_week, all_due}
 
@@ -20,7 +20,7 @@ module _ (line : Line) (horizon : ℕ) (last : Run) (l : IsLineTo line horizon l
   -- the ledger of the next week
   pub ledger_later : (e w : ℕ) (rests : List Run) (debts : List Debt) (own : List Breach) (owed : List Debt) (run : Run)
       (v : ℕ) → IsLedger line horizon e w rests debts own owed → IsNext line e run → IsInWeek v run.start → w ≢ v
-      → IsOpened line horizon run v [] (closed FAR true w rests debts)
+      → IsOpened line horizon run v [] (close_debts FAR true w rests debts)
       (own ++ overdue_of (week_start w) (due_of (week_start w) debts)) (owed ++ due_of (week_start w) debts)
   ledger_later e w rests debts own owed run v s n week other =
       let below : week_start w ≤ e = s.so_far.turns.below in
@@ -73,8 +73,8 @@ module _ (line : Line) (horizon : ℕ) (last : Run) (l : IsLineTo line horizon l
       → IsLedger line horizon (last.start + 1) w rests debts own owed → IsInWeek w last.start
       → IsOwed line horizon
       ((own ++ overdue_of (week_start w) (due_of (week_start w) debts)) ++ overdue_of horizon
-      (closed horizon false w rests debts))
-      ((owed ++ due_of (week_start w) debts) ++ closed horizon false w rests debts)
+      (close_debts horizon false w rests debts))
+      ((owed ++ due_of (week_start w) debts) ++ close_debts horizon false w rests debts)
   ledger_last w rests debts own owed s week =
       let low : week_start w ≤ last.start = week.0 in
       let end : last.start ≤ horizon = l.start in
@@ -84,10 +84,10 @@ module _ (line : Line) (horizon : ℕ) (last : Run) (l : IsLineTo line horizon l
       (all_due (week_start w) debts) in
       record {
         are_debts = last_week line horizon last l w rests owed debts s.so_far week;
-        own_is = ap (λ (xs : List Breach). xs ++ overdue_of horizon (closed horizon false w rests debts))
+        own_is = ap (λ (xs : List Breach). xs ++ overdue_of horizon (close_debts horizon false w rests debts))
             (ap₂ (λ (xs ys : List Breach). xs ++ ys) s.own_is due
             ∙ sym (overdue_append horizon owed (due_of (week_start w) debts)))
-            ∙ sym (overdue_append horizon (owed ++ due_of (week_start w) debts) (closed horizon false w rests debts));
+            ∙ sym (overdue_append horizon (owed ++ due_of (week_start w) debts) (close_debts horizon false w rests debts));
       }
 
 -- the run from `start` on without an end

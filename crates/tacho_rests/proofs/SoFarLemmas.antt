@@ -21,7 +21,7 @@ use Rattle.tacho_hours.proofs.ByRunsLemmas.{one_run}
 use Rattle.tacho_pass.specs.Heard.{IsNext, IsLineTo}
 use Rattle.tacho_rests.specs.Turns.{OwesBefore, AreDebtsBefore, StartsBefore, AreTurns, IsWeekOf, IsMainOf, IsOwedOf}
 use Rattle.tacho_rests.specs.Turns.{IsSoFar}
-use Rattle.tacho_rests.specs.Paying.{push_few, longest, debt_for, due_of, open_of, closed}
+use Rattle.tacho_rests.specs.Paying.{push_few, longest_rest, debt_for, due_of, open_of, close_debts}
 use Rattle.tacho_rests.proofs.TurnsLemmas.{Quiet, kept_until, kept_all}
 use Rattle.tacho_rests.proofs.ClosedLemmas.{push_room, main_found, debt_found, turns_all, few_weeks, order_right}
 use Rattle.tacho_rests.proofs.ClosedLemmas.{IsWeekOver, in_right}
@@ -146,7 +146,7 @@ module _ (line : Line) (horizon : ℕ) (last : Run) (l : IsLineTo line horizon l
       → ((run : Run) → Contains rests run → min run.past end ≡ min run.past horizon)
       → ((main : Option Run) → IsMainOf line horizon w main
       → IsOwedOf line horizon w (if over then debt_for w main else None))
-      → AreDebtsBefore line horizon e ((due ++ due_of (week_start w) debts) ++ closed end over w rests debts)
+      → AreDebtsBefore line horizon e ((due ++ due_of (week_start w) debts) ++ close_debts end over w rests debts)
   close_week e w rests due debts end over s whole known owed =
       let t : AreTurns line horizon (week_start w) e rests (due ++ debts) = s.turns in
       let high : e ≤ week_start (w + 1) = s.high in
@@ -163,10 +163,10 @@ module _ (line : Line) (horizon : ℕ) (last : Run) (l : IsLineTo line horizon l
         within = λ run rests' from below. (from, omega arith);
         whole = λ run rests' in'. (in'.0, whole run rests' in');
       } in
-      let main : IsMainOf line horizon w (longest end None rests) =
+      let main : IsMainOf line horizon w (longest_rest end None rests) =
       main_found line horizon end w (week_start w) e rests (due ++ debts) t of known in
-      turns_all line horizon end w l.runs l.are (longest end None rests) main
-      (if over then debt_for w (longest end None rests) else None) (owed (longest end None rests) main)
+      turns_all line horizon end w l.runs l.are (longest_rest end None rests) main
+      (if over then debt_for w (longest_rest end None rests) else None) (owed (longest_rest end None rests) main)
       (due ++ due_of (week_start w) debts)
       (λ debt in'. come_both w due debts s.come debt in')
       (week_start w) e rests (open_of (week_start w) debts) t'
@@ -303,18 +303,18 @@ module _ (line : Line) (horizon : ℕ) (last : Run) (l : IsLineTo line horizon l
     quiet_until low x rests' from below = absurd (let old : x.start < e = n.none x rests' (omega arith) in omega arith)
 
     pub next_week : IsSoFar line horizon (week_start v) v [] (due ++ due_of (week_start w) debts)
-        (closed FAR true w rests debts)
+        (close_debts FAR true w rests debts)
     next_week =
         let low : week_start v ≤ run.start = week.0 in
         let high : e ≤ week_start (w + 1) = s.high in
-        let k : AreDebtsBefore line horizon e ((due ++ due_of (week_start w) debts) ++ closed FAR true w rests debts) =
+        let k : AreDebtsBefore line horizon e ((due ++ due_of (week_start w) debts) ++ close_debts FAR true w rests debts) =
         close_week e w rests due debts FAR true s
         (λ x rests' in'. n.none x rests' (let high' : x.start < week_start (w + 1) = in'.1 in omega arith)) known
         (debt_found line horizon w l.runs l.are over) in
         record {
           turns = record {
             kept = kept_until line horizon e (week_start v)
-                ((due ++ due_of (week_start w) debts) ++ closed FAR true w rests debts) (omega arith)
+                ((due ++ due_of (week_start w) debts) ++ close_debts FAR true w rests debts) (omega arith)
                 (quiet_until low) k;
             each = λ x. (
               λ (i, within, same). absurd (omega arith),
@@ -341,10 +341,10 @@ module _ (line : Line) (horizon : ℕ) (last : Run) (l : IsLineTo line horizon l
   -- the last week, which has the last run
   pub last_week : (w : ℕ) (rests : List Run) (due debts : List Debt)
       → IsSoFar line horizon (last.start + 1) w rests due debts → IsInWeek w last.start
-      → AreDebts line horizon ((due ++ due_of (week_start w) debts) ++ closed horizon false w rests debts)
+      → AreDebts line horizon ((due ++ due_of (week_start w) debts) ++ close_debts horizon false w rests debts)
   last_week w rests due debts s week =
       kept_all line horizon (last.start + 1)
-      ((due ++ due_of (week_start w) debts) ++ closed horizon false w rests debts)
+      ((due ++ due_of (week_start w) debts) ++ close_debts horizon false w rests debts)
       (λ run rests'. (let most : run.start ≤ last.start = l.all run rests' in omega arith))
       (close_week (last.start + 1) w rests due debts horizon false s
       (λ run rests' in'. (let most : run.start ≤ last.start = l.all run rests' in omega arith)) (λ run in'. refl)

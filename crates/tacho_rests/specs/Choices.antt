@@ -17,7 +17,7 @@ use Rattle.tacho_choice.specs.declared.outcome.Outcome.{Outcome}
 use Rattle.tacho_choice.specs.declared.outcome.TheConstants.{ANY}
 use Rattle.tacho_choice.specs.declared.week.WeekOfRests.{WeekOfRests}
 use Rattle.tacho_choice.specs.declared.weekly_rests.WeeklyRests.{WeeklyRests}
-use Rattle.tacho_choice.specs.Step.{Holds, IsNext}
+use Rattle.tacho_choice.specs.Step.{HasOutcome, IsNext}
 use Rattle.tacho_choice.specs.Weeks.{IsWeekOf, IsWeekOfRests, CanReach, week_none, week_with}
 
 -- the breach for a week and the one before it, if no choice is valid up to the week
@@ -32,18 +32,18 @@ week_of_last w (Some rest) = week_with w rest week_none
 -- the outcomes of a week are exactly those reached from the outcomes of the week before
 abbrev pub IsStep : WeeklyRests → Bool → List Bool → List Bool → Type 0
 IsStep week asks old next =
-    (new : Outcome) → Holds next new ↔ ((before : Outcome) × (Holds old before × IsNext week asks before new))
+    (new : Outcome) → HasOutcome next new ↔ ((before : Outcome) × (HasOutcome old before × IsNext week asks before new))
 
 -- and some outcome is left
 abbrev pub IsServedStep : WeekOfRests → Bool → List Bool → List Bool → Type 0
 IsServedStep week rested old next =
-    IsStep week.rests (not rested && not week.whole) old next × ((left : Outcome) × Holds next left)
+    IsStep week.rests (not rested && not week.whole) old next × ((left : Outcome) × HasOutcome next left)
 
 -- or no outcome is left
 abbrev pub IsUnservedStep : WeekOfRests → Bool → List Bool → Type 0
 IsUnservedStep week rested old =
     (next : List Bool)
-    × (IsStep week.rests (not rested && not week.whole) old next × ((left : Outcome) → Holds next left → ⊥))
+    × (IsStep week.rests (not rested && not week.whole) old next × ((left : Outcome) → HasOutcome next left → ⊥))
 
 -- a week is closed: some choice is valid up to it; or none is, there is a breach, and choices start again from this week
 abbrev pub IsJudged : ℕ → WeekOfRests → Bool → List Bool → List Bool → List Breach → Type 0
@@ -72,7 +72,7 @@ pub record IsClosed (line : Line) (horizon first u : ℕ) (rested : Bool) (outco
   pub start : ℕ
   pub starts : (start ≡ first) ⊎ Fails (CanServe line) (EndedBy horizon) first start
   pub within : start ≤ u
-  pub each : (left : Outcome) → Holds outcomes left ↔ CanReach line start u left
+  pub each : (left : Outcome) → HasOutcome outcomes left ↔ CanReach line start u left
   pub serves : CanServe line start u
   pub rests : (rested ≡ true) ↔ IsWhollyAtRest line u
   pub week : WeeklyRests
@@ -86,7 +86,7 @@ pub record IsAtFirst (first w : ℕ) (rested : Bool) (outcomes : List Bool) (own
   pub none : own ≡ []
 
 -- after a closed week, all breaches up to it are found
-pub record IsBehind (line : Line) (horizon first w : ℕ) (rested : Bool) (outcomes : List Bool) (own : List Breach) :
+pub record IsAfter (line : Line) (horizon first w : ℕ) (rested : Bool) (outcomes : List Bool) (own : List Breach) :
     Type 0 where
   pub u : ℕ
   pub here : u + 1 ≡ w
@@ -99,4 +99,4 @@ pub record AreChoices (line : Line) (horizon first start w : ℕ) (current : Wee
     (rested : Bool) (outcomes : List Bool) (own : List Breach) : Type 0 where
   pub current_is : IsWeekOfRests (IsSeen line start) w current
   pub last_is : MatchOption last ((x : Run) → IsSeen line start x → ⊥) (λ rest. IsLastSeen line start w rest)
-  pub behind : IsAtFirst first w rested outcomes own ⊎ IsBehind line horizon first w rested outcomes own
+  pub behind : IsAtFirst first w rested outcomes own ⊎ IsAfter line horizon first w rested outcomes own

@@ -27,7 +27,7 @@ late_of (Some end) run =
 pub record IsLateBefore (line : Line) (start : ℕ) (breach : Breach) : Type 0 where
   pub kind : breach.kind ≡ B8
   pub is : IsB8 line breach
-  pub before : is.b.start < start
+  pub before : is.later.start < start
 
 -- the last weekly rest that starts before a minute, and its end
 pub record IsLastRest (line : Line) (start end : ℕ) : Type 0 where

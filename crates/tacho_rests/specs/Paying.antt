@@ -38,9 +38,9 @@ longer end (Some main) rest = if nat_lt (minutes_before end main) (minutes_befor
     else Some main
 
 -- the longest of this rest and the rests in a list
-abbrev pub longest : ℕ → Option Run → List Run → Option Run
-longest end main [] = main
-longest end main (rest ∷ rests) = longest end (longer end main rest) rests
+abbrev pub longest_rest : ℕ → Option Run → List Run → Option Run
+longest_rest end main [] = main
+longest_rest end main (rest ∷ rests) = longest_rest end (longer end main rest) rests
 
 -- Articles 4(h) and 8(6b), a reduction: what a week owes for its main rest, and the deadline
 abbrev pub debt_for : ℕ → Option Run → Option Debt
@@ -84,9 +84,9 @@ open_of by [] = []
 open_of by (debt ∷ debts) = if nat_le debt.deadline by then open_of by debts else debt ∷ open_of by debts
 
 -- the open debts after a week with these rests; the week owes something only once it is over
-abbrev pub closed : ℕ → Bool → ℕ → List Run → List Debt → List Debt
-closed end over w rests debts =
-    turns end (longest end None rests) (if over then debt_for w (longest end None rests) else None) rests
+abbrev pub close_debts : ℕ → Bool → ℕ → List Run → List Debt → List Debt
+close_debts end over w rests debts =
+    turns end (longest_rest end None rests) (if over then debt_for w (longest_rest end None rests) else None) rests
     (open_of (week_start w) debts)
 
 -- Article 8(6b): the breach of a debt that wasn't paid in time

@@ -7,7 +7,7 @@ ghost use Rattle.tacho_pass.specs.Found.{Appends, own_of};
 ghost use Rattle.tacho_pass.specs.Kinds.{is_b10};
 ghost use Rattle.tacho_pass.specs.Heard.{IsNext, IsLineTo};
 ghost use Rattle.tacho_rests.specs.Few.{debts_in, rests_in};
-ghost use Rattle.tacho_rests.specs.Paying.{due_of, overdue_of, closed, rests_with};
+ghost use Rattle.tacho_rests.specs.Paying.{due_of, overdue_of, close_debts, rests_with};
 ghost use Rattle.tacho_rests.specs.Turns.{IsLedger, IsOpened, IsOwed};
 
 use crate::due_debts::{due, emit, open};
@@ -39,7 +39,7 @@ fn close(
 ) -> Result<Debts, AllocError>
     requires { week ≤ 6782 }
     ensures left { IfOk result (λ left. debts_in left
-        ≡ closed end over week (rests_in rests.now) (debts_in debts.now)) }
+        ≡ close_debts end over week (rests_in rests.now) (debts_in debts.now)) }
     ensures debts { OnOk result (found.new.debts.items
         ≡ found.old.debts.items ++ due_of (week_start week) (debts_in debts.now)) }
     ensures breaches { OnOk result (found.new.breaches.items

@@ -1,7 +1,7 @@
 ghost use Rattle.std.specs.Prelude.{◌≡◌, ◌<◌, ◌≤◌, All, None as NoRun};
 ghost use Rattle.tacho_hours.specs.Limits.{latest};
 ghost use Rattle.tacho_rests.specs.Few.{debts_in};
-ghost use Rattle.tacho_rests.specs.Paying.{takes as takes_it, pay_all, longest, debt_for, is_main as is_main_of};
+ghost use Rattle.tacho_rests.specs.Paying.{takes as takes_it, pay_all, longest_rest, debt_for, is_main as is_main_of};
 ghost use Rattle.tacho_rests.specs.Paying.{turn as turn_of, turns as turns_of};
 
 use crate::few::Debts;
@@ -40,7 +40,7 @@ fn paid(debts: &Debts, rest: Run, end: u32, kept: u32) -> Debts
 
 /// Returns the rest with the most minutes before `end`, of those with a day or more; the earliest, if several have as many (Article 8(6)).
 pub fn main_of(rests: &[Run], end: u32) -> Option<Run>
-    ensures { result ≡ longest end NoRun rests.now }
+    ensures { result ≡ longest_rest end NoRun rests.now }
 {
     let mut main: Option<Run> = None;
     for rest in rests {

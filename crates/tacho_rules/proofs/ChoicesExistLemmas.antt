@@ -17,7 +17,7 @@ use Rattle.tacho_choice.specs.declared.outcome.Outcome.{Outcome}
 use Rattle.tacho_choice.specs.declared.week.WeekOfRests.{WeekOfRests}
 use Rattle.tacho_choice.specs.declared.weekly_rests.WeeklyRests.{WeeklyRests}
 use Rattle.tacho_choice.specs.Step.{IsNext, IsFirst, may, counted_of, serves, place_of}
-use Rattle.tacho_choice.specs.Weeks.{IsInWeeks, IsWeekOfRests, CanReach, Asks}
+use Rattle.tacho_choice.specs.Weeks.{IsInWeeks, IsWeekOfRests, CanReach, IsPairAsked}
 use Rattle.tacho_choice.proofs.LawfulLemmas.{reach_law, start_law, serve_law}
 use Rattle.tacho_choice.proofs.OutcomesLemmas.{place_below, place_only, at_place}
 use Rattle.tacho_choice.proofs.SeenLemmas.{seen_all, seen_whole, in_weeks, asks_is}
@@ -99,7 +99,7 @@ module _ (line : Line) (base horizon : ℕ) (quiet : IsQuiet line base horizon) 
   week_of : (w : ℕ) → (week : WeekOfRests) × IsWeekOfRests (IsWeeklyRest line) w week
   week_of = seen_all line is_in_weeks
 
-  asks_of : (v : ℕ) → v ≤ 7000 → Asks line v (not (week_of v).0.whole && not (week_of (v + 1)).0.whole)
+  asks_of : (v : ℕ) → v ≤ 7000 → IsPairAsked line v (not (week_of v).0.whole && not (week_of (v + 1)).0.whole)
   asks_of v early =
       asks_is line v (week_of v).0.whole (week_of (v + 1)).0.whole
       (seen_whole line v (week_of v).0 (omega (arith, early)) (week_of v).1)

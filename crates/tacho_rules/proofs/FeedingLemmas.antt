@@ -15,7 +15,7 @@ use Rattle.tacho_pass.specs.Kinds.{is_any}
 use Rattle.tacho_pass.proofs.AppendingLemmas.{appends_none, appends_then}
 use Rattle.tacho_rules.specs.declared.report.Report.{Report}
 use Rattle.tacho_rules.specs.declared.scan.Scan.{Scan}
-use Rattle.tacho_rules.specs.Report.{examined, IsReport}
+use Rattle.tacho_rules.specs.Report.{examined_line, IsReport}
 use Rattle.tacho_rules.specs.Scan.{AreFindings, IsAt, HasFailed, IsScanOf}
 
 -- the scan is at the start of the spans that are left, and these follow one another
@@ -127,7 +127,7 @@ module _ (part : Span → Span) (spans : List Span) (i : ℕ) where
 
 -- what is found of the examined line, together with the horizon, is the report
 report_of : (held : List Span) (base : ℕ) (horizon : Horizon) (found : List Breach) (debts : List Debt)
-    → IsHorizon held base horizon → AreFindings (examined held base horizon.minute) base horizon.minute found debts
+    → IsHorizon held base horizon → AreFindings (examined_line held base horizon.minute) base horizon.minute found debts
     → IsReport held base horizon found debts
 report_of held base horizon found debts h are = record {
   is_horizon = h;
@@ -143,7 +143,7 @@ report_of held base horizon found debts h are = record {
 pub report_answered : {E : Type 0} {P : Report → Type 0} (result : Result Report E) (held : List Span) (base : ℕ)
     (horizon : Horizon) → IsHorizon held base horizon
     → ((r : Report) → P r
-    → AreFindings (examined held base horizon.minute) base horizon.minute r.breaches.items r.debts.items)
+    → AreFindings (examined_line held base horizon.minute) base horizon.minute r.breaches.items r.debts.items)
     → IfOk result (λ r. r.horizon ≡ horizon) → IfOk result P
     → IfOk result (λ r. IsReport held base r.horizon r.breaches.items r.debts.items)
 report_answered (Ok r) held base horizon h are same is =

@@ -10,14 +10,14 @@ use Rattle.tacho_hours.specs.declared.breach.Kind.TheVariants.{B1, B2, B3, B4, B
 use Rattle.tacho_hours.specs.declared.breach.Breach.{Breach}
 use Rattle.tacho_hours.specs.declared.days.DutyDay.{DutyDay}
 use Rattle.tacho_hours.specs.Line.{Line}
-use Rattle.tacho_hours.specs.Exactly.{AreSoMany}
+use Rattle.tacho_hours.specs.Exactly.{HasCount}
 use Rattle.tacho_hours.specs.Runs.{IsRestRun, IsRestOf, AreNeighbours, Before, minutes_of}
-use Rattle.tacho_hours.specs.Driving.{driving, IsDrivingMinute, IsExcess}
+use Rattle.tacho_hours.specs.Driving.{driving, IsDrivingMinute, IsDrivingAbove}
 use Rattle.tacho_hours.specs.Days.{EarlierDay, IsDuty, HasPortion, IsRegular, IsReduced}
 use Rattle.tacho_hours.specs.Weeks.{week_start, IsInWeek, IsWeeklyRest}
 use Rattle.tacho_hours.specs.Breaches.{IsB1, IsB2, IsB3, IsB4, IsB5, IsB6, IsB7, IsB8, IsExtended}
 use Rattle.tacho_hours.proofs.DrivingLemmas.{driving_minute_only, driving_reaches}
-use Rattle.tacho_hours.proofs.ExactlyLemmas.{so_many_only}
+use Rattle.tacho_hours.proofs.ExactlyLemmas.{how_many_only}
 use Rattle.tacho_hours.proofs.OrderLemmas.{same_breach}
 use Rattle.tacho_rules.proofs.FiniteLemmas.{Decided, decide_both, decide_either, decide_not, decide_as, decide_lt}
 use Rattle.tacho_rules.proofs.FiniteLemmas.{decide_le, decide_eq, decide_some, decide_all, IsFinite, finite_none}
@@ -66,7 +66,7 @@ decide_driving line from to k m = decide_as
 -- the breach has this kind and since; its moment and amount are those of too much driving from one minute to another
 abbrev pub IsLong : Line → Kind → ℕ → ℕ → ℕ → ℕ → Breach → Type 0
 IsLong line kind limit from to since breach =
-    (breach.kind ≡ kind) × (IsExcess line limit from to breach.moment breach.amount × (breach.since ≡ since))
+    (breach.kind ≡ kind) × (IsDrivingAbove line limit from to breach.moment breach.amount × (breach.since ≡ since))
 
 pub long_only : (line : Line) (kind : Kind) (limit from to since : ℕ) (a b : Breach)
     → IsLong line kind limit from to since a → IsLong line kind limit from to since b → a ≡ b
@@ -160,8 +160,8 @@ module _ (line : Line) (base horizon : ℕ) (quiet : IsQuiet line base horizon) 
               let long = p.1.2.1 in (
                 long.0,
                 record {
-                  a = h.0;
-                  b = h.2.0;
+                  earlier = h.0;
+                  later = h.2.0;
                   first = h.1;
                   second = h.2.1;
                   before = p.0.0;
@@ -172,10 +172,10 @@ module _ (line : Line) (base horizon : ℕ) (quiet : IsQuiet line base horizon) 
               ),
           λ h.
               let is = h.1 in (
-                is.a,
+                is.earlier,
                 is.first,
                 (
-                  is.b,
+                  is.later,
                   is.second,
                   (
                     (is.before, λ c i e. is.between c i e.0 e.1),
@@ -195,13 +195,13 @@ module _ (line : Line) (base horizon : ℕ) (quiet : IsQuiet line base horizon) 
         let two = p.since.below in
         let three = q.since.above in
         let four = q.since.below in
-        let both = pair_only (λ r. Contains breaks r) rests p.a p.b q.a q.b p.first p.second q.first q.second p.between q.between
+        let both = pair_only (λ r. Contains breaks r) rests p.earlier p.later q.earlier q.later p.first p.second q.first q.second p.between q.between
         x.since one two (omega (arith, three, same)) (omega (arith, four, same)) in
-        let over : IsExcess line 270 q.a.past p.b.start x.moment x.amount =
-        subst (λ (r : Run). IsExcess line 270 r.past p.b.start x.moment x.amount) both.0 p.over in
-        let over' : IsExcess line 270 q.a.past q.b.start x.moment x.amount =
-        subst (λ (r : Run). IsExcess line 270 q.a.past r.start x.moment x.amount) both.1 over in
-        long_only line B1 270 q.a.past q.b.start y.since x y (e, (over', same)) (f, (q.over, refl))
+        let over : IsDrivingAbove line 270 q.earlier.past p.later.start x.moment x.amount =
+        subst (λ (r : Run). IsDrivingAbove line 270 r.past p.later.start x.moment x.amount) both.0 p.over in
+        let over' : IsDrivingAbove line 270 q.earlier.past q.later.start x.moment x.amount =
+        subst (λ (r : Run). IsDrivingAbove line 270 q.earlier.past r.start x.moment x.amount) both.1 over in
+        long_only line B1 270 q.earlier.past q.later.start y.since x y (e, (over', same)) (f, (q.over, refl))
 
   -- ---- weeks
 
@@ -345,16 +345,16 @@ module _ (line : Line) (base horizon : ℕ) (quiet : IsQuiet line base horizon) 
       omega (arith, e, k, l)
 
   -- how many duty days satisfy `P`
-  so_many : (P : DutyDay → Type 0) → ((day : DutyDay) → P day → IsDuty line day) → IsFinite P → (n : ℕ) × AreSoMany P EarlierDay n
-  so_many P duty f =
+  how_many : (P : DutyDay → Type 0) → ((day : DutyDay) → P day → IsDuty line day) → IsFinite P → (n : ℕ) × HasCount P EarlierDay n
+  how_many P duty f =
       let all = listed P EarlierDay (λ a b p q. days_order a b (duty a p) (duty b q))
       (λ a b c p q r e g. (let k = day_some b (duty b q) in omega (arith, e, g, k))) f in
       (length all.0, record { all = all.0; exactly = all.1; count = refl })
 
   one_number : (P : DutyDay → Type 0) → ((day : DutyDay) → P day → IsDuty line day) → (n m : ℕ)
-      → AreSoMany P EarlierDay n → AreSoMany P EarlierDay m → n ≡ m
+      → HasCount P EarlierDay n → HasCount P EarlierDay m → n ≡ m
   one_number P duty =
-      so_many_only P EarlierDay (λ a b p q e f.
+      how_many_only P EarlierDay (λ a b p q e f.
       (let k = day_some a (duty a p) in let l = day_some b (duty b q) in omega (arith, e, f, k, l)))
 
   decide_portion : (day : DutyDay) (n : ℕ) → Decided (HasPortion day n)
@@ -444,23 +444,23 @@ module _ (line : Line) (base horizon : ℕ) (quiet : IsQuiet line base horizon) 
   abbrev OfLast : DutyDay → Run → Breach → Type 0
   OfLast day weekly breach =
       IsLast day weekly
-      × ((n : ℕ) × AreSoMany (ReducedSince day weekly) EarlierDay n
+      × ((n : ℕ) × HasCount (ReducedSince day weekly) EarlierDay n
       × ((3 < n) × IsTold B3 day.rest.start weekly.past 3 n breach))
 
   finite_last : (day : DutyDay) (weekly : Run) → IsFinite (OfLast day weekly)
   finite_last day weekly =
       let duty : (other : DutyDay) → ReducedSince day weekly other → IsDuty line other = λ other h. h.0.duty in
-      let count = so_many (ReducedSince day weekly) duty (finite_since day weekly) in
+      let count = how_many (ReducedSince day weekly) duty (finite_since day weekly) in
       finite_when (IsLast day weekly)
-      (λ breach. (n : ℕ) × AreSoMany (ReducedSince day weekly) EarlierDay n
+      (λ breach. (n : ℕ) × HasCount (ReducedSince day weekly) EarlierDay n
       × ((3 < n) × IsTold B3 day.rest.start weekly.past 3 n breach))
       (decide_both (decide_lt weekly.past day.rest.start)
       (decide_all (IsWeeklyRest line) (λ run. (Before weekly run × Before run day.rest) → ⊥)
       (finite_rests line base horizon quiet 1440)
       (λ run is. decide_not (decide_both (decide_lt weekly.past run.start) (decide_lt run.past day.rest.start)))))
-      (λ last. finite_of (λ n. AreSoMany (ReducedSince day weekly) EarlierDay n)
+      (λ last. finite_of (λ n. HasCount (ReducedSince day weekly) EarlierDay n)
       (λ n breach. (3 < n) × IsTold B3 day.rest.start weekly.past 3 n breach)
-      (finite_one (λ n. AreSoMany (ReducedSince day weekly) EarlierDay n) count.0 count.1
+      (finite_one (λ n. HasCount (ReducedSince day weekly) EarlierDay n) count.0 count.1
       (λ n so. one_number (ReducedSince day weekly) duty count.0 n count.1 so))
       (λ n so. finite_when (3 < n) (IsTold B3 day.rest.start weekly.past 3 n) (decide_lt 3 n)
       (λ many. finite_told B3 day.rest.start weekly.past 3 n)))
@@ -484,7 +484,7 @@ module _ (line : Line) (base horizon : ℕ) (quiet : IsQuiet line base horizon) 
                 rest = w.1;
                 before = o.0.0;
                 last = λ run is e f. o.0.1 run is (e, f);
-                so_many = o.1.1;
+                how_many = o.1.1;
                 many = o.1.2.0;
                 moment = t.1.0;
                 since = t.1.1.0;
@@ -500,7 +500,7 @@ module _ (line : Line) (base horizon : ℕ) (quiet : IsQuiet line base horizon) 
                 is.rest,
                 (
                   (is.before, λ run r e. is.last run r e.0 e.1),
-                  (is.ordinal, is.so_many, (is.many, (h.0, (is.moment, (is.since, is.amount))))),
+                  (is.ordinal, is.how_many, (is.many, (h.0, (is.moment, (is.since, is.amount))))),
                 ),
               ),
             ),
@@ -541,12 +541,12 @@ module _ (line : Line) (base horizon : ℕ) (quiet : IsQuiet line base horizon) 
             ])
       ] in
       let two : p.weekly ≡ q.weekly = one_past p.weekly q.weekly p.rest.rests q.rest.rests (omega (arith, c, d, same)) in
-      let so : AreSoMany (ReducedSince q.day p.weekly) EarlierDay p.ordinal =
-      subst (λ (day : DutyDay). AreSoMany (ReducedSince day p.weekly) EarlierDay p.ordinal) one p.so_many in
-      let so' : AreSoMany (ReducedSince q.day q.weekly) EarlierDay p.ordinal =
-      subst (λ (run : Run). AreSoMany (ReducedSince q.day run) EarlierDay p.ordinal) two so in
+      let so : HasCount (ReducedSince q.day p.weekly) EarlierDay p.ordinal =
+      subst (λ (day : DutyDay). HasCount (ReducedSince day p.weekly) EarlierDay p.ordinal) one p.how_many in
+      let so' : HasCount (ReducedSince q.day q.weekly) EarlierDay p.ordinal =
+      subst (λ (run : Run). HasCount (ReducedSince q.day run) EarlierDay p.ordinal) two so in
       let three : p.ordinal ≡ q.ordinal =
-      one_number (ReducedSince q.day q.weekly) (λ other h. h.0.duty) p.ordinal q.ordinal so' q.so_many in
+      one_number (ReducedSince q.day q.weekly) (λ other h. h.0.duty) p.ordinal q.ordinal so' q.how_many in
       let g = p.amount in
       let h = q.amount in
       same_breach x y (e ∙ sym f) moments same (omega (arith, g, h, three))
@@ -594,23 +594,23 @@ module _ (line : Line) (base horizon : ℕ) (quiet : IsQuiet line base horizon) 
   abbrev OfWeek : DutyDay → ℕ → Breach → Type 0
   OfWeek day w breach =
       IsExtended line w day
-      × ((n : ℕ) × AreSoMany (ExtendedBy w day) EarlierDay n
+      × ((n : ℕ) × HasCount (ExtendedBy w day) EarlierDay n
       × ((2 < n) × IsLong line B5 540 day.start day.past day.start breach))
 
   finite_week : (day : DutyDay) (w : ℕ) → IsDuty line day → IsFinite (OfWeek day w)
   finite_week day w is =
       let duty : (other : DutyDay) → ExtendedBy w day other → IsDuty line other = λ other h. h.0.duty in
-      let count = so_many (ExtendedBy w day) duty
+      let count = how_many (ExtendedBy w day) duty
       (finite_where (IsExtended line w) (λ other. other.start ≤ day.start) (finite_extended w)
       (λ other e. decide_le other.start day.start)) in
       finite_when (IsExtended line w day)
-      (λ breach. (n : ℕ) × AreSoMany (ExtendedBy w day) EarlierDay n
+      (λ breach. (n : ℕ) × HasCount (ExtendedBy w day) EarlierDay n
       × ((2 < n) × IsLong line B5 540 day.start day.past day.start breach))
       (decide_as (λ h. record { duty = is; week = h.0; over = h.1 }) (λ e. (e.week, e.over))
       (decide_both (decide_week w day.start) (decide_lt 540 (driving line day.start day.past))))
-      (λ e. finite_of (λ n. AreSoMany (ExtendedBy w day) EarlierDay n)
+      (λ e. finite_of (λ n. HasCount (ExtendedBy w day) EarlierDay n)
       (λ n breach. (2 < n) × IsLong line B5 540 day.start day.past day.start breach)
-      (finite_one (λ n. AreSoMany (ExtendedBy w day) EarlierDay n) count.0 count.1
+      (finite_one (λ n. HasCount (ExtendedBy w day) EarlierDay n) count.0 count.1
       (λ n so. one_number (ExtendedBy w day) duty count.0 n count.1 so))
       (λ n so. finite_when (2 < n) (IsLong line B5 540 day.start day.past day.start) (decide_lt 2 n)
       (λ many. finite_long line B5 540 day.start day.past day.start)))
@@ -630,7 +630,7 @@ module _ (line : Line) (base horizon : ℕ) (quiet : IsQuiet line base horizon) 
                 week = h.2.0;
                 ordinal = o.1.0;
                 extended = o.0;
-                so_many = o.1.1;
+                how_many = o.1.1;
                 many = o.1.2.0;
                 over = long.1.0;
                 since = long.1.1;
@@ -646,7 +646,7 @@ module _ (line : Line) (base horizon : ℕ) (quiet : IsQuiet line base horizon) 
                 omega (arith, l),
                 (
                   is.extended,
-                  (is.ordinal, is.so_many, (is.many, (h.0, (is.over, is.since)))),
+                  (is.ordinal, is.how_many, (is.many, (h.0, (is.over, is.since)))),
                 ),
               ),
             ),
@@ -674,8 +674,8 @@ module _ (line : Line) (base horizon : ℕ) (quiet : IsQuiet line base horizon) 
             let b = t.1.1.1 in (
               t.0,
               record {
-                a = h.0.0;
-                b = h.0.1;
+                earlier = h.0.0;
+                later = h.0.1;
                 neighbours = h.1;
                 moment = t.1.0;
                 since = t.1.1.0;
@@ -687,7 +687,7 @@ module _ (line : Line) (base horizon : ℕ) (quiet : IsQuiet line base horizon) 
             let is = h.1 in
             let a = is.moment in
             let b = is.amount in
-            ((is.a, is.b), is.neighbours, ((h.0, (is.moment, (is.since, omega (arith, a, b)))), is.late)),
+            ((is.earlier, is.later), is.neighbours, ((h.0, (is.moment, (is.since, omega (arith, a, b)))), is.late)),
       ))
       (finite_of (λ (p : Run × Run). AreNeighbours line 1440 p.0 p.1)
       (λ p breach. IsTold B8 (p.0.past + 8640) p.0.past (p.0.past + 8640) p.1.start breach × (0 < breach.amount))
@@ -702,10 +702,10 @@ module _ (line : Line) (base horizon : ℕ) (quiet : IsQuiet line base horizon) 
       let b = q.since in
       let c = p.neighbours.before in
       let d = q.neighbours.before in
-      let both = pair_only (IsRestOf line 1440) (λ r is. is.rests) p.a p.b q.a q.b p.neighbours.first p.neighbours.second
+      let both = pair_only (IsRestOf line 1440) (λ r is. is.rests) p.earlier p.later q.earlier q.later p.neighbours.first p.neighbours.second
       q.neighbours.first q.neighbours.second p.neighbours.between q.neighbours.between x.since
       (omega (arith, a)) (omega (arith, a, c)) (omega (arith, b, same)) (omega (arith, b, d, same)) in
-      let one : p.b.start ≡ q.b.start = ap (λ (r : Run). r.start) both.1 in
+      let one : p.later.start ≡ q.later.start = ap (λ (r : Run). r.start) both.1 in
       let g = p.moment in
       let h = q.moment in
       let i = p.amount in

@@ -8,7 +8,7 @@ use Rattle.tacho_hours.specs.declared.breach.Kind.TheVariants.{B10}
 use Rattle.tacho_hours.specs.Debts.{minutes_before}
 use Rattle.tacho_hours.proofs.PageFacts.{at, rest_between, one_member}
 use Rattle.tacho_hours.specs.Breaches.{IsOverdue}
-use Rattle.tacho_rules.specs.Report.{examined}
+use Rattle.tacho_rules.specs.Report.{examined_line}
 
 -- ---- what is examined
 
@@ -21,22 +21,22 @@ held = record { start = at 4 0 - 60; past = at 4 0; mark = record { activity = W
     ∷ []
 
 -- the last minute before the base is at rest, although work is held there
-pub rest_before_the_base : examined held (at 4 0) (at 4 631) (at 4 0 - 1) ≡ Rest
+pub rest_before_the_base : examined_line held (at 4 0) (at 4 631) (at 4 0 - 1) ≡ Rest
 rest_before_the_base = refl
 
 -- from the base to the horizon, each minute is as held
-pub drives_at_six : examined held (at 4 0) (at 4 631) (at 4 360) ≡ Drive
+pub drives_at_six : examined_line held (at 4 0) (at 4 631) (at 4 360) ≡ Drive
 drives_at_six = refl
 
-pub drives_to_the_horizon : examined held (at 4 0) (at 4 631) (at 4 630) ≡ Drive
+pub drives_to_the_horizon : examined_line held (at 4 0) (at 4 631) (at 4 630) ≡ Drive
 drives_to_the_horizon = refl
 
 -- the horizon is at rest, although driving is held there
-pub rest_from_the_horizon : examined held (at 4 0) (at 4 631) (at 4 631) ≡ Rest
+pub rest_from_the_horizon : examined_line held (at 4 0) (at 4 631) (at 4 631) ≡ Rest
 rest_from_the_horizon = refl
 
 -- minutes that aren't held are at rest
-pub rest_where_nothing_is_held : examined held (at 4 0) (at 5 0) (at 4 720) ≡ Rest
+pub rest_where_nothing_is_held : examined_line held (at 4 0) (at 5 0) (at 4 720) ≡ Rest
 rest_where_nothing_is_held = refl
 
 -- ---- weekly rests

@@ -23,7 +23,7 @@ use Rattle.tacho_hours.specs.Debts.{AreDebts}
 use Rattle.tacho_hours.specs.Order.{Earlier, AreBreaches, place_of_kind}
 use Rattle.tacho_hours.specs.Breaches.{IsBreach}
 use Rattle.tacho_hours.proofs.OrderLemmas.{earlier_trans}
-use Rattle.tacho_rules.specs.Report.{examined, IsReport}
+use Rattle.tacho_rules.specs.Report.{examined_line, IsReport}
 use Rattle.tacho_rules.proofs.SliceLemmas.{before_end, early_horizon}
 use Rattle.tacho_rules.proofs.FiniteLemmas.{IsFinite, finite_as, finite_of, finite_in, listed}
 use Rattle.tacho_rules.proofs.RunsExistLemmas.{IsQuiet, rest_runs, complete_breaks}
@@ -195,7 +195,7 @@ module _ (line : Line) (base horizon : ℕ) (quiet : IsQuiet line base horizon) 
 
 -- the examined line is at rest before the base and from the horizon on
 quiet_examined : (held : List Span) (base horizon : ℕ) → 15780960 ≤ base → base ≤ horizon → horizon ≤ 68374080
-    → IsQuiet (examined held base horizon) base horizon
+    → IsQuiet (examined_line held base horizon) base horizon
 quiet_examined held base horizon from order until = record {
   before = λ m l. grind (arith, nat_tests);
   after = λ m l. grind (arith, nat_tests);
@@ -216,7 +216,7 @@ pub each_report : (held : List Span) (base : ℕ) → All (λ (s : Span). s.past
 each_report held base ended is early =
     let h = horizon_of held 68374080 base ended in
     let end : ℕ = h.0.minute in
-    let line : Line = examined held base end in
+    let line : Line = examined_line held base end in
     let quiet : IsQuiet line base end =
     quiet_examined held base end is.from h.1.from (early_horizon held base h.0 h.1 early ended) in
     let runs = rest_runs line base end quiet in

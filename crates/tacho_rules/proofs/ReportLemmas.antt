@@ -31,7 +31,7 @@ use Rattle.tacho_hours.proofs.RunsLemmas.{one_rest_runs, rest_runs_are}
 use Rattle.tacho_hours.proofs.BreaksLemmas.{one_complete_breaks}
 use Rattle.tacho_hours.proofs.OrderLemmas.{one_breaches}
 use Rattle.tacho_hours.proofs.DebtsLemmas.{one_debts}
-use Rattle.tacho_rules.specs.Report.{examined, IsReport}
+use Rattle.tacho_rules.specs.Report.{examined_line, IsReport}
 use Rattle.tacho_rules.proofs.StayingChoiceLemmas.{none_at_rest}
 
 -- a minute that ends the examination isn't single
@@ -74,7 +74,7 @@ one_horizon held base horizon other h h' =
 one_found : (held : List Span) (base : ℕ) (horizon : Horizon) (found others : List Breach) (debts : List Debt)
     → IsReport held base horizon found debts → IsReport held base horizon others debts → found ≡ others
 one_found held base horizon found others debts a b =
-    let line : Line = examined held base horizon.minute in
+    let line : Line = examined_line held base horizon.minute in
     let runs : a.runs ≡ b.runs = one_rest_runs line a.runs b.runs a.are_runs b.are_runs in
     let some : All (λ (run : Run). run.start < run.past) b.runs = (rest_runs_are line b.runs b.are_runs).some in
     let breaks : a.breaks ≡ b.breaks =
@@ -95,7 +95,7 @@ one_report held base horizon other found others debts owed a b =
     let same : horizon ≡ other = one_horizon held base horizon other a.is_horizon b.is_horizon in
     let a' : IsReport held base other found debts = subst (λ (h : Horizon). IsReport held base h found debts) same a in
     let equal : debts ≡ owed =
-    one_debts (examined held base other.minute) other.minute debts owed a'.are_debts b.are_debts in
+    one_debts (examined_line held base other.minute) other.minute debts owed a'.are_debts b.are_debts in
     let a'' : IsReport held base other found owed =
     subst (λ (ds : List Debt). IsReport held base other found ds) equal a' in
     (same, one_found held base other found others owed a'' b, equal)
@@ -106,7 +106,7 @@ pub report_by_marks : (held other : List Span) (base : ℕ) (horizon : Horizon) 
     → IsReport held base horizon found debts → IsReport other base horizon found debts
 report_by_marks held other base horizon found debts each r =
     let marks : mark_at held ≡ mark_at other = λ i m. each m i in
-    let same : examined held base horizon.minute ≡ examined other base horizon.minute = ap
+    let same : examined_line held base horizon.minute ≡ examined_line other base horizon.minute = ap
     (λ (f : ℕ → Option Mark).
     λ m. if nat_le base m && nat_lt m horizon.minute then option_map_or (λ mark. mark.activity) (f m) Rest
     else Rest) marks in
@@ -144,12 +144,12 @@ module _ (line : Line) (resting : (m : ℕ) → line m ≡ Rest) where
   ]
 
   -- so no run is after another
-  none_behind : (a b : Run) → IsRestRun line b → Before a b → ⊥
-  none_behind a b is before = let s : b.start ≡ 0 = no_start b is in let l : a.past < b.start = before in omega arith
+  none_following : (a b : Run) → IsRestRun line b → Before a b → ⊥
+  none_following a b is before = let s : b.start ≡ 0 = no_start b is in let l : a.past < b.start = before in omega arith
 
   -- there is no duty day
   no_duty : (day : DutyDay) → IsDuty line day → ⊥
-  no_duty day d = none_behind d.last day.rest d.neighbours.second.rests d.neighbours.before
+  no_duty day d = none_following d.last day.rest d.neighbours.second.rests d.neighbours.before
 
   -- there is no driving
   no_drive : (m : ℕ) → line m ≡ Drive → ⊥
@@ -168,7 +168,7 @@ module _ (line : Line) (resting : (m : ℕ) → line m ≡ Rest) where
   no_breach : (base horizon : ℕ) (runs breaks : List Run) → AreRestRuns line runs → AreCompleteBreaks runs breaks
       → (kind : Kind) (breach : Breach) → IsBreach line base horizon breaks [] kind breach → ⊥
   no_breach base horizon runs breaks are complete B1 breach h =
-      none_behind h.a h.b ((are.each h.b).0 ((complete.each h.b).0 h.second).0) h.before
+      none_following h.earlier h.later ((are.each h.later).0 ((complete.each h.later).0 h.second).0) h.before
   no_breach base horizon runs breaks are complete B2 breach h = no_duty h.day h.duty
   no_breach base horizon runs breaks are complete B3 breach h = no_duty h.day h.reduced.duty
   no_breach base horizon runs breaks are complete B4 breach h = no_duty h.day h.duty
@@ -176,17 +176,17 @@ module _ (line : Line) (resting : (m : ℕ) → line m ≡ Rest) where
   no_breach base horizon runs breaks are complete B6 breach h = no_drive breach.moment h.over.moment.drives
   no_breach base horizon runs breaks are complete B7 breach h = no_drive breach.moment h.over.moment.drives
   no_breach base horizon runs breaks are complete B8 breach h =
-      none_behind h.a h.b h.neighbours.second.rests h.neighbours.before
+      none_following h.earlier h.later h.neighbours.second.rests h.neighbours.before
   no_breach base horizon runs breaks are complete B9 breach h =
       none_at_rest line resting horizon h.first (h.week + 1) h.fails
   no_breach base horizon runs breaks are complete B10 breach h = let k : h.owed.0 < 0 = h.owed.1 in omega arith
 
 -- if only rest is examined, there is nothing to report
 pub nothing_found : (held : List Span) (base : ℕ) (horizon : Horizon) (found : List Breach) (debts : List Debt)
-    → IsReport held base horizon found debts → ((m : ℕ) → examined held base horizon.minute m ≡ Rest)
+    → IsReport held base horizon found debts → ((m : ℕ) → examined_line held base horizon.minute m ≡ Rest)
     → (found ≡ []) × (debts ≡ [])
 nothing_found held base horizon found debts report resting =
-    let line : Line = examined held base horizon.minute in
+    let line : Line = examined_line held base horizon.minute in
     let none : debts ≡ [] = no_debts line resting horizon.minute debts report.are_debts in
     let report' : IsReport held base horizon found [] =
     subst (λ (ds : List Debt). IsReport held base horizon found ds) none report in (

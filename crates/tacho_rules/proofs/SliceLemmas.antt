@@ -16,14 +16,14 @@ use Rattle.tacho_line.specs.Line.{mark_at, IsSingle, HoldsWithin, IsHorizon}
 use Rattle.tacho_hours.specs.Line.{Line}
 use Rattle.tacho_hours.specs.Line.{line_of, Joined, IsBase, IsExamined}
 use Rattle.tacho_hours.proofs.RunsLemmas.{line_before, line_within, line_past}
-use Rattle.tacho_rules.specs.Report.{examined}
-use Rattle.tacho_hours.proofs.DrivingLemmas.{line_behind}
+use Rattle.tacho_rules.specs.Report.{examined_line}
+use Rattle.tacho_hours.proofs.DrivingLemmas.{line_from_past}
 
 -- a minute after the first span is given by the other spans
-given_behind : (s : Span) (spans : List Span) (m : ℕ) (mark : Mark)
+given_after : (s : Span) (spans : List Span) (m : ℕ) (mark : Mark)
     → s.past ≤ m → Gives (s ∷ spans) m mark → Gives spans m mark
-given_behind s spans m mark above (inl covered) = let l : m < s.past = covered.0.1 in absurd (omega arith)
-given_behind s spans m mark above (inr behind) = behind
+given_after s spans m mark above (inl covered) = let l : m < s.past = covered.0.1 in absurd (omega arith)
+given_after s spans m mark above (inr behind) = behind
 
 -- spans that give exactly the minutes from a base to a past follow one another
 joined_from : (spans : List Span) (base past : ℕ) → IsCanonical spans → base ≤ past
@@ -55,7 +55,7 @@ joined_from (s ∷ spans) base past c le within given =
           (λ m mark g. (later s.past spans m mark (canonical_starts s spans c) g, (within m mark (inr g)).1))
           (λ m above below.
           let (mark, g) = given m (omega arith) below in
-          (mark, given_behind s spans m mark above g)),
+          (mark, given_after s spans m mark above g)),
     )
 
 -- if no minute is given as crew, no span is crew
@@ -138,7 +138,7 @@ module _ {held spans : List Span} {base : ℕ} {horizon : Horizon} (h : IsHorizo
       subst (λ (xs : List Span). IsExamined xs base horizon.minute) (sym same) is
 
   -- in each minute, the line of the slice is as examined
-  as_examined : (m : ℕ) → line_of spans m ≡ examined held base horizon.minute m
+  as_examined : (m : ℕ) → line_of spans m ≡ examined_line held base horizon.minute m
   as_examined m = elim (cases_lt m base) [
     | inl before ↦
         let e : line_of spans m ≡ Rest = line_before spans base horizon.minute m joined before in
@@ -152,16 +152,16 @@ module _ {held spans : List Span} {base : ℕ} {horizon : Horizon} (h : IsHorizo
           ap (λ (o : Option Mark). option_map_or (λ (x : Mark). x.activity) o Rest) is in
           grind (arith, nat_tests, e, f)
       | inr behind ↦
-          let e : line_of spans m ≡ Rest = line_behind spans base horizon.minute m joined behind in
+          let e : line_of spans m ≡ Rest = line_from_past spans base horizon.minute m joined behind in
           grind (arith, nat_tests, e)
     ]
   ]
 
   -- the line of the slice is the examined line
-  slice_line : line_of spans ≡ examined held base horizon.minute
+  slice_line : line_of spans ≡ examined_line held base horizon.minute
   slice_line = fun_ext as_examined
 
   -- a property of the slice's line holds for the examined line
   pub as_line : (P : Line → Type 0) {now : List Span} → now ≡ spans
-      → P (line_of now) → P (examined held base horizon.minute)
+      → P (line_of now) → P (examined_line held base horizon.minute)
   as_line P same p = subst P (ap line_of same ∙ slice_line) p

@@ -96,21 +96,21 @@ module _ (line other : Line) (h k : ℕ) (g : GoesOn line other h k)
       (λ r in' ended. (same_breaks (r.start + 1) r (omega arith) ended).0 in')
       (λ r in' ended. (same_breaks (r.start + 1) r (omega arith) ended).1 in')
       theirs theirs_are 0 (λ r. (λ in'. (in', omega arith), λ c. c.0)) last last_in far
-      is.a is.b is.first is.second is.before is.between in
+      is.earlier is.later is.first is.second is.before is.between in
       let (amount, excess) =
-      over_stays line other h k g driving_before_break is.a.past is.b.start next.start breach n.later is.over in (
+      over_stays line other h k g driving_before_break is.earlier.past is.later.start next.start breach n.later is.over in (
         record { kind = B1; moment = breach.moment; since = breach.since; amount = amount },
         (
           refl,
           record {
-            a = is.a;
-            b = next;
+            earlier = is.earlier;
+            later = next;
             first = first;
             second = n.is;
             before = n.before;
             between = n.between;
             over = excess;
-            since = minute_stays line other h k g is.a.past is.b.start next.start 1 breach.since n.later is.since;
+            since = minute_stays line other h k g is.earlier.past is.later.start next.start 1 breach.since n.later is.since;
           },
         ),
         record { moment = refl; kind = refl; since = refl },

@@ -16,7 +16,7 @@ use Rattle.tacho_hours.specs.Choice.{IsChoice, IsCounted, Serves, CanServe}
 use Rattle.tacho_hours.specs.Anew.{FailsFrom, Fails, EndedBy}
 use Rattle.tacho_hours.specs.Anew.Fails.{at_first, anew}
 use Rattle.tacho_hours.specs.Breaches.{IsB9}
-use Rattle.tacho_hours.proofs.CoveringLemmas.{EndsBehind, ends_behind}
+use Rattle.tacho_hours.proofs.CoveringLemmas.{EndsAfter, ends_after}
 use Rattle.tacho_rules.proofs.StayingLemmas.{GoesOn}
 use Rattle.tacho_rules.proofs.StayingHoursLemmas.{HasSame}
 
@@ -285,7 +285,7 @@ module _ (line other : Line) (h k : ℕ) (g : GoesOn line other h k) where
   theirs =
       let f : h ≤ FAR = far in
       let early : k ≤ latest = g.early in
-      let e : EndsBehind other h = ends_behind other (FAR - h) h (omega arith) in (
+      let e : EndsAfter other h = ends_after other (FAR - h) h (omega arith) in (
         e.past,
         record {
           later = e.above;

@@ -10,15 +10,15 @@ use Rattle.tacho_hours.specs.declared.run.Run.{Run}
 use Rattle.tacho_hours.specs.declared.days.DutyDay.{DutyDay}
 use Rattle.tacho_hours.specs.declared.breach.Breach.{Breach}
 use Rattle.tacho_hours.specs.declared.breach.Kind.TheVariants.{B2, B3, B4, B5}
-use Rattle.tacho_hours.specs.Exactly.{AreSoMany}
+use Rattle.tacho_hours.specs.Exactly.{HasCount}
 use Rattle.tacho_hours.specs.Line.{Line}
 use Rattle.tacho_hours.specs.Limits.{latest, daily_rest, weekly_rest, first_part_of_daily_rest, driving_in_day}
 use Rattle.tacho_hours.specs.Limits.{driving_in_extended_day}
 use Rattle.tacho_hours.specs.Runs.{IsRestOf, AreRestRuns, Before, minutes_of}
-use Rattle.tacho_hours.specs.Driving.{driving, IsExcess}
+use Rattle.tacho_hours.specs.Driving.{driving, IsDrivingAbove}
 use Rattle.tacho_hours.specs.Days.{IsDuty, EarlierDay, HasPortion, IsRegular, IsReduced}
 use Rattle.tacho_hours.specs.Breaches.{IsB2, IsB3, IsB4, IsB5, IsExtended}
-use Rattle.tacho_hours.proofs.ExactlyLemmas.{so_many_as}
+use Rattle.tacho_hours.proofs.ExactlyLemmas.{how_many_as}
 use Rattle.tacho_hours.proofs.DrivingLemmas.{driving_mono}
 use Rattle.tacho_hours.proofs.DebtsLemmas.{separate}
 use Rattle.tacho_hours.proofs.ByRunsLemmas.{one_run}
@@ -57,7 +57,7 @@ module _ {A : Type 0} (f : A → A) where
   -- how many elements there are stays the same
   so_many_map : (P Q : A → Type 0) (R : A → A → Type 0) (n : ℕ) → ((x : A) → P x → Q (f x))
       → ((y : A) → Q y → (x : A) × P x × (f x ≡ y)) → ((x y : A) → P x → P y → R x y → R (f x) (f y))
-      → AreSoMany P R n → AreSoMany Q R n
+      → HasCount P R n → HasCount Q R n
   so_many_map P Q R n to back keeps s = record {
     all = map f s.all;
     exactly = record {
@@ -165,7 +165,7 @@ module _ (line other : Line) (h k : ℕ) (g : GoesOn line other h k)
           record {
             day = next;
             duty = duty;
-            over = subst (λ (from : ℕ). IsExcess other driving_in_extended_day from next.past breach.moment amount)
+            over = subst (λ (from : ℕ). IsDrivingAbove other driving_in_extended_day from next.past breach.moment amount)
                 (sym start) excess;
             since = is.since ∙ sym start;
           },
@@ -275,12 +275,12 @@ module _ (line other : Line) (h k : ℕ) (g : GoesOn line other h k)
             last = λ run r after sooner.
                 is.last run (rest_was line other h k g theirs are weekly_rest (omega arith) run r (omega arith)) after
                 sooner;
-            so_many = so_many_as
+            how_many = how_many_as
                 (λ d. IsReduced line d × Before is.weekly d.rest × (d.rest.start ≤ day.rest.start))
                 (λ d. IsReduced other d × Before is.weekly d.rest × (d.rest.start ≤ day.rest.start))
                 EarlierDay is.ordinal
                 (λ d. (λ (r, b, le). (reduced_stays d r, b, le), λ (r, b, le). (reduced_was d (too d r le) r, b, le)))
-                is.so_many;
+                is.how_many;
             many = is.many;
             moment = is.moment;
             since = is.since;
@@ -437,9 +437,9 @@ module _ (line other : Line) (h k : ℕ) (g : GoesOn line other h k)
             week = is.week;
             ordinal = is.ordinal;
             extended = here;
-            so_many = so_many_map f P Q EarlierDay is.ordinal to back keeps is.so_many;
+            how_many = so_many_map f P Q EarlierDay is.ordinal to back keeps is.how_many;
             many = is.many;
-            over = subst (λ (from : ℕ). IsExcess other driving_in_day from next.past breach.moment amount)
+            over = subst (λ (from : ℕ). IsDrivingAbove other driving_in_day from next.past breach.moment amount)
                 (sym start) excess;
             since = is.since ∙ sym start;
           },

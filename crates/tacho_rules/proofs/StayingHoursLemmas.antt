@@ -10,8 +10,8 @@ use Rattle.tacho_hours.specs.declared.breach.Breach.{Breach}
 use Rattle.tacho_hours.specs.Line.{Line}
 use Rattle.tacho_hours.specs.Limits.{latest}
 use Rattle.tacho_hours.specs.Runs.{IsRestRun, IsRestOf, AreRestRuns, AreNeighbours, minutes_of}
-use Rattle.tacho_hours.specs.Driving.{driving, is_drive, IsDrivingMinute, IsExcess}
-use Rattle.tacho_hours.specs.Breaches.{IsOver}
+use Rattle.tacho_hours.specs.Driving.{driving, is_drive, IsDrivingMinute, IsDrivingAbove}
+use Rattle.tacho_hours.specs.Breaches.{HasDrivingAbove}
 use Rattle.tacho_hours.specs.Order.{Agree}
 use Rattle.tacho_hours.proofs.DrivingLemmas.{driving_reaches}
 use Rattle.tacho_hours.proofs.RunsLemmas.{rest_runs_are}
@@ -62,8 +62,8 @@ module _ (line other : Line) (h k : ℕ) (g : GoesOn line other h k) where
       }
 
   -- too much driving stays too much, from the same minute on
-  pub over_stays : (limit from to past : ℕ) (breach : Breach) → to ≤ past → IsOver line limit from to breach
-      → (n : ℕ) × IsExcess other limit from past breach.moment n
+  pub over_stays : (limit from to past : ℕ) (breach : Breach) → to ≤ past → HasDrivingAbove line limit from to breach
+      → (n : ℕ) × IsDrivingAbove other limit from past breach.moment n
   over_stays limit from to past breach le is =
       let m : IsDrivingMinute other from past (limit + 1) breach.moment =
       minute_stays from to past (limit + 1) breach.moment le is.moment in

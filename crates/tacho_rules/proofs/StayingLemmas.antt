@@ -22,22 +22,22 @@ pub record GoesOn (line other : Line) (h k : ℕ) : Type 0 where
   pub early : k ≤ latest
 
 -- the first run after `a` that has at least `least` minutes
-pub record IsFirstBehind (xs : List Run) (least : ℕ) (a first : Run) : Type 0 where
+pub record IsFirstAfter (xs : List Run) (least : ℕ) (a first : Run) : Type 0 where
   pub among : Contains xs first
   pub enough : least ≤ minutes_of first
   pub behind : Before a first
   pub none : (c : Run) → Contains xs c → least ≤ minutes_of c → Before a c → Before c first → ⊥
 
 -- there is no such run
-pub NoneBehind : List Run → ℕ → Run → Type 0
-NoneBehind xs least a = (c : Run) → Contains xs c → least ≤ minutes_of c → Before a c → ⊥
+pub NoneAfter : List Run → ℕ → Run → Type 0
+NoneAfter xs least a = (c : Run) → Contains xs c → least ≤ minutes_of c → Before a c → ⊥
 
 module _ (least : ℕ) (a : Run) where
   -- if `x` is not such a run, the first one is among the later runs
   later_first : (x : Run) (xs : List Run) → AllPairs Before (x ∷ xs) → (least ≤ minutes_of x → Before a x → ⊥)
-      → ((first : Run) × IsFirstBehind xs least a first) ⊎ NoneBehind xs least a
-      → ((first : Run) × IsFirstBehind (x ∷ xs) least a first) ⊎ NoneBehind (x ∷ xs) least a
-  unfolding NoneBehind
+      → ((first : Run) × IsFirstAfter xs least a first) ⊎ NoneAfter xs least a
+      → ((first : Run) × IsFirstAfter (x ∷ xs) least a first) ⊎ NoneAfter (x ∷ xs) least a
+  unfolding NoneAfter
   later_first x xs order not_x found = elim found [
     | inl (first, is) ↦ inl (
       first,
@@ -63,7 +63,7 @@ module _ (least : ℕ) (a : Run) where
 
   here_first : (x : Run) (xs : List Run) → x.start < x.past → AllPairs Before (x ∷ xs)
       → All (λ (run : Run). run.start < run.past) xs
-      → least ≤ minutes_of x → Before a x → IsFirstBehind (x ∷ xs) least a x
+      → least ≤ minutes_of x → Before a x → IsFirstAfter (x ∷ xs) least a x
   here_first x xs some order others enough behind = record {
     among = contains_head x xs;
     enough = enough;
@@ -80,15 +80,15 @@ module _ (least : ℕ) (a : Run) where
   }
 
   -- there is a first such run, or none
-  pub first_behind : (xs : List Run) → All (λ (run : Run). run.start < run.past) xs → AllPairs Before xs
-      → ((first : Run) × IsFirstBehind xs least a first) ⊎ NoneBehind xs least a
-  unfolding NoneBehind
-  first_behind [] some order = inr (λ c in' enough after. let (i, within, is) = in' in omega arith)
-  first_behind (x ∷ xs) some order =
+  pub first_after : (xs : List Run) → All (λ (run : Run). run.start < run.past) xs → AllPairs Before xs
+      → ((first : Run) × IsFirstAfter xs least a first) ⊎ NoneAfter xs least a
+  unfolding NoneAfter
+  first_after [] some order = inr (λ c in' enough after. let (i, within, is) = in' in omega arith)
+  first_after (x ∷ xs) some order =
       let tail : AllPairs Before xs = tail_order Before x xs order in
       let others : All (λ (run : Run). run.start < run.past) xs = λ i d within. some (suc i) d (omega arith) in
-      let rest : ((first : Run) × IsFirstBehind xs least a first) ⊎ NoneBehind xs least a =
-      first_behind xs others tail in
+      let rest : ((first : Run) × IsFirstAfter xs least a first) ⊎ NoneAfter xs least a =
+      first_after xs others tail in
       elim (cases_lt a.past x.start) [
         | inl behind ↦ elim (cases_lt (minutes_of x) least) [
           | inl short ↦ later_first x xs order (λ enough after. omega arith) rest
@@ -158,9 +158,9 @@ module _ (line other : Line) (h k : ℕ) (g : GoesOn line other h k) where
       (c.run, c.rests, far, c.from)
 
   -- it comes after each run of `line` that has an end
-  pub last_behind : (a last : Run) → IsRestRun line a → a.past < h → IsRestRun other last → last.past ≡ FAR
+  pub last_after : (a last : Run) → IsRestRun line a → a.past < h → IsRestRun other last → last.past ≡ FAR
       → Before a last
-  last_behind a last is below is_last far =
+  last_after a last is below is_last far =
       let early : k ≤ latest = g.early in
       let later : h ≤ k = g.later in
       let stays : IsRestRun other a = run_stays a is below in
@@ -221,7 +221,7 @@ module _ (line other : Line) (h k : ℕ) (g : GoesOn line other h k) where
     }
 
     next_found : (a b first : Run) → S b → ((c : Run) → S c → Before a c → Before c b → ⊥) → b.past ≡ FAR
-        → IsFirstBehind xs least a first → IsNextThere a b first
+        → IsFirstAfter xs least a first → IsNextThere a b first
     next_found a b first is between end f =
         let t : T first = (all first).1 (f.among, f.enough) in
         record {
@@ -239,7 +239,7 @@ module _ (line other : Line) (h k : ℕ) (g : GoesOn line other h k) where
 
     pub next_there : (a b : Run) → S a → S b → Before a b → ((c : Run) → S c → Before a c → Before c b → ⊥)
         → (next : Run) × T a × IsNextThere a b next
-    unfolding NoneBehind
+    unfolding NoneAfter
     next_there a b is_a is_b before between =
         let one : h ≤ k = g.later in
         let two : k ≤ latest = g.early in
@@ -252,9 +252,9 @@ module _ (line other : Line) (h k : ℕ) (g : GoesOn line other h k) where
         ] in
         elim (ending b (s_rests b is_b)) [
           | inr ended ↦ (b, stays a is_a a_ended, next_ended a b is_b before between ended)
-          | inl end ↦ elim (first_behind least a xs are.some are.in_order) [
+          | inl end ↦ elim (first_after least a xs are.some are.in_order) [
             | inl (first, f) ↦ (first, stays a is_a a_ended, next_found a b first is_b between end f)
             | inr none ↦ absurd (none last ((all last).0 is_last).0 ((all last).0 is_last).1
-                (last_behind a last (s_rests a is_a) a_ended (t_rests last is_last) far))
+                (last_after a last (s_rests a is_a) a_ended (t_rests last is_last) far))
           ]
         ]

@@ -21,7 +21,7 @@ use Rattle.tacho_hours.specs.Runs.{AreRestRuns}
 use Rattle.tacho_hours.specs.Breaks.{AreCompleteBreaks}
 use Rattle.tacho_hours.specs.Breaches.{IsBreach}
 use Rattle.tacho_hours.specs.Order.{Agree}
-use Rattle.tacho_rules.specs.Report.{examined, IsReport}
+use Rattle.tacho_rules.specs.Report.{examined_line, IsReport}
 use Rattle.tacho_rules.proofs.SliceLemmas.{early_horizon}
 use Rattle.tacho_rules.proofs.StayingLemmas.{GoesOn}
 use Rattle.tacho_rules.proofs.StayingHoursLemmas.{HasSame}
@@ -31,13 +31,13 @@ use Rattle.tacho_rules.proofs.StayingWeeksLemmas.{b6_stays, b7_stays, b8_stays}
 use Rattle.tacho_rules.proofs.StayingChoiceLemmas.{b9_stays}
 
 -- from its horizon on, an examined line is at rest
-rests_behind : (held : List Span) (base h m : ℕ) → h ≤ m → examined held base h m ≡ Rest
-rests_behind held base h m behind = grind (arith, nat_tests)
+rests_after : (held : List Span) (base h m : ℕ) → h ≤ m → examined_line held base h m ≡ Rest
+rests_after held base h m behind = grind (arith, nat_tests)
 
 -- if two lists of spans hold the same marks before the horizon of the first, the examined lines agree there
 agree_before : (held more : List Span) (base h k : ℕ) → h ≤ k
     → ((m : ℕ) → base ≤ m → m < h → mark_at held m ≡ mark_at more m)
-    → (m : ℕ) → m < h → examined held base h m ≡ examined more base k m
+    → (m : ℕ) → m < h → examined_line held base h m ≡ examined_line more base k m
 agree_before held more base h k le same m below = elim (cases_lt m base) [
   | inl before ↦ grind (arith, nat_tests)
   | inr from ↦
@@ -99,16 +99,16 @@ pub breaches_stay : (held more : List Span) (base : ℕ) (horizon later : Horizo
     → (breach : Breach) → Contains found breach → breach.kind ≢ B10
     → (same : Breach) × Contains others same × Agree breach same
 breaches_stay held more base horizon later found others debts owed r s marks le early ended breach in' not =
-    let g : GoesOn (examined held base horizon.minute) (examined more base later.minute) horizon.minute later.minute =
+    let g : GoesOn (examined_line held base horizon.minute) (examined_line more base later.minute) horizon.minute later.minute =
     record {
       agree = agree_before held more base horizon.minute later.minute le marks;
-      rest = λ m behind. rests_behind held base horizon.minute m behind;
-      other_rest = λ m behind. rests_behind more base later.minute m behind;
+      rest = λ m behind. rests_after held base horizon.minute m behind;
+      other_rest = λ m behind. rests_after more base later.minute m behind;
       later = le;
       early = early_horizon more base later s.is_horizon early ended;
     } in
     let (same, is, agree) =
-    stays (examined held base horizon.minute) (examined more base later.minute) base horizon.minute later.minute g
+    stays (examined_line held base horizon.minute) (examined_line more base later.minute) base horizon.minute later.minute g
     r.runs s.runs r.breaks s.breaks debts owed r.are_runs s.are_runs r.are_breaks s.are_breaks breach not
     ((r.exactly.each breach).0 in') in
     (same, (s.exactly.each same).1 is, agree)

@@ -42,15 +42,15 @@ module _ (line other : Line) (h k : ℕ) (g : GoesOn line other h k) where
         → HasSame (λ b. (b.kind ≡ B8) × IsB8 other b) (record breach { kind = B8 })
     b8_stays breach is =
         let (next, n, later, same) =
-        neighbours_stay line other h k g theirs are weekly_rest (omega arith) is.a is.b is.neighbours in
+        neighbours_stay line other h k g theirs are weekly_rest (omega arith) is.earlier is.later is.neighbours in
         let late : 0 < breach.amount = is.late in
-        let at : breach.moment + breach.amount ≡ is.b.start = is.amount in (
+        let at : breach.moment + breach.amount ≡ is.later.start = is.amount in (
           record { kind = B8; moment = breach.moment; since = breach.since; amount = next.start - breach.moment },
           (
             refl,
             record {
-              a = is.a;
-              b = next;
+              earlier = is.earlier;
+              later = next;
               neighbours = n;
               moment = is.moment;
               since = is.since;

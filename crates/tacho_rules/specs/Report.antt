@@ -17,8 +17,8 @@ use Rattle.tacho_hours.specs.Breaches.{IsBreach}
 use Rattle.tacho_hours.specs.Order.{AreBreaches}
 
 -- the examined line: what is held from the base to before the horizon, and rest in every other minute
-abbrev pub examined : List Span → ℕ → ℕ → Line
-examined held base horizon m =
+abbrev pub examined_line : List Span → ℕ → ℕ → Line
+examined_line held base horizon m =
     if nat_le base m && nat_lt m horizon then option_map_or (λ mark. mark.activity) (mark_at held m) Rest else Rest
 
 -- a report has the horizon, every breach once and in order, and the debts; there is exactly one
@@ -27,8 +27,8 @@ pub record IsReport (held : List Span) (base : ℕ) (horizon : Horizon)
   pub is_horizon : IsHorizon held base horizon
   pub runs : List Run
   pub breaks : List Run
-  pub are_runs : AreRestRuns (examined held base horizon.minute) runs
+  pub are_runs : AreRestRuns (examined_line held base horizon.minute) runs
   pub are_breaks : AreCompleteBreaks runs breaks
-  pub are_debts : AreDebts (examined held base horizon.minute) horizon.minute debts
+  pub are_debts : AreDebts (examined_line held base horizon.minute) horizon.minute debts
   pub exactly : AreBreaches
-      (λ breach. IsBreach (examined held base horizon.minute) base horizon.minute breaks debts breach.kind breach) found
+      (λ breach. IsBreach (examined_line held base horizon.minute) base horizon.minute breaks debts breach.kind breach) found

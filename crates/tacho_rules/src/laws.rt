@@ -17,7 +17,7 @@ ghost use Rattle.tacho_driving.specs.Periods.{BreaksDefined};
 ghost use Rattle.tacho_driving.specs.Sums.{WeekSumsDefined};
 ghost use Rattle.tacho_days.specs.Days.{DaysDefined};
 ghost use Rattle.tacho_rests.specs.WeekRests.{WeekRestsDefined};
-ghost use Rattle.tacho_rules.specs.Report.{IsReport, examined};
+ghost use Rattle.tacho_rules.specs.Report.{IsReport, examined_line};
 
 use crate::{Breaks, Days, Pass, WeekRests, WeekSums};
 pub use tacho_choice::laws::{choices_reach, each_week_has_its_rests};
@@ -51,7 +51,7 @@ pub fn report_by_marks()
 pub fn rest_alone_is_no_breach()
     ensures { (held : List Stretch) (base : ℕ) (horizon : HorizonValue) (found : List BreachValue)
         (debts : List DebtValue)
-        → IsReport held base horizon found debts → ((m : ℕ) → examined held base horizon.minute m ≡ Rest)
+        → IsReport held base horizon found debts → ((m : ℕ) → examined_line held base horizon.minute m ≡ Rest)
         → (found ≡ []) × (debts ≡ []) }
 {}
 

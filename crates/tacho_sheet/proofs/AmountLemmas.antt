@@ -10,8 +10,8 @@ use Rattle.tacho_time.proofs.CanonicalLemmas.{later, canonical_starts}
 use Rattle.tacho_line.specs.Line.{covers, mark_at, HoldsWithin, IsWithin}
 use Rattle.tacho_line.proofs.LineLemmas.{first_holds, rest_holds, held_given, given_held}
 use Rattle.tacho_sheet.specs.declared.amounts.Amounts.{Amounts}
-use Rattle.tacho_sheet.specs.Reports.{count_from, minutes_of, is_single, is_crew, is_lacking}
-use Rattle.tacho_sheet.specs.Amounts.{AreAmounts, AreFrom, part, whole}
+use Rattle.tacho_sheet.specs.Reports.{count_from, column_minutes, is_single_minute, is_crew, is_lacking}
+use Rattle.tacho_sheet.specs.Amounts.{AreAmounts, AreFrom, all_or_none, whole}
 
 -- ---- counts
 
@@ -34,7 +34,7 @@ count_same p q m (suc n) h =
     let f : p m ≡ q m = h m (omega arith) (omega arith) in
     rw (e, f) refl
 
-pub count_const : (b : Bool) (m n : ℕ) → count_from (λ i. b) m n ≡ part b n
+pub count_const : (b : Bool) (m n : ℕ) → count_from (λ i. b) m n ≡ all_or_none b n
 count_const true m zero = refl
 count_const true m (suc n) = let e : count_from (λ i. true) (m + 1) n ≡ n = count_const true (m + 1) n in omega arith
 count_const false m zero = refl
@@ -54,15 +54,15 @@ count_le p m (suc n) = let e : count_from p (m + 1) n ≤ n = count_le p (m + 1)
 -- the count of a column grows by minutes that all have one mark
 column_run : (line : List Span) (column : Option Mark → Bool) (mark : Option Mark) (m n k x y : ℕ)
     → ((i : ℕ) → m + n ≤ i → i < (m + n) + k → mark_at line i ≡ mark)
-    → x ≡ minutes_of line m n column → y ≡ x + part (column mark) k → y ≡ minutes_of line m (n + k) column
+    → x ≡ column_minutes line m n column → y ≡ x + all_or_none (column mark) k → y ≡ column_minutes line m (n + k) column
 column_run line column mark m n k x y h e f =
     let p : ℕ → Bool = λ i. column (mark_at line i) in
     let a : count_from p (m + n) k ≡ count_from (λ i. column mark) (m + n) k = count_same p (λ i. column mark) (m + n) k (λ i u v. ap column (h i u v)) in
-    f ∙ ap (λ (t : ℕ). t + part (column mark) k) e ∙ ap (λ (t : ℕ). count_from p m n + t) (sym (a ∙ count_const (column mark) (m + n) k)) ∙ sym (count_split p m n k)
+    f ∙ ap (λ (t : ℕ). t + all_or_none (column mark) k) e ∙ ap (λ (t : ℕ). count_from p m n + t) (sym (a ∙ count_const (column mark) (m + n) k)) ∙ sym (count_split p m n k)
 
 -- the counts of a column over adjacent minutes add up
 column_more : (line : List Span) (column : Option Mark → Bool) (m n l k x y z : ℕ) → l ≡ m + n
-    → x ≡ minutes_of line m n column → y ≡ minutes_of line l k column → z ≡ x + y → z ≡ minutes_of line m (n + k) column
+    → x ≡ column_minutes line m n column → y ≡ column_minutes line l k column → z ≡ x + y → z ≡ column_minutes line m (n + k) column
 column_more line column m n l k x y z at e f g =
     let p : ℕ → Bool = λ i. column (mark_at line i) in
     g ∙ ap (λ (t : ℕ). t + y) e ∙ ap (λ (t : ℕ). count_from p m n + t) (f ∙ ap (λ (t : ℕ). count_from p t k) at) ∙ sym (count_split p m n k)
@@ -70,7 +70,7 @@ column_more line column m n l k x y z at e f g =
 -- a column counts the same for two lines that agree on the minutes
 column_same : (line other : List Span) (column : Option Mark → Bool) (m n x : ℕ)
     → ((i : ℕ) → m ≤ i → i < m + n → mark_at line i ≡ mark_at other i)
-    → x ≡ minutes_of line m n column → x ≡ minutes_of other m n column
+    → x ≡ column_minutes line m n column → x ≡ column_minutes other m n column
 column_same line other column m n x h e =
     e ∙ count_same (λ i. column (mark_at line i)) (λ i. column (mark_at other i)) m n (λ i u v. ap column (h i u v))
 
@@ -83,31 +83,31 @@ amounts_none line m = record { rest = refl; available = refl; work = refl; drive
 -- the sum of the amounts is at most six times the minutes
 pub amounts_small : (line : List Span) (m n : ℕ) (a : Amounts) → AreAmounts line m n a → whole a ≤ 6 * n
 amounts_small line m n a h =
-    let re : a.rest ≤ n = let e = h.rest in let l = count_le (λ i. (is_single Rest) (mark_at line i)) m n in omega (arith, e, l) in
-    let av : a.available ≤ n = let e = h.available in let l = count_le (λ i. (is_single Available) (mark_at line i)) m n in omega (arith, e, l) in
-    let wo : a.work ≤ n = let e = h.work in let l = count_le (λ i. (is_single Work) (mark_at line i)) m n in omega (arith, e, l) in
-    let dr : a.drive ≤ n = let e = h.drive in let l = count_le (λ i. (is_single Drive) (mark_at line i)) m n in omega (arith, e, l) in
+    let re : a.rest ≤ n = let e = h.rest in let l = count_le (λ i. (is_single_minute Rest) (mark_at line i)) m n in omega (arith, e, l) in
+    let av : a.available ≤ n = let e = h.available in let l = count_le (λ i. (is_single_minute Available) (mark_at line i)) m n in omega (arith, e, l) in
+    let wo : a.work ≤ n = let e = h.work in let l = count_le (λ i. (is_single_minute Work) (mark_at line i)) m n in omega (arith, e, l) in
+    let dr : a.drive ≤ n = let e = h.drive in let l = count_le (λ i. (is_single_minute Drive) (mark_at line i)) m n in omega (arith, e, l) in
     let cr : a.crew ≤ n = let e = h.crew in let l = count_le (λ i. is_crew (mark_at line i)) m n in omega (arith, e, l) in
     let la : a.lacking ≤ n = let e = h.lacking in let l = count_le (λ i. is_lacking (mark_at line i)) m n in omega (arith, e, l) in
     omega arith
 
 -- `b` is `a` after `k` minutes with one mark are added
 pub record IsLonger (mark : Option Mark) (k : ℕ) (a b : Amounts) : Type 0 where
-  pub rest : b.rest ≡ a.rest + part (is_single Rest mark) k
-  pub available : b.available ≡ a.available + part (is_single Available mark) k
-  pub work : b.work ≡ a.work + part (is_single Work mark) k
-  pub drive : b.drive ≡ a.drive + part (is_single Drive mark) k
-  pub crew : b.crew ≡ a.crew + part (is_crew mark) k
-  pub lacking : b.lacking ≡ a.lacking + part (is_lacking mark) k
+  pub rest : b.rest ≡ a.rest + all_or_none (is_single_minute Rest mark) k
+  pub available : b.available ≡ a.available + all_or_none (is_single_minute Available mark) k
+  pub work : b.work ≡ a.work + all_or_none (is_single_minute Work mark) k
+  pub drive : b.drive ≡ a.drive + all_or_none (is_single_minute Drive mark) k
+  pub crew : b.crew ≡ a.crew + all_or_none (is_crew mark) k
+  pub lacking : b.lacking ≡ a.lacking + all_or_none (is_lacking mark) k
 
 -- amounts with more minutes of one mark
 amounts_run : (line : List Span) (mark : Option Mark) (m n k : ℕ) (a b : Amounts) → AreAmounts line m n a
     → ((i : ℕ) → m + n ≤ i → i < (m + n) + k → mark_at line i ≡ mark) → IsLonger mark k a b → AreAmounts line m (n + k) b
 amounts_run line mark m n k a b h same g = record {
-  rest = column_run line (is_single Rest) mark m n k a.rest b.rest same h.rest g.rest;
-  available = column_run line (is_single Available) mark m n k a.available b.available same h.available g.available;
-  work = column_run line (is_single Work) mark m n k a.work b.work same h.work g.work;
-  drive = column_run line (is_single Drive) mark m n k a.drive b.drive same h.drive g.drive;
+  rest = column_run line (is_single_minute Rest) mark m n k a.rest b.rest same h.rest g.rest;
+  available = column_run line (is_single_minute Available) mark m n k a.available b.available same h.available g.available;
+  work = column_run line (is_single_minute Work) mark m n k a.work b.work same h.work g.work;
+  drive = column_run line (is_single_minute Drive) mark m n k a.drive b.drive same h.drive g.drive;
   crew = column_run line is_crew mark m n k a.crew b.crew same h.crew g.crew;
   lacking = column_run line is_lacking mark m n k a.lacking b.lacking same h.lacking g.lacking;
 }
@@ -122,10 +122,10 @@ pub amounts_more : (line : List Span) (m n l k : ℕ) (a b s : Amounts) → l �
     → s.lacking ≡ a.lacking + b.lacking
     → AreAmounts line m (n + k) s
 amounts_more line m n l k a b s at h g re av wo dr cr la = record {
-  rest = column_more line (is_single Rest) m n l k a.rest b.rest s.rest at h.rest g.rest re;
-  available = column_more line (is_single Available) m n l k a.available b.available s.available at h.available g.available av;
-  work = column_more line (is_single Work) m n l k a.work b.work s.work at h.work g.work wo;
-  drive = column_more line (is_single Drive) m n l k a.drive b.drive s.drive at h.drive g.drive dr;
+  rest = column_more line (is_single_minute Rest) m n l k a.rest b.rest s.rest at h.rest g.rest re;
+  available = column_more line (is_single_minute Available) m n l k a.available b.available s.available at h.available g.available av;
+  work = column_more line (is_single_minute Work) m n l k a.work b.work s.work at h.work g.work wo;
+  drive = column_more line (is_single_minute Drive) m n l k a.drive b.drive s.drive at h.drive g.drive dr;
   crew = column_more line is_crew m n l k a.crew b.crew s.crew at h.crew g.crew cr;
   lacking = column_more line is_lacking m n l k a.lacking b.lacking s.lacking at h.lacking g.lacking la;
 }
@@ -134,10 +134,10 @@ amounts_more line m n l k a b s at h g re av wo dr cr la = record {
 pub amounts_same : (line other : List Span) (m n : ℕ) (a : Amounts) → ((i : ℕ) → m ≤ i → i < m + n → mark_at line i ≡ mark_at other i)
     → AreAmounts line m n a → AreAmounts other m n a
 amounts_same line other m n a same h = record {
-  rest = column_same line other (is_single Rest) m n a.rest same h.rest;
-  available = column_same line other (is_single Available) m n a.available same h.available;
-  work = column_same line other (is_single Work) m n a.work same h.work;
-  drive = column_same line other (is_single Drive) m n a.drive same h.drive;
+  rest = column_same line other (is_single_minute Rest) m n a.rest same h.rest;
+  available = column_same line other (is_single_minute Available) m n a.available same h.available;
+  work = column_same line other (is_single_minute Work) m n a.work same h.work;
+  drive = column_same line other (is_single_minute Drive) m n a.drive same h.drive;
   crew = column_same line other is_crew m n a.crew same h.crew;
   lacking = column_same line other is_lacking m n a.lacking same h.lacking;
 }

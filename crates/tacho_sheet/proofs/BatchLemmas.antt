@@ -7,16 +7,16 @@ use Rattle.tacho_time.specs.Reading.{minute_at}
 use Rattle.tacho_time.specs.declared.span.Activity.{Activity}
 use Rattle.tacho_time.specs.declared.fault.TimeFault.{TimeFault}
 use Rattle.tacho_time.proofs.ReadBackLemmas.{minute_texts}
-use Rattle.tacho_state.specs.Batch.{Hours, IsEntryLine, AreInOrder, IsBatch}
+use Rattle.tacho_state.specs.Batch.{Hours, IsEntryLine, AreHoursInOrder, IsBatch}
 use Rattle.tacho_state.specs.declared.driver.Column.TheVariants as column
 use Rattle.tacho_state.specs.declared.entry.EntryLine.{EntryLine}
-use Rattle.tacho_sheet.specs.Words.{activity_of, left_out_of}
+use Rattle.tacho_sheet.specs.Words.{activity_of_text, left_out_of}
 use Rattle.tacho_sheet.specs.Rows.{Row}
 use Rattle.tacho_sheet.specs.declared.entries.Head.{Head}
 use Rattle.tacho_sheet.specs.declared.fault.LeftOut.{LeftOut}
 use Rattle.tacho_sheet.specs.declared.fault.SheetFault.{SheetFault}
 use Rattle.tacho_sheet.specs.declared.fault.SheetFault.TheVariants as fault
-use Rattle.tacho_sheet.specs.Entries.{Answer, Lines, Texts, Worked, sized, active, timed, signed, is_author, is_note, line_of_texts, line_of}
+use Rattle.tacho_sheet.specs.Entries.{RowAnswer, Lines, Texts, Worked, check_length, active, check_times, check_author, is_author, is_note, line_of_texts, row_answer}
 use Rattle.tacho_sheet.specs.Entries.{lines_from, with_line, put_first, lines_told, texts_of}
 
 -- a row's minutes and activity satisfy the limits of a line, after the row before
@@ -29,7 +29,7 @@ record Works (before : ℕ) (worked : ℕ × ℕ × Activity) : Type 0 where
 
 -- E7: so does a row that isn't too long
 sized_works : (row before start past : ℕ) (a : Activity) (worked : ℕ × ℕ × Activity)
-    → 15780960 ≤ start → past ≤ 68374079 → start < past → before ≤ start → sized row start past a ≡ Ok worked → Works before worked
+    → 15780960 ≤ start → past ≤ 68374079 → start < past → before ≤ start → check_length row start past a ≡ Ok worked → Works before worked
 sized_works row before start past a worked first last full after e = go (nat_lt 527040 (past - start)) refl e where
   go : (b : Bool) → nat_lt 527040 (past - start) ≡ b → cond b (Err (fault.TooLong row)) (Ok (start, past, a)) ≡ Ok worked
       → Works before worked
@@ -49,18 +49,18 @@ active_works row before start past None (Some a) worked first last full after e 
 
 -- E3 and E4: so does a row whose times can be read and are in order
 timed_works : (row before : ℕ) (word : List ℕ) (start past : Result ℕ TimeFault) (worked : ℕ × ℕ × Activity)
-    → ((n : ℕ) → start ≡ Ok n → 15780960 ≤ n) → ((n : ℕ) → past ≡ Ok n → n ≤ 68374079) → timed row before word start past ≡ Ok worked
+    → ((n : ℕ) → start ≡ Ok n → 15780960 ≤ n) → ((n : ℕ) → past ≡ Ok n → n ≤ 68374079) → check_times row before word start past ≡ Ok worked
     → Works before worked
 timed_works row before word (Err f) past worked first last e = absurd (cc e)
 timed_works row before word (Ok start) (Err f) worked first last e = absurd (cc e)
 timed_works row before word (Ok start) (Ok past) worked first last e = go (nat_le past start || nat_lt start before) refl e where
   go : (b : Bool) → (nat_le past start || nat_lt start before) ≡ b
-      → cond b (Err (fault.Order row)) (active row start past (left_out_of word) (activity_of word)) ≡ Ok worked → Works before worked
+      → cond b (Err (fault.Order row)) (active row start past (left_out_of word) (activity_of_text word)) ≡ Ok worked → Works before worked
   go true t h = absurd (cc h)
   go false t h =
       let full : start < past = grind (arith, nat_tests) in
       let after : before ≤ start = grind (arith, nat_tests) in
-      active_works row before start past (left_out_of word) (activity_of word) worked (first start refl) (last past refl) full after h
+      active_works row before start past (left_out_of word) (activity_of_text word) worked (first start refl) (last past refl) full after h
 
 -- a line satisfies the limits of a line, after the row before
 record Fits (before : ℕ) (line : Hours) : Type 0 where
@@ -69,7 +69,7 @@ record Fits (before : ℕ) (line : Hours) : Type 0 where
 
 -- E10: so does a row that has an author and a note
 signed_fits : (row before : ℕ) (author note : List ℕ) (told : Worked) (line : Hours)
-    → ((worked : ℕ × ℕ × Activity) → told ≡ Ok worked → Works before worked) → signed row author note told ≡ Ok line → Fits before line
+    → ((worked : ℕ × ℕ × Activity) → told ≡ Ok worked → Works before worked) → check_author row author note told ≡ Ok line → Fits before line
 signed_fits row before author note (Err f) line works e = absurd (cc e)
 signed_fits row before author note (Ok worked) line works e = go (not (is_author author)) (not (is_note note)) e where
   made : Hours
@@ -88,7 +88,7 @@ signed_fits row before author note (Ok worked) line works e = go (not (is_author
 line_fits : (row before : ℕ) (texts : Option Texts) (line : Hours) → line_of_texts row before texts ≡ Ok line → Fits before line
 line_fits row before None line e = absurd (cc e)
 line_fits row before (Some t) line e =
-    signed_fits row before t.author t.note (timed row before t.activity (minute_at t.start) (minute_at t.past)) line
+    signed_fits row before t.author t.note (check_times row before t.activity (minute_at t.start) (minute_at t.past)) line
     (λ worked told.
     timed_works row before t.activity (minute_at t.start) (minute_at t.past) worked
     (λ n h. ((minute_texts t.start n).0 h).0) (λ n h. ((minute_texts t.past n).0 h).1) told) e
@@ -97,7 +97,7 @@ abbrev StartFrom : ℕ → List Hours → Type 0
 StartFrom before [] = Unit {0}
 StartFrom before (line ∷ lines) = before ≤ line.start
 
-order_cons : (line : Hours) (lines : List Hours) → StartFrom line.past lines → AreInOrder lines → AreInOrder (line ∷ lines)
+order_cons : (line : Hours) (lines : List Hours) → StartFrom line.past lines → AreHoursInOrder lines → AreHoursInOrder (line ∷ lines)
 order_cons line [] s o = tt
 order_cons line (next ∷ lines) s o = (s, o)
 
@@ -107,7 +107,7 @@ pub lines_fit : (head : Head) (row before : ℕ) (rows : List Row) (lines : List
 unfolding lines_from
 lines_fit head row before [] lines e = let same : lines ≡ [] = cc in rw same (record { each = All-nil IsEntryLine; order = tt }, tt)
 lines_fit head row before (fields ∷ rest) lines e =
-    one (λ line ls t. lines_fit head (row + 1) line.past rest ls t) (line_of head row before fields) refl e where
+    one (λ line ls t. lines_fit head (row + 1) line.past rest ls t) (row_answer head row before fields) refl e where
       Deep : Type 0
       Deep = (line : Hours) (ls : List Hours) → lines_from head (row + 1) line.past rest ≡ Ok ls → IsBatch ls × StartFrom line.past ls
 
@@ -119,7 +119,7 @@ lines_fit head row before (fields ∷ rest) lines e =
           let b = deep line ls t in
           rw same (record { each = All-cons IsEntryLine line ls fits.own b.0.each; order = order_cons line ls b.1 b.0.order }, fits.after)
 
-      one : Deep → (a : Answer) → line_of head row before fields ≡ a
+      one : Deep → (a : RowAnswer) → row_answer head row before fields ≡ a
           → with_line a (λ line. put_first (line ∷ []) (lines_from head (row + 1) line.past rest)) ≡ Ok lines
           → IsBatch lines × StartFrom before lines
       one deep (Err f) t h = absurd (cc h)

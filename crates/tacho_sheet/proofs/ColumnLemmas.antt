@@ -8,7 +8,7 @@ use Rattle.tacho_time.specs.declared.span.Activity.TheVariants.{Rest, Available,
 use Rattle.tacho_time.specs.declared.span.Mark.{Mark}
 use Rattle.tacho_time.specs.declared.span.Span.{Span}
 use Rattle.tacho_line.specs.Line.{mark_at}
-use Rattle.tacho_sheet.specs.Reports.{columns, count_from, minutes_of, is_single, is_crew, is_lacking}
+use Rattle.tacho_sheet.specs.Reports.{columns, count_from, column_minutes, is_single_minute, is_crew, is_lacking}
 use Rattle.tacho_sheet.proofs.AmountLemmas.{count_le}
 
 -- 1 if a test holds, otherwise 0
@@ -17,12 +17,12 @@ bit b = if b then 1 else 0
 
 -- each mark, and no mark, belongs to exactly one column
 one_column : (o : Option Mark)
-    → bit (is_single Rest o) + (bit (is_single Available o) + (bit (is_single Work o) + (bit (is_single Drive o)
+    → bit (is_single_minute Rest o) + (bit (is_single_minute Available o) + (bit (is_single_minute Work o) + (bit (is_single_minute Drive o)
     + (bit (is_crew o) + bit (is_lacking o))))) ≡ 1
 one_column None = refl
 one_column (Some mark) = by_crew mark.crew mark.activity where
   by_crew : (crew : Bool) (a : Activity) → (let o : Option Mark = Some (record { activity = a; crew = crew }) in
-      bit (is_single Rest o) + (bit (is_single Available o) + (bit (is_single Work o) + (bit (is_single Drive o)
+      bit (is_single_minute Rest o) + (bit (is_single_minute Available o) + (bit (is_single_minute Work o) + (bit (is_single_minute Drive o)
       + (bit (is_crew o) + bit (is_lacking o))))) ≡ 1)
   by_crew true a = refl
   by_crew false Rest = refl
@@ -31,14 +31,14 @@ one_column (Some mark) = by_crew mark.crew mark.activity where
   by_crew false Drive = refl
 
 -- the six columns of n minutes add up to n
-pub add_up : (line : List Span) (m n : ℕ) → sum (map (minutes_of line m n) columns) ≡ n
+pub add_up : (line : List Span) (m n : ℕ) → sum (map (column_minutes line m n) columns) ≡ n
 add_up line m zero = refl
 add_up line m (suc n) =
     let o = mark_at line m in
     let here = one_column o in
-    let more : sum (map (minutes_of line (m + 1) n) columns) ≡ n = add_up line (m + 1) n in
-    let a = bit (is_single Rest o) in let b = bit (is_single Available o) in let c = bit (is_single Work o) in
-    let d = bit (is_single Drive o) in let e = bit (is_crew o) in let f = bit (is_lacking o) in
+    let more : sum (map (column_minutes line (m + 1) n) columns) ≡ n = add_up line (m + 1) n in
+    let a = bit (is_single_minute Rest o) in let b = bit (is_single_minute Available o) in let c = bit (is_single_minute Work o) in
+    let d = bit (is_single_minute Drive o) in let e = bit (is_crew o) in let f = bit (is_lacking o) in
     omega (arith, here, more)
 
 -- if the count of minutes that pass a test is n, each of the n minutes passes it

@@ -6,7 +6,7 @@ use Rattle.std.specs.Option.{option_map}
 use Rattle.csv.specs.Records.{field_at}
 use Rattle.tacho_sheet.specs.Rows.{IsReaderFault, Row, three_of}
 use Rattle.tacho_sheet.specs.Driver.{five_of}
-use Rattle.tacho_sheet.specs.Entries.{Answer, Lines, entries_of, head_of, line_of, lines_from, lines_told, put_first, texts_of}
+use Rattle.tacho_sheet.specs.Entries.{RowAnswer, Lines, file_answer, head_of, row_answer, lines_from, lines_told, put_first, texts_of}
 use Rattle.tacho_sheet.specs.declared.entries.Head.{Head}
 use Rattle.tacho_sheet.specs.declared.entries.Head.TheVariants as head
 use Rattle.tacho_sheet.specs.declared.fault.SheetFault.{SheetFault}
@@ -39,24 +39,24 @@ put_first-append front line (Err e) = refl
 
 -- one more row that has a line
 pub lines_more : (head : Head) (front : List Hours) (row before : ℕ) (fields : Row) (rows : List Row) (line : Hours)
-    → line_of head row before fields ≡ Ok line → put_first front (lines_from head row before (fields ∷ rows))
+    → row_answer head row before fields ≡ Ok line → put_first front (lines_from head row before (fields ∷ rows))
     ≡ put_first (front ++ line ∷ []) (lines_from head (row + 1) line.past rows)
 unfolding lines_from
 lines_more head front row before fields rows line e = rw e (put_first-append front line (lines_from head (row + 1) line.past rows))
 
 -- a row that has a fault
 pub lines_stop : (head : Head) (front : List Hours) (row before : ℕ) (fields : Row) (rows : List Row) (found : SheetFault)
-    → line_of head row before fields ≡ Err found → put_first front (lines_from head row before (fields ∷ rows)) ≡ Err found
+    → row_answer head row before fields ≡ Err found → put_first front (lines_from head row before (fields ∷ rows)) ≡ Err found
 unfolding lines_from
 lines_stop head front row before fields rows found e = rw e refl
 
 -- if the first row is no head, the answer is E1
-pub head_wrong : (first : Row) (rows : List Row) → head_of first ≡ None → Err fault.Head ≡ entries_of (first ∷ rows)
+pub head_wrong : (first : Row) (rows : List Row) → head_of first ≡ None → Err fault.Head ≡ file_answer (first ∷ rows)
 head_wrong first rows h = rw h refl
 
 -- if the first row is a head, the answer is that of the rows after it
 pub head_right : (head : Head) (first : Row) (rows : List Row) (told : Lines) → head_of first ≡ Some head → told ≡ lines_from head 2 0 rows
-    → told ≡ entries_of (first ∷ rows)
+    → told ≡ file_answer (first ∷ rows)
 head_right head first rows told h e = rw h e
 
 -- an answer that is a fault
@@ -66,13 +66,13 @@ told_fault (Ok lines) found h = absurd h
 told_fault (Err e) found h = ap Err h
 
 -- an answer that is out of memory
-pub told_memory : (answer : Result (Vec EntryLine Global) SheetFault) (line : Answer) (found : SheetFault)
+pub told_memory : (answer : Result (Vec EntryLine Global) SheetFault) (line : RowAnswer) (found : SheetFault)
     → IsErrAnd answer (λ e. e ≡ found) → line ≡ Err found → IsErrAnd line (λ e. e ≡ fault.Memory) → IsErrAnd answer IsReaderFault
 told_memory (Ok lines) line found h is memory = absurd h
 told_memory (Err e) line found h is memory = let same : e ≡ fault.Memory = h ∙ (rw is at memory) in rw same tt
 
 -- an answer that is a line
-pub told_line : (P : SheetFault → Type 0) (answer told : Answer) (line : Hours) → IsErrAnd answer P ⊎ (answer ≡ told) → answer ≡ Ok line
+pub told_line : (P : SheetFault → Type 0) (answer told : RowAnswer) (line : Hours) → IsErrAnd answer P ⊎ (answer ≡ told) → answer ≡ Ok line
     → told ≡ Ok line
 told_line P (Ok x) told line (inl h) is = absurd h
 told_line P (Err e) told line (inl h) is = absurd (cc is)

@@ -10,7 +10,7 @@ use Rattle.tacho_state.specs.declared.fault.StoreFault.{StoreFault}
 use Rattle.tacho_state.specs.declared.fault.StoreFault.TheVariants.{Full}
 use Rattle.tacho_state.specs.Least.{least_conflict}
 use Rattle.tacho_state.specs.State.{Driver, Entry, entered_spans, entry_span, given_spans, held_spans, with_batch}
-use Rattle.tacho_state.specs.Steps.{enter_own, entered_by, most}
+use Rattle.tacho_state.specs.Steps.{enter_own, entered_by, most_records}
 use Rattle.tacho_state.proofs.GainLemmas.{entered_append}
 use Rattle.tacho_sheet.specs.Form.{AreCut, AreRows, Fills}
 
@@ -139,7 +139,7 @@ driver_told other (Err fault) = other
 entered_is : (batch : List Entry) (d after : Driver) (first : ℕ) (found : Option ℕ) → entered_by batch d found ≡ Ok (first, after)
     → after ≡ with_batch batch d
 entered_is batch d after first (Some m) e = absurd (cc e)
-entered_is batch d after first None e = go (nat_lt most (length d.entries + length batch)) e where
+entered_is batch d after first None e = go (nat_lt most_records (length d.entries + length batch)) e where
   Told : Type 0
   Told = Result (ℕ × Driver) StoreFault
 

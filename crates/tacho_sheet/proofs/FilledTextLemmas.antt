@@ -18,14 +18,14 @@ use Rattle.tacho_time.specs.declared.span.Activity.{Activity}
 use Rattle.tacho_time.specs.declared.span.Activity.TheVariants.{Rest, Available, Work, Drive}
 use Rattle.tacho_time.specs.declared.span.Span.{Span}
 use Rattle.tacho_line.specs.declared.gap.Gap.{Gap}
-use Rattle.tacho_line.specs.Line.{AreApart, AreGaps, BeginsBehind, InGaps}
+use Rattle.tacho_line.specs.Line.{AreGapsApart, AreGaps, BeginsAfter, InGaps}
 use Rattle.tacho_stretches.specs.Start.{IsEndOfHeld}
 use Rattle.tacho_state.specs.Batch.{Hours}
 use Rattle.tacho_state.specs.declared.driver.Column.TheVariants as column
-use Rattle.tacho_sheet.specs.Entries.{Answer, IsRead, Worked, active, is_author, is_name_byte, is_note, line_of, lines_from, put_first, signed, timed, with_line}
+use Rattle.tacho_sheet.specs.Entries.{RowAnswer, IsRead, Worked, active, is_author, is_name_byte, is_note, row_answer, lines_from, put_first, check_author, check_times, with_line}
 use Rattle.tacho_sheet.specs.Form.{AreCut, AreRows, Fills, filled_form, filled_row}
 use Rattle.tacho_sheet.specs.Rows.{Row}
-use Rattle.tacho_sheet.specs.Words.{activity_of, left_out_of}
+use Rattle.tacho_sheet.specs.Words.{activity_of_text, left_out_of}
 use Rattle.tacho_sheet.specs.declared.entries.Head.TheVariants as head
 use Rattle.tacho_sheet.specs.declared.fault.SheetFault.TheVariants as fault
 use Rattle.tacho_sheet.proofs.EntryLemmas.{head_right}
@@ -70,12 +70,12 @@ abbrev BeginsFrom : ℕ → List Gap → Type 0
 BeginsFrom before [] = Unit {0}
 BeginsFrom before (g ∷ gaps) = before ≤ g.start
 
-begins : (g : Gap) (gaps : List Gap) → BeginsBehind g gaps → BeginsFrom g.past gaps
+begins : (g : Gap) (gaps : List Gap) → BeginsAfter g gaps → BeginsFrom g.past gaps
 begins g [] h = tt
 begins g (next ∷ gaps) h = omega arith
 
 -- the rows of gaps can be entered if the minutes of the gaps can be written and read
-rows_timed : (before : ℕ) (gaps rows : List Gap) → AreApart gaps → BeginsFrom before gaps
+rows_timed : (before : ℕ) (gaps rows : List Gap) → AreGapsApart gaps → BeginsFrom before gaps
     → ((m : ℕ) → InGaps gaps m → (15780960 ≤ m) × (m < 68374079)) → AreRows gaps rows → AreTimed before rows
 rows_timed before [] rows a b w h = subst (λ (l : List Gap). AreTimed before l) (sym h) tt
 rows_timed before (g ∷ gaps) rows a b w h =
@@ -245,7 +245,7 @@ activity_word Drive = refl
 abbrev AreReadBack : Type 0
 AreReadBack = (text : List ℕ) (n : ℕ) → (minute_at text ≡ Ok n) ↔ ((15780960 ≤ n) × (n ≤ 68374079) × (text ≡ minute_text n))
 
-word_of : (a : Activity) → (left_out_of (activity_name a) ≡ None) × (activity_of (activity_name a) ≡ Some a)
+word_of : (a : Activity) → (left_out_of (activity_name a) ≡ None) × (activity_of_text (activity_name a) ≡ Some a)
 word_of Rest = (refl, refl)
 word_of Available = (refl, refl)
 word_of Work = (refl, refl)
@@ -253,36 +253,36 @@ word_of Drive = (refl, refl)
 
 -- a row with an activity, with its times in order and not too long, has no fault
 timed_read : (row before start past : ℕ) (a : Activity) → start < past → before ≤ start → past ≤ start + 527040
-    → timed row before (activity_name a) (Ok start) (Ok past) ≡ Ok (start, past, a)
+    → check_times row before (activity_name a) (Ok start) (Ok past) ≡ Ok (start, past, a)
 timed_read row before start past a full after short =
     let word = word_of a in
-    let told = active row start past (left_out_of (activity_name a)) (activity_of (activity_name a)) in
+    let told = active row start past (left_out_of (activity_name a)) (activity_of_text (activity_name a)) in
     let order : (nat_le past start || nat_lt start before) ≡ false = grind (arith, nat_tests) in
     let size : nat_lt 527040 (past - start) ≡ false = grind (arith, nat_tests) in
     ap (λ (b : Bool). cond {A = Worked} b (Err (fault.Order row)) told) order
-    ∙ (ap (λ l. active row start past l (activity_of (activity_name a))) word.0
+    ∙ (ap (λ l. active row start past l (activity_of_text (activity_name a))) word.0
     ∙ (ap (λ o. active row start past None o) word.1
     ∙ ap (λ (b : Bool). cond {A = Worked} b (Err (fault.TooLong row)) (Ok (start, past, a))) size))
 
 line_is : (row before : ℕ) (author note word : List ℕ) (from to : Result ℕ TimeFault) (start past : ℕ) (a : Activity)
-    → from ≡ Ok start → to ≡ Ok past → timed row before word (Ok start) (Ok past) ≡ Ok (start, past, a) → is_author author ≡ true
-    → is_note note ≡ true → signed row author note (timed row before word from to)
+    → from ≡ Ok start → to ≡ Ok past → check_times row before word (Ok start) (Ok past) ≡ Ok (start, past, a) → is_author author ≡ true
+    → is_note note ≡ true → check_author row author note (check_times row before word from to)
     ≡ Ok (record { start = start; past = past; activity = a; author = author; note = note })
 line_is row before author note word from to start past a ef et worked ea en =
     let line : Hours = record { start = start; past = past; activity = a; author = author; note = note } in
-    ap (λ (r : Result ℕ TimeFault). signed row author note (timed row before word r to)) ef
-    ∙ (ap (λ (r : Result ℕ TimeFault). signed row author note (timed row before word (Ok start) r)) et
-    ∙ (ap (signed row author note) worked
-    ∙ (ap (λ (b : Bool). cond {A = Answer} (not b) (Err (fault.Text row column.Author))
-    (cond {A = Answer} (not (is_note note)) (Err (fault.Text row column.Note)) (Ok line))) ea
-    ∙ ap (λ (b : Bool). cond {A = Answer} (not b) (Err (fault.Text row column.Note)) (Ok line)) en)))
+    ap (λ (r : Result ℕ TimeFault). check_author row author note (check_times row before word r to)) ef
+    ∙ (ap (λ (r : Result ℕ TimeFault). check_author row author note (check_times row before word (Ok start) r)) et
+    ∙ (ap (check_author row author note) worked
+    ∙ (ap (λ (b : Bool). cond {A = RowAnswer} (not b) (Err (fault.Text row column.Author))
+    (cond {A = RowAnswer} (not (is_note note)) (Err (fault.Text row column.Note)) (Ok line))) ea
+    ∙ ap (λ (b : Bool). cond {A = RowAnswer} (not b) (Err (fault.Text row column.Note)) (Ok line)) en)))
 
 -- the fields of hours
 abbrev row_of : Hours → Row
 row_of h = minute_text h.start ∷ minute_text h.past ∷ activity_name h.activity ∷ h.author ∷ h.note ∷ []
 
 line_read : AreReadBack → (row before : ℕ) (h : Hours) → 15780960 ≤ h.start → h.start < h.past → h.past ≤ 68374079 → before ≤ h.start
-    → h.past ≤ h.start + 527040 → is_author h.author ≡ true → is_note h.note ≡ true → line_of head.Five row before (row_of h) ≡ Ok h
+    → h.past ≤ h.start + 527040 → is_author h.author ≡ true → is_note h.note ≡ true → row_answer head.Five row before (row_of h) ≡ Ok h
 line_read back row before h first full last after short ea en =
     line_is row before h.author h.note (activity_name h.activity) (minute_at (minute_text h.start)) (minute_at (minute_text h.past))
     h.start h.past h.activity
@@ -305,7 +305,7 @@ lines_read back row before (r ∷ rows) (h ∷ hours) t f =
     let short = t.0.short in
     let last = t.0.last in
     let line = line_read back row before h (omega arith) (omega arith) (omega arith) (omega arith) (omega arith) f.2 f.3 in
-    ap (λ (a : Answer). with_line a (λ l. put_first (l ∷ []) (lines_from head.Five (row + 1) l.past (map row_of hours)))) line
+    ap (λ (a : RowAnswer). with_line a (λ l. put_first (l ∷ []) (lines_from head.Five (row + 1) l.past (map row_of hours)))) line
     ∙ ap (put_first (h ∷ []))
     (lines_read back (row + 1) h.past rows hours (subst (λ (p : ℕ). AreTimed p rows) (sym past) t.1) f.4)
 

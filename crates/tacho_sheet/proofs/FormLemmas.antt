@@ -6,7 +6,7 @@ use Rattle.std.proofs.lemmas.List.Elements.{All-from_recursion}
 use Rattle.std.proofs.lemmas.List.{append-nil, flat_map_more}
 use Rattle.tacho_time.specs.declared.span.Span.{Span}
 use Rattle.tacho_line.specs.declared.gap.Gap.{Gap}
-use Rattle.tacho_line.specs.Line.{AreApart, AreGaps}
+use Rattle.tacho_line.specs.Line.{AreGapsApart, AreGaps}
 use Rattle.tacho_sheet.proofs.TextLemmas.{take_more}
 use Rattle.tacho_sheet.specs.Form.{AreCut, AreRows, IsForm, form_row}
 
@@ -58,11 +58,11 @@ cut_all first past before start after new so some few e =
 -- ---- all gaps
 
 -- no gap is empty
-each_some : (gaps : List Gap) → AreApart gaps → AllByRecursion (λ (g : Gap). g.start < g.past) gaps
+each_some : (gaps : List Gap) → AreGapsApart gaps → AllByRecursion (λ (g : Gap). g.start < g.past) gaps
 each_some [] apart = tt
 each_some (g ∷ gaps) apart = (apart.0, each_some gaps apart.2)
 
-pub all_some : (gaps : List Gap) → AreApart gaps → All (λ (g : Gap). g.start < g.past) gaps
+pub all_some : (gaps : List Gap) → AreGapsApart gaps → All (λ (g : Gap). g.start < g.past) gaps
 all_some gaps apart = All-from_recursion (λ (g : Gap). g.start < g.past) gaps (each_some gaps apart)
 
 -- the rows of gaps, followed by those of one more gap

@@ -10,8 +10,8 @@ use Rattle.tacho_line.specs.Line.{mark_at, AgreeWithin, AreGaps, HoldsWithin}
 use Rattle.tacho_hours.specs.declared.breach.Breach.{Breach}
 use Rattle.tacho_stretches.specs.Stretches.{Judged}
 use Rattle.tacho_sheet.proofs.AmountLemmas.{count_same}
-use Rattle.tacho_sheet.specs.Reports.{amount_text, amounts_text, breach_line, breaches_within, columns, count_from, day_line, day_lines, horizon_line, right, minutes_of, weekday_name, AgreeIn, IsGapText, IsMonthSheet, IsSpanCsv}
-use Rattle.tacho_sheet.specs.Months.{breaches_of, count_of, is_examined, kinds, overview_row, IsOverviewRow}
+use Rattle.tacho_sheet.specs.Reports.{amount_text, amounts_text, breach_line, breaches_within, columns, count_from, day_line, day_lines, horizon_line, right_aligned, column_minutes, weekday_name, AgreeIn, IsGapText, IsMonthSheet, IsSpanCsv}
+use Rattle.tacho_sheet.specs.Months.{month_breaches, count_of, is_examined, kinds, overview_row, IsOverviewRow}
 use Rattle.tacho_sheet.specs.Form.{IsForm}
 
 -- ---- gaps, and spans as CSV
@@ -59,14 +59,14 @@ span_csv_same a b month text e h = record {
 -- ---- the sheet of a month
 
 columns_same : (a b : List Span) (m n : ℕ) (tests : List (Option Mark → Bool)) → AgreeWithin m (m + n) a b
-    → flat_map (λ column. right (amount_text (minutes_of a m n column))) tests
-    ≡ flat_map (λ column. right (amount_text (minutes_of b m n column))) tests
+    → flat_map (λ column. right_aligned (amount_text (column_minutes a m n column))) tests
+    ≡ flat_map (λ column. right_aligned (amount_text (column_minutes b m n column))) tests
 columns_same a b m n [] e = refl
 columns_same a b m n (test ∷ tests) e =
-    let same : minutes_of a m n test ≡ minutes_of b m n test =
+    let same : column_minutes a m n test ≡ column_minutes b m n test =
     count_same (λ k. test (mark_at a k)) (λ k. test (mark_at b k)) m n (λ k from to. ap test (e k (from, to))) in
-    ap (λ (t : ℕ). right (amount_text t) ++ flat_map (λ column. right (amount_text (minutes_of a m n column))) tests) same
-    ∙ ap (λ (t : List ℕ). right (amount_text (minutes_of b m n test)) ++ t) (columns_same a b m n tests e)
+    ap (λ (t : ℕ). right_aligned (amount_text t) ++ flat_map (λ column. right_aligned (amount_text (column_minutes a m n column))) tests) same
+    ∙ ap (λ (t : List ℕ). right_aligned (amount_text (column_minutes b m n test)) ++ t) (columns_same a b m n tests e)
 
 amounts_same : (a b : List Span) (m n : ℕ) → AgreeWithin m (m + n) a b → amounts_text a m n ≡ amounts_text b m n
 amounts_same a b m n e = columns_same a b m n columns e
@@ -110,13 +110,13 @@ month_sheet_same number name a b breaches horizon month text e h =
 -- ---- the overview of a month, and the form for gaps
 
 counts_same : (a b : List Span) (m n : ℕ) (tests : List (Option Mark → Bool)) → AgreeWithin m (m + n) a b
-    → map (minutes_of a m n) tests ≡ map (minutes_of b m n) tests
+    → map (column_minutes a m n) tests ≡ map (column_minutes b m n) tests
 counts_same a b m n [] e = refl
 counts_same a b m n (test ∷ tests) e =
-    let same : minutes_of a m n test ≡ minutes_of b m n test =
+    let same : column_minutes a m n test ≡ column_minutes b m n test =
     count_same (λ k. test (mark_at a k)) (λ k. test (mark_at b k)) m n (λ k from to. ap test (e k (from, to))) in
-    ap (λ (t : ℕ). t ∷ map (minutes_of a m n) tests) same
-    ∙ ap (λ (t : List ℕ). minutes_of b m n test ∷ t) (counts_same a b m n tests e)
+    ap (λ (t : ℕ). t ∷ map (column_minutes a m n) tests) same
+    ∙ ap (λ (t : List ℕ). column_minutes b m n test ∷ t) (counts_same a b m n tests e)
 
 pub overview_same : (number : ℕ) (name : List ℕ) (a b : List Span) (stretches : List Judged) (month : ℕ) (text : List ℕ)
     → AgreeIn month a b → IsOverviewRow number name a stretches month text → IsOverviewRow number name b stretches month text
@@ -126,7 +126,7 @@ overview_same number name a b stretches month text e h =
     let within : AgreeWithin h.start (h.start + n) a b =
     λ m w. let x = w.0 in let y = w.1 in agree m (x, omega (arith, x, y)) in
     let rest : List ℕ =
-    count_from (is_examined stretches) h.start n ∷ map (count_of (breaches_of h.start h.past stretches)) kinds in
+    count_from (is_examined stretches) h.start n ∷ map (count_of (month_breaches h.start h.past stretches)) kinds in
     record {
       start = h.start;
       past = h.past;

@@ -10,12 +10,12 @@ use Rattle.tacho_hours.specs.declared.breach.Breach.{Breach}
 use Rattle.tacho_hours.specs.declared.breach.Kind.{Kind}
 use Rattle.tacho_hours.specs.declared.breach.Kind.TheVariants.{B1, B2, B3, B4, B5, B6, B7, B8, B9, B10}
 use Rattle.tacho_stretches.specs.declared.stretch.Stretch.{Stretch}
-use Rattle.tacho_stretches.specs.Stretches.{Judged, judged}
+use Rattle.tacho_stretches.specs.Stretches.{Judged, judged_of}
 use Rattle.tacho_stretches.specs.Ranges.{unseen_part, parts, FollowOn}
 use Rattle.tacho_sheet.specs.declared.amounts.Amounts.{Amounts}
-use Rattle.tacho_sheet.specs.Reports.{breaches_within, columns, count_from, kind_name, minutes_of}
+use Rattle.tacho_sheet.specs.Reports.{breaches_within, columns, count_from, kind_name, column_minutes}
 use Rattle.tacho_sheet.specs.Amounts.{AreAmounts, amounts_in, cells}
-use Rattle.tacho_sheet.specs.Months.{article, breaches_of, count_of, is_examined, kind_code, kinds, numbers_of}
+use Rattle.tacho_sheet.specs.Months.{article, month_breaches, count_of, is_examined, kind_code, kinds, numbers_of}
 use Rattle.tacho_sheet.proofs.TextLemmas.{one_more_told, take_more}
 use Rattle.tacho_sheet.proofs.AmountLemmas.{count_split, count_same, count_const}
 
@@ -168,12 +168,12 @@ counted_all all start from past examined end so =
 
 -- the stretch at an index, and those after it
 pub told_next : (xs : List Stretch) (i : ℕ) (s : Stretch) → i < length xs → s ≡ get_or xs i s
-    → map judged (drop i xs) ≡ judged s ∷ map judged (drop (i + 1) xs)
+    → map judged_of (drop i xs) ≡ judged_of s ∷ map judged_of (drop (i + 1) xs)
 told_next xs i s within is =
-    ap (map judged) (drop_more xs i s within ∙ ap (λ (x : Stretch). x ∷ drop (i + 1) xs) (sym is))
+    ap (map judged_of) (drop_more xs i s within ∙ ap (λ (x : Stretch). x ∷ drop (i + 1) xs) (sym is))
 
-pub told_all : (xs : List Stretch) (i : ℕ) → length xs ≤ i → map judged (drop i xs) ≡ []
-told_all xs i over = ap (map judged) (drop_all i xs over)
+pub told_all : (xs : List Stretch) (i : ℕ) → length xs ≤ i → map judged_of (drop i xs) ≡ []
+told_all xs i over = ap (map judged_of) (drop_all i xs over)
 
 -- the rows of breaches of one more list
 pub rows_more : {X A : Type 0} (row : X → List A) (xs ys all : List X) (head before after : List A) → before ≡ head ++ flat_map row xs
@@ -184,22 +184,22 @@ rows_more {A = A} row xs ys all head before after e g is =
 
 -- the breaches of one more stretch
 pub breaches_more : (start past : ℕ) (xs : List Stretch) (i : ℕ) (s : Stretch) → i < length xs → s ≡ get_or xs i s
-    → breaches_of start past (map judged (take (i + 1) xs))
-    ≡ breaches_of start past (map judged (take i xs)) ++ breaches_within start past s.report.breaches.items
+    → month_breaches start past (map judged_of (take (i + 1) xs))
+    ≡ month_breaches start past (map judged_of (take i xs)) ++ breaches_within start past s.report.breaches.items
 breaches_more start past xs i s within is =
-    sym (one_more_told (λ (t : Judged). breaches_within start past t.breaches) judged xs i s
-    (breaches_of start past (map judged (take i xs))) _ within is refl refl)
+    sym (one_more_told (λ (t : Judged). breaches_within start past t.breaches) judged_of xs i s
+    (month_breaches start past (map judged_of (take i xs))) _ within is refl refl)
 
 -- ---- the row of a driver
 
 -- the six amounts are those of the columns
-amounts_told : (line : List Span) (m n : ℕ) (a : Amounts) → AreAmounts line m n a → amounts_in a ≡ map (minutes_of line m n) columns
+amounts_told : (line : List Span) (m n : ℕ) (a : Amounts) → AreAmounts line m n a → amounts_in a ≡ map (column_minutes line m n) columns
 amounts_told line m n a h = rw (h.rest, h.available, h.work, h.drive, h.crew, h.lacking) refl
 
 -- the numbers of a driver are written as the definition says
 pub numbers_told : (line : List Span) (stretches : List Judged) (start past examined : ℕ) (a : Amounts) (found : List Breach)
     → AreAmounts line start (past - start) a → examined ≡ count_from (is_examined stretches) start (past - start)
-    → found ≡ breaches_of start past stretches
+    → found ≡ month_breaches start past stretches
     → cells (amounts_in a) ++ ((codes "," ++ decimal examined) ++ cells (map (count_of found) kinds))
     ≡ cells (numbers_of line stretches start past)
 numbers_told line stretches start past examined a found h e f =
@@ -207,9 +207,9 @@ numbers_told line stretches start past examined a found h e f =
     (amounts_told line start (past - start) a h)
     ∙ ap (λ (n : ℕ). cells six ++ ((codes "," ++ decimal n) ++ cells (map (count_of found) kinds))) e
     ∙ ap (λ (xs : List Breach). cells six ++ ((codes "," ++ decimal minutes) ++ cells (map (count_of xs) kinds))) f
-    ∙ sym (flat_map-append (λ n. codes "," ++ decimal n) six (minutes ∷ map (count_of (breaches_of start past stretches)) kinds)) where
+    ∙ sym (flat_map-append (λ n. codes "," ++ decimal n) six (minutes ∷ map (count_of (month_breaches start past stretches)) kinds)) where
       six : List ℕ
-      six = map (minutes_of line start (past - start)) columns
+      six = map (column_minutes line start (past - start)) columns
 
       minutes : ℕ
       minutes = count_from (is_examined stretches) start (past - start)

@@ -9,7 +9,7 @@ use Rattle.tacho_line.specs.declared.horizon.Horizon.{Horizon}
 use Rattle.tacho_hours.specs.declared.breach.Breach.{Breach}
 use Rattle.tacho_sheet.specs.Reports.{AreBounds, IsGapText, IsMonthSheet, IsSpanCsv, csv_text, gap_line, sheet_text}
 use Rattle.tacho_stretches.specs.Stretches.{Judged}
-use Rattle.tacho_sheet.specs.Months.{breaches_of, incident_row, numbers_of, overview_row, AreIncidentRows, IsOverviewRow}
+use Rattle.tacho_sheet.specs.Months.{month_breaches, incident_row, numbers_of, overview_row, AreIncidentRows, IsOverviewRow}
 use Rattle.tacho_sheet.specs.Form.{form_row, AreRows, IsForm}
 use Rattle.tacho_sheet.proofs.FormLemmas.{one_rows}
 
@@ -58,8 +58,8 @@ pub one_incidents : (number : ℕ) (name : List ℕ) (stretches : List Judged) (
     → AreIncidentRows number name stretches month a → AreIncidentRows number name stretches month b → a ≡ b
 one_incidents number name stretches month a b x y =
     let same = same_bounds month x.start x.past y.start y.past x.bounds y.bounds in
-    x.is ∙ (ap (λ (past : ℕ). flat_map (incident_row number name) (breaches_of x.start past stretches)) (sym same.1)
-    ∙ (ap (λ (start : ℕ). flat_map (incident_row number name) (breaches_of start y.past stretches)) (sym same.0) ∙ sym y.is))
+    x.is ∙ (ap (λ (past : ℕ). flat_map (incident_row number name) (month_breaches x.start past stretches)) (sym same.1)
+    ∙ (ap (λ (start : ℕ). flat_map (incident_row number name) (month_breaches start y.past stretches)) (sym same.0) ∙ sym y.is))
 
 pub one_form : ((line : List Span) (start past : ℕ) (gaps others : List Gap) → AreGaps line start past gaps
     → AreGaps line start past others → gaps ≡ others)

@@ -4,21 +4,21 @@ use Rattle.tacho_time.specs.declared.span.Activity.TheVariants.{Rest, Available,
 use Rattle.tacho_time.specs.declared.span.Span.{Span}
 use Rattle.tacho_time.specs.Text.{day_text, month_text}
 use Rattle.tacho_sheet.specs.declared.amounts.Amounts.{Amounts}
-use Rattle.tacho_sheet.specs.Reports.{minutes_of, is_single, is_crew, is_lacking, amount_text, right, weekday_name}
+use Rattle.tacho_sheet.specs.Reports.{column_minutes, is_single_minute, is_crew, is_lacking, amount_text, right_aligned, weekday_name}
 
 -- the amounts are those of the n minutes from m on
 pub record AreAmounts (line : List Span) (m n : ℕ) (a : Amounts) : Type 0 where
-  pub rest : a.rest ≡ minutes_of line m n (is_single Rest)
-  pub available : a.available ≡ minutes_of line m n (is_single Available)
-  pub work : a.work ≡ minutes_of line m n (is_single Work)
-  pub drive : a.drive ≡ minutes_of line m n (is_single Drive)
-  pub crew : a.crew ≡ minutes_of line m n is_crew
-  pub lacking : a.lacking ≡ minutes_of line m n is_lacking
+  pub rest : a.rest ≡ column_minutes line m n (is_single_minute Rest)
+  pub available : a.available ≡ column_minutes line m n (is_single_minute Available)
+  pub work : a.work ≡ column_minutes line m n (is_single_minute Work)
+  pub drive : a.drive ≡ column_minutes line m n (is_single_minute Drive)
+  pub crew : a.crew ≡ column_minutes line m n is_crew
+  pub lacking : a.lacking ≡ column_minutes line m n is_lacking
 
 -- n if the test holds, otherwise 0
-abbrev pub part : Bool → ℕ → ℕ
-part true n = n
-part false n = 0
+abbrev pub all_or_none : Bool → ℕ → ℕ
+all_or_none true n = n
+all_or_none false n = 0
 
 -- the sum of the six amounts
 abbrev pub whole : Amounts → ℕ
@@ -32,8 +32,8 @@ AreFrom from past (s ∷ ss) = (from ≤ s.start) × (s.start < s.past) × AreFr
 -- the six amounts, each right-aligned in seven columns
 abbrev pub amounts_line : Amounts → List ℕ
 amounts_line a =
-    right (amount_text a.rest) ++ (right (amount_text a.available) ++ (right (amount_text a.work) ++ (right (amount_text a.drive)
-    ++ (right (amount_text a.crew) ++ (right (amount_text a.lacking) ++ [])))))
+    right_aligned (amount_text a.rest) ++ (right_aligned (amount_text a.available) ++ (right_aligned (amount_text a.work) ++ (right_aligned (amount_text a.drive)
+    ++ (right_aligned (amount_text a.crew) ++ (right_aligned (amount_text a.lacking) ++ [])))))
 
 -- the line of a day with these amounts
 abbrev pub line_of_day : ℕ → Amounts → List ℕ

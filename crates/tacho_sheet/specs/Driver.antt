@@ -15,8 +15,8 @@ use Rattle.tacho_sheet.specs.declared.fault.SheetFault.TheVariants as fault
 -- ---- the texts of columns
 
 -- the text isn't the 30 hexadecimal digits, without capitals, of any fifteen bytes
-abbrev pub HasNoHolder : List ℕ → Type 0
-HasNoHolder text = (holder : List ℕ) → length holder ≡ 15 → IsBytes holder → ¬ (text ≡ encode_lower holder)
+abbrev pub IsNoHolderText : List ℕ → Type 0
+IsNoHolderText text = (holder : List ℕ) → length holder ≡ 15 → IsBytes holder → ¬ (text ≡ encode_lower holder)
 
 abbrev pub IsKeyText : List ℕ → Type 0
 IsKeyText text = IsUtf8 text × IsKey text
@@ -47,21 +47,21 @@ HasNumber text = (n : ℕ) × IsNumberText 999999 text n
 abbrev pub HasHolder : List ℕ → Type 0
 HasHolder text = (holder : List ℕ) × (length holder ≡ 15) × IsBytes holder × (text ≡ encode_lower holder)
 
-abbrev pub HasDay : List ℕ → Type 0
-HasDay text = (day : ℕ) × (day_at text ≡ Ok day)
+abbrev pub IsDayText : List ℕ → Type 0
+IsDayText text = (day : ℕ) × (day_at text ≡ Ok day)
 
 -- E9: the column's text is out of its limits, and the columns before it are within theirs
-abbrev pub IsFirstBadText : Five → Column → Type 0
-IsFirstBadText f column.Driver = HasNoNumber 999999 f.driver
-IsFirstBadText f column.Holder = HasNumber f.driver × HasNoHolder f.holder
-IsFirstBadText f column.Key = HasNumber f.driver × HasHolder f.holder × ¬ (IsKeyText f.key)
-IsFirstBadText f column.Base = HasNumber f.driver × HasHolder f.holder × IsKeyText f.key × ¬ (HasDay f.base)
-IsFirstBadText f column.Name = HasNumber f.driver × HasHolder f.holder × IsKeyText f.key × HasDay f.base × ¬ (IsNameText f.name)
-IsFirstBadText f column.Author = ⊥
-IsFirstBadText f column.Note = ⊥
+abbrev pub IsFirstBadColumn : Five → Column → Type 0
+IsFirstBadColumn f column.Driver = HasNoNumber 999999 f.driver
+IsFirstBadColumn f column.Holder = HasNumber f.driver × IsNoHolderText f.holder
+IsFirstBadColumn f column.Key = HasNumber f.driver × HasHolder f.holder × ¬ (IsKeyText f.key)
+IsFirstBadColumn f column.Base = HasNumber f.driver × HasHolder f.holder × IsKeyText f.key × ¬ (IsDayText f.base)
+IsFirstBadColumn f column.Name = HasNumber f.driver × HasHolder f.holder × IsKeyText f.key × IsDayText f.base × ¬ (IsNameText f.name)
+IsFirstBadColumn f column.Author = ⊥
+IsFirstBadColumn f column.Note = ⊥
 
 abbrev pub IsColumnFault : Five → SheetFault → Type 0
-IsColumnFault f (fault.Column c) = IsFirstBadText f c
+IsColumnFault f (fault.Column c) = IsFirstBadColumn f c
 IsColumnFault f _ = ⊥
 
 -- ---- rows

@@ -9,7 +9,7 @@ use Rattle.tacho_time.specs.declared.fault.TimeFault.{TimeFault}
 use Rattle.tacho_state.specs.Batch.{Hours}
 use Rattle.tacho_state.specs.declared.driver.Column.TheVariants as column
 use Rattle.tacho_state.specs.declared.entry.EntryLine.{EntryLine}
-use Rattle.tacho_sheet.specs.Words.{activity_of, left_out_of}
+use Rattle.tacho_sheet.specs.Words.{activity_of_text, left_out_of}
 use Rattle.tacho_sheet.specs.Rows.{Row, AreRows}
 use Rattle.tacho_sheet.specs.declared.entries.Head.{Head}
 use Rattle.tacho_sheet.specs.declared.entries.Head.TheVariants.{Three, Five}
@@ -38,22 +38,22 @@ abbrev pub Worked : Type 0
 Worked = Result (ℕ × ℕ × Activity) SheetFault
 
 -- E7 if the row is too long
-abbrev pub sized : ℕ → ℕ → ℕ → Activity → Worked
-sized row start past activity = if nat_lt 527040 (past - start) then Err (fault.TooLong row) else Ok (start, past, activity)
+abbrev pub check_length : ℕ → ℕ → ℕ → Activity → Worked
+check_length row start past activity = if nat_lt 527040 (past - start) then Err (fault.TooLong row) else Ok (start, past, activity)
 
 -- E5 or E6
 abbrev pub active : ℕ → ℕ → ℕ → Option LeftOut → Option Activity → Worked
 active row start past (Some left_out) activity = Err (fault.LeftOut row left_out)
 active row start past None None = Err (fault.Activity row)
-active row start past None (Some activity) = sized row start past activity
+active row start past None (Some activity) = check_length row start past activity
 
 -- E3; E4 compares with the end of the row before
-abbrev pub timed : ℕ → ℕ → List ℕ → Result ℕ TimeFault → Result ℕ TimeFault → Worked
-timed row before word (Err e) past = Err (fault.Time row)
-timed row before word (Ok start) (Err e) = Err (fault.Time row)
-timed row before word (Ok start) (Ok past) =
+abbrev pub check_times : ℕ → ℕ → List ℕ → Result ℕ TimeFault → Result ℕ TimeFault → Worked
+check_times row before word (Err e) past = Err (fault.Time row)
+check_times row before word (Ok start) (Err e) = Err (fault.Time row)
+check_times row before word (Ok start) (Ok past) =
     if nat_le past start || nat_lt start before then Err (fault.Order row)
-    else active row start past (left_out_of word) (activity_of word)
+    else active row start past (left_out_of word) (activity_of_text word)
 
 -- a byte of a name: no control, no comma and no double quote
 abbrev pub is_name_byte : ℕ → Bool
@@ -70,32 +70,32 @@ is_author text = is_plain_text text && (nat_le 1 (length text) && nat_le (length
 abbrev pub is_note : List ℕ → Bool
 is_note text = is_plain_text text && nat_le (length text) 200
 
-abbrev pub Answer : Type 0
-Answer = Result Hours SheetFault
+abbrev pub RowAnswer : Type 0
+RowAnswer = Result Hours SheetFault
 
 -- E10 if the author or the note is out of its limits
-abbrev pub signed : ℕ → List ℕ → List ℕ → Worked → Answer
-signed row author note (Err e) = Err e
-signed row author note (Ok worked) =
+abbrev pub check_author : ℕ → List ℕ → List ℕ → Worked → RowAnswer
+check_author row author note (Err e) = Err e
+check_author row author note (Ok worked) =
     if not (is_author author) then Err (fault.Text row column.Author)
     else (if not (is_note note) then Err (fault.Text row column.Note)
     else Ok (record { start = worked.0; past = worked.1; activity = worked.2; author = author; note = note }))
 
 -- E2 if the number of fields is wrong
-abbrev pub line_of_texts : ℕ → ℕ → Option Texts → Answer
-line_of_texts row before (Some t) = signed row t.author t.note (timed row before t.activity (minute_at t.start) (minute_at t.past))
+abbrev pub line_of_texts : ℕ → ℕ → Option Texts → RowAnswer
+line_of_texts row before (Some t) = check_author row t.author t.note (check_times row before t.activity (minute_at t.start) (minute_at t.past))
 line_of_texts row before None = Err (fault.Fields row)
 
 -- the line of a row that comes after a row that ends at `before`, or the row's first fault
-abbrev pub line_of : Head → ℕ → ℕ → Row → Answer
-line_of head row before fields = line_of_texts row before (texts_of head fields)
+abbrev pub row_answer : Head → ℕ → ℕ → Row → RowAnswer
+row_answer head row before fields = line_of_texts row before (texts_of head fields)
 
 -- ---- rows
 
 abbrev pub Lines : Type 0
 Lines = Result (List Hours) SheetFault
 
-abbrev pub with_line : Answer → (Hours → Lines) → Lines
+abbrev pub with_line : RowAnswer → (Hours → Lines) → Lines
 with_line (Err e) more = Err e
 with_line (Ok line) more = more line
 
@@ -107,7 +107,7 @@ put_first front (Err e) = Err e
 unfoldable pub lines_from : Head → ℕ → ℕ → List Row → Lines
 lines_from head row before [] = Ok []
 lines_from head row before (fields ∷ rest) =
-    with_line (line_of head row before fields) (λ line. put_first (line ∷ []) (lines_from head (row + 1) line.past rest))
+    with_line (row_answer head row before fields) (λ line. put_first (line ∷ []) (lines_from head (row + 1) line.past rest))
 
 -- ---- the head
 
@@ -131,9 +131,9 @@ abbrev pub lines_under : Option Head → List Row → Lines
 lines_under None rows = Err fault.Head
 lines_under (Some head) rows = lines_from head 2 0 rows
 
-abbrev pub entries_of : List Row → Lines
-entries_of [] = Err fault.Head
-entries_of (head ∷ rows) = lines_under (head_of head) rows
+abbrev pub file_answer : List Row → Lines
+file_answer [] = Err fault.Head
+file_answer (head ∷ rows) = lines_under (head_of head) rows
 
 -- an answer, with the list of its lines
 abbrev pub lines_told : Result (Vec EntryLine Global) SheetFault → Lines
@@ -142,4 +142,4 @@ lines_told (Err e) = Err e
 
 -- the answer for a text, if neither memory nor the reader of CSV fails
 abbrev pub IsRead : List ℕ → Lines → Type 0
-IsRead text answer = (rows : List Row) × AreRows text rows × (answer ≡ entries_of rows)
+IsRead text answer = (rows : List Row) × AreRows text rows × (answer ≡ file_answer rows)

@@ -8,14 +8,14 @@ use Rattle.tacho_state.specs.Batch.{Hours}
 use Rattle.tacho_sheet.specs.Entries.{is_author, is_note}
 
 -- the most minutes that a row of hours may have: 366 days
-abbrev pub longest : ℕ
-longest = 527040
+abbrev pub longest_row : ℕ
+longest_row = 527040
 
 -- the rows into which the range from `start` to `past` is cut: each has the most minutes, and the last has the rest
 abbrev pub AreCut : ℕ → ℕ → List Gap → Type 0
 AreCut start past [] = ⊥
-AreCut start past (r ∷ []) = (r.start ≡ start) × (r.past ≡ past) × (start < past) × (past - start ≤ longest)
-AreCut start past (r ∷ rows) = (r.start ≡ start) × (r.past ≡ start + longest) × AreCut r.past past rows
+AreCut start past (r ∷ []) = (r.start ≡ start) × (r.past ≡ past) × (start < past) × (past - start ≤ longest_row)
+AreCut start past (r ∷ rows) = (r.start ≡ start) × (r.past ≡ start + longest_row) × AreCut r.past past rows
 
 -- the rows of all gaps, in their order
 abbrev pub AreRows : List Gap → List Gap → Type 0

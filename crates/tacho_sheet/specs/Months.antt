@@ -7,11 +7,11 @@ use Rattle.tacho_hours.specs.declared.breach.Kind.{Kind}
 use Rattle.tacho_hours.specs.declared.breach.Kind.TheVariants.{B1, B2, B3, B4, B5, B6, B7, B8, B9, B10}
 use Rattle.tacho_hours.specs.Order.{place_of_kind}
 use Rattle.tacho_stretches.specs.Stretches.{Judged}
-use Rattle.tacho_sheet.specs.Reports.{AreBounds, breaches_within, columns, count_from, minutes_of}
+use Rattle.tacho_sheet.specs.Reports.{AreBounds, breaches_within, columns, count_from, column_minutes}
 
 -- the breaches of all stretches whose moment is from `start` to before `past`, stretch by stretch
-abbrev pub breaches_of : ℕ → ℕ → List Judged → List Breach
-breaches_of start past stretches = flat_map (λ (s : Judged). breaches_within start past s.breaches) stretches
+abbrev pub month_breaches : ℕ → ℕ → List Judged → List Breach
+month_breaches start past stretches = flat_map (λ (s : Judged). breaches_within start past s.breaches) stretches
 
 -- ---- the overview
 
@@ -30,8 +30,8 @@ count_of breaches kind = count_by (λ (b : Breach). place_of_kind b.kind == plac
 -- for a range of minutes: the count of each column, the minutes within a stretch, and the number of breaches of each kind
 abbrev pub numbers_of : List Span → List Judged → ℕ → ℕ → List ℕ
 numbers_of line stretches start past =
-    map (minutes_of line start (past - start)) columns
-    ++ (count_from (is_examined stretches) start (past - start) ∷ map (count_of (breaches_of start past stretches)) kinds)
+    map (column_minutes line start (past - start)) columns
+    ++ (count_from (is_examined stretches) start (past - start) ∷ map (count_of (month_breaches start past stretches)) kinds)
 
 abbrev pub overview_head : List ℕ
 overview_head = codes "driver,name,rest,available,work,drive,crew,none,examined,B1,B2,B3,B4,B5,B6,B7,B8,B9,B10\n"
@@ -90,4 +90,4 @@ pub record AreIncidentRows (number : ℕ) (name : List ℕ) (stretches : List Ju
   pub start : ℕ
   pub past : ℕ
   pub bounds : AreBounds month start past
-  pub is : text ≡ flat_map (incident_row number name) (breaches_of start past stretches)
+  pub is : text ≡ flat_map (incident_row number name) (month_breaches start past stretches)

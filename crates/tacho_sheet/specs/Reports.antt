@@ -119,9 +119,9 @@ count_from p m zero = 0
 count_from p m (suc n) = (if p m then 1 else 0) + count_from p (m + 1) n
 
 -- held single with this activity, held as crew, or not held
-abbrev pub is_single : Activity → Option Mark → Bool
-is_single a None = false
-is_single a (Some mark) = not mark.crew && (activity_code mark.activity == activity_code a)
+abbrev pub is_single_minute : Activity → Option Mark → Bool
+is_single_minute a None = false
+is_single_minute a (Some mark) = not mark.crew && (activity_code mark.activity == activity_code a)
 
 abbrev pub is_crew : Option Mark → Bool
 is_crew None = false
@@ -133,22 +133,22 @@ is_lacking (Some mark) = false
 
 -- the tests of the columns
 abbrev pub columns : List (Option Mark → Bool)
-columns = is_single Rest ∷ is_single Available ∷ is_single Work ∷ is_single Drive ∷ is_crew ∷ is_lacking ∷ []
+columns = is_single_minute Rest ∷ is_single_minute Available ∷ is_single_minute Work ∷ is_single_minute Drive ∷ is_crew ∷ is_lacking ∷ []
 
 -- the count of a column for the n minutes from m on
-abbrev pub minutes_of : List Span → ℕ → ℕ → (Option Mark → Bool) → ℕ
-minutes_of line m n column = count_from (λ k. column (mark_at line k)) m n
+abbrev pub column_minutes : List Span → ℕ → ℕ → (Option Mark → Bool) → ℕ
+column_minutes line m n column = count_from (λ k. column (mark_at line k)) m n
 
--- hours and minutes, which `right` aligns to the right of seven columns
+-- hours and minutes, which `right_aligned` aligns to the right of seven columns
 abbrev pub amount_text : ℕ → List ℕ
 amount_text n = decimal (n / 60) ++ (codes ":" ++ two_digits (n % 60))
 
-abbrev pub right : List ℕ → List ℕ
-right text = replicate (7 - length text) 32 ++ text
+abbrev pub right_aligned : List ℕ → List ℕ
+right_aligned text = replicate (7 - length text) 32 ++ text
 
 -- the six amounts of the n minutes from m on
 abbrev pub amounts_text : List Span → ℕ → ℕ → List ℕ
-amounts_text line m n = flat_map (λ column. right (amount_text (minutes_of line m n column))) columns
+amounts_text line m n = flat_map (λ column. right_aligned (amount_text (column_minutes line m n column))) columns
 
 abbrev pub weekday_name : ℕ → List ℕ
 weekday_name zero = codes "Mon"

@@ -5,8 +5,8 @@ use Rattle.tacho_time.specs.declared.span.Activity.TheVariants.{Rest, Available,
 use Rattle.tacho_sheet.specs.declared.fault.LeftOut.{LeftOut}
 use Rattle.tacho_sheet.specs.declared.fault.LeftOut.TheVariants.{Crew, Ferry, Out, Derogation}
 
-abbrev pub activity_of : List ℕ → Option Activity
-activity_of word =
+abbrev pub activity_of_text : List ℕ → Option Activity
+activity_of_text word =
     if bytes_eq word (codes "rest") then Some Rest
     else if bytes_eq word (codes "available") then Some Available
     else if bytes_eq word (codes "work") then Some Work

@@ -1,7 +1,7 @@
 ghost use Rattle.std.specs.Prelude.{◌≡◌, ◌+◌, ◌-◌, ◌*◌, ◌<◌, ◌≤◌, ◌^◌, IfOk, None, Some};
 ghost use Rattle.tacho_time.specs.declared.span.Activity.TheVariants.{Rest as RestOf, Available as AvailableOf, Work as WorkOf, Drive as DriveOf};
-ghost use Rattle.tacho_sheet.specs.Reports.{is_single, is_crew, is_lacking};
-ghost use Rattle.tacho_sheet.specs.Amounts.{AreAmounts, AreFrom, part, whole};
+ghost use Rattle.tacho_sheet.specs.Reports.{is_single_minute, is_crew, is_lacking};
+ghost use Rattle.tacho_sheet.specs.Amounts.{AreAmounts, AreFrom, all_or_none, whole};
 
 use std::alloc::{AllocError, Global};
 use tacho_line::Line;
@@ -39,12 +39,12 @@ impl Amounts {
     /// Adds minutes that all have one mark, or that aren't held.
     fn add_run(&mut self, mark: Option<Mark>, minutes: u32)
         requires { whole self.old + minutes < 2 ^ 32 }
-        ensures rest { self.new.rest ≡ self.old.rest + part (is_single RestOf mark) minutes }
-        ensures available { self.new.available ≡ self.old.available + part (is_single AvailableOf mark) minutes }
-        ensures work { self.new.work ≡ self.old.work + part (is_single WorkOf mark) minutes }
-        ensures drive { self.new.drive ≡ self.old.drive + part (is_single DriveOf mark) minutes }
-        ensures crew { self.new.crew ≡ self.old.crew + part (is_crew mark) minutes }
-        ensures lacking { self.new.lacking ≡ self.old.lacking + part (is_lacking mark) minutes }
+        ensures rest { self.new.rest ≡ self.old.rest + all_or_none (is_single_minute RestOf mark) minutes }
+        ensures available { self.new.available ≡ self.old.available + all_or_none (is_single_minute AvailableOf mark) minutes }
+        ensures work { self.new.work ≡ self.old.work + all_or_none (is_single_minute WorkOf mark) minutes }
+        ensures drive { self.new.drive ≡ self.old.drive + all_or_none (is_single_minute DriveOf mark) minutes }
+        ensures crew { self.new.crew ≡ self.old.crew + all_or_none (is_crew mark) minutes }
+        ensures lacking { self.new.lacking ≡ self.old.lacking + all_or_none (is_lacking mark) minutes }
     {
         let Some(mark) = mark else {
             self.lacking += minutes;

@@ -4,7 +4,7 @@ ghost use Rattle.csv.specs.Records.{fields_of};
 ghost use Rattle.hex.specs.Hex.{IsBytes, encode_lower};
 ghost use Rattle.tacho_state.specs.Limits.{IsKey, IsName};
 ghost use Rattle.tacho_state.specs.Registration.{IsRegistration};
-ghost use Rattle.tacho_sheet.specs.Driver.{Five, HasNoHolder, IsColumnFault, IsDriverText, IsKeyText, IsNameText, IsRowAnswer, IsBodyAnswer, IsDriverRead, five_of, is_driver_head, is_driver_head_of};
+ghost use Rattle.tacho_sheet.specs.Driver.{Five, IsNoHolderText, IsColumnFault, IsDriverText, IsKeyText, IsNameText, IsRowAnswer, IsBodyAnswer, IsDriverRead, five_of, is_driver_head, is_driver_head_of};
 ghost use Rattle.tacho_sheet.specs.Rows.{IsReaderFault};
 
 use crate::fault::SheetFault;
@@ -17,7 +17,7 @@ use tacho_time::Day;
 
 /// Reads a holder from 30 hexadecimal digits, without capitals.
 pub fn read_holder(text: &[u8]) -> Option<[u8; 15]>
-    ensures text { MatchOption result (HasNoHolder text.now) (λ holder. text.now ≡ encode_lower holder) }
+    ensures text { MatchOption result (IsNoHolderText text.now) (λ holder. text.now ≡ encode_lower holder) }
     ensures bytes { IfSome result (λ holder. (length holder ≡ 15) × IsBytes holder) }
 {
     let mut holder = [0; 15];

@@ -4,7 +4,7 @@ ghost use Rattle.tacho_time.specs.Reading.{minute_at};
 ghost use Rattle.tacho_state.specs.Batch.{IsBatch};
 ghost use Rattle.tacho_state.specs.Limits.{IsName, IsNote};
 ghost use Rattle.tacho_sheet.specs.Rows.{AreLeft, HasLeft, Row, IsReaderFault};
-ghost use Rattle.tacho_sheet.specs.Entries.{timed, signed, is_author, is_note as is_note_text, line_of, head_of, lines_from, lines_told, IsRead};
+ghost use Rattle.tacho_sheet.specs.Entries.{check_times, check_author, is_author, is_note as is_note_text, row_answer, head_of, lines_from, lines_told, IsRead};
 
 use crate::fault::SheetFault;
 use crate::rows::{five_fields, row_reader, three_fields};
@@ -37,7 +37,7 @@ fn worked_of_words(
     past: &[u8],
     word: &[u8],
 ) -> Result<(Minute, Minute, Activity), SheetFault>
-    ensures { result ≡ timed row before word.now (minute_at start.now) (minute_at past.now) }
+    ensures { result ≡ check_times row before word.now (minute_at start.now) (minute_at past.now) }
 {
     let (Ok(start), Ok(past)) = (Minute::read(start), Minute::read(past)) else {
         return Err(SheetFault::Time(row));
@@ -117,7 +117,7 @@ fn line_of_words(
     note: &[u8],
 ) -> Result<EntryLine, SheetFault>
     ensures { IsErrAnd result (λ fault. fault ≡ SheetFault.Memory)
-        ⊎ (result ≡ signed row author.now note.now (timed row before word.now (minute_at start.now) (minute_at past.now))) }
+        ⊎ (result ≡ check_author row author.now note.now (check_times row before word.now (minute_at start.now) (minute_at past.now))) }
 {
     let (start, past, activity) = worked_of_words(row, before, start, past, word)?;
     let Some(author) = read_author(author) else {
@@ -137,7 +137,7 @@ fn line_of_row(
     before: Minute,
     fields: &ByteRecord,
 ) -> Result<EntryLine, SheetFault>
-    ensures { IsErrAnd result (λ fault. fault ≡ SheetFault.Memory) ⊎ (result ≡ line_of head row before (fields_of fields.now)) }
+    ensures { IsErrAnd result (λ fault. fault ≡ SheetFault.Memory) ⊎ (result ≡ row_answer head row before (fields_of fields.now)) }
 {
     match head {
         Head::Three => {

@@ -10,7 +10,7 @@ ghost use Rattle.tacho_hours.specs.declared.breach.Kind.{Kind as KindValue};
 ghost use Rattle.tacho_line.specs.Line.{AgreeWithin, AreGaps, InGaps};
 ghost use Rattle.tacho_stretches.specs.Start.{IsEndOfHeld};
 ghost use Rattle.tacho_stretches.specs.Stretches.{Judged};
-ghost use Rattle.tacho_sheet.specs.Reports.{columns, count_from, kind_name, minutes_of, AgreeIn, IsGapText, IsMonthSheet, IsSpanCsv};
+ghost use Rattle.tacho_sheet.specs.Reports.{columns, count_from, kind_name, column_minutes, AgreeIn, IsGapText, IsMonthSheet, IsSpanCsv};
 ghost use Rattle.tacho_sheet.specs.Months.{article, is_examined, kind_code, AreIncidentRows, IsOverviewRow};
 ghost use Rattle.tacho_sheet.specs.Form.{AreRows as AreFormRows, Fills, filled_form, IsForm};
 ghost use Rattle.tacho_state.specs.Batch.{Hours, batch_of};
@@ -75,7 +75,7 @@ pub fn one_list_of_incidents()
 
 /// The six columns of some minutes add up to the number of minutes: each minute counts in one column.
 pub fn columns_add_up()
-    ensures { (line : List SpanValue) (start n : ℕ) → sum (map (minutes_of line start n) columns) ≡ n }
+    ensures { (line : List SpanValue) (start n : ℕ) → sum (map (column_minutes line start n) columns) ≡ n }
 {}
 
 /// If all minutes of a range count as examined, each of them is within a stretch.

@@ -1,9 +1,9 @@
 ghost use Rattle.std.specs.Prelude.{◌≡◌, ◌-◌, ◌≤◌, ◌++◌, ℕ, List, flat_map, map, IfOk, OnOk, string_bytes};
-ghost use Rattle.tacho_stretches.specs.Stretches.{judged};
+ghost use Rattle.tacho_stretches.specs.Stretches.{judged_of};
 ghost use Rattle.tacho_stretches.specs.Ranges.{parts, FollowOn};
 ghost use Rattle.tacho_sheet.specs.Reports.{breaches_within, count_from};
 ghost use Rattle.tacho_sheet.specs.Amounts.{amounts_in, cells};
-ghost use Rattle.tacho_sheet.specs.Months.{article, breaches_of, count_of as count_of_kind, incident_head as head_of_incidents, incident_row, is_examined, kind_code, kinds, overview_head as head_of_overview, AreIncidentRows, IsOverviewRow};
+ghost use Rattle.tacho_sheet.specs.Months.{article, month_breaches, count_of as count_of_kind, incident_head as head_of_incidents, incident_row, is_examined, kind_code, kinds, overview_head as head_of_overview, AreIncidentRows, IsOverviewRow};
 
 use crate::amounts::{Amounts, amounts_of_range};
 use crate::sheet::is_within;
@@ -48,9 +48,9 @@ pub fn push_overview(
     stretches: &[Stretch],
     month: Month,
 ) -> Result<(), AllocError>
-    ensures { OnOk result ((base end : ℕ) → FollowOn (parts (map judged stretches.now)) base end → (row : List ℕ)
+    ensures { OnOk result ((base end : ℕ) → FollowOn (parts (map judged_of stretches.now)) base end → (row : List ℕ)
         × (string_bytes text.new ≡ string_bytes text.old ++ row)
-        × IsOverviewRow number name.now line.now (map judged stretches.now) month row) }
+        × IsOverviewRow number name.now line.now (map judged_of stretches.now) month row) }
 {
     let (start, past) = month_range(month);
     let amounts = amounts_of_range(alloc, line, start, past)?;
@@ -66,8 +66,8 @@ pub fn push_overview(
 /// The number of minutes from `start` to before `past` that are within a stretch. The stretches follow one another.
 fn examined_in(stretches: &[Stretch], start: Minute, past: Minute) -> u32
     requires { start ≤ past }
-    ensures { (base end : ℕ) → FollowOn (parts (map judged stretches.now)) base end
-        → result ≡ count_from (is_examined (map judged stretches.now)) start (past - start) }
+    ensures { (base end : ℕ) → FollowOn (parts (map judged_of stretches.now)) base end
+        → result ≡ count_from (is_examined (map judged_of stretches.now)) start (past - start) }
 {
     let mut examined = 0;
     let mut from = start;
@@ -89,7 +89,7 @@ fn breaches_in(
     start: Minute,
     past: Minute,
 ) -> Result<Vec<Breach>, AllocError>
-    ensures { IfOk result (λ found. found.items ≡ breaches_of start past (map judged stretches.now)) }
+    ensures { IfOk result (λ found. found.items ≡ month_breaches start past (map judged_of stretches.now)) }
 {
     let mut found = Vec::new(alloc);
     for stretch in stretches {
@@ -162,7 +162,7 @@ pub fn push_incidents(
     month: Month,
 ) -> Result<(), AllocError>
     ensures { OnOk result ((rows : List ℕ) × (string_bytes text.new ≡ string_bytes text.old ++ rows)
-        × AreIncidentRows number name.now (map judged stretches.now) month rows) }
+        × AreIncidentRows number name.now (map judged_of stretches.now) month rows) }
 {
     let (start, past) = month_range(month);
     for stretch in stretches {

@@ -1,7 +1,7 @@
 ghost use Rattle.std.specs.Prelude.{◌≡◌, ◌+◌, ◌-◌, ◌*◌, ◌<◌, ◌≤◌, ◌++◌, ◌&&◌, nat_le, nat_lt, flat_map, replicate, IfOk, OnOk, string_bytes};
 ghost use Rattle.jiff_core.specs.Weekday.{monday_zero};
 ghost use Rattle.tacho_time.specs.Text.{month_text, two_digits};
-ghost use Rattle.tacho_sheet.specs.Reports.{amount_text, breach_line, breaches_within, day_lines, right, weekday_name, IsMonthSheet};
+ghost use Rattle.tacho_sheet.specs.Reports.{amount_text, breach_line, breaches_within, day_lines, right_aligned, weekday_name, IsMonthSheet};
 ghost use Rattle.tacho_sheet.specs.Amounts.{amounts_line, head_text, line_of_day, AreAmounts};
 
 use crate::amounts::{Amounts, amounts_of_day};
@@ -108,7 +108,7 @@ fn push_amounts(alloc: Global, text: &mut String, amounts: &Amounts) -> Result<(
 
 /// Appends an amount, right-aligned in seven columns.
 fn push_right(alloc: Global, text: &mut String, minutes: u32) -> Result<(), AllocError>
-    ensures { OnOk result (string_bytes text.new ≡ string_bytes text.old ++ right (amount_text minutes)) }
+    ensures { OnOk result (string_bytes text.new ≡ string_bytes text.old ++ right_aligned (amount_text minutes)) }
 {
     let amount = text_of_amount(alloc, minutes)?;
     push_blanks(text, 7_usize.saturating_sub(amount.len()))?;

@@ -1,5 +1,5 @@
 ghost use Rattle.std.specs.Prelude.{◌≡◌, ◌++◌, IfOk, OnOk, map, string_bytes};
-ghost use Rattle.tacho_stretches.specs.Stretches.{judged};
+ghost use Rattle.tacho_stretches.specs.Stretches.{judged_of};
 ghost use Rattle.tacho_sheet.specs.Stretches.{block, debt_text as text_of_debts, stretch_text as text_of_stretches, unseen_line};
 
 use crate::reports::{breach_text, owed_text};
@@ -9,7 +9,7 @@ use tacho_time::{Minute, write_day};
 
 /// Writes stretches: for each its Monday, its breaches, its horizon, and what isn't examined after it.
 pub fn stretch_text(alloc: Global, stretches: &[Stretch]) -> Result<String, AllocError>
-    ensures { IfOk result (λ text. string_bytes text ≡ text_of_stretches (map judged stretches.now)) }
+    ensures { IfOk result (λ text. string_bytes text ≡ text_of_stretches (map judged_of stretches.now)) }
 {
     let mut text = String::new(alloc);
     for stretch in stretches {
@@ -22,7 +22,7 @@ pub fn stretch_text(alloc: Global, stretches: &[Stretch]) -> Result<String, Allo
 /// Writes the debts of stretches: for each stretch its Monday, its debts as they are at its horizon, its horizon, and what isn't examined
 /// after it.
 pub fn debt_text(alloc: Global, stretches: &[Stretch]) -> Result<String, AllocError>
-    ensures { IfOk result (λ text. string_bytes text ≡ text_of_debts (map judged stretches.now)) }
+    ensures { IfOk result (λ text. string_bytes text ≡ text_of_debts (map judged_of stretches.now)) }
 {
     let mut text = String::new(alloc);
     for stretch in stretches {
@@ -34,7 +34,7 @@ pub fn debt_text(alloc: Global, stretches: &[Stretch]) -> Result<String, AllocEr
 
 /// Appends a stretch: its Monday, the text of its report, and what isn't examined after it.
 fn push_block(text: &mut String, stretch: &Stretch, report: &str) -> Result<(), AllocError>
-    ensures { OnOk result (string_bytes text.new ≡ string_bytes text.old ++ block report.now (judged stretch.now)) }
+    ensures { OnOk result (string_bytes text.new ≡ string_bytes text.old ++ block report.now (judged_of stretch.now)) }
 {
     text.push_str("FROM ")?;
     write_day(text, stretch.monday.day())?;

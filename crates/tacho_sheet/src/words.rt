@@ -1,12 +1,12 @@
 ghost use Rattle.std.specs.Prelude.{◌≡◌};
-ghost use Rattle.tacho_sheet.specs.Words.{activity_of, left_out_of};
+ghost use Rattle.tacho_sheet.specs.Words.{activity_of_text, left_out_of};
 
 use crate::fault::LeftOut;
 use tacho_time::Activity;
 
 /// Reads the name of an activity.
 pub(crate) fn read_activity(word: &[u8]) -> Option<Activity>
-    ensures { result ≡ activity_of word.now }
+    ensures { result ≡ activity_of_text word.now }
 {
     if word == b"rest".as_slice() {
         Some(Activity::Rest)

@@ -17,9 +17,9 @@ use Rattle.tacho_state.specs.Batch.{Hours, IsEntryLine, batch_of}
 use Rattle.tacho_state.specs.Limits.{next_number}
 use Rattle.tacho_state.specs.Least.{least_conflict}
 use Rattle.tacho_state.specs.State.{Download, Entry, Driver, given_spans, entry_span, entered_spans, held_spans, entry_from, marked_from, with_batch, with_marked, AreFull}
-use Rattle.tacho_state.specs.Steps.{most, entered_by, enter_own, withdrawn_by, withdraw_own}
+use Rattle.tacho_state.specs.Steps.{most_records, entered_by, enter_own, withdrawn_by, withdraw_own}
 use Rattle.tacho_state.proofs.GainLemmas.{entered_append}
-use Rattle.tacho_shelf.specs.Shelf.{AreKept, IsFaultOf, IsLeast, IsEnteredAt}
+use Rattle.tacho_shelf.specs.Shelf.{AreKept, IsStepFault, IsLeast, IsEnteredAt}
 use Rattle.tacho_shelf.proofs.RowLemmas.{looked_up}
 
 -- ---- a batch
@@ -48,7 +48,7 @@ no_empty_entry batch h = none_empty_from 0 batch h
 module _ (batch : List Entry) (d : Driver) where
   -- a batch that contradicts is refused
   pub enter_contradicted : (fault : StoreFault) → IsLeast (least_conflict (held_spans d ++ entered_spans batch)) fault
-      → IsFaultOf (enter_own batch d) fault
+      → IsStepFault (enter_own batch d) fault
   enter_contradicted fault (inl e) = inl e
   enter_contradicted fault (inr h) = inr (ap (entered_by batch d) h.2 ∙ ap Err (sym h.1))
 
@@ -67,7 +67,7 @@ module _ (batch : List Entry) (d : Driver) where
         go false t f = cc
 
   -- it is refused if too few numbers are left
-  pub enter_full : least_conflict (held_spans d ++ entered_spans batch) ≡ None → most < length d.entries + length batch
+  pub enter_full : least_conflict (held_spans d ++ entered_spans batch) ≡ None → most_records < length d.entries + length batch
       → enter_own batch d ≡ Err Full
   enter_full none l =
       let test : nat_lt 1000000 (length d.entries + length batch) ≡ true = grind (arith, nat_tests) in
@@ -80,16 +80,16 @@ module _ (batch : List Entry) (d : Driver) where
         → enter_own batch d ≡ Err Full
     go true t f = cc
     go false t f =
-        let full : most < length d.entries + length batch = grind (arith, nat_tests) in
+        let full : most_records < length d.entries + length batch = grind (arith, nat_tests) in
         enter_full none full
 
   -- if enough numbers are left, the driver may have these entries too
-  few_more : (first : ℕ) → next_number (length d.entries) (length batch) ≡ Some first → length (d.entries ++ batch) ≤ most
+  few_more : (first : ℕ) → next_number (length d.entries) (length batch) ≡ Some first → length (d.entries ++ batch) ≤ most_records
   few_more first e = go (nat_le (length d.entries + length batch) 1000000) refl e where
     go : (b : Bool) → nat_le (length d.entries + length batch) 1000000 ≡ b → cond b (Some (length d.entries + 1)) None ≡ Some first
-        → length (d.entries ++ batch) ≤ most
+        → length (d.entries ++ batch) ≤ most_records
     go true t f =
-        let room : length d.entries + length batch ≤ most = grind (arith, nat_tests) in
+        let room : length d.entries + length batch ≤ most_records = grind (arith, nat_tests) in
         let all = length-append d.entries batch in
         omega (arith, room, all)
     go false t f = cc

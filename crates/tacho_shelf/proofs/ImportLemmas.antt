@@ -12,9 +12,9 @@ use Rattle.tacho_state.specs.declared.imported.Imported.TheVariants.{Added, Repe
 use Rattle.tacho_state.specs.Limits.{next_number}
 use Rattle.tacho_state.specs.Least.{least_conflict, is_within}
 use Rattle.tacho_state.specs.State.{Driver, given_spans, entered_spans, held_spans, with_download}
-use Rattle.tacho_state.specs.Steps.{kept_by, import_own, most}
+use Rattle.tacho_state.specs.Steps.{kept_by, import_own, most_records}
 use Rattle.tacho_state.proofs.GainLemmas.{download_held}
-use Rattle.tacho_shelf.specs.Shelf.{AreKept, IsFaultOf, IsLeast}
+use Rattle.tacho_shelf.specs.Shelf.{AreKept, IsStepFault, IsLeast}
 
 -- a driver and a file's spans
 module _ (part : ℕ) (file : List ℕ) (spans : List Span) (d : Driver) where
@@ -32,7 +32,7 @@ module _ (part : ℕ) (file : List ℕ) (spans : List Span) (d : Driver) where
 
   -- a file with a contradiction is refused with it
   pub import_contradicted : (fault : StoreFault) → is_within spans (given_spans d.downloads) ≡ false
-      → IsLeast (least_conflict (held_spans d ++ spans)) fault → IsFaultOf (import_own part file spans d) fault
+      → IsLeast (least_conflict (held_spans d ++ spans)) fault → IsStepFault (import_own part file spans d) fault
   import_contradicted fault w (inl e) = inl e
   import_contradicted fault w (inr h) = inr (import_new (Some h.0) w h.2 ∙ ap Err (sym h.1))
 
@@ -64,15 +64,15 @@ module _ (part : ℕ) (file : List ℕ) (spans : List Span) (d : Driver) where
         ap (λ b. cond b (Ok (Added d.number (1 + length d.downloads), with_download part file spans d)) (Err Full)) full
 
 -- if there is a number for one more download, there is room for it
-pub room_for : (given number : ℕ) → next_number given 1 ≡ Some number → given < most
+pub room_for : (given number : ℕ) → next_number given 1 ≡ Some number → given < most_records
 room_for given number e = go (nat_le (given + 1) 1000000) refl e where
-  go : (b : Bool) → nat_le (given + 1) 1000000 ≡ b → cond b (Some (given + 1)) None ≡ Some number → given < most
+  go : (b : Bool) → nat_le (given + 1) 1000000 ≡ b → cond b (Some (given + 1)) None ≡ Some number → given < most_records
   go true t f = grind (arith, nat_tests)
   go false t f = cc
 
 -- `AreKept` still holds once a download is added whose spans contradict nothing held, if there is room
 pub kept_download : (d : Driver) (part : ℕ) (file : List ℕ) (spans : List Span) → AreKept d.downloads d.entries
-    → length d.downloads < most → ((m : ℕ) → ¬ (Conflicts (Gives (held_spans d ++ spans)) m))
+    → length d.downloads < most_records → ((m : ℕ) → ¬ (Conflicts (Gives (held_spans d ++ spans)) m))
     → AreKept (d.downloads ++ record { part = part; file = file; spans = spans } ∷ []) d.entries
 kept_download d part file spans kept room h =
     record {

@@ -22,9 +22,9 @@ use Rattle.tacho_state.specs.declared.fault.StoreFault.TheVariants.{Memory, Stor
 use Rattle.tacho_state.specs.Content.{FileTells}
 use Rattle.tacho_state.specs.Disjoint.{Keeps}
 use Rattle.tacho_state.specs.State.{Download, Entry, Driver, State, driver_of, Held, given_spans, entered_spans, held_spans, held_mark, download_from}
-use Rattle.tacho_state.specs.Steps.{told_of, lined, reported}
+use Rattle.tacho_state.specs.Steps.{reading_of, line_reading, report_reading}
 use Rattle.tacho_state.specs.Acts.{Answers}
-use Rattle.tacho_state.specs.Reported.{AreStretchesOf, IsHeldWithin, IsReportOf}
+use Rattle.tacho_state.specs.Reported.{AreStretchesOf, IsHeldWithin, IsDriverReport}
 use Rattle.tacho_stretches.specs.Stretches.{AreStretches, Judged}
 use Rattle.tacho_rules.specs.declared.report.Report.{Report}
 use Rattle.tacho_rules.specs.Report.{IsReport}
@@ -77,14 +77,14 @@ line_marks d line h = fun_ext (λ m. go m (mark_at line m) refl (held_mark d m) 
       let held = given_held_in line m k h.canonical ((h.same m k).1 (held_given (held_spans d) m k f)) in cc
   go m None e None f = e ∙ sym f
 
--- so it is the answer of `lined`
+-- so it is the answer of `line_reading`
 pub lined_at : (n : ℕ) (s : State) (d : Driver) (line : List Span) → driver_of n s ≡ Some d → IsCanonicalOf (Held d) line
-    → lined n s ≡ Ok (mark_at line)
-lined_at n s d line e h = ap (λ o. told_of (λ x. Ok (held_mark x)) o) e ∙ ap (λ (f : ℕ → Option Mark). Ok f) (sym (line_marks d line h))
+    → line_reading n s ≡ Ok (mark_at line)
+lined_at n s d line e h = ap (λ o. reading_of (λ x. Ok (held_mark x)) o) e ∙ ap (λ (f : ℕ → Option Mark). Ok f) (sym (line_marks d line h))
 
 -- the report of that line, from the driver's base, is the driver's report
 pub report_at : (n : ℕ) (s : State) (d : Driver) (report : Report) → driver_of n s ≡ Some d
-    → IsReport (held_spans d) (1440 * d.base) report.horizon report.breaches.items report.debts.items → IsReportOf n s report
+    → IsReport (held_spans d) (1440 * d.base) report.horizon report.breaches.items report.debts.items → IsDriverReport n s report
 report_at n s d report e r =
     subst (λ (o : Option Driver). IfSome o (λ x. IsReport (held_spans x) (1440 * x.base) report.horizon report.breaches.items report.debts.items))
     (sym e) r
@@ -96,10 +96,10 @@ stretches_at n s d found e is = subst (λ (o : Option Driver). IfSome o (λ x. A
 
 -- a call on a driver who exists answers, or gives up
 pub reported_at : {A : Type 0} (n : ℕ) (s : State) (d : Driver) (r : Result A StoreFault) → driver_of n s ≡ Some d
-    → IfErr r (λ f. (f ≡ Memory) ⊎ (f ≡ Store)) → Answers (λ _. tt) r (reported n s)
-reported_at n s d (Ok report) e up = ap (told_of (λ d. Ok tt)) e
-reported_at {A = A} n s d (Err f) e (inl is) = subst (λ (g : StoreFault). Answers {A = A} (λ _. tt) (Err g) (reported n s)) (sym is) tt
-reported_at {A = A} n s d (Err f) e (inr is) = subst (λ (g : StoreFault). Answers {A = A} (λ _. tt) (Err g) (reported n s)) (sym is) tt
+    → IfErr r (λ f. (f ≡ Memory) ⊎ (f ≡ Store)) → Answers (λ _. tt) r (report_reading n s)
+reported_at n s d (Ok report) e up = ap (reading_of (λ d. Ok tt)) e
+reported_at {A = A} n s d (Err f) e (inl is) = subst (λ (g : StoreFault). Answers {A = A} (λ _. tt) (Err g) (report_reading n s)) (sym is) tt
+reported_at {A = A} n s d (Err f) e (inr is) = subst (λ (g : StoreFault). Answers {A = A} (λ _. tt) (Err g) (report_reading n s)) (sym is) tt
 
 -- if no minute has two marks, the fault is out of memory
 pub no_conflict : (P : ℕ → Mark → Type 0) (fault : SpanFault) → ((m : ℕ) → ¬ (Conflicts P m)) → IsFirstFault P fault → fault ≡ SpanMemory
@@ -117,14 +117,14 @@ card_fault part bytes fault told (inr e) (inr f) = inr (fault, e.1, f)
 -- ---- a range
 
 -- the whole timeline has the right marks in each range
-within : (o : Option Driver) (start past : ℕ) (line : List Span) → told_of (λ d. Ok (held_mark d)) o ≡ Ok (mark_at line)
+within : (o : Option Driver) (start past : ℕ) (line : List Span) → reading_of (λ d. Ok (held_mark d)) o ≡ Ok (mark_at line)
     → IfSome o (λ d. AgreeWithin start past line (held_spans d))
 within None start past line e = cc
 within (Some d) start past line e =
     let same : held_mark d ≡ mark_at line = cc in
     λ m w. ap (λ (f : ℕ → Option Mark). f m) (sym same)
 
-pub line_within : (n start past : ℕ) (s : State) (r : Result (List Span) StoreFault) → Answers (λ line. mark_at line) r (lined n s)
+pub line_within : (n start past : ℕ) (s : State) (r : Result (List Span) StoreFault) → Answers (λ line. mark_at line) r (line_reading n s)
     → IfOk r (IsHeldWithin n start past s)
 line_within n start past s (Ok line) told = within (driver_of n s) start past line told
 line_within n start past s (Err f) told = tt
@@ -135,8 +135,8 @@ pub held_at : (n start past : ℕ) (s : State) (d : Driver) (line : List Span) �
 held_at n start past s d line e h = line_within n start past s (Ok line) (lined_at n s d line e h)
 
 -- the reading of a range is refused for the same drivers as that of the timeline
-asked : (o : Option Driver) (r : Result (List Span) StoreFault) → Answers (λ line. mark_at line) r (told_of (λ d. Ok (held_mark d)) o)
-    → Answers {B = Unit {0}} (λ line. tt) r (told_of (λ d. Ok tt) o)
+asked : (o : Option Driver) (r : Result (List Span) StoreFault) → Answers (λ line. mark_at line) r (reading_of (λ d. Ok (held_mark d)) o)
+    → Answers {B = Unit {0}} (λ line. tt) r (reading_of (λ d. Ok tt) o)
 asked None (Ok line) e = cc
 asked (Some d) (Ok line) e = refl
 asked None (Err Memory) e = tt
@@ -146,6 +146,6 @@ asked (Some d) (Err Memory) e = tt
 asked (Some d) (Err Store) e = tt
 asked (Some d) (Err f) e = cc
 
-pub line_asked : (n : ℕ) (s : State) (r : Result (List Span) StoreFault) → Answers (λ line. mark_at line) r (lined n s)
-    → Answers {B = Unit {0}} (λ line. tt) r (reported n s)
+pub line_asked : (n : ℕ) (s : State) (r : Result (List Span) StoreFault) → Answers (λ line. mark_at line) r (line_reading n s)
+    → Answers {B = Unit {0}} (λ line. tt) r (report_reading n s)
 line_asked n s r told = asked (driver_of n s) r told

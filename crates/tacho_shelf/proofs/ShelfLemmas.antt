@@ -5,9 +5,9 @@ use Rattle.std.proofs.lemmas.Option.{slice_get_read}
 use Rattle.tacho_state.specs.declared.fault.StoreFault.{StoreFault}
 use Rattle.tacho_state.specs.declared.fault.StoreFault.TheVariants.{NotMonday}
 use Rattle.tacho_state.specs.State.{Driver, State, driver_of, put, with_base}
-use Rattle.tacho_state.specs.Steps.{Turn, is_monday, own_turn, settled, rebase_own, rebased}
-use Rattle.tacho_state.specs.Acts.{Answers, left}
-use Rattle.tacho_shelf.specs.Shelf.{AreNumbered, IsPlaceOf, Turns}
+use Rattle.tacho_state.specs.Steps.{Turn, is_monday, own_turn, turn_of, rebase_own, rebase_step}
+use Rattle.tacho_state.specs.Acts.{Answers, state_left_by}
+use Rattle.tacho_shelf.specs.Shelf.{AreNumbered, IsIndexOf, Turns}
 
 -- ---- numbers
 
@@ -93,21 +93,21 @@ put_at (y ∷ s) (suc i) d x h g f =
 -- a call whose step is known to give this turn
 pub turns_as : {A B : Type 0} (view : A → B) (old new : State) (result : Result A StoreFault) (step : State → Turn B) (turn : Turn B)
     → step old ≡ turn
-    → Answers view result turn.answer → new ≡ left result old turn.after → Turns view old new result step
+    → Answers view result turn.answer → new ≡ state_left_by result old turn.after → Turns view old new result step
 turns_as view old new result step turn e told after = record { answer = rw e told; state = rw e after }
 
 -- the driver with this number gets a Monday as their base
 pub rebased_at : (n base : ℕ) (s : State) (x : Driver) → driver_of n s ≡ Some x → is_monday base ≡ true
-    → rebased n base s ≡ record { answer = Ok tt; after = put (with_base base x) s }
+    → rebase_step n base s ≡ record { answer = Ok tt; after = put (with_base base x) s }
 rebased_at n base s x e t =
-    ap (λ o. own_turn (rebase_own base) s o) e ∙ ap (λ b. settled s (cond b (Ok (tt, with_base base x)) (Err NotMonday))) t
+    ap (λ o. own_turn (rebase_own base) s o) e ∙ ap (λ b. turn_of s (cond b (Ok (tt, with_base base x)) (Err NotMonday))) t
 
 -- the driver at the place that a search found gets a Monday as their base
-pub rebased_set : (n base i : ℕ) (s : State) (x d : Driver) → AreNumbered s → IsPlaceOf s (driver_of n s) (Some i) → x ≡ get_or s i x
+pub rebased_set : (n base i : ℕ) (s : State) (x d : Driver) → AreNumbered s → IsIndexOf s (driver_of n s) (Some i) → x ≡ get_or s i x
     → d ≡ with_base base x → is_monday base ≡ true
-    → Turns (λ (u : Unit {0}). tt) s (slice_set s i d) (Ok tt) (rebased n base)
+    → Turns (λ (u : Unit {0}). tt) s (slice_set s i d) (Ok tt) (rebase_step n base)
 rebased_set n base i s x d h place e f monday =
     let at : slice_get s i ≡ Some x = slice_get_read s (length s) i x refl place.0 e in
     let put_there = put_at s i d x h at (ap (λ (y : Driver). y.number) f) in
-    turns_as (λ u. tt) s (slice_set s i d) (Ok tt) (rebased n base) _ (rebased_at n base s x (sym place.1 ∙ at) monday) refl (put_there
+    turns_as (λ u. tt) s (slice_set s i d) (Ok tt) (rebase_step n base) _ (rebased_at n base s x (sym place.1 ∙ at) monday) refl (put_there
     ∙ ap (λ (y : Driver). put y s) f)

@@ -11,16 +11,16 @@ use Rattle.tacho_state.specs.declared.imported.Imported.TheVariants.{Added, Repe
 use Rattle.tacho_state.specs.Least.{least_conflict, is_within}
 use Rattle.tacho_state.specs.State.{Driver, State, driver_of, holding, put, given_spans, held_spans, with_download}
 use Rattle.tacho_state.specs.Content.{FileTells, part_number}
-use Rattle.tacho_state.specs.Steps.{Turn, Own, Content, most, refused, settled, own_turn, kept_by, import_own, import_his, imported}
+use Rattle.tacho_state.specs.Steps.{Turn, Own, Content, most_records, refusal_turn, turn_of, own_turn, kept_by, import_own, import_by_driver, import_step}
 use Rattle.tacho_state.specs.Acts.{Answers}
 use Rattle.tacho_state.proofs.ContentLemmas.{one_content}
-use Rattle.tacho_shelf.specs.Shelf.{AreNumbered, IsPlaceOf, IsFaultOf, IsCardFault, IsOwnerAt, known, known_by, owner_of, Turns}
+use Rattle.tacho_shelf.specs.Shelf.{AreNumbered, IsIndexOf, IsStepFault, IsCardFault, IsOwnerAt, known_driver, known_by, owner_of, Turns}
 use Rattle.tacho_shelf.proofs.ShelfLemmas.{put_at}
 
 -- ---- refusals
 
 -- the answer of a call that gave up, or was refused as the step is
-pub fault_answers : {A B : Type 0} (view : A → B) (fault : StoreFault) (told : Result B StoreFault) → IsFaultOf told fault
+pub fault_answers : {A B : Type 0} (view : A → B) (fault : StoreFault) (told : Result B StoreFault) → IsStepFault told fault
     → Answers view (Err fault) told
 fault_answers view Memory told h = tt
 fault_answers view Store told h = tt
@@ -29,7 +29,7 @@ fault_answers view fault told (inr e) = e
 
 -- such a call changes nothing
 pub gave_up : {A B : Type 0} (view : A → B) (s : State) (fault : StoreFault) (step : State → Turn B)
-    → (fault ≡ Memory) ⊎ (step s ≡ refused fault s) → Turns view s s (Err fault) step
+    → (fault ≡ Memory) ⊎ (step s ≡ refusal_turn fault s) → Turns view s s (Err fault) step
 gave_up view s fault step (inl e) = record { answer = fault_answers view fault (step s).answer (inl e); state = refl }
 gave_up view s fault step (inr e) = record { answer = fault_answers view fault (step s).answer (inr (ap (λ (t : Turn _). t.answer) e)); state = refl }
 
@@ -63,36 +63,36 @@ has_no_fault part bytes read tells card no_such =
 
 -- a file that can't be read
 pub import_unread : (caller : Option ℕ) (part : Part) (bytes : List ℕ) (s : State) (fault : StoreFault) (content : Result Content CardFault) → IsCardFault part bytes fault → FileTells part bytes content
-    → Turns (λ (done : Imported). done) s s (Err fault) (imported caller (part_number part) bytes content)
-import_unread caller part bytes s fault content (inl e) t = gave_up (λ done. done) s fault (imported caller (part_number part) bytes content) (inl e)
+    → Turns (λ (done : Imported). done) s s (Err fault) (import_step caller (part_number part) bytes content)
+import_unread caller part bytes s fault content (inl e) t = gave_up (λ done. done) s fault (import_step caller (part_number part) bytes content) (inl e)
 import_unread caller part bytes s fault content (inr h) t =
     let same : content ≡ Err h.0 = one_content part bytes content (Err h.0) t h.2 in
-    gave_up (λ done. done) s fault (imported caller (part_number part) bytes content)
-    (inr (ap (λ (c : Result Content CardFault). imported caller (part_number part) bytes c s) same ∙ ap (λ (f : StoreFault). refused f s) (sym h.1)))
+    gave_up (λ done. done) s fault (import_step caller (part_number part) bytes content)
+    (inr (ap (λ (c : Result Content CardFault). import_step caller (part_number part) bytes c s) same ∙ ap (λ (f : StoreFault). refusal_turn f s) (sym h.1)))
 
 -- a file of an unknown driver's card, or of another driver's than the caller's
 import_unowned : (caller : Option ℕ) (part : ℕ) (bytes : List ℕ) (content : Content) (s : State) (fault : StoreFault)
     → owner_of caller content.holder s ≡ Err fault
-    → imported caller part bytes (Ok content) s ≡ refused fault s
+    → import_step caller part bytes (Ok content) s ≡ refusal_turn fault s
 import_unowned None part bytes content s fault = go (holding content.holder s) where
-  go : (o : Option Driver) → known o ≡ Err fault → own_turn (import_own part bytes content.spans) s o ≡ refused fault s
-  go None e = let same : UnknownDriver ≡ fault = cc in ap (λ (f : StoreFault). refused f s) same
+  go : (o : Option Driver) → known_driver o ≡ Err fault → own_turn (import_own part bytes content.spans) s o ≡ refusal_turn fault s
+  go None e = let same : UnknownDriver ≡ fault = cc in ap (λ (f : StoreFault). refusal_turn f s) same
   go (Some d) e = cc
 import_unowned (Some n) part bytes content s fault = go (driver_of n s) where
   his : (d : Driver) (b : Bool) → cond b (Ok d) (Err NotYourCard) ≡ Err fault
-      → settled s (cond b (import_own part bytes content.spans d) (Err NotYourCard)) ≡ refused fault s
+      → turn_of s (cond b (import_own part bytes content.spans d) (Err NotYourCard)) ≡ refusal_turn fault s
   his d true e = cc
-  his d false e = let same : NotYourCard ≡ fault = cc in ap (λ (f : StoreFault). refused f s) same
+  his d false e = let same : NotYourCard ≡ fault = cc in ap (λ (f : StoreFault). refusal_turn f s) same
 
-  go : (o : Option Driver) → known_by content.holder o ≡ Err fault → own_turn (import_his part bytes content) s o ≡ refused fault s
-  go None e = let same : UnknownDriver ≡ fault = cc in ap (λ (f : StoreFault). refused f s) same
+  go : (o : Option Driver) → known_by content.holder o ≡ Err fault → own_turn (import_by_driver part bytes content) s o ≡ refusal_turn fault s
+  go None e = let same : UnknownDriver ≡ fault = cc in ap (λ (f : StoreFault). refusal_turn f s) same
   go (Some d) e = his d (bytes_eq d.holder content.holder) e
 
 -- looking for the card's owner never fails with a file's fault
 pub owner_without_fault : (caller : Option ℕ) (holder : List ℕ) (s : State) (card : CardFault)
     → owner_of caller holder s ≡ Err (Card card) → ⊥
 owner_without_fault None holder s card = go (holding holder s) where
-  go : (o : Option Driver) → known o ≡ Err (Card card) → ⊥
+  go : (o : Option Driver) → known_driver o ≡ Err (Card card) → ⊥
   go None e = cc
   go (Some d) e = cc
 owner_without_fault (Some n) holder s card = go (driver_of n s) where
@@ -106,30 +106,30 @@ owner_without_fault (Some n) holder s card = go (driver_of n s) where
 
 -- a file of the owner's card
 import_owned : (caller : Option ℕ) (part : ℕ) (bytes : List ℕ) (content : Content) (s : State) (d : Driver) → owner_of caller content.holder s ≡ Ok d
-    → imported caller part bytes (Ok content) s ≡ settled s (import_own part bytes content.spans d)
+    → import_step caller part bytes (Ok content) s ≡ turn_of s (import_own part bytes content.spans d)
 import_owned None part bytes content s d = go (holding content.holder s) where
-  go : (o : Option Driver) → known o ≡ Ok d → own_turn (import_own part bytes content.spans) s o ≡ settled s (import_own part bytes content.spans d)
+  go : (o : Option Driver) → known_driver o ≡ Ok d → own_turn (import_own part bytes content.spans) s o ≡ turn_of s (import_own part bytes content.spans d)
   go None e = cc
-  go (Some x) e = let same : x ≡ d = cc in ap (λ (y : Driver). settled s (import_own part bytes content.spans y)) same
+  go (Some x) e = let same : x ≡ d = cc in ap (λ (y : Driver). turn_of s (import_own part bytes content.spans y)) same
 import_owned (Some n) part bytes content s d = go (driver_of n s) where
   his : (x : Driver) (b : Bool) → cond b (Ok x) (Err NotYourCard) ≡ Ok d
-      → settled s (cond b (import_own part bytes content.spans x) (Err NotYourCard)) ≡ settled s (import_own part bytes content.spans d)
-  his x true e = let same : x ≡ d = cc in ap (λ (y : Driver). settled s (import_own part bytes content.spans y)) same
+      → turn_of s (cond b (import_own part bytes content.spans x) (Err NotYourCard)) ≡ turn_of s (import_own part bytes content.spans d)
+  his x true e = let same : x ≡ d = cc in ap (λ (y : Driver). turn_of s (import_own part bytes content.spans y)) same
   his x false e = cc
 
   go : (o : Option Driver) → known_by content.holder o ≡ Ok d
-      → own_turn (import_his part bytes content) s o ≡ settled s (import_own part bytes content.spans d)
+      → own_turn (import_by_driver part bytes content) s o ≡ turn_of s (import_own part bytes content.spans d)
   go None e = cc
   go (Some x) e = his x (bytes_eq x.holder content.holder) e
 
 -- the import of a file of an unknown driver's card, or of another driver's
 pub import_refused : (caller : Option ℕ) (part : Part) (bytes : List ℕ) (s : State) (fault : StoreFault) (read : Content) (content : Result Content CardFault)
     → FileTells part bytes (Ok read) → owner_of caller read.holder s ≡ Err fault → FileTells part bytes content
-    → Turns (λ (done : Imported). done) s s (Err fault) (imported caller (part_number part) bytes content)
+    → Turns (λ (done : Imported). done) s s (Err fault) (import_step caller (part_number part) bytes content)
 import_refused caller part bytes s fault read content h e t =
     let same : content ≡ Ok read = one_content part bytes content (Ok read) t h in
-    gave_up (λ done. done) s fault (imported caller (part_number part) bytes content)
-    (inr (ap (λ (c : Result Content CardFault). imported caller (part_number part) bytes c s) same ∙ import_unowned caller
+    gave_up (λ done. done) s fault (import_step caller (part_number part) bytes content)
+    (inr (ap (λ (c : Result Content CardFault). import_step caller (part_number part) bytes c s) same ∙ import_unowned caller
     (part_number part) bytes read s fault e))
 
 -- ---- an import for one driver
@@ -155,7 +155,7 @@ module _ (part : ℕ) (bytes : List ℕ) (spans : List Span) (x d : Driver) wher
     go : (b : Bool) (o : Option ℕ) → if_within b o ≡ Err (Card card) → ⊥
     go true o e = cc
     go false (Some m) e = cc
-    go false None e = room (nat_lt (length x.downloads) most) e
+    go false None e = room (nat_lt (length x.downloads) most_records) e
 
   abbrev left_by : Told → Driver
   left_by (Ok told) = told.1
@@ -178,10 +178,10 @@ module _ (part : ℕ) (bytes : List ℕ) (spans : List Span) (x d : Driver) wher
     go : (b : Bool) (o : Option ℕ) → if_within b o ≡ Ok (Repeated n, d) → d ≡ x
     go true o e = sym (ap left_by e)
     go false (Some m) e = cc
-    go false None e = room (nat_lt (length x.downloads) most) e
+    go false None e = room (nat_lt (length x.downloads) most_records) e
 
   pub own_without_fault : (r : Result Imported StoreFault)
-      → MatchResult r (λ done. import_own part bytes spans x ≡ Ok (done, d)) (IsFaultOf (import_own part bytes spans x))
+      → MatchResult r (λ done. import_own part bytes spans x ≡ Ok (done, d)) (IsStepFault (import_own part bytes spans x))
       → (card : CardFault) → r ≡ Err (Card card) → ⊥
   own_without_fault (Ok done) h card e = cc
   own_without_fault (Err fault) (inl is) card e = cc
@@ -190,7 +190,7 @@ module _ (part : ℕ) (bytes : List ℕ) (spans : List Span) (x d : Driver) wher
       no_fault card (told ∙ ap Err same)
 
   pub own_repeated : (r : Result Imported StoreFault)
-      → MatchResult r (λ done. import_own part bytes spans x ≡ Ok (done, d)) (IsFaultOf (import_own part bytes spans x))
+      → MatchResult r (λ done. import_own part bytes spans x ≡ Ok (done, d)) (IsStepFault (import_own part bytes spans x))
       → (n : ℕ) → r ≡ Ok (Repeated n) → d ≡ x
   own_repeated (Ok done) told n e =
       let same : done ≡ Repeated n = cc in
@@ -205,11 +205,11 @@ set_same (y ∷ s) (suc i) x e = ap (λ t. y ∷ t) (set_same s i x e)
 
 -- a call on one driver, who is at a place
 own_turns : {A B : Type 0} (view : A → B) (step : State → Turn B) (s : State) (i : ℕ) (x d : Driver)
-    (told : Result (B × Driver) StoreFault) (result : Result A StoreFault) → AreNumbered s → slice_get s i ≡ Some x → d.number ≡ x.number → step s ≡ settled s told
-    → MatchResult result (λ done. told ≡ Ok (view done, d)) (IsFaultOf told) → OnErr result (d ≡ x)
+    (told : Result (B × Driver) StoreFault) (result : Result A StoreFault) → AreNumbered s → slice_get s i ≡ Some x → d.number ≡ x.number → step s ≡ turn_of s told
+    → MatchResult result (λ done. told ≡ Ok (view done, d)) (IsStepFault told) → OnErr result (d ≡ x)
     → Turns view s (slice_set s i d) result step
 own_turns view step s i x d told (Ok done) h at n e t kept =
-    let after : step s ≡ record { answer = Ok (view done); after = put d s } = e ∙ ap (settled s) t in
+    let after : step s ≡ record { answer = Ok (view done); after = put d s } = e ∙ ap (turn_of s) t in
     record {
       answer = ap (λ (u : Turn _). u.answer) after;
       state = put_at s i d x h at n ∙ sym (ap (λ (u : Turn _). u.after) after);
@@ -219,14 +219,14 @@ own_turns view step s i x d told (Err fault) h at n e t kept =
       answer = fault_answers view fault (step s).answer (refusal t);
       state = ap (slice_set s i) kept ∙ set_same s i x at;
     } where
-      refusal : IsFaultOf told fault → IsFaultOf (step s).answer fault
+      refusal : IsStepFault told fault → IsStepFault (step s).answer fault
       refusal (inl m) = inl m
-      refusal (inr f) = inr (ap (λ (u : Turn _). u.answer) (e ∙ ap (settled s) f))
+      refusal (inr f) = inr (ap (λ (u : Turn _). u.answer) (e ∙ ap (turn_of s) f))
 
 -- a call on the driver who was found by number
 pub found_turns : {A B : Type 0} (view : A → B) (own : Own B) (n i : ℕ) (s : State) (x d : Driver) (result : Result A StoreFault)
-    → AreNumbered s → IsPlaceOf s (driver_of n s) (Some i) → x ≡ get_or s i x → d.number ≡ x.number
-    → MatchResult result (λ done. own x ≡ Ok (view done, d)) (IsFaultOf (own x)) → OnErr result (d ≡ x)
+    → AreNumbered s → IsIndexOf s (driver_of n s) (Some i) → x ≡ get_or s i x → d.number ≡ x.number
+    → MatchResult result (λ done. own x ≡ Ok (view done, d)) (IsStepFault (own x)) → OnErr result (d ≡ x)
     → Turns view s (slice_set s i d) result (λ t. own_turn own t (driver_of n t))
 found_turns view own n i s x d result h place read same told kept =
     let at : slice_get s i ≡ Some x = slice_get_read s (length s) i x refl place.0 read in
@@ -236,12 +236,12 @@ found_turns view own n i s x d result h place read same told kept =
 -- an import for the owner of the card
 pub import_turns : (caller : Option ℕ) (part : Part) (bytes : List ℕ) (s : State) (i : ℕ) (x d : Driver) (read : Content) (content : Result Content CardFault) (result : Result Imported StoreFault)
     → AreNumbered s → IsOwnerAt s (owner_of caller read.holder s) i → slice_get s i ≡ Some x → d.number ≡ x.number → FileTells part bytes (Ok read)
-    → MatchResult result (λ done. import_own (part_number part) bytes read.spans x ≡ Ok (done, d)) (IsFaultOf (import_own
+    → MatchResult result (λ done. import_own (part_number part) bytes read.spans x ≡ Ok (done, d)) (IsStepFault (import_own
     (part_number part) bytes read.spans x)) → OnErr result (d ≡ x)
-    → FileTells part bytes content → Turns (λ (done : Imported). done) s (slice_set s i d) result (imported caller (part_number part) bytes content)
+    → FileTells part bytes content → Turns (λ (done : Imported). done) s (slice_set s i d) result (import_step caller (part_number part) bytes content)
 import_turns caller part bytes s i x d read content result h owner at n tells told kept t =
     let same : content ≡ Ok read = one_content part bytes content (Ok read) t tells in
     let his : owner.0 ≡ x = cc (sym owner.1 ∙ at) in
-    own_turns (λ done. done) (imported caller (part_number part) bytes content) s i x d (import_own (part_number part) bytes read.spans x) result h at n
-    (ap (λ (c : Result Content CardFault). imported caller (part_number part) bytes c s) same
+    own_turns (λ done. done) (import_step caller (part_number part) bytes content) s i x d (import_own (part_number part) bytes read.spans x) result h at n
+    (ap (λ (c : Result Content CardFault). import_step caller (part_number part) bytes c s) same
     ∙ import_owned caller (part_number part) bytes read s x (owner.2 ∙ ap Ok his)) told kept

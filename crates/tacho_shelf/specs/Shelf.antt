@@ -12,28 +12,28 @@ use Rattle.tacho_state.specs.declared.imported.Imported.TheVariants.{Added, Repe
 use Rattle.tacho_state.specs.Content.{FileTells}
 use Rattle.tacho_state.specs.Registration.{Registration}
 use Rattle.tacho_state.specs.State.{Download, Entry, Driver, State, driver_of, holding, given_spans, entered_spans, with_download}
-use Rattle.tacho_state.specs.Steps.{Turn, most}
-use Rattle.tacho_state.specs.Acts.{Answers, left}
+use Rattle.tacho_state.specs.Steps.{Turn, most_records}
+use Rattle.tacho_state.specs.Acts.{Answers, state_left_by}
 
 -- no two drivers have the same number
 abbrev pub AreNumbered : State → Type 0
 AreNumbered [] = Unit {0}
 AreNumbered (d ∷ s) = (driver_of d.number s ≡ None) × AreNumbered s
 
--- a driver's downloads and entries give no minute two marks, and there are at most `most` of each
+-- a driver's downloads and entries give no minute two marks, and there are at most `most_records` of each
 pub record AreKept (downloads : List Download) (entries : List Entry) : Type 0 where
   pub agreed : (m : ℕ) → ¬ (Conflicts (Gives (given_spans downloads ++ entered_spans entries)) m)
-  pub few_downloads : length downloads ≤ most
-  pub few : length entries ≤ most
+  pub few_downloads : length downloads ≤ most_records
+  pub few : length entries ≤ most_records
 
 -- the place of the driver who was looked for, or none if there is no such driver
-abbrev pub IsPlaceOf : State → Option Driver → Option ℕ → Type 0
-IsPlaceOf s sought (Some i) = (i < length s) × (slice_get s i ≡ sought)
-IsPlaceOf s sought None = sought ≡ None
+abbrev pub IsIndexOf : State → Option Driver → Option ℕ → Type 0
+IsIndexOf s sought (Some i) = (i < length s) × (slice_get s i ≡ sought)
+IsIndexOf s sought None = sought ≡ None
 
 -- the fault is out of memory, or the step's answer
-abbrev pub IsFaultOf : {A : Type 0} → Result A StoreFault → StoreFault → Type 0
-IsFaultOf told fault = OrMemory Memory fault (told ≡ Err fault)
+abbrev pub IsStepFault : {A : Type 0} → Result A StoreFault → StoreFault → Type 0
+IsStepFault told fault = OrMemory Memory fault (told ≡ Err fault)
 
 -- the fault is out of memory, or the least minute that is contradicted
 abbrev pub IsLeast : Option ℕ → StoreFault → Type 0
@@ -48,9 +48,9 @@ abbrev pub IsCardFault : Part → List ℕ → StoreFault → Type 0
 IsCardFault part bytes fault = OrMemory Memory fault ((f : CardFault) × (fault ≡ Card f) × FileTells part bytes (Err f))
 
 -- the driver, if there is one: S4
-abbrev pub known : Option Driver → Result Driver StoreFault
-known None = Err UnknownDriver
-known (Some d) = Ok d
+abbrev pub known_driver : Option Driver → Result Driver StoreFault
+known_driver None = Err UnknownDriver
+known_driver (Some d) = Ok d
 
 -- the driver, if there is one and their card has this holder: S4, S5
 abbrev pub known_by : List ℕ → Option Driver → Result Driver StoreFault
@@ -59,7 +59,7 @@ known_by holder (Some d) = if bytes_eq d.holder holder then Ok d else Err NotYou
 
 -- the owner of a card with this holder, for the office (no number) or for a driver who imports the file
 abbrev pub owner_of : Option ℕ → List ℕ → State → Result Driver StoreFault
-owner_of None holder s = known (holding holder s)
+owner_of None holder s = known_driver (holding holder s)
 owner_of (Some n) holder s = known_by holder (driver_of n s)
 
 -- the driver who was looked for is at this place
@@ -67,14 +67,14 @@ abbrev pub IsOwnerAt : State → Result Driver StoreFault → ℕ → Type 0
 IsOwnerAt s sought i = (d : Driver) × (slice_get s i ≡ Some d) × (sought ≡ Ok d)
 
 -- the result of an import: the download gets this number, or the file is repeated if there is none
-abbrev pub numbered : ℕ → List ℕ → List Span → Driver → Option ℕ → Imported × Driver
-numbered part file spans d (Some n) = (Added d.number n, with_download part file spans d)
-numbered part file spans d None = (Repeated d.number, d)
+abbrev pub import_answer : ℕ → List ℕ → List Span → Driver → Option ℕ → Imported × Driver
+import_answer part file spans d (Some n) = (Added d.number n, with_download part file spans d)
+import_answer part file spans d None = (Repeated d.number, d)
 
 -- the call answers as the step does and leaves the step's state, or gives up and leaves the state before
 pub record Turns {A B : Type 0} (view : A → B) (old new : State) (result : Result A StoreFault) (step : State → Turn B) : Type 0 where
   pub answer : Answers view result (step old).answer
-  pub state : new ≡ left result old (step old).after
+  pub state : new ≡ state_left_by result old (step old).after
 
 -- a driver who was just registered
 abbrev pub new_driver : Registration → Driver

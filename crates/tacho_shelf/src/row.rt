@@ -2,9 +2,9 @@ ghost use Rattle.std.specs.Prelude.{◌≡◌, ◌≢◌, ℕ, false, MatchResul
 ghost use Rattle.tacho_time.specs.OrMemory.{OrMemory};
 ghost use Rattle.tacho_line.specs.declared.line.LineFault.TheVariants.{Memory as NoMemory};
 ghost use Rattle.tacho_state.specs.Limits.{next_number};
-ghost use Rattle.tacho_state.specs.State.{driver_of, keyed, holding};
+ghost use Rattle.tacho_state.specs.State.{driver_of, driver_with_key, holding};
 ghost use Rattle.tacho_state.specs.Steps.{is_monday as on_monday};
-ghost use Rattle.tacho_shelf.specs.Shelf.{IsPlaceOf};
+ghost use Rattle.tacho_shelf.specs.Shelf.{IsIndexOf};
 
 use crate::hours::{Hours, add_spans, hours_of};
 use std::alloc::{AllocError, Global};
@@ -78,15 +78,15 @@ impl Row {
     ghost use Rattle.tacho_time.specs.Spans.{Gives, IsCanonical, IsCanonicalOf, Conflicts};
     ghost use Rattle.tacho_line.specs.Line.{first_empty};
     ghost use Rattle.tacho_rules.specs.Report.{IsReport};
-    ghost use Rattle.tacho_stretches.specs.Stretches.{AreStretches, judged};
+    ghost use Rattle.tacho_stretches.specs.Stretches.{AreStretches, judged_of};
     ghost use Rattle.tacho_state.specs.Batch.{IsEntryLine, batch_of};
     ghost use Rattle.tacho_state.specs.Least.{least_conflict, is_within};
-    ghost use Rattle.tacho_state.specs.State.{Given, Held, AreFull, given_spans, held_spans, download_from, with_batch};
-    ghost use Rattle.tacho_state.specs.Steps.{import_own, enter_own, withdraw_own, most, numbered_from};
+    ghost use Rattle.tacho_state.specs.State.{IsDownloaded, Held, AreFull, given_spans, held_spans, download_from, with_batch};
+    ghost use Rattle.tacho_state.specs.Steps.{import_own, enter_own, withdraw_own, most_records, numbered_from};
     ghost use Rattle.tacho_state.specs.Limits.{next_number};
     ghost use Rattle.tacho_state.specs.Content.{part_number};
     ghost use Rattle.tacho_state.specs.Summaries.{summary_of, told_summary};
-    ghost use Rattle.tacho_shelf.specs.Shelf.{IsFaultOf, IsLeast, IsEnteredAt, AreKept, new_driver, numbered};
+    ghost use Rattle.tacho_shelf.specs.Shelf.{IsStepFault, IsLeast, IsEnteredAt, AreKept, new_driver, import_answer};
 
     /// Makes a driver who is registered now.
     pub(crate) fn new(alloc: Global, driver: &Driver) -> Result<Row, AllocError>
@@ -127,7 +127,7 @@ impl Row {
 
     /// Returns the line of what the downloads give.
     fn given_line(&self, alloc: Global) -> Result<Line, AllocError>
-        ensures { IfOk result (λ line. IsCanonicalOf (Given self.now) line) }
+        ensures { IfOk result (λ line. IsCanonicalOf (IsDownloaded self.now) line) }
     {
         let spans = self.given_spans(alloc)?;
         match line_of(alloc, &spans) {
@@ -160,7 +160,7 @@ impl Row {
 
     /// Returns the stretches of what the driver holds, from their base.
     pub(crate) fn stretches(&self, alloc: Global) -> Result<Vec<Stretch>, StoreFault>
-        ensures stretches { IfOk result (λ found. AreStretches (held_spans self.now) (1440 * self.now.base) (map judged found.items)) }
+        ensures stretches { IfOk result (λ found. AreStretches (held_spans self.now) (1440 * self.now.base) (map judged_of found.items)) }
         ensures fault { IfErr result (λ fault. OrMemory StoreFault.Memory fault (fault ≡ StoreFault.Store)) }
     {
         let (_, stretches) = self.line_and_stretches(alloc)?;
@@ -173,7 +173,7 @@ impl Row {
         alloc: Global,
     ) -> Result<(Line, Vec<Stretch>), StoreFault>
         ensures line { IfOk result (λ found. IsCanonicalOf (Held self.now) found.0) }
-        ensures stretches { IfOk result (λ found. AreStretches (held_spans self.now) (1440 * self.now.base) (map judged found.1.items)) }
+        ensures stretches { IfOk result (λ found. AreStretches (held_spans self.now) (1440 * self.now.base) (map judged_of found.1.items)) }
         ensures fault { IfErr result (λ fault. OrMemory StoreFault.Memory fault (fault ≡ StoreFault.Store)) }
     {
         let Ok(line) = self.line(alloc) else {
@@ -249,9 +249,9 @@ impl Row {
     /// Returns the number for a download that gives these spans, or none if downloads already give them all: S6, S14.
     fn number_for(&self, alloc: Global, spans: &[Span]) -> Result<Option<u32>, StoreFault>
         requires { first_empty spans.now ≡ None }
-        ensures told { (part : ℕ) (file : List ℕ) → MatchResult result (λ number. import_own part file spans.now self.now ≡ Ok (numbered part file spans.now self.now number)) (IsFaultOf (import_own part file spans.now self.now)) }
+        ensures told { (part : ℕ) (file : List ℕ) → MatchResult result (λ number. import_own part file spans.now self.now ≡ Ok (import_answer part file spans.now self.now number)) (IsStepFault (import_own part file spans.now self.now)) }
         ensures agreed { IfOk result (λ number. OnSome number ((m : ℕ) → ¬ (Conflicts (Gives (held_spans self.now ++ spans.now)) m))) }
-        ensures few { IfOk result (λ number. OnSome number (length self.now.downloads < most)) }
+        ensures few { IfOk result (λ number. OnSome number (length self.now.downloads < most_records)) }
     {
         let Ok(repeated) = self.has_given(alloc, spans) else {
             return Err(StoreFault::Memory);
@@ -275,7 +275,7 @@ impl Row {
         spans: Vec<Span>,
     ) -> Result<Imported, StoreFault>
         requires { IsCanonical spans.items }
-        ensures told { MatchResult result (λ done. import_own (part_number part) file.now spans.items self.old ≡ Ok (done, self.new)) (IsFaultOf (import_own (part_number part) file.now spans.items self.old)) }
+        ensures told { MatchResult result (λ done. import_own (part_number part) file.now spans.items self.old ≡ Ok (done, self.new)) (IsStepFault (import_own (part_number part) file.now spans.items self.old)) }
         ensures number { self.new.number ≡ self.old.number }
         ensures err { OnErr result (self.new ≡ self.old) }
     {
@@ -299,7 +299,7 @@ impl Row {
     /// Returns the numbers for hours that are to be entered: S6, S14.
     fn numbers_for(&self, alloc: Global, batch: &[Hours]) -> Result<Entered, StoreFault>
         requires { AreFull batch.now }
-        ensures told { MatchResult result (λ done. enter_own batch.now self.now ≡ Ok (done.first, with_batch batch.now self.now)) (IsFaultOf (enter_own batch.now self.now)) }
+        ensures told { MatchResult result (λ done. enter_own batch.now self.now ≡ Ok (done.first, with_batch batch.now self.now)) (IsStepFault (enter_own batch.now self.now)) }
         ensures count { IfOk result (λ done. done.count ≡ length batch.now) }
         ensures kept { OnOk result (AreKept self.now.downloads (self.now.entries ++ batch.now)) }
     {
@@ -324,7 +324,7 @@ impl Row {
         lines: &[EntryLine],
     ) -> Result<Entered, StoreFault>
         requires { All IsEntryLine lines.now }
-        ensures told { MatchResult result (λ done. enter_own (batch_of lines.now) self.old ≡ Ok (done.first, self.new)) (IsFaultOf (enter_own (batch_of lines.now) self.old)) }
+        ensures told { MatchResult result (λ done. enter_own (batch_of lines.now) self.old ≡ Ok (done.first, self.new)) (IsStepFault (enter_own (batch_of lines.now) self.old)) }
         ensures count { IfOk result (λ done. done.count ≡ length lines.now) }
         ensures number { self.new.number ≡ self.old.number }
         ensures err { OnErr result (self.new ≡ self.old) }
@@ -357,7 +357,7 @@ impl Row {
 
     /// Withdraws an entry: S7, S8.
     pub(crate) fn withdraw(&mut self, number: u32) -> Result<(), StoreFault>
-        ensures told { MatchResult result (λ _. withdraw_own number self.old ≡ Ok (tt, self.new)) (IsFaultOf (withdraw_own number self.old)) }
+        ensures told { MatchResult result (λ _. withdraw_own number self.old ≡ Ok (tt, self.new)) (IsStepFault (withdraw_own number self.old)) }
         ensures number { self.new.number ≡ self.old.number }
         ensures err { OnErr result (self.new ≡ self.old) }
     {
@@ -446,21 +446,21 @@ fn no_memory(fault: SpanFault) -> AllocError
 
 /// Returns the place of the driver with this number.
 pub(crate) fn place_of(rows: &[Row], number: u32) -> Option<usize>
-    ensures { IsPlaceOf rows.now (driver_of number rows.now) result }
+    ensures { IsIndexOf rows.now (driver_of number rows.now) result }
 {
     rows.iter().position(|row| row.number == number)
 }
 
 /// Returns the place of the driver whose key has these bytes.
 pub(crate) fn place_of_key(rows: &[Row], key: &[u8]) -> Option<usize>
-    ensures { IsPlaceOf rows.now (keyed key.now rows.now) result }
+    ensures { IsIndexOf rows.now (driver_with_key key.now rows.now) result }
 {
     rows.iter().position(|row| row.key.as_bytes() == key)
 }
 
 /// Returns the place of the driver whose card has this holder.
 pub(crate) fn place_of_holder(rows: &[Row], holder: &[u8]) -> Option<usize>
-    ensures { IsPlaceOf rows.now (holding holder.now rows.now) result }
+    ensures { IsIndexOf rows.now (holding holder.now rows.now) result }
 {
     rows.iter().position(|row| row.holder.as_slice() == holder)
 }

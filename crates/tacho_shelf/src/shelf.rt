@@ -5,12 +5,12 @@ ghost use Rattle.tacho_line.specs.Line.{mark_at};
 ghost use Rattle.tacho_state.specs.State.{driver_of, holding};
 ghost use Rattle.tacho_state.specs.Content.{FileTells, part_number};
 ghost use Rattle.tacho_state.specs.Batch.{IsBatch, batch_of};
-ghost use Rattle.tacho_state.specs.Steps.{Content, registered, imported, entered, withdrawn, rebased, refused, owner, named, lined, listed, downloaded, reported};
-ghost use Rattle.tacho_state.specs.Reported.{AreStretchesOf, IsHeldWithin, IsReportOf};
-ghost use Rattle.tacho_stretches.specs.Stretches.{judged};
+ghost use Rattle.tacho_state.specs.Steps.{Content, register_step, import_step, enter_step, withdraw_step, rebase_step, refusal_turn, owner, name_reading, line_reading, entries_reading, file_reading, report_reading};
+ghost use Rattle.tacho_state.specs.Reported.{AreStretchesOf, IsHeldWithin, IsDriverReport};
+ghost use Rattle.tacho_stretches.specs.Stretches.{judged_of};
 ghost use Rattle.tacho_state.specs.Summaries.{AreSummaries, told_summary};
 ghost use Rattle.tacho_state.specs.Acts.{Answers, caller_number};
-ghost use Rattle.tacho_shelf.specs.Shelf.{Turns, IsOwnerAt, known, known_by, owner_of, new_driver};
+ghost use Rattle.tacho_shelf.specs.Shelf.{Turns, IsOwnerAt, known_driver, known_by, owner_of, new_driver};
 
 use crate::content::read_content;
 use crate::row::{Row, is_monday, place_of, place_of_holder, place_of_key};
@@ -58,10 +58,10 @@ impl Shelf {
     fn refusal(&self, driver: &Driver) -> Option<StoreFault>
         ensures new { IfNone result (driver_of driver.now.number self.now ≡ None) }
         ensures told { MatchOption result
-            (registered driver.now.number driver.now.holder driver.now.key driver.now.base driver.now.name self.now
+            (register_step driver.now.number driver.now.holder driver.now.key driver.now.base driver.now.name self.now
             ≡ record { answer = Ok tt; after = self.now ++ new_driver driver.now ∷ [] })
-            (λ fault. registered driver.now.number driver.now.holder driver.now.key driver.now.base driver.now.name self.now
-            ≡ refused fault self.now) }
+            (λ fault. register_step driver.now.number driver.now.holder driver.now.key driver.now.base driver.now.name self.now
+            ≡ refusal_turn fault self.now) }
     {
         if place_of(&self.drivers, driver.number()).is_some() {
             return Some(StoreFault::DriverTaken);
@@ -81,7 +81,7 @@ impl Shelf {
     /// Adds a driver: S1, S2, S3, S9.
     fn add_driver(&mut self, driver: &Driver) -> Result<(), StoreFault>
         ensures { Turns (λ _. tt) self.old self.new result
-            (registered driver.now.number driver.now.holder driver.now.key driver.now.base driver.now.name) }
+            (register_step driver.now.number driver.now.holder driver.now.key driver.now.base driver.now.name) }
     {
         if let Some(fault) = self.refusal(driver) {
             return Err(fault);
@@ -113,7 +113,7 @@ impl Shelf {
         lines: &[EntryLine],
     ) -> Result<Entered, StoreFault>
         requires { IsBatch lines.now }
-        ensures entered { Turns (λ done. done.first) self.old self.new result (entered driver (batch_of lines.now)) }
+        ensures entered { Turns (λ done. done.first) self.old self.new result (enter_step driver (batch_of lines.now)) }
         ensures count { IfOk result (λ done. done.count ≡ length lines.now) }
     {
         let Some(place) = place_of(&self.drivers, driver) else {
@@ -124,7 +124,7 @@ impl Shelf {
 
     /// Withdraws an entry of a driver: S4, S7, S8.
     fn withdraw_entry(&mut self, driver: u32, number: u32) -> Result<(), StoreFault>
-        ensures { Turns (λ _. tt) self.old self.new result (withdrawn driver number) }
+        ensures { Turns (λ _. tt) self.old self.new result (withdraw_step driver number) }
     {
         let Some(place) = place_of(&self.drivers, driver) else {
             return Err(StoreFault::UnknownDriver);
@@ -134,7 +134,7 @@ impl Shelf {
 
     /// Sets the day from which a driver is examined: S4, S9.
     fn set_base(&mut self, driver: u32, base: Day) -> Result<(), StoreFault>
-        ensures { Turns (λ _. tt) self.old self.new result (rebased driver base) }
+        ensures { Turns (λ _. tt) self.old self.new result (rebase_step driver base) }
     {
         let Some(place) = place_of(&self.drivers, driver) else {
             return Err(StoreFault::UnknownDriver);
@@ -169,7 +169,7 @@ impl Shelf {
 
     /// Returns the name of a driver: S4.
     fn name_of(&self, alloc: Global, driver: u32) -> Result<String, StoreFault>
-        ensures { Answers (λ name. string_bytes name) result (named driver self.now) }
+        ensures { Answers (λ name. string_bytes name) result (name_reading driver self.now) }
     {
         let Some(place) = place_of(&self.drivers, driver) else {
             return Err(StoreFault::UnknownDriver);
@@ -182,7 +182,7 @@ impl Shelf {
 
     /// Returns the timeline of a driver: S4.
     fn line_of(&self, alloc: Global, driver: u32) -> Result<Line, StoreFault>
-        ensures { Answers (λ line. mark_at line) result (lined driver self.now) }
+        ensures { Answers (λ line. mark_at line) result (line_reading driver self.now) }
     {
         let Some(place) = place_of(&self.drivers, driver) else {
             return Err(StoreFault::UnknownDriver);
@@ -201,7 +201,7 @@ impl Shelf {
         start: Minute,
         past: Minute,
     ) -> Result<Line, StoreFault>
-        ensures answer { Answers (λ _. tt) result (reported driver self.now) }
+        ensures answer { Answers (λ _. tt) result (report_reading driver self.now) }
         ensures within { IfOk result (IsHeldWithin driver start past self.now) }
     {
         self.line_of(alloc, driver)
@@ -209,7 +209,7 @@ impl Shelf {
 
     /// Lists the entries of a driver ordered by number: S4.
     fn entries_of(&self, alloc: Global, driver: u32) -> Result<Vec<Entry>, StoreFault>
-        ensures { Answers (λ entries. entries.items) result (listed driver self.now) }
+        ensures { Answers (λ entries. entries.items) result (entries_reading driver self.now) }
     {
         let Some(place) = place_of(&self.drivers, driver) else {
             return Err(StoreFault::UnknownDriver);
@@ -222,7 +222,7 @@ impl Shelf {
 
     /// Returns the bytes of a driver's download: S4, S10.
     fn file_of(&self, alloc: Global, driver: u32, number: u32) -> Result<Vec<u8>, StoreFault>
-        ensures { Answers (λ bytes. bytes.items) result (downloaded driver number self.now) }
+        ensures { Answers (λ bytes. bytes.items) result (file_reading driver number self.now) }
     {
         let Some(place) = place_of(&self.drivers, driver) else {
             return Err(StoreFault::UnknownDriver);
@@ -238,8 +238,8 @@ impl Shelf {
 
     /// Returns the report of a driver from their base: S4.
     fn report_of(&self, alloc: Global, driver: u32) -> Result<Report, StoreFault>
-        ensures answer { Answers (λ _. tt) result (reported driver self.now) }
-        ensures report { IfOk result (IsReportOf driver self.now) }
+        ensures answer { Answers (λ _. tt) result (report_reading driver self.now) }
+        ensures report { IfOk result (IsDriverReport driver self.now) }
     {
         let Some(place) = place_of(&self.drivers, driver) else {
             return Err(StoreFault::UnknownDriver);
@@ -249,8 +249,8 @@ impl Shelf {
 
     /// Returns the stretches of a driver from their base: S4.
     fn stretches_of(&self, alloc: Global, driver: u32) -> Result<Vec<Stretch>, StoreFault>
-        ensures answer { Answers (λ _. tt) result (reported driver self.now) }
-        ensures stretches { IfOk result (λ found. AreStretchesOf driver self.now (map judged found.items)) }
+        ensures answer { Answers (λ _. tt) result (report_reading driver self.now) }
+        ensures stretches { IfOk result (λ found. AreStretchesOf driver self.now (map judged_of found.items)) }
     {
         let Some(place) = place_of(&self.drivers, driver) else {
             return Err(StoreFault::UnknownDriver);
@@ -266,9 +266,9 @@ impl Shelf {
         start: Minute,
         past: Minute,
     ) -> Result<(Line, Vec<Stretch>), StoreFault>
-        ensures answer { Answers (λ _. tt) result (reported driver self.now) }
+        ensures answer { Answers (λ _. tt) result (report_reading driver self.now) }
         ensures within { IfOk result (λ found. IsHeldWithin driver start past self.now found.0) }
-        ensures stretches { IfOk result (λ found. AreStretchesOf driver self.now (map judged found.1.items)) }
+        ensures stretches { IfOk result (λ found. AreStretchesOf driver self.now (map judged_of found.1.items)) }
     {
         let Some(place) = place_of(&self.drivers, driver) else {
             return Err(StoreFault::UnknownDriver);
@@ -290,8 +290,8 @@ impl Shelf {
 
     /// Returns the place of the driver whose card has this holder: S4.
     fn place_of_holder(&self, holder: &[u8]) -> Result<usize, StoreFault>
-        ensures { MatchResult result (IsOwnerAt self.now (known (holding holder.now self.now)))
-            (λ fault. known (holding holder.now self.now) ≡ Err fault) }
+        ensures { MatchResult result (IsOwnerAt self.now (known_driver (holding holder.now self.now)))
+            (λ fault. known_driver (holding holder.now self.now) ≡ Err fault) }
     {
         match place_of_holder(&self.drivers, holder) {
             Some(place) => Ok(place),
@@ -327,7 +327,7 @@ impl Shelf {
             → FileTells part file.now (Err fault) }
         ensures repeated { (number : ℕ) → result ≡ Ok (Repeated number) → self.new ≡ self.old }
         ensures turns { (content : Result Content CardFault) → FileTells part file.now content
-            → Turns (λ done. done) self.old self.new result (imported (caller_number caller) (part_number part) file.now content) }
+            → Turns (λ done. done) self.old self.new result (import_step (caller_number caller) (part_number part) file.now content) }
     {
         let content = read_content(alloc, part, file)?;
         let place = self.owner(caller, &content.holder)?;

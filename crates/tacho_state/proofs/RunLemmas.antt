@@ -4,11 +4,11 @@ use Rattle.tacho_state.specs.declared.fault.StoreFault.{StoreFault}
 use Rattle.tacho_state.specs.declared.fault.StoreFault.TheVariants.{Memory, Store, Card}
 use Rattle.tacho_state.specs.State.{State}
 use Rattle.tacho_state.specs.Steps.{Turn}
-use Rattle.tacho_state.specs.Acts.{Acts, Reads, IsAnswered, IsOfNoFile, left}
-use Rattle.tacho_state.specs.Runs.{Call, untold, state_after, IsSettled, AreAnswered, IsCall, IsRun}
+use Rattle.tacho_state.specs.Acts.{Acts, Reads, IsAnswered, IsOfNoFile, state_left_by}
+use Rattle.tacho_state.specs.Runs.{Call, without_value, state_after, IsDecided, AreAnswered, IsCall, IsRun}
 
 -- a fault that is settled, and not a file's, is an answer
-answered : (fault : StoreFault) → IsOfNoFile {A = Unit {0}} (Err fault) → IsSettled (Err fault) → IsAnswered {A = Unit {0}} (Err fault)
+answered : (fault : StoreFault) → IsOfNoFile {A = Unit {0}} (Err fault) → IsDecided (Err fault) → IsAnswered {A = Unit {0}} (Err fault)
 answered (Card fault) other settled = absurd other
 answered fault other settled = settled
 
@@ -17,7 +17,7 @@ module _ {K : Type 0} {stands : K → State → Type 0} {is_clean is_live : K �
   -- a command is a call of a run
   pub command_is_call : {A B : Type 0} {view : A → B} {old new : K} (r : Result A StoreFault) (step : State → Turn B)
       → Acts stands is_clean is_live leaves is_same is_same_of view old new r step → IsOfNoFile r
-      → IsCall stands is_clean leaves old new (record { answer = untold r; after = λ s. (step s).after })
+      → IsCall stands is_clean leaves old new (record { answer = without_value r; after = λ s. (step s).after })
   command_is_call (Ok x) step h other =
       record { clean = h.clean; state = h.state; kept = λ clean s st settled l. h.kept clean s st; crash = h.crash }
   command_is_call (Err fault) step h other = record {
@@ -33,7 +33,7 @@ module _ {K : Type 0} {stands : K → State → Type 0} {is_clean is_live : K �
   pub reading_is_call : {A B : Type 0} {view : A → B} {old new : K} (r : Result A StoreFault) (told : State → Result B StoreFault)
       → Reads stands is_clean is_live leaves is_same view old new r told
       → ((s : State) (states : List State) (k : K) → leaves k states → leaves k (s ∷ states))
-      → IsCall stands is_clean leaves old new (record { answer = untold r; after = λ s. s })
+      → IsCall stands is_clean leaves old new (record { answer = without_value r; after = λ s. s })
   reading_is_call (Ok x) told h more = record {
     clean = h.clean;
     state = h.state;

@@ -38,9 +38,9 @@ IsOfNoFile (Err (Card fault)) = ⊥
 IsOfNoFile answer = Unit {0}
 
 -- the state after a call: the one before it if the call gave up or was refused
-abbrev pub left : {A : Type 0} → Result A StoreFault → State → State → State
-left (Ok x) before after = after
-left (Err fault) before after = before
+abbrev pub state_left_by : {A : Type 0} → Result A StoreFault → State → State → State
+state_left_by (Ok x) before after = after
+state_left_by (Err fault) before after = before
 
 -- A call that changes the archive by a step. It answers as the step does and leaves the step's state, or it gives up and leaves the state
 -- before. A call that returns an error changes no row. At each moment a crash may leave one of the states that it could leave before, or
@@ -52,7 +52,7 @@ pub record Acts {K A B : Type 0} (stands : K → State → Type 0) (is_clean is_
     (step : State → Turn B) : Type 0 where
   pub clean : is_clean new → is_clean old
   pub answer : is_clean new → (s : State) → stands old s → Answers view result (step s).answer
-  pub state : is_clean new → (s : State) → stands old s → stands new (left result s (step s).after)
+  pub state : is_clean new → (s : State) → stands old s → stands new (state_left_by result s (step s).after)
   pub same : is_clean new → (s : State) → stands old s → OnErr result (is_same old new)
   pub others : is_clean new → (s : State) → stands old s → (n : ℕ) → driver_of n (step s).after ≡ driver_of n s → is_same_of n old new
   pub answered : is_clean new → IsAnswered result → is_live old

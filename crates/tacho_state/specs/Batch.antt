@@ -28,14 +28,14 @@ pub record IsEntryLine (line : Hours) : Type 0 where
   pub last : line.past ≤ 68374080
 
 -- each line begins where the one before it ends, or later
-abbrev pub AreInOrder : List Hours → Type 0
-AreInOrder [] = Unit {0}
-AreInOrder (line ∷ []) = Unit {0}
-AreInOrder (line ∷ next ∷ lines) = (line.past ≤ next.start) × AreInOrder (next ∷ lines)
+abbrev pub AreHoursInOrder : List Hours → Type 0
+AreHoursInOrder [] = Unit {0}
+AreHoursInOrder (line ∷ []) = Unit {0}
+AreHoursInOrder (line ∷ next ∷ lines) = (line.past ≤ next.start) × AreHoursInOrder (next ∷ lines)
 
 pub record IsBatch (lines : List Hours) : Type 0 where
   pub each : All IsEntryLine lines
-  pub order : AreInOrder lines
+  pub order : AreHoursInOrder lines
 
 -- the entry of a line of a batch
 abbrev pub entry_of : Hours → Entry

@@ -39,8 +39,8 @@ outside start past [] = []
 outside start past (s ∷ ss) = (span_between s.mark s.start start ++ span_between s.mark past s.past) ++ outside start past ss
 
 -- the spans, with all within a range replaced by `inside`
-abbrev pub replaced : ℕ → ℕ → List Span → List Span → List Span
-replaced start past spans inside = far start past spans ++ (outside start past (near start past spans) ++ inside)
+abbrev pub with_range_replaced : ℕ → ℕ → List Span → List Span → List Span
+with_range_replaced start past spans inside = far start past spans ++ (outside start past (near start past spans) ++ inside)
 
 -- all minutes of the spans are in the range
 abbrev pub AreInRange : ℕ → ℕ → List Span → Type 0
@@ -55,7 +55,7 @@ abbrev pub With : (ℕ → Mark → Type 0) → List Span → ℕ → Mark → T
 With P spans m k = P m k ⊎ Gives spans m k
 
 -- the spans give a pair that the line doesn't hold, or contradict the line
-abbrev pub IsNew : List Span → List Span → Type 0
-IsNew line spans =
+abbrev pub HasNews : List Span → List Span → Type 0
+HasNews line spans =
     ((first : Span) × (others : List Span) × AreGains line spans (first ∷ others))
     ⊎ ((m : ℕ) × IsFirstConflict (Together line spans) m)

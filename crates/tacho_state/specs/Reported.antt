@@ -9,8 +9,8 @@ use Rattle.tacho_state.specs.State.{State, driver_of, held_spans}
 use Rattle.tacho_state.specs.Steps.{is_monday}
 
 -- the report of what the driver with this number holds, from the first minute of their base; there is exactly one
-abbrev pub IsReportOf : ℕ → State → Report → Type 0
-IsReportOf n s report =
+abbrev pub IsDriverReport : ℕ → State → Report → Type 0
+IsDriverReport n s report =
     IfSome (driver_of n s) (λ d. IsReport (held_spans d) (1440 * d.base) report.horizon report.breaches.items report.debts.items)
 
 -- the stretches of what the driver with this number holds, from the first minute of their base; there is exactly one list

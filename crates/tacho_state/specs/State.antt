@@ -53,8 +53,8 @@ entered_spans [] = []
 entered_spans (e ∷ es) = if e.withdrawn then entered_spans es else entry_span e ∷ entered_spans es
 
 -- the pairs that a driver's accepted downloads give
-abbrev pub Given : Driver → ℕ → Mark → Type 0
-Given d = Gives (given_spans d.downloads)
+abbrev pub IsDownloaded : Driver → ℕ → Mark → Type 0
+IsDownloaded d = Gives (given_spans d.downloads)
 
 -- the spans of a driver's downloads, and of the entries that aren't withdrawn: together they give what the driver holds
 abbrev pub held_spans : Driver → List Span
@@ -75,9 +75,9 @@ driver_of n [] = None
 driver_of n (d ∷ s) = if d.number == n then Some d else driver_of n s
 
 -- the driver with a key
-abbrev pub keyed : List ℕ → State → Option Driver
-keyed key [] = None
-keyed key (d ∷ s) = if bytes_eq d.key key then Some d else keyed key s
+abbrev pub driver_with_key : List ℕ → State → Option Driver
+driver_with_key key [] = None
+driver_with_key key (d ∷ s) = if bytes_eq d.key key then Some d else driver_with_key key s
 
 -- the driver whose card has this holder
 abbrev pub holding : List ℕ → State → Option Driver

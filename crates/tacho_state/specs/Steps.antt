@@ -9,7 +9,7 @@ use Rattle.tacho_state.specs.declared.fault.StoreFault.TheVariants.{DriverTaken,
 use Rattle.tacho_state.specs.declared.entry.Entry.{Entry as Listed}
 use Rattle.tacho_state.specs.declared.imported.Imported.{Imported}
 use Rattle.tacho_state.specs.declared.imported.Imported.TheVariants.{Added, Repeated}
-use Rattle.tacho_state.specs.State.{Download, Entry, Driver, State, given_spans, entered_spans, held_spans, held_mark, driver_of, keyed, holding, put, download_from, entry_from, with_download, with_batch, with_marked, with_base}
+use Rattle.tacho_state.specs.State.{Download, Entry, Driver, State, given_spans, entered_spans, held_spans, held_mark, driver_of, driver_with_key, holding, put, download_from, entry_from, with_download, with_batch, with_marked, with_base}
 use Rattle.tacho_state.specs.Least.{least_conflict, is_within}
 
 -- an answer, and the state after it
@@ -17,25 +17,25 @@ pub record Turn (A : Type 0) : Type 0 where
   pub answer : Result A StoreFault
   pub after : State
 
-abbrev pub refused : {A : Type 0} → StoreFault → State → Turn A
-refused fault s = record { answer = Err fault; after = s }
+abbrev pub refusal_turn : {A : Type 0} → StoreFault → State → Turn A
+refusal_turn fault s = record { answer = Err fault; after = s }
 
 -- what a command on one driver answers, and the driver after it
 abbrev pub Own : Type 0 → Type 0
 Own A = Driver → Result (A × Driver) StoreFault
 
-abbrev pub settled : {A : Type 0} → State → Result (A × Driver) StoreFault → Turn A
-settled s (Ok told) = record { answer = Ok told.0; after = put told.1 s }
-settled s (Err fault) = refused fault s
+abbrev pub turn_of : {A : Type 0} → State → Result (A × Driver) StoreFault → Turn A
+turn_of s (Ok told) = record { answer = Ok told.0; after = put told.1 s }
+turn_of s (Err fault) = refusal_turn fault s
 
 -- a command on one driver; S4 if there is none
 abbrev pub own_turn : {A : Type 0} → Own A → State → Option Driver → Turn A
-own_turn f s None = refused UnknownDriver s
-own_turn f s (Some d) = settled s (f d)
+own_turn f s None = refusal_turn UnknownDriver s
+own_turn f s (Some d) = turn_of s (f d)
 
 -- how many downloads, and how many entries, a driver may have
-abbrev pub most : ℕ
-most = 1000000
+abbrev pub most_records : ℕ
+most_records = 1000000
 
 -- a day is a Monday: day 0 was a Thursday
 abbrev pub is_monday : ℕ → Bool
@@ -44,14 +44,14 @@ is_monday day = (day + 3) % 7 == 0
 -- ---- register
 
 -- adds the driver, without downloads and entries; S1, S2, S3, S9
-abbrev pub registered : ℕ → List ℕ → List ℕ → ℕ → List ℕ → State → Turn (Unit {0})
-registered number holder key base name s =
-    if is_some (driver_of number s) then refused DriverTaken s
-    else (if is_some (keyed key s) then refused KeyTaken s
-    else (if is_some (holding holder s) then refused HolderTaken s
+abbrev pub register_step : ℕ → List ℕ → List ℕ → ℕ → List ℕ → State → Turn (Unit {0})
+register_step number holder key base name s =
+    if is_some (driver_of number s) then refusal_turn DriverTaken s
+    else (if is_some (driver_with_key key s) then refusal_turn KeyTaken s
+    else (if is_some (holding holder s) then refusal_turn HolderTaken s
     else (if is_monday base
     then record { answer = Ok tt; after = s ++ record { number = number; holder = holder; key = key; base = base; name = name; downloads = []; entries = [] } ∷ [] }
-    else refused NotMonday s)))
+    else refusal_turn NotMonday s)))
 
 -- ---- import
 
@@ -64,7 +64,7 @@ pub record Content : Type 0 where
 abbrev pub kept_by : ℕ → List ℕ → List Span → Driver → Option ℕ → Result (Imported × Driver) StoreFault
 kept_by part file spans d (Some m) = Err (Contradiction m)
 kept_by part file spans d None =
-    if nat_lt (length d.downloads) most then Ok (Added d.number (1 + length d.downloads), with_download part file spans d) else Err Full
+    if nat_lt (length d.downloads) most_records then Ok (Added d.number (1 + length d.downloads), with_download part file spans d) else Err Full
 
 -- a file is repeated if downloads already give all its pairs; entries don't count for this
 abbrev pub import_own : ℕ → List ℕ → List Span → Own Imported
@@ -73,14 +73,14 @@ import_own part file spans d =
     else kept_by part file spans d (least_conflict (held_spans d ++ spans))
 
 -- an import by a driver: S5 if the card is another driver's
-abbrev pub import_his : ℕ → List ℕ → Content → Own Imported
-import_his part file content d = if bytes_eq d.holder content.holder then import_own part file content.spans d else Err NotYourCard
+abbrev pub import_by_driver : ℕ → List ℕ → Content → Own Imported
+import_by_driver part file content d = if bytes_eq d.holder content.holder then import_own part file content.spans d else Err NotYourCard
 
 -- an import by the office (no number), which finds the driver by the holder, or by a driver; a fault of the file comes first
-abbrev pub imported : Option ℕ → ℕ → List ℕ → Result Content CardFault → State → Turn Imported
-imported caller part file (Err fault) s = refused (Card fault) s
-imported None part file (Ok content) s = own_turn (import_own part file content.spans) s (holding content.holder s)
-imported (Some n) part file (Ok content) s = own_turn (import_his part file content) s (driver_of n s)
+abbrev pub import_step : Option ℕ → ℕ → List ℕ → Result Content CardFault → State → Turn Imported
+import_step caller part file (Err fault) s = refusal_turn (Card fault) s
+import_step None part file (Ok content) s = own_turn (import_own part file content.spans) s (holding content.holder s)
+import_step (Some n) part file (Ok content) s = own_turn (import_by_driver part file content) s (driver_of n s)
 
 -- ---- enter
 
@@ -88,14 +88,14 @@ imported (Some n) part file (Ok content) s = own_turn (import_his part file cont
 abbrev pub entered_by : List Entry → Driver → Option ℕ → Result (ℕ × Driver) StoreFault
 entered_by batch d (Some m) = Err (Contradiction m)
 entered_by batch d None =
-    if nat_lt most (length d.entries + length batch) then Err Full else Ok (1 + length d.entries, with_batch batch d)
+    if nat_lt most_records (length d.entries + length batch) then Err Full else Ok (1 + length d.entries, with_batch batch d)
 
 abbrev pub enter_own : List Entry → Own ℕ
 enter_own batch d = entered_by batch d (least_conflict (held_spans d ++ entered_spans batch))
 
 -- answers the number of the first entry
-abbrev pub entered : ℕ → List Entry → State → Turn ℕ
-entered n batch s = own_turn (enter_own batch) s (driver_of n s)
+abbrev pub enter_step : ℕ → List Entry → State → Turn ℕ
+enter_step n batch s = own_turn (enter_own batch) s (driver_of n s)
 
 -- ---- withdraw, rebase
 
@@ -107,33 +107,33 @@ withdrawn_by number d (Some e) = if e.withdrawn then Err AlreadyWithdrawn else O
 abbrev pub withdraw_own : ℕ → Own (Unit {0})
 withdraw_own number d = withdrawn_by number d (entry_from 1 number d.entries)
 
-abbrev pub withdrawn : ℕ → ℕ → State → Turn (Unit {0})
-withdrawn n number s = own_turn (withdraw_own number) s (driver_of n s)
+abbrev pub withdraw_step : ℕ → ℕ → State → Turn (Unit {0})
+withdraw_step n number s = own_turn (withdraw_own number) s (driver_of n s)
 
 -- S9
 abbrev pub rebase_own : ℕ → Own (Unit {0})
 rebase_own base d = if is_monday base then Ok (tt, with_base base d) else Err NotMonday
 
-abbrev pub rebased : ℕ → ℕ → State → Turn (Unit {0})
-rebased n base s = own_turn (rebase_own base) s (driver_of n s)
+abbrev pub rebase_step : ℕ → ℕ → State → Turn (Unit {0})
+rebase_step n base s = own_turn (rebase_own base) s (driver_of n s)
 
 -- ---- readings
 
 -- a reading of one driver; S4 if there is none
-abbrev pub told_of : {A : Type 0} → (Driver → Result A StoreFault) → Option Driver → Result A StoreFault
-told_of f None = Err UnknownDriver
-told_of f (Some d) = f d
+abbrev pub reading_of : {A : Type 0} → (Driver → Result A StoreFault) → Option Driver → Result A StoreFault
+reading_of f None = Err UnknownDriver
+reading_of f (Some d) = f d
 
 -- the number of the driver with this key, if there is one
 abbrev pub owner : List ℕ → State → Result (Option ℕ) StoreFault
-owner key s = Ok (option_map (λ (d : Driver). d.number) (keyed key s))
+owner key s = Ok (option_map (λ (d : Driver). d.number) (driver_with_key key s))
 
-abbrev pub named : ℕ → State → Result (List ℕ) StoreFault
-named n s = told_of (λ d. Ok d.name) (driver_of n s)
+abbrev pub name_reading : ℕ → State → Result (List ℕ) StoreFault
+name_reading n s = reading_of (λ d. Ok d.name) (driver_of n s)
 
 -- the driver's timeline: the mark of each held minute
-abbrev pub lined : ℕ → State → Result (ℕ → Option Mark) StoreFault
-lined n s = told_of (λ d. Ok (held_mark d)) (driver_of n s)
+abbrev pub line_reading : ℕ → State → Result (ℕ → Option Mark) StoreFault
+line_reading n s = reading_of (λ d. Ok (held_mark d)) (driver_of n s)
 
 -- the entries with their numbers, which begin at `i`
 abbrev pub numbered_from : ℕ → List Entry → List Listed
@@ -146,17 +146,17 @@ numbered_from i (e ∷ es) =
     } ∷ numbered_from (i + 1) es
 
 -- all entries of a driver ordered by number, including withdrawn ones
-abbrev pub listed : ℕ → State → Result (List Listed) StoreFault
-listed n s = told_of (λ d. Ok (numbered_from 1 d.entries)) (driver_of n s)
+abbrev pub entries_reading : ℕ → State → Result (List Listed) StoreFault
+entries_reading n s = reading_of (λ d. Ok (numbered_from 1 d.entries)) (driver_of n s)
 
 -- the bytes of a download: S10
 abbrev pub file_of : Option Download → Result (List ℕ) StoreFault
 file_of None = Err UnknownDownload
 file_of (Some d) = Ok d.file
 
-abbrev pub downloaded : ℕ → ℕ → State → Result (List ℕ) StoreFault
-downloaded n number s = told_of (λ d. file_of (download_from 1 number d.downloads)) (driver_of n s)
+abbrev pub file_reading : ℕ → ℕ → State → Result (List ℕ) StoreFault
+file_reading n number s = reading_of (λ d. file_of (download_from 1 number d.downloads)) (driver_of n s)
 
 -- Ok if there is a driver to report on, else S4
-abbrev pub reported : ℕ → State → Result (Unit {0}) StoreFault
-reported n s = told_of (λ d. Ok tt) (driver_of n s)
+abbrev pub report_reading : ℕ → State → Result (Unit {0}) StoreFault
+report_reading n s = reading_of (λ d. Ok tt) (driver_of n s)

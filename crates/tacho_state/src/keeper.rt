@@ -2,9 +2,9 @@ ghost use Rattle.std.specs.Prelude.{◌≡◌, ◌⊎◌, ◌∷◌, ◌≤◌, 
 ghost use Rattle.tacho_line.specs.Line.{mark_at};
 ghost use Rattle.tacho_card.specs.declared.fault.CardFault.{CardFault};
 ghost use Rattle.tacho_state.specs.State.{State};
-ghost use Rattle.tacho_state.specs.Steps.{Content, registered, imported, entered, withdrawn, rebased, owner, named, lined, listed, downloaded, reported};
-ghost use Rattle.tacho_state.specs.Reported.{AreStretchesOf, IsHeldWithin, IsReportOf};
-ghost use Rattle.tacho_stretches.specs.Stretches.{judged};
+ghost use Rattle.tacho_state.specs.Steps.{Content, register_step, import_step, enter_step, withdraw_step, rebase_step, owner, name_reading, line_reading, entries_reading, file_reading, report_reading};
+ghost use Rattle.tacho_state.specs.Reported.{AreStretchesOf, IsHeldWithin, IsDriverReport};
+ghost use Rattle.tacho_stretches.specs.Stretches.{judged_of};
 ghost use Rattle.tacho_state.specs.Batch.{IsBatch, batch_of};
 ghost use Rattle.tacho_state.specs.Registration.{IsReadDay};
 ghost use Rattle.tacho_state.specs.Content.{FileTells, part_number};
@@ -60,7 +60,7 @@ pub trait Keeper {
     fn register(&mut self, driver: &Driver) -> Result<(), StoreFault>
         ensures of_no_file { IsOfNoFile result }
         ensures registered { Acts stands is_clean is_live leaves is_same is_same_of (λ _. tt) self.old self.new result
-            (registered driver.now.number driver.now.holder driver.now.key driver.now.base driver.now.name) };
+            (register_step driver.now.number driver.now.holder driver.now.key driver.now.base driver.now.name) };
 
     /// Imports a card file, from which this part is read: S11 first; then S4, S5, S6, S14.
     fn import(
@@ -81,7 +81,7 @@ pub trait Keeper {
             → is_same self.old self.new }
         ensures imported { (content : Result Content CardFault) → FileTells part file.now content
             → Acts stands is_clean is_live leaves is_same is_same_of (λ done. done) self.old self.new result
-            (imported (caller_number caller) (part_number part) file.now content) };
+            (import_step (caller_number caller) (part_number part) file.now content) };
 
     /// Enters a batch of hours, all of them or none: S4, S6, S14. The new entries are numbered on from the driver's last entry.
     fn enter(
@@ -93,19 +93,19 @@ pub trait Keeper {
         requires { IsBatch lines.now }
         ensures of_no_file { IsOfNoFile result }
         ensures entered { Acts stands is_clean is_live leaves is_same is_same_of (λ done. done.first) self.old self.new result
-            (entered driver (batch_of lines.now)) }
+            (enter_step driver (batch_of lines.now)) }
         ensures count { IfOk result (λ done. done.count ≡ length lines.now) };
 
     /// Withdraws an entry of a driver, which stays listed: S4, S7, S8. The driver still holds what downloads and other entries give.
     fn withdraw(&mut self, alloc: Global, driver: u32, number: u32) -> Result<(), StoreFault>
         ensures of_no_file { IsOfNoFile result }
-        ensures withdrawn { Acts stands is_clean is_live leaves is_same is_same_of (λ _. tt) self.old self.new result (withdrawn driver number) };
+        ensures withdrawn { Acts stands is_clean is_live leaves is_same is_same_of (λ _. tt) self.old self.new result (withdraw_step driver number) };
 
     /// Sets the day, from 2000-01-03 to 2099-12-31, from which a driver is examined: S4, S9.
     fn rebase(&mut self, driver: u32, base: Day) -> Result<(), StoreFault>
         requires { IsReadDay base }
         ensures of_no_file { IsOfNoFile result }
-        ensures rebased { Acts stands is_clean is_live leaves is_same is_same_of (λ _. tt) self.old self.new result (rebased driver base) };
+        ensures rebased { Acts stands is_clean is_live leaves is_same is_same_of (λ _. tt) self.old self.new result (rebase_step driver base) };
 
     /// Returns the number of the driver with this key, if there is one.
     fn who(&mut self, key: &[u8]) -> Result<Option<u32>, StoreFault>
@@ -119,11 +119,11 @@ pub trait Keeper {
 
     /// Returns the name of a driver: S4.
     fn name(&mut self, alloc: Global, driver: u32) -> Result<String, StoreFault>
-        ensures { Reads stands is_clean is_live leaves is_same (λ name. string_bytes name) self.old self.new result (named driver) };
+        ensures { Reads stands is_clean is_live leaves is_same (λ name. string_bytes name) self.old self.new result (name_reading driver) };
 
     /// Returns the timeline of a driver: S4.
     fn line(&mut self, alloc: Global, driver: u32) -> Result<Line, StoreFault>
-        ensures { Reads stands is_clean is_live leaves is_same (λ line. mark_at line) self.old self.new result (lined driver) };
+        ensures { Reads stands is_clean is_live leaves is_same (λ line. mark_at line) self.old self.new result (line_reading driver) };
 
     /// Returns what a driver holds in a range: a timeline that gives each minute of the range the mark of the driver's own timeline: S4. At
     /// other minutes it may give anything, so that rows far from the range needn't be read.
@@ -134,28 +134,28 @@ pub trait Keeper {
         start: Minute,
         past: Minute,
     ) -> Result<Line, StoreFault>
-        ensures reads { Reads stands is_clean is_live leaves is_same (λ _. tt) self.old self.new result (reported driver) }
+        ensures reads { Reads stands is_clean is_live leaves is_same (λ _. tt) self.old self.new result (report_reading driver) }
         ensures within { is_clean self.new → (s : State) → stands self.old s → IfOk result (IsHeldWithin driver start past s) };
 
     /// Lists the entries of a driver ordered by number, including withdrawn ones: S4.
     fn entries(&mut self, alloc: Global, driver: u32) -> Result<Vec<Entry>, StoreFault>
-        ensures { Reads stands is_clean is_live leaves is_same (λ entries. entries.items) self.old self.new result (listed driver) };
+        ensures { Reads stands is_clean is_live leaves is_same (λ entries. entries.items) self.old self.new result (entries_reading driver) };
 
     /// Returns the bytes of a driver's download: S4, S10.
     fn download(&mut self, alloc: Global, driver: u32, number: u32) -> Result<Vec<u8>, StoreFault>
-        ensures { Reads stands is_clean is_live leaves is_same (λ bytes. bytes.items) self.old self.new result (downloaded driver number) };
+        ensures { Reads stands is_clean is_live leaves is_same (λ bytes. bytes.items) self.old self.new result (file_reading driver number) };
 
     /// Returns the report of a driver's timeline from the base: S4.
     fn report(&mut self, alloc: Global, driver: u32) -> Result<Report, StoreFault>
-        ensures reads { Reads stands is_clean is_live leaves is_same (λ _. tt) self.old self.new result (reported driver) }
-        ensures report { is_clean self.new → (s : State) → stands self.old s → IfOk result (IsReportOf driver s) };
+        ensures reads { Reads stands is_clean is_live leaves is_same (λ _. tt) self.old self.new result (report_reading driver) }
+        ensures report { is_clean self.new → (s : State) → stands self.old s → IfOk result (IsDriverReport driver s) };
 
     /// Returns the stretches of a driver's timeline: the reports from the base, and after each horizon from the next Monday whose first
     /// minute is held without a second driver: S4.
     fn stretches(&mut self, alloc: Global, driver: u32) -> Result<Vec<Stretch>, StoreFault>
-        ensures reads { Reads stands is_clean is_live leaves is_same (λ _. tt) self.old self.new result (reported driver) }
+        ensures reads { Reads stands is_clean is_live leaves is_same (λ _. tt) self.old self.new result (report_reading driver) }
         ensures stretches { is_clean self.new → (s : State) → stands self.old s
-            → IfOk result (λ stretches. AreStretchesOf driver s (map judged stretches.items)) };
+            → IfOk result (λ stretches. AreStretchesOf driver s (map judged_of stretches.items)) };
 
     /// Returns what a driver holds in a range, as `line_within` does, and the driver's stretches, in one reading: S4.
     fn line_and_stretches(
@@ -165,9 +165,9 @@ pub trait Keeper {
         start: Minute,
         past: Minute,
     ) -> Result<(Line, Vec<Stretch>), StoreFault>
-        ensures reads { Reads stands is_clean is_live leaves is_same (λ _. tt) self.old self.new result (reported driver) }
+        ensures reads { Reads stands is_clean is_live leaves is_same (λ _. tt) self.old self.new result (report_reading driver) }
         ensures within { is_clean self.new → (s : State) → stands self.old s
             → IfOk result (λ found. IsHeldWithin driver start past s found.0) }
         ensures stretches { is_clean self.new → (s : State) → stands self.old s
-            → IfOk result (λ found. AreStretchesOf driver s (map judged found.1.items)) };
+            → IfOk result (λ found. AreStretchesOf driver s (map judged_of found.1.items)) };
 }

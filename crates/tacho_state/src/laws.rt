@@ -8,34 +8,34 @@ ghost use Rattle.tacho_time.specs.declared.span.Span.{Span};
 ghost use Rattle.tacho_line.specs.Line.{IsWithin, Together, AreGains};
 ghost use Rattle.tacho_state.specs.declared.fault.StoreFault.{StoreFault as StoreFaultValue};
 ghost use Rattle.tacho_state.specs.declared.fault.StoreFault.TheVariants.{Card, Contradiction, Full};
-ghost use Rattle.tacho_state.specs.Disjoint.{Keeps, near, replaced, AreInRange, AllWithin, With, IsNew};
+ghost use Rattle.tacho_state.specs.Disjoint.{Keeps, near, with_range_replaced, AreInRange, AllWithin, With, HasNews};
 ghost use Rattle.tacho_state.specs.Least.{least_conflict, is_within};
-ghost use Rattle.tacho_state.specs.State.{Driver, Entry, State, Given, Held, held_mark, driver_of, entered_spans, entry_from, marked_from, put, with_marked, with_download, with_batch};
+ghost use Rattle.tacho_state.specs.State.{Driver, Entry, State, IsDownloaded, Held, held_mark, driver_of, entered_spans, entry_from, marked_from, put, with_marked, with_download, with_batch};
 ghost use Rattle.tacho_card.specs.declared.fault.CardFault.{CardFault};
 ghost use Rattle.tacho_card.specs.declared.file.Part.{Part as PartValue};
 ghost use Rattle.tacho_state.specs.Content.{FileTells};
-ghost use Rattle.tacho_state.specs.Steps.{Content, Turn, most, import_own, enter_own, withdrawn};
+ghost use Rattle.tacho_state.specs.Steps.{Content, Turn, most_records, import_own, enter_own, withdraw_step};
 ghost use Rattle.tacho_state.specs.Acts.{Acts, Reads, IsOfNoFile};
 ghost use Rattle.tacho_state.specs.declared.imported.Imported.TheVariants.{Added, Repeated};
-ghost use Rattle.tacho_state.specs.Runs.{Call, IsCall, IsRun, AreAnswered, state_after, untold};
+ghost use Rattle.tacho_state.specs.Runs.{Call, IsCall, IsRun, AreAnswered, state_after, without_value};
 
 use crate::keeper::Keeper;
 
 /// A withdrawal by range. The new spans are those that don't overlap the entry, the parts of the others outside it, and, inside it, what
 /// card spans and other entries near it give. They keep what the driver holds after the withdrawal.
 pub fn withdrawal_by_range()
-    ensures { (d : Driver) (number : ℕ) (e : Entry) (cards helds inside : List Span) → Keeps cards (Given d) → Keeps helds (Held d)
+    ensures { (d : Driver) (number : ℕ) (e : Entry) (cards helds inside : List Span) → Keeps cards (IsDownloaded d) → Keeps helds (Held d)
         → entry_from 1 number d.entries ≡ Some e → e.start ≤ e.past
         → IsCanonicalOf (λ m k. IsWithin e.start e.past m × Gives (near e.start e.past cards ++ near e.start e.past (entered_spans (marked_from 1 number d.entries))) m k) inside
-        → Keeps (replaced e.start e.past helds inside) (Held (with_marked number d)) }
+        → Keeps (with_range_replaced e.start e.past helds inside) (Held (with_marked number d)) }
 {}
 
 /// An import by range. Once the gains against what is near the file's spans are added, the spans keep what the driver is given and holds
 /// after the import.
 pub fn import_by_range()
-    ensures { (d : Driver) (cards helds card_line line spans card_gains gains : List Span) (part : ℕ) (file : List ℕ) (start past : ℕ) → Keeps cards (Given d) → Keeps helds (Held d) → AreInRange start past spans
+    ensures { (d : Driver) (cards helds card_line line spans card_gains gains : List Span) (part : ℕ) (file : List ℕ) (start past : ℕ) → Keeps cards (IsDownloaded d) → Keeps helds (Held d) → AreInRange start past spans
         → IsCanonicalOf (Gives (near start past cards)) card_line → IsCanonicalOf (Gives (near start past helds)) line → AreGains card_line spans card_gains → AreGains line spans gains
-        → Keeps (cards ++ card_gains) (Given (with_download part file spans d)) × Keeps (helds ++ gains) (Held (with_download part file spans d)) }
+        → Keeps (cards ++ card_gains) (IsDownloaded (with_download part file spans d)) × Keeps (helds ++ gains) (Held (with_download part file spans d)) }
 {}
 
 /// A batch by range. Once the gains against what is near its entries are added, the spans keep what the driver holds after it.
@@ -55,12 +55,12 @@ pub fn contradiction_by_range()
 
 /// Spans have no gains against the card spans near them exactly if downloads give all their pairs.
 pub fn repeated_by_range()
-    ensures within { (d : Driver) (cards line spans : List Span) (start past : ℕ) → Keeps cards (Given d)
-        → IsCanonicalOf (Gives (near start past cards)) line → AreGains line spans [] → AllWithin (Gives spans) (Given d) }
-    ensures new { (d : Driver) (cards line spans gains : List Span) (x : Span) (start past : ℕ) → Keeps cards (Given d) → AreInRange start past spans
-        → IsCanonicalOf (Gives (near start past cards)) line → AreGains line spans (x ∷ gains) → AllWithin (Gives spans) (Given d) → ⊥ }
-    ensures conflict { (d : Driver) (cards line spans : List Span) (start past m : ℕ) → Keeps cards (Given d)
-        → IsCanonicalOf (Gives (near start past cards)) line → IsFirstConflict (Together line spans) m → AllWithin (Gives spans) (Given d) → ⊥ }
+    ensures within { (d : Driver) (cards line spans : List Span) (start past : ℕ) → Keeps cards (IsDownloaded d)
+        → IsCanonicalOf (Gives (near start past cards)) line → AreGains line spans [] → AllWithin (Gives spans) (IsDownloaded d) }
+    ensures new { (d : Driver) (cards line spans gains : List Span) (x : Span) (start past : ℕ) → Keeps cards (IsDownloaded d) → AreInRange start past spans
+        → IsCanonicalOf (Gives (near start past cards)) line → AreGains line spans (x ∷ gains) → AllWithin (Gives spans) (IsDownloaded d) → ⊥ }
+    ensures conflict { (d : Driver) (cards line spans : List Span) (start past m : ℕ) → Keeps cards (IsDownloaded d)
+        → IsCanonicalOf (Gives (near start past cards)) line → IsFirstConflict (Together line spans) m → AllWithin (Gives spans) (IsDownloaded d) → ⊥ }
 {}
 
 /// The searches in the steps agree with the relations: the least minute with two marks, and whether others give all pairs of some spans.
@@ -74,18 +74,18 @@ pub fn searches()
 /// The answer of an import, from what is near its spans: `card_line` is what the driver's downloads give there, and `line` is what the
 /// driver holds there.
 pub fn import_answers()
-    ensures repeated { (d : Driver) (part : ℕ) (file : List ℕ) (cards card_line spans : List Span) (start past : ℕ) → Keeps cards (Given d)
+    ensures repeated { (d : Driver) (part : ℕ) (file : List ℕ) (cards card_line spans : List Span) (start past : ℕ) → Keeps cards (IsDownloaded d)
         → IsCanonicalOf (Gives (near start past cards)) card_line → AreGains card_line spans [] → import_own part file spans d ≡ Ok (Repeated d.number, d) }
-    ensures contradicted { (d : Driver) (part : ℕ) (file : List ℕ) (cards helds card_line line spans : List Span) (start past m : ℕ) → Keeps cards (Given d) → Keeps helds (Held d)
+    ensures contradicted { (d : Driver) (part : ℕ) (file : List ℕ) (cards helds card_line line spans : List Span) (start past m : ℕ) → Keeps cards (IsDownloaded d) → Keeps helds (Held d)
         → AreInRange start past spans → IsCanonicalOf (Gives (near start past cards)) card_line → IsCanonicalOf (Gives (near start past helds)) line
-        → IsNew card_line spans → IsFirstConflict (Together line spans) m → import_own part file spans d ≡ Err (Contradiction m) }
-    ensures added { (d : Driver) (part : ℕ) (file : List ℕ) (cards helds card_line line spans gains : List Span) (start past : ℕ) → Keeps cards (Given d) → Keeps helds (Held d)
+        → HasNews card_line spans → IsFirstConflict (Together line spans) m → import_own part file spans d ≡ Err (Contradiction m) }
+    ensures added { (d : Driver) (part : ℕ) (file : List ℕ) (cards helds card_line line spans gains : List Span) (start past : ℕ) → Keeps cards (IsDownloaded d) → Keeps helds (Held d)
         → AreInRange start past spans → IsCanonicalOf (Gives (near start past cards)) card_line → IsCanonicalOf (Gives (near start past helds)) line
-        → IsNew card_line spans → AreGains line spans gains → length d.downloads < most
+        → HasNews card_line spans → AreGains line spans gains → length d.downloads < most_records
         → import_own part file spans d ≡ Ok (Added d.number (1 + length d.downloads), with_download part file spans d) }
-    ensures full { (d : Driver) (part : ℕ) (file : List ℕ) (cards helds card_line line spans gains : List Span) (start past : ℕ) → Keeps cards (Given d) → Keeps helds (Held d)
+    ensures full { (d : Driver) (part : ℕ) (file : List ℕ) (cards helds card_line line spans gains : List Span) (start past : ℕ) → Keeps cards (IsDownloaded d) → Keeps helds (Held d)
         → AreInRange start past spans → IsCanonicalOf (Gives (near start past cards)) card_line → IsCanonicalOf (Gives (near start past helds)) line
-        → IsNew card_line spans → AreGains line spans gains → most ≤ length d.downloads → import_own part file spans d ≡ Err Full }
+        → HasNews card_line spans → AreGains line spans gains → most_records ≤ length d.downloads → import_own part file spans d ≡ Err Full }
 {}
 
 /// The answer of an `enter`, from what the driver holds near the batch.
@@ -95,16 +95,16 @@ pub fn enter_answers()
         → IsFirstConflict (Together line (entered_spans batch)) m → enter_own batch d ≡ Err (Contradiction m) }
     ensures entered { (d : Driver) (batch : List Entry) (helds line gains : List Span) (start past : ℕ) → Keeps helds (Held d)
         → AreInRange start past (entered_spans batch) → IsCanonicalOf (Gives (near start past helds)) line
-        → AreGains line (entered_spans batch) gains → length d.entries + length batch ≤ most → enter_own batch d ≡ Ok (1 + length d.entries, with_batch batch d) }
+        → AreGains line (entered_spans batch) gains → length d.entries + length batch ≤ most_records → enter_own batch d ≡ Ok (1 + length d.entries, with_batch batch d) }
     ensures full { (d : Driver) (batch : List Entry) (helds line gains : List Span) (start past : ℕ) → Keeps helds (Held d)
         → AreInRange start past (entered_spans batch) → IsCanonicalOf (Gives (near start past helds)) line
-        → AreGains line (entered_spans batch) gains → most < length d.entries + length batch → enter_own batch d ≡ Err Full }
+        → AreGains line (entered_spans batch) gains → most_records < length d.entries + length batch → enter_own batch d ≡ Err Full }
 {}
 
 /// The answer of a withdrawal.
 pub fn withdrawal_answers()
     ensures { (n number : ℕ) (s : State) (d : Driver) (e : Entry) → driver_of n s ≡ Some d → entry_from 1 number d.entries ≡ Some e → e.withdrawn ≡ false
-        → withdrawn n number s ≡ record { answer = Ok tt; after = put (with_marked number d) s } }
+        → withdraw_step n number s ≡ record { answer = Ok tt; after = put (with_marked number d) s } }
 {}
 
 /// If spans keep what a driver holds, each held minute has one mark: that of `held_mark`.
@@ -122,14 +122,14 @@ pub fn one_content()
 pub fn commands_are_calls<K: Keeper, A, B>()
     ensures { (view : A → B) (old new : K) (result : Result A StoreFaultValue) (step : State → Turn B)
         → Acts K.stands K.is_clean K.is_live K.leaves K.is_same K.is_same_of view old new result step → IsOfNoFile result
-        → IsCall K.stands K.is_clean K.leaves old new (record { answer = untold result; after = λ s. (step s).after }) }
+        → IsCall K.stands K.is_clean K.leaves old new (record { answer = without_value result; after = λ s. (step s).after }) }
 {}
 
 /// A reading is a call of a run, and doesn't change the state.
 pub fn readings_are_calls<K: Keeper, A, B>()
     ensures { (view : A → B) (old new : K) (result : Result A StoreFaultValue) (told : State → Result B StoreFaultValue)
         → Reads K.stands K.is_clean K.is_live K.leaves K.is_same view old new result told
-        → IsCall K.stands K.is_clean K.leaves old new (record { answer = untold result; after = λ s. s }) }
+        → IsCall K.stands K.is_clean K.leaves old new (record { answer = without_value result; after = λ s. s }) }
 {}
 
 /// An import of a file with a fault is a call of a run, and doesn't change the state.

@@ -3,7 +3,7 @@ ghost use Rattle.tacho_time.specs.OrMemory.{OrMemory};
 ghost use Rattle.tacho_hours.specs.Line.{IsBase};
 ghost use Rattle.tacho_hours.specs.Limits.{latest};
 ghost use Rattle.tacho_rules.specs.Report.{IsReport};
-ghost use Rattle.tacho_stretches.specs.Stretches.{AreStretches, judged};
+ghost use Rattle.tacho_stretches.specs.Stretches.{AreStretches, judged_of};
 ghost use Rattle.tacho_state.specs.Steps.{is_monday};
 ghost use Rattle.tacho_state.specs.Reported.{IsNoBase, IsOutOfLimits};
 
@@ -42,7 +42,7 @@ pub fn report_of(alloc: Global, line: &Line, base: u32) -> Result<Report, StoreF
 
 /// Returns the stretches of a line from the first minute of a day. Returns S12 as `report_of` does.
 pub fn stretches_of(alloc: Global, line: &Line, base: u32) -> Result<Vec<Stretch>, StoreFault>
-    ensures stretches { IfOk result (λ found. AreStretches line.now (1440 * base) (map judged found.items)) }
+    ensures stretches { IfOk result (λ found. AreStretches line.now (1440 * base) (map judged_of found.items)) }
     ensures fault { IfErr result (λ fault. OrMemory StoreFault.Memory fault ((fault ≡ StoreFault.Store) × IsOutOfLimits line.now base)) }
 {
     let Some(first) = base_of(base) else {

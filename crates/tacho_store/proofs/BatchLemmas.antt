@@ -10,7 +10,7 @@ use Rattle.tacho_state.specs.State.{Entry, Driver, State, Held, AreFull, driver_
 use Rattle.tacho_state.proofs.GainLemmas.{batch_kept}
 use Rattle.tacho_tables.specs.Rows.{DriverRow, EntryRow}
 use Rattle.tacho_tables.specs.Tables.{Tables, with_entries}
-use Rattle.tacho_reading.specs.Standing.{driver_columns, entry_row, entry_rows, entries_of, spans_of, RowsStandFor, TablesStandFor}
+use Rattle.tacho_reading.specs.Standing.{driver_columns, entry_row, rows_of_entries, driver_entry_rows, spans_of, RowsRepresent, TablesRepresent}
 use Rattle.tacho_reading.proofs.RowLemmas.{eq_self, eq_not, added_own, added_other, added_marks}
 use Rattle.tacho_reading.proofs.StateLemmas.{SameOfDriver, found_number, found_of, put_is, rows_put}
 use Rattle.tacho_store.specs.After.{with_entered}
@@ -18,26 +18,26 @@ use Rattle.tacho_store.specs.After.{with_entered}
 -- ---- rows of a batch
 
 -- the rows of appended entries come after the rows of the entries before them
-rows_append : (n i : ℕ) (es fs : List Entry) → entry_rows n i (es ++ fs) ≡ entry_rows n i es ++ entry_rows n (i + length es) fs
-rows_append n i [] fs = ap (λ (k : ℕ). entry_rows n k fs) (omega arith)
+rows_append : (n i : ℕ) (es fs : List Entry) → rows_of_entries n i (es ++ fs) ≡ rows_of_entries n i es ++ rows_of_entries n (i + length es) fs
+rows_append n i [] fs = ap (λ (k : ℕ). rows_of_entries n k fs) (omega arith)
 rows_append n i (e ∷ es) fs =
     let d : (i + 1) + length es ≡ i + length (e ∷ es) = omega arith in
     ap (λ (y : List EntryRow). entry_row n i e ∷ y) (rows_append n (i + 1) es fs)
-    ∙ ap (λ (k : ℕ). entry_row n i e ∷ (entry_rows n (i + 1) es ++ entry_rows n k fs)) d
+    ∙ ap (λ (k : ℕ). entry_row n i e ∷ (rows_of_entries n (i + 1) es ++ rows_of_entries n k fs)) d
 
 -- the rows of a driver's entries have the driver's number
-own_rows : (n i : ℕ) (es : List Entry) → entries_of n (entry_rows n i es) ≡ entry_rows n i es
+own_rows : (n i : ℕ) (es : List Entry) → driver_entry_rows n (rows_of_entries n i es) ≡ rows_of_entries n i es
 own_rows n i [] = refl
 own_rows n i (e ∷ es) =
-    let more = entries_of n (entry_rows n (i + 1) es) in
+    let more = driver_entry_rows n (rows_of_entries n (i + 1) es) in
     ap (λ b. cond b (entry_row n i e ∷ more) more) (eq_self n)
     ∙ ap (λ (x : List EntryRow). entry_row n i e ∷ x) (own_rows n (i + 1) es)
 
 -- none of them has another driver's number
-other_rows : (j n i : ℕ) (es : List Entry) → j ≢ n → entries_of j (entry_rows n i es) ≡ []
+other_rows : (j n i : ℕ) (es : List Entry) → j ≢ n → driver_entry_rows j (rows_of_entries n i es) ≡ []
 other_rows j n i [] d = refl
 other_rows j n i (e ∷ es) d =
-    let more = entries_of j (entry_rows n (i + 1) es) in
+    let more = driver_entry_rows j (rows_of_entries n (i + 1) es) in
     ap (λ b. cond b (entry_row n i e ∷ more) more) (eq_not n j (λ f. d (sym f))) ∙ other_rows j n (i + 1) es d
 
 -- the entries are counted
@@ -53,17 +53,17 @@ full_append (e ∷ es) fs h f = (h.0, full_append es fs h.1 f)
 -- ---- the tables after a batch
 
 -- the tables represent the driver with the batch
-entered_own : (t : Tables) (d : Driver) (batch : List Entry) (line gains : List Span) (a b : ℕ) → RowsStandFor t d → AreFull batch
+entered_own : (t : Tables) (d : Driver) (batch : List Entry) (line gains : List Span) (a b : ℕ) → RowsRepresent t d → AreFull batch
     → AreInRange a b (entered_spans batch)
     → IsCanonicalOf (Gives (near a b (spans_of d.number t.held))) line → AreGains line (entered_spans batch) gains
-    → RowsStandFor (with_entered d.number (1 + length d.entries) (length d.entries + length batch) batch gains t) (with_batch batch d)
+    → RowsRepresent (with_entered d.number (1 + length d.entries) (length d.entries + length batch) batch gains t) (with_batch batch d)
 entered_own t d batch line gains a b h w r l g = record {
   downloads = h.downloads;
   read = h.read;
   entries =
-      filter-append (λ (x : EntryRow). x.driver == d.number) t.entries (entry_rows d.number (1 + length d.entries) batch)
-      ∙ ap (λ (x : List EntryRow). x ++ entries_of d.number (entry_rows d.number (1 + length d.entries) batch)) h.entries
-      ∙ ap (λ (x : List EntryRow). entry_rows d.number 1 d.entries ++ x) (own_rows d.number (1 + length d.entries) batch)
+      filter-append (λ (x : EntryRow). x.driver == d.number) t.entries (rows_of_entries d.number (1 + length d.entries) batch)
+      ∙ ap (λ (x : List EntryRow). x ++ driver_entry_rows d.number (rows_of_entries d.number (1 + length d.entries) batch)) h.entries
+      ∙ ap (λ (x : List EntryRow). rows_of_entries d.number 1 d.entries ++ x) (own_rows d.number (1 + length d.entries) batch)
       ∙ sym (rows_append d.number 1 d.entries batch);
   full = full_append d.entries batch h.full w;
   card_spans = h.card_spans;
@@ -77,9 +77,9 @@ entered_other : (t : Tables) (n first count : ℕ) (batch : List Entry) (gains :
 entered_other t n first count batch gains j d = record {
   downloads = refl;
   entries =
-      filter-append (λ (x : EntryRow). x.driver == j) t.entries (entry_rows n first batch)
-      ∙ ap (λ (x : List EntryRow). entries_of j t.entries ++ x) (other_rows j n first batch d)
-      ∙ append-nil (entries_of j t.entries);
+      filter-append (λ (x : EntryRow). x.driver == j) t.entries (rows_of_entries n first batch)
+      ∙ ap (λ (x : List EntryRow). driver_entry_rows j t.entries ++ x) (other_rows j n first batch d)
+      ∙ append-nil (driver_entry_rows j t.entries);
   card_spans = refl;
   held = added_other j n t.held gains d;
 }
@@ -93,10 +93,10 @@ counted_other : (n count : ℕ) (r : DriverRow) → r.driver ≢ n → with_entr
 counted_other n count r d = ap (λ b. cond b (record r { entries = count }) r) (eq_not r.driver n d)
 
 -- the tables represent the state after a batch, by the driver's own number
-entered_at : (t : Tables) (s : State) (d : Driver) (batch : List Entry) (line gains : List Span) (a b : ℕ) → TablesStandFor t s
+entered_at : (t : Tables) (s : State) (d : Driver) (batch : List Entry) (line gains : List Span) (a b : ℕ) → TablesRepresent t s
     → driver_of d.number s ≡ Some d → AreFull batch → AreInRange a b (entered_spans batch)
     → IsCanonicalOf (Gives (near a b (spans_of d.number t.held))) line → AreGains line (entered_spans batch) gains
-    → TablesStandFor (with_entered d.number (1 + length d.entries) (length d.entries + length batch) batch gains t)
+    → TablesRepresent (with_entered d.number (1 + length d.entries) (length d.entries + length batch) batch gains t)
     (put (with_batch batch d) s)
 entered_at t s d batch line gains a b h k w r l g =
     let n = d.number in
@@ -114,11 +114,11 @@ entered_at t s d batch line gains a b h k w r l g =
 
 -- the tables after a batch represent the state after it
 pub entered_is : (t : Tables) (s : State) (n : ℕ) (d : Driver) (batch : List Entry) (line gains : List Span) (a b : ℕ)
-    → TablesStandFor t s → driver_of n s ≡ Some d → AreFull batch → AreInRange a b (entered_spans batch)
+    → TablesRepresent t s → driver_of n s ≡ Some d → AreFull batch → AreInRange a b (entered_spans batch)
     → IsCanonicalOf (Gives (near a b (spans_of n t.held))) line → AreGains line (entered_spans batch) gains
-    → TablesStandFor (with_entered n (1 + length d.entries) (length d.entries + length batch) batch gains t) (put (with_batch batch d) s)
+    → TablesRepresent (with_entered n (1 + length d.entries) (length d.entries + length batch) batch gains t) (put (with_batch batch d) s)
 entered_is t s n d batch line gains a b h k w r l g =
     subst (λ (j : ℕ). driver_of j s ≡ Some d → IsCanonicalOf (Gives (near a b (spans_of j t.held))) line
-    → TablesStandFor (with_entered j (1 + length d.entries) (length d.entries + length batch) batch gains t)
+    → TablesRepresent (with_entered j (1 + length d.entries) (length d.entries + length batch) batch gains t)
     (put (with_batch batch d) s))
     (found_number n s d k) (λ k l. entered_at t s d batch line gains a b h k w r l g) k l

@@ -13,34 +13,34 @@ use Rattle.tacho_state.specs.declared.imported.Imported.{Imported}
 use Rattle.tacho_state.specs.declared.imported.Imported.TheVariants.{Repeated}
 use Rattle.tacho_state.specs.Acts.{Answers}
 use Rattle.tacho_state.specs.Content.{part_number}
-use Rattle.tacho_state.specs.Steps.{settled, import_own}
-use Rattle.tacho_state.specs.Disjoint.{AreInRange, IsNew, near}
+use Rattle.tacho_state.specs.Steps.{turn_of, import_own}
+use Rattle.tacho_state.specs.Disjoint.{AreInRange, HasNews, near}
 use Rattle.tacho_state.specs.State.{Driver, State, driver_of, put, with_download}
 use Rattle.tacho_state.proofs.StepLemmas.{repeated_import, contradicted_import, added_import, full_import}
 use Rattle.tacho_tables.specs.declared.rows.StoredSpan.{StoredSpan}
 use Rattle.tacho_tables.specs.Tables.{Tables, HasTables}
-use Rattle.tacho_reading.specs.Standing.{StandsFor, TablesStandFor, spans_of, stored_span}
+use Rattle.tacho_reading.specs.Standing.{Represents, TablesRepresent, spans_of, stored_span}
 use Rattle.tacho_reading.proofs.ApartLemmas.{card_apart, held_apart}
 use Rattle.tacho_reading.proofs.NearRowLemmas.{read_line, card_kept, held_kept}
-use Rattle.tacho_reading.specs.Finding.{Refuses}
+use Rattle.tacho_reading.specs.Finding.{IsFindingFault}
 use Rattle.tacho_reading.proofs.LookUpLemmas.{handed_on}
 use Rattle.tacho_reading.proofs.StateLemmas.{found_number}
 use Rattle.tacho_reading.proofs.LineWithinLemmas.{AreRead}
 use Rattle.tacho_store.specs.declared.news.News.{News}
-use Rattle.tacho_store.specs.News.{AreNews, IsRefused}
+use Rattle.tacho_store.specs.News.{AreNews, IsNewsRefused}
 use Rattle.tacho_store.specs.Importing.{AreAdded, AreDecided}
 use Rattle.tacho_store.proofs.ImportTablesLemmas.{imported_is}
 use Rattle.tacho_store.proofs.JoinLemmas.{import_follows}
 use Rattle.tacho_store.proofs.OthersLemmas.{is_another, download_changes}
 
 module _ (db : Trees) (s : State) (n : ℕ) (d : Driver) (a b : ℕ) (spans : List Span) (is : driver_of n s ≡ Some d)
-    (within : AreInRange a b spans) (t : Tables) (stand : HasTables db t) (of : TablesStandFor t s)
+    (within : AreInRange a b spans) (t : Tables) (stand : HasTables db t) (of : TablesRepresent t s)
     (card_line line : List Span) (card_near : IsCanonicalOf (Gives (near a b (spans_of n t.card_spans))) card_line)
     (held_near : IsCanonicalOf (Gives (near a b (spans_of n t.held))) line) where
   -- spans that are new can be added
   goes_in : (cards helds : List Span) → AreNews card_line line spans cards helds → AreAdded db s n d spans cards helds
   goes_in cards helds news =
-      let new : IsNew card_line spans = inl (news.0, news.1, subst (AreGains card_line spans) news.2 news.3) in
+      let new : HasNews card_line spans = inl (news.0, news.1, subst (AreGains card_line spans) news.2 news.3) in
       let given = card_kept t s n d of is in
       let held = held_kept t s n d of is in
       record {
@@ -60,7 +60,7 @@ module _ (db : Trees) (s : State) (n : ℕ) (d : Driver) (a b : ℕ) (spans : Li
   -- nothing is new, something is new, or there is a contradiction; or the call ran out of memory or the store failed
   by_lines : (r : Result (Option News) StoreFault)
       → MatchResult r (λ found. MatchOption found (AreGains card_line spans [])
-      (λ news. AreNews card_line line spans news.card_spans.items news.held.items)) (IsRefused card_line line spans)
+      (λ news. AreNews card_line line spans news.card_spans.items news.held.items)) (IsNewsRefused card_line line spans)
       → AreDecided db s n d spans r
   unfolding AreDecided
   by_lines (Ok None) h = λ part file. repeated_import d part file (spans_of n t.card_spans) card_line spans a b
@@ -75,13 +75,13 @@ module _ (db : Trees) (s : State) (n : ℕ) (d : Driver) (a b : ℕ) (spans : Li
 
 -- the lines of the rows near the spans decide the import
 pub decided : (db : Trees) (s : State) (n : ℕ) (d : Driver) (a b : ℕ) (spans : List Span) (cards helds : List StoredSpan)
-    (card_line line : List Span) (r : Result (Option News) StoreFault) → StandsFor db s → driver_of n s ≡ Some d
+    (card_line line : List Span) (r : Result (Option News) StoreFault) → Represents db s → driver_of n s ≡ Some d
     → AreRead (λ t. t.card_spans) db n a b cards → AreRead (λ t. t.held) db n a b helds
     → IsCanonicalOf (Gives (map stored_span cards)) card_line → IsCanonicalOf (Gives (map stored_span helds)) line → AreInRange a b spans
     → MatchResult r (λ found. MatchOption found (AreGains card_line spans [])
-    (λ news. AreNews card_line line spans news.card_spans.items news.held.items)) (IsRefused card_line line spans)
+    (λ news. AreNews card_line line spans news.card_spans.items news.held.items)) (IsNewsRefused card_line line spans)
     → AreDecided db s n d spans r
-unfolding StandsFor
+unfolding Represents
 decided db s n d a b spans cards helds card_line line r (t, stand, of) is card_read read card_of held_of within h =
     by_lines db s n d a b spans is within t stand of card_line line
     (read_line t.card_spans n a b cards card_line (card_read t stand (card_apart t s n d of is)) card_of)
@@ -90,14 +90,14 @@ decided db s n d a b spans cards helds card_line line r (t, stand, of) is card_r
 -- a fault that is passed on is the import's answer
 pub handed_fault : (db : Trees) (s : State) (n : ℕ) (d : Driver) (spans : List Span) (fault : StoreFault) (r : Result Imported StoreFault)
     (part : ℕ) (file : List ℕ) → AreDecided db s n d spans (Err fault)
-    → IsErr r × IsErrAnd r (λ found. found ≡ fault) → Answers (λ done. done) r (settled s (import_own part file spans d)).answer
+    → IsErr r × IsErrAnd r (λ found. found ≡ fault) → Answers (λ done. done) r (turn_of s (import_own part file spans d)).answer
 unfolding AreDecided
-handed_fault db s n d spans fault r part file h = handed_on (λ done. done) fault r (settled s (import_own part file spans d)).answer
+handed_fault db s n d spans fault r part file h = handed_on (λ done. done) fault r (turn_of s (import_own part file spans d)).answer
     (go fault (h part file)) where
-      go : (f : StoreFault) → Refuses f (import_own part file spans d) → Refuses f (settled s (import_own part file spans d)).answer
+      go : (f : StoreFault) → IsFindingFault f (import_own part file spans d) → IsFindingFault f (turn_of s (import_own part file spans d)).answer
       go Memory h = tt
       go Store h = tt
-      go f h = ap (λ o. (settled s o).answer) h
+      go f h = ap (λ o. (turn_of s o).answer) h
 
 -- a file that gives nothing new is repeated
 pub is_repeated : (db : Trees) (s : State) (n : ℕ) (d : Driver) (spans : List Span) (found : Option News) → found ≡ None

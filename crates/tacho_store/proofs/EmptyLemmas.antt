@@ -3,10 +3,10 @@ use Rattle.std.proofs.Common.{[], refl}
 use Rattle.std.proofs.lemmas.List.Elements.{All-nil}
 use Rattle.sqlite.specs.Tree.{Trees}
 use Rattle.tacho_tables.specs.Tables.{HasTables, no_rows}
-use Rattle.tacho_reading.specs.Standing.{TablesStandFor, IsMark, StandsFor}
+use Rattle.tacho_reading.specs.Standing.{TablesRepresent, IsMark, Represents}
 
 -- as lists
-pub empty_is : TablesStandFor no_rows []
+pub empty_is : TablesRepresent no_rows []
 empty_is = record {
   drivers = refl;
   distinct = tt;
@@ -16,6 +16,6 @@ empty_is = record {
 }
 
 -- as they are stored
-pub empty_stands : (db : Trees) → HasTables db no_rows → StandsFor db []
-unfolding StandsFor
+pub empty_stands : (db : Trees) → HasTables db no_rows → Represents db []
+unfolding Represents
 empty_stands db stand = (no_rows, stand, empty_is)

@@ -16,22 +16,22 @@ use Rattle.tacho_line.specs.Line.{empty_from, first_empty, AreGains}
 use Rattle.tacho_state.specs.declared.fault.StoreFault.{StoreFault}
 use Rattle.tacho_state.specs.declared.fault.StoreFault.TheVariants.{Memory, Store, UnknownDriver, Full}
 use Rattle.tacho_state.specs.Acts.{Answers}
-use Rattle.tacho_state.specs.Batch.{Hours, IsEntryLine, AreInOrder, IsBatch, entry_of, batch_of}
+use Rattle.tacho_state.specs.Batch.{Hours, IsEntryLine, AreHoursInOrder, IsBatch, entry_of, batch_of}
 use Rattle.tacho_state.specs.Disjoint.{AreInRange, near}
 use Rattle.tacho_state.specs.Limits.{next_number}
 use Rattle.tacho_state.specs.State.{Driver, Entry, State, AreFull, driver_of, entry_span, entered_spans, put, with_batch}
-use Rattle.tacho_state.specs.Steps.{Turn, settled, enter_own, entered, most}
+use Rattle.tacho_state.specs.Steps.{Turn, turn_of, enter_own, enter_step, most_records}
 use Rattle.tacho_state.proofs.StepLemmas.{contradicted_batch, entered_batch, full_batch}
 use Rattle.tacho_tables.specs.declared.rows.StoredSpan.{StoredSpan}
 use Rattle.tacho_tables.specs.Rows.{SpanRow, EntryRow}
 use Rattle.tacho_tables.specs.Tables.{Tables, HasTables, entered_row, row_of}
-use Rattle.tacho_reading.specs.Standing.{StandsFor, Follows, TablesStandFor, activity_number, spans_of, span_row, entry_row, entry_rows, stored_span}
-use Rattle.tacho_reading.specs.Finding.{Refuses}
+use Rattle.tacho_reading.specs.Standing.{Represents, Follows, TablesRepresent, activity_number, spans_of, span_row, entry_row, rows_of_entries, stored_span}
+use Rattle.tacho_reading.specs.Finding.{IsFindingFault}
 use Rattle.tacho_reading.proofs.ApartLemmas.{held_apart}
 use Rattle.tacho_reading.proofs.LineWithinLemmas.{AreRead}
 use Rattle.tacho_reading.proofs.LookUpLemmas.{handed_on}
 use Rattle.tacho_reading.proofs.NearRowLemmas.{read_line, held_kept}
-use Rattle.tacho_store.specs.Entering.{AreNumbered, batched}
+use Rattle.tacho_store.specs.Entering.{AreNumbered, tables_after_batch}
 use Rattle.tacho_store.specs.News.{IsContradicted}
 use Rattle.tacho_store.proofs.BatchLemmas.{entered_is}
 use Rattle.tacho_store.proofs.JoinLemmas.{batch_follows}
@@ -61,7 +61,7 @@ pub none_empty_line : (lines : List Hours) → IsBatch lines → first_empty (en
 none_empty_line lines h = none_empty_from 0 lines (recursion_from_All IsEntryLine lines h.each)
 
 -- no minute is before the start of the first line
-first_line : (l : Hours) (ls : List Hours) (m : ℕ) (k : Mark) → AllByRecursion IsEntryLine (l ∷ ls) → AreInOrder (l ∷ ls)
+first_line : (l : Hours) (ls : List Hours) (m : ℕ) (k : Mark) → AllByRecursion IsEntryLine (l ∷ ls) → AreHoursInOrder (l ∷ ls)
     → Gives (entered_spans (batch_of (l ∷ ls))) m k → l.start ≤ m
 first_line l ls m k h o (inl c) = c.0.0
 first_line l [] m k h o (inr g) = absurd g
@@ -72,7 +72,7 @@ first_line l (next ∷ ls) m k h o (inr g) =
     omega (arith, more, full, apart)
 
 -- all minutes are before the past of the last line
-last_line : (lines : List Hours) (i m : ℕ) (k : Mark) (none : Hours) → AllByRecursion IsEntryLine lines → AreInOrder lines
+last_line : (lines : List Hours) (i m : ℕ) (k : Mark) (none : Hours) → AllByRecursion IsEntryLine lines → AreHoursInOrder lines
     → length lines ≡ i + 1 → Gives (entered_spans (batch_of lines)) m k → m < (slice_index_or lines i none).past
 last_line [] i m k none h o e g = absurd g
 last_line (l ∷ []) zero m k none h o e (inl c) = c.0.1
@@ -99,7 +99,7 @@ lines_in_range lines first last h from to m k g =
       begins lines all h.order from g,
       subst (λ (l : Hours). m < l.past) end (last_line lines (length lines - 1) m k last all h.order (omega (arith, some)) g),
     ) where
-      begins : (ls : List Hours) → AllByRecursion IsEntryLine ls → AreInOrder ls → slice_get ls 0 ≡ Some first
+      begins : (ls : List Hours) → AllByRecursion IsEntryLine ls → AreHoursInOrder ls → slice_get ls 0 ≡ Some first
           → Gives (entered_spans (batch_of ls)) m k → first.start ≤ m
       begins [] all order from g = absurd g
       begins (l ∷ ls) all order from g =
@@ -112,7 +112,7 @@ lines_in_range lines first last h from to m k g =
 pub line_entered : (n i : ℕ) (line : Hours) (row : StoredSpan) → row_of n row ≡ span_row n (entry_span (entry_of line))
     → entered_row n i row line.author line.note ≡ entry_row n i (entry_of line)
 line_entered n i line row is =
-    let entered : SpanRow → EntryRow = λ x. record {
+    let enter_step : SpanRow → EntryRow = λ x. record {
       driver = x.driver;
       number = i;
       start = x.start;
@@ -123,7 +123,7 @@ line_entered n i line row is =
       note = line.note;
     } in
     let same : activity_number line.activity + 0 ≡ activity_number line.activity = omega arith in
-    ap entered is ∙ ap (λ (k : ℕ). record (entry_row n i (entry_of line)) { mark = k }) same
+    ap enter_step is ∙ ap (λ (k : ℕ). record (entry_row n i (entry_of line)) { mark = k }) same
 
 -- an element within a list doesn't depend on the default for elements outside it
 pub any_default : {X : Type 0} (xs : List X) (i : ℕ) (d e : X) → i < length xs → get_or xs i d ≡ get_or xs i e
@@ -134,17 +134,17 @@ any_default (x ∷ xs) (suc i) d e within = any_default xs i d e (omega (arith, 
 -- ---- numbers
 
 -- if numbers are given out, there are enough, and the first is the next one
-pub numbers_left : (given count first : ℕ) → next_number given count ≡ Some first → (given + count ≤ most) × (first ≡ 1 + given)
+pub numbers_left : (given count first : ℕ) → next_number given count ≡ Some first → (given + count ≤ most_records) × (first ≡ 1 + given)
 numbers_left given count first is = go (nat_le (given + count) 1000000) refl is where
   go : (b : Bool) → nat_le (given + count) 1000000 ≡ b → cond b (Some (given + 1)) None ≡ Some first
-      → (given + count ≤ most) × (first ≡ 1 + given)
+      → (given + count ≤ most_records) × (first ≡ 1 + given)
   go true room e = (grind (arith, nat_tests), (let both : given + 1 ≡ first = (let same = e in cc) in omega (arith, both)))
   go false full e = absurd (let same = e in cc)
 
 -- if none are given out, there are too few
-pub no_numbers : (given count : ℕ) → next_number given count ≡ None → most < given + count
+pub no_numbers : (given count : ℕ) → next_number given count ≡ None → most_records < given + count
 no_numbers given count is = go (nat_le (given + count) 1000000) refl is where
-  go : (b : Bool) → nat_le (given + count) 1000000 ≡ b → cond b (Some (given + 1)) None ≡ None → most < given + count
+  go : (b : Bool) → nat_le (given + count) 1000000 ≡ b → cond b (Some (given + 1)) None ≡ None → most_records < given + count
   go true room e = absurd (let same = e in cc)
   go false full e = grind (arith, nat_tests)
 
@@ -152,7 +152,7 @@ no_numbers given count is = go (nat_le (given + count) 1000000) refl is where
 
 module _ (db : Trees) (s : State) (n : ℕ) (d : Driver) (a b : ℕ) (lines : List Hours) (is : driver_of n s ≡ Some d)
     (batch : IsBatch lines) (within : AreInRange a b (entered_spans (batch_of lines))) (t : Tables) (stand : HasTables db t)
-    (of : TablesStandFor t s) (line : List Span) (held_near : IsCanonicalOf (Gives (near a b (spans_of n t.held))) line) where
+    (of : TablesRepresent t s) (line : List Span) (held_near : IsCanonicalOf (Gives (near a b (spans_of n t.held))) line) where
   -- it is entered
   are_numbered : (gains : List Span) → AreGains line (entered_spans (batch_of lines)) gains → AreNumbered db s n d (batch_of lines) gains
   are_numbered gains gained =
@@ -169,28 +169,28 @@ module _ (db : Trees) (s : State) (n : ℕ) (d : Driver) (a b : ℕ) (lines : Li
 
   -- it is refused
   is_refused : (fault : StoreFault) → (fault ≡ Memory) ⊎ IsContradicted line (entered_spans (batch_of lines)) fault
-      → Refuses fault (enter_own (batch_of lines) d)
-  is_refused fault (inl e) = subst (λ (f : StoreFault). Refuses f (enter_own (batch_of lines) d)) (sym e) tt
-  is_refused fault (inr c) = subst (λ (f : StoreFault). Refuses f (enter_own (batch_of lines) d)) (sym c.1)
+      → IsFindingFault fault (enter_own (batch_of lines) d)
+  is_refused fault (inl e) = subst (λ (f : StoreFault). IsFindingFault f (enter_own (batch_of lines) d)) (sym e) tt
+  is_refused fault (inr c) = subst (λ (f : StoreFault). IsFindingFault f (enter_own (batch_of lines) d)) (sym c.1)
       (contradicted_batch d (batch_of lines) (spans_of n t.held) line a b c.0 (held_kept t s n d of is) within held_near c.2)
 
   -- its gains decide which of these
   by_gains : {V : Type 0} (items : V → List Span) (r : Result V StoreFault)
       → MatchResult r (λ gains. AreGains line (entered_spans (batch_of lines)) (items gains))
       (λ fault. (fault ≡ Memory) ⊎ IsContradicted line (entered_spans (batch_of lines)) fault)
-      → MatchResult r (λ gains. AreNumbered db s n d (batch_of lines) (items gains)) (λ fault. Refuses fault (enter_own (batch_of lines) d))
+      → MatchResult r (λ gains. AreNumbered db s n d (batch_of lines) (items gains)) (λ fault. IsFindingFault fault (enter_own (batch_of lines) d))
   by_gains items (Ok gains) h = are_numbered (items gains) h
   by_gains items (Err fault) h = is_refused fault h
 
 -- the gains come from the rows that were read near the batch
 pub gained : (db : Trees) (s : State) (n : ℕ) (d : Driver) (a b : ℕ) (lines : List Hours) (spans : List Span)
-    (helds : List StoredSpan) (line : List Span) {V : Type 0} (items : V → List Span) (r : Result V StoreFault) → StandsFor db s
+    (helds : List StoredSpan) (line : List Span) {V : Type 0} (items : V → List Span) (r : Result V StoreFault) → Represents db s
     → driver_of n s ≡ Some d → IsBatch lines → spans ≡ entered_spans (batch_of lines)
     → AreInRange a b (entered_spans (batch_of lines)) → AreRead (λ t. t.held) db n a b helds
     → IsCanonicalOf (Gives (map stored_span helds)) line
     → MatchResult r (λ gains. AreGains line spans (items gains)) (λ fault. (fault ≡ Memory) ⊎ IsContradicted line spans fault)
-    → MatchResult r (λ gains. AreNumbered db s n d (batch_of lines) (items gains)) (λ fault. Refuses fault (enter_own (batch_of lines) d))
-unfolding StandsFor
+    → MatchResult r (λ gains. AreNumbered db s n d (batch_of lines) (items gains)) (λ fault. IsFindingFault fault (enter_own (batch_of lines) d))
+unfolding Represents
 gained db s n d a b lines spans helds line items r (t, stand, of) is batch same within read canonical h =
     by_gains db s n d a b lines is batch within t stand of line (read_line t.held n a b helds line (read t stand (held_apart t s n d of is)) canonical) items r
     (subst (λ (x : List Span). MatchResult r (λ gains. AreGains line x (items gains)) (λ fault. (fault ≡ Memory) ⊎ IsContradicted line x fault))
@@ -210,52 +210,52 @@ module _ (db : Trees) (s : State) (n : ℕ) (d : Driver) (lines : List Hours) (g
   counted = length-map lines entry_of
 
   -- too few numbers: S14
-  pub too_many : most < given + length lines → (settled s (enter_own (batch_of lines) d)).answer ≡ Err Full
-  too_many over = ap (λ r. (settled s r).answer) (new.full (let a = is in let b = counted in omega (arith, a, b, over)))
+  pub too_many : most_records < given + length lines → (turn_of s (enter_own (batch_of lines) d)).answer ≡ Err Full
+  too_many over = ap (λ r. (turn_of s r).answer) (new.full (let a = is in let b = counted in omega (arith, a, b, over)))
 
   -- the step of the driver alone
-  own : given + length lines ≤ most → enter_own (batch_of lines) d ≡ Ok (1 + length d.entries, with_batch (batch_of lines) d)
+  own : given + length lines ≤ most_records → enter_own (batch_of lines) d ≡ Ok (1 + length d.entries, with_batch (batch_of lines) d)
   own room = new.numbered (let a = is in let b = counted in omega (arith, a, b, room))
 
   -- the answer is the next number
-  pub batch_answer : (first : ℕ) → given + length lines ≤ most → first ≡ 1 + given
-      → (settled s (enter_own (batch_of lines) d)).answer ≡ Ok first
-  batch_answer first room next = ap (λ r. (settled s r).answer) (own room)
+  pub batch_answer : (first : ℕ) → given + length lines ≤ most_records → first ≡ 1 + given
+      → (turn_of s (enter_own (batch_of lines) d)).answer ≡ Ok first
+  batch_answer first room next = ap (λ r. (turn_of s r).answer) (own room)
       ∙ ap Ok (let a = is in (let same : 1 + length d.entries ≡ first = omega (arith, a, next) in same))
 
   -- the tables after its writes represent the state after the batch
-  pub batch_written : (first count : ℕ) (helds : List StoredSpan) (next : Trees) → given + length lines ≤ most → first ≡ 1 + given
+  pub batch_written : (first count : ℕ) (helds : List StoredSpan) (next : Trees) → given + length lines ≤ most_records → first ≡ 1 + given
       → count ≡ given + length lines → map (row_of n) helds ≡ map (span_row n) gains
-      → ((t : Tables) → HasTables db t → HasTables next (batched n count (entry_rows n first (batch_of lines)) (map (row_of n) helds) t))
-      → Follows db next s (settled s (enter_own (batch_of lines) d)).after
+      → ((t : Tables) → HasTables db t → HasTables next (tables_after_batch n count (rows_of_entries n first (batch_of lines)) (map (row_of n) helds) t))
+      → Follows db next s (turn_of s (enter_own (batch_of lines) d)).after
   batch_written first count helds next room one counts same_helds written =
       let first_is : first ≡ 1 + length d.entries = (let a = is in omega (arith, a, one)) in
       let count_is : count ≡ length d.entries + length (batch_of lines) = (let a = is in let b = counted in omega (arith, a, b, counts)) in
       let all = batch_of lines in
-      subst (Follows db next s) (sym (ap (λ r. (settled s r).after) (own room)))
+      subst (Follows db next s) (sym (ap (λ r. (turn_of s r).after) (own room)))
       (new.follows next (λ t stand. subst (λ (x : List SpanRow). HasTables next
-      (batched n (length d.entries + length all) (entry_rows n (1 + length d.entries) all) x t)) same_helds
-      (subst (λ (x : ℕ). HasTables next (batched n (length d.entries + length all) (entry_rows n x all) (map (row_of n) helds) t)) first_is
-      (subst (λ (x : ℕ). HasTables next (batched n x (entry_rows n first all) (map (row_of n) helds) t)) count_is (written t stand)))))
+      (tables_after_batch n (length d.entries + length all) (rows_of_entries n (1 + length d.entries) all) x t)) same_helds
+      (subst (λ (x : ℕ). HasTables next (tables_after_batch n (length d.entries + length all) (rows_of_entries n x all) (map (row_of n) helds) t)) first_is
+      (subst (λ (x : ℕ). HasTables next (tables_after_batch n x (rows_of_entries n first all) (map (row_of n) helds) t)) count_is (written t stand)))))
 
 -- ---- the driver's step
 
 -- an unknown driver: S4
-pub nobody_enters : (n : ℕ) (s : State) (batch : List Entry) → driver_of n s ≡ None → (entered n batch s).answer ≡ Err UnknownDriver
+pub nobody_enters : (n : ℕ) (s : State) (batch : List Entry) → driver_of n s ≡ None → (enter_step n batch s).answer ≡ Err UnknownDriver
 nobody_enters n s batch none = rw none refl
 
 -- the step is that of the driver
 pub enters : (n : ℕ) (s : State) (batch : List Entry) (d : Driver) → driver_of n s ≡ Some d
-    → entered n batch s ≡ settled s (enter_own batch d)
+    → enter_step n batch s ≡ turn_of s (enter_own batch d)
 enters n s batch d some = rw some refl
 
 -- a fault that is passed on is the batch's answer
 pub handed_refusal : {A : Type 0} (view : A → ℕ) (n : ℕ) (s : State) (batch : List Entry) (d : Driver) (fault : StoreFault)
-    (r : Result A StoreFault) → driver_of n s ≡ Some d → Refuses fault (enter_own batch d)
-    → IsErr r × IsErrAnd r (λ found. found ≡ fault) → Answers view r (entered n batch s).answer
-handed_refusal view n s batch d fault r some h = handed_on view fault r (entered n batch s).answer
-    (subst (λ (x : Turn ℕ). Refuses fault x.answer) (sym (enters n s batch d some)) (go fault h)) where
-      go : (f : StoreFault) → Refuses f (enter_own batch d) → Refuses f (settled s (enter_own batch d)).answer
+    (r : Result A StoreFault) → driver_of n s ≡ Some d → IsFindingFault fault (enter_own batch d)
+    → IsErr r × IsErrAnd r (λ found. found ≡ fault) → Answers view r (enter_step n batch s).answer
+handed_refusal view n s batch d fault r some h = handed_on view fault r (enter_step n batch s).answer
+    (subst (λ (x : Turn ℕ). IsFindingFault fault x.answer) (sym (enters n s batch d some)) (go fault h)) where
+      go : (f : StoreFault) → IsFindingFault f (enter_own batch d) → IsFindingFault f (turn_of s (enter_own batch d)).answer
       go Memory h = tt
       go Store h = tt
-      go f h = ap (λ o. (settled s o).answer) h
+      go f h = ap (λ o. (turn_of s o).answer) h

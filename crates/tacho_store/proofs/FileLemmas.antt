@@ -9,7 +9,7 @@ use Rattle.tacho_state.specs.declared.imported.Imported.{Imported}
 use Rattle.tacho_state.specs.Acts.{Acts, Answers, IsAnswered, IsOfNoFile}
 use Rattle.tacho_state.specs.Content.{FileTells, part_number}
 use Rattle.tacho_state.specs.State.{State}
-use Rattle.tacho_state.specs.Steps.{Content, Turn, imported}
+use Rattle.tacho_state.specs.Steps.{Content, Turn, import_step}
 use Rattle.tacho_state.proofs.ContentLemmas.{one_content}
 
 module _ {K L : Type 0} (f : L → K) {stands : K → State → Type 0} {is_clean is_live : K → Type 0} {leaves : K → List State → Type 0}
@@ -39,10 +39,10 @@ module _ {K : Type 0} {stands : K → State → Type 0} {is_clean is_live : K �
   -- a step by one content of a file is a step by each content that the file has
   pub acts_told : {old new : K} {r : Result Imported StoreFault} (caller : Option ℕ) (part : Part) (file : List ℕ)
       (content other : Result Content CardFault) → FileTells part file content → FileTells part file other
-      → Acts stands is_clean is_live leaves is_same is_same_of (λ done. done) old new r (imported caller (part_number part) file content)
-      → Acts stands is_clean is_live leaves is_same is_same_of (λ done. done) old new r (imported caller (part_number part) file other)
+      → Acts stands is_clean is_live leaves is_same is_same_of (λ done. done) old new r (import_step caller (part_number part) file content)
+      → Acts stands is_clean is_live leaves is_same is_same_of (λ done. done) old new r (import_step caller (part_number part) file other)
   acts_told {old = old} {new = new} {r = r} caller part file content other one two = subst
-      (λ c. Acts stands is_clean is_live leaves is_same is_same_of (λ done. done) old new r (imported caller (part_number part) file c))
+      (λ c. Acts stands is_clean is_live leaves is_same is_same_of (λ done. done) old new r (import_step caller (part_number part) file c))
       (one_content part file content other one two)
 
 -- why a file couldn't be read: it has a fault, or memory ran out
@@ -76,17 +76,17 @@ module _ {K : Type 0} (stands : K → State → Type 0) (is_clean is_live : K �
   pub acts_fault : (k : K) (r : Result Imported StoreFault) (caller : Option ℕ) (part : Part) (file : List ℕ) (fault : StoreFault)
       (content : Result Content CardFault) → FileTells part file content
       → IsFileFault part file fault → IsErr r × IsErrAnd r (λ found. found ≡ fault)
-      → Acts stands is_clean is_live leaves is_same is_same_of (λ done. done) k k r (imported caller (part_number part) file content)
+      → Acts stands is_clean is_live leaves is_same is_same_of (λ done. done) k k r (import_step caller (part_number part) file content)
   acts_fault k (Ok done) caller part file fault content tells why e = let wrong = e.0 in cc
   acts_fault k (Err found) caller part file fault content tells (inl memory) e =
       subst (λ g. Acts stands is_clean is_live leaves is_same is_same_of (λ done. done) k k (Err g)
-      (imported caller (part_number part) file content))
-      (sym (e.1 ∙ memory)) (idle k Memory (imported caller (part_number part) file content) (λ s. tt) (λ wrong. wrong))
+      (import_step caller (part_number part) file content))
+      (sym (e.1 ∙ memory)) (idle k Memory (import_step caller (part_number part) file content) (λ s. tt) (λ wrong. wrong))
   acts_fault k (Err found) caller part file fault content tells (inr it) e =
       acts_told caller part file (Err it.0) content it.2 tells
       (subst (λ g. Acts stands is_clean is_live leaves is_same is_same_of (λ done. done) k k (Err g)
-      (imported caller (part_number part) file (Err it.0)))
-      (sym (e.1 ∙ it.1)) (idle k (Card it.0) (imported caller (part_number part) file (Err it.0)) (λ s. refl) (λ wrong. wrong)))
+      (import_step caller (part_number part) file (Err it.0)))
+      (sym (e.1 ∙ it.1)) (idle k (Card it.0) (import_step caller (part_number part) file (Err it.0)) (λ s. refl) (λ wrong. wrong)))
 
 -- a file with a fault is refused with that fault, or memory ran out while it was read
 pub unreadable : (part : Part) (file : List ℕ) (r : Result Imported StoreFault) (fault : StoreFault) → IsFileFault part file fault

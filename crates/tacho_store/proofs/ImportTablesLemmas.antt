@@ -6,12 +6,12 @@ use Rattle.tacho_line.specs.Line.{AreGains}
 use Rattle.tacho_card.specs.declared.file.Part.{Part}
 use Rattle.tacho_state.specs.Content.{FileTells, part_number}
 use Rattle.tacho_state.specs.Disjoint.{Keeps, near, AreInRange}
-use Rattle.tacho_state.specs.State.{Download, Driver, State, Given, Held, driver_of, put, with_download}
+use Rattle.tacho_state.specs.State.{Download, Driver, State, IsDownloaded, Held, driver_of, put, with_download}
 use Rattle.tacho_state.specs.Steps.{Content}
 use Rattle.tacho_state.proofs.GainLemmas.{download_kept}
 use Rattle.tacho_tables.specs.Rows.{DriverRow, DownloadRow}
 use Rattle.tacho_tables.specs.Tables.{Tables, with_downloads}
-use Rattle.tacho_reading.specs.Standing.{driver_columns, spans_of, AreRead, RowsStandFor, TablesStandFor}
+use Rattle.tacho_reading.specs.Standing.{driver_columns, spans_of, AreRead, RowsRepresent, TablesRepresent}
 use Rattle.tacho_reading.proofs.RowLemmas.{eq_self, eq_not, added_own, added_other, added_marks}
 use Rattle.tacho_reading.proofs.DownloadLemmas.{download_row, rows_append, own_added, other_added, one_more}
 use Rattle.tacho_reading.proofs.StateLemmas.{SameOfDriver, found_number, found_of, put_is, rows_put}
@@ -32,9 +32,9 @@ pub record AreGained (t : Tables) (n a b : ℕ) (spans card_line line card_gains
 
 -- the tables represent the driver with the download
 imported_own : (t : Tables) (d : Driver) (part : Part) (file : List ℕ) (content : Content) (card_line line card_gains gains : List Span)
-    (a b : ℕ) → RowsStandFor t d → FileTells part file (Ok content) → AreInRange a b content.spans
+    (a b : ℕ) → RowsRepresent t d → FileTells part file (Ok content) → AreInRange a b content.spans
     → AreGained t d.number a b content.spans card_line line card_gains gains
-    → RowsStandFor (with_imported d.number (1 + length d.downloads) (part_number part) file card_gains gains t)
+    → RowsRepresent (with_imported d.number (1 + length d.downloads) (part_number part) file card_gains gains t)
     (with_download (part_number part) file content.spans d)
 imported_own t d part file content card_line line card_gains gains a b h tells r g =
     record {
@@ -45,7 +45,7 @@ imported_own t d part file content card_line line card_gains gains a b h tells r
       read = read_more d.downloads part file content h.read tells;
       entries = h.entries;
       full = h.full;
-      card_spans = subst (λ (x : List Span). Keeps x (Given (with_download (part_number part) file content.spans d)))
+      card_spans = subst (λ (x : List Span). Keeps x (IsDownloaded (with_download (part_number part) file content.spans d)))
           (sym (added_own d.number t.card_spans card_gains)) both.0;
       held = subst (λ (x : List Span). Keeps x (Held (with_download (part_number part) file content.spans d)))
           (sym (added_own d.number t.held gains)) both.1;
@@ -53,7 +53,7 @@ imported_own t d part file content card_line line card_gains gains a b h tells r
       new : Download
       new = record { part = part_number part; file = file; spans = content.spans }
 
-      both : Keeps (spans_of d.number t.card_spans ++ card_gains) (Given (with_download (part_number part) file content.spans d))
+      both : Keeps (spans_of d.number t.card_spans ++ card_gains) (IsDownloaded (with_download (part_number part) file content.spans d))
           × Keeps (spans_of d.number t.held ++ gains) (Held (with_download (part_number part) file content.spans d))
       both =
           download_kept d (spans_of d.number t.card_spans) (spans_of d.number t.held) card_line line content.spans card_gains gains
@@ -80,9 +80,9 @@ counted_other n count r d = ap (λ b. cond b (record r { downloads = count }) r)
 
 -- the tables represent the state after an import, by the driver's own number
 imported_at : (t : Tables) (s : State) (d : Driver) (part : Part) (file : List ℕ) (content : Content)
-    (card_line line card_gains gains : List Span) (a b : ℕ) → TablesStandFor t s → driver_of d.number s ≡ Some d
+    (card_line line card_gains gains : List Span) (a b : ℕ) → TablesRepresent t s → driver_of d.number s ≡ Some d
     → FileTells part file (Ok content) → AreInRange a b content.spans → AreGained t d.number a b content.spans card_line line card_gains gains
-    → TablesStandFor (with_imported d.number (1 + length d.downloads) (part_number part) file card_gains gains t)
+    → TablesRepresent (with_imported d.number (1 + length d.downloads) (part_number part) file card_gains gains t)
     (put (with_download (part_number part) file content.spans d) s)
 imported_at t s d part file content card_line line card_gains gains a b h k tells r g =
     let n = d.number in
@@ -104,15 +104,15 @@ imported_at t s d part file content card_line line card_gains gains a b h k tell
 
 -- the tables after an import represent the state after it
 pub imported_is : (t : Tables) (s : State) (n : ℕ) (d : Driver) (part : Part) (file : List ℕ) (content : Content)
-    (card_line line card_gains gains : List Span) (a b : ℕ) → TablesStandFor t s → driver_of n s ≡ Some d
+    (card_line line card_gains gains : List Span) (a b : ℕ) → TablesRepresent t s → driver_of n s ≡ Some d
     → FileTells part file (Ok content) → AreInRange a b content.spans
     → IsCanonicalOf (Gives (near a b (spans_of n t.card_spans))) card_line → AreGains card_line content.spans card_gains
     → IsCanonicalOf (Gives (near a b (spans_of n t.held))) line → AreGains line content.spans gains
-    → TablesStandFor (with_imported n (1 + length d.downloads) (part_number part) file card_gains gains t)
+    → TablesRepresent (with_imported n (1 + length d.downloads) (part_number part) file card_gains gains t)
     (put (with_download (part_number part) file content.spans d) s)
 imported_is t s n d part file content card_line line card_gains gains a b h k tells r cl cg l g =
     subst (λ (j : ℕ). driver_of j s ≡ Some d → AreGained t j a b content.spans card_line line card_gains gains
-    → TablesStandFor (with_imported j (1 + length d.downloads) (part_number part) file card_gains gains t)
+    → TablesRepresent (with_imported j (1 + length d.downloads) (part_number part) file card_gains gains t)
     (put (with_download (part_number part) file content.spans d) s)) (found_number n s d k)
     (λ k g. imported_at t s d part file content card_line line card_gains gains a b h k tells r g) k
     (record { card_near = cl; card_gained = cg; held_near = l; held_gained = g })

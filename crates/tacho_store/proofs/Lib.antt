@@ -16,5 +16,5 @@ mod OpeningLemmas
 mod FileLemmas
 mod WithdrawalLemmas
 mod EnteringLemmas
-mod StopLemmas
+mod CrashLemmas
 mod BatchLemmas

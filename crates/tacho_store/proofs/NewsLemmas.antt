@@ -8,8 +8,8 @@ use Rattle.tacho_line.specs.declared.line.LineFault.TheVariants as line_fault
 use Rattle.tacho_line.specs.Line.{empty_from, first_empty, AreGains, IsGainFault}
 use Rattle.tacho_state.specs.declared.fault.StoreFault.{StoreFault}
 use Rattle.tacho_state.specs.declared.fault.StoreFault.TheVariants.{Contradiction, Memory}
-use Rattle.tacho_state.specs.Disjoint.{IsNew}
-use Rattle.tacho_store.specs.News.{AreNews, IsContradicted, IsRefused}
+use Rattle.tacho_state.specs.Disjoint.{HasNews}
+use Rattle.tacho_store.specs.News.{AreNews, IsContradicted, IsNewsRefused}
 
 -- no canonical span is empty
 pub none_empty : (place : ℕ) (spans : List Span) → IsCanonical spans → empty_from place spans ≡ None
@@ -31,17 +31,17 @@ fault_is line spans (line_fault.EmptySpan place) found full conflict memory g = 
 fault_is line spans line_fault.Memory found full conflict memory g = inl (memory refl)
 
 -- new spans that contradict what the driver holds are refused
-refused : (card_line line spans : List Span) (fault : StoreFault) → IsNew card_line spans
-    → (fault ≡ Memory) ⊎ IsContradicted line spans fault → IsRefused card_line line spans fault
+refused : (card_line line spans : List Span) (fault : StoreFault) → HasNews card_line spans
+    → (fault ≡ Memory) ⊎ IsContradicted line spans fault → IsNewsRefused card_line line spans fault
 refused card_line line spans fault new (inl e) = inl e
 refused card_line line spans fault new (inr c) = inr (inr (c.0, c.1, new, c.2))
 
 -- a result that passes on their fault is refused as well
 pub handed_on : {V : Type 0} (P : V → Type 0) (card_line line spans : List Span) (fault : StoreFault) (result : Result V StoreFault)
-    → IsNew card_line spans → (fault ≡ Memory) ⊎ IsContradicted line spans fault
-    → IsErr result × IsErrAnd result (λ found. found ≡ fault) → MatchResult result P (IsRefused card_line line spans)
+    → HasNews card_line spans → (fault ≡ Memory) ⊎ IsContradicted line spans fault
+    → IsErr result × IsErrAnd result (λ found. found ≡ fault) → MatchResult result P (IsNewsRefused card_line line spans)
 handed_on P card_line line spans fault (Ok v) new h e = let wrong = e.0 in cc
-handed_on P card_line line spans fault (Err f) new h e = subst (IsRefused card_line line spans) (sym e.1)
+handed_on P card_line line spans fault (Err f) new h e = subst (IsNewsRefused card_line line spans) (sym e.1)
     (refused card_line line spans fault new h)
 
 -- a list of spans whose count isn't zero has a first span
@@ -58,5 +58,5 @@ are_news card_line line spans card_gains gains some card held = (some.0, some.1,
 
 -- these spans are new
 pub is_new : (card_line spans card_gains : List Span) → (first : Span) × (others : List Span) × (card_gains ≡ first ∷ others)
-    → AreGains card_line spans card_gains → IsNew card_line spans
+    → AreGains card_line spans card_gains → HasNews card_line spans
 is_new card_line spans card_gains some card = inl (some.0, some.1, subst (AreGains card_line spans) some.2 card)

@@ -9,13 +9,13 @@ use Rattle.tacho_tables.specs.Schema.{Layout, archive_schema, old_schema}
 use Rattle.tacho_tables.specs.Tables.{IsVersion}
 use Rattle.tacho_tables.specs.Making.{IsVersioned}
 use Rattle.tacho_state.specs.State.{State}
-use Rattle.tacho_reading.specs.Standing.{StandsFor}
+use Rattle.tacho_reading.specs.Standing.{Represents}
 use Rattle.tacho_store.specs.Old.{OldState, StoodFor}
 use Rattle.tacho_store.specs.Opening.{AreVersioned, IsFoundOld, IsOld, IsFoundAlone, IsLeftAlone}
 
 -- tables that represent a state of schema 2 are of schema 2
-pub versioned_by : (db : Trees) (s : State) → StandsFor db s → AreVersioned db
-unfolding StandsFor
+pub versioned_by : (db : Trees) (s : State) → Represents db s → AreVersioned db
+unfolding Represents
 versioned_by db s it = (archive_schema it.1.layout, inr (it.1.layout, refl), it.1.sound)
 
 -- tables that represent a state of schema 1 are of schema 1
@@ -37,7 +37,7 @@ not_of_one old it s stood = absurd (let two = it (once_versioned_by old.now.tree
 
 -- if an open connection found version 1 by its own schema, the stored tables have version 1
 pub old_by : (old : Sqlite) → IsLive old → IsTrue old.is_open → IsFoundOld old → IsOld old
-unfolding StandsFor
+unfolding Represents
 old_by old live opened it =
     let by = versioned old.now (live opened).0 in
     record {

@@ -7,8 +7,8 @@ use Rattle.tacho_time.specs.declared.span.Span.{Span}
 use Rattle.tacho_line.specs.Line.{AreGains}
 use Rattle.tacho_state.specs.State.{Entry, Driver, State, driver_of, entry_from, marked_from, entered_spans, put, with_download, with_batch, with_marked}
 use Rattle.tacho_tables.specs.Rows.{SpanRow, DownloadRow, EntryRow, DriverRow}
-use Rattle.tacho_tables.specs.Tables.{Tables, HasTables, has_number, is_of, is_near}
-use Rattle.tacho_reading.specs.Standing.{StandsFor, TablesStandFor, AreDistinct, HaveSameRowsOf, KeepsRowsOf, Follows, driver_columns, downloads_of, entries_of, download_rows, entry_rows, span_row}
+use Rattle.tacho_tables.specs.Tables.{Tables, HasTables, has_number, is_of, is_row_near}
+use Rattle.tacho_reading.specs.Standing.{Represents, TablesRepresent, AreDistinct, HaveSameRowsOf, KeepsRowsOf, Follows, driver_columns, downloads_of, driver_entry_rows, rows_of_downloads, rows_of_entries, span_row}
 use Rattle.tacho_reading.proofs.RowLemmas.{eq_self, eq_not, eq_true}
 use Rattle.tacho_reading.proofs.StateLemmas.{found_number, found_of}
 use Rattle.tacho_reading.proofs.DriverRowLemmas.{no_number_row}
@@ -25,12 +25,12 @@ driver_told (Some d) = driver_columns d ∷ []
 -- the rows of the driver's downloads
 abbrev downloads_told : ℕ → Option Driver → List DownloadRow
 downloads_told n None = []
-downloads_told n (Some d) = download_rows n 1 d.downloads
+downloads_told n (Some d) = rows_of_downloads n 1 d.downloads
 
 -- the rows of the driver's entries
 abbrev entries_told : ℕ → Option Driver → List EntryRow
 entries_told n None = []
-entries_told n (Some d) = entry_rows n 1 d.entries
+entries_told n (Some d) = rows_of_entries n 1 d.entries
 
 -- the rows with a driver's number, among those of a state, are that driver's row
 own_row : (n : ℕ) (s : State) → AreDistinct s → filter (has_number n) (map driver_columns s) ≡ driver_told (driver_of n s)
@@ -44,21 +44,21 @@ own_row n (x ∷ s) h = go (x.number == n) refl (own_row n s h.3) where
   go false o more = more
 
 -- the rows with a driver's number, in the table, are those of the state
-drivers_are : (t : Tables) (s : State) (n : ℕ) → TablesStandFor t s → filter (has_number n) t.drivers ≡ driver_told (driver_of n s)
+drivers_are : (t : Tables) (s : State) (n : ℕ) → TablesRepresent t s → filter (has_number n) t.drivers ≡ driver_told (driver_of n s)
 drivers_are t s n of = ap (λ (rows : List DriverRow). filter (has_number n) rows) of.drivers ∙ own_row n s of.distinct
 
 -- likewise for the driver's downloads
-downloads_are : (t : Tables) (s : State) (n : ℕ) → TablesStandFor t s → downloads_of n t.downloads ≡ downloads_told n (driver_of n s)
+downloads_are : (t : Tables) (s : State) (n : ℕ) → TablesRepresent t s → downloads_of n t.downloads ≡ downloads_told n (driver_of n s)
 downloads_are t s n of = go (driver_of n s) refl where
   go : (o : Option Driver) → driver_of n s ≡ o → downloads_of n t.downloads ≡ downloads_told n o
   go None e = of.known.downloads n (number_not n s e)
-  go (Some d) e = subst (λ (j : ℕ). downloads_of j t.downloads ≡ download_rows j 1 d.downloads) (found_number n s d e)
+  go (Some d) e = subst (λ (j : ℕ). downloads_of j t.downloads ≡ rows_of_downloads j 1 d.downloads) (found_number n s d e)
       (found_of t n s d e of.each).downloads
 
 -- likewise for the driver's entries
-entries_are : (t : Tables) (s : State) (n : ℕ) → TablesStandFor t s → entries_of n t.entries ≡ entries_told n (driver_of n s)
+entries_are : (t : Tables) (s : State) (n : ℕ) → TablesRepresent t s → driver_entry_rows n t.entries ≡ entries_told n (driver_of n s)
 entries_are t s n of = go (driver_of n s) refl where
-  go : (o : Option Driver) → driver_of n s ≡ o → entries_of n t.entries ≡ entries_told n o
+  go : (o : Option Driver) → driver_of n s ≡ o → driver_entry_rows n t.entries ≡ entries_told n o
   go None e = of.known.entries n (number_not n s e)
   go (Some d) e = entry_all t s n d of e
 
@@ -70,7 +70,7 @@ pub record HaveSameSpansOf (n : ℕ) (t u : Tables) : Type 0 where
   pub held : filter (is_of n) t.held ≡ filter (is_of n) u.held
 
 -- if two states agree on a driver, their tables have the same rows of that driver, other than spans
-same_rows : (t u : Tables) (s after : State) (n : ℕ) → TablesStandFor t s → TablesStandFor u after → driver_of n after ≡ driver_of n s
+same_rows : (t u : Tables) (s after : State) (n : ℕ) → TablesRepresent t s → TablesRepresent u after → driver_of n after ≡ driver_of n s
     → HaveSameSpansOf n t u → HaveSameRowsOf n t u
 same_rows t u s after n of is same spans = record {
   drivers = drivers_are t s n of ∙ ap driver_told (sym same) ∙ sym (drivers_are u after n is);
@@ -81,22 +81,22 @@ same_rows t u s after n of is same spans = record {
 }
 
 -- so tables with the same rows of spans follow
-pub followed : (db next : Trees) (t u : Tables) (s after : State) → HasTables db t → TablesStandFor t s → HasTables next u → TablesStandFor u after
+pub followed : (db next : Trees) (t u : Tables) (s after : State) → HasTables db t → TablesRepresent t s → HasTables next u → TablesRepresent u after
     → ((n : ℕ) → driver_of n after ≡ driver_of n s → HaveSameSpansOf n t u) → Follows db next s after
-unfolding StandsFor KeepsRowsOf
+unfolding Represents KeepsRowsOf
 followed db next t u s after stand of stand_next is spans = record {
   stands = (u, stand_next, is);
   others = λ n same. (t, u, stand, stand_next, same_rows t u s after n of is same (spans n same));
 }
 
 -- tables that haven't changed have the same rows
-pub kept_rows : (n : ℕ) (db : Trees) (s : State) → StandsFor db s → KeepsRowsOf n db db
-unfolding StandsFor KeepsRowsOf
+pub kept_rows : (n : ℕ) (db : Trees) (s : State) → Represents db s → KeepsRowsOf n db db
+unfolding Represents KeepsRowsOf
 kept_rows n db s (t, stand, of) =
     (t, t, stand, stand, record { drivers = refl; downloads = refl; card_spans = refl; entries = refl; held = refl })
 
 -- unchanged tables follow
-pub unchanged_follows : (db : Trees) (s : State) → StandsFor db s → Follows db db s s
+pub unchanged_follows : (db : Trees) (s : State) → Represents db s → Follows db db s s
 unchanged_follows db s stands = record { stands = stands; others = λ n same. kept_rows n db s stands }
 
 -- ---- rows of another driver
@@ -117,17 +117,17 @@ added_kept j n rows spans d = sym
     ∙ append-nil (filter (is_of j) rows))
 
 -- if no removed row is a driver's, all rows of that driver remain
-his_left : (p q : SpanRow → Bool) (rows : List SpanRow) → ((r : SpanRow) → p r ≡ false → q r ≡ false)
+own_left : (p q : SpanRow → Bool) (rows : List SpanRow) → ((r : SpanRow) → p r ≡ false → q r ≡ false)
     → filter q rows ≡ filter q (filter p rows)
-his_left p q [] h = refl
-his_left p q (r ∷ rows) h = go (p r) refl (his_left p q rows h) where
+own_left p q [] h = refl
+own_left p q (r ∷ rows) h = go (p r) refl (own_left p q rows h) where
   go : (b : Bool) → p r ≡ b → filter q rows ≡ filter q (filter p rows)
       → filter q (r ∷ rows) ≡ filter q (cond b (r ∷ filter p rows) (filter p rows))
   go true e more = ap (λ (x : List SpanRow). cond (q r) (r ∷ x) x) more
   go false e more = ap (λ b. cond b (r ∷ filter q rows) (filter q rows)) (h r e) ∙ more
 
 -- the rows that are removed near a range are the driver's
-near_is_own : (n a b : ℕ) (r : SpanRow) → not (is_near n a b r) ≡ false → r.driver ≡ n
+near_is_own : (n a b : ℕ) (r : SpanRow) → not (is_row_near n a b r) ≡ false → r.driver ≡ n
 near_is_own n a b r near = go (r.driver == n) refl near where
   go : (o : Bool) → (r.driver == n) ≡ o → not (o && (nat_lt r.start b && nat_lt a r.past)) ≡ false → r.driver ≡ n
   go true o near = eq_true r.driver n o
@@ -135,16 +135,16 @@ near_is_own n a b r near = go (r.driver == n) refl near where
 
 -- so another driver's rows remain
 far_kept : (j n a b : ℕ) (rows : List SpanRow) → j ≢ n
-    → filter (is_of j) rows ≡ filter (is_of j) (filter (λ r. not (is_near n a b r)) rows)
+    → filter (is_of j) rows ≡ filter (is_of j) (filter (λ r. not (is_row_near n a b r)) rows)
 far_kept j n a b rows d =
-    his_left (λ r. not (is_near n a b r)) (is_of j) rows
+    own_left (λ r. not (is_row_near n a b r)) (is_of j) rows
     (λ r near. eq_not r.driver j (λ e. d (sym e ∙ near_is_own n a b r near)))
 
 -- likewise if some of the driver's rows are removed and others added
 pub renewed_kept : (j n a b : ℕ) (rows : List SpanRow) (spans : List Span) → j ≢ n
-    → filter (is_of j) rows ≡ filter (is_of j) (filter (λ r. not (is_near n a b r)) rows ++ map (span_row n) spans)
+    → filter (is_of j) rows ≡ filter (is_of j) (filter (λ r. not (is_row_near n a b r)) rows ++ map (span_row n) spans)
 renewed_kept j n a b rows spans d =
-    far_kept j n a b rows d ∙ added_kept j n (filter (λ r. not (is_near n a b r)) rows) spans d
+    far_kept j n a b rows d ∙ added_kept j n (filter (λ r. not (is_row_near n a b r)) rows) spans d
 
 -- ---- a driver who is changed
 
@@ -169,18 +169,18 @@ is_another n d next s is number changed j same e =
     changed (cc)
 
 -- a list with more elements after it is a different list
-more_behind : {A : Type 0} (xs ys : List A) (y : A) → xs ++ y ∷ ys ≢ xs
-more_behind [] ys y e = cc
-more_behind (x ∷ xs) ys y e = let rest : xs ++ y ∷ ys ≡ xs = cc in more_behind xs ys y rest
+more_after : {A : Type 0} (xs ys : List A) (y : A) → xs ++ y ∷ ys ≢ xs
+more_after [] ys y e = cc
+more_after (x ∷ xs) ys y e = let rest : xs ++ y ∷ ys ≡ xs = cc in more_after xs ys y rest
 
 -- so a download changes its driver
 pub download_changes : (part : ℕ) (file : List ℕ) (spans : List Span) (d : Driver) → with_download part file spans d ≢ d
 download_changes part file spans d e =
-    more_behind d.downloads [] (record { part = part; file = file; spans = spans }) (ap (λ (x : Driver). x.downloads) e)
+    more_after d.downloads [] (record { part = part; file = file; spans = spans }) (ap (λ (x : Driver). x.downloads) e)
 
 -- a batch that isn't empty changes its driver
 pub batch_changes : (first : Entry) (batch : List Entry) (d : Driver) → with_batch (first ∷ batch) d ≢ d
-batch_changes first batch d e = more_behind d.entries batch first (ap (λ (x : Driver). x.entries) e)
+batch_changes first batch d e = more_after d.entries batch first (ap (λ (x : Driver). x.entries) e)
 
 -- a withdrawn entry is found as withdrawn
 marked_found : (i number : ℕ) (es : List Entry) (e : Entry) → entry_from i number es ≡ Some e

@@ -5,11 +5,11 @@ use Rattle.std.proofs.lemmas.List.{map-append}
 use Rattle.tacho_time.specs.declared.span.Span.{Span}
 use Rattle.tacho_time.specs.Spans.{Gives}
 use Rattle.tacho_state.specs.Disjoint.{Keeps}
-use Rattle.tacho_state.specs.State.{Download, Entry, Driver, State, driver_of, keyed, holding, put, with_base}
+use Rattle.tacho_state.specs.State.{Download, Entry, Driver, State, driver_of, driver_with_key, holding, put, with_base}
 use Rattle.tacho_tables.specs.Rows.{DriverRow}
 use Rattle.tacho_tables.specs.Tables as tables
 use Rattle.tacho_tables.specs.Tables.{Tables}
-use Rattle.tacho_reading.specs.Standing.{driver_columns, RowsStandFor, RowsStandForEach, HasNot, HasNoKey, HasNoHolder, AreDistinct, AreKnown, TablesStandFor}
+use Rattle.tacho_reading.specs.Standing.{driver_columns, RowsRepresent, RowsRepresentEach, HasNot, HasNoKey, IsHolderFree, AreDistinct, AreKnown, TablesRepresent}
 use Rattle.tacho_reading.proofs.RowLemmas.{eq_self, eq_not, eq_false}
 use Rattle.tacho_reading.proofs.DriverRowLemmas.{bytes_false}
 use Rattle.tacho_reading.proofs.StateLemmas.{SameOfDriver, found_number, found_of, put_is, rows_put}
@@ -26,20 +26,20 @@ number_not n (x ∷ s) e = go (x.number == n) refl e (number_not n s) where
   go false o f more = (eq_false x.number n o, more f)
 
 -- a key that wasn't found isn't in the state
-key_not : (key : List ℕ) (s : State) → keyed key s ≡ None → HasNoKey key s
+key_not : (key : List ℕ) (s : State) → driver_with_key key s ≡ None → HasNoKey key s
 key_not key [] e = tt
 key_not key (x ∷ s) e = go (bytes_eq x.key key) refl e (key_not key s) where
-  go : (b : Bool) → bytes_eq x.key key ≡ b → cond b (Some x) (keyed key s) ≡ None → (keyed key s ≡ None → HasNoKey key s)
+  go : (b : Bool) → bytes_eq x.key key ≡ b → cond b (Some x) (driver_with_key key s) ≡ None → (driver_with_key key s ≡ None → HasNoKey key s)
       → HasNoKey key (x ∷ s)
   go true o f more = cc
   go false o f more = (bytes_false x.key key o, more f)
 
 -- a holder that wasn't found isn't in the state
-holder_not : (holder : List ℕ) (s : State) → holding holder s ≡ None → HasNoHolder holder s
+holder_not : (holder : List ℕ) (s : State) → holding holder s ≡ None → IsHolderFree holder s
 holder_not holder [] e = tt
 holder_not holder (x ∷ s) e = go (bytes_eq x.holder holder) refl e (holder_not holder s) where
   go : (b : Bool) → bytes_eq x.holder holder ≡ b → cond b (Some x) (holding holder s) ≡ None
-      → (holding holder s ≡ None → HasNoHolder holder s) → HasNoHolder holder (x ∷ s)
+      → (holding holder s ≡ None → IsHolderFree holder s) → IsHolderFree holder (x ∷ s)
   go true o f more = cc
   go false o f more = (bytes_false x.holder holder o, more f)
 
@@ -54,7 +54,7 @@ no_key_added key [] d h o = (o, tt)
 no_key_added key (x ∷ s) d h o = (h.0, no_key_added key s d h.1 o)
 
 -- the new driver has another holder
-no_holder_added : (holder : List ℕ) (s : State) (d : Driver) → HasNoHolder holder s → d.holder ≢ holder → HasNoHolder holder (s ++ d ∷ [])
+no_holder_added : (holder : List ℕ) (s : State) (d : Driver) → IsHolderFree holder s → d.holder ≢ holder → IsHolderFree holder (s ++ d ∷ [])
 no_holder_added holder [] d h o = (o, tt)
 no_holder_added holder (x ∷ s) d h o = (h.0, no_holder_added holder s d h.1 o)
 
@@ -64,7 +64,7 @@ added_has n [] d h = tt
 added_has n (x ∷ s) d h = (h.0, added_has n s d h.1)
 
 -- drivers stay distinct
-distinct_added : (s : State) (d : Driver) → HasNot d.number s → HasNoKey d.key s → HasNoHolder d.holder s → AreDistinct s
+distinct_added : (s : State) (d : Driver) → HasNot d.number s → HasNoKey d.key s → IsHolderFree d.holder s → AreDistinct s
     → AreDistinct (s ++ d ∷ [])
 distinct_added [] d n k o h = (tt, tt, tt, tt)
 distinct_added (x ∷ s) d n k o h = (
@@ -75,8 +75,8 @@ distinct_added (x ∷ s) d n k o h = (
 )
 
 -- the tables represent the other drivers, whose rows are as they were, and the new one
-each_added : (t : Tables) (row : DriverRow) (s : State) (d : Driver) → RowsStandForEach t s → RowsStandFor (with_driver row t) d
-    → RowsStandForEach (with_driver row t) (s ++ d ∷ [])
+each_added : (t : Tables) (row : DriverRow) (s : State) (d : Driver) → RowsRepresentEach t s → RowsRepresent (with_driver row t) d
+    → RowsRepresentEach (with_driver row t) (s ++ d ∷ [])
 each_added t row [] d h own = (own, tt)
 each_added t row (x ∷ s) d h own = (record { downloads = h.0.downloads; read = h.0.read; entries = h.0.entries; full = h.0.full; card_spans = h.0.card_spans; held = h.0.held }, each_added t row s d h.1 own)
 
@@ -87,11 +87,11 @@ nothing_kept = record { disjoint = tt; same = λ m k. (λ g. g, λ g. g) }
 -- a driver without downloads and entries needs no rows
 new_is : (t : Tables) (s : State) (d : Driver) (downloads : List Download) (entries : List Entry) → downloads ≡ [] → entries ≡ []
     → AreKnown t s → HasNot d.number s
-    → RowsStandFor (with_driver (driver_columns d) t) (record d { downloads = downloads; entries = entries })
+    → RowsRepresent (with_driver (driver_columns d) t) (record d { downloads = downloads; entries = entries })
 new_is t s d downloads entries none empty known free =
-    subst (λ (ds : List Download). RowsStandFor (with_driver (driver_columns d) t) (record d { downloads = ds; entries = entries }))
+    subst (λ (ds : List Download). RowsRepresent (with_driver (driver_columns d) t) (record d { downloads = ds; entries = entries }))
     (sym none)
-    (subst (λ (es : List Entry). RowsStandFor (with_driver (driver_columns d) t) (record d { downloads = []; entries = es })) (sym empty)
+    (subst (λ (es : List Entry). RowsRepresent (with_driver (driver_columns d) t) (record d { downloads = []; entries = es })) (sym empty)
     (record {
       downloads = known.downloads d.number free;
       read = tt;
@@ -102,9 +102,9 @@ new_is t s d downloads entries none empty known free =
     }))
 
 -- the tables with a new driver's row represent the state with that driver
-pub registered_is : (t : Tables) (s : State) (d : Driver) → TablesStandFor t s → driver_of d.number s ≡ None → keyed d.key s ≡ None
+pub registered_is : (t : Tables) (s : State) (d : Driver) → TablesRepresent t s → driver_of d.number s ≡ None → driver_with_key d.key s ≡ None
     → holding d.holder s ≡ None
-    → d.downloads ≡ [] → d.entries ≡ [] → TablesStandFor (with_driver (driver_columns d) t) (s ++ d ∷ [])
+    → d.downloads ≡ [] → d.entries ≡ [] → TablesRepresent (with_driver (driver_columns d) t) (s ++ d ∷ [])
 registered_is t s d h n k o none empty =
     let free = number_not d.number s n in
     record {
@@ -135,8 +135,8 @@ based_same : (t : Tables) (n base j : ℕ) → SameOfDriver j t (with_rebased n 
 based_same t n base j = record { downloads = refl; entries = refl; card_spans = refl; held = refl }
 
 -- the tables with another base in the driver's row represent the state with that base
-pub rebased_is : (t : Tables) (s : State) (n base : ℕ) (d : Driver) → TablesStandFor t s → driver_of n s ≡ Some d
-    → TablesStandFor (with_rebased n base t) (put (with_base base d) s)
+pub rebased_is : (t : Tables) (s : State) (n base : ℕ) (d : Driver) → TablesRepresent t s → driver_of n s ≡ Some d
+    → TablesRepresent (with_rebased n base t) (put (with_base base d) s)
 rebased_is t s n base d h k =
     let same = found_number n s d k in
     let own = found_of t n s d k h.each in

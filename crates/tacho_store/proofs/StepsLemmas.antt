@@ -16,7 +16,7 @@ use Rattle.tacho_state.specs.Steps.{Turn}
 use Rattle.tacho_tables.specs.Calls.{Stays}
 use Rattle.tacho_tables.proofs.Inside.{keeps_then}
 use Rattle.tacho_reading.specs.Calls.{Goes, Steps, StepsGiven}
-use Rattle.tacho_reading.specs.Standing.{StandsFor, KeepsRowsOf, Follows}
+use Rattle.tacho_reading.specs.Standing.{Represents, KeepsRowsOf, Follows}
 use Rattle.tacho_reading.proofs.SeenLemmas.{still_archive, still_seen}
 use Rattle.tacho_store.proofs.OthersLemmas.{kept_rows, unchanged_follows}
 
@@ -25,7 +25,7 @@ abbrev pub FollowsIn : Sqlite → Sqlite → State → State → Type 0
 FollowsIn old new s after = IsArchive new.now × Follows old.now.trees new.now.trees s after
 
 -- an archive that hasn't changed follows itself
-pub still_follows : (old new : Sqlite) (s : State) → IsUnchanged old new → IsArchive old.now → StandsFor old.now.trees s
+pub still_follows : (old new : Sqlite) (s : State) → IsUnchanged old new → IsArchive old.now → Represents old.now.trees s
     → FollowsIn old new s s
 still_follows old new s same schema stands = (
   (still_seen old new s same schema stands).0,
@@ -66,9 +66,9 @@ module _ {S : Type 0} {g : Ghosts S} {old new : MutBor (Held S)} {A B : Type 0} 
   -- a step whose tables follow those before it
   pub steps_by : {step : State → Turn B} → Goes g old new result
       → (HasCleanDisk (state g new.now) → IsArchive (state g old.now).now
-      → (s : State) → StandsFor (state g old.now).now.trees s → Answers view result (step s).answer)
+      → (s : State) → Represents (state g old.now).now.trees s → Answers view result (step s).answer)
       → (HasCleanDisk (state g new.now) → IsArchive (state g old.now).now
-      → (s : State) → StandsFor (state g old.now).now.trees s
+      → (s : State) → Represents (state g old.now).now.trees s
       → OnOk result (FollowsIn (state g old.now) (state g new.now) s (step s).after))
       → Steps g old new result view step
   steps_by goes answer follows = record {
@@ -83,10 +83,10 @@ module _ {S : Type 0} {g : Ghosts S} {old new : MutBor (Held S)} {A B : Type 0} 
       → (HasCleanDisk (state g new.now) → IsArchive (state g old.now).now → KeepsCommit (state g old.now) (state g new.now))
       → IsOfNoFile result
       → (HasCleanDisk (state g new.now) → IsArchive (state g old.now).now
-      → (s : State) → StandsFor (state g old.now).now.trees s
+      → (s : State) → Represents (state g old.now).now.trees s
       → (p : P) → given p (state g old.now).now.trees s → Answers view result (step p s).answer)
       → (HasCleanDisk (state g new.now) → IsArchive (state g old.now).now
-      → (s : State) → StandsFor (state g old.now).now.trees s → (p : P) → given p (state g old.now).now.trees s
+      → (s : State) → Represents (state g old.now).now.trees s → (p : P) → given p (state g old.now).now.trees s
       → OnOk result (FollowsIn (state g old.now) (state g new.now) s (step p s).after))
       → StepsGiven g old new result given view step
   given_by stays keeps of_no_file answer follows = record {
@@ -110,7 +110,7 @@ module _ {S : Type 0} {g : Ghosts S} {A B P : Type 0} {result : Result A StoreFa
     {view : A → B} {step : P → State → Turn B} where
   module _ (old : MutBor (Held S)) {mid new : MutBor (Held S)} (h : StepsGiven g mid new result given view step)
       (same : IsUnchanged (state g old.now) (state g mid.now)) (clean : HasCleanDisk (state g new.now))
-      (schema : IsArchive (state g old.now).now) (s : State) (stands : StandsFor (state g old.now).now.trees s)
+      (schema : IsArchive (state g old.now).now) (s : State) (stands : Represents (state g old.now).now.trees s)
       {turn : Turn B} (found : IsFound given step (state g mid.now).now.trees s turn) where
     -- the answer is the one that was decided
     answer_then : Answers view result turn.answer
@@ -119,11 +119,11 @@ module _ {S : Type 0} {g : Ghosts S} {A B P : Type 0} {result : Result A StoreFa
         subst (λ (x : Turn B). Answers view result x.answer) (sym found.2) (h.answer clean seen.0 s seen.1 found.0 found.1)
 
     -- the tables represent the state after the step
-    made_then : OnOk result (IsArchive (state g new.now).now × StandsFor (state g new.now).now.trees turn.after)
+    made_then : OnOk result (IsArchive (state g new.now).now × Represents (state g new.now).now.trees turn.after)
     made_then =
         let seen = still_seen _ _ s same schema stands in
         subst (λ (x : Turn B). OnOk result
-        (IsArchive (state g new.now).now × StandsFor (state g new.now).now.trees x.after)) (sym found.2)
+        (IsArchive (state g new.now).now × Represents (state g new.now).now.trees x.after)) (sym found.2)
         (h.made clean seen.0 s seen.1 found.0 found.1)
 
     -- if the step changes nothing of a driver, that driver's rows are kept
@@ -140,7 +140,7 @@ module _ {S : Type 0} {g : Ghosts S} {A B P : Type 0} {result : Result A StoreFa
     -- a step of a state
     pub steps_then : {turn : State → Turn B} → Goes g old new result
         → (HasCleanDisk (state g new.now) → IsArchive (state g old.now).now → (s : State)
-        → StandsFor (state g old.now).now.trees s → IsFound given step (state g mid.now).now.trees s (turn s))
+        → Represents (state g old.now).now.trees s → IsFound given step (state g mid.now).now.trees s (turn s))
         → Steps g old new result view turn
     steps_then goes found = record {
       goes = goes;
@@ -154,7 +154,7 @@ module _ {S : Type 0} {g : Ghosts S} {A B P : Type 0} {result : Result A StoreFa
         → (HasCleanDisk (state g new.now) → IsArchive (state g old.now).now → KeepsCommit (state g old.now) (state g new.now))
         → IsOfNoFile result
         → (HasCleanDisk (state g new.now) → IsArchive (state g old.now).now → (s : State)
-        → StandsFor (state g old.now).now.trees s → (q : Q) → asked q (state g old.now).now.trees s
+        → Represents (state g old.now).now.trees s → (q : Q) → asked q (state g old.now).now.trees s
         → IsFound given step (state g mid.now).now.trees s (turn q s))
         → StepsGiven g old new result asked view turn
     given_then stays keeps of_no_file found = record {
@@ -172,7 +172,7 @@ module _ {S : Type 0} {g : Ghosts S} {A B P : Type 0} {result : Result A StoreFa
 -- ---- a step that is undone
 
 -- tables that are seen again after an undo have the same rows
-pub undone_keeps : {S : Type 0} (g : Ghosts S) (old new : Held S) (s : State) (n : ℕ) → StandsFor (state g old).now.trees s
+pub undone_keeps : {S : Type 0} (g : Ghosts S) (old new : Held S) (s : State) (n : ℕ) → Represents (state g old).now.trees s
     → (state g new).now ≡ (state g old).now → KeepsRowsOf n (state g old).now.trees (state g new).now.trees
 undone_keeps g old new s n stands same =
     subst (λ (d : Database). KeepsRowsOf n (state g old).now.trees d.trees) (sym same) (kept_rows n (state g old).now.trees s stands)

@@ -12,14 +12,14 @@ use Rattle.tacho_state.specs.declared.fault.StoreFault.{StoreFault}
 use Rattle.tacho_state.specs.declared.fault.StoreFault.TheVariants.{UnknownDriver, UnknownEntry, AlreadyWithdrawn}
 use Rattle.tacho_state.specs.Disjoint.{outside}
 use Rattle.tacho_state.specs.State.{Driver, Entry, State, driver_of, entry_from, put, with_marked}
-use Rattle.tacho_state.specs.Steps.{withdrawn}
+use Rattle.tacho_state.specs.Steps.{withdraw_step}
 use Rattle.tacho_tables.specs.declared.rows.StoredEntry.{StoredEntry}
 use Rattle.tacho_tables.specs.declared.rows.StoredSpan.{StoredSpan}
 use Rattle.tacho_tables.specs.Rows.{EntryRow, SpanRow}
-use Rattle.tacho_tables.specs.Tables.{Tables, HasTables, Turns, is_entry, is_near, ListedEntry, listed_entry, told_entry, row_of, with_withdrawn}
-use Rattle.tacho_reading.specs.Standing.{StandsFor, Follows, TablesStandFor, span_row, stored_span, entry_row, IsReadNear, IsKeptNear}
-use Rattle.tacho_reading.specs.Finding.{Refuses}
-use Rattle.tacho_reading.specs.Apart.{AreApart, rows_of}
+use Rattle.tacho_tables.specs.Tables.{Tables, HasTables, Turns, is_entry, is_row_near, ListedEntry, listed_entry, told_entry, row_of, with_withdrawn}
+use Rattle.tacho_reading.specs.Standing.{Represents, Follows, TablesRepresent, span_row, stored_span, entry_row, IsReadNear, IsKeptNear}
+use Rattle.tacho_reading.specs.Finding.{IsFindingFault}
+use Rattle.tacho_reading.specs.Apart.{AreRowsApart, driver_rows}
 use Rattle.tacho_reading.proofs.ApartLemmas.{card_apart, held_apart}
 use Rattle.tacho_reading.proofs.EntryLemmas.{entry_none, entry_some}
 use Rattle.tacho_reading.proofs.StateLemmas.{found_number}
@@ -32,39 +32,39 @@ use Rattle.tacho_store.proofs.OthersLemmas.{is_another, mark_changes}
 -- ---- what the step answers
 
 -- an unknown driver: S4
-pub no_driver : (n number : ℕ) (s : State) → driver_of n s ≡ None → (withdrawn n number s).answer ≡ Err UnknownDriver
+pub no_driver : (n number : ℕ) (s : State) → driver_of n s ≡ None → (withdraw_step n number s).answer ≡ Err UnknownDriver
 no_driver n number s none = rw none refl
 
 module _ (n number : ℕ) (s : State) (d : Driver) (is : driver_of n s ≡ Some d) where
   -- an unknown entry: S7
-  pub no_entry : entry_from 1 number d.entries ≡ None → (withdrawn n number s).answer ≡ Err UnknownEntry
+  pub no_entry : entry_from 1 number d.entries ≡ None → (withdraw_step n number s).answer ≡ Err UnknownEntry
   no_entry none = rw (is, none) refl
 
   -- an entry that is withdrawn already: S8
   pub no_more : (e : Entry) → entry_from 1 number d.entries ≡ Some e → e.withdrawn ≡ true
-      → (withdrawn n number s).answer ≡ Err AlreadyWithdrawn
+      → (withdraw_step n number s).answer ≡ Err AlreadyWithdrawn
   no_more e some gone = rw (is, some, gone) refl
 
   -- the entry is withdrawn
   pub is_marked : (e : Entry) → entry_from 1 number d.entries ≡ Some e → e.withdrawn ≡ false
-      → (withdrawn n number s).answer ≡ Ok tt
+      → (withdraw_step n number s).answer ≡ Ok tt
   is_marked e some kept = rw (is, some, kept) refl
 
   -- the state after it has the entry withdrawn
   pub marked_after : (e : Entry) → entry_from 1 number d.entries ≡ Some e → e.withdrawn ≡ false
-      → (withdrawn n number s).after ≡ put (with_marked number d) s
+      → (withdraw_step n number s).after ≡ put (with_marked number d) s
   marked_after e some kept = rw (is, some, kept) refl
 
 -- ---- the entry
 
 -- a look-up by number finds the entry
 pub entry_found : (db : Trees) (s : State) (n number : ℕ) (d : Driver) (found : Option StoredEntry)
-    → StandsFor db s → driver_of n s ≡ Some d
+    → Represents db s → driver_of n s ≡ Some d
     → ((a : Tables) → HasTables db a → MatchOption found (filter (is_entry n number) a.entries ≡ [])
     (λ it. (r : EntryRow) × Contains (filter (is_entry n number) a.entries) r × (told_entry it ≡ listed_entry r)))
     → MatchOption found (entry_from 1 number d.entries ≡ None)
     (λ it. (e : Entry) × (entry_from 1 number d.entries ≡ Some e) × (told_entry it ≡ listed_entry (entry_row n number e)))
-unfolding StandsFor
+unfolding Represents
 entry_found db s n number d None (t, stand, of) is h = (entry_none t s n number d of is).0 (h t stand)
 entry_found db s n number d (Some it) (t, stand, of) is h =
     let found = h t stand in
@@ -128,20 +128,20 @@ entry_kept n number s d it is kept (e, some, row) = (
 
 -- a fault that is passed on refuses the withdrawal
 pub handed_entry : (n number : ℕ) (s : State) (fault : StoreFault) (r : Result StoredEntry StoreFault)
-    → Refuses fault (withdrawn n number s).answer → IsErr r × IsErrAnd r (λ found. found ≡ fault) → IsEntry s n number r
+    → IsFindingFault fault (withdraw_step n number s).answer → IsErr r × IsErrAnd r (λ found. found ≡ fault) → IsEntry s n number r
 unfolding IsEntry
 handed_entry n number s fault (Ok x) h e = let wrong = e.0 in cc
-handed_entry n number s fault (Err found) h e = subst (λ f. Refuses f (withdrawn n number s).answer) (sym e.1) h
+handed_entry n number s fault (Err found) h e = subst (λ f. IsFindingFault f (withdraw_step n number s).answer) (sym e.1) h
 
 -- the withdrawal is refused as the look-up was
 pub not_entry : (n number : ℕ) (s : State) (fault : StoreFault) → IsEntry s n number (Err fault)
-    → Refuses fault (withdrawn n number s).answer
+    → IsFindingFault fault (withdraw_step n number s).answer
 unfolding IsEntry
 not_entry n number s fault h = h
 
 -- an entry that isn't withdrawn is withdrawn by the step
 pub entry_marked : (n number : ℕ) (s : State) (it : StoredEntry) → IsEntry s n number (Ok it)
-    → (withdrawn n number s).answer ≡ Ok tt
+    → (withdraw_step n number s).answer ≡ Ok tt
 unfolding IsEntry
 entry_marked n number s it (d, e, there) = is_marked n number s d there.driver e there.entry there.kept
 
@@ -165,11 +165,11 @@ rows_are cards others helds start past first end parts inside whole rows is_firs
 pub are_renewed : (old marked now next : Sqlite) (n number start past : ℕ) (cards others helds rows : List StoredSpan)
     → Turns old marked (λ t. record t { entries = map (with_withdrawn n number) t.entries })
     → IsUnchanged marked now → IsUnchanged now next
-    → ((t : Tables) → HasTables marked.now.trees t → AreApart (rows_of n t.card_spans) → IsReadNear t.card_spans n start past cards)
+    → ((t : Tables) → HasTables marked.now.trees t → AreRowsApart (driver_rows n t.card_spans) → IsReadNear t.card_spans n start past cards)
     → ((t : Tables) → HasTables now.now.trees t → IsKeptNear t.entries n start past others)
-    → ((t : Tables) → HasTables next.now.trees t → AreApart (rows_of n t.held) → IsReadNear t.held n start past helds)
+    → ((t : Tables) → HasTables next.now.trees t → AreRowsApart (driver_rows n t.held) → IsReadNear t.held n start past helds)
     → AreRowsFor cards others helds start past rows
-    → (a : Tables) → HasTables old.now.trees a → AreApart (rows_of n a.card_spans) → AreApart (rows_of n a.held) → AreRenewed a n number start past rows
+    → (a : Tables) → HasTables old.now.trees a → AreRowsApart (driver_rows n a.card_spans) → AreRowsApart (driver_rows n a.held) → AreRenewed a n number start past rows
 are_renewed old marked now next n number start past cards others helds rows turned same same_2 c o h are a stand card_apart held_apart =
     let t : Tables = record a { entries = map (with_withdrawn n number) a.entries } in
     let at_marked = turned.stands a stand in
@@ -189,13 +189,13 @@ are_renewed old marked now next n number start past cards others helds rows turn
 
 -- the tables after the withdrawal represent the state after it
 renewed_is : (t : Tables) (s : State) (n number : ℕ) (it : StoredEntry) (rows : List StoredSpan) (d : Driver) (e : Entry)
-    → TablesStandFor t s → IsThere s n number it d e → (found : AreRenewed t n number it.start it.past rows)
-    → TablesStandFor (with_renewed n number it.start it.past
+    → TablesRepresent t s → IsThere s n number it d e → (found : AreRenewed t n number it.start it.past rows)
+    → TablesRepresent (with_renewed n number it.start it.past
     (outside it.start it.past (map stored_span found.helds) ++ found.are_rows.inside) t)
     (put (with_marked number d) s)
 renewed_is t s n number it rows d e of there = subst
     (λ (x : ListedEntry). (found : AreRenewed t n number x.start x.past rows)
-    → TablesStandFor (with_renewed n number x.start x.past
+    → TablesRepresent (with_renewed n number x.start x.past
     (outside x.start x.past (map stored_span found.helds) ++ found.are_rows.inside) t)
     (put (with_marked number d) s))
     (sym there.row)
@@ -204,13 +204,13 @@ renewed_is t s n number it rows d e of there = subst
 
 -- the tables after a withdrawal's writes represent the state after it
 pub withdrawal_follows : {E : Type 0} (db marked next : Trees) (s : State) (n number : ℕ) (it : StoredEntry)
-    (rows : List StoredSpan) (r : Result (Unit {0}) E) → IsEntry s n number (Ok it) → StandsFor db s
-    → ((a : Tables) → HasTables db a → AreApart (rows_of n a.card_spans) → AreApart (rows_of n a.held) → AreRenewed a n number it.start it.past rows)
+    (rows : List StoredSpan) (r : Result (Unit {0}) E) → IsEntry s n number (Ok it) → Represents db s
+    → ((a : Tables) → HasTables db a → AreRowsApart (driver_rows n a.card_spans) → AreRowsApart (driver_rows n a.held) → AreRenewed a n number it.start it.past rows)
     → ((a : Tables) → HasTables db a → Unit {0} → HasTables marked (record a { entries = map (with_withdrawn n number) a.entries }))
-    → ((a : Tables) → HasTables marked a → AreApart (rows_of n a.held)
-    → OnOk r (HasTables next (record a { held = map (row_of n) rows ++ filter (λ r. not (is_near n it.start it.past r)) a.held })))
-    → OnOk r (Follows db next s (withdrawn n number s).after)
-unfolding StandsFor IsEntry
+    → ((a : Tables) → HasTables marked a → AreRowsApart (driver_rows n a.held)
+    → OnOk r (HasTables next (record a { held = map (row_of n) rows ++ filter (λ r. not (is_row_near n it.start it.past r)) a.held })))
+    → OnOk r (Follows db next s (withdraw_step n number s).after)
+unfolding Represents IsEntry
 withdrawal_follows db marked next s n number it rows r (d, e, there) (t, stand, of) renew mark rewrite =
     let cards = card_apart t s n d of there.driver in
     let helds = held_apart t s n d of there.driver in

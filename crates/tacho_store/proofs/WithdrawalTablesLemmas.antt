@@ -19,8 +19,8 @@ use Rattle.tacho_state.proofs.OrderLemmas.{kept_again}
 use Rattle.tacho_state.proofs.WithdrawLemmas.{withdrawn_held}
 use Rattle.tacho_tables.specs.declared.rows.StoredSpan.{StoredSpan}
 use Rattle.tacho_tables.specs.Rows.{DriverRow, EntryRow, SpanRow}
-use Rattle.tacho_tables.specs.Tables.{Tables, is_near, is_kept_near, span_of, entry_span_of, with_withdrawn}
-use Rattle.tacho_reading.specs.Standing.{IsMark, activity_number, numbered_mark, driver_columns, entry_row, entry_rows, entries_of, row_span, span_row, spans_of, stored_span, IsReadNear, IsKeptNear, RowsStandFor, TablesStandFor}
+use Rattle.tacho_tables.specs.Tables.{Tables, is_row_near, is_kept_near, span_of, entry_span_of, with_withdrawn}
+use Rattle.tacho_reading.specs.Standing.{IsMark, activity_number, numbered_mark, driver_columns, entry_row, rows_of_entries, driver_entry_rows, row_span, span_row, spans_of, stored_span, IsReadNear, IsKeptNear, RowsRepresent, TablesRepresent}
 use Rattle.tacho_reading.proofs.RowLemmas.{eq_self, eq_not, eq_true, added_own, added_other, added_marks, near_spans}
 use Rattle.tacho_reading.proofs.NearRowLemmas.{permuted_gives}
 use Rattle.tacho_reading.proofs.StateLemmas.{SameOfDriver, found_number, found_of, put_is, rows_put}
@@ -30,7 +30,7 @@ use Rattle.tacho_store.specs.After.{with_renewed}
 
 -- the rows that a withdrawal keeps
 abbrev far_rows : ℕ → ℕ → ℕ → List SpanRow → List SpanRow
-far_rows n a b rows = filter (λ r. not (is_near n a b r)) rows
+far_rows n a b rows = filter (λ r. not (is_row_near n a b r)) rows
 
 -- one more row of the driver adds its span
 row_own : (n : ℕ) (r : SpanRow) (rows : List SpanRow) → (r.driver == n) ≡ true → spans_of n (r ∷ rows) ≡ row_span r ∷ spans_of n rows
@@ -107,67 +107,67 @@ marked_not n number r e = ap (λ b. cond (b && (r.number == number)) (record r {
 
 -- the driver's rows, one of them marked
 marked_own : (n number : ℕ) (rows : List EntryRow)
-    → entries_of n (map (with_withdrawn n number) rows) ≡ map (with_withdrawn n number) (entries_of n rows)
+    → driver_entry_rows n (map (with_withdrawn n number) rows) ≡ map (with_withdrawn n number) (driver_entry_rows n rows)
 marked_own n number [] = refl
 marked_own n number (r ∷ rows) =
     let now = with_withdrawn n number r in
-    let more = entries_of n (map (with_withdrawn n number) rows) in
+    let more = driver_entry_rows n (map (with_withdrawn n number) rows) in
     ap (λ (k : ℕ). cond (k == n) (now ∷ more) more) (marked_driver n number r)
     ∙ go (r.driver == n) (marked_own n number rows) where
-      go : (o : Bool) → entries_of n (map (with_withdrawn n number) rows) ≡ map (with_withdrawn n number) (entries_of n rows)
-          → cond o (with_withdrawn n number r ∷ entries_of n (map (with_withdrawn n number) rows))
-          (entries_of n (map (with_withdrawn n number) rows))
-          ≡ map (with_withdrawn n number) (cond o (r ∷ entries_of n rows) (entries_of n rows))
+      go : (o : Bool) → driver_entry_rows n (map (with_withdrawn n number) rows) ≡ map (with_withdrawn n number) (driver_entry_rows n rows)
+          → cond o (with_withdrawn n number r ∷ driver_entry_rows n (map (with_withdrawn n number) rows))
+          (driver_entry_rows n (map (with_withdrawn n number) rows))
+          ≡ map (with_withdrawn n number) (cond o (r ∷ driver_entry_rows n rows) (driver_entry_rows n rows))
       go true more = ap (λ (x : List EntryRow). with_withdrawn n number r ∷ x) more
       go false more = more
 
 -- the rows of another driver aren't marked
 marked_other : (j n number : ℕ) (rows : List EntryRow) → j ≢ n
-    → entries_of j (map (with_withdrawn n number) rows) ≡ entries_of j rows
+    → driver_entry_rows j (map (with_withdrawn n number) rows) ≡ driver_entry_rows j rows
 marked_other j n number [] d = refl
 marked_other j n number (r ∷ rows) d =
     let now = with_withdrawn n number r in
-    let more = entries_of j (map (with_withdrawn n number) rows) in
+    let more = driver_entry_rows j (map (with_withdrawn n number) rows) in
     ap (λ (k : ℕ). cond (k == j) (now ∷ more) more) (marked_driver n number r)
     ∙ go (r.driver == j) refl (marked_other j n number rows d) where
-      go : (o : Bool) → (r.driver == j) ≡ o → entries_of j (map (with_withdrawn n number) rows) ≡ entries_of j rows
-          → cond o (with_withdrawn n number r ∷ entries_of j (map (with_withdrawn n number) rows))
-          (entries_of j (map (with_withdrawn n number) rows)) ≡ cond o (r ∷ entries_of j rows) (entries_of j rows)
+      go : (o : Bool) → (r.driver == j) ≡ o → driver_entry_rows j (map (with_withdrawn n number) rows) ≡ driver_entry_rows j rows
+          → cond o (with_withdrawn n number r ∷ driver_entry_rows j (map (with_withdrawn n number) rows))
+          (driver_entry_rows j (map (with_withdrawn n number) rows)) ≡ cond o (r ∷ driver_entry_rows j rows) (driver_entry_rows j rows)
       go true o more =
-          ap (λ (x : EntryRow). x ∷ entries_of j (map (with_withdrawn n number) rows))
+          ap (λ (x : EntryRow). x ∷ driver_entry_rows j (map (with_withdrawn n number) rows))
           (marked_not n number r (eq_not r.driver n (λ f. d (sym (eq_true r.driver j o) ∙ f))))
           ∙ ap (λ (x : List EntryRow). r ∷ x) more
       go false o more = more
 
 -- rows with later numbers stay as they are
 later_marked : (n i number : ℕ) (es : List Entry) → number < i
-    → map (with_withdrawn n number) (entry_rows n i es) ≡ entry_rows n i es
+    → map (with_withdrawn n number) (rows_of_entries n i es) ≡ rows_of_entries n i es
 later_marked n i number [] l = refl
 later_marked n i number (e ∷ es) l =
     let other : (i == number) ≡ false = eq_not i number (λ f. absurd (omega (arith, f, l))) in
     let row = entry_row n i e in
-    let more = map (with_withdrawn n number) (entry_rows n (i + 1) es) in
+    let more = map (with_withdrawn n number) (rows_of_entries n (i + 1) es) in
     ap (λ b. cond (b && (i == number)) (record row { withdrawn = 1 }) row ∷ more) (eq_self n)
     ∙ ap (λ b. cond b (record row { withdrawn = 1 }) row ∷ more) other
     ∙ ap (λ (x : List EntryRow). row ∷ x) (later_marked n (i + 1) number es (omega (arith, l)))
 
 -- the rows of entries, one of them marked, are the rows of the entries with that one withdrawn
 marked_rows : (n i number : ℕ) (es : List Entry)
-    → map (with_withdrawn n number) (entry_rows n i es) ≡ entry_rows n i (marked_from i number es)
+    → map (with_withdrawn n number) (rows_of_entries n i es) ≡ rows_of_entries n i (marked_from i number es)
 marked_rows n i number [] = refl
 marked_rows n i number (e ∷ es) =
     let row = entry_row n i e in
-    let more = map (with_withdrawn n number) (entry_rows n (i + 1) es) in
+    let more = map (with_withdrawn n number) (rows_of_entries n (i + 1) es) in
     ap (λ b. cond (b && (i == number)) (record row { withdrawn = 1 }) row ∷ more) (eq_self n)
     ∙ go (i == number) refl (marked_rows n (i + 1) number es) where
       here : (i == number) ≡ true → number < i + 1
       here o = let f = eq_true i number o in omega (arith, f)
 
       go : (o : Bool) → (i == number) ≡ o
-          → map (with_withdrawn n number) (entry_rows n (i + 1) es) ≡ entry_rows n (i + 1) (marked_from (i + 1) number es)
+          → map (with_withdrawn n number) (rows_of_entries n (i + 1) es) ≡ rows_of_entries n (i + 1) (marked_from (i + 1) number es)
           → cond o (record (entry_row n i e) { withdrawn = 1 }) (entry_row n i e)
-          ∷ map (with_withdrawn n number) (entry_rows n (i + 1) es)
-          ≡ entry_rows n i (cond o (record e { withdrawn = true } ∷ es) (e ∷ marked_from (i + 1) number es))
+          ∷ map (with_withdrawn n number) (rows_of_entries n (i + 1) es)
+          ≡ rows_of_entries n i (cond o (record e { withdrawn = true } ∷ es) (e ∷ marked_from (i + 1) number es))
       go true o more =
           ap (λ (x : List EntryRow). record (entry_row n i e) { withdrawn = 1 } ∷ x) (later_marked n (i + 1) number es (here o))
       go false o more = ap (λ (x : List EntryRow). entry_row n i e ∷ x) more
@@ -179,12 +179,12 @@ abbrev is_kept : ℕ → ℕ → EntryRow → Bool
 is_kept a b r = (r.withdrawn == 0) && (nat_lt r.start b && nat_lt a r.past)
 
 -- a driver's rows near a range are found among the driver's own
-kept_own : (n a b : ℕ) (rows : List EntryRow) → filter (is_kept_near n a b) rows ≡ filter (is_kept a b) (entries_of n rows)
+kept_own : (n a b : ℕ) (rows : List EntryRow) → filter (is_kept_near n a b) rows ≡ filter (is_kept a b) (driver_entry_rows n rows)
 kept_own n a b [] = refl
 kept_own n a b (r ∷ rows) = go (r.driver == n) (kept_own n a b rows) where
-  go : (o : Bool) → filter (is_kept_near n a b) rows ≡ filter (is_kept a b) (entries_of n rows)
+  go : (o : Bool) → filter (is_kept_near n a b) rows ≡ filter (is_kept a b) (driver_entry_rows n rows)
       → cond (o && is_kept a b r) (r ∷ filter (is_kept_near n a b) rows) (filter (is_kept_near n a b) rows) ≡ filter
-      (is_kept a b) (cond o (r ∷ entries_of n rows) (entries_of n rows))
+      (is_kept a b) (cond o (r ∷ driver_entry_rows n rows) (driver_entry_rows n rows))
   go true e = ap (λ (x : List EntryRow). cond (is_kept a b r) (r ∷ x) x) e
   go false e = e
 
@@ -201,24 +201,24 @@ entry_back n i e = ap (λ (k : Mark). record { start = e.start; past = e.past; m
 
 -- the rows near a range give the spans of the entries near it
 rows_near : (n i a b : ℕ) (es : List Entry)
-    → map stored_span (map entry_span_of (filter (is_kept a b) (entry_rows n i es))) ≡ near a b (entered_spans es)
+    → map stored_span (map entry_span_of (filter (is_kept a b) (rows_of_entries n i es))) ≡ near a b (entered_spans es)
 rows_near n i a b [] = refl
 rows_near n i a b (e ∷ es) = go e.withdrawn (rows_near n (i + 1) a b es) where
   own : (v : Bool)
-      → map stored_span (map entry_span_of (filter (is_kept a b) (entry_rows n (i + 1) es))) ≡ near a b (entered_spans es)
-      → map stored_span (map entry_span_of (cond v (entry_row n i e ∷ filter (is_kept a b) (entry_rows n (i + 1) es))
-      (filter (is_kept a b) (entry_rows n (i + 1) es))))
+      → map stored_span (map entry_span_of (filter (is_kept a b) (rows_of_entries n (i + 1) es))) ≡ near a b (entered_spans es)
+      → map stored_span (map entry_span_of (cond v (entry_row n i e ∷ filter (is_kept a b) (rows_of_entries n (i + 1) es))
+      (filter (is_kept a b) (rows_of_entries n (i + 1) es))))
       ≡ cond v (entry_span e ∷ near a b (entered_spans es)) (near a b (entered_spans es))
   own true more =
-      ap (λ (x : Span). x ∷ map stored_span (map entry_span_of (filter (is_kept a b) (entry_rows n (i + 1) es))))
+      ap (λ (x : Span). x ∷ map stored_span (map entry_span_of (filter (is_kept a b) (rows_of_entries n (i + 1) es))))
       (entry_back n i e)
       ∙ ap (λ (x : List Span). entry_span e ∷ x) more
   own false more = more
 
   go : (w : Bool)
-      → map stored_span (map entry_span_of (filter (is_kept a b) (entry_rows n (i + 1) es))) ≡ near a b (entered_spans es)
+      → map stored_span (map entry_span_of (filter (is_kept a b) (rows_of_entries n (i + 1) es))) ≡ near a b (entered_spans es)
       → map stored_span (map entry_span_of (cond ((cond w 1 0 == 0) && disjoint.is_near a b (entry_span e))
-      (entry_row n i e ∷ filter (is_kept a b) (entry_rows n (i + 1) es)) (filter (is_kept a b) (entry_rows n (i + 1) es))))
+      (entry_row n i e ∷ filter (is_kept a b) (rows_of_entries n (i + 1) es)) (filter (is_kept a b) (rows_of_entries n (i + 1) es))))
       ≡ near a b (cond w (entered_spans es) (entry_span e ∷ entered_spans es))
   go true more = more
   go false more = own (disjoint.is_near a b (entry_span e)) more
@@ -227,10 +227,10 @@ rows_near n i a b (e ∷ es) = go e.withdrawn (rows_near n (i + 1) a b es) where
 near_read : (rows : List SpanRow) (n a b : ℕ) (found : List StoredSpan) → IsReadNear rows n a b found
     → IsPermutation (near a b (spans_of n rows)) (map stored_span found)
 near_read rows n a b found p = subst (λ (x : List Span). IsPermutation x (map stored_span found)) (near_spans n a b rows)
-    (IsPermutation-map stored_span (map span_of (filter (is_near n a b) rows)) found p)
+    (IsPermutation-map stored_span (map span_of (filter (is_row_near n a b) rows)) found p)
 
 -- likewise for the driver's entries
-near_kept : (rows : List EntryRow) (n a b : ℕ) (es : List Entry) (found : List StoredSpan) → entries_of n rows ≡ entry_rows n 1 es
+near_kept : (rows : List EntryRow) (n a b : ℕ) (es : List Entry) (found : List StoredSpan) → driver_entry_rows n rows ≡ rows_of_entries n 1 es
     → IsKeptNear rows n a b found
     → IsPermutation (near a b (entered_spans es)) (map stored_span found)
 near_kept rows n a b es found e p = subst (λ (x : List Span). IsPermutation x (map stored_span found))
@@ -301,8 +301,8 @@ pub record IsRenewed (t : Tables) (n number : ℕ) (e : Entry) (cards others hel
 
 -- the tables represent the driver with the entry withdrawn
 withdrawn_own : (t : Tables) (d : Driver) (number : ℕ) (e : Entry) (cards others helds : List StoredSpan) (inside : List Span)
-    → RowsStandFor t d → entry_from 1 number d.entries ≡ Some e → IsRenewed t d.number number e cards others helds inside
-    → RowsStandFor (with_renewed d.number number e.start e.past (outside e.start e.past (map stored_span helds) ++ inside) t)
+    → RowsRepresent t d → entry_from 1 number d.entries ≡ Some e → IsRenewed t d.number number e cards others helds inside
+    → RowsRepresent (with_renewed d.number number e.start e.past (outside e.start e.past (map stored_span helds) ++ inside) t)
     (with_marked number d)
 withdrawn_own t d number e cards others helds inside h f r = record {
   downloads = h.downloads;
@@ -318,8 +318,8 @@ withdrawn_own t d number e cards others helds inside h f r = record {
       (withdrawn_held d number e (spans_of d.number t.card_spans) (spans_of d.number t.held) inside h.card_spans h.held f full
       line));
 } where
-  rows : entries_of d.number (map (with_withdrawn d.number number) t.entries)
-      ≡ entry_rows d.number 1 (marked_from 1 number d.entries)
+  rows : driver_entry_rows d.number (map (with_withdrawn d.number number) t.entries)
+      ≡ rows_of_entries d.number 1 (marked_from 1 number d.entries)
   rows =
       marked_own d.number number t.entries
       ∙ ap (λ (x : List EntryRow). map (with_withdrawn d.number number) x) h.entries
@@ -351,9 +351,9 @@ withdrawn_other t n number a b spans j d = record {
 
 -- the tables represent the state after a withdrawal, by the driver's own number
 withdrawn_at : (t : Tables) (s : State) (d : Driver) (number : ℕ) (e : Entry) (cards others helds : List StoredSpan)
-    (inside : List Span) → TablesStandFor t s → driver_of d.number s ≡ Some d → entry_from 1 number d.entries ≡ Some e
+    (inside : List Span) → TablesRepresent t s → driver_of d.number s ≡ Some d → entry_from 1 number d.entries ≡ Some e
     → IsRenewed t d.number number e cards others helds inside
-    → TablesStandFor (with_renewed d.number number e.start e.past (outside e.start e.past (map stored_span helds) ++ inside) t)
+    → TablesRepresent (with_renewed d.number number e.start e.past (outside e.start e.past (map stored_span helds) ++ inside) t)
     (put (with_marked number d) s)
 withdrawn_at t s d number e cards others helds inside h k f r =
     let n = d.number in
@@ -368,22 +368,22 @@ withdrawn_at t s d number e cards others helds inside h k f r =
     (λ j o. withdrawn_other t n number e.start e.past spans j o)
     (record {
       card_spans = h.marked.card_spans;
-      held = added_marks n (filter (λ r. not (is_near n e.start e.past r)) t.held) spans
-          (All-filter (λ r. not (is_near n e.start e.past r)) (λ r. IsMark r.mark) t.held h.marked.held);
+      held = added_marks n (filter (λ r. not (is_row_near n e.start e.past r)) t.held) spans
+          (All-filter (λ r. not (is_row_near n e.start e.past r)) (λ r. IsMark r.mark) t.held h.marked.held);
     })
 
 -- the tables after a withdrawal represent the state after it
 pub withdrawn_is : (t : Tables) (s : State) (n : ℕ) (d : Driver) (number : ℕ) (e : Entry) (cards others helds : List StoredSpan)
-    (inside : List Span) → TablesStandFor t s → driver_of n s ≡ Some d → entry_from 1 number d.entries ≡ Some e
+    (inside : List Span) → TablesRepresent t s → driver_of n s ≡ Some d → entry_from 1 number d.entries ≡ Some e
     → IsReadNear t.card_spans n e.start e.past cards
     → IsKeptNear (map (with_withdrawn n number) t.entries) n e.start e.past others
     → IsReadNear t.held n e.start e.past helds
     → IsCanonicalOf (λ m k. IsWithin e.start e.past m × Gives (map stored_span cards ++ map stored_span others) m k) inside
-    → TablesStandFor (with_renewed n number e.start e.past (outside e.start e.past (map stored_span helds) ++ inside) t)
+    → TablesRepresent (with_renewed n number e.start e.past (outside e.start e.past (map stored_span helds) ++ inside) t)
     (put (with_marked number d) s)
 withdrawn_is t s n d number e cards others helds inside h k f c o r i =
     subst (λ (j : ℕ). driver_of j s ≡ Some d → IsRenewed t j number e cards others helds inside
-    → TablesStandFor (with_renewed j number e.start e.past (outside e.start e.past (map stored_span helds) ++ inside) t)
+    → TablesRepresent (with_renewed j number e.start e.past (outside e.start e.past (map stored_span helds) ++ inside) t)
     (put (with_marked number d) s))
     (found_number n s d k) (λ k r. withdrawn_at t s d number e cards others helds inside h k f r) k
     (record { cards_near = c; others_near = o; helds_near = r; is_inside = i })

@@ -3,8 +3,8 @@ use Rattle.std.specs.Prelude.{ℕ, List, [], ◌∷◌, ◌++◌, map, filter, n
 use Rattle.tacho_time.specs.declared.span.Span.{Span}
 use Rattle.tacho_state.specs.State.{Entry}
 use Rattle.tacho_tables.specs.Rows.{DriverRow}
-use Rattle.tacho_tables.specs.Tables.{Tables, is_near, with_base, with_downloads, with_entries, with_withdrawn}
-use Rattle.tacho_reading.specs.Standing.{span_row, entry_rows}
+use Rattle.tacho_tables.specs.Tables.{Tables, is_row_near, with_row_base, with_downloads, with_entries, with_withdrawn}
+use Rattle.tacho_reading.specs.Standing.{span_row, rows_of_entries}
 
 -- a driver is registered
 abbrev pub with_driver : DriverRow → Tables → Tables
@@ -12,7 +12,7 @@ with_driver row t = record t { drivers = t.drivers ++ row ∷ [] }
 
 -- a driver's base is changed
 abbrev pub with_rebased : ℕ → ℕ → Tables → Tables
-with_rebased n base t = record t { drivers = map (with_base n base) t.drivers }
+with_rebased n base t = record t { drivers = map (with_row_base n base) t.drivers }
 
 -- a download is added: its row, the driver's count (the download's number), and the spans that downloads, or the driver, didn't have
 abbrev pub with_imported : ℕ → ℕ → ℕ → List ℕ → List Span → List Span → Tables → Tables
@@ -27,7 +27,7 @@ with_imported n number part file card_gains gains t = record t {
 abbrev pub with_entered : ℕ → ℕ → ℕ → List Entry → List Span → Tables → Tables
 with_entered n first count batch gains t = record t {
   drivers = map (with_entries n count) t.drivers;
-  entries = t.entries ++ entry_rows n first batch;
+  entries = t.entries ++ rows_of_entries n first batch;
   held = t.held ++ map (span_row n) gains;
 }
 
@@ -35,5 +35,5 @@ with_entered n first count batch gains t = record t {
 abbrev pub with_renewed : ℕ → ℕ → ℕ → ℕ → List Span → Tables → Tables
 with_renewed n number start past spans t = record t {
   entries = map (with_withdrawn n number) t.entries;
-  held = filter (λ r. not (is_near n start past r)) t.held ++ map (span_row n) spans;
+  held = filter (λ r. not (is_row_near n start past r)) t.held ++ map (span_row n) spans;
 }

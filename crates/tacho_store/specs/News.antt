@@ -6,7 +6,7 @@ use Rattle.tacho_time.specs.Spans.{IsFirstConflict}
 use Rattle.tacho_line.specs.Line.{Together, AreGains}
 use Rattle.tacho_state.specs.declared.fault.StoreFault.{StoreFault}
 use Rattle.tacho_state.specs.declared.fault.StoreFault.TheVariants.{Contradiction, Store, Memory}
-use Rattle.tacho_state.specs.Disjoint.{IsNew}
+use Rattle.tacho_state.specs.Disjoint.{HasNews}
 
 -- what spans add to what downloads give near them (at least one span), and what they add to what the driver holds near them
 abbrev pub AreNews : List Span → List Span → List Span → List Span → List Span → Type 0
@@ -22,6 +22,6 @@ abbrev pub IsTorn : List Span → List Span → List Span → Type 0
 IsTorn card_line line spans = (m : ℕ) × IsFirstConflict (Together card_line spans) m × (gains : List Span) × AreGains line spans gains
 
 -- spans are refused if they are new and contradict what the driver holds; S12 occurs only with rows that no archive has
-abbrev pub IsRefused : List Span → List Span → List Span → StoreFault → Type 0
-IsRefused card_line line spans fault =
-    OrMemory Memory fault (((fault ≡ Store) × IsTorn card_line line spans) ⊎ ((m : ℕ) × (fault ≡ Contradiction m) × IsNew card_line spans × IsFirstConflict (Together line spans) m))
+abbrev pub IsNewsRefused : List Span → List Span → List Span → StoreFault → Type 0
+IsNewsRefused card_line line spans fault =
+    OrMemory Memory fault (((fault ≡ Store) × IsTorn card_line line spans) ⊎ ((m : ℕ) × (fault ≡ Contradiction m) × HasNews card_line spans × IsFirstConflict (Together line spans) m))

@@ -4,8 +4,8 @@ use Rattle.sqlite.specs.Tree.{Trees}
 use Rattle.tacho_time.specs.declared.span.Activity.{Activity}
 use Rattle.tacho_state.specs.State.{Download, Entry, Driver, State}
 use Rattle.tacho_tables.specs.Rows.{OldEntryRow}
-use Rattle.tacho_tables.specs.Tables.{OldTables, HasOldTables, carried}
-use Rattle.tacho_reading.specs.Standing.{TablesStandFor, activity_number}
+use Rattle.tacho_tables.specs.Tables.{OldTables, HasOldTables, carry_over}
+use Rattle.tacho_reading.specs.Standing.{TablesRepresent, activity_number}
 
 -- hours that were entered: minutes from start to before past
 pub record OldEntry : Type 0 where
@@ -52,7 +52,7 @@ with_office s = map driver_by_office s
 -- the tables represent a state of schema 1 if, with the office as the author of each row, they represent the state with the office as the
 -- author of each entry
 unfoldable pub StoodFor : Trees → OldState → Type 0
-StoodFor db s = (t : OldTables) × HasOldTables db t × TablesStandFor (carried t) (with_office s)
+StoodFor db s = (t : OldTables) × HasOldTables db t × TablesRepresent (carry_over t) (with_office s)
 
 -- the row of a driver's entry in schema 1
 abbrev pub old_entry_row : ℕ → ℕ → OldEntry → OldEntryRow

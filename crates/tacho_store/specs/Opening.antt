@@ -14,8 +14,8 @@ use Rattle.tacho_tables.specs.Schema.{old_schema, meta_rows, has_tables, archive
 use Rattle.tacho_tables.specs.Making.{IsVersioned, TellsVersion}
 use Rattle.tacho_tables.specs.Tables.{IsVersion}
 use Rattle.tacho_tables.specs.Calls.{Stays}
-use Rattle.tacho_reading.specs.Standing.{StandsFor}
-use Rattle.tacho_reading.specs.Kept.{IsBlank, IsGivenUp, Sees, LeavesOneOf}
+use Rattle.tacho_reading.specs.Standing.{Represents}
+use Rattle.tacho_reading.specs.Kept.{IsBlank, HasGivenUp, Sees, LeavesOneOf}
 use Rattle.tacho_store.specs.Old.{OldState, StoodFor, with_office}
 
 -- within a transaction, makes the tables of an archive without drivers
@@ -37,7 +37,7 @@ AreVersioned db = (schema : Schema) × IsVersioned (record { schema = schema; tr
 pub record IsOld (c : Sqlite) : Type 0 where
   pub tables : ¬ IsBlank c
   pub names : IsTrue (has_tables old_names c.now.schema)
-  pub none : (s : State) → ¬ StandsFor c.now.trees s
+  pub none : (s : State) → ¬ Represents c.now.trees s
   pub stated : AreVersioned c.now.trees → c.now.trees meta_rows ≢ []
   pub version : AreVersioned c.now.trees → (version : ℕ) → IsVersion version c.now.trees → version ≡ 1
 
@@ -51,7 +51,7 @@ pub record IsFoundOld (c : Sqlite) : Type 0 where
 -- the faults with which a store isn't adopted
 abbrev pub IsOpeningFault : StoreFault → Type 0
 IsOpeningFault OldSchema = Unit {0}
-IsOpeningFault fault = IsGivenUp fault
+IsOpeningFault fault = HasGivenUp fault
 
 -- within a transaction, migrates tables of schema 1
 pub record CarriesOver {S : Type 0} (g : Ghosts S) (old new : MutBor (Held S)) {A : Type 0} (result : Result A StoreFault) : Type 0 where
@@ -64,11 +64,11 @@ module _ (old new : Sqlite) where
   -- making was given up and has changed nothing; a crash leaves what it would have left before the call, or the new archive
   pub record IsUnmade : Type 0 where
     pub same : HasCleanDisk new → IsTrue new.is_open → new.now ≡ old.now
-    pub crash : IsBlank old → Survives old new (λ db. StandsFor db [])
+    pub crash : IsBlank old → Survives old new (λ db. Represents db [])
 
   -- the tables of an archive, of either version, or a store without tables, are as they were
   pub record KeepsTables : Type 0 where
-    pub stands : (s : State) → StandsFor old.now.trees s → HasCleanDisk new → IsTrue new.is_open → new.now ≡ old.now
+    pub stands : (s : State) → Represents old.now.trees s → HasCleanDisk new → IsTrue new.is_open → new.now ≡ old.now
     pub stood : (s : OldState) → StoodFor old.now.trees s → HasCleanDisk new → IsTrue new.is_open → new.now ≡ old.now
     pub blank : IsBlank old → HasCleanDisk new → IsTrue new.is_open → new.now ≡ old.now
     pub same : AreVersioned old.now.trees → HasCleanDisk new → IsTrue new.is_open → new.now ≡ old.now
@@ -94,7 +94,7 @@ module _ (old new : Sqlite) where
       pub live : HasCleanDisk new → OnOk result (IsTrue new.is_open)
       pub same : HasCleanDisk new → IsTrue new.is_open → OnErr result (new.now ≡ old.now)
       pub kept : HasCleanDisk new → IsBlank old → OnOk result (LeavesOneOf new ([] ∷ []))
-      pub crash : IsBlank old → Survives old new (λ db. StandsFor db [])
+      pub crash : IsBlank old → Survives old new (λ db. Represents db [])
 
     -- tables of schema 2 were found; nothing has changed
     pub record IsChecked : Type 0 where
@@ -119,7 +119,7 @@ module _ (old new : Sqlite) where
       pub kept : HasCleanDisk new → old.now.schema ≡ old_schema → (s : OldState) → StoodFor old.now.trees s
           → OnOk result (LeavesOneOf new (with_office s ∷ []))
       pub crash : old.now.schema ≡ old_schema → (s : OldState) → StoodFor old.now.trees s
-          → Survives old new (λ db. StandsFor db (with_office s))
+          → Survives old new (λ db. Represents db (with_office s))
 
   -- the version was read, and nothing has changed
   pub record TellsSchema (result : Result (Option ℕ) StoreFault) : Type 0 where
@@ -134,8 +134,8 @@ module _ (old new : Sqlite) where
   pub record IsNotMigrated : Type 0 where
     pub was_open : HasCleanDisk new → IsTrue new.is_open → IsTrue old.is_open
     pub keeps : KeepsTables
-    pub crash : (s : OldState) → StoodFor old.now.trees s → Survives old new (λ db. StandsFor db (with_office s))
-    pub alone : (s : State) → StandsFor old.now.trees s → Survives old new (λ _. ⊥)
+    pub crash : (s : OldState) → StoodFor old.now.trees s → Survives old new (λ db. Represents db (with_office s))
+    pub alone : (s : State) → Represents old.now.trees s → Survives old new (λ _. ⊥)
     pub blank : IsBlank old → Survives old new (λ _. ⊥)
 
 -- ---- archives, for any way of keeping them
@@ -150,10 +150,10 @@ module _ {K : Type 0} (stands : K → State → Type 0) (is_live : K → Type 0)
   -- the archive of schema 2 that the store had; until it is changed, a crash leaves it as it was
   pub record IsAdopted (old : Sqlite) (archive : K) : Type 0 where
     pub was_open : IsTrue old.is_open
-    pub held : (s : State) → StandsFor old.now.trees s → stands archive s
+    pub held : (s : State) → Represents old.now.trees s → stands archive s
     pub live : is_live archive
     pub left : (states : List State) → LeavesOneOf old states → leaves archive states
-    pub rests : (s : State) → StandsFor old.now.trees s → leaves archive (s ∷ [])
+    pub rests : (s : State) → Represents old.now.trees s → leaves archive (s ∷ [])
     pub found : ¬ IsBlank old
     pub names : IsTrue (has_tables archive_names old.now.schema)
     pub none : (s : OldState) → ¬ StoodFor old.now.trees s
@@ -164,10 +164,10 @@ module _ {K : Type 0} (stands : K → State → Type 0) (is_live : K → Type 0)
   -- changed, a crash leaves it as it is
   pub record IsMigrated (old : Sqlite) (archive : K) : Type 0 where
     pub carried : (s : OldState) → StoodFor old.now.trees s → stands archive (with_office s)
-    pub held : (s : State) → StandsFor old.now.trees s → stands archive s
+    pub held : (s : State) → Represents old.now.trees s → stands archive s
     pub live : is_live archive
     pub kept : (s : OldState) → StoodFor old.now.trees s → leaves archive (with_office s ∷ [])
-    pub left : (s : State) → StandsFor old.now.trees s → (states : List State) → LeavesOneOf old states → leaves archive states
-    pub rests : (s : State) → StandsFor old.now.trees s → leaves archive (s ∷ [])
+    pub left : (s : State) → Represents old.now.trees s → (states : List State) → LeavesOneOf old states → leaves archive states
+    pub rests : (s : State) → Represents old.now.trees s → leaves archive (s ∷ [])
     pub found : ¬ IsBlank old
     pub names : IsTrue (has_tables archive_names old.now.schema) ⊎ IsTrue (has_tables old_names old.now.schema)

@@ -6,12 +6,12 @@ use Rattle.tacho_line.specs.Line.{IsWithin}
 use Rattle.tacho_state.specs.declared.fault.StoreFault.{StoreFault}
 use Rattle.tacho_state.specs.Disjoint.{outside}
 use Rattle.tacho_state.specs.State.{Driver, Entry, State, driver_of, entry_from}
-use Rattle.tacho_state.specs.Steps.{withdrawn}
+use Rattle.tacho_state.specs.Steps.{withdraw_step}
 use Rattle.tacho_tables.specs.declared.rows.StoredSpan.{StoredSpan}
 use Rattle.tacho_tables.specs.declared.rows.StoredEntry.{StoredEntry}
 use Rattle.tacho_tables.specs.Tables.{Tables, row_of, listed_entry, told_entry, with_withdrawn}
-use Rattle.tacho_reading.specs.Standing.{AreFaulty, AreMinutes, IsFit, span_row, stored_span, entry_row, IsReadNear, IsKeptNear}
-use Rattle.tacho_reading.specs.Finding.{Refuses}
+use Rattle.tacho_reading.specs.Standing.{HaveNoLine, AreMinutes, IsFit, span_row, stored_span, entry_row, IsReadNear, IsKeptNear}
+use Rattle.tacho_reading.specs.Finding.{IsFindingFault}
 
 -- a driver's entry that is not withdrawn, as stored
 pub record IsThere (s : State) (n number : ℕ) (it : StoredEntry) (d : Driver) (e : Entry) : Type 0 where
@@ -23,7 +23,7 @@ pub record IsThere (s : State) (n number : ℕ) (it : StoredEntry) (d : Driver) 
 -- the entry exists and is not withdrawn; or the withdrawal is refused (S4, S7, S8), ran out of memory, or the store failed
 unfoldable pub IsEntry : State → ℕ → ℕ → Result StoredEntry StoreFault → Type 0
 IsEntry s n number (Ok it) = (d : Driver) × (e : Entry) × IsThere s n number it d e
-IsEntry s n number (Err fault) = Refuses fault (withdrawn n number s).answer
+IsEntry s n number (Err fault) = IsFindingFault fault (withdraw_step n number s).answer
 
 -- the rows of the parts of held spans outside a range, and of what card spans and entries give inside it
 pub record AreRowsFor (cards others helds : List StoredSpan) (start past : ℕ) (rows : List StoredSpan) : Type 0 where
@@ -33,7 +33,7 @@ pub record AreRowsFor (cards others helds : List StoredSpan) (start past : ℕ) 
 
 -- there are no such rows: the range isn't one of minutes, a held row isn't a span, or rows of cards and entries have no canonical list
 abbrev pub HaveNoRows : List StoredSpan → List StoredSpan → List StoredSpan → ℕ → ℕ → Type 0
-HaveNoRows cards others helds start past = (¬ AreMinutes start past) ⊎ (¬ All IsFit helds) ⊎ AreFaulty (cards ++ others)
+HaveNoRows cards others helds start past = (¬ AreMinutes start past) ⊎ (¬ All IsFit helds) ⊎ HaveNoLine (cards ++ others)
 
 -- the rows that replace those near a driver's withdrawn entry, by what the tables have near it
 pub record AreRenewed (t : Tables) (n number start past : ℕ) (rows : List StoredSpan) : Type 0 where

@@ -2,7 +2,7 @@ ghost use Rattle.std.specs.Prelude.{◌≡◌, ◌≢◌, ◌↔◌, [], List, f
 ghost use Rattle.sqlite.specs.State.{HasCleanDisk};
 ghost use Rattle.sqlite.specs.Held.{state};
 ghost use Rattle.tacho_state.specs.State.{State};
-ghost use Rattle.tacho_reading.specs.Kept.{IsBlank, SeesWhileOpen, LeavesOneOf, IsSame, IsGivenUp};
+ghost use Rattle.tacho_reading.specs.Kept.{IsBlank, SeesWhileOpen, LeavesOneOf, IsSame, HasGivenUp};
 ghost use Rattle.tacho_store.specs.Opening.{Makes, CarriesOver, IsMade, IsUnmade, TellsSchema, IsChecked, IsCarried, IsEmptyArchive, IsAdopted, IsLeftAlone, IsOld, IsOpeningFault, IsMigrated, IsNotMigrated};
 
 use crate::base::rebase;
@@ -36,7 +36,7 @@ pub struct Archive<S: Alter> {
 
 /// Makes the tables in a store that has none, within a transaction.
 fn make_in<S: Alter>(tx: &mut Transaction<'_, S>) -> Result<(), StoreFault>
-    ensures refused { IfErr result IsGivenUp }
+    ensures refused { IfErr result HasGivenUp }
     ensures makes { Makes S.Store tx.old.conn tx.new.conn result }
 {
     making::make_all(tx).map_err(store_fault)
@@ -46,7 +46,7 @@ fn make_in<S: Alter>(tx: &mut Transaction<'_, S>) -> Result<(), StoreFault>
 fn make<S: Alter>(conn: &mut Connection<S>) -> Result<(), StoreFault>
     requires { conn.old.in_transaction ≡ false }
     ensures autocommit { conn.new.in_transaction ≡ false }
-    ensures refused { IfErr result IsGivenUp }
+    ensures refused { IfErr result HasGivenUp }
     ensures made { IsMade (state S.Store conn.old) (state S.Store conn.new) result }
 {
     if opening::has_tables(conn) {
@@ -68,7 +68,7 @@ fn make<S: Alter>(conn: &mut Connection<S>) -> Result<(), StoreFault>
 fn read_version<S: Alter>(conn: &mut Connection<S>) -> Result<Option<u32>, StoreFault>
     requires { conn.old.in_transaction ≡ false }
     ensures autocommit { conn.new.in_transaction ≡ false }
-    ensures refused { IfErr result IsGivenUp }
+    ensures refused { IfErr result HasGivenUp }
     ensures version { TellsSchema (state S.Store conn.old) (state S.Store conn.new) result }
 {
     let _settled = conn.is_autocommit();
@@ -100,7 +100,7 @@ fn check<S: Alter>(conn: &mut Connection<S>) -> Result<(), StoreFault>
 
 /// Migrates tables of schema 1, within a transaction.
 fn carry_in<S: Alter>(tx: &mut Transaction<'_, S>) -> Result<(), StoreFault>
-    ensures refused { IfErr result IsGivenUp }
+    ensures refused { IfErr result HasGivenUp }
     ensures carries { CarriesOver S.Store tx.old.conn tx.new.conn result }
 {
     making::carry(tx).map_err(store_fault)
@@ -110,7 +110,7 @@ fn carry_in<S: Alter>(tx: &mut Transaction<'_, S>) -> Result<(), StoreFault>
 fn carry<S: Alter>(conn: &mut Connection<S>) -> Result<(), StoreFault>
     requires { conn.old.in_transaction ≡ false }
     ensures autocommit { conn.new.in_transaction ≡ false }
-    ensures refused { IfErr result IsGivenUp }
+    ensures refused { IfErr result HasGivenUp }
     ensures carried { IsCarried (state S.Store conn.old) (state S.Store conn.new) result }
 {
     let _settled = conn.is_autocommit();
@@ -130,7 +130,7 @@ impl<S: Alter> Archive<S> {
     ghost use Rattle.sqlite.specs.State.{HasCleanDisk};
     ghost use Rattle.sqlite.specs.Held.{state};
     ghost use Rattle.tacho_state.specs.State.{State};
-    ghost use Rattle.tacho_reading.specs.Kept.{IsBlank, SeesWhileOpen, LeavesOneOf, IsGivenUp};
+    ghost use Rattle.tacho_reading.specs.Kept.{IsBlank, SeesWhileOpen, LeavesOneOf, HasGivenUp};
     ghost use Rattle.tacho_state.specs.declared.fault.StoreFault.TheVariants.{OldSchema};
     ghost use Rattle.tacho_store.specs.Opening.{IsUnmade, IsEmptyArchive, IsAdopted, IsLeftAlone, IsOld, IsOpeningFault, IsMigrated, IsNotMigrated};
 
@@ -143,7 +143,7 @@ impl<S: Alter> Archive<S> {
             → IsEmptyArchive ⟦<Archive<S> as Keeper>⟧.stands ⟦<Archive<S> as Keeper>⟧.is_live
             ⟦<Archive<S> as Keeper>⟧.leaves archive) }
         ensures taken { (state S.Store conn).now.schema.tables ≢ [] → IsErr result }
-        ensures refused { IfErr result (λ e. IsGivenUp e.0 × (e.1.in_transaction ≡ false)
+        ensures refused { IfErr result (λ e. HasGivenUp e.0 × (e.1.in_transaction ≡ false)
             × IsUnmade (state S.Store conn) (state S.Store e.1)) }
     {
         match make(&mut conn) {
@@ -182,7 +182,7 @@ impl<S: Alter> Archive<S> {
         ensures migrated { IfOk result (λ archive. ⟦<Archive<S> as Keeper>⟧.is_clean archive
             → IsMigrated ⟦<Archive<S> as Keeper>⟧.stands ⟦<Archive<S> as Keeper>⟧.is_live
             ⟦<Archive<S> as Keeper>⟧.leaves (state S.Store conn) archive) }
-        ensures refused { IfErr result (λ e. IsGivenUp e.0 × (e.1.in_transaction ≡ false)
+        ensures refused { IfErr result (λ e. HasGivenUp e.0 × (e.1.in_transaction ≡ false)
             × IsNotMigrated (state S.Store conn) (state S.Store e.1)) }
     {
         let _sound = conn.schema();
@@ -325,7 +325,7 @@ pub fn open_memory(alloc: Global) -> Result<Archive<MemStore>, StoreFault>
     ensures opened { IfOk result (λ archive. ⟦<Archive<MemStore> as Keeper>⟧.is_clean archive
         → IsEmptyArchive ⟦<Archive<MemStore> as Keeper>⟧.stands ⟦<Archive<MemStore> as Keeper>⟧.is_live
         ⟦<Archive<MemStore> as Keeper>⟧.leaves archive) }
-    ensures refused { IfErr result IsGivenUp }
+    ensures refused { IfErr result HasGivenUp }
 {
     let mut conn = Connection::open_in_memory(alloc)?;
     make(&mut conn)?;

@@ -1,5 +1,5 @@
 ghost use Rattle.std.specs.Prelude.{◌≡◌, false};
-ghost use Rattle.tacho_state.specs.Steps.{rebased, is_monday};
+ghost use Rattle.tacho_state.specs.Steps.{rebase_step, is_monday};
 ghost use Rattle.tacho_reading.specs.Calls.{Steps};
 ghost use Rattle.tacho_state.specs.Acts.{IsOfNoFile};
 ghost use Rattle.tacho_reading.specs.Kept.{ActsOn};
@@ -24,7 +24,7 @@ fn rebase_in<S: Alter>(
     driver: u32,
     base: Day,
 ) -> Result<(), StoreFault>
-    ensures { Steps S.Store tx.old.conn tx.new.conn result (λ _. tt) (rebased driver base) }
+    ensures { Steps S.Store tx.old.conn tx.new.conn result (λ _. tt) (rebase_step driver base) }
 {
     driver_with(tx, driver)?;
     if !is_monday(base) {
@@ -39,7 +39,7 @@ pub fn rebase<S: Alter>(conn: &mut Connection<S>, driver: u32, base: Day) -> Res
     requires { conn.old.in_transaction ≡ false }
     ensures autocommit { conn.new.in_transaction ≡ false }
     ensures of_no_file { IsOfNoFile result }
-    ensures acts { ActsOn S.Store (λ _. tt) conn.old conn.new result (rebased driver base) }
+    ensures acts { ActsOn S.Store (λ _. tt) conn.old conn.new result (rebase_step driver base) }
 {
     let _settled = conn.is_autocommit();
     let mut tx = conn.transaction();

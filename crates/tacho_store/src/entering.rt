@@ -3,14 +3,14 @@ ghost use Rattle.tacho_state.specs.Acts.{IsOfNoFile};
 ghost use Rattle.tacho_state.specs.Batch.{IsBatch, entry_of, batch_of};
 ghost use Rattle.tacho_state.specs.Disjoint.{AreInRange};
 ghost use Rattle.tacho_state.specs.State.{Driver, driver_of, entry_span, entered_spans};
-ghost use Rattle.tacho_state.specs.Steps.{enter_own, entered};
+ghost use Rattle.tacho_state.specs.Steps.{enter_own, enter_step};
 ghost use Rattle.tacho_tables.specs.Tables.{new_entry_row, row_of};
 ghost use Rattle.tacho_tables.specs.Calls.{Changes};
 ghost use Rattle.tacho_reading.specs.Calls.{Tells, Steps, StepsGiven};
 ghost use Rattle.tacho_reading.specs.Kept.{ActsOn};
-ghost use Rattle.tacho_reading.specs.Finding.{Refuses};
-ghost use Rattle.tacho_reading.specs.Standing.{entry_row, entry_rows};
-ghost use Rattle.tacho_store.specs.Entering.{AreNumbered, AreToEnter, enter_turn, batched};
+ghost use Rattle.tacho_reading.specs.Finding.{IsFindingFault};
+ghost use Rattle.tacho_reading.specs.Standing.{entry_row, rows_of_entries};
+ghost use Rattle.tacho_store.specs.Entering.{AreNumbered, AreToEnter, enter_turn, tables_after_batch};
 
 use crate::news::gains_of;
 use sqlite::{Alter, Connection, Transaction};
@@ -72,7 +72,7 @@ fn gains_near<S: Alter>(
     requires spans { spans.now ≡ entered_spans (batch_of lines.now) }
     ensures { Tells S.Store tx.old.conn tx.new.conn result (λ db s. (d : Driver) → driver_of driver s ≡ Some d
         → MatchResult result (λ gains. AreNumbered db s driver d (batch_of lines.now) gains.items)
-        (λ fault. Refuses fault (enter_own (batch_of lines.now) d))) }
+        (λ fault. IsFindingFault fault (enter_own (batch_of lines.now) d))) }
 {
     let (start, past) = range_of_lines(lines);
     let helds = rows_near(alloc, tx, SpanTable::Held, driver, start, past).map_err(store_fault)?;
@@ -101,7 +101,7 @@ fn insert_lines<S: Alter>(
 ) -> Result<(), TableFault>
     requires { first + length lines.now < 2 ^ 32 }
     ensures { Changes S.Store tx.old.conn tx.new.conn result
-        (λ a. record a { entries = entry_rows driver first (batch_of lines.now) ++ a.entries }) }
+        (λ a. record a { entries = rows_of_entries driver first (batch_of lines.now) ++ a.entries }) }
 {
     let (fours, rest) = lines.as_chunks::<4>();
     let mut number = first;
@@ -134,7 +134,7 @@ fn write_batch<S: Alter>(
 ) -> Result<(), TableFault>
     requires { first + length lines.now < 2 ^ 32 }
     ensures { Changes S.Store tx.old.conn tx.new.conn result
-        (batched driver count (entry_rows driver first (batch_of lines.now)) (map (row_of driver) helds.now)) }
+        (tables_after_batch driver count (rows_of_entries driver first (batch_of lines.now)) (map (row_of driver) helds.now)) }
 {
     drivers::set_entries(tx, driver, count)?;
     insert_lines(tx, driver, first, lines)?;
@@ -174,7 +174,7 @@ fn enter_in<S: Alter>(
 ) -> Result<Entered, StoreFault>
     requires { IsBatch lines.now }
     ensures steps { Steps S.Store tx.old.conn tx.new.conn result
-        (λ done. done.first) (entered driver (batch_of lines.now)) }
+        (λ done. done.first) (enter_step driver (batch_of lines.now)) }
     ensures count { IfOk result (λ done. done.count ≡ length lines.now) }
 {
     let found = driver_with(tx, driver)?;
@@ -195,7 +195,7 @@ pub fn enter<S: Alter>(
     requires batch { IsBatch lines.now }
     ensures autocommit { conn.new.in_transaction ≡ false }
     ensures of_no_file { IsOfNoFile result }
-    ensures acts { ActsOn S.Store (λ done. done.first) conn.old conn.new result (entered driver (batch_of lines.now)) }
+    ensures acts { ActsOn S.Store (λ done. done.first) conn.old conn.new result (enter_step driver (batch_of lines.now)) }
     ensures count { IfOk result (λ done. done.count ≡ length lines.now) }
 {
     let _settled = conn.is_autocommit();

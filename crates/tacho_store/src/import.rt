@@ -4,14 +4,14 @@ ghost use Rattle.sqlite.specs.Held.{state};
 ghost use Rattle.tacho_time.specs.Spans.{IsCanonical};
 ghost use Rattle.tacho_state.specs.State.{State, Driver, driver_of};
 ghost use Rattle.tacho_state.specs.declared.imported.Imported.TheVariants.{Repeated};
-ghost use Rattle.tacho_state.specs.Steps.{imported};
+ghost use Rattle.tacho_state.specs.Steps.{import_step};
 ghost use Rattle.tacho_state.specs.Content.{FileTells, part_number};
 ghost use Rattle.tacho_state.specs.Acts.{caller_number, IsOfNoFile};
 ghost use Rattle.tacho_tables.specs.Tables.{row_of, IsArchive};
 ghost use Rattle.tacho_tables.specs.Calls.{Changes};
 ghost use Rattle.tacho_reading.specs.Calls.{Tells, Steps, StepsGiven};
 ghost use Rattle.tacho_reading.specs.Kept.{ActsOn, SeesWhileOpen, IsSame};
-ghost use Rattle.tacho_store.specs.Importing.{importer, IsImporter, AreDecided, AreToAdd, AreToImport, import_turn, content_told, written};
+ghost use Rattle.tacho_store.specs.Importing.{importer, IsImporter, AreDecided, AreToAdd, AreToImport, import_turn, content_told, tables_after_download};
 
 use crate::content::CardContent;
 use crate::news::{News, news_of};
@@ -120,7 +120,7 @@ fn write_download<S: Alter>(
     helds: &[StoredSpan],
 ) -> Result<(), TableFault>
     ensures { Changes S.Store tx.old.conn tx.new.conn result
-        (written driver number part file.now (map (row_of driver) cards.now) (map (row_of driver) helds.now)) }
+        (tables_after_download driver number part file.now (map (row_of driver) cards.now) (map (row_of driver) helds.now)) }
 {
     drivers::set_downloads(tx, driver, number)?;
     downloads::insert(tx, driver, number, part, file)?;
@@ -210,7 +210,7 @@ fn import_in<S: Alter>(
     requires canonical { IsCanonical content.now.spans.items }
     requires tells { FileTells part file.now (Ok (content_told content.now)) }
     ensures steps { Steps S.Store tx.old.conn tx.new.conn result (λ done. done)
-        (imported (caller_number caller) (part_number part) file.now (Ok (content_told content.now))) }
+        (import_step (caller_number caller) (part_number part) file.now (Ok (content_told content.now))) }
     ensures repeated { HasCleanDisk (state S.Store tx.new.conn.now)
         → IsArchive (state S.Store tx.old.conn.now).now
         → (number : ℕ) → result ≡ Ok (Repeated number)
@@ -235,7 +235,7 @@ pub fn import<S: Alter>(
     requires tells { FileTells part file.now (Ok (content_told content.now)) }
     ensures autocommit { conn.new.in_transaction ≡ false }
     ensures acts { ActsOn S.Store (λ done. done) conn.old conn.new result
-        (imported (caller_number caller) (part_number part) file.now (Ok (content_told content.now))) }
+        (import_step (caller_number caller) (part_number part) file.now (Ok (content_told content.now))) }
     ensures repeated { HasCleanDisk (state S.Store conn.new) → (s : State) (number : ℕ)
         → SeesWhileOpen (state S.Store conn.old) s
         → result ≡ Ok (Repeated number) → IsSame (state S.Store conn.old) (state S.Store conn.new) }

@@ -10,14 +10,14 @@ ghost use Rattle.tacho_line.specs.Line.{AreGains, IsWithin};
 ghost use Rattle.tacho_card.specs.declared.file.Part.{Part as PartValue};
 ghost use Rattle.tacho_state.specs.Content.{FileTells, part_number};
 ghost use Rattle.tacho_state.specs.Disjoint.{AreInRange, near, outside};
-ghost use Rattle.tacho_state.specs.State.{Driver, Entry, State, AreFull, driver_of, keyed, holding, entry_from, entered_spans, put, with_base, with_download, with_batch, with_marked};
+ghost use Rattle.tacho_state.specs.State.{Driver, Entry, State, AreFull, driver_of, driver_with_key, holding, entry_from, entered_spans, put, with_base, with_download, with_batch, with_marked};
 ghost use Rattle.tacho_state.specs.Runs.{Call, IsRun, AreAnswered, state_after};
 ghost use Rattle.tacho_state.specs.Steps.{Content};
 ghost use Rattle.tacho_tables.specs.declared.rows.StoredSpan.{StoredSpan as StoredValue};
-ghost use Rattle.tacho_tables.specs.Tables.{Tables, OldTables, carried, no_rows, with_withdrawn};
+ghost use Rattle.tacho_tables.specs.Tables.{Tables, OldTables, carry_over, no_rows, with_withdrawn};
 ghost use Rattle.tacho_tables.specs.Rows.{OldEntryRow};
 ghost use Rattle.tacho_reading.specs.Kept.{IsOfOne, LeavesOneOf};
-ghost use Rattle.tacho_reading.specs.Standing.{StandsFor, TablesStandFor, spans_of, driver_columns, stored_span, IsReadNear, IsKeptNear};
+ghost use Rattle.tacho_reading.specs.Standing.{Represents, TablesRepresent, spans_of, driver_columns, stored_span, IsReadNear, IsKeptNear};
 ghost use Rattle.tacho_store.specs.Old.{OldDriver, OldState, old_entry_rows, with_office};
 ghost use Rattle.tacho_store.specs.Opening.{IsAdopted};
 ghost use Rattle.tacho_store.specs.After.{with_driver, with_rebased, with_imported, with_entered, with_renewed};
@@ -28,7 +28,7 @@ use tacho_state::Keeper;
 
 /// After a crash the archive is found again: an archive that is adopted from the trees that the crash left has one of the states that the
 /// crash may leave.
-pub fn a_stop_is_found_again<S: Alter>(
+pub fn a_crash_leaves_one_of_its_states<S: Alter>(
     left: &Connection<S>,
     found: &Connection<S>,
     archive: &Archive<S>,
@@ -53,7 +53,7 @@ pub fn a_crash_is_found_again<S: Alter>(
     archive: &Archive<S>,
 )
     ensures { (s : State) (calls : List Call) (call : Call)
-        → StandsFor (state S.Store first.now).now.trees s
+        → Represents (state S.Store first.now).now.trees s
         → IsAdopted ⟦<Archive<S> as Keeper>⟧.stands ⟦<Archive<S> as Keeper>⟧.is_live
         ⟦<Archive<S> as Keeper>⟧.leaves (state S.Store first.now) opened.now
         → IsRun ⟦<Archive<S> as Keeper>⟧.stands ⟦<Archive<S> as Keeper>⟧.is_clean ⟦<Archive<S> as Keeper>⟧.leaves
@@ -69,39 +69,39 @@ pub fn a_crash_is_found_again<S: Alter>(
 
 /// Empty tables represent the state without drivers.
 pub fn empty_tables_stand()
-    ensures { TablesStandFor no_rows [] }
+    ensures { TablesRepresent no_rows [] }
 {}
 
 /// A registration, on the tables.
 pub fn registered_tables_stand()
-    ensures { (t : Tables) (s : State) (d : Driver) → TablesStandFor t s
-        → driver_of d.number s ≡ None → keyed d.key s ≡ None → holding d.holder s ≡ None
+    ensures { (t : Tables) (s : State) (d : Driver) → TablesRepresent t s
+        → driver_of d.number s ≡ None → driver_with_key d.key s ≡ None → holding d.holder s ≡ None
         → d.downloads ≡ [] → d.entries ≡ []
-        → TablesStandFor (with_driver (driver_columns d) t) (s ++ d ∷ []) }
+        → TablesRepresent (with_driver (driver_columns d) t) (s ++ d ∷ []) }
 {}
 
 /// A change of a driver's base, on the tables.
 pub fn rebased_tables_stand()
-    ensures { (t : Tables) (s : State) (n base : ℕ) (d : Driver) → TablesStandFor t s → driver_of n s ≡ Some d
-        → TablesStandFor (with_rebased n base t) (put (with_base base d) s) }
+    ensures { (t : Tables) (s : State) (n base : ℕ) (d : Driver) → TablesRepresent t s → driver_of n s ≡ Some d
+        → TablesRepresent (with_rebased n base t) (put (with_base base d) s) }
 {}
 
 /// An import, on the tables: it adds the gains against card spans near the file's spans, and the gains against held rows near them.
 pub fn imported_tables_stand()
     ensures { (t : Tables) (s : State) (n : ℕ) (d : Driver) (part : PartValue) (file : List ℕ) (content : Content)
         (card_line line card_gains gains : List Span) (start past : ℕ)
-        → TablesStandFor t s → driver_of n s ≡ Some d
+        → TablesRepresent t s → driver_of n s ≡ Some d
         → FileTells part file (Ok content) → AreInRange start past content.spans
         → IsCanonicalOf (Gives (near start past (spans_of n t.card_spans))) card_line
         → AreGains card_line content.spans card_gains
         → IsCanonicalOf (Gives (near start past (spans_of n t.held))) line → AreGains line content.spans gains
-        → TablesStandFor (with_imported n (1 + length d.downloads) (part_number part) file card_gains gains t)
+        → TablesRepresent (with_imported n (1 + length d.downloads) (part_number part) file card_gains gains t)
         (put (with_download (part_number part) file content.spans d) s) }
 {}
 
 /// If tables of schema 1 represent a state, the rows of a driver's entries are those of the driver's entries in the state, by number.
 pub fn old_entries_are_rows()
-    ensures { (t : OldTables) (s : OldState) → TablesStandFor (carried t) (with_office s)
+    ensures { (t : OldTables) (s : OldState) → TablesRepresent (carry_over t) (with_office s)
         → AllByRecursion (λ (d : OldDriver). filter (λ (r : OldEntryRow). r.driver == d.number) t.entries
         ≡ old_entry_rows d.number 1 d.entries) s }
 {}
@@ -110,9 +110,9 @@ pub fn old_entries_are_rows()
 pub fn entered_tables_stand()
     ensures { (t : Tables) (s : State) (n : ℕ) (d : Driver) (batch : List Entry) (line gains : List Span)
         (start past : ℕ)
-        → TablesStandFor t s → driver_of n s ≡ Some d → AreFull batch → AreInRange start past (entered_spans batch)
+        → TablesRepresent t s → driver_of n s ≡ Some d → AreFull batch → AreInRange start past (entered_spans batch)
         → IsCanonicalOf (Gives (near start past (spans_of n t.held))) line → AreGains line (entered_spans batch) gains
-        → TablesStandFor (with_entered n (1 + length d.entries) (length d.entries + length batch) batch gains t)
+        → TablesRepresent (with_entered n (1 + length d.entries) (length d.entries + length batch) batch gains t)
         (put (with_batch batch d) s) }
 {}
 
@@ -121,12 +121,12 @@ pub fn entered_tables_stand()
 pub fn withdrawn_tables_stand()
     ensures { (t : Tables) (s : State) (n : ℕ) (d : Driver) (number : ℕ) (e : Entry)
         (cards others helds : List StoredValue) (inside : List Span)
-        → TablesStandFor t s → driver_of n s ≡ Some d → entry_from 1 number d.entries ≡ Some e
+        → TablesRepresent t s → driver_of n s ≡ Some d → entry_from 1 number d.entries ≡ Some e
         → IsReadNear t.card_spans n e.start e.past cards
         → IsKeptNear (map (with_withdrawn n number) t.entries) n e.start e.past others
         → IsReadNear t.held n e.start e.past helds
         → IsCanonicalOf (λ m k. IsWithin e.start e.past m
         × Gives (map stored_span cards ++ map stored_span others) m k) inside
-        → TablesStandFor (with_renewed n number e.start e.past (outside e.start e.past (map stored_span helds)
+        → TablesRepresent (with_renewed n number e.start e.past (outside e.start e.past (map stored_span helds)
         ++ inside) t) (put (with_marked number d) s) }
 {}

@@ -2,7 +2,7 @@ ghost use Rattle.std.specs.Prelude.{◌≡◌, ℕ, [], None, MatchOption, Match
 ghost use Rattle.tacho_time.specs.OrMemory.{OrMemory};
 ghost use Rattle.tacho_time.specs.Spans.{IsCanonical};
 ghost use Rattle.tacho_line.specs.Line.{AreGains, first_empty};
-ghost use Rattle.tacho_store.specs.News.{AreNews, IsContradicted, IsRefused};
+ghost use Rattle.tacho_store.specs.News.{AreNews, IsContradicted, IsNewsRefused};
 
 use std::alloc::Global;
 use tacho_line::{Line, LineFault};
@@ -28,7 +28,7 @@ pub fn news_of(
     ensures { MatchResult result
         (λ found. MatchOption found (AreGains card_line.now spans.now [])
         (λ news. AreNews card_line.now line.now spans.now news.card_spans.items news.held.items))
-        (IsRefused card_line.now line.now spans.now) }
+        (IsNewsRefused card_line.now line.now spans.now) }
 {
     match gains_of(alloc, card_line, spans) {
         Ok(gains) if gains.is_empty() => Ok(None),

@@ -1,5 +1,5 @@
 ghost use Rattle.std.specs.Prelude.{◌≡◌, false};
-ghost use Rattle.tacho_state.specs.Steps.{registered};
+ghost use Rattle.tacho_state.specs.Steps.{register_step};
 ghost use Rattle.tacho_reading.specs.Calls.{Steps, Tells};
 ghost use Rattle.tacho_state.specs.Acts.{IsOfNoFile};
 ghost use Rattle.tacho_reading.specs.Kept.{ActsOn};
@@ -35,7 +35,7 @@ fn ask_free<S: Alter>(tx: &mut Transaction<'_, S>, driver: &Driver) -> Result<()
 /// Adds a driver, within a transaction: S1, S2, S3, S9.
 fn register_in<S: Alter>(tx: &mut Transaction<'_, S>, driver: &Driver) -> Result<(), StoreFault>
     ensures { Steps S.Store tx.old.conn tx.new.conn result (λ _. tt)
-        (registered driver.now.number driver.now.holder driver.now.key driver.now.base driver.now.name) }
+        (register_step driver.now.number driver.now.holder driver.now.key driver.now.base driver.now.name) }
 {
     ask_free(tx, driver)?;
     if !is_monday(driver.base()) {
@@ -59,7 +59,7 @@ pub fn register<S: Alter>(conn: &mut Connection<S>, driver: &Driver) -> Result<(
     ensures autocommit { conn.new.in_transaction ≡ false }
     ensures of_no_file { IsOfNoFile result }
     ensures acts { ActsOn S.Store (λ _. tt) conn.old conn.new result
-        (registered driver.now.number driver.now.holder driver.now.key driver.now.base driver.now.name) }
+        (register_step driver.now.number driver.now.holder driver.now.key driver.now.base driver.now.name) }
 {
     let _settled = conn.is_autocommit();
     let mut tx = conn.transaction();

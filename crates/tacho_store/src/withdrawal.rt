@@ -5,13 +5,13 @@ ghost use Rattle.tacho_time.specs.OrMemory.{OrMemory};
 ghost use Rattle.tacho_time.specs.Spans.{Gives, IsCanonicalOf};
 ghost use Rattle.tacho_line.specs.Line.{IsWithin};
 ghost use Rattle.tacho_state.specs.Disjoint.{outside};
-ghost use Rattle.tacho_state.specs.Steps.{withdrawn};
-ghost use Rattle.tacho_tables.specs.Tables.{Tables, HasTables, is_near, row_of, with_withdrawn, IsArchive};
-ghost use Rattle.tacho_reading.specs.Standing.{stored_span, IsFit, AreFaulty};
+ghost use Rattle.tacho_state.specs.Steps.{withdraw_step};
+ghost use Rattle.tacho_tables.specs.Tables.{Tables, HasTables, is_row_near, row_of, with_withdrawn, IsArchive};
+ghost use Rattle.tacho_reading.specs.Standing.{stored_span, IsFit, HaveNoLine};
 ghost use Rattle.tacho_reading.specs.Calls.{Tells, Steps, ChangesWhere};
 ghost use Rattle.tacho_state.specs.Acts.{IsOfNoFile};
 ghost use Rattle.tacho_reading.specs.Kept.{ActsOn};
-ghost use Rattle.tacho_reading.specs.Apart.{AreApart, rows_of};
+ghost use Rattle.tacho_reading.specs.Apart.{AreRowsApart, driver_rows};
 ghost use Rattle.tacho_store.specs.Withdrawing.{IsEntry, AreRowsFor, HaveNoRows, AreRenewed};
 
 use sqlite::{Alter, Connection, Transaction};
@@ -70,7 +70,7 @@ fn given_inside(
     ensures inside { IfOk result (λ inside. IsCanonicalOf (λ m k. IsWithin start past m
         × Gives (map stored_span cards.now ++ map stored_span others.now) m k) inside.items) }
     ensures fault { IfErr result (λ fault. OrMemory StoreFault.Memory fault (fault ≡ StoreFault.Store)) }
-    ensures cause { result ≡ Err StoreFault.Store → AreFaulty (cards.now ++ others.now) }
+    ensures cause { result ≡ Err StoreFault.Store → HaveNoLine (cards.now ++ others.now) }
 {
     let card_spans = spans_of(alloc, cards)?;
     let entered = spans_of(alloc, others)?;
@@ -119,7 +119,7 @@ fn mark<S: Alter>(
     ensures renewed { HasCleanDisk (state S.Store tx.new.conn.now)
         → IsArchive (state S.Store tx.old.conn.now).now
         → IfOk result (λ rows. (t : Tables) → HasTables (state S.Store tx.old.conn.now).now.trees t
-        → AreApart (rows_of driver t.card_spans) → AreApart (rows_of driver t.held)
+        → AreRowsApart (driver_rows driver t.card_spans) → AreRowsApart (driver_rows driver t.held)
         → AreRenewed t driver number start past rows.items) }
     ensures fault { IfErr result (λ fault. OrMemory StoreFault.Memory fault (fault ≡ StoreFault.Store)) }
 {
@@ -139,8 +139,8 @@ fn delete_near<S: Alter>(
     start: u32,
     past: u32,
 ) -> Result<(), TableFault>
-    ensures { ChangesWhere S.Store tx.old.conn tx.new.conn result (λ t. AreApart (rows_of driver t.held))
-        (λ t. record t { held = filter (λ r. not (is_near driver start past r)) t.held }) }
+    ensures { ChangesWhere S.Store tx.old.conn tx.new.conn result (λ t. AreRowsApart (driver_rows driver t.held))
+        (λ t. record t { held = filter (λ r. not (is_row_near driver start past r)) t.held }) }
 {
     let before = spans::last_before(tx, SpanTable::Held, driver, start)?;
     held::delete_begun(tx, driver, first_start(before, start, past), past)
@@ -154,10 +154,10 @@ fn rewrite<S: Alter>(
     past: u32,
     rows: &[StoredSpan],
 ) -> Result<(), TableFault>
-    ensures { ChangesWhere S.Store tx.old.conn tx.new.conn result (λ t. AreApart (rows_of driver t.held))
+    ensures { ChangesWhere S.Store tx.old.conn tx.new.conn result (λ t. AreRowsApart (driver_rows driver t.held))
         (λ t. record t {
           held = map (row_of driver) rows.now ++ filter
-              (λ r. not (is_near driver start past r)) t.held;
+              (λ r. not (is_row_near driver start past r)) t.held;
         }) }
 {
     delete_near(tx, driver, start, past)?;
@@ -171,7 +171,7 @@ fn withdraw_in<S: Alter>(
     driver: u32,
     number: u32,
 ) -> Result<(), StoreFault>
-    ensures { Steps S.Store tx.old.conn tx.new.conn result (λ _. tt) (withdrawn driver number) }
+    ensures { Steps S.Store tx.old.conn tx.new.conn result (λ _. tt) (withdraw_step driver number) }
 {
     let entry = entry_with(tx, driver, number)?;
     let rows = mark(alloc, tx, driver, number, entry.start, entry.past)?;
@@ -189,7 +189,7 @@ pub fn withdraw<S: Alter>(
     requires { conn.old.in_transaction ≡ false }
     ensures autocommit { conn.new.in_transaction ≡ false }
     ensures of_no_file { IsOfNoFile result }
-    ensures acts { ActsOn S.Store (λ _. tt) conn.old conn.new result (withdrawn driver number) }
+    ensures acts { ActsOn S.Store (λ _. tt) conn.old conn.new result (withdraw_step driver number) }
 {
     let _settled = conn.is_autocommit();
     let mut tx = conn.transaction();

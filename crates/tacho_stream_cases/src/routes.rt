@@ -121,7 +121,7 @@ fn has_line(text: &str, wanted: &str) -> bool {
 }
 
 #[test]
-fn each_may_ask_for_what_is_his(rt: HostRuntime) -> Result<(), Fail> {
+fn each_may_ask_for_what_is_theirs(rt: HostRuntime) -> Result<(), Fail> {
     let alloc = rt.alloc();
     let mut done = 0_usize;
     for line in STATUSES.lines() {

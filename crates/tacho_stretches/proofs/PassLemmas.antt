@@ -18,17 +18,17 @@ use Rattle.tacho_line.proofs.LineLemmas.{first_holds, rest_holds, none_before, c
 use Rattle.tacho_line.proofs.MergeLemmas.{append_gives}
 use Rattle.tacho_hours.specs.Line.{line_of, Joined, IsBase, IsExamined}
 use Rattle.tacho_hours.proofs.RunsLemmas.{line_before, line_within, line_past, joined_le}
-use Rattle.tacho_hours.proofs.DrivingLemmas.{line_behind}
+use Rattle.tacho_hours.proofs.DrivingLemmas.{line_from_past}
 use Rattle.tacho_rules.specs.declared.report.Report.{Report}
-use Rattle.tacho_rules.specs.Report.{examined, IsReport}
+use Rattle.tacho_rules.specs.Report.{examined_line, IsReport}
 use Rattle.tacho_rules.specs.Scan.{AreFindings, IsScanOf}
 use Rattle.tacho_stretches.specs.declared.examination.Examination.{Examination}
 use Rattle.tacho_stretches.specs.declared.examination.Examined.{Examined}
 use Rattle.tacho_stretches.specs.declared.pass.StretchPass.{StretchPass}
 use Rattle.tacho_stretches.specs.declared.stretch.Stretch.{Stretch}
 use Rattle.tacho_stretches.specs.Start.{IsStart, IsNextStart, IsHeld, IsEndOfHeld}
-use Rattle.tacho_stretches.specs.Stretches.{Judged, judged, first_monday, unseen_to, IsStretch, AreAll, AreStretches}
-use Rattle.tacho_stretches.specs.Pass.{EndsBy, IsNext, AgreeBefore, IsExaminationOf, IsReportOf, IsExaminedOf, IsPlaceOf, monday_of, AreDone, CanTake, IsPassOf}
+use Rattle.tacho_stretches.specs.Stretches.{Judged, judged_of, first_monday, unseen_to, IsStretch, AreAll, AreStretches}
+use Rattle.tacho_stretches.specs.Pass.{EndsBy, IsNext, AgreeBefore, IsExaminationOf, IsReportOf, IsExaminedOf, IsStageOf, monday_of, AreDone, CanTake, IsPassOf}
 use Rattle.tacho_stretches.proofs.NearLemmas.{near_report, near_next}
 use Rattle.tacho_stretches.proofs.StartLemmas.{within, none_single}
 use Rattle.tacho_stretches.proofs.StretchLemmas.{pushed}
@@ -230,7 +230,7 @@ module _ (spans : List Span) (e : Examination) (is : IsExaminationOf e spans) wh
   }
 
   -- the line of the spans that its scan was fed is the examined line
-  as_examined : (m : ℕ) → line_of is.parts m ≡ examined spans e.monday e.minute m
+  as_examined : (m : ℕ) → line_of is.parts m ≡ examined_line spans e.monday e.minute m
   as_examined m = elim (cases_lt m e.monday) [
     | inl before ↦
         let f : line_of is.parts m ≡ Rest = line_before is.parts e.monday e.minute m is.joined before in
@@ -244,7 +244,7 @@ module _ (spans : List Span) (e : Examination) (is : IsExaminationOf e spans) wh
           ap (λ (o : Option Mark). option_map_or (λ (x : Mark). x.activity) o Rest) (is.held m k c.1) in
           grind (arith, nat_tests, f, g)
       | inr behind ↦
-          let f : line_of is.parts m ≡ Rest = line_behind is.parts e.monday e.minute m is.joined behind in
+          let f : line_of is.parts m ≡ Rest = line_from_past is.parts e.monday e.minute m is.joined behind in
           grind (arith, nat_tests, f)
     ]
   ]
@@ -259,7 +259,7 @@ module _ (spans : List Span) (e : Examination) (is : IsExaminationOf e spans) wh
       let are = subst (λ l. AreFindings l e.monday e.minute report.breaches.items report.debts.items) (fun_ext as_examined)
       (finds e.monday is.parts is.scanned
       (record { base_is = is.is_base; joined = is.joined; single = is.single; within = early })) in
-      let are' = subst (λ (m : ℕ). AreFindings (examined spans e.monday m) e.monday m report.breaches.items report.debts.items)
+      let are' = subst (λ (m : ℕ). AreFindings (examined_line spans e.monday m) e.monday m report.breaches.items report.debts.items)
       (sym at ∙ ap (λ (x : Horizon). x.minute) (sym same)) are in
       record {
         is_horizon = subst (λ (x : Horizon). IsHorizon spans e.monday x) (sym same) (horizon_is h at cause);
@@ -316,7 +316,7 @@ module _ (spans : List Span) (past : ℕ) (s : Span) (next : IsNext spans past s
   pub done_more : (base start : ℕ) (done : List Judged) (x : Examined) (j : Judged)
       → AreDone spans past base done x.monday → IsExaminedOf x (spans ++ s ∷ []) spans s.past
       → IsNextStart (s ∷ []) x.report.horizon.minute (Some start)
-      → j ≡ judged (record { monday = x.monday; report = x.report; unseen = Some start })
+      → j ≡ judged_of (record { monday = x.monday; report = x.report; unseen = Some start })
       → AreDone (spans ++ s ∷ []) s.past base (done ++ j ∷ []) start
   done_more base start done x j so is begins says =
       let all = start_next spans past s next x.report.horizon.minute start is.none begins in
@@ -360,61 +360,61 @@ start_there s after m some is =
 
 -- the pass has taken the span, given its stretches and its place
 stands_now : (new : StretchPass) (s : Span) (spans : List Span) (past : ℕ) → IsNext spans past s → new.past ≡ s.past → (base : ℕ)
-    → AreDone (spans ++ s ∷ []) s.past base (map judged new.done.items) (monday_of new.examination new.examined)
-    → IsPlaceOf new.examination new.examined (spans ++ s ∷ []) (spans ++ s ∷ []) s.past → IsPassOf new base (spans ++ s ∷ [])
+    → AreDone (spans ++ s ∷ []) s.past base (map judged_of new.done.items) (monday_of new.examination new.examined)
+    → IsStageOf new.examination new.examined (spans ++ s ∷ []) (spans ++ s ∷ []) s.past → IsPassOf new base (spans ++ s ∷ [])
 stands_now new s spans past next same base done place = record {
   ended = subst (λ (m : ℕ). EndsBy (spans ++ s ∷ []) m) (sym same) (ended_next spans past s next);
   last = inr (let l = last_next spans past s next in (l.0, same ∙ l.1, l.2));
   done =
-      subst (λ (m : ℕ). AreDone (spans ++ s ∷ []) m base (map judged new.done.items) (monday_of new.examination new.examined)) (sym same)
+      subst (λ (m : ℕ). AreDone (spans ++ s ∷ []) m base (map judged_of new.done.items) (monday_of new.examination new.examined)) (sym same)
       done;
   stands =
-      subst (λ (m : ℕ). IsPlaceOf new.examination new.examined (spans ++ s ∷ []) (spans ++ s ∷ []) m) (sym same) place;
+      subst (λ (m : ℕ). IsStageOf new.examination new.examined (spans ++ s ∷ []) (spans ++ s ∷ []) m) (sym same) place;
 }
 
 -- the pass examines a span, at most up to a horizon
 module _ (p : StretchPass) (s : Span) (can : CanTake p s) (e : Examination) (was next : Option Examined) (same : was ≡ p.examined)
     (monday : monday_of e next ≡ monday_of p.examination was)
-    (taken : (past : ℕ) (spans : List Span) → IsNext spans past s → IsPlaceOf p.examination was spans spans past
-    → IsPlaceOf e next (spans ++ s ∷ []) spans s.past) (base : ℕ) (spans : List Span) (is : IsPassOf p base spans) where
+    (taken : (past : ℕ) (spans : List Span) → IsNext spans past s → IsStageOf p.examination was spans spans past
+    → IsStageOf e next (spans ++ s ∷ []) spans s.past) (base : ℕ) (spans : List Span) (is : IsPassOf p base spans) where
   comes : IsNext spans p.past s
   comes = record { ended = is.ended; from = can.from; some = can.some }
 
-  done_so : (o : Option Examined) → next ≡ o → AreDone spans p.past base (map judged p.done.items) (monday_of e o)
+  done_so : (o : Option Examined) → next ≡ o → AreDone spans p.past base (map judged_of p.done.items) (monday_of e o)
   done_so o to =
-      subst (λ (m : ℕ). AreDone spans p.past base (map judged p.done.items) m)
+      subst (λ (m : ℕ). AreDone spans p.past base (map judged_of p.done.items) m)
       (ap (λ (x : Option Examined). monday_of p.examination x) (sym same) ∙ sym monday ∙ ap (λ (x : Option Examined). monday_of e x) to)
       is.done
 
-  place_so : (o : Option Examined) → next ≡ o → IsPlaceOf e o (spans ++ s ∷ []) spans s.past
+  place_so : (o : Option Examined) → next ≡ o → IsStageOf e o (spans ++ s ∷ []) spans s.past
   place_so o to =
-      subst (λ (x : Option Examined). IsPlaceOf e x (spans ++ s ∷ []) spans s.past) to (taken p.past spans comes
-      (subst (λ (x : Option Examined). IsPlaceOf p.examination x spans spans p.past) (sym same) is.stands))
+      subst (λ (x : Option Examined). IsStageOf e x (spans ++ s ∷ []) spans s.past) to (taken p.past spans comes
+      (subst (λ (x : Option Examined). IsStageOf p.examination x spans spans p.past) (sym same) is.stands))
 
 -- the examination continues
 pub pass_examining : (p new : StretchPass) (s : Span) (was next : Option Examined) → was ≡ p.examined → next ≡ None
     → new.examined ≡ None → new.past ≡ s.past → new.done.items ≡ p.done.items → CanTake p s
     → monday_of new.examination next ≡ monday_of p.examination was
-    → ((past : ℕ) (spans : List Span) → IsNext spans past s → IsPlaceOf p.examination was spans spans past
-    → IsPlaceOf new.examination next (spans ++ s ∷ []) spans s.past)
+    → ((past : ℕ) (spans : List Span) → IsNext spans past s → IsStageOf p.examination was spans spans past
+    → IsStageOf new.examination next (spans ++ s ∷ []) spans s.past)
     → (base : ℕ) (spans : List Span) → IsPassOf p base spans → IsPassOf new base (spans ++ s ∷ [])
 pass_examining p new s was next same ended none past done can monday taken base spans is =
     let e = new.examination in
     let n = comes p s can e was next same monday taken base spans is in
     stands_now new s spans p.past n past base
-    (subst (λ (xs : List Stretch). AreDone (spans ++ s ∷ []) s.past base (map judged xs) (monday_of e new.examined)) (sym done)
-    (done_stays spans p.past s n base (monday_of e new.examined) (map judged p.done.items)
+    (subst (λ (xs : List Stretch). AreDone (spans ++ s ∷ []) s.past base (map judged_of xs) (monday_of e new.examined)) (sym done)
+    (done_stays spans p.past s n base (monday_of e new.examined) (map judged_of p.done.items)
     (done_so p s can e was next same monday taken base spans is new.examined (ended ∙ sym none))))
-    (subst (λ (o : Option Examined). IsPlaceOf e o (spans ++ s ∷ []) (spans ++ s ∷ []) s.past) (sym none)
+    (subst (λ (o : Option Examined). IsStageOf e o (spans ++ s ∷ []) (spans ++ s ∷ []) s.past) (sym none)
     (place_so p s can e was next same monday taken base spans is None ended))
 
 -- or it reaches its horizon, and the pass looks for the next Monday
 pub pass_seeking : {U E : Type 0} (result : Result U E) (p new : StretchPass) (s : Span) (e : Examination) (was next : Option Examined)
     (x : Examined) → was ≡ p.examined → next ≡ Some x → CanTake p s → monday_of e next ≡ monday_of p.examination was
-    → ((past : ℕ) (spans : List Span) → IsNext spans past s → IsPlaceOf p.examination was spans spans past
-    → IsPlaceOf e next (spans ++ s ∷ []) spans s.past)
+    → ((past : ℕ) (spans : List Span) → IsNext spans past s → IsStageOf p.examination was spans spans past
+    → IsStageOf e next (spans ++ s ∷ []) spans s.past)
     → OnOk result ((base past : ℕ) (spans : List Span) → IsNext spans past s
-    → AreDone spans past base (map judged p.done.items) x.monday
+    → AreDone spans past base (map judged_of p.done.items) x.monday
     → IsExaminedOf x (spans ++ s ∷ []) spans s.past → IsPassOf new base (spans ++ s ∷ []))
     → OnOk result ((base : ℕ) (spans : List Span) → IsPassOf p base spans → IsPassOf new base (spans ++ s ∷ []))
 pass_seeking (Ok u) p new s e was next x same at can monday taken h = λ base spans is.
@@ -426,13 +426,13 @@ pass_seeking (Err fault) p new s e was next x same at can monday taken h = tt
 -- the span has no such Monday
 pub sought_none : (new : StretchPass) (s : Span) (x : Examined) → new.past ≡ s.past → new.examined ≡ Some x
     → IsNextStart (s ∷ []) x.report.horizon.minute None → (base past : ℕ) (spans : List Span) → IsNext spans past s
-    → AreDone spans past base (map judged new.done.items) x.monday → IsExaminedOf x (spans ++ s ∷ []) spans s.past
+    → AreDone spans past base (map judged_of new.done.items) x.monday → IsExaminedOf x (spans ++ s ∷ []) spans s.past
     → IsPassOf new base (spans ++ s ∷ [])
 sought_none new s x same at not base past spans next so is =
     stands_now new s spans past next same base
-    (subst (λ (o : Option Examined). AreDone (spans ++ s ∷ []) s.past base (map judged new.done.items) (monday_of new.examination o))
-    (sym at) (done_stays spans past s next base x.monday (map judged new.done.items) so))
-    (subst (λ (o : Option Examined). IsPlaceOf new.examination o (spans ++ s ∷ []) (spans ++ s ∷ []) s.past) (sym at) (record {
+    (subst (λ (o : Option Examined). AreDone (spans ++ s ∷ []) s.past base (map judged_of new.done.items) (monday_of new.examination o))
+    (sym at) (done_stays spans past s next base x.monday (map judged_of new.done.items) so))
+    (subst (λ (o : Option Examined). IsStageOf new.examination o (spans ++ s ∷ []) (spans ++ s ∷ []) s.past) (sym at) (record {
       report = is.report;
       before = is.before;
       none = none_next spans past s next x.report.horizon.minute is.none not;
@@ -447,7 +447,7 @@ pub sought_some : (new : StretchPass) (s : Span) (x : Examined) (start : ℕ) (d
     → new.examination.monday ≡ first.monday → new.examination.minute ≡ s.past
     → ((spans : List Span) → IsExaminationOf first spans → EndsBy spans first.minute → s.start ≤ first.minute
     → s.mark.crew ≡ false → IsExaminationOf new.examination (spans ++ s ∷ []))
-    → (base past : ℕ) (spans : List Span) → IsNext spans past s → AreDone spans past base (map judged done) x.monday
+    → (base past : ℕ) (spans : List Span) → IsNext spans past s → AreDone spans past base (map judged_of done) x.monday
     → IsExaminedOf x (spans ++ s ∷ []) spans s.past → IsPassOf new base (spans ++ s ∷ [])
 sought_some new s x start done first same none push begins monday at nothing goes minute taken base past spans next so is =
     let e = new.examination in
@@ -456,11 +456,11 @@ sought_some new s x start done first same none push begins monday at nothing goe
     let from = next.from in
     let above = there.0 in
     stands_now new s spans past next same base
-    (subst (λ (o : Option Examined). AreDone (spans ++ s ∷ []) s.past base (map judged new.done.items) (monday_of e o)) (sym none)
-    (subst (λ (m : ℕ). AreDone (spans ++ s ∷ []) s.past base (map judged new.done.items) m) (sym (goes ∙ monday))
+    (subst (λ (o : Option Examined). AreDone (spans ++ s ∷ []) s.past base (map judged_of new.done.items) (monday_of e o)) (sym none)
+    (subst (λ (m : ℕ). AreDone (spans ++ s ∷ []) s.past base (map judged_of new.done.items) m) (sym (goes ∙ monday))
     (subst (λ (xs : List Judged). AreDone (spans ++ s ∷ []) s.past base xs start) (sym (pushed done new.done.items one push))
-    (done_more spans past s next base start (map judged done) x (judged one) so is begins refl))))
-    (subst (λ (o : Option Examined). IsPlaceOf e o (spans ++ s ∷ []) (spans ++ s ∷ []) s.past) (sym none) (
+    (done_more spans past s next base start (map judged_of done) x (judged_of one) so is begins refl))))
+    (subst (λ (o : Option Examined). IsStageOf e o (spans ++ s ∷ []) (spans ++ s ∷ []) s.past) (sym none) (
       omega (arith, minute),
       taken spans (nothing spans) (λ m l. next.ended m (omega (arith, from, above, at, l))) (omega (arith, above, at)) there.2,
     ))
@@ -497,19 +497,19 @@ ends_there spans base past horizon ended last from = elim (cases_lt base past) [
 
 -- the earlier stretches and the last one are all stretches
 pub all_stretches : (spans : List Span) (base past : ℕ) (done new : List Stretch) (s : Stretch) → EndsBy spans past
-    → (past ≤ base) ⊎ ((m : ℕ) × (past ≡ m + 1) × IsHeld spans m) → AreDone spans past base (map judged done) s.monday
+    → (past ≤ base) ⊎ ((m : ℕ) × (past ≡ m + 1) × IsHeld spans m) → AreDone spans past base (map judged_of done) s.monday
     → IsReport spans s.monday s.report.horizon s.report.breaches.items s.report.debts.items
     → IsNextStart spans s.report.horizon.minute None → s.unseen ≡ unseen_to past s.report.horizon.minute None
-    → new ≡ done ++ s ∷ [] → AreStretches spans base (map judged new)
+    → new ≡ done ++ s ∷ [] → AreStretches spans base (map judged_of new)
 all_stretches spans base past done new s ended last so report none unseen pushed =
     let from = so.from in
     let at = report.is_horizon.from in
     let e = ends_there spans base past s.report.horizon.minute ended last (omega (arith, from, at)) in
-    let same : map judged new ≡ map judged done ++ judged s ∷ [] = ap (map judged) pushed ∙ map-append judged done (s ∷ []) in
+    let same : map judged_of new ≡ map judged_of done ++ judged_of s ∷ [] = ap (map judged_of) pushed ∙ map-append judged_of done (s ∷ []) in
     subst (λ (xs : List Judged). AreStretches spans base xs) (sym same) (record {
-      first = so.first (judged s ∷ []) refl;
+      first = so.first (judged_of s ∷ []) refl;
       end = e.0;
       is_end = e.1;
-      all = so.all spans e.0 (judged s ∷ []) (λ m lt. refl) refl
+      all = so.all spans e.0 (judged_of s ∷ []) (λ m lt. refl) refl
           (record { report = report; followed = none; rest = unseen ∙ e.2 }, tt);
     })

@@ -12,7 +12,7 @@ use Rattle.tacho_rules.specs.Report.{IsReport}
 use Rattle.tacho_rules.proofs.SliceLemmas.{early_horizon}
 use Rattle.tacho_stretches.specs.declared.stretch.Stretch.{Stretch}
 use Rattle.tacho_stretches.specs.Start.{IsStart, IsNextStart, IsEndOfHeld}
-use Rattle.tacho_stretches.specs.Stretches.{Judged, judged, first_monday, unseen_to, IsStretch, AreAll, AreStretches}
+use Rattle.tacho_stretches.specs.Stretches.{Judged, judged_of, first_monday, unseen_to, IsStretch, AreAll, AreStretches}
 
 -- a single minute is before the end of a span
 pub before_end : (held : List Span) (last m : ℕ) → All (λ (s : Span). s.past ≤ last) held → IsSingle (mark_at held m) → m < last
@@ -75,7 +75,7 @@ the_last line base end monday done s is_end so same is = record {
 pub stretch_is : (line spans : List Span) (end horizon : ℕ) (s : Stretch) (next o : Option ℕ) → spans ≡ line
     → horizon ≡ s.report.horizon.minute
     → IsReport line s.monday s.report.horizon s.report.breaches.items s.report.debts.items
-    → IsNextStart spans horizon o → s.unseen ≡ unseen_to end horizon o → o ≡ next → IsStretch line end (judged s) next
+    → IsNextStart spans horizon o → s.unseen ≡ unseen_to end horizon o → o ≡ next → IsStretch line end (judged_of s) next
 stretch_is line spans end horizon s next o same at report followed rest is = record {
   report = report;
   followed = subst (λ (xs : List Span). IsNextStart xs s.report.horizon.minute next) same
@@ -84,8 +84,8 @@ stretch_is line spans end horizon s next o same at report followed rest is = rec
 }
 
 -- one more stretch in the list
-pub pushed : (old new : List Stretch) (s : Stretch) → new ≡ old ++ s ∷ [] → map judged new ≡ map judged old ++ judged s ∷ []
-pushed old new s e = ap (map judged) e ∙ map-append judged old (s ∷ [])
+pub pushed : (old new : List Stretch) (s : Stretch) → new ≡ old ++ s ∷ [] → map judged_of new ≡ map judged_of old ++ judged_of s ∷ []
+pushed old new s e = ap (map judged_of) e ∙ map-append judged_of old (s ∷ [])
 
 -- the horizon is at most the last minute that can be examined
 pub early_end : (line : List Span) (monday horizon : ℕ) (h : Horizon) → IsHorizon line monday h → horizon ≡ h.minute

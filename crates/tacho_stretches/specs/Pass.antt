@@ -12,7 +12,7 @@ use Rattle.tacho_stretches.specs.declared.examination.Examination.{Examination}
 use Rattle.tacho_stretches.specs.declared.examination.Examined.{Examined}
 use Rattle.tacho_stretches.specs.declared.pass.StretchPass.{StretchPass}
 use Rattle.tacho_stretches.specs.Start.{IsNextStart, IsHeld}
-use Rattle.tacho_stretches.specs.Stretches.{Judged, judged, first_monday, AreAll}
+use Rattle.tacho_stretches.specs.Stretches.{Judged, judged_of, first_monday, AreAll}
 
 -- ---- spans
 
@@ -54,9 +54,9 @@ pub record IsExaminedOf (e : Examined) (spans sought : List Span) (past : ℕ) :
 -- ---- a pass
 
 -- the place of a pass after spans that end by `past`: in an examination, or at the horizon of one
-abbrev pub IsPlaceOf : Examination → Option Examined → List Span → List Span → ℕ → Type 0
-IsPlaceOf e None spans sought past = (past ≤ e.minute) × IsExaminationOf e spans
-IsPlaceOf e (Some x) spans sought past = IsExaminedOf x spans sought past
+abbrev pub IsStageOf : Examination → Option Examined → List Span → List Span → ℕ → Type 0
+IsStageOf e None spans sought past = (past ≤ e.minute) × IsExaminationOf e spans
+IsStageOf e (Some x) spans sought past = IsExaminedOf x spans sought past
 
 -- the Monday of the examination at that place
 abbrev pub monday_of : Examination → Option Examined → ℕ
@@ -80,5 +80,5 @@ pub record CanTake (p : StretchPass) (s : Span) : Type 0 where
 pub record IsPassOf (p : StretchPass) (base : ℕ) (spans : List Span) : Type 0 where
   pub ended : EndsBy spans p.past
   pub last : (p.past ≤ base) ⊎ ((m : ℕ) × (p.past ≡ m + 1) × IsHeld spans m)
-  pub done : AreDone spans p.past base (map judged p.done.items) (monday_of p.examination p.examined)
-  pub stands : IsPlaceOf p.examination p.examined spans spans p.past
+  pub done : AreDone spans p.past base (map judged_of p.done.items) (monday_of p.examination p.examined)
+  pub stands : IsStageOf p.examination p.examined spans spans p.past

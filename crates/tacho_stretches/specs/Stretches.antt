@@ -17,8 +17,8 @@ pub record Judged : Type 0 where
   pub debts : List Debt
   pub unseen : Option ℕ
 
-abbrev pub judged : Stretch → Judged
-judged s = record {
+abbrev pub judged_of : Stretch → Judged
+judged_of s = record {
   monday = s.monday;
   horizon = s.report.horizon;
   breaches = s.report.breaches.items;

@@ -3,8 +3,8 @@ ghost use Rattle.tacho_time.specs.declared.span.Span.{Span as SpanValue};
 ghost use Rattle.tacho_hours.specs.Line.{IsBase};
 ghost use Rattle.tacho_hours.specs.Limits.{latest};
 ghost use Rattle.tacho_stretches.specs.Start.{IsNextStart};
-ghost use Rattle.tacho_stretches.specs.Stretches.{AreStretches, judged};
-ghost use Rattle.tacho_stretches.specs.Pass.{monday_of, EndsBy, IsNext, IsReportOf, IsExaminedOf, IsPlaceOf, AreDone, CanTake, IsPassOf};
+ghost use Rattle.tacho_stretches.specs.Stretches.{AreStretches, judged_of};
+ghost use Rattle.tacho_stretches.specs.Pass.{monday_of, EndsBy, IsNext, IsReportOf, IsExaminedOf, IsStageOf, AreDone, CanTake, IsPassOf};
 
 use crate::examination::{Examination, Examined};
 use crate::start::start_in;
@@ -76,7 +76,7 @@ impl StretchPass {
         requires none { self.old.examined ≡ None }
         ensures past { self.new.past ≡ span.now.past }
         ensures fed { OnOk result ((base past : ℕ) (spans : List SpanValue) → IsNext spans past span.now
-            → AreDone spans past base (map judged self.old.done.items) examined.monday
+            → AreDone spans past base (map judged_of self.old.done.items) examined.monday
             → IsExaminedOf examined (spans ++ span.now ∷ []) spans span.now.past
             → IsPassOf self.new base (spans ++ span.now ∷ [])) }
     {
@@ -97,7 +97,7 @@ impl StretchPass {
     /// Returns the stretches of all spans that were taken. Fails only if memory runs out.
     pub fn finish(self) -> Result<Vec<Stretch>, AllocError>
         ensures stretches { IfOk result (λ stretches. (base : ℕ) (spans : List SpanValue) → IsPassOf self base spans
-            → AreStretches spans base (map judged stretches.items)) }
+            → AreStretches spans base (map judged_of stretches.items)) }
     {
         let examined = end(self.alloc, self.examination, self.examined)?;
         let unseen = unseen_after(self.past, horizon_of(&examined.report), &None);
@@ -121,8 +121,8 @@ fn examine(
     requires within { span.now.past ≤ latest }
     ensures monday { IfOk result (λ next. monday_of examination.new next ≡ monday_of examination.old examined) }
     ensures taken { IfOk result (λ next. (past : ℕ) (spans : List SpanValue) → IsNext spans past span.now
-        → IsPlaceOf examination.old examined spans spans past
-        → IsPlaceOf examination.new next (spans ++ span.now ∷ []) spans span.now.past) }
+        → IsStageOf examination.old examined spans spans past
+        → IsStageOf examination.new next (spans ++ span.now ∷ []) spans span.now.past) }
 {
     match examined {
         Some(examined) => Ok(Some(examined)),
@@ -138,9 +138,9 @@ fn end(
 ) -> Result<Examined, AllocError>
     ensures monday { IfOk result (λ last. last.monday ≡ monday_of examination examined) }
     ensures report { IfOk result (λ last. (past : ℕ) (spans : List SpanValue)
-        → IsPlaceOf examination examined spans spans past → EndsBy spans past → IsReportOf last spans) }
+        → IsStageOf examination examined spans spans past → EndsBy spans past → IsReportOf last spans) }
     ensures last { IfOk result (λ last. (past : ℕ) (spans : List SpanValue)
-        → IsPlaceOf examination examined spans spans past → EndsBy spans past
+        → IsStageOf examination examined spans spans past → EndsBy spans past
         → IsNextStart spans last.report.horizon.minute None) }
 {
     let mut examination = examination;
@@ -159,8 +159,8 @@ fn examine_span(
     requires within { span.now.past ≤ latest }
     ensures monday { IfOk result (λ examined. monday_of examination.new examined ≡ examination.old.monday) }
     ensures taken { IfOk result (λ examined. (past : ℕ) (spans : List SpanValue) → IsNext spans past span.now
-        → IsPlaceOf examination.old None spans spans past
-        → IsPlaceOf examination.new examined (spans ++ span.now ∷ []) spans span.now.past) }
+        → IsStageOf examination.old None spans spans past
+        → IsStageOf examination.new examined (spans ++ span.now ∷ []) spans span.now.past) }
 {
     if span.past <= examination.minute {
         return Ok(None);

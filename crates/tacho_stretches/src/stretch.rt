@@ -1,7 +1,7 @@
 ghost use Rattle.std.specs.Prelude.{◌≡◌, ◌≤◌, All, IfOk, map};
 ghost use Rattle.tacho_hours.specs.Line.{IsBase};
 ghost use Rattle.tacho_hours.specs.Limits.{latest};
-ghost use Rattle.tacho_stretches.specs.Stretches.{AreStretches, judged, unseen_to};
+ghost use Rattle.tacho_stretches.specs.Stretches.{AreStretches, judged_of, unseen_to};
 
 use crate::end::end_of_held;
 use crate::start::next_start;
@@ -28,7 +28,7 @@ pub fn stretches(alloc: Global, line: &Line, base: Minute) -> Result<Vec<Stretch
     requires monday { IsBase base }
     requires early { base ≤ latest }
     requires within { All (λ span. span.past ≤ latest) line.now }
-    ensures { IfOk result (λ stretches. AreStretches line.now base (map judged stretches.items)) }
+    ensures { IfOk result (λ stretches. AreStretches line.now base (map judged_of stretches.items)) }
 {
     let spans = line.spans();
     let end = end_of_held(spans, base);

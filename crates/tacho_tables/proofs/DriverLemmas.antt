@@ -19,7 +19,7 @@ use Rattle.sqlite.proofs.Callers.{reads_as}
 use Rattle.tacho_tables.specs.Schema.{Layout, archive_schema}
 use Rattle.tacho_tables.specs.Schema as made
 use Rattle.tacho_tables.specs.Rows.{DriverRow, driver_row, AreNumberedRowsOf}
-use Rattle.tacho_tables.specs.Tables.{IsArchive, Turns, has_number, has_secret, has_holder, with_base, with_downloads, with_entries}
+use Rattle.tacho_tables.specs.Tables.{IsArchive, Turns, has_number, has_secret, has_holder, with_row_base, with_downloads, with_entries}
 use Rattle.tacho_tables.proofs.Answers.{simple, passes, listed, shows, eq_test, text_test, blob_test}
 use Rattle.tacho_tables.proofs.Idle.{idle}
 use Rattle.tacho_tables.proofs.Kept.{with_drivers}
@@ -126,7 +126,7 @@ module _ (old new : State) (driver value count : ℕ) (is : IsArchive old.now) w
 
   -- it sets the driver's base
   pub sets_base : Executes base_text params old new (Ok count)
-      → Turns old new (λ a. record a { drivers = map (with_base driver value) a.drivers })
+      → Turns old new (λ a. record a { drivers = map (with_row_base driver value) a.drivers })
   sets_base h =
       changes base_text with_base_shown (λ x. record x { base = value }) base_is (λ x. refl)
       (λ x. rw (cast_int (pos x.driver), cast_null, cast_int (pos value), cast_int (pos x.downloads), cast_int (pos x.entries)) refl) h

@@ -4,7 +4,7 @@ use Rattle.tacho_tables.specs.Schema.{Layout, Made, Carried, archive_schema, ent
 use Rattle.tacho_tables.specs.Schema as made
 use Rattle.tacho_tables.specs.declared.spans.SpanTable.{SpanTable}
 use Rattle.tacho_tables.specs.declared.spans.SpanTable.TheVariants.{CardSpans, Held}
-use Rattle.tacho_tables.specs.Spans.{rows_of}
+use Rattle.tacho_tables.specs.Spans.{span_table_rows}
 
 -- the place of `entry_rows`
 abbrev pub entry_place : Layout → ℕ
@@ -38,7 +38,7 @@ downloads_listed Carried = refl
 
 -- a table of spans is at its place
 pub spans_listed : (layout : Layout) (table : SpanTable)
-    → slice_get (archive_schema layout).tables (place_of table) ≡ Some (record (spans (name_of table)) { tree = rows_of table })
+    → slice_get (archive_schema layout).tables (place_of table) ≡ Some (record (spans (name_of table)) { tree = span_table_rows table })
 spans_listed Made CardSpans = refl
 spans_listed Made Held = refl
 spans_listed Carried CardSpans = refl

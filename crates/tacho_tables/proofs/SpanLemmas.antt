@@ -25,7 +25,7 @@ use Rattle.tacho_tables.specs.Rows.{AreRowsOf, SpanRow, span_columns}
 use Rattle.tacho_tables.specs.declared.rows.StoredSpan.{StoredSpan}
 use Rattle.tacho_tables.specs.declared.spans.SpanTable.{SpanTable}
 use Rattle.tacho_tables.specs.declared.spans.SpanTable.TheVariants.{CardSpans, Held}
-use Rattle.tacho_tables.specs.Spans.{spans_in, with_spans, rows_of}
+use Rattle.tacho_tables.specs.Spans.{spans_in, with_span_rows, span_table_rows}
 use Rattle.tacho_tables.specs.Tables.{Tables, HasTables, IsArchive, Turns, is_before, is_begun, is_of, span_shown, span_of, row_of}
 use Rattle.tacho_tables.proofs.Answers.{passes, listed, shows, eq_test, lt_test, le_test}
 use Rattle.tacho_tables.proofs.Stored.{stands_shuffled, shown_of}
@@ -52,7 +52,7 @@ pub record IsSpanTable (at tree : ℕ) (name : List ℕ) (get : Tables → List 
       → HasTables next (put xs a)
 
 -- each of the two tables is such a table
-pub span_table : (table : SpanTable) → IsSpanTable (place_of table) (rows_of table) (name_of table) (spans_in table) (with_spans table)
+pub span_table : (table : SpanTable) → IsSpanTable (place_of table) (span_table_rows table) (name_of table) (spans_in table) (with_span_rows table)
 span_table CardSpans = record {
   place = λ layout. spans_listed layout CardSpans;
   got = λ xs a. refl;

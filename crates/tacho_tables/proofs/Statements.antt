@@ -17,7 +17,7 @@ use Rattle.sqlite_resolve.specs.declared.error.CompileError.TheVariants.{NoSuchT
 use Rattle.tacho_tables.specs.Schema.{Layout, Made, Carried, archive_schema, old_schema, no_schema, entry_tree}
 use Rattle.tacho_tables.specs.declared.spans.SpanTable.{SpanTable}
 use Rattle.tacho_tables.specs.declared.spans.SpanTable.TheVariants.{CardSpans, Held}
-use Rattle.tacho_tables.specs.Spans.{rows_of, before_text, begun_text, insert_text, eight_text}
+use Rattle.tacho_tables.specs.Spans.{span_table_rows, before_text, begun_text, insert_text, eight_text}
 use Rattle.tacho_tables.proofs.Answers.{simple, first_of}
 use Rattle.tacho_tables.proofs.Places.{place_of, entry_place}
 
@@ -134,7 +134,7 @@ eight_is Carried Held = record { meant = refl; plain = (refl, refl) }
 
 -- the reading of the latest span that begins before a minute
 pub before_is : (layout : Layout) (table : SpanTable)
-    → IsReadingFirst (archive_schema layout) (before_text table) (rows_of table) before three_shown by_start_down span_names
+    → IsReadingFirst (archive_schema layout) (before_text table) (span_table_rows table) before three_shown by_start_down span_names
 unfolding understood everything
 before_is Made CardSpans = record { meant = refl; unlisted = refl; plain = (refl, refl) }
 before_is Carried CardSpans = record { meant = refl; unlisted = refl; plain = (refl, refl) }
@@ -143,7 +143,7 @@ before_is Carried Held = record { meant = refl; unlisted = refl; plain = (refl, 
 
 -- the reading of the spans that begin in a range
 pub begun_is : (layout : Layout) (table : SpanTable)
-    → IsReading (archive_schema layout) (begun_text table) (rows_of table) begun three_shown by_start span_names
+    → IsReading (archive_schema layout) (begun_text table) (span_table_rows table) begun three_shown by_start span_names
 unfolding understood everything
 begun_is Made CardSpans = record { meant = refl; unlisted = refl; plain = (refl, refl) }
 begun_is Carried CardSpans = record { meant = refl; unlisted = refl; plain = (refl, refl) }

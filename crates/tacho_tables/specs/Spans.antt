@@ -12,14 +12,14 @@ spans_in CardSpans a = a.card_spans
 spans_in Held a = a.held
 
 -- the tables with these rows in place of its own
-abbrev pub with_spans : SpanTable → List SpanRow → Tables → Tables
-with_spans CardSpans rows a = record a { card_spans = rows }
-with_spans Held rows a = record a { held = rows }
+abbrev pub with_span_rows : SpanTable → List SpanRow → Tables → Tables
+with_span_rows CardSpans rows a = record a { card_spans = rows }
+with_span_rows Held rows a = record a { held = rows }
 
 -- the tree number by which the store knows its rows
-abbrev pub rows_of : SpanTable → ℕ
-rows_of CardSpans = card_span_rows
-rows_of Held = held_rows
+abbrev pub span_table_rows : SpanTable → ℕ
+span_table_rows CardSpans = card_span_rows
+span_table_rows Held = held_rows
 
 -- the SQL that reads the latest span that begins before a minute
 abbrev pub before_text : SpanTable → List ℕ

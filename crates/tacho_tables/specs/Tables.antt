@@ -70,8 +70,8 @@ pub record HasOldTables (db : Trees) (a : OldTables) : Type 0 where
   pub held : AreRowsOf span_columns (db tree.held_rows) a.held
 
 -- these tables in schema 2: the author of each entry is the office, and its note is empty
-abbrev pub carried : OldTables → Tables
-carried a = record {
+abbrev pub carry_over : OldTables → Tables
+carry_over a = record {
   drivers = a.drivers;
   downloads = a.downloads;
   card_spans = a.card_spans;
@@ -84,7 +84,7 @@ carried a = record {
 -- tables of schema 1 became tables of schema 2, and `entries` became empty
 pub record Carries (old new : Database) : Type 0 where
   pub schema : IsArchive new
-  pub stands : (a : OldTables) → HasOldTables old.trees a → HasTables new.trees (carried a)
+  pub stands : (a : OldTables) → HasOldTables old.trees a → HasTables new.trees (carry_over a)
   pub emptied : (a : OldTables) → HasOldTables old.trees a → new.trees old_entry_tree ≡ []
 
 -- a step: if the old rows represent some lists, the new rows represent what `step` makes of these lists
@@ -93,8 +93,8 @@ pub record Turns (old new : State) (step : Tables → Tables) : Type 0 where
   pub stands : (a : Tables) → HasTables old.now.trees a → HasTables new.now.trees (step a)
 
 -- a row of the driver that has a minute in the range
-abbrev pub is_near : ℕ → ℕ → ℕ → SpanRow → Bool
-is_near driver start past r = (r.driver == driver) && (nat_lt r.start past && nat_lt start r.past)
+abbrev pub is_row_near : ℕ → ℕ → ℕ → SpanRow → Bool
+is_row_near driver start past r = (r.driver == driver) && (nat_lt r.start past && nat_lt start r.past)
 
 -- a row of the driver that begins before a minute, and a row of the driver that begins in a range
 abbrev pub is_before : ℕ → ℕ → SpanRow → Bool
@@ -204,8 +204,8 @@ abbrev pub has_holder : List ℕ → DriverRow → Bool
 has_holder holder r = bytes_eq r.holder holder
 
 -- the driver with this number gets another base, another count of downloads, or another count of entries
-abbrev pub with_base : ℕ → ℕ → DriverRow → DriverRow
-with_base driver base r = if has_number driver r then record r { base = base } else r
+abbrev pub with_row_base : ℕ → ℕ → DriverRow → DriverRow
+with_row_base driver base r = if has_number driver r then record r { base = base } else r
 
 abbrev pub with_downloads : ℕ → ℕ → DriverRow → DriverRow
 with_downloads driver count r = if has_number driver r then record r { downloads = count } else r

@@ -4,7 +4,7 @@ ghost use Rattle.std.specs.Prelude.{◌≡◌, ◌++◌, ◌∷◌, map, filter,
 ghost use Rattle.tacho_tables.specs.Rows.{SpanRow};
 ghost use Rattle.tacho_tables.specs.Calls.{Finds, Changes};
 ghost use Rattle.tacho_tables.specs.Tables.{IsLatest, is_before, is_begun, row_of, span_of};
-ghost use Rattle.tacho_tables.specs.Spans.{spans_in, with_spans, before_text, begun_text, insert_text, eight_text};
+ghost use Rattle.tacho_tables.specs.Spans.{spans_in, with_span_rows, before_text, begun_text, insert_text, eight_text};
 
 use crate::fault::TableFault;
 use crate::rows::{StoredSpan, first_span, stored_spans};
@@ -118,7 +118,7 @@ fn insert<S: Alter>(
     span: &StoredSpan,
 ) -> Result<(), TableFault>
     ensures { Changes S.Store tx.old.conn tx.new.conn result
-        (λ a. with_spans table (row_of driver span.now ∷ spans_in table a) a) }
+        (λ a. with_span_rows table (row_of driver span.now ∷ spans_in table a) a) }
 {
     run(
         tx,
@@ -135,7 +135,7 @@ fn insert_eight<S: Alter>(
     spans: &[StoredSpan; 8],
 ) -> Result<(), TableFault>
     ensures { Changes S.Store tx.old.conn tx.new.conn result
-        (λ a. with_spans table (map (row_of driver) spans.now ++ spans_in table a) a) }
+        (λ a. with_span_rows table (map (row_of driver) spans.now ++ spans_in table a) a) }
 {
     let [a, b, c, d, e, f, g, h] = spans;
     run(
@@ -157,7 +157,7 @@ pub fn insert_all<S: Alter>(
     spans: &[StoredSpan],
 ) -> Result<(), TableFault>
     ensures { Changes S.Store tx.old.conn tx.new.conn result
-        (λ a. with_spans table (map (row_of driver) spans.now ++ spans_in table a) a) }
+        (λ a. with_span_rows table (map (row_of driver) spans.now ++ spans_in table a) a) }
 {
     let (eights, rest) = spans.as_chunks::<8>();
     for eight in eights {

@@ -14,7 +14,7 @@ use Rattle.tacho_time.specs.Spans.{Covers, Gives, GiveSame, IsCanonical, IsCanon
 use Rattle.std.proofs.Common.{MatchResult}
 use Rattle.tacho_time.specs.declared.canonical.SpanFault.{SpanFault}
 use Rattle.tacho_time.specs.declared.canonical.SpanFault.TheVariants.{Contradiction, Memory}
-use Rattle.tacho_time.specs.Merge.{IsMergeFault, IsFirstFault, activity_code, same_bool, same_mark, with_front, is_apart, stretched, merged_from, merged, IsMerged, is_full}
+use Rattle.tacho_time.specs.Merge.{IsMergeFault, IsFirstFault, activity_code, same_bool, same_mark, with_front, is_apart, extend_to, merged_from, merge_spans, IsMerged, is_full}
 
 -- ---- marks
 
@@ -95,8 +95,8 @@ same_trans xs ys zs f g m k = (λ x. (g m k).0 ((f m k).0 x), λ z. (f m k).1 ((
 same_sym : (xs ys : List Span) → GiveSame xs ys → GiveSame ys xs
 same_sym xs ys f m k = ((f m k).1, (f m k).0)
 
-pub same_behind : (s : Span) (xs ys : List Span) → GiveSame xs ys → GiveSame (s ∷ xs) (s ∷ ys)
-same_behind s xs ys f m k = (go (f m k).0, go (f m k).1) where
+pub same_following : (s : Span) (xs ys : List Span) → GiveSame xs ys → GiveSame (s ∷ xs) (s ∷ ys)
+same_following s xs ys f m k = (go (f m k).0, go (f m k).1) where
   go : {P Q R : Type 0} → (P → Q) → R ⊎ P → R ⊎ Q
   go h (inl r) = inl r
   go h (inr p) = inr (h p)
@@ -149,7 +149,7 @@ Runs last ss (Err m) = IsFirstConflict (Gives (last ∷ ss)) m
 front_runs : (last s : Span) (ss : List Span) (r : Result (List Span) ℕ) → last.start < last.past → StartsFrom last.start (s ∷ ss) → last.past ≤ s.start → (last.past ≡ s.start → s.mark ≢ last.mark) → Runs s ss r → Runs last (s ∷ ss) (with_front (last ∷ []) r)
 front_runs last s ss (Ok []) full from l ne h = absurd h.2
 front_runs last s ss (Ok (t ∷ ts)) full from l ne h =
-    ((full, (omega (arith, l, h.2.0), λ e d. ne (e ∙ h.2.0) (sym h.2.1 ∙ sym d)), h.0), same_behind last (t ∷ ts) (s ∷ ss) h.1, (refl, refl))
+    ((full, (omega (arith, l, h.2.0), λ e d. ne (e ∙ h.2.0) (sym h.2.1 ∙ sym d)), h.0), same_following last (t ∷ ts) (s ∷ ss) h.1, (refl, refl))
 front_runs last s ss (Err m) full from l ne h =
     ((h.0.0, h.0.1, inr h.0.2, inr h.0.3, h.0.4), λ n lt c. least n lt c.0 c.1 c.2 c.3 c.4) where
       own : (n : ℕ) (k : Mark) → Covers last n → Gives (s ∷ ss) n k → ⊥
@@ -187,31 +187,31 @@ before_end : (a b m : ℕ) → m < cond (nat_lt a b) b a → a ≤ m → m < b
 before_end a b m h l = grind (arith, nat_tests)
 
 -- extending a run to the end of the next span gives the same as the two of them
-stretch_gives : (last s : Span) (ss : List Span) → last.start ≤ s.start → s.start < s.past → s.start ≤ last.past → s.mark ≡ last.mark → GiveSame (stretched last s ∷ ss) (last ∷ s ∷ ss)
+stretch_gives : (last s : Span) (ss : List Span) → last.start ≤ s.start → s.start < s.past → s.start ≤ last.past → s.mark ≡ last.mark → GiveSame (extend_to last s ∷ ss) (last ∷ s ∷ ss)
 stretch_gives last s ss from full l same m k = (there, back) where
-  ends : (last.past ≤ (stretched last s).past) × (s.past ≤ (stretched last s).past)
+  ends : (last.past ≤ (extend_to last s).past) × (s.past ≤ (extend_to last s).past)
   ends = later_end last.past s.past
 
-  pick : (m < last.past) ⊎ (last.past ≤ m) → (Covers (stretched last s) m × (last.mark ≡ k)) → Gives (last ∷ s ∷ ss) m k
+  pick : (m < last.past) ⊎ (last.past ≤ m) → (Covers (extend_to last s) m × (last.mark ≡ k)) → Gives (last ∷ s ∷ ss) m k
   pick (inl h) c = inl ((c.0.0, h), c.1)
   pick (inr h) c = inr (inl ((omega (arith, l, h), before_end last.past s.past m c.0.1 h), same ∙ c.1))
 
-  there : Gives (stretched last s ∷ ss) m k → Gives (last ∷ s ∷ ss) m k
+  there : Gives (extend_to last s ∷ ss) m k → Gives (last ∷ s ∷ ss) m k
   there (inl c) = pick (lt_or_le m last.past) c
   there (inr g) = inr (inr g)
 
-  back : Gives (last ∷ s ∷ ss) m k → Gives (stretched last s ∷ ss) m k
+  back : Gives (last ∷ s ∷ ss) m k → Gives (extend_to last s ∷ ss) m k
   back (inl c) = inl ((c.0.0, omega (arith, c.0.1, ends.0)), c.1)
   back (inr (inl c)) = inl ((omega (arith, from, c.0.0), omega (arith, c.0.1, ends.1)), sym same ∙ c.1)
   back (inr (inr g)) = inr g
 
-stretch_runs : (last s : Span) (ss : List Span) (r : Result (List Span) ℕ) → GiveSame (stretched last s ∷ ss) (last ∷ s ∷ ss) → Runs (stretched last s) ss r → Runs last (s ∷ ss) r
+stretch_runs : (last s : Span) (ss : List Span) (r : Result (List Span) ℕ) → GiveSame (extend_to last s ∷ ss) (last ∷ s ∷ ss) → Runs (extend_to last s) ss r → Runs last (s ∷ ss) r
 stretch_runs last s ss (Ok []) same h = absurd h.2
-stretch_runs last s ss (Ok (t ∷ ts)) same h = (h.0, same_trans (t ∷ ts) (stretched last s ∷ ss) (last ∷ s ∷ ss) h.1 same, h.2)
-stretch_runs last s ss (Err m) same h = same_first (stretched last s ∷ ss) (last ∷ s ∷ ss) m same h
+stretch_runs last s ss (Ok (t ∷ ts)) same h = (h.0, same_trans (t ∷ ts) (extend_to last s ∷ ss) (last ∷ s ∷ ss) h.1 same, h.2)
+stretch_runs last s ss (Err m) same h = same_first (extend_to last s ∷ ss) (last ∷ s ∷ ss) m same h
 
 -- the next span starts at or before the run's end
-joined_runs : (last s : Span) (ss : List Span) → last.start < last.past → StartsFrom last.start (s ∷ ss) → (last.start < (stretched last s).past → Runs (stretched last s) ss (merged_from (stretched last s) ss)) → (t : Bool) → same_mark s.mark last.mark ≡ t → (s.start ≤ last.past) × (last.past ≡ s.start → same_mark s.mark last.mark ≡ true) → Runs last (s ∷ ss) (cond (not t) (Err s.start) (merged_from (stretched last s) ss))
+joined_runs : (last s : Span) (ss : List Span) → last.start < last.past → StartsFrom last.start (s ∷ ss) → (last.start < (extend_to last s).past → Runs (extend_to last s) ss (merged_from (extend_to last s) ss)) → (t : Bool) → same_mark s.mark last.mark ≡ t → (s.start ≤ last.past) × (last.past ≡ s.start → same_mark s.mark last.mark ≡ true) → Runs last (s ∷ ss) (cond (not t) (Err s.start) (merged_from (extend_to last s) ss))
 joined_runs last s ss full from more true e h =
     let same = stretch_gives last s ss from.0 from.1 h.0 (marks_equal _ _ e) in
     let ends = later_end last.past s.past in
@@ -221,9 +221,9 @@ joined_runs last s ss full from more false e h =
     let lt : s.start < last.past = omega (arith, h.0, touch) in
     conflict_runs last s ss full from lt (marks_differ _ _ e)
 
-split_runs : (last s : Span) (ss : List Span) → last.start < last.past → StartsFrom last.start (s ∷ ss) → Runs s ss (merged_from s ss) → (last.start < (stretched last s).past → Runs (stretched last s) ss (merged_from (stretched last s) ss)) → Runs last (s ∷ ss) (merged_from last (s ∷ ss))
+split_runs : (last s : Span) (ss : List Span) → last.start < last.past → StartsFrom last.start (s ∷ ss) → Runs s ss (merged_from s ss) → (last.start < (extend_to last s).past → Runs (extend_to last s) ss (merged_from (extend_to last s) ss)) → Runs last (s ∷ ss) (merged_from last (s ∷ ss))
 split_runs last s ss full from apart more = split (is_apart last s) refl where
-  split : (b : Bool) → is_apart last s ≡ b → Runs last (s ∷ ss) (cond b (with_front (last ∷ []) (merged_from s ss)) (cond (not (same_mark s.mark last.mark)) (Err s.start) (merged_from (stretched last s) ss)))
+  split : (b : Bool) → is_apart last s ≡ b → Runs last (s ∷ ss) (cond b (with_front (last ∷ []) (merged_from s ss)) (cond (not (same_mark s.mark last.mark)) (Err s.start) (merged_from (extend_to last s) ss)))
   split true e =
       let h = apart_true last s e in
       front_runs last s ss (merged_from s ss) full from h.0 (λ d. marks_differ _ _ (h.1 d)) apart
@@ -234,10 +234,10 @@ pub runs_of : (last : Span) (ss : List Span) → last.start < last.past → Star
 runs_of last [] full from = ((full, tt, tt), λ m k. (λ g. g, λ g. g), (refl, refl))
 runs_of last (s ∷ ss) full from =
     split_runs last s ss full from (runs_of s ss from.1 from.2)
-    (λ h. runs_of (stretched last s) ss h (starts_lower last.start s.start ss from.0 from.2))
+    (λ h. runs_of (extend_to last s) ss h (starts_lower last.start s.start ss from.0 from.2))
 
 -- merging spans in order gives their canonical list, or the first minute with two marks
-pub merged_means : (spans : List Span) → StartsFrom 0 spans → IsMerged spans (merged spans)
+pub merged_means : (spans : List Span) → StartsFrom 0 spans → IsMerged spans (merge_spans spans)
 merged_means [] h = (tt, λ m k. (λ g. g, λ g. g))
 merged_means (s ∷ ss) h = go (merged_from s ss) (runs_of s ss h.1 h.2) where
   go : (r : Result (List Span) ℕ) → Runs s ss r → IsMerged (s ∷ ss) r
@@ -323,9 +323,9 @@ sorted_same xs ys p = same_trans ys (filter is_full xs) xs (moved_same (filter i
 
 -- ---- what the code answers
 
-pub merge_result : {V : Type 0} (items : V → List Span) (spans : List Span) (r : Result V SpanFault) → IsMerged spans (merged spans) → MatchResult r (λ runs. merged spans ≡ Ok (items runs)) (λ fault. IsMergeFault fault (merged spans)) → MatchResult r (λ runs. IsCanonical (items runs) × GiveSame (items runs) spans) (IsFirstFault (Gives spans))
-merge_result items spans (Ok v) h e = merge_means spans (merged spans) h (items v) e
-merge_result items spans (Err (Contradiction m)) h e = merge_fault spans (merged spans) h m e
+pub merge_result : {V : Type 0} (items : V → List Span) (spans : List Span) (r : Result V SpanFault) → IsMerged spans (merge_spans spans) → MatchResult r (λ runs. merge_spans spans ≡ Ok (items runs)) (λ fault. IsMergeFault fault (merge_spans spans)) → MatchResult r (λ runs. IsCanonical (items runs) × GiveSame (items runs) spans) (IsFirstFault (Gives spans))
+merge_result items spans (Ok v) h e = merge_means spans (merge_spans spans) h (items v) e
+merge_result items spans (Err (Contradiction m)) h e = merge_fault spans (merge_spans spans) h m e
 merge_result items spans (Err Memory) h e = tt
 
 pub moved_result : {V : Type 0} (items : V → List Span) (spans others : List Span) (r : Result V SpanFault) → GiveSame others spans → MatchResult r (λ runs. IsCanonical (items runs) × GiveSame (items runs) others) (IsFirstFault (Gives others)) → MatchResult r (λ runs. IsCanonicalOf (Gives spans) (items runs)) (IsFirstFault (Gives spans))
@@ -335,9 +335,9 @@ moved_result items spans others (Err Memory) same h = tt
 
 -- ---- one canonical list
 
-behind_start : (s : Span) (ss : List Span) (k : Mark) → IsCanonical (s ∷ ss) → Gives (s ∷ ss) s.start k → s.mark ≡ k
-behind_start s ss k h (inl c) = c.1
-behind_start s ss k h (inr g) = let l = later s.past ss s.start k (canonical_starts s ss h) g in absurd (omega (arith, l, h.0))
+after_start : (s : Span) (ss : List Span) (k : Mark) → IsCanonical (s ∷ ss) → Gives (s ∷ ss) s.start k → s.mark ≡ k
+after_start s ss k h (inl c) = c.1
+after_start s ss k h (inr g) = let l = later s.past ss s.start k (canonical_starts s ss h) g in absurd (omega (arith, l, h.0))
 
 -- no span of a canonical list gives the first span's mark to the minute at which it ends
 pub ends_there : (s : Span) (ss : List Span) → IsCanonical (s ∷ ss) → Gives (s ∷ ss) s.past s.mark → ⊥
@@ -346,7 +346,7 @@ ends_there s [] h (inr g) = g
 ends_there s (t ∷ ts) h (inr g) =
     let l = later t.start (t ∷ ts) s.past s.mark (le_self t.start, h.2.0, starts_lower t.start t.past ts (omega (arith, h.2.0)) (canonical_starts t ts h.2)) g in
     let touch : s.past ≡ t.start = omega (arith, l, h.1.0) in
-    h.1.1 touch (sym (behind_start t ts s.mark h.2 (subst (λ (n : ℕ). Gives (t ∷ ts) n s.mark) touch g)))
+    h.1.1 touch (sym (after_start t ts s.mark h.2 (subst (λ (n : ℕ). Gives (t ∷ ts) n s.mark) touch g)))
 
 starts_le : (s t : Span) (ss ts : List Span) → IsCanonical (s ∷ ss) → IsCanonical (t ∷ ts) → GiveSame (s ∷ ss) (t ∷ ts) → t.start ≤ s.start
 starts_le s t ss ts h g same =
@@ -380,7 +380,7 @@ one_list (s ∷ ss) (t ∷ ts) h g same =
     let a = starts_le s t ss ts h g same in
     let b = starts_le t s ts ss g h back in
     let from : s.start ≡ t.start = omega (arith, a, b) in
-    let mark : t.mark ≡ s.mark = behind_start t ts s.mark g (subst (λ (n : ℕ). Gives (t ∷ ts) n s.mark) from ((same s.start s.mark).0 (first_given s ss h.0))) in
+    let mark : t.mark ≡ s.mark = after_start t ts s.mark g (subst (λ (n : ℕ). Gives (t ∷ ts) n s.mark) from ((same s.start s.mark).0 (first_given s ss h.0))) in
     let c = pasts_le s t ss ts h same from mark in
     let d = pasts_le t s ts ss g back (sym from) (sym mark) in
     let past : s.past ≡ t.past = omega (arith, c, d) in

@@ -4,8 +4,8 @@ use Rattle.std.proofs.lemmas.Bool.Decides.{nat_tests}
 use Rattle.tacho_time.specs.declared.span.Span.{Span}
 use Rattle.tacho_time.specs.declared.canonical.SpanFault.TheVariants.{Contradiction}
 use Rattle.tacho_time.specs.Spans.{Gives, GiveSame, IsCanonicalOf, IsFirstConflict, StartsFrom}
-use Rattle.tacho_time.specs.Merge.{merged, IsMerged, is_full}
-use Rattle.tacho_time.proofs.CanonicalLemmas.{same_trans, same_behind, merged_means, moved_result}
+use Rattle.tacho_time.specs.Merge.{merge_spans, IsMerged, is_full}
+use Rattle.tacho_time.proofs.CanonicalLemmas.{same_trans, same_following, merged_means, moved_result}
 
 -- inserts a span at its place among spans in order
 abbrev put : Span → List Span → List Span
@@ -34,7 +34,7 @@ put_same s [] = λ m k. (λ g. g, λ g. g)
 put_same s (t ∷ ts) = go (nat_le s.start t.start) (put_same s ts) where
   go : (b : Bool) → GiveSame (put s ts) (s ∷ ts) → GiveSame (cond b (s ∷ t ∷ ts) (t ∷ put s ts)) (s ∷ t ∷ ts)
   go true rest = λ m k. (λ g. g, λ g. g)
-  go false rest = same_trans (t ∷ put s ts) (t ∷ s ∷ ts) (s ∷ t ∷ ts) (same_behind t (put s ts) (s ∷ ts) rest) (swapped_same s t ts)
+  go false rest = same_trans (t ∷ put s ts) (t ∷ s ∷ ts) (s ∷ t ∷ ts) (same_following t (put s ts) (s ∷ ts) rest) (swapped_same s t ts)
 
 -- prepending an empty span changes nothing
 empty_same : (s : Span) (ss : List Span) → is_full s ≡ false → GiveSame ss (s ∷ ss)
@@ -51,13 +51,13 @@ ordered (s ∷ ss) = go (is_full s) refl (ordered ss) where
   go true e rest = (
     put s rest.0,
     put_starts 0 s rest.0 (omega arith) (grind (arith, nat_tests)) rest.1,
-    same_trans (put s rest.0) (s ∷ rest.0) (s ∷ ss) (put_same s rest.0) (same_behind s rest.0 ss rest.2),
+    same_trans (put s rest.0) (s ∷ rest.0) (s ∷ ss) (put_same s rest.0) (same_following s rest.0 ss rest.2),
   )
   go false e rest = (rest.0, rest.1, same_trans rest.0 ss (s ∷ ss) rest.2 (empty_same s ss e))
 
 -- spans have a canonical list, or a first minute with two marks
 pub list_or_conflict : (spans : List Span) → ((runs : List Span) × IsCanonicalOf (Gives spans) runs) ⊎ ((m : ℕ) × IsFirstConflict (Gives spans) m)
-list_or_conflict spans = go (merged in_order.0) (merged_means in_order.0 in_order.1) where
+list_or_conflict spans = go (merge_spans in_order.0) (merged_means in_order.0 in_order.1) where
   in_order : (xs : List Span) × StartsFrom 0 xs × GiveSame xs spans
   in_order = ordered spans
 

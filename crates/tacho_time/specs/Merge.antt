@@ -34,8 +34,8 @@ abbrev pub is_apart : Span → Span → Bool
 is_apart last s = nat_lt last.past s.start || ((last.past == s.start) && not (same_mark s.mark last.mark))
 
 -- the last run, extended to the end of a span
-abbrev pub stretched : Span → Span → Span
-stretched last s = record last { past = (if nat_lt last.past s.past then s.past else last.past) }
+abbrev pub extend_to : Span → Span → Span
+extend_to last s = record last { past = (if nat_lt last.past s.past then s.past else last.past) }
 
 -- the runs from the last one on, or the first minute with two marks
 abbrev pub merged_from : Span → List Span → Result (List Span) ℕ
@@ -43,12 +43,12 @@ merged_from last [] = Ok (last ∷ [])
 merged_from last (s ∷ ss) =
     if is_apart last s then with_front (last ∷ []) (merged_from s ss)
     else (if not (same_mark s.mark last.mark) then Err s.start
-    else merged_from (stretched last s) ss)
+    else merged_from (extend_to last s) ss)
 
 -- the runs of spans, or the first minute with two marks
-abbrev pub merged : List Span → Result (List Span) ℕ
-merged [] = Ok []
-merged (s ∷ ss) = merged_from s ss
+abbrev pub merge_spans : List Span → Result (List Span) ℕ
+merge_spans [] = Ok []
+merge_spans (s ∷ ss) = merged_from s ss
 
 -- the function's fault is the first minute with two marks, unless it ran out of memory
 abbrev pub IsMergeFault : SpanFault → Result (List Span) ℕ → Type 0

@@ -1,5 +1,5 @@
 ghost use Rattle.std.specs.Prelude.{◌≡◌, ◌++◌, ◌∷◌, [], filter, IfOk, IsTrue, OnOk, MatchResult, Ok};
-ghost use Rattle.tacho_time.specs.Merge.{merged, IsMergeFault, is_apart, stretched, IsFirstFault, is_full};
+ghost use Rattle.tacho_time.specs.Merge.{merge_spans, IsMergeFault, is_apart, extend_to, IsFirstFault, is_full};
 ghost use Rattle.tacho_time.specs.Spans.{Gives, IsCanonical, IsCanonicalOf, GiveSame, StartsFrom};
 
 use crate::minute::Minute;
@@ -28,7 +28,7 @@ impl From<AllocError> for SpanFault {
 
 /// Merges spans in order of their starts into runs.
 fn merge(alloc: Global, spans: &[Span]) -> Result<Vec<Span>, SpanFault>
-    ensures { MatchResult result (λ runs. merged spans.now ≡ Ok runs.items) (λ fault. IsMergeFault fault (merged spans.now)) }
+    ensures { MatchResult result (λ runs. merge_spans spans.now ≡ Ok runs.items) (λ fault. IsMergeFault fault (merge_spans spans.now)) }
 {
     let mut runs = Vec::with_capacity(alloc, spans.len())?;
     let Some((first, others)) = spans.split_first() else {
@@ -66,7 +66,7 @@ fn starts_anew(last: &Span, span: &Span) -> bool
 
 /// Extends the run to the end of a span.
 fn stretch(last: &Span, span: &Span) -> Span
-    ensures { result ≡ stretched last.now span.now }
+    ensures { result ≡ extend_to last.now span.now }
 {
     Span {
         start: last.start,

@@ -375,7 +375,7 @@ fn told_of_old(rt: &impl Abort, alloc: Global) -> Result<String, Fail> {
 }
 
 #[test]
-fn a_stop_of_a_migration_leaves_the_old_archive_or_the_new(rt: HostRuntime) -> Result<(), Fail> {
+fn a_crash_of_a_migration_leaves_the_old_archive_or_the_new(rt: HostRuntime) -> Result<(), Fail> {
     let alloc = rt.alloc();
     let old = filled(&rt, alloc, empty(alloc)?, &OLD)?;
     let wanted = told_of_old(&rt, alloc)?;

@@ -233,9 +233,9 @@ fn outcome_of(
         assert!(rt; is_before, "{row}, all done: {text}");
         return Ok(Outcome::Closed);
     };
-    let is_behind = text == behind.as_str();
-    assert!(rt; is_before || is_behind, "{row}, {done} done: {text}");
-    Ok(match (is_before, is_behind) {
+    let is_after = text == behind.as_str();
+    assert!(rt; is_before || is_after, "{row}, {done} done: {text}");
+    Ok(match (is_before, is_after) {
         (true, true) => Outcome::Unchanged,
         (true, false) => Outcome::Before,
         _ => Outcome::Behind,
@@ -367,7 +367,7 @@ pub(crate) fn assert_met(
 }
 
 #[test]
-fn a_stop_leaves_the_state_before_a_command_or_behind_it(rt: HostRuntime) -> Result<(), Fail> {
+fn a_crash_leaves_the_state_before_a_command_or_after_it(rt: HostRuntime) -> Result<(), Fail> {
     let alloc = rt.alloc();
     let states = states(&rt, alloc)?;
     let mut met = Vec::new(alloc);

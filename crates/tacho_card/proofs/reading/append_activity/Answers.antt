@@ -1,11 +1,11 @@
 use Rattle.std.proofs.Common.{◌∷◌, ◌++◌, ◌==◌, inr, ap, ap₂, ◌∙◌}
-use Rattle.tacho_card.specs.RawSpans.{with_spans, record_spans, items_spans}
+use Rattle.tacho_card.specs.RawSpans.{prepend_spans, record_spans, items_spans}
 use Rattle.tacho_card.proofs.RawLemmas.{only_fault, spans_fault, spans_more, spans_end}
 use Rattle.tacho_card.proofs.reading.append_activity.Goals as goal
 
 pub loop-item-init : goal.loop-item-init
 loop-item-init c =
-    ap₂ (λ n items. with_spans c.args.spans.now.items (items_spans n items)) c.newest-newest.ensures (c.into_iter-item-iterator.ensures.into_iter_gives ∙ c.records-item-items.ensures)
+    ap₂ (λ n items. prepend_spans c.args.spans.now.items (items_spans n items)) c.newest-newest.ensures (c.into_iter-item-iterator.ensures.into_iter_gives ∙ c.records-item-items.ensures)
 
 pub returns-in-Err : goal.returns-in-Err
 returns-in-Err c =

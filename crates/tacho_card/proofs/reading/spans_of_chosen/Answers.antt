@@ -4,7 +4,7 @@ use Rattle.tacho_time.specs.declared.span.Span.{Span}
 use Rattle.tacho_time.specs.Spans.{Gives, IsCanonicalOf}
 use Rattle.tacho_card.specs.DriverActivity.{DriverActivity}
 use Rattle.tacho_card.specs.CardFile.{those_there}
-use Rattle.tacho_card.specs.Reading.{IsFaultOf}
+use Rattle.tacho_card.specs.Reading.{IsReadingFault}
 use Rattle.tacho_card.proofs.ChosenLemmas.{those_more, those_same, those_split}
 use Rattle.tacho_card.proofs.GivesLemmas.{IsRaw, IsConflictOf, raw_more, raw_fault, raw_failure, raw_reading}
 use Rattle.tacho_card.proofs.reading.spans_of_chosen.Goals as goal
@@ -18,7 +18,7 @@ returns-in_err-append_activity c =
     let at : get_or chosen i c.activity-item.result ≡ Some activity = sym c.activity-item.is ∙ c.in-Some.is in
     let fault = raw_fault (those_there (take i chosen)) activity (those_there (drop (suc i) chosen)) c.loop-activity.raw.items c.in_err-append_activity.field-0.0 c.loop-activity.invariant c.in_err-append_activity.ensures in
     raw_failure (λ spans. spans.items) (those_there chosen) c.in_err-append_activity.field-0.0 c.from_residual.result
-    (subst (λ (activities : List DriverActivity). IsFaultOf activities c.in_err-append_activity.field-0.0) (those_split chosen i c.activity-item.result activity (omega arith) at) fault) c.from_residual.ensures
+    (subst (λ (activities : List DriverActivity). IsReadingFault activities c.in_err-append_activity.field-0.0) (those_split chosen i c.activity-item.result activity (omega arith) at) fault) c.from_residual.ensures
 
 pub loop-activity-preserved : goal.loop-activity-preserved
 loop-activity-preserved c =

@@ -3,7 +3,7 @@ use Rattle.tacho_time.specs.declared.whole.ReadFault.TheVariants as read
 use Rattle.tacho_card.specs.declared.fault.CardFault.TheVariants as card
 use Rattle.tacho_state.specs.Content.{FileTells}
 use Rattle.tacho_desk.specs.declared.fault.Fault.{Fault}
-use Rattle.tacho_cli.specs.Command.{IsWrittenOut, fault_reply}
+use Rattle.tacho_cli.specs.Command.{IsWrittenOut, failure_reply}
 use Rattle.tacho_cli.specs.Card.{IsCardBy, IsListed}
 use Rattle.tacho_cli.proofs.CommandLemmas.{replied, unread_leaves, refused, card_listed, not_listed}
 use Rattle.tacho_cli.proofs.commands.card_by.Goals as goal
@@ -20,7 +20,7 @@ returns-in-Err g c =
     unread_leaves (IsCardBy (Some c.args.part)) 262144 (g.R.Source.unread c.args.reader.now) (g.R.Source.has_failed c.read_all.new.reader)
     writer_failed old new status fault
     (λ input large. inl (large, refl)) (λ e. c.in-Err.ensures.large (ap Err e)) failed
-    (subst (λ (f : Fault). IsWrittenOut writer_failed old new (fault_reply f) status) c.from.ensures c.tell_fault.ensures)
+    (subst (λ (f : Fault). IsWrittenOut writer_failed old new (failure_reply f) status) c.from.ensures c.tell_fault.ensures)
 
 pub returns-in-Ok-card_text : goal.returns-in-Ok-card_text
 returns-in-Ok-card_text g c =
@@ -50,5 +50,5 @@ returns g c =
     sound c.in-Ok.ensures.whole
     (not_listed part input fault c.in-Ok.ensures.within
     (subst (λ (bytes : List ℕ). FileTells part bytes (Err fault) ⊎ (fault ≡ card.Memory)) c.deref.ensures.value c.in-Err-card_text.ensures))
-    (subst (λ (f : Fault). IsWrittenOut writer_failed old new (fault_reply f) status)
+    (subst (λ (f : Fault). IsWrittenOut writer_failed old new (failure_reply f) status)
     c.from-in-Err-card_text.ensures c.tell_fault-in-Err-card_text.ensures)

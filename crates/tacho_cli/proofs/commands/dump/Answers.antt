@@ -2,7 +2,7 @@ use Rattle.std.proofs.Common.{◌≡◌, ◌⊎◌, ◌↔◌, true, inl, List, 
 use Rattle.tacho_time.specs.declared.whole.ReadFault.TheVariants as read
 use Rattle.tacho_card.specs.declared.fault.CardFault.TheVariants as card
 use Rattle.tacho_desk.specs.declared.fault.Fault.{Fault}
-use Rattle.tacho_cli.specs.Command.{IsWrittenOut, fault_reply}
+use Rattle.tacho_cli.specs.Command.{IsWrittenOut, failure_reply}
 use Rattle.tacho_cli.specs.Dump.{IsDump, IsDumped, ReadsValue}
 use Rattle.tacho_cli.proofs.CommandLemmas.{replied, unread_leaves, refused, dumped, not_dumped}
 use Rattle.tacho_cli.proofs.commands.dump.Goals as goal
@@ -17,7 +17,7 @@ returns-in-Err g c =
     let failed : (fault ≡ read.Failed) ↔ (g.R.Source.has_failed c.read_all.new.reader ≡ true) = (λ e. c.in-Err.ensures.failed.0 (ap Err e), λ e. let is = c.in-Err.ensures.failed.1 e in cc) in
     unread_leaves IsDump 65535 (g.R.Source.unread c.args.reader.now) (g.R.Source.has_failed c.read_all.new.reader) writer_failed old new status fault
     (λ input large. inl (large, refl)) (λ e. c.in-Err.ensures.large (ap Err e)) failed
-    (subst (λ (f : Fault). IsWrittenOut writer_failed old new (fault_reply f) status) c.from.ensures c.tell_fault.ensures)
+    (subst (λ (f : Fault). IsWrittenOut writer_failed old new (failure_reply f) status) c.from.ensures c.tell_fault.ensures)
 
 pub returns-in-Ok-dump_text : goal.returns-in-Ok-dump_text
 returns-in-Ok-dump_text g c =
@@ -35,4 +35,4 @@ returns g c =
     refused IsDump (g.R.Source.unread c.args.reader.now) (g.R.Source.has_failed c.read_all.new.reader) (g.W.Sink.has_failed c.tell_fault-in-Err-dump_text.new.writer)
     (g.W.Sink.written c.args.writer.now) (g.W.Sink.written c.tell_fault-in-Err-dump_text.new.writer) c.tell_fault-in-Err-dump_text.result input c.in-Err-dump_text.fault sound c.in-Ok.ensures.whole
     (not_dumped input c.in-Err-dump_text.fault c.in-Ok.ensures.within (subst (λ (bytes : List ℕ). ReadsValue bytes (Err c.in-Err-dump_text.fault) ⊎ (c.in-Err-dump_text.fault ≡ card.Memory)) c.deref.ensures.value c.in-Err-dump_text.ensures))
-    (subst (λ (f : Fault). IsWrittenOut (g.W.Sink.has_failed c.tell_fault-in-Err-dump_text.new.writer) (g.W.Sink.written c.args.writer.now) (g.W.Sink.written c.tell_fault-in-Err-dump_text.new.writer) (fault_reply f) c.tell_fault-in-Err-dump_text.result) c.from-in-Err-dump_text.ensures c.tell_fault-in-Err-dump_text.ensures)
+    (subst (λ (f : Fault). IsWrittenOut (g.W.Sink.has_failed c.tell_fault-in-Err-dump_text.new.writer) (g.W.Sink.written c.args.writer.now) (g.W.Sink.written c.tell_fault-in-Err-dump_text.new.writer) (failure_reply f) c.tell_fault-in-Err-dump_text.result) c.from-in-Err-dump_text.ensures c.tell_fault-in-Err-dump_text.ensures)

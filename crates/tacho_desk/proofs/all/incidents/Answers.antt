@@ -1,11 +1,11 @@
 use Rattle.std.proofs.Common.{◌≡◌, ◌++◌, ℕ, List, false, map, string_bytes, subst, sym}
-use Rattle.tacho_stretches.specs.Stretches.{judged}
+use Rattle.tacho_stretches.specs.Stretches.{judged_of}
 use Rattle.tacho_stretches.specs.declared.stretch.Stretch.{Stretch}
 use Rattle.tacho_state.specs.Summaries.{AreSummaries, told_summary}
 use Rattle.tacho_state.specs.declared.summary.DriverSummary.{DriverSummary}
 use Rattle.tacho_sheet.specs.Months.{AreIncidentRows, incident_head}
 use Rattle.tacho_desk.specs.Doing.{Serves}
-use Rattle.tacho_desk.specs.Fault.{store_fault}
+use Rattle.tacho_desk.specs.Fault.{fault_of_store}
 use Rattle.tacho_desk.specs.Tasks.{ShowsMonthOfAll}
 use Rattle.tacho_desk.specs.Told.{Answer}
 use Rattle.tacho_desk.specs.declared.fault.Fault.TheVariants as fault
@@ -38,7 +38,7 @@ returns-in_err-stretches-clause-serves g c =
     let old = c.args.keeper.now in
     let new = c.stretches.new.self in
     let f = c.in_err-stretches.field-0.0 in
-    let e = faulty c.from_residual-in_err-stretches.result (store_fault f) c.from_residual-in_err-stretches.ensures.1 in
+    let e = faulty c.from_residual-in_err-stretches.result (fault_of_store f) c.from_residual-in_err-stretches.ensures.1 in
     let does = ShowsMonthOfAll all.Incidents c.args.month in
     subst (λ (answer : Answer). Serves k.stands k.is_clean k.is_live k.leaves k.is_same old new false answer does) (sym e)
     (not_read k.stands k.is_clean k.is_live k.leaves k.is_same k.same_then (λ _. tt) old c.loop-driver.keeper new
@@ -75,11 +75,11 @@ loop-driver-preserved g c =
           let here = c.loop-driver.invariant.read.state before s st in
           row_more incident_head (AreIncidentsOf c.args.month) drivers i x before_text after_text s
           c.loop-driver-test.true c.driver-item.is (c.loop-driver.invariant.rows before s st)
-          (incidents_of x.number s (string_bytes x.name) c.deref.result.now (map judged c.in_ok-stretches.stretches.items) c.args.month
+          (incidents_of x.number s (string_bytes x.name) c.deref.result.now (map judged_of c.in_ok-stretches.stretches.items) c.args.month
           before_text after_text c.deref.ensures (c.in_ok-stretches.ensures.reads.answer clean s here)
           (c.in_ok-stretches.ensures.stretches clean s here)
           (subst (λ (xs : List Stretch). (rows : List ℕ) × (after_text ≡ before_text ++ rows)
-          × AreIncidentRows x.number c.deref.result.now (map judged xs) c.args.month rows)
+          × AreIncidentRows x.number c.deref.result.now (map judged_of xs) c.args.month rows)
           c.deref-in-loop-driver.ensures.value c.in_ok-push_incidents.ensures));
     }
 

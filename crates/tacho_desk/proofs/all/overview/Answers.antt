@@ -1,13 +1,13 @@
 use Rattle.std.proofs.Common.{◌≡◌, ◌++◌, ℕ, List, false, map, string_bytes, subst, sym}
 use Rattle.tacho_stretches.specs.Ranges.{FollowOn, parts}
-use Rattle.tacho_stretches.specs.Stretches.{judged}
+use Rattle.tacho_stretches.specs.Stretches.{judged_of}
 use Rattle.tacho_stretches.specs.declared.stretch.Stretch.{Stretch}
 use Rattle.tacho_state.specs.Summaries.{AreSummaries, told_summary}
 use Rattle.tacho_state.specs.declared.summary.DriverSummary.{DriverSummary}
 use Rattle.tacho_sheet.specs.Months.{IsOverviewRow, overview_head}
 use Rattle.tacho_sheet.specs.Reports.{AreBounds}
 use Rattle.tacho_desk.specs.Doing.{Serves}
-use Rattle.tacho_desk.specs.Fault.{store_fault}
+use Rattle.tacho_desk.specs.Fault.{fault_of_store}
 use Rattle.tacho_desk.specs.Tasks.{ShowsMonthOfAll}
 use Rattle.tacho_desk.specs.Told.{Answer}
 use Rattle.tacho_desk.specs.declared.fault.Fault.TheVariants as fault
@@ -40,7 +40,7 @@ returns-in_err-line-clause-serves g c =
     let old = c.args.keeper.now in
     let new = c.line_and_stretches.new.self in
     let f = c.in_err-line.field-0.0 in
-    let e = faulty c.from_residual-in_err-line.result (store_fault f) c.from_residual-in_err-line.ensures.1 in
+    let e = faulty c.from_residual-in_err-line.result (fault_of_store f) c.from_residual-in_err-line.ensures.1 in
     let does = ShowsMonthOfAll all.Overview c.args.month in
     subst (λ (answer : Answer). Serves k.stands k.is_clean k.is_live k.leaves k.is_same old new false answer does) (sym e)
     (not_read k.stands k.is_clean k.is_live k.leaves k.is_same k.same_then (λ _. tt) old c.loop-driver.keeper new
@@ -79,13 +79,13 @@ loop-driver-preserved g c =
           let here = c.loop-driver.invariant.read.state before s st in
           row_more overview_head (IsOverviewOf c.args.month) drivers i x before_text after_text s
           c.loop-driver-test.true c.driver-item.is (c.loop-driver.invariant.rows before s st)
-          (overview_of x.number s (string_bytes x.name) c.deref.result.now c.in_ok-line.line (map judged c.in_ok-line.stretches.items)
+          (overview_of x.number s (string_bytes x.name) c.deref.result.now c.in_ok-line.line (map judged_of c.in_ok-line.stretches.items)
           c.args.month range.result.0 range.result.1 before_text after_text bounds c.deref.ensures
           (c.in_ok-line.ensures.reads.answer clean s here) (c.in_ok-line.ensures.within clean s here)
           (c.in_ok-line.ensures.stretches clean s here)
-          (subst (λ (xs : List Stretch). (base end : ℕ) → FollowOn (parts (map judged xs)) base end → (row : List ℕ)
+          (subst (λ (xs : List Stretch). (base end : ℕ) → FollowOn (parts (map judged_of xs)) base end → (row : List ℕ)
           × (after_text ≡ before_text ++ row)
-          × IsOverviewRow x.number c.deref.result.now c.in_ok-line.line (map judged xs) c.args.month row)
+          × IsOverviewRow x.number c.deref.result.now c.in_ok-line.line (map judged_of xs) c.args.month row)
           c.deref-in-loop-driver.ensures.value c.in_ok-push_overview.ensures));
     }
 

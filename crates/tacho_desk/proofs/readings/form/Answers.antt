@@ -1,7 +1,7 @@
 use Rattle.std.proofs.Common.{rules, inl, refl, subst, map, List}
 use Rattle.tacho_stretches.specs.declared.stretch.Stretch.{Stretch}
 use Rattle.tacho_state.specs.State.{State}
-use Rattle.tacho_stretches.specs.Stretches.{judged}
+use Rattle.tacho_stretches.specs.Stretches.{judged_of}
 use Rattle.tacho_desk.proofs.MeantLemmas.{same_after}
 use Rattle.tacho_desk.proofs.ShownLemmas.{AreEnds, form_shown}
 use Rattle.tacho_desk.proofs.readings.form.Goals as goal
@@ -19,9 +19,9 @@ returns-clause-serves g c =
             s,
             c.line_within.ensures.reads.state clean s here,
             (
-              form_shown c.args.driver s (map judged c.in_ok-stretches.stretches.items) _ _ c.in_ok-line.line _
+              form_shown c.args.driver s (map judged_of c.in_ok-stretches.stretches.items) _ _ c.in_ok-line.line _
                   (c.in_ok-stretches.ensures.reads.answer clean_line s stands) (c.in_ok-stretches.ensures.stretches clean_line s stands)
-                  (subst (λ (xs : List Stretch). AreEnds (map judged xs) c.range_of-base.result.0 c.range_of-base.result.1)
+                  (subst (λ (xs : List Stretch). AreEnds (map judged_of xs) c.range_of-base.result.0 c.range_of-base.result.1)
                   c.deref.ensures.value c.range_of-base.ensures)
                   (c.in_ok-line.ensures.within clean s here) c.in_ok-form_text.ensures,
               refl,

@@ -1,6 +1,6 @@
 use Rattle.std.proofs.Common.{◌++◌, ◌∙◌, Err, List, None, Some, drop, length, map, refl, sym, ap, subst, take, ℕ}
 use Rattle.httparse.specs.Spans.{header_bytes}
-use Rattle.tacho_message.specs.Head.{BeginsWith, Refuses}
+use Rattle.tacho_message.specs.Head.{BeginsWith, IsHeadFault}
 use Rattle.tacho_message.specs.declared.head.HeadFault.{HeadFault}
 use Rattle.tacho_http.specs.Answer.{is_done}
 use Rattle.tacho_http.specs.Reply.{Reply}
@@ -13,7 +13,7 @@ pub returns-in-Err-Bad-clause-answered : goal.returns-in-Err-Bad-clause-answered
 returns-in-Err-Bad-clause-answered g c =
     let k = g.K.Keeper in
     let r = c.in-Err-Bad.ensures.refused in
-    let why = subst (λ (f : HeadFault). Refuses 8192 32 r.input f) c.in-Err-Bad.field-0-is
+    let why = subst (λ (f : HeadFault). IsHeadFault 8192 32 r.input f) c.in-Err-Bad.field-0-is
     (refused (length c.args.buffer.now) (length c.args.fields.now) r.input c.in-Err-Bad.field-0 r.refused c.requires.limit c.requires.room) in
     headless_answered k.stands k.is_clean k.is_live k.leaves k.is_same k.same_self c.args.office_key.now c.args.keeper.now (g.R.Source.unread c.args.reader.now) (g.R.Source.unread c.read_head.new.reader)
     c.fixed.result r.input r.told why.0 (ap (λ (reply : Reply). is_done reply.status) c.fixed.ensures)
@@ -24,7 +24,7 @@ pub returns-in-Err-TooLarge-clause-answered : goal.returns-in-Err-TooLarge-claus
 returns-in-Err-TooLarge-clause-answered g c =
     let k = g.K.Keeper in
     let r = c.in-Err-TooLarge.ensures.refused in
-    let why = subst (λ (f : HeadFault). Refuses 8192 32 r.input f) c.in-Err-TooLarge.field-0-is
+    let why = subst (λ (f : HeadFault). IsHeadFault 8192 32 r.input f) c.in-Err-TooLarge.field-0-is
     (refused (length c.args.buffer.now) (length c.args.fields.now) r.input c.in-Err-TooLarge.field-0 r.refused c.requires.limit c.requires.room) in
     headless_answered k.stands k.is_clean k.is_live k.leaves k.is_same k.same_self c.args.office_key.now c.args.keeper.now (g.R.Source.unread c.args.reader.now) (g.R.Source.unread c.read_head.new.reader)
     c.fixed-in-Err-TooLarge.result r.input r.told why.0 (ap (λ (reply : Reply). is_done reply.status) c.fixed-in-Err-TooLarge.ensures)

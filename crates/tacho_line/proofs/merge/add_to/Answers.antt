@@ -3,7 +3,7 @@ use Rattle.std.specs.Option.{option_copied}
 use Rattle.tacho_time.specs.declared.span.Span.{Span}
 use Rattle.tacho_time.specs.Spans.{IsCanonical, IsCanonicalOf, SamePairs}
 use Rattle.tacho_line.specs.Line.{Holds, Together}
-use Rattle.tacho_line.specs.Join.{ShareNone, EitherGives, ending_before, ending_from, starting_behind}
+use Rattle.tacho_line.specs.Join.{ShareNone, EitherGives, ending_before, ending_from, starting_after}
 use Rattle.tacho_line.proofs.AddLemmas.{part_is, held_same, spans_added, vec_items_yielded, part_apart, part_canonical, none_added, no_first_get}
 use Rattle.tacho_line.proofs.merge.add_to.Goals as goal
 
@@ -38,7 +38,7 @@ returns c =
     let d = c.in_ok-splice.ensures.items in
     let items : d.1 ≡ merged = vec_items_yielded merged d.1 d.0 d.3.1.0 d.3.0 d.2.0 (d.2.1 ∙ c.in_ok-merged.merged.ok.0) d.3.1.1 d.3.1.2 in
     let front = subst (λ (x : List Span). take i x ≡ ending_before first.start x) c.deref.ensures.value c.places_around-start.ensures.front in
-    let back = subst (λ (x : List Span). drop j x ≡ starting_behind last.past (ending_from first.start x)) c.deref.ensures.value c.places_around-start.ensures.back in
+    let back = subst (λ (x : List Span). drop j x ≡ starting_after last.past (ending_from first.start x)) c.deref.ensures.value c.places_around-start.ensures.back in
     let middle = part_is line c.deref.result.now c.deref-2.result.now i j first.start last.past c.deref.ensures.value c.deref-2.ensures.value c.places_around-start.ensures.middle in
     let run = subst (λ (x : List Span). IsCanonicalOf (EitherGives x spans) merged) middle c.in_ok-merged.ensures in
     let added : IsCanonicalOf (Together line spans) c.splice.new.self.items = spans_added line spans merged c.splice.new.self.items first last c.requires.line c.requires.canonical

@@ -4,8 +4,8 @@ use Rattle.std.specs.List.Sorted.{IsPartitionPoint}
 use Rattle.std.proofs.lemmas.List.Sorted.{IsPartitionPoint-from_clause}
 use Rattle.tacho_time.specs.declared.span.Span.{Span}
 use Rattle.tacho_time.specs.Spans.{IsCanonical}
-use Rattle.tacho_line.specs.Join.{ending_from, starting_by, starting_behind}
-use Rattle.tacho_line.proofs.SearchLemmas.{parted_below, parted_up_to, starts_rise, pasts_rise, point_front, point_rest, rest_canonical, range_behind}
+use Rattle.tacho_line.specs.Join.{ending_from, starting_by, starting_after}
+use Rattle.tacho_line.proofs.SearchLemmas.{parted_below, parted_up_to, starts_rise, pasts_rise, point_front, point_rest, rest_canonical, range_after}
 use Rattle.tacho_line.proofs.merge.places_around.Goals as goal
 use Rattle.tacho_line.proofs.merge.places_around.Goals.{After-partition_point-count}
 
@@ -35,7 +35,7 @@ returns-clause-middle c =
     let line = c.args.line.now in
     let i = c.partition_point-first.result in
     let n = c.partition_point-count.result in
-    range_behind line i n ∙ ap (λ xs. take n xs) (sym (take_rest line i))
+    range_after line i n ∙ ap (λ xs. take n xs) (sym (take_rest line i))
     ∙ point_front (λ s. nat_le s.start c.args.past) (searched c) n c.partition_point-count.ensures.bound (second_point c)
     ∙ ap (starting_by c.args.past) (searched_is c)
 
@@ -46,4 +46,4 @@ returns-clause-back c =
     let n = c.partition_point-count.result in
     sym (drop-drop n i line) ∙ ap (λ xs. drop n xs) (sym (take_rest line i))
     ∙ point_rest (λ s. nat_le s.start c.args.past) (searched c) n c.partition_point-count.ensures.bound (second_point c)
-    ∙ ap (starting_behind c.args.past) (searched_is c)
+    ∙ ap (starting_after c.args.past) (searched_is c)

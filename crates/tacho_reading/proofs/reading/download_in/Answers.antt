@@ -1,6 +1,6 @@
 use Rattle.std.proofs.Common.{rules, sym, subst}
 use Rattle.tacho_state.specs.Acts.{Answers}
-use Rattle.tacho_state.specs.Steps.{downloaded}
+use Rattle.tacho_state.specs.Steps.{file_reading}
 use Rattle.tacho_reading.proofs.MappedLemmas.{was_ok}
 use Rattle.tacho_reading.proofs.LookUpLemmas.{the_driver, unknown_refuses, handed_on}
 use Rattle.tacho_reading.proofs.SeenLemmas.{still_seen}
@@ -24,7 +24,7 @@ returns g c = record {
       let clean_1 = c.file.ensures.reads.stays.clean clean in
       let d = the_driver c.args.driver s _ (c.in_ok-driver_with.ensures.told clean_1 schema s stands) in
       let seen = still_seen _ _ s (c.in_ok-driver_with.ensures.same clean_1 schema) schema stands in
-      subst (λ r. Answers (λ bytes. bytes.items) r (downloaded c.args.driver c.args.number s)) (sym c.ok_or.ensures.value)
+      subst (λ r. Answers (λ bytes. bytes.items) r (file_reading c.args.driver c.args.number s)) (sym c.ok_or.ensures.value)
       (file_told (λ bytes. bytes.items) _ _ _ s c.in_ok-file.file d.0 d.1 seen.1
       (was_ok c.file.result c.in_ok-file.file _ c.in_ok-file.ensures.cases (c.file.ensures.found clean seen.0)));
 }

@@ -1,6 +1,6 @@
 use Rattle.std.proofs.Common.{rules, map}
 use Rattle.sqlite.specs.Held.{state}
-use Rattle.tacho_stretches.specs.Stretches.{judged}
+use Rattle.tacho_stretches.specs.Stretches.{judged_of}
 use Rattle.tacho_reading.proofs.StretchingLemmas.{line_told, stretches_told}
 use Rattle.tacho_reading.proofs.TimelineLemmas.{gave_up_as, not_answered}
 use Rattle.tacho_reading.proofs.reading.line_and_stretches.Goals as goal
@@ -39,5 +39,5 @@ returns-clause-stretches g c clean s shows =
     let holds = reads.state clean_1 s shows (reads.live clean_1 tt) in
     stretches_told (state g.S.Store c.begin.new.conn).now.trees c.args.driver c.args.start c.args.past s c.in_ok-base.field-0
     c.new-pass.result c.take_held.new.pass c.new-near.result.items c.take_held.new.near.items
-    (map judged c.in_ok-finish.field-0.items) holds.1 (c.in_ok-base.ensures.begun clean_1 s shows) c.new-pass.ensures.none
+    (map judged_of c.in_ok-finish.field-0.items) holds.1 (c.in_ok-base.ensures.begun clean_1 s shows) c.new-pass.ensures.none
     (λ t stand. c.in_ok-take_held.ensures.took clean holds.0 t stand) c.in_ok-finish.ensures.stretches

@@ -1,7 +1,7 @@
 use Rattle.std.proofs.Common.{◌≡◌, ◌+◌, ◌-◌, ◌<◌, ◌≤◌, ℕ, List, drop, map, sym, subst, arith}
 use Rattle.std.proofs.lemmas.Bool.Decides.{nat_tests}
 use Rattle.tacho_stretches.specs.declared.stretch.Stretch.{Stretch}
-use Rattle.tacho_stretches.specs.Stretches.{Judged, judged}
+use Rattle.tacho_stretches.specs.Stretches.{Judged, judged_of}
 use Rattle.tacho_sheet.proofs.MonthLemmas.{IsCounted, later_is, earlier_is, counted_none, counted_first, counted_others, counted_all, told_next, told_all}
 use Rattle.tacho_sheet.proofs.months.examined_in.Goals as goal
 use Rattle.tacho_sheet.proofs.months.examined_in.Goals.{then-lt, else-lt}
@@ -10,16 +10,16 @@ pub loop-stretch-init : goal.loop-stretch-init
 loop-stretch-init c = record {
   few = omega arith;
   early = c.requires;
-  counted = λ base end follow. counted_none (map judged c.args.stretches.now) c.args.start c.args.past base end follow;
+  counted = λ base end follow. counted_none (map judged_of c.args.stretches.now) c.args.start c.args.past base end follow;
 }
 
 pub loop-stretch-preserved : goal.loop-stretch-preserved
 loop-stretch-preserved c =
     let xs : List Stretch = c.args.stretches.now in
-    let all : List Judged = map judged xs in
+    let all : List Judged = map judged_of xs in
     let i : ℕ = c.loop-stretch.stretch-index in
     let s : Stretch = c.stretch-item.result in
-    let left : List Judged = map judged (drop (i + 1) xs) in
+    let left : List Judged = map judged_of (drop (i + 1) xs) in
     let start : ℕ = c.args.start in
     let past : ℕ = c.args.past in
     let from : ℕ = c.loop-stretch.from in
@@ -43,7 +43,7 @@ loop-stretch-preserved c =
             early = omega arith;
             counted = λ base end follow.
                 subst (λ (m : ℕ). IsCounted all left start m past c.if-lt.examined end) (sym at)
-                (counted_first all left (judged s) start from past examined end low high c.if-lt.examined above l.1 l.2 below h.1 h.2 lt new
+                (counted_first all left (judged_of s) start from past examined end low high c.if-lt.examined above l.1 l.2 below h.1 h.2 lt new
                 (subst (λ (ys : List Judged). IsCounted all ys start from past examined end) left_is
                 (c.loop-stretch.invariant.counted base end follow)));
           }
@@ -57,7 +57,7 @@ loop-stretch-preserved c =
             counted = λ base end follow.
                 subst (λ (m : ℕ). IsCounted all left start m past c.if-lt.examined end) (sym at)
                 (subst (λ (n : ℕ). IsCounted all left start from past n end) (sym same)
-                (counted_others all left (judged s) start from past examined end low high l.2 h.2 ge early
+                (counted_others all left (judged_of s) start from past examined end low high l.2 h.2 ge early
                 (subst (λ (ys : List Judged). IsCounted all ys start from past examined end) left_is
                 (c.loop-stretch.invariant.counted base end follow))));
           }
@@ -66,6 +66,6 @@ loop-stretch-preserved c =
 pub returns : goal.returns
 returns c = λ base end follow.
     let xs : List Stretch = c.args.stretches.now in
-    counted_all (map judged xs) c.args.start c.loop-stretch.from c.args.past c.loop-stretch.examined end
-    (subst (λ (ys : List Judged). IsCounted (map judged xs) ys c.args.start c.loop-stretch.from c.args.past c.loop-stretch.examined end)
+    counted_all (map judged_of xs) c.args.start c.loop-stretch.from c.args.past c.loop-stretch.examined end
+    (subst (λ (ys : List Judged). IsCounted (map judged_of xs) ys c.args.start c.loop-stretch.from c.args.past c.loop-stretch.examined end)
     (told_all xs c.loop-stretch.stretch-index c.loop-stretch-test.false) (c.loop-stretch.invariant.counted base end follow))

@@ -3,9 +3,9 @@ use Rattle.std.specs.List.{flat_map}
 use Rattle.std.proofs.lemmas.List.{take_all}
 use Rattle.tacho_hours.specs.declared.breach.Breach.{Breach}
 use Rattle.tacho_stretches.specs.declared.stretch.Stretch.{Stretch}
-use Rattle.tacho_stretches.specs.Stretches.{judged}
+use Rattle.tacho_stretches.specs.Stretches.{judged_of}
 use Rattle.tacho_sheet.specs.Reports.{breaches_within}
-use Rattle.tacho_sheet.specs.Months.{breaches_of, incident_row}
+use Rattle.tacho_sheet.specs.Months.{month_breaches, incident_row}
 use Rattle.tacho_sheet.proofs.MonthLemmas.{breaches_more, rows_more}
 use Rattle.tacho_sheet.proofs.months.push_incidents.Goals as goal
 
@@ -21,8 +21,8 @@ loop-stretch-preserved c =
     let pushed : string_bytes c.push_breaches.new.text ≡ old ++ flat_map row (breaches_within start past c.deref.result.now) =
     search rules in
     let lent : c.deref.result.now ≡ s.report.breaches.items = c.deref.ensures.value in
-    rows_more row (breaches_of start past (map judged (take i xs))) (breaches_within start past s.report.breaches.items)
-    (breaches_of start past (map judged (take (i + 1) xs))) (string_bytes c.args.text.now) old _ c.loop-stretch.invariant
+    rows_more row (month_breaches start past (map judged_of (take i xs))) (breaches_within start past s.report.breaches.items)
+    (month_breaches start past (map judged_of (take (i + 1) xs))) (string_bytes c.args.text.now) old _ c.loop-stretch.invariant
     (pushed ∙ ap (λ (bs : List Breach). old ++ flat_map row (breaches_within start past bs)) lent)
     (breaches_more start past xs i s c.loop-stretch-test.true c.stretch-item.is)
 
@@ -32,10 +32,10 @@ returns c =
     let start : ℕ = c.month_range-start.result.0 in
     let past : ℕ = c.month_range-start.result.1 in
     let xs : List Stretch = c.args.stretches.now in
-    let rows : List ℕ = flat_map row (breaches_of start past (map judged xs)) in (
+    let rows : List ℕ = flat_map row (month_breaches start past (map judged_of xs)) in (
       rows,
       c.loop-stretch.invariant
-          ∙ ap (λ (ys : List Stretch). string_bytes c.args.text.now ++ flat_map row (breaches_of start past (map judged ys)))
+          ∙ ap (λ (ys : List Stretch). string_bytes c.args.text.now ++ flat_map row (month_breaches start past (map judged_of ys)))
           (take_all c.loop-stretch.stretch-index xs c.loop-stretch-test.false),
       record {
         start = start;

@@ -1,9 +1,9 @@
 use Rattle.std.proofs.Common.{rules, ◌≡◌, ◌∙◌, ◌-◌, ◌++◌, codes, decimal, string_bytes, ℕ, List, map, refl}
 use Rattle.tacho_hours.specs.declared.breach.Breach.{Breach}
-use Rattle.tacho_stretches.specs.Stretches.{Judged, judged}
+use Rattle.tacho_stretches.specs.Stretches.{Judged, judged_of}
 use Rattle.tacho_sheet.specs.declared.amounts.Amounts.{Amounts}
 use Rattle.tacho_sheet.specs.Amounts.{AreAmounts, amounts_in, cells}
-use Rattle.tacho_sheet.specs.Months.{breaches_of, count_of, kinds, numbers_of, overview_row}
+use Rattle.tacho_sheet.specs.Months.{month_breaches, count_of, kinds, numbers_of, overview_row}
 use Rattle.tacho_sheet.proofs.TextLemmas.{on_pushed}
 use Rattle.tacho_sheet.proofs.MonthLemmas.{numbers_told, row_pieces}
 use Rattle.tacho_sheet.proofs.months.push_overview.Goals as goal
@@ -11,7 +11,7 @@ use Rattle.tacho_sheet.proofs.months.push_overview.Goals as goal
 pub returns : goal.returns
 returns c =
     let line = c.args.line.now in
-    let stretches : List Judged = map judged c.args.stretches.now in
+    let stretches : List Judged = map judged_of c.args.stretches.now in
     let start : ℕ = c.month_range-start.result.0 in
     let past : ℕ = c.month_range-start.result.1 in
     let a : Amounts = c.in_ok-amounts.amounts in
@@ -19,7 +19,7 @@ returns c =
     let found : List Breach = c.deref.result.now in
     let numbers : List ℕ = cells (numbers_of line stretches start past) in
     let sums : AreAmounts line start (past - start) a = c.in_ok-amounts.ensures in
-    let are : found ≡ breaches_of start past stretches = c.deref.ensures.value ∙ c.in_ok-breaches.ensures in
+    let are : found ≡ month_breaches start past stretches = c.deref.ensures.value ∙ c.in_ok-breaches.ensures in
     let one : string_bytes c.write.new.self ≡ string_bytes c.args.text.now ++ (decimal c.args.number ++ (codes "," ++ c.args.name.now)) =
     search rules in
     let two : string_bytes c.push_amounts.new.text ≡ string_bytes c.write.new.self ++ cells (amounts_in a) = search rules in

@@ -4,7 +4,7 @@ use Rattle.tacho_state.specs.Batch.{Hours, batch_of, entry_of}
 use Rattle.tacho_tables.specs.Rows.{EntryRow}
 use Rattle.tacho_tables.proofs.BatchLemmas.{left_in_chunks, added_chunks, adds_four, adds_one, added_all}
 use Rattle.tacho_tables.proofs.Firsts.{chunk_long}
-use Rattle.tacho_reading.specs.Standing.{entry_row, entry_rows}
+use Rattle.tacho_reading.specs.Standing.{entry_row, rows_of_entries}
 use Rattle.tacho_store.proofs.EnteringLemmas.{any_default}
 use Rattle.tacho_store.proofs.entering.insert_lines.Goals as goal
 
@@ -13,7 +13,7 @@ abbrev row : ℕ → ℕ → Hours → EntryRow
 row n i line = entry_row n i (entry_of line)
 
 abbrev rows : ℕ → ℕ → List Hours → List EntryRow
-rows n i lines = entry_rows n i (batch_of lines)
+rows n i lines = rows_of_entries n i (batch_of lines)
 
 pub loop-a-init : goal.loop-a-init
 loop-a-init g c = (

@@ -4,7 +4,7 @@ use Rattle.tacho_state.specs.Content.{part_number}
 use Rattle.tacho_tables.specs.Tables.{Turns, row_of}
 use Rattle.tacho_reading.specs.Standing.{Follows, span_row}
 use Rattle.tacho_reading.proofs.MappedLemmas.{was_ok}
-use Rattle.tacho_store.specs.Importing.{written}
+use Rattle.tacho_store.specs.Importing.{tables_after_download}
 use Rattle.tacho_store.proofs.StepsLemmas.{given_by}
 use Rattle.tacho_store.proofs.AdditionLemmas.{full_answer, added_answer, added_after, count_is}
 use Rattle.tacho_store.proofs.import.add_download.Goals as goal
@@ -33,7 +33,7 @@ returns-clause-steps g c = given_by (search rules) (search rules) (search rules)
     (subst (λ x. map (row_of n) c.in_ok-helds.helds.items ≡ map (span_row n) x) c.deref-2.ensures.value (c.in_ok-helds.ensures n)) in
     let wrote = was_ok c.write_download.result c.in_ok-map_err.field-0 _ c.in_ok-map_err.ensures.cases
     (rw (card_rows, held_rows) at (c.write_download.ensures.turned clean schema)) in
-    let turned = subst (λ number. Turns old after (written n number part file (map (span_row n) cards) (map (span_row n) helds)))
+    let turned = subst (λ number. Turns old after (tables_after_download n number part file (map (span_row n) cards) (map (span_row n) helds)))
     (count_is _ s d c.args.importer part file spans cards helds is new c.in-Some.number some) (rw c.number_of_part.ensures at wrote) in (
       turned.schema,
       subst (Follows old.now.trees after.now.trees s)

@@ -5,7 +5,7 @@ use Rattle.tacho_state.specs.Steps.{Content}
 use Rattle.tacho_reading.proofs.LookUpLemmas.{handed_on}
 use Rattle.tacho_store.specs.Importing.{content_told}
 use Rattle.tacho_store.proofs.StepsLemmas.{keeps_after, steps_then}
-use Rattle.tacho_store.proofs.ImportDriverLemmas.{the_importer, not_importer, imports_his}
+use Rattle.tacho_store.proofs.ImportDriverLemmas.{the_importer, not_importer, imports_by_driver}
 use Rattle.tacho_store.proofs.import.import_in.Goals as goal
 
 pub returns-in_err-importer-clause-steps : goal.returns-in_err-importer-clause-steps
@@ -34,5 +34,5 @@ returns-clause-steps g c = steps_then (rw c.deref.ensures.value at c.import_span
     let it = the_importer s _ _ (c.in_ok-importer.ensures.told clean_1 schema s stands) in (
       (it.0, content.holder),
       (it.2, c.requires.tells),
-      imports_his (part_number c.args.part) c.args.file.now content s (caller_number c.args.caller) it.0 it.1,
+      imports_by_driver (part_number c.args.part) c.args.file.now content s (caller_number c.args.caller) it.0 it.1,
     ))

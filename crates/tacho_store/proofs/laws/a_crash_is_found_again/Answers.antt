@@ -2,7 +2,7 @@ use Rattle.std.proofs.Common.{[], ◌∷◌}
 use Rattle.sqlite.specs.Held.{state}
 use Rattle.tacho_state.specs.Runs.{state_after}
 use Rattle.tacho_state.proofs.RunLemmas.{run_stopped}
-use Rattle.tacho_store.proofs.StopLemmas.{found_of_two}
+use Rattle.tacho_store.proofs.CrashLemmas.{found_of_two}
 use Rattle.tacho_store.proofs.laws.a_crash_is_found_again.Goals as goal
 
 pub returns : goal.returns

@@ -1,7 +1,7 @@
 use Rattle.std.proofs.Common.{◌∙◌, sym}
 use Rattle.std.proofs.lemmas.Result.{IfOk-weaker}
 use Rattle.sqlite.specs.Held.{state}
-use Rattle.tacho_tables.specs.Spans.{spans_in, rows_of, begun_text}
+use Rattle.tacho_tables.specs.Spans.{spans_in, span_table_rows, begun_text}
 use Rattle.tacho_tables.specs.Tables.{is_begun}
 use Rattle.tacho_tables.proofs.CallLemmas.{plain_text, finds, finds_none}
 use Rattle.tacho_tables.proofs.SpanLemmas.{span_table, tests_begun, found_spans}
@@ -21,7 +21,7 @@ returns g c =
     let shown =
     rw (c.begun_text.ensures, c.params-to_sql.ensures, c.params-to_sql-2.ensures, c.params-to_sql-3.ensures) at (read.shown clean) in
     IfOk-weaker c.stored_spans.result _ _
-    (λ spans reads a s. found_spans (begun_text table) (rows_of table) _ _ (is_begun driver c.args.start c.args.past)
+    (λ spans reads a s. found_spans (begun_text table) (span_table_rows table) _ _ (is_begun driver c.args.start c.args.past)
     (tests_begun driver c.args.start c.args.past) old new c.in_ok-rows.rows.items is (λ layout. begun_is layout table) shown
     (spans_in table a) ((span_table table).stands _ a s) spans.items
     (λ some it. reads some (c.deref.ensures.value ∙ it))) c.stored_spans.ensures)

@@ -1,6 +1,6 @@
 use Rattle.std.proofs.Common.{rules, ◌∙◌, ap₂, sym, subst, ◌/◌, length}
 use Rattle.sqlite.specs.Held.{state}
-use Rattle.tacho_tables.specs.Spans.{spans_in, with_spans}
+use Rattle.tacho_tables.specs.Spans.{spans_in, with_span_rows}
 use Rattle.tacho_tables.proofs.Firsts.{joined, chunks_joined}
 use Rattle.tacho_tables.proofs.AddingLemmas.{adds_part, added_parts, adds_next, added_all}
 use Rattle.tacho_tables.proofs.SpanLemmas.{HasLeft, span_table, all_left}
@@ -14,7 +14,7 @@ loop-eight-init g c =
     record {
       stays = search rules;
       keeps = search rules;
-      left = λ clean is. subst (λ l. HasLeft (spans_in table) (with_spans table) c.args.driver spans l (state g.S.Store c.args.tx.now.conn.now) (state g.S.Store c.args.tx.now.conn.now)) (sym parts)
+      left = λ clean is. subst (λ l. HasLeft (spans_in table) (with_span_rows table) c.args.driver spans l (state g.S.Store c.args.tx.now.conn.now) (state g.S.Store c.args.tx.now.conn.now)) (sym parts)
           (all_left (span_table table) c.args.driver spans (state g.S.Store c.args.tx.now.conn.now) is);
     }
 

@@ -2,7 +2,7 @@ use Rattle.std.proofs.Common.{rules, pos, ◌∷◌, ◌++◌, map, flat_map, re
 use Rattle.std.proofs.lemmas.Result.{on_ok_weaker}
 use Rattle.sqlite.specs.declared.types.Value.TheVariants.{Int}
 use Rattle.sqlite.specs.Held.{state}
-use Rattle.tacho_tables.specs.Spans.{spans_in, with_spans, eight_text}
+use Rattle.tacho_tables.specs.Spans.{spans_in, with_span_rows, eight_text}
 use Rattle.tacho_tables.specs.Tables.{Turns, row_of}
 use Rattle.tacho_tables.proofs.AddingLemmas.{none}
 use Rattle.tacho_tables.proofs.Firsts.{some_from, by_places}
@@ -21,7 +21,7 @@ returns g c = record {
       let driver = c.args.driver in
       let spans = some_from none 8 0 c.args.spans.now in
       on_ok_weaker c.run.result
-      (λ ran. subst (λ l. Turns old new (λ a. with_spans table (map (row_of driver) l ++ spans_in table a) a))
+      (λ ran. subst (λ l. Turns old new (λ a. with_span_rows table (map (row_of driver) l ++ spans_in table a) a))
       (sym (by_places none 8 c.args.spans.now c.told-spans))
       (adds_spans (span_table table) (eight_text table) eight
       (Int (pos driver) ∷ flat_map span_values spans) (map (row_of driver) spans) old new

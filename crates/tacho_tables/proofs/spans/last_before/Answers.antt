@@ -1,6 +1,6 @@
 use Rattle.std.proofs.Common.{sym}
 use Rattle.sqlite.specs.Held.{state}
-use Rattle.tacho_tables.specs.Spans.{spans_in, rows_of, before_text}
+use Rattle.tacho_tables.specs.Spans.{spans_in, span_table_rows, before_text}
 use Rattle.tacho_tables.proofs.CallLemmas.{plain_text, finds, finds_none}
 use Rattle.tacho_tables.proofs.Reading.{ok_both}
 use Rattle.tacho_tables.proofs.LatestLemmas.{finds_latest}
@@ -19,7 +19,7 @@ returns g c =
     (λ clean is.
     let shown = rw (c.before_text.ensures, c.params-to_sql.ensures, c.params-to_sql-2.ensures) at (read.shown clean) in
     ok_both c.first_span.result
-    (λ found none some a s. finds_latest (before_text table) (rows_of table) (λ layout. before_is layout table) c.args.driver c.args.minute
+    (λ found none some a s. finds_latest (before_text table) (span_table_rows table) (λ layout. before_is layout table) c.args.driver c.args.minute
     old new c.in_ok-rows.rows.items is shown (spans_in table a) ((span_table table).stands _ a s) found
     (rw c.deref.ensures.value at none) (rw c.deref.ensures.value at some)) c.first_span.ensures.none c.first_span.ensures.some)
 

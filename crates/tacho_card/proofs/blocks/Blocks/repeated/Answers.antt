@@ -1,5 +1,5 @@
 use Rattle.std.proofs.Common.{true, false, set, slice_index_or, sym, ap, ◌∙◌}
-use Rattle.tacho_card.specs.CardFile.{repeated}
+use Rattle.tacho_card.specs.CardFile.{first_repeat}
 use Rattle.tacho_card.proofs.SingleLemmas.{repeats, first_time, no_single}
 use Rattle.tacho_card.proofs.blocks.Blocks.repeated.Goals as goal
 
@@ -9,7 +9,7 @@ returns-then-seen-place c =
     let before = c.loop-block.yielded in
     let seen = ap (λ marked. slice_index_or marked at false) (sym c.loop-block.invariant.2) ∙ c.if-seen-place.true in
     let found = repeats c.in-Some.block at before c.next.new.self (sym c.in-Some-single_place.ensures) seen in
-    sym found ∙ ap (λ rest. repeated before rest) (sym c.in-Some.ensures.steps) ∙ c.loop-block.invariant.3
+    sym found ∙ ap (λ rest. first_repeat before rest) (sym c.in-Some.ensures.steps) ∙ c.loop-block.invariant.3
 
 pub loop-block-preserved-in-Some-single_place : goal.loop-block-preserved-in-Some-single_place
 loop-block-preserved-in-Some-single_place c =
@@ -20,7 +20,7 @@ loop-block-preserved-in-Some-single_place c =
       tt,
       tt,
       ap (λ marked. set marked at true) c.loop-block.invariant.2 ∙ step.0,
-      sym step.1 ∙ ap (λ rest. repeated before rest) (sym c.in-Some.ensures.steps) ∙ c.loop-block.invariant.3,
+      sym step.1 ∙ ap (λ rest. first_repeat before rest) (sym c.in-Some.ensures.steps) ∙ c.loop-block.invariant.3,
     )
 
 pub loop-block-preserved : goal.loop-block-preserved
@@ -30,5 +30,5 @@ loop-block-preserved c =
       tt,
       tt,
       c.loop-block.invariant.2 ∙ step.0,
-      sym step.1 ∙ ap (λ rest. repeated before rest) (sym c.in-Some.ensures.steps) ∙ c.loop-block.invariant.3,
+      sym step.1 ∙ ap (λ rest. first_repeat before rest) (sym c.in-Some.ensures.steps) ∙ c.loop-block.invariant.3,
     )

@@ -1,5 +1,5 @@
 use Rattle.std.proofs.Common.{◌≡◌, []}
-use Rattle.tacho_card.specs.CardFile.{repeated as first_repeated}
+use Rattle.tacho_card.specs.CardFile.{first_repeat as first_repeated}
 use Rattle.tacho_card.proofs.SingleLemmas.{marks}
 use Rattle.tacho_card.proofs.blocks.Blocks.repeated.Given as goal
 

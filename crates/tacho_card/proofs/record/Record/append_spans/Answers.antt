@@ -1,6 +1,6 @@
 use Rattle.std.proofs.Common.{◌≡◌, ◌+◌, ◌-◌, sym, ap, ◌∙◌, arith}
 use Rattle.tacho_card.specs.ActivityChangeInfo.{mark_of}
-use Rattle.tacho_card.specs.DailyRecord.{DailyRecord, day_at}
+use Rattle.tacho_card.specs.DailyRecord.{DailyRecord, record_day}
 use Rattle.tacho_card.specs.RawSpans.{word_past, closed_mark}
 use Rattle.tacho_card.proofs.RawLemmas.{word_begins, day_ends, last_past, next_past, open_mark, inner_mark, closed_word, all_words, append_word, no_words}
 use Rattle.tacho_card.proofs.record.Record.append_spans.Goals as goal
@@ -13,7 +13,7 @@ pub loop-i-preserved : goal.loop-i-preserved
 loop-i-preserved c =
     let r = c.args.self.now in
     let i = c.loop-i.i in
-    let day : c.number-midnight.result ≡ day_at r.buffer r.place = c.number-midnight.ensures.value ∙ c.day.ensures in
+    let day : c.number-midnight.result ≡ record_day r.buffer r.place = c.number-midnight.ensures.value ∙ c.day.ensures in
     let counts = ap (λ (x : DailyRecord). x.count) c.self.view_is in
     let past : c.if-is_last.past ≡ word_past r i (r.count - (i + 1)) = elim c.if-is_last.branch [
       | then-is_last w ↦ last_past r i _ (w.if-is_last.true ∙ counts) (day_ends r _ _ day (w.past-is ∙ w.new-past.ensures))

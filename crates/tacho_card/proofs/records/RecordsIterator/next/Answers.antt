@@ -1,5 +1,5 @@
 use Rattle.std.proofs.Common.{◌+◌, ◌-◌, [], ◌∷◌, Ok, cond, sym, ap, ◌∙◌, arith}
-use Rattle.tacho_card.specs.DriverActivity.{wrapped}
+use Rattle.tacho_card.specs.DriverActivity.{wrap_place}
 use Rattle.tacho_card.specs.Chain.{chain_from}
 use Rattle.tacho_card.proofs.ChainLemmas.{read_length, chain_fault, chain_last, chain_more, less_left}
 use Rattle.tacho_card.proofs.records.RecordsIterator.next.Goals as goal
@@ -31,8 +31,8 @@ returns-after-self-2-clause-steps c =
       | then-self-2 w ↦ seen ∙ chain_last is.buffer.now is.newest is.place is.left c.in-Ok.record read w.if-self-2.true ∙ ap (λ xs. Ok c.in-Ok.record ∷ xs) (sym w.self-is)
       | else-self-2 w ↦
           let rest = w.self-is
-          ∙ ap (λ b. cond b [] (chain_from ((is.left - c.number_in-len.result) + 1) is.buffer.now is.newest (wrapped is.buffer.now (is.place + c.number_in-len.result)) (is.left - c.number_in-len.result))) c.if-self.false
-          ∙ ap (λ n. chain_from ((is.left - n) + 1) is.buffer.now is.newest (wrapped is.buffer.now (is.place + n)) (is.left - n)) c.number_in-len.ensures in
+          ∙ ap (λ b. cond b [] (chain_from ((is.left - c.number_in-len.result) + 1) is.buffer.now is.newest (wrap_place is.buffer.now (is.place + c.number_in-len.result)) (is.left - c.number_in-len.result))) c.if-self.false
+          ∙ ap (λ n. chain_from ((is.left - n) + 1) is.buffer.now is.newest (wrap_place is.buffer.now (is.place + n)) (is.left - n)) c.number_in-len.ensures in
           seen ∙ chain_more is.buffer.now is.newest is.place is.left c.in-Ok.record read w.if-self-2.false ∙ ap (λ xs. Ok c.in-Ok.record ∷ xs) (sym rest)
     ]
 

@@ -3,7 +3,7 @@ use Rattle.std.proofs.lemmas.List.{append-nil, append_assoc}
 use Rattle.tacho_hours.specs.declared.breach.Breach.{Breach}
 use Rattle.tacho_hours.specs.declared.breach.Kind.TheVariants.{B4}
 use Rattle.tacho_pass.specs.declared.found.Found.{Found}
-use Rattle.tacho_pass.specs.Found.{listed}
+use Rattle.tacho_pass.specs.Found.{as_list}
 use Rattle.tacho_pass.specs.Counts.{over_of}
 use Rattle.tacho_pass.specs.Kinds.{is_b4_or_b5}
 use Rattle.tacho_pass.proofs.AppendingLemmas.{appends_none, appends_some}
@@ -20,7 +20,7 @@ returns-in_ok-put-2-clause-appends c =
     let d : DutyDriving = c.args.self.now in
     let now : Found = c.put-then-ends_day.new.found in
     let old : List Breach = c.args.found.now.breaches.items in
-    let xs : List Breach = listed (over_of B4 600 d.from d.ten) in
+    let xs : List Breach = as_list (over_of B4 600 d.from d.ten) in
     let ys : List Breach = often_of d in
     let first : c.put.new.found.breaches.items ≡ old ++ xs = c.in_ok-put.ensures.breaches ∙ rw c.over.ensures refl in
     let second : now.breaches.items ≡ c.put.new.found.breaches.items ++ ys =

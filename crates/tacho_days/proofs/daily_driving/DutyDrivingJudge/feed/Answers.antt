@@ -9,7 +9,7 @@ use Rattle.tacho_pass.specs.Heard.{run_before}
 use Rattle.tacho_pass.specs.Kinds.{is_b4_or_b5}
 use Rattle.tacho_pass.proofs.AppendingLemmas.{own_more}
 use Rattle.tacho_days.specs.declared.daily_driving.DutyDriving.{DutyDriving}
-use Rattle.tacho_days.specs.DailyDriving.{duty_any, found_any, duty_with}
+use Rattle.tacho_days.specs.DailyDriving.{duty_any, duty_found_at_optional_run, duty_with}
 use Rattle.tacho_days.proofs.DailyDrivingLemmas.{any_kinds, driven_fed}
 use Rattle.tacho_days.proofs.daily_driving.DutyDrivingJudge.feed.Goals as goal
 
@@ -29,8 +29,8 @@ returns-clause-fed c = λ base spans r.
     c.in_ok-hear.ensures.after
     ∙ rw (c.is_drive-drives.ensures, run_is, c.number.ensures.value, c.number-2.ensures.value)
     (refl {a = duty_with drives x.start x.past (duty_any run p)}) in
-    let items : c.hear.new.found.breaches.items ≡ old ++ found_any run p =
+    let items : c.hear.new.found.breaches.items ≡ old ++ duty_found_at_optional_run run p =
     c.in_ok-hear.ensures.breaches ∙ rw run_is refl in
-    let own_is : own_of is_b4_or_b5 c.hear.new.found.breaches.items ≡ own ++ found_any run p =
-    ap (own_of is_b4_or_b5) items ∙ own_more is_b4_or_b5 old (found_any run p) (any_kinds run p) in
+    let own_is : own_of is_b4_or_b5 c.hear.new.found.breaches.items ≡ own ++ duty_found_at_optional_run run p =
+    ap (own_of is_b4_or_b5) items ∙ own_more is_b4_or_b5 old (duty_found_at_optional_run run p) (any_kinds run p) in
     rw (own_is, duty) (driven_fed spans x base start p own [] r c.requires.some (omega arith) late))

@@ -5,7 +5,7 @@ use Rattle.tacho_hours.specs.declared.breach.Breach.{Breach}
 use Rattle.tacho_pass.proofs.AppendingLemmas.{appends_none, appends_then}
 use Rattle.tacho_driving.specs.declared.weekly_driving.Sums.{Sums}
 use Rattle.tacho_pass.specs.Kinds.{is_b6_or_b7}
-use Rattle.tacho_driving.specs.Sums.{are_few, turned, turn_found, through, through_found}
+use Rattle.tacho_driving.specs.Sums.{sums_in_range, turn_week, turn_found, through, through_found}
 use Rattle.tacho_driving.proofs.weekly_driving.Sums.go_through.Goals as goal
 
 pub loop-init : goal.loop-init
@@ -51,21 +51,21 @@ loop-preserved c =
     let e : suc k ≡ ends - i = omega arith in
     let low : week_start (c.args.self.now.week + 1 + ends) ≤ to = c.requires.ends in
     let w : now.week ≡ c.args.self.now.week + i = c.loop.invariant.week in
-    let turn : next ≡ turned d place now = c.in_ok-turn.ensures.turned in
+    let turn : next ≡ turn_week d place now = c.in_ok-turn.ensures.turned in
     let a : end ≡ c.first_minute.result = c.number-end.ensures.value in
     let b : c.first_minute.result ≡ week_start c.new.result = c.first_minute.ensures in
     let n : c.new.result ≡ now.week + 2 = c.new.ensures in
     let is : end ≡ week_start (now.week + 2) = omega arith in
     let week : next.week ≡ now.week + 1 = ap (λ (x : Sums). x.week) turn in
     let on : through k d end to next ≡ through (suc k) d place to now =
-    ap (λ (x : Sums). through k d end to x) turn ∙ ap (λ (p : ℕ). through k d p to (turned d place now)) is in
-    let more : through_found k d end next ≡ through_found k d (week_start (now.week + 2)) (turned d place now) =
-    ap (λ (x : Sums). through_found k d end x) turn ∙ ap (λ (p : ℕ). through_found k d p (turned d place now)) is in
+    ap (λ (x : Sums). through k d end to x) turn ∙ ap (λ (p : ℕ). through k d p to (turn_week d place now)) is in
+    let more : through_found k d end next ≡ through_found k d (week_start (now.week + 2)) (turn_week d place now) =
+    ap (λ (x : Sums). through_found k d end x) turn ∙ ap (λ (p : ℕ). through_found k d p (turn_week d place now)) is in
     record {
       place = omega arith;
       before = omega arith;
       week = omega arith;
-      few = subst (λ (p : ℕ). IsTrue (are_few next p)) (sym is) c.in_ok-turn.ensures.few;
+      few = subst (λ (p : ℕ). IsTrue (sums_in_range next p)) (sym is) c.in_ok-turn.ensures.few;
       sums = on ∙ ap (λ (m : ℕ). through m d place to now) e ∙ c.loop.invariant.sums;
       breaches = ap (λ (xs : List Breach). xs ++ through_found k d end next) c.in_ok-turn.ensures.breaches
           ∙ append_assoc seen (turn_found d place now) (through_found k d end next)

@@ -7,7 +7,7 @@ use Rattle.tacho_hours.specs.Weeks.{week_start, IsInWeek}
 use Rattle.tacho_pass.specs.Found.{own_of}
 use Rattle.tacho_pass.specs.Kinds.{is_b10}
 use Rattle.tacho_pass.proofs.AppendingLemmas.{appends_then, own_more}
-use Rattle.tacho_rests.specs.Paying.{due_of, overdue_of, closed, rests_with}
+use Rattle.tacho_rests.specs.Paying.{due_of, overdue_of, close_debts, rests_with}
 use Rattle.tacho_rests.specs.Turns.{IsOpened, IsLedger}
 use Rattle.tacho_rests.proofs.OverdueOfLemmas.{overdue_kinds}
 use Rattle.tacho_rests.proofs.LedgerLemmas.{ledger_rest, ledger_last, same_run}
@@ -49,7 +49,7 @@ returns-clause-debts c = λ line last e l at n s.
     ledger_rest line horizon last l v rests debts own owed last o week in
     let run : Run = record { start = c.args.start; past = FAR } in
     let same : run ≡ last = same_run last c.args.start at l.no_end in
-    let left : List Debt = closed horizon false v (rests_with rests last) debts in
+    let left : List Debt = close_debts horizon false v (rests_with rests last) debts in
     let due : List Debt = due_of (week_start v) debts in
     let of_week : c.add.new.self.week ≡ v = c.add.ensures.week ∙ c.in_ok-enter.ensures.week in
     let of_rests : take c.add.new.self.rests.count c.add.new.self.rests.slots ≡ rests_with rests

@@ -2,7 +2,7 @@ use Rattle.std.proofs.Common.{◌≡◌, ◌++◌, None, Some, List, [], sym, ap
 use Rattle.tacho_time.specs.declared.span.Span.{Span}
 use Rattle.tacho_hours.specs.declared.run.Run.{Run}
 use Rattle.tacho_hours.specs.declared.breach.Breach.{Breach}
-use Rattle.tacho_pass.specs.Found.{own_of, listed}
+use Rattle.tacho_pass.specs.Found.{own_of, as_list}
 use Rattle.tacho_pass.specs.Kinds.{is_b8}
 use Rattle.tacho_pass.specs.Heard.{run_before}
 use Rattle.tacho_pass.proofs.AppendingLemmas.{appends_none, own_more}
@@ -28,8 +28,8 @@ returns-clause-fed c = λ base spans r.
     let s : Span = c.args._span in
     let run : Run = c.in-Some.run' in
     let is : run_before c.args._start s ≡ Some run = sym c.requires.run ∙ c.in-Some.is in
-    let own_is : own_of is_b8 c.put.new.found.breaches.items ≡ own ++ listed (late_run late.end run) =
+    let own_is : own_of is_b8 c.put.new.found.breaches.items ≡ own ++ as_list (late_run late.end run) =
     ap (own_of is_b8) c.in_ok-put.ensures.breaches
     ∙ rw c.breach_of.ensures
-    (own_more is_b8 c.args.found.now.breaches.items (listed (late_run late.end run)) (late_kinds late.end run)) in
+    (own_more is_b8 c.args.found.now.breaches.items (as_list (late_run late.end run)) (late_kinds late.end run)) in
     rw (own_is, c.end_after-self.ensures) (late_fed spans s base c.args._start late own [] r c.requires.some run is))

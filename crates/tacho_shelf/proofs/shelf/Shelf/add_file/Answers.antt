@@ -5,7 +5,7 @@ use Rattle.tacho_state.specs.declared.fault.StoreFault.TheVariants.{Card}
 use Rattle.tacho_state.specs.declared.imported.Imported.{Imported}
 use Rattle.tacho_state.specs.State.{State}
 use Rattle.tacho_state.specs.Content.{FileTells, part_number}
-use Rattle.tacho_state.specs.Steps.{Content, imported}
+use Rattle.tacho_state.specs.Steps.{Content, import_step}
 use Rattle.tacho_state.specs.Acts.{caller_number}
 use Rattle.tacho_shelf.specs.Shelf.{IsOwnerAt, owner_of, Turns}
 use Rattle.tacho_shelf.proofs.ShelfLemmas.{numbered_set}
@@ -15,7 +15,7 @@ use Rattle.tacho_shelf.proofs.shelf.Shelf.add_file.Goals as goal
 pub returns-in_err-content-clause-turns : goal.returns-in_err-content-clause-turns
 returns-in_err-content-clause-turns c = λ content tells.
     let told : c.from_residual.result ≡ Err c.in_err-content.field-0.0 = search rules in
-    subst (λ (r : Result Imported StoreFault). Turns (λ (done : Imported). done) c.args.self.now c.args.self.now r (imported
+    subst (λ (r : Result Imported StoreFault). Turns (λ (done : Imported). done) c.args.self.now c.args.self.now r (import_step
     (caller_number c.args.caller) (part_number c.args.part) c.args.file.now content)) (sym told)
     (import_unread (caller_number c.args.caller) c.args.part c.args.file.now c.args.self.now c.in_err-content.field-0.0 content
     c.in_err-content.ensures tells)
@@ -24,7 +24,7 @@ pub returns-in_err-place-clause-turns : goal.returns-in_err-place-clause-turns
 returns-in_err-place-clause-turns c = λ content tells.
     let told : c.from_residual-in_err-place.result ≡ Err c.in_err-place.field-0.0 = search rules in
     let read = subst (λ (x : Content). FileTells c.args.part c.args.file.now (Ok x)) (sym c.content.view_is) c.in_ok-content.ensures in
-    subst (λ (r : Result Imported StoreFault). Turns (λ (done : Imported). done) c.args.self.now c.args.self.now r (imported
+    subst (λ (r : Result Imported StoreFault). Turns (λ (done : Imported). done) c.args.self.now c.args.self.now r (import_step
     (caller_number c.args.caller) (part_number c.args.part) c.args.file.now content)) (sym told)
     (import_refused (caller_number c.args.caller) c.args.part c.args.file.now c.args.self.now c.in_err-place.field-0.0
     (record { holder = c.content.inside.holder; spans = c.content.inside.spans.items }) content read c.in_err-place.ensures tells)
@@ -57,7 +57,7 @@ returns-clause-turns c = λ content tells.
     let within : c.in_ok-place.place < length s = slice_get_within s c.in_ok-place.place owner.0 owner.1 in
     let at = slice_get_read s (length s) c.in_ok-place.place c.index_mut.result.now refl within c.index_mut.ensures.value in
     subst (λ (t : State). Turns (λ (done : Imported). done) t (slice_set s c.in_ok-place.place c.import.new.self) c.import.result
-    (imported (caller_number c.args.caller) (part_number c.args.part) c.args.file.now content))
+    (import_step (caller_number c.args.caller) (part_number c.args.part) c.args.file.now content))
     c.self.view_is
     (import_turns (caller_number c.args.caller) c.args.part c.args.file.now s c.in_ok-place.place c.index_mut.result.now
     c.import.new.self read content c.import.result

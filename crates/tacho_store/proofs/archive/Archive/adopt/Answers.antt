@@ -3,8 +3,8 @@ use Rattle.sqlite.specs.Effect.{Database}
 use Rattle.sqlite.specs.Tree.{Trees}
 use Rattle.sqlite.specs.Held.{state}
 use Rattle.tacho_state.specs.declared.fault.StoreFault.{StoreFault}
-use Rattle.tacho_reading.specs.Standing.{StandsFor}
-use Rattle.tacho_store.proofs.StopLemmas.{shows_found}
+use Rattle.tacho_reading.specs.Standing.{Represents}
+use Rattle.tacho_store.proofs.CrashLemmas.{shows_found}
 use Rattle.tacho_store.proofs.OpeningLemmas.{versioned, not_of_one, old_by, alone_by}
 use Rattle.tacho_store.proofs.archive.Archive.adopt.Goals as goal
 
@@ -22,7 +22,7 @@ returns-in-Ok-clause-adopted g c clean =
       held = held;
       live = search rules;
       left = search rules;
-      rests = λ s stands db may. inl (subst (λ (d : Trees). StandsFor d s)
+      rests = λ s stands db may. inl (subst (λ (d : Trees). Represents d s)
           (ap (λ (d : Database). d.trees) same ∙ sym (g.met.S.Store.settled c.check.new.conn.store db live may)) (held s stands live).1);
       found = search rules;
       names = checked.names;

@@ -7,11 +7,11 @@ use Rattle.tacho_tables.specs.Schema.{old_schema}
 use Rattle.tacho_tables.proofs.CatalogLemmas.{is_old_schema}
 use Rattle.tacho_state.specs.declared.fault.StoreFault.{StoreFault}
 use Rattle.tacho_state.specs.State.{State}
-use Rattle.tacho_reading.specs.Standing.{StandsFor}
+use Rattle.tacho_reading.specs.Standing.{Represents}
 use Rattle.tacho_reading.specs.Kept.{IsBlank, Sees, LeavesOneOf}
 use Rattle.tacho_store.specs.Old.{OldState, StoodFor, with_office}
 use Rattle.tacho_store.specs.Opening.{IsOld, IsLeftAlone, IsCarried, IsNotMigrated, IsAdopted, IsMigrated}
-use Rattle.tacho_store.proofs.StopLemmas.{crash_by}
+use Rattle.tacho_store.proofs.CrashLemmas.{crash_by}
 use Rattle.tacho_store.proofs.archive.Archive.migrate.Goals as goal
 
 -- an archive that was adopted is what a migration makes of a store of schema 2
@@ -48,7 +48,7 @@ module _ (old : Sqlite) (live : IsLive old) where
     first_found clean = (was (it.clean clean)).1.tables
 
     -- they represented no state of schema 2
-    first_old : HasCleanDisk new → (s : State) → StandsFor old.now.trees s → ⊥
+    first_old : HasCleanDisk new → (s : State) → Represents old.now.trees s → ⊥
     first_old clean = (was (it.clean clean)).1.none
 
     -- they represented a state of schema 1 until the migration

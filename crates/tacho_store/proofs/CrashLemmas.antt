@@ -6,17 +6,17 @@ use Rattle.sqlite.specs.Tree.{Trees}
 use Rattle.tacho_tables.specs.Tables.{IsArchive}
 use Rattle.tacho_state.specs.State.{State}
 use Rattle.tacho_tables.proofs.CatalogLemmas.{is_archive}
-use Rattle.tacho_reading.specs.Standing.{StandsFor}
+use Rattle.tacho_reading.specs.Standing.{Represents}
 use Rattle.tacho_reading.specs.Kept.{SeesWhileOpen, IsOfOne, LeavesOneOf}
 use Rattle.tacho_store.specs.Opening.{IsKnown, IsAdopted}
 
 -- a connection that shows what an earlier one showed sees the state that the earlier one's tables represented
 pub shows_found : (old new : Sqlite) → IsLive old → (IsTrue new.is_open → IsTrue old.is_open)
-    → (IsTrue new.is_open → IsKnown old → new.now ≡ old.now) → (s : State) → StandsFor old.now.trees s → SeesWhileOpen new s
-unfolding StandsFor
+    → (IsTrue new.is_open → IsKnown old → new.now ≡ old.now) → (s : State) → Represents old.now.trees s → SeesWhileOpen new s
+unfolding Represents
 shows_found old new live was_open same s it opened =
     let has = is_archive old.now it.0 it.1 (live (was_open opened)).0 in
-    subst (λ (d : Database). IsArchive d × StandsFor d.trees s) (sym (same opened (inl (inr (has.layout, has.schema))))) (has, it)
+    subst (λ (d : Database). IsArchive d × Represents d.trees s) (sym (same opened (inl (inr (has.layout, has.schema))))) (has, it)
 
 -- if one fact implies another, and the first is true of one of some states, the second is too
 one_weaker : (fact other : State → Type 0) → ((s : State) → fact s → other s) → (states : List State) → IsOfOne fact states
