@@ -3,13 +3,12 @@
 //! Functions on an archive are generic over its store, and take and return the connection by value. Only `open` and `at_file` name the
 //! file's store: there each call of a function that is generic over a store is proved again, which takes 15 to 50 times as long.
 
-ghost use Rattle.std.specs.Prelude.{◌≡◌, ◌≢◌, None, false, true};
-ghost use Rattle.tacho_cli.specs.Words.{archive_of, at_desk};
+ghost use Rattle.std.specs.Prelude.{◌≡◌, false};
 
 use sqlite::{Alter, Connection, Error, ErrorCode, File, FileStore};
 use std::fs;
 use std::os::unix::fs::OpenOptionsExt;
-use tacho_cli::Job;
+use tacho_cli::{DeskJob, perform_at_desk};
 use tacho_serve::{ServeFault, serve};
 use tacho_state::StoreFault;
 use tacho_store::Archive;
@@ -20,6 +19,19 @@ type FileConnection = Connection<FileStore<File>>;
 
 /// The mode of a new file: only its owner reads and writes it, because it contains the keys of drivers.
 const OWNER_ALONE: u32 = 0o600;
+
+/// What is done at the archive in a file.
+#[derive(Clone, Copy)]
+pub enum Work<'a> {
+    /// Makes the archive, in a new file.
+    Create,
+    /// Migrates it to schema 2.
+    Migrate,
+    /// Does a task, with standard input and output.
+    Task(DeskJob<'a>),
+    /// Answers `count` connections on a port of 127.0.0.1, with the office's key and those of drivers.
+    Serve { key: &'a str, port: u16, count: u32 },
+}
 
 /// How a job ends: the line to print once the file is closed (empty if the job has printed everything), and the status.
 #[derive(Clone, Copy)]
@@ -91,10 +103,9 @@ fn migrate<S: Alter + Drop>(conn: Connection<S>) -> (Ending, Connection<S>)
 fn perform<S: Alter + Drop>(
     rt: &HostRuntime,
     conn: Connection<S>,
-    job: Job<'_>,
+    job: DeskJob<'_>,
 ) -> (Ending, Connection<S>)
-    requires desk { at_desk job ≡ true }
-    requires autocommit { conn.in_transaction ≡ false }
+    requires { conn.in_transaction ≡ false }
 {
     let mut archive = match Archive::adopt(conn) {
         Ok(archive) => archive,
@@ -102,7 +113,7 @@ fn perform<S: Alter + Drop>(
     };
     let mut reader = Device::new(rt.stdin());
     let mut writer = Device::new(rt.stdout());
-    let status = tacho_cli::perform(rt.alloc(), job, &mut archive, &mut reader, &mut writer);
+    let status = perform_at_desk(rt.alloc(), job, &mut archive, &mut reader, &mut writer);
     (with_status(status), archive.close())
 }
 
@@ -131,28 +142,20 @@ fn answer<S: Alter + Drop>(
     (ending, archive.close())
 }
 
-/// Does a job at the archive of a connection.
+/// Does the work at the archive of a connection.
 fn at_connection<S: Alter + Drop>(
     rt: &HostRuntime,
     conn: Connection<S>,
-    job: Job<'_>,
-) -> (Ending, Connection<S>)
-    requires { archive_of job ≢ None }
-{
+    work: Work<'_>,
+) -> (Ending, Connection<S>) {
     if !conn.is_autocommit() {
         return (refused(StoreFault::Store), conn);
     }
-    match job {
-        Job::Init { .. } => create(conn),
-        Job::Migrate { .. } => migrate(conn),
-        Job::AtDesk { .. } => perform(rt, conn, job),
-        Job::Serve {
-            key,
-            port,
-            count,
-            ..
-        } => answer(rt, conn, key, port, count),
-        Job::Dump | Job::Holder | Job::Card { .. } => unreachable!(),
+    match work {
+        Work::Create => create(conn),
+        Work::Migrate => migrate(conn),
+        Work::Task(job) => perform(rt, conn, job),
+        Work::Serve { key, port, count } => answer(rt, conn, key, port, count),
     }
 }
 
@@ -167,10 +170,10 @@ fn make_own(rt: &HostRuntime, path: &str) {
         .open(rt, path);
 }
 
-/// Opens a job's file: a new one if the job makes an archive, otherwise an existing one. A new file gets checksums of its pages, by which
+/// Opens an archive's file: a new one if the archive is to be made, otherwise an existing one. A new file gets checksums of its pages, by which
 /// later opens find what was changed in it.
-fn open(rt: &HostRuntime, path: &str, job: Job<'_>) -> Result<FileConnection, StoreFault> {
-    if matches!(job, Job::Init { .. }) {
+fn open(rt: &HostRuntime, path: &str, work: Work<'_>) -> Result<FileConnection, StoreFault> {
+    if matches!(work, Work::Create) {
         make_own(rt, path);
     } else if !matches!(fs::exists(rt, path), Ok(true)) {
         return Err(StoreFault::Store);
@@ -182,14 +185,12 @@ fn open(rt: &HostRuntime, path: &str, job: Job<'_>) -> Result<FileConnection, St
     }
 }
 
-/// Does a job at the archive in a file, and returns the program's status. What was done is durable, even if the file's log can't be written
+/// Does the work at the archive in a file, and returns the program's status. What was done is durable, even if the file's log can't be written
 /// back to the file at close: the next open does that.
-pub fn at_file(rt: &HostRuntime, path: &str, job: Job<'_>) -> u8
-    requires { archive_of job ≢ None }
-{
-    match open(rt, path, job) {
+pub fn at_file(rt: &HostRuntime, path: &str, work: Work<'_>) -> u8 {
+    match open(rt, path, work) {
         Ok(conn) => {
-            let (ending, conn) = at_connection(rt, conn, job);
+            let (ending, conn) = at_connection(rt, conn, work);
             let _ = conn.close();
             tell(rt, ending)
         }

@@ -3,6 +3,7 @@
 
 mod archive;
 
+use crate::archive::{Work, at_file};
 use std::env;
 use std::io::{self, ErrorKind};
 use std::process::ExitCode;
@@ -45,11 +46,16 @@ fn run(rt: &HostRuntime, job: Job<'_>) -> u8 {
         Job::Dump => tacho_cli::dump(alloc, &mut reader, &mut writer),
         Job::Holder => tacho_cli::holder(alloc, &mut reader, &mut writer),
         Job::Card { part } => tacho_cli::card(alloc, part, &mut reader, &mut writer),
+        Job::Init { archive } => at_file(rt, archive, Work::Create),
+        Job::Migrate { archive } => at_file(rt, archive, Work::Migrate),
+        Job::AtDesk(job) => at_file(rt, job.archive, Work::Task(job)),
         Job::Serve { key, .. } if !is_key(key) => no_key(rt),
-        Job::Init { archive }
-        | Job::Migrate { archive }
-        | Job::AtDesk { archive, .. }
-        | Job::Serve { archive, .. } => archive::at_file(rt, archive, job),
+        Job::Serve {
+            archive,
+            key,
+            port,
+            count,
+        } => at_file(rt, archive, Work::Serve { key, port, count }),
     }
 }
 

@@ -1,4 +1,4 @@
--- Private to tacho_choice: Sets of weekly rests, described by whether they have one, two or a regular one.
+-- Trusted: Sets of weekly rests, described by whether they have one, two or a regular one.
 use Rattle.std.specs.Prelude.{◌≡◌, ◌≢◌, ◌↔◌, Bool, true, Option, Some, None}
 use Rattle.tacho_choice.specs.declared.counted.Counted.{Counted}
 use Rattle.tacho_choice.specs.Step.{has_one, has_two, has_regular}

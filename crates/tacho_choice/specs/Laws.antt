@@ -1,4 +1,4 @@
--- Private to tacho_choice: That one week's step on the ten outcomes is exact.
+-- Trusted: That one week's step on the ten outcomes is exact.
 use Rattle.std.specs.Prelude.{ℕ, ◌+◌, ◌≤◌, ◌↔◌, Bool}
 use Rattle.tacho_hours.specs.Line.{Line}
 use Rattle.tacho_hours.specs.Choice.{CanServe}

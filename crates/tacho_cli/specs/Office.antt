@@ -102,5 +102,5 @@ pub record Replied (IsAnswer : Answer → Type 0) (failed : Bool) (old new : Opt
 
 -- a statement about a job at an archive, by what it asks for and its arguments
 abbrev pub OfDesk : Job → (Want → List ℕ → List ℕ → Type 0) → Type 0
-OfDesk (job.AtDesk archive want driver word) Is = Is want driver.now word.now
+OfDesk (job.AtDesk j) Is = Is j.want j.driver.now j.word.now
 OfDesk j Is = Unit {0}

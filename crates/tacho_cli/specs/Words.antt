@@ -85,7 +85,7 @@ abbrev pub has_input : Job → Bool
 has_input job.Dump = true
 has_input job.Holder = true
 has_input (job.Card part) = true
-has_input (job.AtDesk archive want driver word) = takes_input want
+has_input (job.AtDesk j) = takes_input j.want
 has_input other = false
 
 -- the argument with this name is this text
@@ -133,8 +133,8 @@ IsJobOf act.Holder rows j = j ≡ job.Holder
 IsJobOf act.Card rows (job.Card part) = IsWord rows (codes "part") part.now
 IsJobOf act.Init rows (job.Init archive) = IsWord rows (codes "archive") archive.now
 IsJobOf act.Migrate rows (job.Migrate archive) = IsWord rows (codes "archive") archive.now
-IsJobOf (act.AtDesk w) rows (job.AtDesk archive want driver word) =
-    (want ≡ w) × IsWord rows (codes "archive") archive.now × IsDriverText w rows driver.now × IsWordText (word_id w) rows word.now
+IsJobOf (act.AtDesk w) rows (job.AtDesk j) =
+    (j.want ≡ w) × IsWord rows (codes "archive") j.archive.now × IsDriverText w rows j.driver.now × IsWordText (word_id w) rows j.word.now
 IsJobOf act.Serve rows (job.Serve archive key port count) =
     IsWord rows (codes "archive") archive.now × IsWord rows (codes "key") key.now
     × IsNumbered rows (codes "port") 65535 port × IsNumbered rows (codes "count") 1000000 count
@@ -147,7 +147,7 @@ IsJob sub j =
 
 -- the job is done at an existing archive
 abbrev pub at_desk : Job → Bool
-at_desk (job.AtDesk archive want driver word) = true
+at_desk (job.AtDesk j) = true
 at_desk j = false
 
 -- the path of the archive's file, if the job has one
@@ -157,7 +157,7 @@ archive_of job.Holder = None
 archive_of (job.Card part) = None
 archive_of (job.Init archive) = Some archive.now
 archive_of (job.Migrate archive) = Some archive.now
-archive_of (job.AtDesk archive want driver word) = Some archive.now
+archive_of (job.AtDesk j) = Some j.archive.now
 archive_of (job.Serve archive key port count) = Some archive.now
 
 -- ---- usage

@@ -1,6 +1,18 @@
 use tacho_desk::Want;
 
-/// What a command line asks for. The arguments of a job at an archive are kept as text; `perform` reads them.
+/// A job at an existing archive. Its arguments are kept as text; `perform_at_desk` reads them.
+#[derive(Clone, Copy, Debug, PartialEq, Eq)]
+pub struct DeskJob<'a> {
+    /// The path of the archive's file.
+    pub archive: &'a str,
+    pub want: Want,
+    /// The driver's number, or an empty text if there is none.
+    pub driver: &'a str,
+    /// The other argument, or an empty text if there is none.
+    pub word: &'a str,
+}
+
+/// What a command line asks for.
 #[derive(Clone, Copy, Debug, PartialEq, Eq)]
 pub enum Job<'a> {
     /// Prints the spans of a value of EF Driver_Activity_Data.
@@ -19,13 +31,8 @@ pub enum Job<'a> {
     Migrate {
         archive: &'a str,
     },
-    /// Does a task at an existing archive. `driver` is the driver's number and `word` the other argument; each is empty if there is none.
-    AtDesk {
-        archive: &'a str,
-        want: Want,
-        driver: &'a str,
-        word: &'a str,
-    },
+    /// Does a task at an existing archive.
+    AtDesk(DeskJob<'a>),
     /// Answers `count` connections on a port of 127.0.0.1, with the office's key and those of drivers.
     Serve {
         archive: &'a str,
@@ -43,7 +50,7 @@ impl<'a> Job<'a> {
     pub fn at_desk(&self) -> bool
         ensures { result ≡ at_desk self.now }
     {
-        matches!(self, Job::AtDesk { .. })
+        matches!(self, Job::AtDesk(_))
     }
 
     /// The path of the archive's file, if the job has one.
@@ -54,7 +61,7 @@ impl<'a> Job<'a> {
             Job::Dump | Job::Holder | Job::Card { .. } => None,
             Job::Init { archive }
             | Job::Migrate { archive }
-            | Job::AtDesk { archive, .. }
+            | Job::AtDesk(DeskJob { archive, .. })
             | Job::Serve { archive, .. } => Some(archive),
         }
     }

@@ -9,6 +9,6 @@ mod reply;
 mod words;
 
 pub use commands::{card, dump, holder};
-pub use job::Job;
-pub use office::perform;
+pub use job::{DeskJob, Job};
+pub use office::{perform, perform_at_desk};
 pub use words::{Usage, parse};

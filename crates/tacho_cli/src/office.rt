@@ -6,7 +6,7 @@ ghost use Rattle.tacho_desk.specs.Wants.{takes_input as has_text};
 ghost use Rattle.tacho_cli.specs.Office.{HasNotRead, HasRead, OfDesk, Performed, Replied};
 ghost use Rattle.tacho_cli.specs.Words.{at_desk, has_input};
 
-use crate::job::Job;
+use crate::job::{DeskJob, Job};
 use crate::reply::{tell, tell_fault};
 use std::alloc::Global;
 use tacho_desk::{Fault, Text, Want, carry_out, task_of};
@@ -26,6 +26,29 @@ const INPUT_LIMIT: usize = 262_144;
 /// A job without input, or with bad arguments, does not touch the reader, so it never waits for input. If an argument or the input is bad,
 /// the archive is not accessed, so a store failure (S12) is reported only after such faults. If both are valid, no fault of theirs is
 /// reported except E8, even if the store fails. X2 is reported only if a device failed.
+pub fn perform_at_desk<K: Keeper, R: Source, W: Sink>(
+    alloc: Global,
+    job: DeskJob<'_>,
+    keeper: &mut K,
+    reader: &mut R,
+    writer: &mut W,
+) -> u8
+    requires reader { R.has_failed reader.old ≡ false }
+    requires writer { W.has_failed writer.old ≡ false }
+    ensures performed { Replied (Performed K.stands K.is_clean K.is_live K.leaves K.is_same keeper.old keeper.new
+        job.entry.want job.entry.driver.now job.entry.word.now (R.unread reader.old) (R.has_failed reader.new))
+        (W.has_failed writer.new) (W.written writer.old) (W.written writer.new) result }
+    ensures alone { has_text job.entry.want ≡ false → reader.new ≡ reader.old }
+    ensures words { (fault : FaultValue) → IsTask job.entry.want Caller.Office job.entry.driver.now job.entry.word.now (Err fault)
+        → reader.new ≡ reader.old }
+{
+    match answer(alloc, job.want, job.driver, job.word, keeper, reader) {
+        Ok(text) => tell(writer, text.bytes(), 0),
+        Err(fault) => tell_fault(writer, fault),
+    }
+}
+
+/// Does a job at an archive, as `perform_at_desk` does. The job has to be one for which `Job::at_desk` is true.
 pub fn perform<K: Keeper, R: Source, W: Sink>(
     alloc: Global,
     job: Job<'_>,
@@ -44,19 +67,10 @@ pub fn perform<K: Keeper, R: Source, W: Sink>(
     ensures words { OfDesk job.entry (λ want driver word. (fault : FaultValue) → IsTask want Caller.Office driver word (Err fault)
         → reader.new ≡ reader.old) }
 {
-    let Job::AtDesk {
-        want,
-        driver,
-        word,
-        ..
-    } = job
-    else {
+    let Job::AtDesk(job) = job else {
         unreachable!()
     };
-    match answer(alloc, want, driver, word, keeper, reader) {
-        Ok(text) => tell(writer, text.bytes(), 0),
-        Err(fault) => tell_fault(writer, fault),
-    }
+    perform_at_desk(alloc, job, keeper, reader, writer)
 }
 
 /// Answers a job at the office's archive, with the texts of its arguments.

@@ -5,7 +5,7 @@ ghost use Rattle.tacho_cli.specs.Words.{act_named, needs_subcommand, tacho_app, 
 ghost use Rattle.tacho_cli.specs.Words.{IsActUsage, IsDriverText, IsJob, IsJobOf, IsRefusal, IsUsage, IsWord, IsWordText};
 
 use crate::act::{Act, names_driver, word_of};
-use crate::job::Job;
+use crate::job::{DeskJob, Job};
 use clap::error::ErrorKind;
 use clap::{Arg, ArgMatches, Command, Error};
 use std::alloc::{AllocError, Global};
@@ -346,12 +346,12 @@ fn desk_of<'a>(want: Want, words: &ArgMatches<'a>) -> Result<Job<'a>, Usage>
     let (Some(driver), Some(word)) = (driver_text(want, words), word_text(want, words)) else {
         return Err(Usage::Parser);
     };
-    Ok(Job::AtDesk {
+    Ok(Job::AtDesk(DeskJob {
         archive,
         want,
         driver,
         word,
-    })
+    }))
 }
 
 /// Makes the job of `serve` from its arguments. Fails with `Usage::Numbers` if the port or the count isn't a valid number.

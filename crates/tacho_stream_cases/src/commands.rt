@@ -3,7 +3,7 @@ use crate::same::assert_same;
 use std::alloc::{AllocError, Global};
 use std::process::Abort;
 use std::test::Fail;
-use tacho_cli::{Job, Usage, card, dump, holder, parse};
+use tacho_cli::{DeskJob, Job, Usage, card, dump, holder, parse};
 use tacho_desk::{MonthOfAll, MonthReading, Reading, Want};
 use tacho_time::{Device, Source};
 
@@ -379,165 +379,165 @@ static JOBS: [(&[&str], Job<'static>); 25] = [
     ),
     (
         &["tacho", "register", "a.db"],
-        Job::AtDesk {
+        Job::AtDesk(DeskJob {
             archive: "a.db",
             want: Want::Register,
             driver: "",
             word: "",
-        },
+        }),
     ),
     (
         &["tacho", "import", "a.db", "second"],
-        Job::AtDesk {
+        Job::AtDesk(DeskJob {
             archive: "a.db",
             want: Want::Import,
             driver: "",
             word: "second",
-        },
+        }),
     ),
     (
         &["tacho", "enter", "a.db", "17"],
-        Job::AtDesk {
+        Job::AtDesk(DeskJob {
             archive: "a.db",
             want: Want::Enter,
             driver: "17",
             word: "",
-        },
+        }),
     ),
     (
         &["tacho", "withdraw", "a.db", "17", "3"],
-        Job::AtDesk {
+        Job::AtDesk(DeskJob {
             archive: "a.db",
             want: Want::Withdraw,
             driver: "17",
             word: "3",
-        },
+        }),
     ),
     (
         &["tacho", "base", "a.db", "17", "2024-03-11"],
-        Job::AtDesk {
+        Job::AtDesk(DeskJob {
             archive: "a.db",
             want: Want::Base,
             driver: "17",
             word: "2024-03-11",
-        },
+        }),
     ),
     (
         &["tacho", "spans", "a.db", "17", "2024-03"],
-        Job::AtDesk {
+        Job::AtDesk(DeskJob {
             archive: "a.db",
             want: Want::MonthReading(MonthReading::Spans),
             driver: "17",
             word: "2024-03",
-        },
+        }),
     ),
     (
         &["tacho", "gaps", "a.db", "17", "2024-03"],
-        Job::AtDesk {
+        Job::AtDesk(DeskJob {
             archive: "a.db",
             want: Want::MonthReading(MonthReading::Gaps),
             driver: "17",
             word: "2024-03",
-        },
+        }),
     ),
     (
         &["tacho", "sheet", "a.db", "17", "2024-03"],
-        Job::AtDesk {
+        Job::AtDesk(DeskJob {
             archive: "a.db",
             want: Want::MonthReading(MonthReading::Sheet),
             driver: "17",
             word: "2024-03",
-        },
+        }),
     ),
     (
         &["tacho", "breaches", "a.db", "17"],
-        Job::AtDesk {
+        Job::AtDesk(DeskJob {
             archive: "a.db",
             want: Want::Reading(Reading::Breaches),
             driver: "17",
             word: "",
-        },
+        }),
     ),
     (
         &["tacho", "owed", "a.db", "17"],
-        Job::AtDesk {
+        Job::AtDesk(DeskJob {
             archive: "a.db",
             want: Want::Reading(Reading::Owed),
             driver: "17",
             word: "",
-        },
+        }),
     ),
     (
         &["tacho", "entries", "a.db", "17"],
-        Job::AtDesk {
+        Job::AtDesk(DeskJob {
             archive: "a.db",
             want: Want::Reading(Reading::Entries),
             driver: "17",
             word: "",
-        },
+        }),
     ),
     (
         &["tacho", "file", "a.db", "17", "3"],
-        Job::AtDesk {
+        Job::AtDesk(DeskJob {
             archive: "a.db",
             want: Want::File,
             driver: "17",
             word: "3",
-        },
+        }),
     ),
     (
         &["tacho", "drivers", "a.db"],
-        Job::AtDesk {
+        Job::AtDesk(DeskJob {
             archive: "a.db",
             want: Want::Drivers,
             driver: "",
             word: "",
-        },
+        }),
     ),
     (
         &["tacho", "stretches", "a.db", "17"],
-        Job::AtDesk {
+        Job::AtDesk(DeskJob {
             archive: "a.db",
             want: Want::Reading(Reading::Stretches),
             driver: "17",
             word: "",
-        },
+        }),
     ),
     (
         &["tacho", "debts", "a.db", "17"],
-        Job::AtDesk {
+        Job::AtDesk(DeskJob {
             archive: "a.db",
             want: Want::Reading(Reading::Debts),
             driver: "17",
             word: "",
-        },
+        }),
     ),
     (
         &["tacho", "form", "a.db", "17"],
-        Job::AtDesk {
+        Job::AtDesk(DeskJob {
             archive: "a.db",
             want: Want::Reading(Reading::Form),
             driver: "17",
             word: "",
-        },
+        }),
     ),
     (
         &["tacho", "overview", "a.db", "2024-03"],
-        Job::AtDesk {
+        Job::AtDesk(DeskJob {
             archive: "a.db",
             want: Want::MonthOfAll(MonthOfAll::Overview),
             driver: "",
             word: "2024-03",
-        },
+        }),
     ),
     (
         &["tacho", "incidents", "a.db", "2024-03"],
-        Job::AtDesk {
+        Job::AtDesk(DeskJob {
             archive: "a.db",
             want: Want::MonthOfAll(MonthOfAll::Incidents),
             driver: "",
             word: "2024-03",
-        },
+        }),
     ),
     (
         &["tacho", "serve", "a.db", "office-key-1", "1", "1000000"],

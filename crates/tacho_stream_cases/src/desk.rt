@@ -5,7 +5,7 @@ ghost use Rattle.std.specs.Prelude.{◌≡◌, false};
 use crate::faulty::Faulty;
 use std::alloc::Global;
 use std::test::Fail;
-use tacho_cli::{Job, perform};
+use tacho_cli::{DeskJob, Job, perform};
 use tacho_desk::{MonthOfAll, MonthReading, Reading, Want};
 use tacho_shelf::Shelf;
 use tacho_time::{Device, Sink, Source};
@@ -16,34 +16,34 @@ pub(crate) type Case = (Job<'static>, &'static [u8], &'static str, &'static str)
 /// Jobs that have an input, in sequence.
 pub(crate) static CASES: [Case; 3] = [
     (
-        Job::AtDesk {
+        Job::AtDesk(DeskJob {
             archive: "a.db",
             want: Want::Register,
             driver: "",
             word: "",
-        },
+        }),
         b"driver,holder,key,base,name\n17,0d4431323334353637383930313233,anna-key-1,2024-03-04,Anna Berg\n",
         "registered 17\n",
         "S1 driver taken\n",
     ),
     (
-        Job::AtDesk {
+        Job::AtDesk(DeskJob {
             archive: "a.db",
             want: Want::Import,
             driver: "",
             word: "both",
-        },
+        }),
         b"\x05\x20\x00\x00\x11\x0dD123456789012300\x05\x04\x00\x00\x28\x00\x00\x00\x14\x00\x00\x00\x14\x65\xe5\x0f\x00\x00\x01\x00\x64\x00\x00\x11\xe0\x19\xfe\x23\xfc\x00\x14\x00\x10\x65\xe6\x60\x80\x00\x02\x00\x00\x00\x00\x11\xe0",
         "added driver 17 number 1\n",
         "repeated driver 17\n",
     ),
     (
-        Job::AtDesk {
+        Job::AtDesk(DeskJob {
             archive: "a.db",
             want: Want::Enter,
             driver: "17",
             word: "",
-        },
+        }),
         b"start,past,activity\n2024-03-06 00:00,2024-03-06 08:00,rest\n",
         "entered 1 to 1\n",
         "entered 2 to 2\n",
@@ -90,96 +90,96 @@ pub(crate) fn archive_after(alloc: Global, count: usize) -> Result<Shelf, Fail> 
 
 /// Jobs that have no input.
 static WITHOUT_INPUT: [Job<'static>; 15] = [
-    Job::AtDesk {
+    Job::AtDesk(DeskJob {
         archive: "a.db",
         want: Want::Base,
         driver: "17",
         word: "2024-03-04",
-    },
-    Job::AtDesk {
+    }),
+    Job::AtDesk(DeskJob {
         archive: "a.db",
         want: Want::MonthReading(MonthReading::Spans),
         driver: "17",
         word: "2024-03",
-    },
-    Job::AtDesk {
+    }),
+    Job::AtDesk(DeskJob {
         archive: "a.db",
         want: Want::MonthReading(MonthReading::Gaps),
         driver: "17",
         word: "2024-03",
-    },
-    Job::AtDesk {
+    }),
+    Job::AtDesk(DeskJob {
         archive: "a.db",
         want: Want::MonthReading(MonthReading::Sheet),
         driver: "17",
         word: "2024-03",
-    },
-    Job::AtDesk {
+    }),
+    Job::AtDesk(DeskJob {
         archive: "a.db",
         want: Want::Reading(Reading::Breaches),
         driver: "17",
         word: "",
-    },
-    Job::AtDesk {
+    }),
+    Job::AtDesk(DeskJob {
         archive: "a.db",
         want: Want::Reading(Reading::Owed),
         driver: "17",
         word: "",
-    },
-    Job::AtDesk {
+    }),
+    Job::AtDesk(DeskJob {
         archive: "a.db",
         want: Want::Reading(Reading::Entries),
         driver: "17",
         word: "",
-    },
-    Job::AtDesk {
+    }),
+    Job::AtDesk(DeskJob {
         archive: "a.db",
         want: Want::File,
         driver: "17",
         word: "1",
-    },
-    Job::AtDesk {
+    }),
+    Job::AtDesk(DeskJob {
         archive: "a.db",
         want: Want::Withdraw,
         driver: "17",
         word: "1",
-    },
-    Job::AtDesk {
+    }),
+    Job::AtDesk(DeskJob {
         archive: "a.db",
         want: Want::Drivers,
         driver: "",
         word: "",
-    },
-    Job::AtDesk {
+    }),
+    Job::AtDesk(DeskJob {
         archive: "a.db",
         want: Want::Reading(Reading::Stretches),
         driver: "17",
         word: "",
-    },
-    Job::AtDesk {
+    }),
+    Job::AtDesk(DeskJob {
         archive: "a.db",
         want: Want::Reading(Reading::Debts),
         driver: "17",
         word: "",
-    },
-    Job::AtDesk {
+    }),
+    Job::AtDesk(DeskJob {
         archive: "a.db",
         want: Want::Reading(Reading::Form),
         driver: "17",
         word: "",
-    },
-    Job::AtDesk {
+    }),
+    Job::AtDesk(DeskJob {
         archive: "a.db",
         want: Want::MonthOfAll(MonthOfAll::Overview),
         driver: "",
         word: "2024-03",
-    },
-    Job::AtDesk {
+    }),
+    Job::AtDesk(DeskJob {
         archive: "a.db",
         want: Want::MonthOfAll(MonthOfAll::Incidents),
         driver: "",
         word: "2024-03",
-    },
+    }),
 ];
 
 #[test]
@@ -198,30 +198,30 @@ fn jobs_without_an_input_ask_no_reader(rt: HostRuntime) -> Result<(), Fail> {
 /// Jobs that have an input but bad arguments, and the line of the fault.
 static WRONG_ARGUMENTS: [(Job<'static>, &str); 3] = [
     (
-        Job::AtDesk {
+        Job::AtDesk(DeskJob {
             archive: "a.db",
             want: Want::Import,
             driver: "",
             word: "whole",
-        },
+        }),
         "P1 bad part\n",
     ),
     (
-        Job::AtDesk {
+        Job::AtDesk(DeskJob {
             archive: "a.db",
             want: Want::Enter,
             driver: "017",
             word: "",
-        },
+        }),
         "N1 bad number\n",
     ),
     (
-        Job::AtDesk {
+        Job::AtDesk(DeskJob {
             archive: "a.db",
             want: Want::Enter,
             driver: "1000000",
             word: "",
-        },
+        }),
         "N1 bad number\n",
     ),
 ];
@@ -359,12 +359,12 @@ const DRIVERS: &str = "\
 ";
 
 /// The list of all drivers.
-const LIST: Job<'static> = Job::AtDesk {
+const LIST: Job<'static> = Job::AtDesk(DeskJob {
     archive: "a.db",
     want: Want::Drivers,
     driver: "",
     word: "",
-};
+});
 
 #[test]
 fn drivers_are_listed_by_their_numbers(rt: HostRuntime) -> Result<(), Fail> {
@@ -372,12 +372,12 @@ fn drivers_are_listed_by_their_numbers(rt: HostRuntime) -> Result<(), Fail> {
     let (written, status) = answer(rt.alloc(), &mut shelf, LIST, b"")?;
     assert!(rt; written.is_empty() && status == 0, "of no drivers");
     for (want, driver, word, input) in BEFORE_THE_LIST {
-        let job = Job::AtDesk {
+        let job = Job::AtDesk(DeskJob {
             archive: "a.db",
             want,
             driver,
             word,
-        };
+        });
         let (_, status) = answer(rt.alloc(), &mut shelf, job, input)?;
         assert!(rt; status == 0, "{want:?}");
     }

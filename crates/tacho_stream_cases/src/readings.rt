@@ -5,7 +5,7 @@ use crate::faulty::Faulty;
 use std::alloc::Global;
 use std::process::Abort;
 use std::test::Fail;
-use tacho_cli::Job;
+use tacho_cli::{DeskJob, Job};
 use tacho_desk::{MonthOfAll, MonthReading, Reading, Want};
 use tacho_shelf::Shelf;
 use tacho_time::Device;
@@ -202,12 +202,12 @@ const HOURS: &[u8] = b"start,past,activity\n\
 
 /// The job that asks for this.
 fn job_of(want: Want, driver: &'static str, word: &'static str) -> Job<'static> {
-    Job::AtDesk {
+    Job::AtDesk(DeskJob {
         archive: "a.db",
         want,
         driver,
         word,
-    }
+    })
 }
 
 /// An archive with the two drivers and the hours.
