@@ -43,6 +43,9 @@ ENTRIES = {
 # Laws of these that are about what stands between: what each pass of a scan finds.
 BETWEEN = {f"tacho_rules::laws::{name}_as_defined" for name in ("breaks", "days", "week_sums", "week_rests")}
 
+# What these show of other crates by `pub use`, and what stands between all the same: the scan's passes, and what reads rows for it.
+PASSED_ON = {"Breaks", "Days", "Found", "Pass", "Plain", "WeekRests", "WeekSums", "feed_rows"}
+
 # What to read in which order, each step with what it is about and its files, or all of another order. Of a public item
 # whose name begins with one of the roots everything has to stand in these files, or in crates that are left to others.
 Order = collections.namedtuple("Order", "reader question roots left steps")
@@ -62,6 +65,8 @@ LAWYER = Order(
         ("the week in which a weekly rest is counted, and where no choice of weeks serves", "tacho_hours: Choice Anew"),
         ("the breaches B1 to B10, each once, all of them and in order", "tacho_hours: Breaches Exactly Order"),
         ("where an examination begins again, and what isn't examined", "tacho_stretches: Start Stretches Ranges Near"),
+        ("two laws: choices of weeks by outcomes, and payment of debts rest by rest",
+         "tacho_choice: Counted Step Weeks Laws; tacho_hours: ByRuns"),
     ),
 )
 
@@ -349,9 +354,9 @@ def library(crate):
     return types
 
 
-def shown_names(crate):
-    """What the lib.rt of a crate shows by `pub use`: the path, the name in it, and the name outside."""
-    path = os.path.join(TOP, "crates", crate, "src", "lib.rt")
+def shown_names(crate, module="lib"):
+    """What a file of a crate shows by `pub use`: the path, the name in it, and the name outside."""
+    path = os.path.join(TOP, "crates", crate, "src", module + ".rt")
     if not os.path.exists(path):
         return
     with open(path, encoding="utf-8") as file:
@@ -457,6 +462,19 @@ def entries_of(crate, modules):
     for module, name in there:
         if modules is None or module in modules:
             yield from entries_in(crate, module, name)
+    for path, name, _ in itertools.chain(shown_names(crate), *(shown_names(crate, module) for module in shown_modules(crate))):
+        if path[0] in CRATES and path[0] not in ENTRIES and name not in PASSED_ON:
+            yield from entries_shown(path[0], path[1:], name)
+
+
+def entries_shown(crate, path, name):
+    """The public items of a crate that another one shows: those with this name, in the file that a path leads to or that lib.rt says."""
+    if name in shown_modules(crate):
+        yield from entries_in(crate, name, None)
+        return
+    modules = path or [found[0] for found, inner, _ in shown_names(crate) if inner == name and found[0] in MODULES[crate]]
+    for module in modules:
+        yield from entries_in(crate, module, name)
 
 
 def entries_in(crate, module, name):
@@ -557,7 +575,7 @@ def first_words(crate, trusted, names):
 def about(crate, file):
     """What a file is about: the first sentence of its first comment, without what says whether it is trusted."""
     comment = re.sub(r"^(Trusted|Trusted in part|Private to \w+): ", "", " ".join(spec(crate, file).comment))
-    return re.split(r"(?<=\.) (?=[A-Z])", comment)[0].rstrip(".").replace("|", "\\|")
+    return re.split(r"(?<=\.) (?=[A-Z])", comment)[0].rstrip(".")
 
 
 def wrapped(text, indent=""):
@@ -596,22 +614,23 @@ def order_lines(order):
 
 
 def how_much(trusted, names):
-    """Whether a file is trusted, in a word or two."""
-    if trusted and len(trusted) < len(names):
-        return f"in part ({len(trusted)} of {len(names)})"
-    return f"wholly ({len(names)})" if trusted else f"not at all ({len(names)})"
-
-
-def part_lines(crate, file, trusted, names):
-    """What is to be read of a file that is trusted in part: all but a few, or a few."""
+    """How many definitions of a file are trusted, and where not all are, which: all but a few, or a few."""
+    if len(trusted) == len(names):
+        return str(len(names))
     others = [name for name in names if name not in trusted]
     listed, before = (trusted, "") if len(trusted) <= len(others) else (others, "all but ")
-    return wrapped(f"- `{crate}` {file}: {before}" + ", ".join(f"`{name}`" for name in listed), "  ")
+    return f"{len(trusted)} of {len(names)}: {before}" + ", ".join(f"`{name}`" for name in listed)
 
 
-def in_part(rows):
-    """The files that are trusted in part."""
-    return [(*place, *row) for place, row in rows.items() if 0 < len(row[0]) < len(row[1])]
+def crate_lines(crate, rows):
+    """The files of a crate: those that are trusted, each with what it is about, and the names of the others."""
+    private = [file for (_, file), (trusted, _) in rows if not trusted]
+    yield from ["", f"### {crate}", ""]
+    for (_, file), (trusted, names) in rows:
+        if trusted:
+            yield from wrapped(f"- {file} ({how_much(trusted, names)}): {about(crate, file)}", "  ")
+    if private:
+        yield from wrapped(f"- private: {', '.join(private)}", "  ")
 
 
 def totals(rows):
@@ -621,7 +640,7 @@ def totals(rows):
     return (
         f"Of {sum(len(names) for _, names in rows.values())} definitions {trusted} are trusted. Of {len(files)} files"
         f" {files.count('Trusted: ')} are trusted wholly, {files.count('Trusted in part: ')} in part, and"
-        f" {files.count('Private to : ')} not at all."
+        f" {files.count('Private to : ')} are private. Each file stands with the number of its definitions."
     )
 
 
@@ -650,13 +669,9 @@ def document(entries, found, rows):
     yield from ["## What to read first", ""]
     for order in ORDERS:
         yield from order_lines(order)
-    yield from ["## The files", "", totals(rows), ""]
-    yield from ["| crate | file | what it is about | trusted |", "|---|---|---|---|"]
-    for (crate, file), (trusted, names) in rows.items():
-        yield f"| `{crate}` | {file} | {about(crate, file)} | {how_much(trusted, names)} |"
-    yield from ["", "## Of files that are trusted in part", ""]
-    for row in in_part(rows):
-        yield from part_lines(*row)
+    yield from ["## The files", "", *wrapped(totals(rows))]
+    for crate, group in itertools.groupby(rows.items(), lambda row: row[0][0]):
+        yield from crate_lines(crate, list(group))
     yield from ["", "## The kit", "", "Definitions of its libraries that are cited on the way, by library:", ""]
     kit = collections.Counter(node.library for node in found if isinstance(node, Kit))
     by_count = sorted(kit.items(), key=lambda row: (-row[1], row[0]))
