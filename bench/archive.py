@@ -1,7 +1,7 @@
 """Measures an archive beside two programs over stock SQLite, which make the same rows of the same tables by the same statements: plain
 Rust, which reads cards and hours too (plain/commands.rs), and Python, which is given the rows (stock.py).
 
-Each of the three is a running program that is told commands, a line each, as tacho_script takes them. The processor time that it has
+Each of the three is a running program that is told commands, a line each, as tool_script takes them. The processor time that it has
 had is asked of the system before a command and after its answer, so that neither the opening of an archive nor what filled it
 counts; what a command takes that is refused at its first word is taken out. Each time is the least of some rounds, and each ratio the
 median of the rounds' ratios. Before the first measure a program registers a driver, imports a card of one day, and enters and

@@ -1,8 +1,8 @@
 """Measures the program's commands on archives in files.
 
-An archive has so many drivers, each with card files of so many years; tacho_script fills it, in one process. What a start and
+An archive has so many drivers, each with card files of so many years; tool_script fills it, in one process. What a start and
 the opening of the archive take is measured by the program with a number that is refused when the archive is open. The commands
-are measured behind an opening: tacho_script does each of them on an archive that it has opened, and has to print what the program
+are measured behind an opening: tool_script does each of them on an archive that it has opened, and has to print what the program
 prints. Each time is the least of some rounds, in which the commands take turns."""
 import datetime
 import functools

@@ -3,7 +3,7 @@ then examined.
 
 An archive has one driver with card files of one year or of ten, and entered rest where they tell nothing, so that all
 from his base on is examined. The base lies at the start of what he holds or, with ten years, one year before its end.
-tacho_script makes the archive and opens it, in one process, and behind the opening it makes the report from rows
+tool_script makes the archive and opens it, in one process, and behind the opening it makes the report from rows
 (`breaches`), by the line from the base on (`examined`), and by the line of all that the driver holds (`examined` with
 `whole`), in turns; all have to print the same. Each time is the least of some rounds, each ratio the median of theirs,
 and what a command takes that is refused at its first word is taken out.

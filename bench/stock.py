@@ -1,7 +1,7 @@
 #!/usr/bin/env python3
 """What an archive makes of its tables, by stock SQLite: the same tables and statements, each command in one transaction.
 
-It takes words and commands of the program tacho_script, and answers the same. Beside the file that a command reads there are the rows
+It takes words and commands of the program tool_script, and answers the same. Beside the file that a command reads there are the rows
 that an archive keeps of it, so that no card and no text is read here and nothing is decided: what is measured is SQLite. A line
 that has the file and no archive is no command; by it the rows are learnt."""
 import functools

@@ -3,7 +3,7 @@ stretches and of a month beside a plain Rust program over stock SQLite (plain/st
 
 One archive has a driver with card files of ten years, whose gaps are filled by entered rest, so that the report goes to their end. Another
 has the same files and their gaps: its stretches end at each. Of fifty drivers with a year each there are two such archives likewise: the
-report of each driver in the one, and a month of all drivers in both. tacho_script opens an archive and does the commands in turns. What a
+report of each driver in the one, and a month of all drivers in both. tool_script opens an archive and does the commands in turns. What a
 command takes that is refused at its first word is taken out. Each time is the least of some rounds, each ratio the median of theirs. The
 memory is what a command adds to that of a process that has opened the archive, at its peak, as report.py has it.
 

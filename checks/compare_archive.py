@@ -2,7 +2,7 @@
 """Gives an archive in a file random commands, and compares what it prints of each and the status with the slow office, and with those of
 the archive in memory; then it reads the file's tables by SQLite itself.
 
-The file is closed after half of the commands, and opened again for the others. The word is the program `tacho_script`.
+The file is closed after half of the commands, and opened again for the others. The word is the program `tool_script`.
 The last line is 'N passed, M failed'."""
 import contextlib
 import datetime

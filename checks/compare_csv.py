@@ -3,7 +3,7 @@
 worked texts, the examples, and random texts, good ones, with faults, as spreadsheets write them, and with bytes that were
 changed. The slow reader's records are compared with those of Python's module `csv`, where the two have to agree.
 
-The words are the program `tacho_rows` and, where memory is to be refused in turn, the compiler of C. The last line is
+The words are the program `tool_rows` and, where memory is to be refused in turn, the compiler of C. The last line is
 'N passed, M failed'."""
 import csv
 import io

@@ -2,7 +2,7 @@
 """Runs `tacho holder` and the card's spans on a small card file of both generations, on every cut of it, and on it with
 each byte changed to a few other values, and compares them with the slow reader.
 
-The words are the programs `tacho` and `tacho_rows`. The last line is 'N passed, M failed'."""
+The words are the programs `tacho` and `tool_rows`. The last line is 'N passed, M failed'."""
 import multiprocessing
 import re
 import sys

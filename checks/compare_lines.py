@@ -1,7 +1,7 @@
 #!/usr/bin/env python3
 """Gives a timeline random commands, and compares its answers with a map from minutes to marks.
 
-The words are the program `tacho_rows` and, where memory is to be refused in turn, the compiler of C. The last line is
+The words are the program `tool_rows` and, where memory is to be refused in turn, the compiler of C. The last line is
 'N passed, M failed'."""
 import random
 import sys

@@ -4,7 +4,7 @@
 The folders of checks/readings have commands, their input files, and what the readings print after them, computed by a program that shares no
 code with this repository. Then come random archives of two drivers: weeks with gaps and crew at any place, often at a Monday's first minute
 or beside it; bases before, within and after what is held; and the last minutes of 2099. Each form is filled in and entered: then no gap is
-left. The words are the program and `tacho_script`. The last line is 'N passed, M failed'."""
+left. The words are the program and `tool_script`. The last line is 'N passed, M failed'."""
 import multiprocessing
 import os
 import random

@@ -8,7 +8,7 @@ Some of the lines are rows of weeks whose rests lie over their ends, asked of th
 a third have to be such that a rule which judges each two weeks by themselves finds other breaches B9 in them; how many
 there are is printed.
 
-The words are the program `tacho_rows` and, where memory is to be refused in turn, the compiler of C. The last line is
+The words are the program `tool_rows` and, where memory is to be refused in turn, the compiler of C. The last line is
 'N passed, M failed'."""
 import multiprocessing
 import random

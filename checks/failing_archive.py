@@ -4,7 +4,7 @@
 Each command is given twice. One of the two may find no memory: it answers M1, or S12 where the store had none, or the status 2 alone,
 where its line couldn't be read, and has no effect, so that the other gives the undisturbed answer, and SQLite finds what the slow
 office's archive holds. Some allocations are refused while a file is opened or made: then nothing is done, and the next run opens it.
-Of those of the reader of a command's words, which knows no archive, some are refused too. The words are the program `tacho_script`
+Of those of the reader of a command's words, which knows no archive, some are refused too. The words are the program `tool_script`
 and the compiler of C. The last line is 'N passed, M failed'."""
 import bisect
 import multiprocessing

@@ -5,7 +5,7 @@ what is left has to be the old archive or the new one, and the next migration en
 
 SQLite itself writes the old archives (old_archive.py), and reads the new ones: worked ones, that of examples/archive-schema-1.sql, and
 what random command lines have left, with thousands of entries in some. The words are the program and, for longer lists of commands at
-archives that were carried over, `tacho_script`. The last line is 'N passed, M failed'."""
+archives that were carried over, `tool_script`. The last line is 'N passed, M failed'."""
 import contextlib
 import datetime
 import multiprocessing
@@ -300,7 +300,7 @@ def of_seed(program, seed):
 
 
 def of_script(program, script, seed):
-    """The comparisons of random commands to `tacho_script` at what commands before have left, carried over by the program."""
+    """The comparisons of random commands to `tool_script` at what commands before have left, carried over by the program."""
     commands, chance = random_commands.Commands(seed).all(), random.Random(seed)
     half = len(commands) // 2
     name = f"seed {seed} by the script"

@@ -58,15 +58,15 @@ LAWYER = Order(
     (
         ("what a report is", "tacho_rules: Report"),
         ("what is held, what is examined, and where the examination ends",
-         "tacho_time: Spans; tacho_line: Line; tacho_hours: Line"),
-        ("the numbers of the law", "tacho_hours: Limits"),
-        ("runs of rest, driving time, and breaks", "tacho_hours: Runs Driving Breaks"),
-        ("duty days, weeks, and weekly rests that are owed", "tacho_hours: Days Weeks Debts"),
-        ("the week in which a weekly rest is counted, and where no choice of weeks serves", "tacho_hours: Choice Anew"),
-        ("the breaches B1 to B10, each once, all of them and in order", "tacho_hours: Breaches Exactly Order"),
+         "tacho_time: Spans; tacho_line: Line; tacho_law: Line"),
+        ("the numbers of the law", "tacho_law: Limits"),
+        ("runs of rest, driving time, and breaks", "tacho_law: Runs Driving Breaks"),
+        ("duty days, weeks, and weekly rests that are owed", "tacho_law: Days Weeks Debts"),
+        ("the week in which a weekly rest is counted, and where no choice of weeks serves", "tacho_law: Choice Anew"),
+        ("the breaches B1 to B10, each once, all of them and in order", "tacho_law: Breaches Exactly Order"),
         ("where an examination begins again, and what isn't examined", "tacho_stretches: Start Stretches Ranges Near"),
         ("two laws: choices of weeks by outcomes, and payment of debts rest by rest",
-         "tacho_choice: Counted Step Weeks Laws; tacho_hours: ByRuns"),
+         "tacho_choice: Counted Step Weeks Laws; tacho_law: ByRuns"),
     ),
 )
 
@@ -74,7 +74,7 @@ DATABASE = Order(
     "A database person",
     "what do the tables represent, and what does a crash leave? docs/TABLES.md has the tables in prose",
     ("tacho_store::", "tacho_state::keeper::", "tacho_state::laws::a_run_of_calls"),
-    ("tacho_time", "tacho_card", "tacho_line", "tacho_hours", "tacho_rules", "tacho_stretches"),
+    ("tacho_time", "tacho_card", "tacho_line", "tacho_law", "tacho_rules", "tacho_stretches"),
     (
         ("the tables, and their rows as values of types", "tacho_tables: Schema Rows Tables Making"),
         ("an archive's state, and which state the tables represent", "tacho_state: State; tacho_reading: Standing"),

@@ -1,4 +1,4 @@
-//! What `tacho_script` does of four commands at an archive, in plain Rust over std and stock SQLite: it takes the same words and lines,
+//! What `tool_script` does of four commands at an archive, in plain Rust over std and stock SQLite: it takes the same words and lines,
 //! and answers the same where a command is done. After the word `many` an INSERT adds eight spans or four entries, not one, while there are
 //! so many left.
 #![allow(dead_code)]

@@ -1,4 +1,4 @@
-//! What `tacho_bench examine` does, in plain Rust over std alone: it makes a line of working days, and examines it for
+//! What `tool_bench examine` does, in plain Rust over std alone: it makes a line of working days, and examines it for
 //! breaches of the rules on driving and rest hours and for weekly rests that are owed, in one pass. docs/RULES.md has the
 //! rules.
 use std::hint::black_box;

@@ -1,4 +1,4 @@
-//! What `tacho_bench` does, in plain Rust over a sorted `Vec`.
+//! What `tool_bench` does, in plain Rust over a sorted `Vec`.
 #[derive(Clone, Copy, PartialEq)]
 pub struct Span {
     pub start: u32,

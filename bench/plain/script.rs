@@ -1,4 +1,4 @@
-//! A plain program that is told commands, a line each, as `tacho_script` is: it answers the same where a command is done.
+//! A plain program that is told commands, a line each, as `tool_script` is: it answers the same where a command is done.
 use crate::sqlite::Database;
 use std::io::{self, BufRead, Write};
 

@@ -1,4 +1,4 @@
-//! What `tacho_script` does of two readings at an archive in a file, in plain Rust over std and stock SQLite: the stretches of a driver,
+//! What `tool_script` does of two readings at an archive in a file, in plain Rust over std and stock SQLite: the stretches of a driver,
 //! and the overview of a month. It takes the same lines, and answers the same where a command is done. docs/RULES.md says what stretches
 //! are.
 #![allow(dead_code)]

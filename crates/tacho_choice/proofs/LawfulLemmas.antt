@@ -1,8 +1,8 @@
 -- The laws (src/laws.rt).
 use Rattle.std.proofs.Common.{◌≡◌, ℕ, ◌+◌}
-use Rattle.tacho_hours.specs.declared.run.Run.{Run}
-use Rattle.tacho_hours.specs.Line.{Line}
-use Rattle.tacho_hours.specs.Weeks.{IsWhollyAtRest, IsWeeklyRest}
+use Rattle.tacho_law.specs.declared.run.Run.{Run}
+use Rattle.tacho_law.specs.Line.{Line}
+use Rattle.tacho_law.specs.Weeks.{IsWhollyAtRest, IsWeeklyRest}
 use Rattle.tacho_choice.specs.declared.weekly_rests.WeeklyRests.{WeeklyRests}
 use Rattle.tacho_choice.specs.Weeks.{first_week_of, last_of, is_regular, IsInWeeks, IsWeekOf}
 use Rattle.tacho_choice.specs.Laws.{ChoicesReach, ChoicesStart, ChoicesServe}

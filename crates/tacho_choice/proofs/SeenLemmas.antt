@@ -6,14 +6,14 @@ use Rattle.std.specs.List.{AllPairs, Contains}
 use Rattle.std.proofs.lemmas.Bool.{both_ways, cases_lt, le-leb, leb-true, or_cases, or_left, or_right, and_parts}
 use Rattle.std.proofs.lemmas.Bool.{and_from}
 use Rattle.tacho_time.specs.declared.span.Activity.TheVariants.{Rest}
-use Rattle.tacho_hours.specs.declared.run.Run.{Run}
-use Rattle.tacho_hours.specs.declared.run.TheConstants.{FAR}
-use Rattle.tacho_hours.specs.Line.{Line}
-use Rattle.tacho_hours.specs.Limits.{first_week, weekly_rest}
-use Rattle.tacho_hours.specs.Runs.{AreRestRuns, Before, minutes_of}
-use Rattle.tacho_hours.specs.Weeks.{week_start, IsWhollyAtRest, IsWeeklyRest}
-use Rattle.tacho_hours.proofs.CoveringLemmas.{Covers, covered}
-use Rattle.tacho_hours.proofs.ExactlyLemmas.{contains_head, contains_tail, contains_cases, head_first, tail_order}
+use Rattle.tacho_law.specs.declared.run.Run.{Run}
+use Rattle.tacho_law.specs.declared.run.TheConstants.{FAR}
+use Rattle.tacho_law.specs.Line.{Line}
+use Rattle.tacho_law.specs.Limits.{first_week, weekly_rest}
+use Rattle.tacho_law.specs.Runs.{AreRestRuns, Before, minutes_of}
+use Rattle.tacho_law.specs.Weeks.{week_start, IsWhollyAtRest, IsWeeklyRest}
+use Rattle.tacho_law.proofs.CoveringLemmas.{Covers, covered}
+use Rattle.tacho_law.proofs.ExactlyLemmas.{contains_head, contains_tail, contains_cases, head_first, tail_order}
 use Rattle.tacho_choice.specs.declared.week.WeekOfRests.{WeekOfRests}
 use Rattle.tacho_choice.specs.declared.weekly_rests.WeeklyRests.{WeeklyRests}
 use Rattle.tacho_choice.specs.Weeks.{first_week_of, last_of, is_regular, AreRestsOfWeek, HasWeek, IsWeekOfRests, week_none}

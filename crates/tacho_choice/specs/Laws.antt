@@ -1,7 +1,7 @@
 -- Trusted: That one week's step on the ten outcomes is exact.
 use Rattle.std.specs.Prelude.{ℕ, ◌+◌, ◌≤◌, ◌↔◌, Bool}
-use Rattle.tacho_hours.specs.Line.{Line}
-use Rattle.tacho_hours.specs.Choice.{CanServe}
+use Rattle.tacho_law.specs.Line.{Line}
+use Rattle.tacho_law.specs.Choice.{CanServe}
 use Rattle.tacho_choice.specs.declared.weekly_rests.WeeklyRests.{WeeklyRests}
 use Rattle.tacho_choice.specs.declared.outcome.Outcome.{Outcome}
 use Rattle.tacho_choice.specs.Step.{IsNext, IsFirst}

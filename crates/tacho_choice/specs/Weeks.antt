@@ -2,12 +2,12 @@
 -- 561/2006, Articles 8(6), first subparagraph, and 8(9)).
 use Rattle.std.specs.Prelude.{◌≡◌, ◌↔◌, ℕ, ◌+◌, ◌-◌, ◌/◌, ◌<◌, ◌≤◌, ◌⊎◌, Bool, true, false, nat_le, List, None}
 use Rattle.std.specs.Prelude.{◌&&◌, ◌||◌}
-use Rattle.tacho_hours.specs.declared.run.Run.{Run}
-use Rattle.tacho_hours.specs.Line.{Line}
-use Rattle.tacho_hours.specs.Limits.{first_week, minutes_of_week, regular_weekly_rest}
-use Rattle.tacho_hours.specs.Runs.{AreRestRuns, minutes_of}
-use Rattle.tacho_hours.specs.Weeks.{week_start, IsWhollyAtRest, IsWeeklyRest}
-use Rattle.tacho_hours.specs.Choice.{IsChoice, Serves}
+use Rattle.tacho_law.specs.declared.run.Run.{Run}
+use Rattle.tacho_law.specs.Line.{Line}
+use Rattle.tacho_law.specs.Limits.{first_week, minutes_of_week, regular_weekly_rest}
+use Rattle.tacho_law.specs.Runs.{AreRestRuns, minutes_of}
+use Rattle.tacho_law.specs.Weeks.{week_start, IsWhollyAtRest, IsWeeklyRest}
+use Rattle.tacho_law.specs.Choice.{IsChoice, Serves}
 use Rattle.tacho_choice.specs.declared.outcome.Outcome.{Outcome}
 use Rattle.tacho_choice.specs.declared.week.WeekOfRests.{WeekOfRests}
 use Rattle.tacho_choice.specs.declared.weekly_rests.WeeklyRests.{WeeklyRests}

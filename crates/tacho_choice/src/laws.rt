@@ -2,7 +2,7 @@
 //! values that it names.
 
 ghost use Rattle.std.specs.Prelude.{◌≡◌, ℕ};
-ghost use Rattle.tacho_hours.specs.Line.{Line};
+ghost use Rattle.tacho_law.specs.Line.{Line};
 ghost use Rattle.tacho_choice.specs.declared.weekly_rests.WeeklyRests.{WeeklyRests};
 ghost use Rattle.tacho_choice.specs.Laws.{ChoicesReach, ChoicesStart, ChoicesServe};
 ghost use Rattle.tacho_choice.specs.Weeks.{IsInWeeks, IsWeekOf};

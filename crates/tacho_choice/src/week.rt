@@ -2,7 +2,7 @@ ghost use Rattle.std.specs.Prelude.{◌≡◌, ◌≤◌};
 ghost use Rattle.tacho_choice.specs.Weeks.{week_none, week_with};
 
 use crate::weekly_rests::WeeklyRests;
-use tacho_hours::Run;
+use tacho_law::Run;
 use tacho_time::{Week, first_minute};
 
 /// The weekly rests of a week, and whether one of them covers all of it.

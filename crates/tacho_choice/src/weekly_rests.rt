@@ -7,8 +7,8 @@ ghost use Rattle.tacho_choice.specs.Weeks.{first_week_of, last_of, is_regular};
 
 use crate::counted::Counted;
 use crate::outcome::Outcome;
-use tacho_hours::Run;
-use tacho_hours::limits::{FIRST_WEEK, REGULAR_WEEKLY_REST};
+use tacho_law::Run;
+use tacho_law::limits::{FIRST_WEEK, REGULAR_WEEKLY_REST};
 
 /// The number of minutes in a week (Article 4(i)).
 const MINUTES_OF_WEEK: u32 = 10_080;

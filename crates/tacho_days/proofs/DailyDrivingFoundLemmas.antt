@@ -5,21 +5,21 @@ use Rattle.std.specs.List.{Contains}
 use Rattle.std.proofs.lemmas.Bool.Decides.{nat_tests}
 use Rattle.std.proofs.lemmas.List.{append-nil, append_assoc}
 use Rattle.std.proofs.lemmas.List.Elements.{Contains-push, Contains-append_left, Contains-push_cases}
-use Rattle.tacho_hours.specs.declared.run.Run.{Run}
-use Rattle.tacho_hours.specs.declared.days.DutyDay.{DutyDay}
-use Rattle.tacho_hours.specs.declared.breach.Breach.{Breach}
-use Rattle.tacho_hours.specs.declared.breach.Kind.TheVariants.{B4, B5}
-use Rattle.tacho_hours.specs.Line.{Line}
-use Rattle.tacho_hours.specs.Driving.{driving}
-use Rattle.tacho_hours.specs.Runs.{minutes_of, IsRestRun}
-use Rattle.tacho_hours.specs.SoFar.{Reached, AreCollected}
-use Rattle.tacho_hours.specs.Days.{IsDuty, EarlierDay}
-use Rattle.tacho_hours.specs.Exactly.{HasCount}
-use Rattle.tacho_hours.specs.Weeks.{IsInWeek}
-use Rattle.tacho_hours.specs.Order.{Apart}
-use Rattle.tacho_hours.specs.Breaches.{HasDrivingAbove, IsDrivingBreach, IsExtended}
-use Rattle.tacho_hours.proofs.ExactlyLemmas.{exactly_as, exactly_skip, how_many_only}
-use Rattle.tacho_hours.proofs.LongDrivingLemmas.{too_much_reaches}
+use Rattle.tacho_law.specs.declared.run.Run.{Run}
+use Rattle.tacho_law.specs.declared.days.DutyDay.{DutyDay}
+use Rattle.tacho_law.specs.declared.breach.Breach.{Breach}
+use Rattle.tacho_law.specs.declared.breach.Kind.TheVariants.{B4, B5}
+use Rattle.tacho_law.specs.Line.{Line}
+use Rattle.tacho_law.specs.Driving.{driving}
+use Rattle.tacho_law.specs.Runs.{minutes_of, IsRestRun}
+use Rattle.tacho_law.specs.SoFar.{Reached, AreCollected}
+use Rattle.tacho_law.specs.Days.{IsDuty, EarlierDay}
+use Rattle.tacho_law.specs.Exactly.{HasCount}
+use Rattle.tacho_law.specs.Weeks.{IsInWeek}
+use Rattle.tacho_law.specs.Order.{Apart}
+use Rattle.tacho_law.specs.Breaches.{HasDrivingAbove, IsDrivingBreach, IsExtended}
+use Rattle.tacho_law.proofs.ExactlyLemmas.{exactly_as, exactly_skip, how_many_only}
+use Rattle.tacho_law.proofs.LongDrivingLemmas.{too_much_reaches}
 use Rattle.tacho_pass.specs.declared.count.Count.{Count}
 use Rattle.tacho_pass.specs.Found.{as_list}
 use Rattle.tacho_pass.specs.Counts.{over_of, IsCounted}

@@ -8,22 +8,22 @@ use Rattle.std.proofs.lemmas.List.{append-nil}
 use Rattle.std.proofs.lemmas.List.Elements.{Contains-push, All-nil, All-append, All-contains}
 use Rattle.tacho_time.specs.declared.span.Activity.TheVariants.{Rest}
 use Rattle.tacho_time.specs.declared.span.Span.{Span}
-use Rattle.tacho_hours.specs.declared.run.Run.{Run}
-use Rattle.tacho_hours.specs.declared.run.TheConstants.{FAR}
-use Rattle.tacho_hours.specs.declared.days.DutyDay.{DutyDay}
-use Rattle.tacho_hours.specs.declared.breach.Breach.{Breach}
-use Rattle.tacho_hours.specs.declared.debt.Debt.{Debt}
-use Rattle.tacho_hours.specs.declared.breach.Kind.TheVariants.{B4, B5}
-use Rattle.tacho_hours.specs.Runs.{minutes_of, IsRestRun, AreRestRuns}
-use Rattle.tacho_hours.specs.SoFar.{Reached, AreCollected}
-use Rattle.tacho_hours.specs.Days.{IsDuty}
-use Rattle.tacho_hours.specs.Line.{Line, line_of, IsExamined}
-use Rattle.tacho_hours.specs.Driving.{driving, is_drive}
-use Rattle.tacho_hours.specs.Order.{Apart}
-use Rattle.tacho_hours.specs.Breaches.{IsExtended}
-use Rattle.tacho_hours.proofs.ExactlyLemmas.{exactly_none, exactly_as}
-use Rattle.tacho_hours.proofs.DrivingLemmas.{driving_le, driving_before}
-use Rattle.tacho_hours.proofs.RunsLemmas.{run_of, reached_none, reached_rest, reached_busy, reached_gap, reached_end}
+use Rattle.tacho_law.specs.declared.run.Run.{Run}
+use Rattle.tacho_law.specs.declared.run.TheConstants.{FAR}
+use Rattle.tacho_law.specs.declared.days.DutyDay.{DutyDay}
+use Rattle.tacho_law.specs.declared.breach.Breach.{Breach}
+use Rattle.tacho_law.specs.declared.debt.Debt.{Debt}
+use Rattle.tacho_law.specs.declared.breach.Kind.TheVariants.{B4, B5}
+use Rattle.tacho_law.specs.Runs.{minutes_of, IsRestRun, AreRestRuns}
+use Rattle.tacho_law.specs.SoFar.{Reached, AreCollected}
+use Rattle.tacho_law.specs.Days.{IsDuty}
+use Rattle.tacho_law.specs.Line.{Line, line_of, IsExamined}
+use Rattle.tacho_law.specs.Driving.{driving, is_drive}
+use Rattle.tacho_law.specs.Order.{Apart}
+use Rattle.tacho_law.specs.Breaches.{IsExtended}
+use Rattle.tacho_law.proofs.ExactlyLemmas.{exactly_none, exactly_as}
+use Rattle.tacho_law.proofs.DrivingLemmas.{driving_le, driving_before}
+use Rattle.tacho_law.proofs.RunsLemmas.{run_of, reached_none, reached_rest, reached_busy, reached_gap, reached_end}
 use Rattle.tacho_pass.specs.declared.count.Count.{Count}
 use Rattle.tacho_pass.specs.Counts.{count_none, over_of, IsCounted, AllDrive}
 use Rattle.tacho_pass.specs.Heard.{is_rest, start_after, run_before, Continues}

@@ -5,17 +5,17 @@ use Rattle.std.specs.List.{Contains}
 use Rattle.std.proofs.lemmas.Bool.{cases_lt}
 use Rattle.std.proofs.lemmas.Bool.Decides.{nat_tests}
 use Rattle.std.proofs.lemmas.List.Elements.{Contains-push, Contains-append_left, Contains-push_cases}
-use Rattle.tacho_hours.specs.declared.run.Run.{Run}
-use Rattle.tacho_hours.specs.declared.days.DutyDay.{DutyDay}
-use Rattle.tacho_hours.specs.Line.{Line}
-use Rattle.tacho_hours.specs.Runs.{minutes_of, IsRestRun}
-use Rattle.tacho_hours.specs.SoFar.{Reached}
-use Rattle.tacho_hours.specs.Days.{IsDuty, EarlierDay}
-use Rattle.tacho_hours.specs.Exactly.{HasCount}
-use Rattle.tacho_hours.specs.Weeks.{IsInWeek}
-use Rattle.tacho_hours.specs.Breaches.{IsExtended}
-use Rattle.tacho_hours.proofs.DebtsLemmas.{separate}
-use Rattle.tacho_hours.proofs.ExactlyLemmas.{exactly_none, exactly_as, exactly_add, how_many_as}
+use Rattle.tacho_law.specs.declared.run.Run.{Run}
+use Rattle.tacho_law.specs.declared.days.DutyDay.{DutyDay}
+use Rattle.tacho_law.specs.Line.{Line}
+use Rattle.tacho_law.specs.Runs.{minutes_of, IsRestRun}
+use Rattle.tacho_law.specs.SoFar.{Reached}
+use Rattle.tacho_law.specs.Days.{IsDuty, EarlierDay}
+use Rattle.tacho_law.specs.Exactly.{HasCount}
+use Rattle.tacho_law.specs.Weeks.{IsInWeek}
+use Rattle.tacho_law.specs.Breaches.{IsExtended}
+use Rattle.tacho_law.proofs.DebtsLemmas.{separate}
+use Rattle.tacho_law.proofs.ExactlyLemmas.{exactly_none, exactly_as, exactly_add, how_many_as}
 use Rattle.tacho_days.specs.DutyDays.{day_to, IsLastOf}
 use Rattle.tacho_days.specs.DailyDriving.{week_at, IsExtendedSeen, IsTally}
 use Rattle.tacho_days.proofs.DutyDaysLemmas.{day_lasts, later, duty_only, day_only, day_before}

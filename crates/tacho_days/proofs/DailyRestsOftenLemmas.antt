@@ -6,19 +6,19 @@ use Rattle.std.specs.List.{Contains}
 use Rattle.std.proofs.lemmas.Bool.Decides.{nat_tests}
 use Rattle.std.proofs.lemmas.List.{append-nil}
 use Rattle.std.proofs.lemmas.List.Elements.{Contains-push, Contains-append_left, Contains-push_cases}
-use Rattle.tacho_hours.specs.declared.run.Run.{Run}
-use Rattle.tacho_hours.specs.declared.days.DutyDay.{DutyDay}
-use Rattle.tacho_hours.specs.declared.breach.Breach.{Breach}
-use Rattle.tacho_hours.specs.declared.breach.Kind.TheVariants.{B3}
-use Rattle.tacho_hours.specs.Exactly.{HasCount}
-use Rattle.tacho_hours.specs.Line.{Line}
-use Rattle.tacho_hours.specs.Runs.{IsRestRun, Before, minutes_of}
-use Rattle.tacho_hours.specs.SoFar.{Reached, AreCollected}
-use Rattle.tacho_hours.specs.Days.{IsReduced, EarlierDay}
-use Rattle.tacho_hours.specs.Weeks.{IsWeeklyRest}
-use Rattle.tacho_hours.specs.Order.{Apart}
-use Rattle.tacho_hours.proofs.ExactlyLemmas.{exactly_skip, exactly_add, how_many_as, how_many_only}
-use Rattle.tacho_hours.proofs.OrderLemmas.{same_breach}
+use Rattle.tacho_law.specs.declared.run.Run.{Run}
+use Rattle.tacho_law.specs.declared.days.DutyDay.{DutyDay}
+use Rattle.tacho_law.specs.declared.breach.Breach.{Breach}
+use Rattle.tacho_law.specs.declared.breach.Kind.TheVariants.{B3}
+use Rattle.tacho_law.specs.Exactly.{HasCount}
+use Rattle.tacho_law.specs.Line.{Line}
+use Rattle.tacho_law.specs.Runs.{IsRestRun, Before, minutes_of}
+use Rattle.tacho_law.specs.SoFar.{Reached, AreCollected}
+use Rattle.tacho_law.specs.Days.{IsReduced, EarlierDay}
+use Rattle.tacho_law.specs.Weeks.{IsWeeklyRest}
+use Rattle.tacho_law.specs.Order.{Apart}
+use Rattle.tacho_law.proofs.ExactlyLemmas.{exactly_skip, exactly_add, how_many_as, how_many_only}
+use Rattle.tacho_law.proofs.OrderLemmas.{same_breach}
 use Rattle.tacho_pass.specs.Found.{as_list}
 use Rattle.tacho_days.specs.declared.daily_rest.RestingDay.{RestingDay}
 use Rattle.tacho_days.specs.DutyDays.{day_to, IsLastOf}

@@ -4,14 +4,14 @@ use Rattle.std.proofs.Common.{List, [], ◌∷◌, ◌++◌, min, length, length
 use Rattle.std.specs.Prelude.{◌↔◌, IsTrue}
 use Rattle.std.proofs.lemmas.Bool.Decides.{nat_tests}
 use Rattle.std.proofs.lemmas.List.Elements.{Contains-push, Contains-append_left, Contains-push_cases}
-use Rattle.tacho_hours.specs.declared.run.Run.{Run}
-use Rattle.tacho_hours.specs.declared.days.DutyDay.{DutyDay}
-use Rattle.tacho_hours.specs.Exactly.{HasCount}
-use Rattle.tacho_hours.specs.Line.{Line}
-use Rattle.tacho_hours.specs.Runs.{IsRestRun, minutes_of}
-use Rattle.tacho_hours.specs.SoFar.{Reached}
-use Rattle.tacho_hours.specs.Days.{IsRegular, IsReduced, HasPortion, EarlierDay}
-use Rattle.tacho_hours.proofs.ExactlyLemmas.{exactly_none, exactly_add, how_many_as}
+use Rattle.tacho_law.specs.declared.run.Run.{Run}
+use Rattle.tacho_law.specs.declared.days.DutyDay.{DutyDay}
+use Rattle.tacho_law.specs.Exactly.{HasCount}
+use Rattle.tacho_law.specs.Line.{Line}
+use Rattle.tacho_law.specs.Runs.{IsRestRun, minutes_of}
+use Rattle.tacho_law.specs.SoFar.{Reached}
+use Rattle.tacho_law.specs.Days.{IsRegular, IsReduced, HasPortion, EarlierDay}
+use Rattle.tacho_law.proofs.ExactlyLemmas.{exactly_none, exactly_add, how_many_as}
 use Rattle.tacho_days.specs.DutyDays.{day_to, IsLastOf}
 use Rattle.tacho_days.specs.RestingDays.{portion_of, regular_of, reduced_of}
 use Rattle.tacho_days.specs.DailyRests.{HasPart, IsReducedSince}

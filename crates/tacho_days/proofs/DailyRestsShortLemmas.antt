@@ -5,16 +5,16 @@ use Rattle.std.specs.Prelude.{◌↔◌}
 use Rattle.std.proofs.lemmas.Bool.Decides.{nat_tests}
 use Rattle.std.proofs.lemmas.List.{append-nil}
 use Rattle.std.proofs.lemmas.List.Elements.{Contains-push, Contains-append_left, Contains-push_cases}
-use Rattle.tacho_hours.specs.declared.run.Run.{Run}
-use Rattle.tacho_hours.specs.declared.breach.Breach.{Breach}
-use Rattle.tacho_hours.specs.declared.breach.Kind.TheVariants.{B2}
-use Rattle.tacho_hours.specs.Line.{Line}
-use Rattle.tacho_hours.specs.Runs.{IsRestRun, minutes_of}
-use Rattle.tacho_hours.specs.SoFar.{Reached, AreCollected}
-use Rattle.tacho_hours.specs.Days.{HasPortion}
-use Rattle.tacho_hours.specs.Order.{Apart}
-use Rattle.tacho_hours.proofs.ExactlyLemmas.{exactly_skip, exactly_add}
-use Rattle.tacho_hours.proofs.OrderLemmas.{same_breach}
+use Rattle.tacho_law.specs.declared.run.Run.{Run}
+use Rattle.tacho_law.specs.declared.breach.Breach.{Breach}
+use Rattle.tacho_law.specs.declared.breach.Kind.TheVariants.{B2}
+use Rattle.tacho_law.specs.Line.{Line}
+use Rattle.tacho_law.specs.Runs.{IsRestRun, minutes_of}
+use Rattle.tacho_law.specs.SoFar.{Reached, AreCollected}
+use Rattle.tacho_law.specs.Days.{HasPortion}
+use Rattle.tacho_law.specs.Order.{Apart}
+use Rattle.tacho_law.proofs.ExactlyLemmas.{exactly_skip, exactly_add}
+use Rattle.tacho_law.proofs.OrderLemmas.{same_breach}
 use Rattle.tacho_pass.specs.Found.{as_list}
 use Rattle.tacho_days.specs.DutyDays.{day_to, IsLastOf}
 use Rattle.tacho_days.specs.RestingDays.{portion_of, short_breach, short_of}

@@ -10,20 +10,20 @@ use Rattle.std.proofs.lemmas.List.Elements.{Contains-push, Contains-append_left,
 use Rattle.std.proofs.lemmas.List.Elements.{All-append}
 use Rattle.tacho_time.specs.declared.span.Activity.TheVariants.{Rest}
 use Rattle.tacho_time.specs.declared.span.Span.{Span}
-use Rattle.tacho_hours.specs.declared.run.Run.{Run}
-use Rattle.tacho_hours.specs.declared.run.TheConstants.{FAR}
-use Rattle.tacho_hours.specs.declared.days.DutyDay.{DutyDay}
-use Rattle.tacho_hours.specs.declared.breach.Breach.{Breach}
-use Rattle.tacho_hours.specs.declared.breach.Kind.TheVariants.{B2, B3}
-use Rattle.tacho_hours.specs.declared.debt.Debt.{Debt}
-use Rattle.tacho_hours.specs.Exactly.{HasCount}
-use Rattle.tacho_hours.specs.Line.{Line, line_of, IsExamined}
-use Rattle.tacho_hours.specs.Runs.{IsRestRun, AreRestRuns, minutes_of}
-use Rattle.tacho_hours.specs.SoFar.{Reached, AreCollected}
-use Rattle.tacho_hours.specs.Days.{IsDuty, IsReduced, EarlierDay}
-use Rattle.tacho_hours.specs.Order.{Apart}
-use Rattle.tacho_hours.proofs.ExactlyLemmas.{exactly_none, exactly_as}
-use Rattle.tacho_hours.proofs.RunsLemmas.{run_of, reached_none, reached_rest, reached_busy, reached_gap, reached_end}
+use Rattle.tacho_law.specs.declared.run.Run.{Run}
+use Rattle.tacho_law.specs.declared.run.TheConstants.{FAR}
+use Rattle.tacho_law.specs.declared.days.DutyDay.{DutyDay}
+use Rattle.tacho_law.specs.declared.breach.Breach.{Breach}
+use Rattle.tacho_law.specs.declared.breach.Kind.TheVariants.{B2, B3}
+use Rattle.tacho_law.specs.declared.debt.Debt.{Debt}
+use Rattle.tacho_law.specs.Exactly.{HasCount}
+use Rattle.tacho_law.specs.Line.{Line, line_of, IsExamined}
+use Rattle.tacho_law.specs.Runs.{IsRestRun, AreRestRuns, minutes_of}
+use Rattle.tacho_law.specs.SoFar.{Reached, AreCollected}
+use Rattle.tacho_law.specs.Days.{IsDuty, IsReduced, EarlierDay}
+use Rattle.tacho_law.specs.Order.{Apart}
+use Rattle.tacho_law.proofs.ExactlyLemmas.{exactly_none, exactly_as}
+use Rattle.tacho_law.proofs.RunsLemmas.{run_of, reached_none, reached_rest, reached_busy, reached_gap, reached_end}
 use Rattle.tacho_pass.specs.Found.{as_list}
 use Rattle.tacho_pass.specs.Heard.{is_rest, start_after, run_before, Continues}
 use Rattle.tacho_pass.specs.Kinds.{is_b2_or_b3}

@@ -3,14 +3,14 @@ use Rattle.std.proofs.Common.{◌≡◌, ℕ, ◌⊎◌, ◌↔◌, inl, inr, Li
 use Rattle.std.specs.Prelude.{IsTrue}
 use Rattle.std.specs.List.{All}
 use Rattle.tacho_time.specs.declared.span.Span.{Span}
-use Rattle.tacho_hours.specs.declared.breach.Kind.{Kind}
-use Rattle.tacho_hours.specs.declared.breach.Kind.TheVariants.{B2, B3, B4, B5}
-use Rattle.tacho_hours.specs.declared.breach.Breach.{Breach}
-use Rattle.tacho_hours.specs.Line.{Line, line_of}
-use Rattle.tacho_hours.specs.Order.{Apart}
-use Rattle.tacho_hours.specs.SoFar.{AreCollected}
-use Rattle.tacho_hours.specs.Breaches.{IsDayBreach}
-use Rattle.tacho_hours.proofs.ExactlyLemmas.{exactly_as}
+use Rattle.tacho_law.specs.declared.breach.Kind.{Kind}
+use Rattle.tacho_law.specs.declared.breach.Kind.TheVariants.{B2, B3, B4, B5}
+use Rattle.tacho_law.specs.declared.breach.Breach.{Breach}
+use Rattle.tacho_law.specs.Line.{Line, line_of}
+use Rattle.tacho_law.specs.Order.{Apart}
+use Rattle.tacho_law.specs.SoFar.{AreCollected}
+use Rattle.tacho_law.specs.Breaches.{IsDayBreach}
+use Rattle.tacho_law.proofs.ExactlyLemmas.{exactly_as}
 use Rattle.tacho_pass.specs.Found.{own_of}
 use Rattle.tacho_pass.specs.Kinds.{is_b2_or_b3, is_b4_or_b5, is_b2_to_b5}
 use Rattle.tacho_pass.proofs.JoiningLemmas.{IsPart, joined, own_kinds}

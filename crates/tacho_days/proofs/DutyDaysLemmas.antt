@@ -2,12 +2,12 @@
 use Rattle.std.proofs.Common.{◌≡◌, ℕ, ◌-◌, ◌<◌, ◌≤◌, inl, inr, List, [], ◌∷◌, ◌++◌, refl, sym, ap, subst, ◌∙◌, arith}
 use Rattle.std.specs.List.{Contains}
 use Rattle.std.proofs.lemmas.List.Elements.{Contains-push, Contains-append_left, Contains-push_cases, All-contains}
-use Rattle.tacho_hours.specs.declared.run.Run.{Run}
-use Rattle.tacho_hours.specs.declared.days.DutyDay.{DutyDay}
-use Rattle.tacho_hours.specs.Line.{Line}
-use Rattle.tacho_hours.specs.Runs.{IsRestRun, IsRestOf, Before, minutes_of}
-use Rattle.tacho_hours.specs.SoFar.{Reached}
-use Rattle.tacho_hours.specs.Days.{IsDuty, EarlierDay}
+use Rattle.tacho_law.specs.declared.run.Run.{Run}
+use Rattle.tacho_law.specs.declared.days.DutyDay.{DutyDay}
+use Rattle.tacho_law.specs.Line.{Line}
+use Rattle.tacho_law.specs.Runs.{IsRestRun, IsRestOf, Before, minutes_of}
+use Rattle.tacho_law.specs.SoFar.{Reached}
+use Rattle.tacho_law.specs.Days.{IsDuty, EarlierDay}
 use Rattle.tacho_days.specs.DutyDays.{day_to, IsLastOf, IsBeforeFirst}
 
 -- a duty day isn't empty, and neither is its rest

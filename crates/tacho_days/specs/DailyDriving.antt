@@ -3,18 +3,18 @@
 use Rattle.std.specs.Prelude.{◌≡◌, ℕ, ◌+◌, ◌-◌, ◌/◌, ◌++◌, ◌≤◌, ◌⊎◌, ◌&&◌, nat_le, nat_lt, nat_eq, Bool}
 use Rattle.std.specs.Prelude.{if◌then◌else◌, Option, None, Some, List, Contains, []}
 use Rattle.tacho_time.specs.declared.span.Span.{Span}
-use Rattle.tacho_hours.specs.declared.run.Run.{Run}
-use Rattle.tacho_hours.specs.declared.breach.Breach.{Breach}
-use Rattle.tacho_hours.specs.declared.debt.Debt.{Debt}
-use Rattle.tacho_hours.specs.declared.breach.Kind.TheVariants.{B4, B5}
-use Rattle.tacho_hours.specs.declared.days.DutyDay.{DutyDay}
-use Rattle.tacho_hours.specs.Limits.{first_week, minutes_of_week, daily_rest}
-use Rattle.tacho_hours.specs.Limits.{driving_in_day, driving_in_extended_day, extended_days}
-use Rattle.tacho_hours.specs.Line.{Line, line_of, Joined}
-use Rattle.tacho_hours.specs.SoFar.{Reached, AreCollected}
-use Rattle.tacho_hours.specs.Days.{EarlierDay}
-use Rattle.tacho_hours.specs.Exactly.{HasCount}
-use Rattle.tacho_hours.specs.Breaches.{IsExtended, IsB4, IsB5}
+use Rattle.tacho_law.specs.declared.run.Run.{Run}
+use Rattle.tacho_law.specs.declared.breach.Breach.{Breach}
+use Rattle.tacho_law.specs.declared.debt.Debt.{Debt}
+use Rattle.tacho_law.specs.declared.breach.Kind.TheVariants.{B4, B5}
+use Rattle.tacho_law.specs.declared.days.DutyDay.{DutyDay}
+use Rattle.tacho_law.specs.Limits.{first_week, minutes_of_week, daily_rest}
+use Rattle.tacho_law.specs.Limits.{driving_in_day, driving_in_extended_day, extended_days}
+use Rattle.tacho_law.specs.Line.{Line, line_of, Joined}
+use Rattle.tacho_law.specs.SoFar.{Reached, AreCollected}
+use Rattle.tacho_law.specs.Days.{EarlierDay}
+use Rattle.tacho_law.specs.Exactly.{HasCount}
+use Rattle.tacho_law.specs.Breaches.{IsExtended, IsB4, IsB5}
 use Rattle.tacho_pass.specs.Heard.{Continues}
 use Rattle.tacho_pass.specs.Found.{as_list}
 use Rattle.tacho_pass.specs.Counts.{count_none, count_with, over_of, IsCounted}

@@ -1,9 +1,9 @@
 -- Private to tacho_days: Duty days and the rests that end them, one by one (Regulation (EC) 561/2006, Articles 4(g) and 4(k)).
 use Rattle.std.specs.Prelude.{◌≡◌, ℕ, ◌≤◌, ◌⊎◌, nat_le, Bool, List, Contains, []}
-use Rattle.tacho_hours.specs.declared.run.Run.{Run}
-use Rattle.tacho_hours.specs.declared.days.DutyDay.{DutyDay}
-use Rattle.tacho_hours.specs.Runs.{minutes_of, Before}
-use Rattle.tacho_hours.specs.Limits.{daily_rest}
+use Rattle.tacho_law.specs.declared.run.Run.{Run}
+use Rattle.tacho_law.specs.declared.days.DutyDay.{DutyDay}
+use Rattle.tacho_law.specs.Runs.{minutes_of, Before}
+use Rattle.tacho_law.specs.Limits.{daily_rest}
 
 -- Article 4(g): true for a rest run of nine hours or more, which ends a duty day
 abbrev pub is_long : Run → Bool

@@ -1,13 +1,13 @@
 -- Private to tacho_days: Daily rests, judged one by one as they end (Regulation (EC) 561/2006, Articles 4(g), 8(2) and 8(4)).
 use Rattle.std.specs.Prelude.{ℕ, ◌+◌, ◌-◌, ◌++◌, ◌&&◌, ◌||◌, not, nat_le, nat_lt, min, Bool, false}
 use Rattle.std.specs.Prelude.{if◌then◌else◌, Option, None, Some, List, []}
-use Rattle.tacho_hours.specs.declared.run.Run.{Run}
-use Rattle.tacho_hours.specs.declared.days.DutyDay.{DutyDay}
-use Rattle.tacho_hours.specs.declared.breach.Breach.{Breach}
-use Rattle.tacho_hours.specs.declared.breach.Kind.TheVariants.{B2, B3}
-use Rattle.tacho_hours.specs.Runs.{minutes_of}
-use Rattle.tacho_hours.specs.Limits.{minutes_of_day, regular_daily_rest, first_part_of_daily_rest, daily_rest}
-use Rattle.tacho_hours.specs.Limits.{weekly_rest, reduced_daily_rests}
+use Rattle.tacho_law.specs.declared.run.Run.{Run}
+use Rattle.tacho_law.specs.declared.days.DutyDay.{DutyDay}
+use Rattle.tacho_law.specs.declared.breach.Breach.{Breach}
+use Rattle.tacho_law.specs.declared.breach.Kind.TheVariants.{B2, B3}
+use Rattle.tacho_law.specs.Runs.{minutes_of}
+use Rattle.tacho_law.specs.Limits.{minutes_of_day, regular_daily_rest, first_part_of_daily_rest, daily_rest}
+use Rattle.tacho_law.specs.Limits.{weekly_rest, reduced_daily_rests}
 use Rattle.tacho_pass.specs.Found.{as_list}
 use Rattle.tacho_days.specs.declared.daily_rest.RestingDay.{RestingDay}
 use Rattle.tacho_days.specs.DutyDays.{is_long, day_to}

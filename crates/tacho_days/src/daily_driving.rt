@@ -1,5 +1,5 @@
 ghost use Rattle.std.specs.Prelude.{◌≡◌, ◌<◌, ◌≤◌, ◌+◌, ◌++◌, ◌&&◌, ⊤, ℕ, nat_le, IsTrue, false, OnOk, MatchOption};
-ghost use Rattle.tacho_hours.specs.Limits.{first_week, latest};
+ghost use Rattle.tacho_law.specs.Limits.{first_week, latest};
 ghost use Rattle.tacho_pass.specs.Found.{Appends, as_list};
 ghost use Rattle.tacho_pass.specs.Kinds.{is_b4_or_b5};
 ghost use Rattle.tacho_days.specs.DutyDays.{is_long};
@@ -8,8 +8,8 @@ ghost use Rattle.tacho_days.specs.DailyDriving.{duty_none, driving_in_range, dut
 ghost use Rattle.tacho_days.specs.DailyDriving.{duty_after, duty_found, duty_any, duty_found_at_optional_run};
 
 use std::alloc::AllocError;
-use tacho_hours::limits::{DAILY_REST, DRIVING_IN_DAY, DRIVING_IN_EXTENDED_DAY, EXTENDED_DAYS};
-use tacho_hours::{Breach, FAR, Kind, Run};
+use tacho_law::limits::{DAILY_REST, DRIVING_IN_DAY, DRIVING_IN_EXTENDED_DAY, EXTENDED_DAYS};
+use tacho_law::{Breach, FAR, Kind, Run};
 use tacho_pass::{Count, Found, Judge, is_drive, put};
 use tacho_time::{Minute, Span, week_of};
 

@@ -1,6 +1,6 @@
 ghost use Rattle.std.specs.Prelude.{◌≡◌, ◌≤◌, ◌+◌, ◌++◌, ⊤, nat_le, false, OnOk, MatchOption};
-ghost use Rattle.tacho_hours.specs.Runs.{minutes_of};
-ghost use Rattle.tacho_hours.specs.Limits.{latest, daily_rest};
+ghost use Rattle.tacho_law.specs.Runs.{minutes_of};
+ghost use Rattle.tacho_law.specs.Limits.{latest, daily_rest};
 ghost use Rattle.tacho_pass.specs.Found.{Appends};
 ghost use Rattle.tacho_pass.specs.Kinds.{is_b2_or_b3};
 ghost use Rattle.tacho_days.specs.DailyRests.{DailyRestsStand, DailyRestsDefined};
@@ -9,11 +9,11 @@ ghost use Rattle.tacho_days.specs.RestingDays.{resting_none, regular_of, reduced
 ghost use Rattle.tacho_days.specs.RestingDays.{short_of, often_of, rest_found, after_rest, after_optional_rest, found_at_optional_rest};
 
 use std::alloc::AllocError;
-use tacho_hours::limits::{
+use tacho_law::limits::{
     DAILY_REST, FIRST_PART_OF_DAILY_REST, MINUTES_OF_DAY, REDUCED_DAILY_RESTS, REGULAR_DAILY_REST,
     WEEKLY_REST,
 };
-use tacho_hours::{Breach, DutyDay, FAR, Kind, Run, has_portion};
+use tacho_law::{Breach, DutyDay, FAR, Kind, Run, has_portion};
 use tacho_pass::{Found, Judge, put};
 use tacho_time::{Minute, Span};
 

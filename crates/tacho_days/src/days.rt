@@ -6,7 +6,7 @@ ghost use Rattle.tacho_days.specs.Days.{DaysDefined};
 use crate::daily_driving::DutyDriving;
 use crate::daily_rest::RestingDay;
 use std::alloc::AllocError;
-use tacho_hours::Run;
+use tacho_law::Run;
 use tacho_pass::{Found, Hearing, Judge};
 use tacho_time::{Minute, Span};
 

@@ -4,8 +4,8 @@ use Rattle.std.proofs.lemmas.Bool.{eqb-true, eq-eqb}
 use Rattle.tacho_line.specs.declared.horizon.Horizon.{Horizon}
 use Rattle.tacho_card.specs.declared.fault.CardFault.{CardFault}
 use Rattle.tacho_card.specs.declared.file.Part.{Part}
-use Rattle.tacho_hours.specs.declared.breach.Breach.{Breach}
-use Rattle.tacho_hours.specs.declared.debt.Debt.{Debt}
+use Rattle.tacho_law.specs.declared.breach.Breach.{Breach}
+use Rattle.tacho_law.specs.declared.debt.Debt.{Debt}
 use Rattle.tacho_time.specs.declared.span.Span.{Span}
 use Rattle.tacho_rules.specs.Report.{IsReport}
 use Rattle.tacho_stretches.specs.Stretches.{AreStretches, Judged}

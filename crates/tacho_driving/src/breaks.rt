@@ -1,5 +1,5 @@
 ghost use Rattle.std.specs.Prelude.{◌≡◌, ◌≤◌, ◌++◌, ℕ, IsTrue, false, OnOk};
-ghost use Rattle.tacho_hours.specs.Weeks.{week_start};
+ghost use Rattle.tacho_law.specs.Weeks.{week_start};
 ghost use Rattle.tacho_pass.specs.Found.{Appends};
 ghost use Rattle.tacho_pass.specs.Kinds.{is_b1};
 ghost use Rattle.tacho_driving.specs.Periods.{BreaksStand, BreaksDefined};
@@ -7,10 +7,10 @@ ghost use Rattle.tacho_driving.specs.Periods.{period_none, period_in_range, comp
 ghost use Rattle.tacho_driving.specs.Periods.{found_at_optional_run, period_with};
 
 use std::alloc::AllocError;
-use tacho_hours::limits::{
+use tacho_law::limits::{
     DRIVING_BEFORE_BREAK, FIRST_PART_OF_BREAK, LAST_PART_OF_BREAK, WHOLE_BREAK,
 };
-use tacho_hours::{FAR, Kind, Run};
+use tacho_law::{FAR, Kind, Run};
 use tacho_pass::{Count, Found, Hearing, Judge, is_drive, put};
 use tacho_time::{Minute, Span};
 

@@ -1,6 +1,6 @@
 ghost use Rattle.std.specs.Prelude.{◌≡◌, ◌≤◌, ◌+◌, ◌++◌, ◌&&◌, nat_le, IsTrue, false, OnOk};
-ghost use Rattle.tacho_hours.specs.Limits.{latest};
-ghost use Rattle.tacho_hours.specs.Weeks.{week_start};
+ghost use Rattle.tacho_law.specs.Limits.{latest};
+ghost use Rattle.tacho_law.specs.Weeks.{week_start};
 ghost use Rattle.tacho_pass.specs.Found.{Appends};
 ghost use Rattle.tacho_pass.specs.Kinds.{is_b6_or_b7};
 ghost use Rattle.tacho_pass.specs.Counts.{count_none};
@@ -8,8 +8,8 @@ ghost use Rattle.tacho_driving.specs.Sums.{WeekSumsStand, WeekSumsDefined};
 ghost use Rattle.tacho_driving.specs.Sums.{sums_in_range, fill_week, close_week, sum_breaches, turn_week, turn_found, through, through_found};
 
 use std::alloc::AllocError;
-use tacho_hours::limits::{DRIVING_IN_TWO_WEEKS, DRIVING_IN_WEEK};
-use tacho_hours::{Kind, Run};
+use tacho_law::limits::{DRIVING_IN_TWO_WEEKS, DRIVING_IN_WEEK};
+use tacho_law::{Kind, Run};
 use tacho_pass::{Count, Found, Hearing, Judge, is_drive, put};
 use tacho_time::{Minute, Span, Week, first_minute, week_of};
 

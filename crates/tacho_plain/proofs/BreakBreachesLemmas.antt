@@ -2,20 +2,20 @@
 use Rattle.std.proofs.Common.{◌≡◌, ℕ, ◌+◌, ◌-◌, ◌<◌, ◌≤◌, List, [], ◌∷◌, ◌++◌}
 use Rattle.std.proofs.Common.{length, get_or, refl, sym, ap, subst, ◌∙◌, inl, arith}
 use Rattle.std.proofs.lemmas.List.Elements.{Contains-get_or}
-use Rattle.tacho_hours.specs.declared.run.Run.{Run}
-use Rattle.tacho_hours.specs.declared.breach.Breach.{Breach}
-use Rattle.tacho_hours.specs.declared.breach.Kind.{Kind}
-use Rattle.tacho_hours.specs.declared.breach.Kind.TheVariants.{B1, B2, B3, B4, B5, B6, B7, B8, B9, B10}
-use Rattle.tacho_hours.specs.Line.{Line}
-use Rattle.tacho_hours.specs.Runs.{AreRuns}
-use Rattle.tacho_hours.specs.Exactly.{AreExactly}
-use Rattle.tacho_hours.specs.Driving.{driving}
-use Rattle.tacho_hours.specs.Breaches.{IsB1, IsBreakBreach}
-use Rattle.tacho_hours.specs.Order.{Earlier, AreBreaches}
+use Rattle.tacho_law.specs.declared.run.Run.{Run}
+use Rattle.tacho_law.specs.declared.breach.Breach.{Breach}
+use Rattle.tacho_law.specs.declared.breach.Kind.{Kind}
+use Rattle.tacho_law.specs.declared.breach.Kind.TheVariants.{B1, B2, B3, B4, B5, B6, B7, B8, B9, B10}
+use Rattle.tacho_law.specs.Line.{Line}
+use Rattle.tacho_law.specs.Runs.{AreRuns}
+use Rattle.tacho_law.specs.Exactly.{AreExactly}
+use Rattle.tacho_law.specs.Driving.{driving}
+use Rattle.tacho_law.specs.Breaches.{IsB1, IsBreakBreach}
+use Rattle.tacho_law.specs.Order.{Earlier, AreBreaches}
 use Rattle.tacho_plain.proofs.DaysLemmas.{pasts_rise}
-use Rattle.tacho_hours.proofs.DrivingLemmas.{driving_minute_only, driving_reaches}
-use Rattle.tacho_hours.proofs.ExactlyLemmas.{OfBelow, below_none, below_skip, below_add, exactly_as}
-use Rattle.tacho_hours.proofs.OrderLemmas.{same_breach}
+use Rattle.tacho_law.proofs.DrivingLemmas.{driving_minute_only, driving_reaches}
+use Rattle.tacho_law.proofs.ExactlyLemmas.{OfBelow, below_none, below_skip, below_add, exactly_as}
+use Rattle.tacho_law.proofs.OrderLemmas.{same_breach}
 use Rattle.tacho_plain.proofs.RunsLemmas.{no_run, none_at_between, neighbours_at}
 use Rattle.tacho_plain.specs.BreakBreaches.{IsLongPeriod}
 

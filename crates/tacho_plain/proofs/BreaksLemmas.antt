@@ -5,11 +5,11 @@ use Rattle.std.specs.Prelude.{IsTrue}
 use Rattle.std.specs.List.{All, AllPairs, Contains}
 use Rattle.std.proofs.lemmas.List.{take_more, length-take-le, get_or-take, get_or_default}
 use Rattle.std.proofs.lemmas.List.Elements.{All-contains, All-take}
-use Rattle.tacho_hours.specs.declared.run.Run.{Run}
-use Rattle.tacho_hours.specs.Runs.{AreRuns, Before, minutes_of}
-use Rattle.tacho_hours.specs.Breaks.{AreCompleteBreaks}
-use Rattle.tacho_hours.specs.SoFar.{Breaking}
-use Rattle.tacho_hours.proofs.BreaksLemmas.{breaking_add, breaking_short, breaking_stay, breaks_last}
+use Rattle.tacho_law.specs.declared.run.Run.{Run}
+use Rattle.tacho_law.specs.Runs.{AreRuns, Before, minutes_of}
+use Rattle.tacho_law.specs.Breaks.{AreCompleteBreaks}
+use Rattle.tacho_law.specs.SoFar.{Breaking}
+use Rattle.tacho_law.proofs.BreaksLemmas.{breaking_add, breaking_short, breaking_stay, breaks_last}
 
 -- in a loop at index i, the runs that were seen are before the run at i
 later_at : (xs : List Run) (i : ℕ) (d : Run) → i < length xs → AllPairs Before xs

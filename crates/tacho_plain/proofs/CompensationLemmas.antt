@@ -10,20 +10,20 @@ use Rattle.std.proofs.Math.Seq.{take-append_seam}
 use Rattle.std.proofs.lemmas.Option.{get_or_from_slice_get, slice_get-get_or, slice_get_within}
 use Rattle.std.proofs.lemmas.List.Elements.{Contains-push, Contains-append_left, Contains-push_cases, Contains-get_or}
 use Rattle.std.proofs.lemmas.List.Quantifiers.{all_pairs_push}
-use Rattle.tacho_hours.specs.declared.run.Run.{Run}
-use Rattle.tacho_hours.specs.declared.run.TheConstants.{FAR}
-use Rattle.tacho_hours.specs.declared.debt.Debt.{Debt}
-use Rattle.tacho_hours.specs.Runs.{IsRestRun, Before, minutes_of, AreRestsOf}
-use Rattle.tacho_hours.specs.Line.{Line}
-use Rattle.tacho_hours.specs.Weeks.{week_start}
-use Rattle.tacho_hours.specs.Debts.{minutes_before, paid_from, IsMainRest, Owes, Keeps}
-use Rattle.tacho_hours.specs.Debts.{CanPay, Pays, IsSettled, EarlierWeek, AreDebts}
+use Rattle.tacho_law.specs.declared.run.Run.{Run}
+use Rattle.tacho_law.specs.declared.run.TheConstants.{FAR}
+use Rattle.tacho_law.specs.declared.debt.Debt.{Debt}
+use Rattle.tacho_law.specs.Runs.{IsRestRun, Before, minutes_of, AreRestsOf}
+use Rattle.tacho_law.specs.Line.{Line}
+use Rattle.tacho_law.specs.Weeks.{week_start}
+use Rattle.tacho_law.specs.Debts.{minutes_before, paid_from, IsMainRest, Owes, Keeps}
+use Rattle.tacho_law.specs.Debts.{CanPay, Pays, IsSettled, EarlierWeek, AreDebts}
 use Rattle.tacho_plain.proofs.RunsLemmas.{no_run}
-use Rattle.tacho_hours.proofs.DebtsLemmas.{separate, can_alike}
-use Rattle.tacho_hours.specs.MainRests.{IsKept}
+use Rattle.tacho_law.proofs.DebtsLemmas.{separate, can_alike}
+use Rattle.tacho_law.specs.MainRests.{IsKept}
 use Rattle.tacho_plain.specs.RestBreaches.{IsLastRun, IsDebtOf}
 use Rattle.tacho_plain.proofs.RunsLemmas.{rests_are}
-use Rattle.tacho_hours.proofs.MainRestLemmas.{one_week}
+use Rattle.tacho_law.proofs.MainRestLemmas.{one_week}
 use Rattle.tacho_plain.proofs.MainRestLemmas.{one_start, known_most}
 
 -- `IsKept` agrees with the definition of what a rest keeps

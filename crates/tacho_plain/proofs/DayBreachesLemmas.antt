@@ -9,20 +9,20 @@ use Rattle.std.proofs.lemmas.List.Elements.{Contains-append_left, Contains-appen
 use Rattle.std.proofs.lemmas.List.Elements.{Contains-append_cases, Contains-get_or}
 use Rattle.tacho_time.specs.declared.span.Activity.TheVariants.{Rest}
 use Rattle.tacho_time.specs.declared.span.Span.{Span}
-use Rattle.tacho_hours.specs.declared.days.DutyDay.{DutyDay}
-use Rattle.tacho_hours.specs.declared.breach.Breach.{Breach}
-use Rattle.tacho_hours.specs.declared.breach.Kind.{Kind}
-use Rattle.tacho_hours.specs.declared.breach.Kind.TheVariants.{B1, B2, B3, B4, B5, B6, B7, B8, B9, B10}
-use Rattle.tacho_hours.specs.Line.{line_of, IsExamined, Line}
-use Rattle.tacho_hours.specs.Runs.{minutes_of}
-use Rattle.tacho_hours.specs.Days.{IsDuty}
+use Rattle.tacho_law.specs.declared.days.DutyDay.{DutyDay}
+use Rattle.tacho_law.specs.declared.breach.Breach.{Breach}
+use Rattle.tacho_law.specs.declared.breach.Kind.{Kind}
+use Rattle.tacho_law.specs.declared.breach.Kind.TheVariants.{B1, B2, B3, B4, B5, B6, B7, B8, B9, B10}
+use Rattle.tacho_law.specs.Line.{line_of, IsExamined, Line}
+use Rattle.tacho_law.specs.Runs.{minutes_of}
+use Rattle.tacho_law.specs.Days.{IsDuty}
 use Rattle.tacho_plain.specs.DayBreaches.{AreDutyDays}
-use Rattle.tacho_hours.specs.Order.{Agree, Earlier, AreBreaches, place_of_kind}
-use Rattle.tacho_hours.specs.SoFar.{AreCollected}
-use Rattle.tacho_hours.specs.Breaches.{AreDayBreaches, IsDayBreach, IsB2, IsB3, IsB4, IsB5}
-use Rattle.tacho_hours.proofs.RunsLemmas.{line_before}
+use Rattle.tacho_law.specs.Order.{Agree, Earlier, AreBreaches, place_of_kind}
+use Rattle.tacho_law.specs.SoFar.{AreCollected}
+use Rattle.tacho_law.specs.Breaches.{AreDayBreaches, IsDayBreach, IsB2, IsB3, IsB4, IsB5}
+use Rattle.tacho_law.proofs.RunsLemmas.{line_before}
 use Rattle.tacho_plain.specs.DayBreaches.{IsInTime, AreTheDays, IsRestKind, IsDriveKind}
-use Rattle.tacho_hours.proofs.DrivingLemmas.{line_from_past}
+use Rattle.tacho_law.proofs.DrivingLemmas.{line_from_past}
 
 -- a breach that is ordered before another has a different place
 apart_if : (a b : Breach) → Earlier a b → Agree a b → ⊥

@@ -4,23 +4,23 @@ use Rattle.std.proofs.Common.{length, get_or, take, sym, subst, ◌∙◌, arith
 use Rattle.std.specs.List.{AllPairs, Contains}
 use Rattle.std.proofs.lemmas.Bool.{cases_lt}
 use Rattle.std.proofs.lemmas.List.{take_more, take_all}
-use Rattle.tacho_hours.specs.declared.days.DutyDay.{DutyDay}
-use Rattle.tacho_hours.specs.declared.breach.Breach.{Breach}
-use Rattle.tacho_hours.specs.declared.breach.Kind.{Kind}
-use Rattle.tacho_hours.specs.declared.breach.Kind.TheVariants.{B2, B4}
-use Rattle.tacho_hours.specs.Line.{Line}
-use Rattle.tacho_hours.specs.Days.{IsDuty, EarlierDay}
+use Rattle.tacho_law.specs.declared.days.DutyDay.{DutyDay}
+use Rattle.tacho_law.specs.declared.breach.Breach.{Breach}
+use Rattle.tacho_law.specs.declared.breach.Kind.{Kind}
+use Rattle.tacho_law.specs.declared.breach.Kind.TheVariants.{B2, B4}
+use Rattle.tacho_law.specs.Line.{Line}
+use Rattle.tacho_law.specs.Days.{IsDuty, EarlierDay}
 use Rattle.tacho_plain.specs.DayBreaches.{AreDutyDays}
-use Rattle.tacho_hours.specs.Order.{Earlier, AreBreaches}
-use Rattle.tacho_hours.specs.Breaches.{IsB2, IsB4}
-use Rattle.tacho_hours.specs.Exactly.{AreExactly}
-use Rattle.tacho_hours.proofs.ExactlyLemmas.{OfSeen, seen_none, seen_skip, seen_add, exactly_as}
+use Rattle.tacho_law.specs.Order.{Earlier, AreBreaches}
+use Rattle.tacho_law.specs.Breaches.{IsB2, IsB4}
+use Rattle.tacho_law.specs.Exactly.{AreExactly}
+use Rattle.tacho_law.proofs.ExactlyLemmas.{OfSeen, seen_none, seen_skip, seen_add, exactly_as}
 use Rattle.tacho_plain.proofs.KeptLemmas.{seen_before}
 use Rattle.tacho_plain.specs.DayBreaches.{IsInTime}
 use Rattle.tacho_plain.specs.DailyRests.{IsShortRest}
 use Rattle.tacho_plain.specs.DailyDriving.{IsLongDay}
-use Rattle.tacho_hours.proofs.LongDrivingLemmas.{too_much_only}
-use Rattle.tacho_hours.proofs.OrderLemmas.{same_breach}
+use Rattle.tacho_law.proofs.LongDrivingLemmas.{too_much_only}
+use Rattle.tacho_law.proofs.OrderLemmas.{same_breach}
 
 -- the result of an index past the end of the list
 abbrev pub no_day : DutyDay

@@ -9,14 +9,14 @@ use Rattle.std.specs.List.{All, AllPairs, Contains}
 use Rattle.std.proofs.lemmas.Bool.{cases_lt, ltb-true, ltb-false, leb-true, le-leb}
 use Rattle.std.proofs.lemmas.List.{get_or_default, get_or_append_left, get_or_push}
 use Rattle.std.proofs.lemmas.List.Elements.{Contains-get_or}
-use Rattle.tacho_hours.specs.declared.run.Run.{Run}
-use Rattle.tacho_hours.specs.declared.days.DutyDay.{DutyDay}
-use Rattle.tacho_hours.specs.Runs.{AreRestRuns, Before, minutes_of, IsRestOf, AreRestsOf, AreNeighbours}
-use Rattle.tacho_hours.specs.Line.{Line}
-use Rattle.tacho_hours.specs.Days.{IsDuty}
+use Rattle.tacho_law.specs.declared.run.Run.{Run}
+use Rattle.tacho_law.specs.declared.days.DutyDay.{DutyDay}
+use Rattle.tacho_law.specs.Runs.{AreRestRuns, Before, minutes_of, IsRestOf, AreRestsOf, AreNeighbours}
+use Rattle.tacho_law.specs.Line.{Line}
+use Rattle.tacho_law.specs.Days.{IsDuty}
 use Rattle.tacho_plain.specs.DayBreaches.{AreDutyDays}
 use Rattle.tacho_plain.proofs.KeptLemmas.{AreKept}
-use Rattle.tacho_hours.proofs.ExactlyLemmas.{at_index}
+use Rattle.tacho_law.proofs.ExactlyLemmas.{at_index}
 use Rattle.tacho_plain.proofs.RunsLemmas.{no_run, none_at_between, neighbours_at, rests_are}
 
 -- the result of an index past the end of a list of days

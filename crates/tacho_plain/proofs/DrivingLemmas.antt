@@ -9,11 +9,11 @@ use Rattle.std.proofs.lemmas.List.{drop_more, drop_all, take_all, length-drop}
 use Rattle.tacho_time.specs.declared.span.Activity.{Activity}
 use Rattle.tacho_time.specs.declared.span.Activity.TheVariants.{Rest, Drive}
 use Rattle.tacho_time.specs.declared.span.Span.{Span}
-use Rattle.tacho_hours.specs.Line.{IsExamined, line_of, Joined}
-use Rattle.tacho_hours.specs.Driving.{driving, IsDrivingMinute}
-use Rattle.tacho_hours.proofs.RunsLemmas.{place_of, place_is, line_within, line_past, line_before}
-use Rattle.tacho_hours.proofs.DrivingLemmas.{driving_all, driving_before, driving_le, driving_none}
-use Rattle.tacho_hours.proofs.DrivingLemmas.{driving_run, line_from_past}
+use Rattle.tacho_law.specs.Line.{IsExamined, line_of, Joined}
+use Rattle.tacho_law.specs.Driving.{driving, IsDrivingMinute}
+use Rattle.tacho_law.proofs.RunsLemmas.{place_of, place_is, line_within, line_past, line_before}
+use Rattle.tacho_law.proofs.DrivingLemmas.{driving_all, driving_before, driving_le, driving_none}
+use Rattle.tacho_law.proofs.DrivingLemmas.{driving_run, line_from_past}
 
 -- the remaining spans determine the line from their first minute on
 pub record Left (spans left : List Span) (past : ℕ) : Type 0 where

@@ -4,8 +4,8 @@ use Rattle.std.proofs.Common.{◌∷◌, ◌++◌, length, get_or, take, refl, s
 use Rattle.std.specs.List.{AllPairs, Contains}
 use Rattle.std.proofs.lemmas.List.{take_more, length-take-le, get_or-take, get_or_default}
 use Rattle.std.proofs.lemmas.List.Elements.{Contains-push, Contains-append_left, Contains-push_cases}
-use Rattle.tacho_hours.specs.Exactly.{AreExactly}
-use Rattle.tacho_hours.proofs.ExactlyLemmas.{exactly_add, exactly_as, exactly_none, exactly_skip}
+use Rattle.tacho_law.specs.Exactly.{AreExactly}
+use Rattle.tacho_law.proofs.ExactlyLemmas.{exactly_add, exactly_as, exactly_none, exactly_skip}
 
 -- those of the elements seen so far that satisfy `P` are kept, in order
 abbrev pub AreKept : (A : Type 0) → (A → A → Type 0) → (A → Type 0) → List A → List A → Type 0

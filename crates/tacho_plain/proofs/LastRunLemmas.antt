@@ -5,18 +5,18 @@ use Rattle.std.proofs.lemmas.Bool.{cases_lt}
 use Rattle.std.proofs.lemmas.List.{get_or_default}
 use Rattle.std.proofs.lemmas.List.Elements.{Contains-get_or}
 use Rattle.tacho_time.specs.declared.span.Span.{Span}
-use Rattle.tacho_hours.specs.declared.run.Run.{Run}
-use Rattle.tacho_hours.specs.declared.run.TheConstants.{FAR}
-use Rattle.tacho_hours.specs.Line.{line_of, IsExamined}
-use Rattle.tacho_hours.specs.Runs.{IsRestRun, AreRestRuns, AreRestsOf, Before}
+use Rattle.tacho_law.specs.declared.run.Run.{Run}
+use Rattle.tacho_law.specs.declared.run.TheConstants.{FAR}
+use Rattle.tacho_law.specs.Line.{line_of, IsExamined}
+use Rattle.tacho_law.specs.Runs.{IsRestRun, AreRestRuns, AreRestsOf, Before}
 use Rattle.tacho_choice.specs.Weeks.{IsInWeeks}
 use Rattle.tacho_choice.proofs.SeenLemmas.{in_weeks as weeks_by}
 use Rattle.tacho_plain.specs.Rests.{AreInTime}
-use Rattle.tacho_hours.proofs.ExactlyLemmas.{at_index}
-use Rattle.tacho_hours.proofs.RunsLemmas.{line_before}
+use Rattle.tacho_law.proofs.ExactlyLemmas.{at_index}
+use Rattle.tacho_law.proofs.RunsLemmas.{line_before}
 use Rattle.tacho_plain.proofs.RunsLemmas.{rests_are}
-use Rattle.tacho_hours.proofs.DrivingLemmas.{line_from_past}
-use Rattle.tacho_hours.proofs.CoveringLemmas.{Covers, covered}
+use Rattle.tacho_law.proofs.DrivingLemmas.{line_from_past}
+use Rattle.tacho_law.proofs.CoveringLemmas.{Covers, covered}
 use Rattle.tacho_plain.specs.RestBreaches.{IsLastRun}
 use Rattle.tacho_plain.proofs.DayBreachesLemmas.{before_past}
 

@@ -1,19 +1,19 @@
 -- The loop over weekly rests finds those that start too late (`rests`).
 use Rattle.std.proofs.Common.{◌≡◌, ℕ, ◌+◌, ◌-◌, ◌<◌, ◌≤◌, List, [], ◌∷◌, ◌++◌}
 use Rattle.std.proofs.Common.{length, get_or, sym, ap, subst, ◌∙◌, arith}
-use Rattle.tacho_hours.specs.declared.run.Run.{Run}
-use Rattle.tacho_hours.specs.declared.breach.Breach.{Breach}
-use Rattle.tacho_hours.specs.declared.breach.Kind.TheVariants.{B8}
-use Rattle.tacho_hours.specs.Line.{Line}
-use Rattle.tacho_hours.specs.Runs.{AreRestsOf}
+use Rattle.tacho_law.specs.declared.run.Run.{Run}
+use Rattle.tacho_law.specs.declared.breach.Breach.{Breach}
+use Rattle.tacho_law.specs.declared.breach.Kind.TheVariants.{B8}
+use Rattle.tacho_law.specs.Line.{Line}
+use Rattle.tacho_law.specs.Runs.{AreRestsOf}
 use Rattle.tacho_plain.specs.Rests.{AreInTime}
 use Rattle.tacho_plain.proofs.RunsLemmas.{no_run}
 use Rattle.tacho_plain.proofs.DaysLemmas.{next_are_neighbours, neighbours_are_next}
-use Rattle.tacho_hours.specs.Order.{Apart}
-use Rattle.tacho_hours.specs.SoFar.{AreCollected}
-use Rattle.tacho_hours.specs.Breaches.{IsLate}
-use Rattle.tacho_hours.proofs.OrderLemmas.{same_breach}
-use Rattle.tacho_hours.proofs.ExactlyLemmas.{OfBelow, below_none, below_skip, below_add, exactly_as}
+use Rattle.tacho_law.specs.Order.{Apart}
+use Rattle.tacho_law.specs.SoFar.{AreCollected}
+use Rattle.tacho_law.specs.Breaches.{IsLate}
+use Rattle.tacho_law.proofs.OrderLemmas.{same_breach}
+use Rattle.tacho_law.proofs.ExactlyLemmas.{OfBelow, below_none, below_skip, below_add, exactly_as}
 
 -- the breach of a rest that starts more than six days after the end of another
 pub record IsLateAfter (a b : Run) (breach : Breach) : Type 0 where

@@ -6,15 +6,15 @@ use Rattle.std.specs.List.{All, AllPairs, Contains}
 use Rattle.std.proofs.lemmas.Bool.{cases_lt}
 use Rattle.std.proofs.lemmas.List.{get_or_default, take_more, take_all}
 use Rattle.std.proofs.lemmas.List.Elements.{All-push, All-contains}
-use Rattle.tacho_hours.specs.declared.run.Run.{Run}
-use Rattle.tacho_hours.specs.Runs.{IsRestRun, Before, minutes_of, AreRestsOf}
-use Rattle.tacho_hours.specs.Line.{Line}
-use Rattle.tacho_hours.specs.Weeks.{IsInWeek}
-use Rattle.tacho_hours.specs.Debts.{minutes_before, IsCandidate, IsMainRest}
+use Rattle.tacho_law.specs.declared.run.Run.{Run}
+use Rattle.tacho_law.specs.Runs.{IsRestRun, Before, minutes_of, AreRestsOf}
+use Rattle.tacho_law.specs.Line.{Line}
+use Rattle.tacho_law.specs.Weeks.{IsInWeek}
+use Rattle.tacho_law.specs.Debts.{minutes_before, IsCandidate, IsMainRest}
 use Rattle.tacho_plain.proofs.RunsLemmas.{no_run}
 use Rattle.tacho_plain.specs.MainRests.{IsBetter}
 use Rattle.tacho_plain.proofs.RunsLemmas.{rests_are}
-use Rattle.tacho_hours.proofs.MainRestLemmas.{one_week}
+use Rattle.tacho_law.proofs.MainRestLemmas.{one_week}
 
 -- one more element satisfies `P`
 pub all_more : {A : Type 0} (P : A → Type 0) (xs : List A) (i : ℕ) (d : A)

@@ -5,25 +5,25 @@ use Rattle.std.specs.List.{All, AllPairs, Contains}
 use Rattle.std.proofs.lemmas.Bool.{cases_lt, leb-true, leb-false}
 use Rattle.std.proofs.lemmas.List.{get_or_default}
 use Rattle.std.proofs.lemmas.List.Elements.{All-contains, Contains-get_or}
-use Rattle.tacho_hours.specs.declared.run.Run.{Run}
-use Rattle.tacho_hours.specs.declared.days.DutyDay.{DutyDay}
-use Rattle.tacho_hours.specs.declared.breach.Breach.{Breach}
-use Rattle.tacho_hours.specs.declared.breach.Kind.TheVariants.{B3, B5}
-use Rattle.tacho_hours.specs.Runs.{IsRestRun, AreRestRuns, Before, minutes_of, IsRestOf, AreRestsOf}
-use Rattle.tacho_hours.specs.Line.{Line}
-use Rattle.tacho_hours.specs.Days.{EarlierDay, IsDuty, IsReduced}
-use Rattle.tacho_hours.specs.Exactly.{HasCount}
-use Rattle.tacho_hours.specs.Weeks.{IsInWeek, IsWeeklyRest}
-use Rattle.tacho_hours.specs.Breaches.{IsExtended, IsB3, IsB5}
+use Rattle.tacho_law.specs.declared.run.Run.{Run}
+use Rattle.tacho_law.specs.declared.days.DutyDay.{DutyDay}
+use Rattle.tacho_law.specs.declared.breach.Breach.{Breach}
+use Rattle.tacho_law.specs.declared.breach.Kind.TheVariants.{B3, B5}
+use Rattle.tacho_law.specs.Runs.{IsRestRun, AreRestRuns, Before, minutes_of, IsRestOf, AreRestsOf}
+use Rattle.tacho_law.specs.Line.{Line}
+use Rattle.tacho_law.specs.Days.{EarlierDay, IsDuty, IsReduced}
+use Rattle.tacho_law.specs.Exactly.{HasCount}
+use Rattle.tacho_law.specs.Weeks.{IsInWeek, IsWeeklyRest}
+use Rattle.tacho_law.specs.Breaches.{IsExtended, IsB3, IsB5}
 use Rattle.tacho_plain.proofs.DaysLemmas.{HaveEnded, pasts_rise}
 use Rattle.tacho_plain.proofs.RunsLemmas.{no_run}
 use Rattle.tacho_plain.specs.DayBreaches.{IsInTime, AreTheDays}
 use Rattle.tacho_plain.specs.DailyDriving.{IsLongDay, IsLongDuty}
 use Rattle.tacho_plain.specs.DailyRests.{IsLastEnd}
-use Rattle.tacho_hours.proofs.OrderLemmas.{same_breach}
+use Rattle.tacho_law.proofs.OrderLemmas.{same_breach}
 use Rattle.tacho_plain.proofs.DayFoundLemmas.{no_day, IsOfDays, long_before}
-use Rattle.tacho_hours.proofs.LongDrivingLemmas.{too_much_only}
-use Rattle.tacho_hours.proofs.ExactlyLemmas.{how_many_only, how_many_as}
+use Rattle.tacho_law.proofs.LongDrivingLemmas.{too_much_only}
+use Rattle.tacho_law.proofs.ExactlyLemmas.{how_many_only, how_many_as}
 use Rattle.tacho_plain.proofs.TallyLemmas.{Tallied, IsTallied, AreKeys, tally_counts}
 
 -- a duty day has a minute, and so has its rest

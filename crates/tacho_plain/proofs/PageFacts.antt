@@ -1,7 +1,7 @@
 -- The examples of docs/RULES.md, checked against the definitions: with another value here, this file is refused.
 use Rattle.std.proofs.Common.{inl, inr, refl, arith}
-use Rattle.tacho_hours.specs.declared.breach.Kind.TheVariants.{B2}
-use Rattle.tacho_hours.proofs.PageFacts.{at, rest_between, day_to}
+use Rattle.tacho_law.specs.declared.breach.Kind.TheVariants.{B2}
+use Rattle.tacho_law.proofs.PageFacts.{at, rest_between, day_to}
 use Rattle.tacho_plain.specs.DailyRests.{IsShortRest}
 use Rattle.tacho_plain.specs.MainRests.{IsBetter}
 

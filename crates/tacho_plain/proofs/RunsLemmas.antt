@@ -6,11 +6,11 @@ use Rattle.std.proofs.lemmas.Bool.{cases_lt}
 use Rattle.std.proofs.lemmas.List.{drop_more, get_or_default}
 use Rattle.std.proofs.lemmas.List.Elements.{Contains-get_or}
 use Rattle.tacho_time.specs.declared.span.Span.{Span}
-use Rattle.tacho_hours.specs.declared.run.Run.{Run}
-use Rattle.tacho_hours.specs.Line.{Line}
-use Rattle.tacho_hours.specs.Runs.{IsRestOf, AreRestsOf, AreRuns, Before}
-use Rattle.tacho_hours.proofs.ExactlyLemmas.{at_index}
-use Rattle.tacho_hours.proofs.RunsLemmas.{Running}
+use Rattle.tacho_law.specs.declared.run.Run.{Run}
+use Rattle.tacho_law.specs.Line.{Line}
+use Rattle.tacho_law.specs.Runs.{IsRestOf, AreRestsOf, AreRuns, Before}
+use Rattle.tacho_law.proofs.ExactlyLemmas.{at_index}
+use Rattle.tacho_law.proofs.RunsLemmas.{Running}
 
 -- in a loop at index i, with the span s
 pub running_here : (spans : List Span) (i : ℕ) (s : Span) (past : ℕ) (runs : List Run) (start : ℕ)

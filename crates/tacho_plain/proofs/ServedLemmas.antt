@@ -1,16 +1,16 @@
 -- The loop over weeks finds those up to which no choice of weeks for the weekly rests can serve (`lacking_weeks`).
 use Rattle.std.proofs.Common.{◌≡◌, ℕ, ◌+◌, ◌<◌, ◌≤◌, inl, inr, List, [], ◌∷◌, ◌++◌, refl, sym, subst, arith}
-use Rattle.tacho_hours.specs.declared.breach.Breach.{Breach}
-use Rattle.tacho_hours.specs.declared.breach.Kind.TheVariants.{B9}
-use Rattle.tacho_hours.specs.Line.{Line}
-use Rattle.tacho_hours.specs.Weeks.{week_start}
-use Rattle.tacho_hours.specs.Choice.{CanServe}
-use Rattle.tacho_hours.specs.Anew.{Fails, EndedBy}
-use Rattle.tacho_hours.specs.SoFar.{AreCollected}
-use Rattle.tacho_hours.specs.Breaches.{IsLacking}
-use Rattle.tacho_hours.proofs.AnewLemmas.{IsStart, starts_late, none_at, fails_at}
-use Rattle.tacho_hours.proofs.LackingWeekLemmas.{serves_less, LackingBelow}
-use Rattle.tacho_hours.proofs.LackingWeekLemmas.{lacking_none, lacking_skip, lacking_add, lacking_all}
+use Rattle.tacho_law.specs.declared.breach.Breach.{Breach}
+use Rattle.tacho_law.specs.declared.breach.Kind.TheVariants.{B9}
+use Rattle.tacho_law.specs.Line.{Line}
+use Rattle.tacho_law.specs.Weeks.{week_start}
+use Rattle.tacho_law.specs.Choice.{CanServe}
+use Rattle.tacho_law.specs.Anew.{Fails, EndedBy}
+use Rattle.tacho_law.specs.SoFar.{AreCollected}
+use Rattle.tacho_law.specs.Breaches.{IsLacking}
+use Rattle.tacho_law.proofs.AnewLemmas.{IsStart, starts_late, none_at, fails_at}
+use Rattle.tacho_law.proofs.LackingWeekLemmas.{serves_less, LackingBelow}
+use Rattle.tacho_law.proofs.LackingWeekLemmas.{lacking_none, lacking_skip, lacking_add, lacking_all}
 use Rattle.tacho_choice.specs.Weeks.{first_week_of, IsInWeeks}
 
 -- a single week can always be served

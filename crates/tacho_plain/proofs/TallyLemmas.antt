@@ -5,12 +5,12 @@ use Rattle.std.specs.List.{All, AllPairs, Contains}
 use Rattle.std.proofs.lemmas.Bool.{cases_lt}
 use Rattle.std.proofs.lemmas.List.{take_more, length-take-le, get_or-take, get_or_default}
 use Rattle.std.proofs.lemmas.List.Elements.{Contains-push, Contains-append_left, Contains-push_cases, Contains-get_or}
-use Rattle.tacho_hours.specs.declared.days.DutyDay.{DutyDay}
-use Rattle.tacho_hours.specs.Days.{EarlierDay}
-use Rattle.tacho_hours.specs.Exactly.{HasCount}
+use Rattle.tacho_law.specs.declared.days.DutyDay.{DutyDay}
+use Rattle.tacho_law.specs.Days.{EarlierDay}
+use Rattle.tacho_law.specs.Exactly.{HasCount}
 use Rattle.tacho_plain.proofs.KeptLemmas.{AreKept, kept_none, kept_nothing, kept_add}
 use Rattle.tacho_plain.proofs.KeptLemmas.{kept_skip, seen_before}
-use Rattle.tacho_hours.proofs.ExactlyLemmas.{how_many_as}
+use Rattle.tacho_law.proofs.ExactlyLemmas.{how_many_as}
 use Rattle.tacho_plain.specs.DayBreaches.{IsInTime, AreTheDays}
 use Rattle.tacho_plain.proofs.DayFoundLemmas.{no_day}
 

@@ -8,7 +8,7 @@ use Rattle.std.proofs.Math.Dec.{ltb}
 use Rattle.std.proofs.lemmas.Bool.{cases_lt, ltb-true, ltb-false, leb-true, leb-false}
 use Rattle.std.proofs.lemmas.List.{get_or_default, get_or-take, get_or-drop, length-take-le, length-drop}
 use Rattle.std.proofs.lemmas.List.Elements.{Contains-get_or}
-use Rattle.tacho_hours.specs.declared.run.Run.{Run}
+use Rattle.tacho_law.specs.declared.run.Run.{Run}
 use Rattle.tacho_plain.proofs.RunsLemmas.{no_run}
 use Rattle.tacho_plain.proofs.DaysLemmas.{HaveEnded}
 use Rattle.tacho_plain.specs.Rests.{AreInTime}

@@ -4,9 +4,9 @@ use Rattle.std.proofs.Common.{◌≡◌, ◌≢◌, ℕ, ◌+◌, ◌-◌, ◌<�
 use Rattle.std.proofs.Common.{length, get_or, sym, subst, arith}
 use Rattle.std.specs.Prelude.{◌↔◌, ◌&&◌, not}
 use Rattle.std.proofs.lemmas.Bool.{cases_lt}
-use Rattle.tacho_hours.specs.Line.{Line}
-use Rattle.tacho_hours.specs.Weeks.{IsWhollyAtRest, IsWeeklyRest}
-use Rattle.tacho_hours.specs.Choice.{CanServe}
+use Rattle.tacho_law.specs.Line.{Line}
+use Rattle.tacho_law.specs.Weeks.{IsWhollyAtRest, IsWeeklyRest}
+use Rattle.tacho_law.specs.Choice.{CanServe}
 use Rattle.tacho_choice.specs.declared.outcome.Outcome.{Outcome}
 use Rattle.tacho_choice.specs.declared.week.WeekOfRests.{WeekOfRests}
 use Rattle.tacho_choice.specs.Step.{place_of, IsFirst, IsNext}

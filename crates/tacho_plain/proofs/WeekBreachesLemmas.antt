@@ -6,19 +6,19 @@ use Rattle.std.proofs.lemmas.Bool.{cases_lt}
 use Rattle.tacho_time.specs.declared.span.Activity.{Activity}
 use Rattle.tacho_time.specs.declared.span.Activity.TheVariants.{Rest, Drive}
 use Rattle.tacho_time.specs.declared.span.Span.{Span}
-use Rattle.tacho_hours.specs.declared.breach.Breach.{Breach}
-use Rattle.tacho_hours.specs.declared.breach.Kind.{Kind}
-use Rattle.tacho_hours.specs.declared.breach.Kind.TheVariants.{B1, B2, B3, B4, B5, B6, B7, B8, B9, B10}
-use Rattle.tacho_hours.specs.Line.{IsExamined, line_of}
-use Rattle.tacho_hours.specs.Driving.{driving, IsDrivingMinute}
-use Rattle.tacho_hours.specs.Weeks.{week_start}
-use Rattle.tacho_hours.specs.Order.{Apart, Earlier}
-use Rattle.tacho_hours.specs.SoFar.{AreCollected}
-use Rattle.tacho_hours.proofs.ExactlyLemmas.{exactly_none, exactly_as, exactly_skip, exactly_add}
-use Rattle.tacho_hours.specs.Breaches.{IsB6, IsB7, IsWeekBreach, AreWeekBreaches}
-use Rattle.tacho_hours.proofs.DrivingLemmas.{line_from_past}
-use Rattle.tacho_hours.proofs.RunsLemmas.{line_before}
-use Rattle.tacho_hours.proofs.LongDrivingLemmas.{too_much_only, too_little}
+use Rattle.tacho_law.specs.declared.breach.Breach.{Breach}
+use Rattle.tacho_law.specs.declared.breach.Kind.{Kind}
+use Rattle.tacho_law.specs.declared.breach.Kind.TheVariants.{B1, B2, B3, B4, B5, B6, B7, B8, B9, B10}
+use Rattle.tacho_law.specs.Line.{IsExamined, line_of}
+use Rattle.tacho_law.specs.Driving.{driving, IsDrivingMinute}
+use Rattle.tacho_law.specs.Weeks.{week_start}
+use Rattle.tacho_law.specs.Order.{Apart, Earlier}
+use Rattle.tacho_law.specs.SoFar.{AreCollected}
+use Rattle.tacho_law.proofs.ExactlyLemmas.{exactly_none, exactly_as, exactly_skip, exactly_add}
+use Rattle.tacho_law.specs.Breaches.{IsB6, IsB7, IsWeekBreach, AreWeekBreaches}
+use Rattle.tacho_law.proofs.DrivingLemmas.{line_from_past}
+use Rattle.tacho_law.proofs.RunsLemmas.{line_before}
+use Rattle.tacho_law.proofs.LongDrivingLemmas.{too_much_only, too_little}
 use Rattle.tacho_plain.specs.WeekBreaches.{IsLongWeek, IsLongPair, IsOfWeeks, AreOfWeeks}
 
 -- the breaches of the earlier weeks, and the week's own breach

@@ -6,10 +6,10 @@ use Rattle.std.specs.List.{AllPairs, Contains}
 use Rattle.std.proofs.lemmas.Bool.{cases_lt}
 use Rattle.std.proofs.lemmas.List.{take_more, take_all, length-append, get_or_append_left, get_or_push}
 use Rattle.std.proofs.lemmas.List.Elements.{Contains-get_or, Contains-push, Contains-append_left, Contains-push_cases}
-use Rattle.tacho_hours.specs.declared.run.Run.{Run}
-use Rattle.tacho_hours.specs.Line.{Line}
-use Rattle.tacho_hours.specs.Runs.{Before, AreRestsOf}
-use Rattle.tacho_hours.specs.Weeks.{week_start, IsWeeklyRest}
+use Rattle.tacho_law.specs.declared.run.Run.{Run}
+use Rattle.tacho_law.specs.Line.{Line}
+use Rattle.tacho_law.specs.Runs.{Before, AreRestsOf}
+use Rattle.tacho_law.specs.Weeks.{week_start, IsWeeklyRest}
 use Rattle.tacho_choice.specs.declared.week.WeekOfRests.{WeekOfRests}
 use Rattle.tacho_choice.specs.Weeks.{IsInWeeks, IsWeekOfRests, week_none, week_with}
 use Rattle.tacho_choice.proofs.SeenLemmas.{seen_none, seen_more, seen_agree}

@@ -1,8 +1,8 @@
 -- Private to tacho_plain: The weeks for which all choices of a week for each weekly rest are tried (Regulation (EC) 561/2006, Articles
 -- 8(6), first subparagraph, and 8(9)).
 use Rattle.std.specs.Prelude.{ℕ, ◌+◌, ◌<◌, ◌≤◌, List, length, slice_index_or}
-use Rattle.tacho_hours.specs.Line.{Line}
-use Rattle.tacho_hours.specs.Weeks.{IsWeeklyRest}
+use Rattle.tacho_law.specs.Line.{Line}
+use Rattle.tacho_law.specs.Weeks.{IsWeeklyRest}
 use Rattle.tacho_choice.specs.declared.week.WeekOfRests.{WeekOfRests}
 use Rattle.tacho_choice.specs.Weeks.{IsWeekOfRests, week_none}
 

@@ -1,11 +1,11 @@
 -- Private to tacho_plain: Terms of the rules on daily rests (Regulation (EC) 561/2006, Articles 8(2) and 8(4)).
 use Rattle.std.specs.Prelude.{◌≡◌, ℕ, ◌+◌, ◌-◌, ◌≤◌, List, Contains, min}
-use Rattle.tacho_hours.specs.declared.run.Run.{Run}
-use Rattle.tacho_hours.specs.declared.days.DutyDay.{DutyDay}
-use Rattle.tacho_hours.specs.declared.breach.Breach.{Breach}
-use Rattle.tacho_hours.specs.declared.breach.Kind.TheVariants.{B2}
-use Rattle.tacho_hours.specs.Days.{HasPortion}
-use Rattle.tacho_hours.specs.Limits.{daily_rest, minutes_of_day}
+use Rattle.tacho_law.specs.declared.run.Run.{Run}
+use Rattle.tacho_law.specs.declared.days.DutyDay.{DutyDay}
+use Rattle.tacho_law.specs.declared.breach.Breach.{Breach}
+use Rattle.tacho_law.specs.declared.breach.Kind.TheVariants.{B2}
+use Rattle.tacho_law.specs.Days.{HasPortion}
+use Rattle.tacho_law.specs.Limits.{daily_rest, minutes_of_day}
 
 -- B2, of one day: fewer than nine hours of rest in the 24 from the day's start (Article 8(2))
 pub record IsShortRest (day : DutyDay) (breach : Breach) : Type 0 where

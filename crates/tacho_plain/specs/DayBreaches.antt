@@ -1,14 +1,14 @@
 -- Private to tacho_plain: Terms of the pass over duty days: breaches of daily rests (Regulation (EC) 561/2006, Articles 8(2) and 8(4)) and
 -- of a day's driving (Article 6(1)).
 use Rattle.std.specs.Prelude.{◌≡◌, ◌+◌, ◌<◌, ◌≤◌, ◌⊎◌, List}
-use Rattle.tacho_hours.specs.declared.days.DutyDay.{DutyDay}
-use Rattle.tacho_hours.specs.declared.breach.Breach.{Breach}
-use Rattle.tacho_hours.specs.declared.breach.Kind.TheVariants.{B2, B3, B4, B5}
-use Rattle.tacho_hours.specs.Line.{Line}
-use Rattle.tacho_hours.specs.Exactly.{AreExactly}
-use Rattle.tacho_hours.specs.Days.{IsDuty, EarlierDay}
-use Rattle.tacho_hours.specs.Breaches.{IsB2, IsB3, IsB4, IsB5}
-use Rattle.tacho_hours.specs.Limits.{daily_rest, latest, first_week}
+use Rattle.tacho_law.specs.declared.days.DutyDay.{DutyDay}
+use Rattle.tacho_law.specs.declared.breach.Breach.{Breach}
+use Rattle.tacho_law.specs.declared.breach.Kind.TheVariants.{B2, B3, B4, B5}
+use Rattle.tacho_law.specs.Line.{Line}
+use Rattle.tacho_law.specs.Exactly.{AreExactly}
+use Rattle.tacho_law.specs.Days.{IsDuty, EarlierDay}
+use Rattle.tacho_law.specs.Breaches.{IsB2, IsB3, IsB4, IsB5}
+use Rattle.tacho_law.specs.Limits.{daily_rest, latest, first_week}
 
 -- the duty days of a line, in order of time
 abbrev pub AreDutyDays : Line → List DutyDay → Type 0

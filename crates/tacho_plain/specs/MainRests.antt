@@ -1,8 +1,8 @@
 -- Private to tacho_plain: Which rest is the main rest of its week (Regulation (EC) 561/2006, Articles 4(h) and 8(6b), as amended by (EU)
 -- 2020/1054).
 use Rattle.std.specs.Prelude.{◌≡◌, ℕ, ◌<◌, ◌⊎◌}
-use Rattle.tacho_hours.specs.declared.run.Run.{Run}
-use Rattle.tacho_hours.specs.Debts.{minutes_before}
+use Rattle.tacho_law.specs.declared.run.Run.{Run}
+use Rattle.tacho_law.specs.Debts.{minutes_before}
 
 -- the rest has more minutes before the horizon, or as many and an earlier start
 abbrev pub IsBetter : ℕ → Run → Run → Type 0

@@ -1,8 +1,8 @@
 -- Private to tacho_plain: Terms of the passes over rests in order of time.
 use Rattle.std.specs.Prelude.{◌<◌, ◌≤◌, List, All, AllPairs}
-use Rattle.tacho_hours.specs.declared.run.Run.{Run}
-use Rattle.tacho_hours.specs.Limits.{latest}
-use Rattle.tacho_hours.specs.Runs.{Before}
+use Rattle.tacho_law.specs.declared.run.Run.{Run}
+use Rattle.tacho_law.specs.Limits.{latest}
+use Rattle.tacho_law.specs.Runs.{Before}
 
 -- the rests are in order of time, none is empty, and each starts by the end of 2099
 pub record AreInTime (rests : List Run) : Type 0 where

@@ -1,13 +1,13 @@
 -- Private to tacho_plain: Terms of the pass over weeks: driving in a week and in two neighbouring weeks (Regulation (EC) 561/2006, Articles
 -- 6(2) and 6(3)).
 use Rattle.std.specs.Prelude.{ℕ, ◌+◌, ◌<◌, ◌≤◌, ◌⊎◌, List}
-use Rattle.tacho_hours.specs.declared.breach.Breach.{Breach}
-use Rattle.tacho_hours.specs.declared.breach.Kind.TheVariants.{B6, B7}
-use Rattle.tacho_hours.specs.Line.{Line}
-use Rattle.tacho_hours.specs.Weeks.{week_start}
-use Rattle.tacho_hours.specs.SoFar.{AreCollected}
-use Rattle.tacho_hours.specs.Limits.{driving_in_week, driving_in_two_weeks}
-use Rattle.tacho_hours.specs.Breaches.{IsDrivingBreach}
+use Rattle.tacho_law.specs.declared.breach.Breach.{Breach}
+use Rattle.tacho_law.specs.declared.breach.Kind.TheVariants.{B6, B7}
+use Rattle.tacho_law.specs.Line.{Line}
+use Rattle.tacho_law.specs.Weeks.{week_start}
+use Rattle.tacho_law.specs.SoFar.{AreCollected}
+use Rattle.tacho_law.specs.Limits.{driving_in_week, driving_in_two_weeks}
+use Rattle.tacho_law.specs.Breaches.{IsDrivingBreach}
 
 -- more than 56 hours (3360 minutes) in a week (Article 6(2))
 abbrev pub IsLongWeek : Line → ℕ → Breach → Type 0

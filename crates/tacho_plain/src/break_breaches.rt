@@ -1,10 +1,10 @@
 ghost use Rattle.std.specs.Prelude.{◌<◌, ◌≤◌, All, AllPairs, IfOk, MatchOption};
-ghost use Rattle.tacho_hours.specs.Line.{line_of, IsExamined};
-ghost use Rattle.tacho_hours.specs.Runs.{AreRuns};
-ghost use Rattle.tacho_hours.specs.Driving.{driving};
-ghost use Rattle.tacho_hours.specs.Order.{AreBreaches};
-ghost use Rattle.tacho_hours.specs.Breaches.{IsBreakBreach, AreBreakBreaches};
-ghost use Rattle.tacho_hours.specs.Limits.{driving_before_break};
+ghost use Rattle.tacho_law.specs.Line.{line_of, IsExamined};
+ghost use Rattle.tacho_law.specs.Runs.{AreRuns};
+ghost use Rattle.tacho_law.specs.Driving.{driving};
+ghost use Rattle.tacho_law.specs.Order.{AreBreaches};
+ghost use Rattle.tacho_law.specs.Breaches.{IsBreakBreach, AreBreakBreaches};
+ghost use Rattle.tacho_law.specs.Limits.{driving_before_break};
 ghost use Rattle.tacho_plain.specs.BreakBreaches.{IsLongPeriod};
 
 use crate::break_runs::complete_breaks;
@@ -12,8 +12,8 @@ use crate::driving::{Excess, driving_minute, excess_between};
 use crate::examined::Examined;
 use crate::runs::rest_runs;
 use std::alloc::{AllocError, Global};
-use tacho_hours::limits::DRIVING_BEFORE_BREAK;
-use tacho_hours::{Breach, Kind, Run};
+use tacho_law::limits::DRIVING_BEFORE_BREAK;
+use tacho_law::{Breach, Kind, Run};
 use tacho_time::{Minute, Span};
 
 /// Returns the breach from `from` to before `to`, if there are too many driving minutes.

@@ -1,11 +1,11 @@
 ghost use Rattle.std.specs.Prelude.{◌≤◌, ◌<◌, ◌↔◌, ◌⊎◌, All, AllPairs, IfOk, IsTrue};
-ghost use Rattle.tacho_hours.specs.Runs.{AreRuns};
-ghost use Rattle.tacho_hours.specs.Breaks.{AreCompleteBreaks};
-ghost use Rattle.tacho_hours.specs.Limits.{whole_break, last_part_of_break};
+ghost use Rattle.tacho_law.specs.Runs.{AreRuns};
+ghost use Rattle.tacho_law.specs.Breaks.{AreCompleteBreaks};
+ghost use Rattle.tacho_law.specs.Limits.{whole_break, last_part_of_break};
 
 use std::alloc::{AllocError, Global};
-use tacho_hours::Run;
-use tacho_hours::limits::{FIRST_PART_OF_BREAK, LAST_PART_OF_BREAK, WHOLE_BREAK};
+use tacho_law::Run;
+use tacho_law::limits::{FIRST_PART_OF_BREAK, LAST_PART_OF_BREAK, WHOLE_BREAK};
 
 /// True if a run of this many minutes completes a break, with or without a first part before it.
 fn completes(minutes: u32, has_first_part: bool) -> bool

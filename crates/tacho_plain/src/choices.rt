@@ -1,9 +1,9 @@
 ghost use Rattle.std.specs.Prelude.{◌≡◌, ◌+◌, ◌<◌, ◌≤◌, ◌↔◌, ◌&&◌, ℕ, IfOk, IsTrue, length, not, true};
-ghost use Rattle.tacho_hours.specs.Line.{Line};
-ghost use Rattle.tacho_hours.specs.Limits.{weekly_rest};
-ghost use Rattle.tacho_hours.specs.Runs.{AreRestsOf};
-ghost use Rattle.tacho_hours.specs.Weeks.{IsWeeklyRest};
-ghost use Rattle.tacho_hours.specs.Choice.{CanServe};
+ghost use Rattle.tacho_law.specs.Line.{Line};
+ghost use Rattle.tacho_law.specs.Limits.{weekly_rest};
+ghost use Rattle.tacho_law.specs.Runs.{AreRestsOf};
+ghost use Rattle.tacho_law.specs.Weeks.{IsWeeklyRest};
+ghost use Rattle.tacho_law.specs.Choice.{CanServe};
 ghost use Rattle.tacho_choice.specs.Step.{counted_of, may, IsFirst, IsNext};
 ghost use Rattle.tacho_choice.specs.Weeks.{IsInWeeks, IsWeekOfRests, CanReach};
 ghost use Rattle.tacho_plain.specs.Rests.{AreInTime};
@@ -12,7 +12,7 @@ ghost use Rattle.tacho_plain.specs.Choices.{AreWeeksOf};
 use crate::main_rests::touching;
 use std::alloc::{AllocError, Global};
 use tacho_choice::{Outcome, WeekOfRests, WeeklyRests};
-use tacho_hours::Run;
+use tacho_law::Run;
 use tacho_time::{Week, first_minute};
 
 /// Returns a week, built from the weekly rests that touch it.

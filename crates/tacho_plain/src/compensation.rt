@@ -1,21 +1,21 @@
 ghost use Rattle.std.specs.Prelude.{◌≡◌, ◌-◌, ◌+◌, ◌<◌, ◌≤◌, ◌↔◌, ℕ, AllPairs, Contains, IfOk, IsTrue, MatchOption};
 ghost use Rattle.std.specs.Prelude.{None as NoPayer};
-ghost use Rattle.tacho_hours.specs.declared.run.Run.{Run as RunValue};
-ghost use Rattle.tacho_hours.specs.declared.debt.Debt.{Debt as DebtValue};
-ghost use Rattle.tacho_hours.specs.Runs.{IsRestRun, AreRestsOf};
+ghost use Rattle.tacho_law.specs.declared.run.Run.{Run as RunValue};
+ghost use Rattle.tacho_law.specs.declared.debt.Debt.{Debt as DebtValue};
+ghost use Rattle.tacho_law.specs.Runs.{IsRestRun, AreRestsOf};
 ghost use Rattle.tacho_plain.specs.Rests.{AreInTime};
-ghost use Rattle.tacho_hours.specs.Line.{Line};
-ghost use Rattle.tacho_hours.specs.Debts.{share, paid_from, CanPay, HasRoom, IsMainRest, Owes, Pays, AreDebts};
-ghost use Rattle.tacho_hours.specs.Weeks.{week_start};
-ghost use Rattle.tacho_hours.specs.SoFar.{AreCollected};
-ghost use Rattle.tacho_hours.specs.Limits.{daily_rest, weekly_rest, latest};
+ghost use Rattle.tacho_law.specs.Line.{Line};
+ghost use Rattle.tacho_law.specs.Debts.{share, paid_from, CanPay, HasRoom, IsMainRest, Owes, Pays, AreDebts};
+ghost use Rattle.tacho_law.specs.Weeks.{week_start};
+ghost use Rattle.tacho_law.specs.SoFar.{AreCollected};
+ghost use Rattle.tacho_law.specs.Limits.{daily_rest, weekly_rest, latest};
 ghost use Rattle.tacho_plain.specs.RestBreaches.{IsLastRun, IsDebtOf};
-ghost use Rattle.tacho_hours.specs.Breaches.{IsOverdue};
+ghost use Rattle.tacho_law.specs.Breaches.{IsOverdue};
 
 use crate::main_rests::{is_main, kept_minutes, touching};
 use std::alloc::{AllocError, Global};
-use tacho_hours::limits::{REGULAR_WEEKLY_REST, WEEKS_TO_PAY};
-use tacho_hours::{Breach, Debt, Kind, Run, known_minutes};
+use tacho_law::limits::{REGULAR_WEEKLY_REST, WEEKS_TO_PAY};
+use tacho_law::{Breach, Debt, Kind, Run, known_minutes};
 use tacho_time::{Minute, Week, first_minute, week_of};
 
 /// Returns the debt, without a payer, of the week whose main rest `rest` is, if the rest is too short and the last run starts in a later

@@ -1,6 +1,6 @@
 ghost use Rattle.std.specs.Prelude.{◌<◌, IfOk};
-ghost use Rattle.tacho_hours.specs.Line.{line_of, IsExamined};
-ghost use Rattle.tacho_hours.specs.Breaches.{AreDayBreaches};
+ghost use Rattle.tacho_law.specs.Line.{line_of, IsExamined};
+ghost use Rattle.tacho_law.specs.Breaches.{AreDayBreaches};
 
 use crate::daily_driving::of_driving;
 use crate::daily_rests::of_rests;
@@ -8,7 +8,7 @@ use crate::duty::duty_days;
 use crate::examined::Examined;
 use crate::runs::rest_runs;
 use std::alloc::{AllocError, Global};
-use tacho_hours::{Breach, put_in_order};
+use tacho_law::{Breach, put_in_order};
 use tacho_time::{Minute, Span};
 
 /// Returns the breaches of the rules on days (Article 6(1), Article 8(2) and (4)) from `base` to before `past`, in order of time.

@@ -1,6 +1,6 @@
 ghost use Rattle.std.specs.Prelude.{◌≡◌, ◌<◌, ◌≤◌, All, MatchOption, length, take};
-ghost use Rattle.tacho_hours.specs.Line.{line_of, IsExamined};
-ghost use Rattle.tacho_hours.specs.Driving.{driving, IsDrivingMinute, IsDrivingAbove};
+ghost use Rattle.tacho_law.specs.Line.{line_of, IsExamined};
+ghost use Rattle.tacho_law.specs.Driving.{driving, IsDrivingMinute, IsDrivingAbove};
 
 use crate::examined::Examined;
 use tacho_pass::is_drive;

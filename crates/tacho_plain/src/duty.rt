@@ -1,11 +1,11 @@
 ghost use Rattle.std.specs.Prelude.{◌<◌, All, AllPairs, IfOk};
-ghost use Rattle.tacho_hours.specs.Runs.{AreRuns, AreRestRuns, AreRestsOf};
-ghost use Rattle.tacho_hours.specs.Line.{Line};
+ghost use Rattle.tacho_law.specs.Runs.{AreRuns, AreRestRuns, AreRestsOf};
+ghost use Rattle.tacho_law.specs.Line.{Line};
 ghost use Rattle.tacho_plain.specs.DayBreaches.{AreDutyDays};
 
 use std::alloc::{AllocError, Global};
-use tacho_hours::limits::DAILY_REST;
-use tacho_hours::{DutyDay, Run};
+use tacho_law::limits::DAILY_REST;
+use tacho_law::{DutyDay, Run};
 
 /// Returns the rest runs of at least `least` minutes, in order of time (Article 4(g) and (h) of Regulation (EC) 561/2006).
 pub fn long_rests(alloc: Global, runs: &[Run], least: u32) -> Result<Vec<Run>, AllocError>

@@ -1,16 +1,16 @@
 ghost use Rattle.std.specs.Prelude.{◌≡◌, ◌≢◌, ◌<◌, ◌≤◌, ◌⊎◌, ◌↔◌, ℕ, AllPairs, Contains, IsTrue};
-ghost use Rattle.tacho_hours.specs.declared.run.Run.{Run as RunValue};
-ghost use Rattle.tacho_hours.specs.Runs.{IsRestRun, Before, AreRestsOf};
+ghost use Rattle.tacho_law.specs.declared.run.Run.{Run as RunValue};
+ghost use Rattle.tacho_law.specs.Runs.{IsRestRun, Before, AreRestsOf};
 ghost use Rattle.tacho_plain.specs.Rests.{AreInTime};
-ghost use Rattle.tacho_hours.specs.Line.{Line};
-ghost use Rattle.tacho_hours.specs.Weeks.{IsInWeek};
-ghost use Rattle.tacho_hours.specs.Debts.{IsMainRest};
-ghost use Rattle.tacho_hours.specs.Limits.{weekly_rest, first_week, latest};
+ghost use Rattle.tacho_law.specs.Line.{Line};
+ghost use Rattle.tacho_law.specs.Weeks.{IsInWeek};
+ghost use Rattle.tacho_law.specs.Debts.{IsMainRest};
+ghost use Rattle.tacho_law.specs.Limits.{weekly_rest, first_week, latest};
 ghost use Rattle.tacho_plain.specs.MainRests.{IsBetter};
-ghost use Rattle.tacho_hours.specs.MainRests.{IsKept};
+ghost use Rattle.tacho_law.specs.MainRests.{IsKept};
 
-use tacho_hours::limits::{DAILY_REST, FIRST_WEEK, REGULAR_WEEKLY_REST, WEEKLY_REST};
-use tacho_hours::{Run, known_minutes};
+use tacho_law::limits::{DAILY_REST, FIRST_WEEK, REGULAR_WEEKLY_REST, WEEKLY_REST};
+use tacho_law::{Run, known_minutes};
 use tacho_time::{Minute, Week, first_minute, week_of};
 
 /// Returns the rests that have a minute from `from` to before `to`.

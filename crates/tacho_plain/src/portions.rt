@@ -1,10 +1,10 @@
 ghost use Rattle.std.specs.Prelude.{◌<◌, ◌≤◌, ◌↔◌, All, AllPairs, Contains, IsTrue};
-ghost use Rattle.tacho_hours.specs.declared.run.Run.{Run as RunValue};
-ghost use Rattle.tacho_hours.specs.Runs.{AreRuns};
-ghost use Rattle.tacho_hours.specs.Days.{HasRegularRest, HasReducedRest};
+ghost use Rattle.tacho_law.specs.declared.run.Run.{Run as RunValue};
+ghost use Rattle.tacho_law.specs.Runs.{AreRuns};
+ghost use Rattle.tacho_law.specs.Days.{HasRegularRest, HasReducedRest};
 
-use tacho_hours::limits::{DAILY_REST, REGULAR_DAILY_REST, WEEKLY_REST};
-use tacho_hours::{DutyDay, Run, has_portion};
+use tacho_law::limits::{DAILY_REST, REGULAR_DAILY_REST, WEEKLY_REST};
+use tacho_law::{DutyDay, Run, has_portion};
 
 /// True if one of the runs is between two minutes.
 fn has_run_between(runs: &[Run], from: u32, to: u32) -> bool

@@ -1,11 +1,11 @@
 ghost use Rattle.std.specs.Prelude.{◌≤◌, IfOk};
-ghost use Rattle.tacho_hours.specs.Line.{line_of, IsBase, IsExamined, Line};
-ghost use Rattle.tacho_hours.specs.Runs.{AreRestsOf};
+ghost use Rattle.tacho_law.specs.Line.{line_of, IsBase, IsExamined, Line};
+ghost use Rattle.tacho_law.specs.Runs.{AreRestsOf};
 ghost use Rattle.tacho_choice.specs.Weeks.{IsInWeeks};
 ghost use Rattle.tacho_plain.specs.Rests.{AreInTime};
-ghost use Rattle.tacho_hours.specs.Breaches.{AreRestBreaches, IsLate, IsLacking};
-ghost use Rattle.tacho_hours.specs.SoFar.{AreCollected};
-ghost use Rattle.tacho_hours.specs.Limits.{weekly_rest, latest};
+ghost use Rattle.tacho_law.specs.Breaches.{AreRestBreaches, IsLate, IsLacking};
+ghost use Rattle.tacho_law.specs.SoFar.{AreCollected};
+ghost use Rattle.tacho_law.specs.Limits.{weekly_rest, latest};
 
 use crate::choices::{can_serve, weeks_of_rests};
 use crate::compensation::{debts_of, overdue};
@@ -13,8 +13,8 @@ use crate::duty::long_rests;
 use crate::examined::Examined;
 use crate::runs::rest_runs;
 use std::alloc::{AllocError, Global};
-use tacho_hours::limits::{DAILY_REST, SIX_DAYS, WEEKLY_REST};
-use tacho_hours::{Breach, Kind, Run, put_in_order};
+use tacho_law::limits::{DAILY_REST, SIX_DAYS, WEEKLY_REST};
+use tacho_law::{Breach, Kind, Run, put_in_order};
 use tacho_pass::Found;
 use tacho_time::{Minute, Span, Week, first_minute, week_of};
 

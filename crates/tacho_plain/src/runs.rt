@@ -1,10 +1,10 @@
 ghost use Rattle.std.specs.Prelude.{IfOk};
-ghost use Rattle.tacho_hours.specs.Line.{line_of, IsExamined};
-ghost use Rattle.tacho_hours.specs.Runs.{AreRestRuns};
+ghost use Rattle.tacho_law.specs.Line.{line_of, IsExamined};
+ghost use Rattle.tacho_law.specs.Runs.{AreRestRuns};
 
 use crate::examined::Examined;
 use std::alloc::{AllocError, Global};
-use tacho_hours::{FAR, Run};
+use tacho_law::{FAR, Run};
 use tacho_pass::is_rest;
 
 /// Returns the rest runs of the line of spans from `base` to `past`, in order of time.

@@ -19,9 +19,9 @@ use Rattle.tacho_line.specs.declared.horizon.Cause.TheVariants.{Unknown, Crew}
 use Rattle.tacho_line.specs.declared.horizon.Horizon.{Horizon}
 use Rattle.tacho_line.specs.Line.{mark_at, IsSingle, IsCrew, IsCause, IsHorizon}
 use Rattle.tacho_line.proofs.MergeLemmas.{append_gives, front_gives, back_gives}
-use Rattle.tacho_hours.specs.Line.{line_of, Joined, IsBase, IsExamined}
-use Rattle.tacho_hours.proofs.RunsLemmas.{line_before, line_within, line_past, joined_le}
-use Rattle.tacho_hours.proofs.DrivingLemmas.{line_from_past}
+use Rattle.tacho_law.specs.Line.{line_of, Joined, IsBase, IsExamined}
+use Rattle.tacho_law.proofs.RunsLemmas.{line_before, line_within, line_past, joined_le}
+use Rattle.tacho_law.proofs.DrivingLemmas.{line_from_past}
 use Rattle.tacho_pass.specs.declared.found.Found.{Found}
 use Rattle.tacho_rules.specs.declared.report.Report.{Report}
 use Rattle.tacho_rules.specs.declared.scan.Scan.{Scan}

@@ -26,8 +26,8 @@ use Rattle.sqlite.specs.Store.{Ghosts}
 use Rattle.tacho_time.specs.declared.span.Span.{Span}
 use Rattle.tacho_line.specs.declared.horizon.Cause.{Cause}
 use Rattle.tacho_line.specs.declared.horizon.Cause.TheVariants.{Unknown}
-use Rattle.tacho_hours.specs.Line.{Joined}
-use Rattle.tacho_hours.proofs.RunsLemmas.{joined_le}
+use Rattle.tacho_law.specs.Line.{Joined}
+use Rattle.tacho_law.proofs.RunsLemmas.{joined_le}
 use Rattle.tacho_pass.specs.declared.found.Found.{Found}
 use Rattle.tacho_pass.specs.Found.{Appends}
 use Rattle.tacho_pass.specs.Kinds.{is_any}

@@ -12,8 +12,8 @@ use Rattle.tacho_time.specs.Spans.{Covers}
 use Rattle.tacho_line.specs.declared.horizon.Cause.{Cause}
 use Rattle.tacho_line.specs.declared.horizon.Cause.TheVariants.{Unknown, Crew}
 use Rattle.tacho_line.specs.declared.horizon.Horizon.{Horizon}
-use Rattle.tacho_hours.specs.Line.{Joined}
-use Rattle.tacho_hours.specs.Limits.{latest}
+use Rattle.tacho_law.specs.Line.{Joined}
+use Rattle.tacho_law.specs.Limits.{latest}
 use Rattle.tacho_pass.specs.declared.found.Found.{Found}
 use Rattle.tacho_pass.specs.Found.{Appends}
 use Rattle.tacho_pass.specs.Kinds.{is_any}

@@ -3,7 +3,7 @@
 ghost use Rattle.std.specs.Prelude.{◌≡◌, ◌≤◌, false, IfOk, IfErr};
 ghost use Rattle.sqlite.specs.State.{HasCleanDisk};
 ghost use Rattle.sqlite.specs.Held.{state};
-ghost use Rattle.tacho_hours.specs.Limits.{latest};
+ghost use Rattle.tacho_law.specs.Limits.{latest};
 ghost use Rattle.tacho_rules.specs.Scan.{IsAt};
 ghost use Rattle.tacho_tables.specs.Tables.{Tables, HasTables, IsArchive};
 ghost use Rattle.tacho_reading.specs.Taken.{cut, IsStepOf, IsRefusalOf, HasFed, AreFed, EndsAt, ReadsRows, ReadsSettled};

@@ -2,8 +2,8 @@ ghost use Rattle.std.specs.Prelude.{◌≡◌, ◌≤◌, false, IfOk, Ok, map, 
 ghost use Rattle.sqlite.specs.State.{HasCleanDisk};
 ghost use Rattle.sqlite.specs.Held.{state};
 ghost use Rattle.tacho_line.specs.Line.{mark_at};
-ghost use Rattle.tacho_hours.specs.Limits.{latest};
-ghost use Rattle.tacho_hours.specs.Line.{IsBase};
+ghost use Rattle.tacho_law.specs.Limits.{latest};
+ghost use Rattle.tacho_law.specs.Line.{IsBase};
 ghost use Rattle.tacho_state.specs.State.{State};
 ghost use Rattle.tacho_state.specs.Steps.{owner, name_reading, line_reading, entries_reading, file_reading, report_reading};
 ghost use Rattle.tacho_state.specs.Reported.{AreStretchesOf, IsHeldWithin, IsDriverReport};

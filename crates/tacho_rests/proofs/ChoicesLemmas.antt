@@ -6,24 +6,24 @@ use Rattle.std.specs.List.{All}
 use Rattle.std.proofs.lemmas.List.Elements.{All-nil, All-cons}
 use Rattle.std.proofs.lemmas.Bool.{cases_lt}
 use Rattle.std.proofs.lemmas.List.{append-nil}
-use Rattle.tacho_hours.specs.declared.run.Run.{Run}
-use Rattle.tacho_hours.specs.declared.run.TheConstants.{FAR}
-use Rattle.tacho_hours.specs.declared.breach.Breach.{Breach}
-use Rattle.tacho_hours.specs.declared.breach.Kind.TheVariants.{B9}
-use Rattle.tacho_hours.specs.Runs.{IsRestOf}
-use Rattle.tacho_hours.specs.Line.{Line}
-use Rattle.tacho_hours.specs.Weeks.{week_start, IsWhollyAtRest, IsWeeklyRest}
-use Rattle.tacho_hours.specs.Choice.{CanServe}
-use Rattle.tacho_hours.specs.Anew.{Fails, EndedBy}
-use Rattle.tacho_hours.specs.Order.{Apart}
-use Rattle.tacho_hours.specs.SoFar.{AreCollected}
-use Rattle.tacho_hours.specs.Breaches.{IsLacking}
-use Rattle.tacho_hours.proofs.DebtsLemmas.{separate}
-use Rattle.tacho_hours.proofs.ByRunsLemmas.{one_run}
-use Rattle.tacho_hours.proofs.AnewLemmas.{starts_late}
-use Rattle.tacho_hours.proofs.LackingWeekLemmas.{serves_less, LackingBelow, lacking_none, lacking_skip, lacking_add}
-use Rattle.tacho_hours.proofs.LackingWeekLemmas.{lacking_all}
-use Rattle.tacho_hours.proofs.ExactlyLemmas.{exactly_as}
+use Rattle.tacho_law.specs.declared.run.Run.{Run}
+use Rattle.tacho_law.specs.declared.run.TheConstants.{FAR}
+use Rattle.tacho_law.specs.declared.breach.Breach.{Breach}
+use Rattle.tacho_law.specs.declared.breach.Kind.TheVariants.{B9}
+use Rattle.tacho_law.specs.Runs.{IsRestOf}
+use Rattle.tacho_law.specs.Line.{Line}
+use Rattle.tacho_law.specs.Weeks.{week_start, IsWhollyAtRest, IsWeeklyRest}
+use Rattle.tacho_law.specs.Choice.{CanServe}
+use Rattle.tacho_law.specs.Anew.{Fails, EndedBy}
+use Rattle.tacho_law.specs.Order.{Apart}
+use Rattle.tacho_law.specs.SoFar.{AreCollected}
+use Rattle.tacho_law.specs.Breaches.{IsLacking}
+use Rattle.tacho_law.proofs.DebtsLemmas.{separate}
+use Rattle.tacho_law.proofs.ByRunsLemmas.{one_run}
+use Rattle.tacho_law.proofs.AnewLemmas.{starts_late}
+use Rattle.tacho_law.proofs.LackingWeekLemmas.{serves_less, LackingBelow, lacking_none, lacking_skip, lacking_add}
+use Rattle.tacho_law.proofs.LackingWeekLemmas.{lacking_all}
+use Rattle.tacho_law.proofs.ExactlyLemmas.{exactly_as}
 use Rattle.tacho_pass.specs.Kinds.{is_b9}
 use Rattle.tacho_choice.specs.declared.outcome.TheConstants.{ANY}
 use Rattle.tacho_choice.specs.declared.week.WeekOfRests.{WeekOfRests}

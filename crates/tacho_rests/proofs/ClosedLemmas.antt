@@ -10,19 +10,19 @@ use Rattle.std.proofs.lemmas.Bool.Decides.{nat_tests}
 use Rattle.std.proofs.lemmas.List.{append-nil, append_assoc}
 use Rattle.std.proofs.lemmas.List.Elements.{Contains-push, Contains-append_left, Contains-push_cases}
 use Rattle.std.proofs.lemmas.List.Sums.{sum_by-cons}
-use Rattle.tacho_hours.specs.declared.run.Run.{Run}
-use Rattle.tacho_hours.specs.declared.run.TheConstants.{FAR}
-use Rattle.tacho_hours.specs.declared.debt.Debt.{Debt}
-use Rattle.tacho_hours.specs.Runs.{IsRestRun, AreRestRuns, minutes_of}
-use Rattle.tacho_hours.specs.Line.{Line}
-use Rattle.tacho_hours.specs.Weeks.{week_start, IsInWeek}
-use Rattle.tacho_hours.specs.Debts.{minutes_before, share, paid_from, IsCandidate, IsMainRest, Owes, EarlierWeek}
-use Rattle.tacho_hours.specs.ByRuns.{AfterRun}
-use Rattle.tacho_hours.specs.MainRests.{IsKept}
-use Rattle.tacho_hours.proofs.ExactlyLemmas.{contains_head, contains_tail, head_first, tail_order}
-use Rattle.tacho_hours.proofs.DebtsLemmas.{separate}
-use Rattle.tacho_hours.proofs.ByRunsLemmas.{one_run}
-use Rattle.tacho_hours.proofs.MainRestLemmas.{one_week}
+use Rattle.tacho_law.specs.declared.run.Run.{Run}
+use Rattle.tacho_law.specs.declared.run.TheConstants.{FAR}
+use Rattle.tacho_law.specs.declared.debt.Debt.{Debt}
+use Rattle.tacho_law.specs.Runs.{IsRestRun, AreRestRuns, minutes_of}
+use Rattle.tacho_law.specs.Line.{Line}
+use Rattle.tacho_law.specs.Weeks.{week_start, IsInWeek}
+use Rattle.tacho_law.specs.Debts.{minutes_before, share, paid_from, IsCandidate, IsMainRest, Owes, EarlierWeek}
+use Rattle.tacho_law.specs.ByRuns.{AfterRun}
+use Rattle.tacho_law.specs.MainRests.{IsKept}
+use Rattle.tacho_law.proofs.ExactlyLemmas.{contains_head, contains_tail, head_first, tail_order}
+use Rattle.tacho_law.proofs.DebtsLemmas.{separate}
+use Rattle.tacho_law.proofs.ByRunsLemmas.{one_run}
+use Rattle.tacho_law.proofs.MainRestLemmas.{one_week}
 use Rattle.tacho_rests.specs.Turns.{OwesBefore, AreDebtsBefore, StartsBefore, AreTurns, IsNewDebt, IsWeekOf, IsMainOf}
 use Rattle.tacho_rests.specs.Turns.{IsOwedOf}
 use Rattle.tacho_rests.specs.Paying.{push_few, takes, pay_all, longer, longest_rest, debt_for, is_main, turn, turns}

@@ -4,13 +4,13 @@ use Rattle.std.proofs.Common.{◌≡◌, ℕ, ◌+◌, ◌<◌, ◌≤◌, ◌�
 use Rattle.std.proofs.Common.{List, Option, Some, None}
 use Rattle.std.specs.Prelude.{◌↔◌, ◌&&◌, ◌||◌, not, is_some}
 use Rattle.std.proofs.lemmas.Bool.{cases_Bool, both_ways, false_from_ne_true}
-use Rattle.tacho_hours.specs.declared.run.Run.{Run}
-use Rattle.tacho_hours.specs.Line.{Line}
-use Rattle.tacho_hours.specs.Weeks.{IsWhollyAtRest, IsWeeklyRest}
-use Rattle.tacho_hours.specs.Choice.{CanServe}
-use Rattle.tacho_hours.specs.Anew.{Fails, EndedBy}
-use Rattle.tacho_hours.proofs.AnewLemmas.{none_at, fails_at}
-use Rattle.tacho_hours.proofs.LackingWeekLemmas.{serves_less}
+use Rattle.tacho_law.specs.declared.run.Run.{Run}
+use Rattle.tacho_law.specs.Line.{Line}
+use Rattle.tacho_law.specs.Weeks.{IsWhollyAtRest, IsWeeklyRest}
+use Rattle.tacho_law.specs.Choice.{CanServe}
+use Rattle.tacho_law.specs.Anew.{Fails, EndedBy}
+use Rattle.tacho_law.proofs.AnewLemmas.{none_at, fails_at}
+use Rattle.tacho_law.proofs.LackingWeekLemmas.{serves_less}
 use Rattle.tacho_choice.specs.declared.counted.Counted.{Counted}
 use Rattle.tacho_choice.specs.declared.counted.Counted.TheVariants.{Nothing}
 use Rattle.tacho_choice.specs.declared.outcome.Outcome.{Outcome}

@@ -2,8 +2,8 @@
 use Rattle.std.proofs.Common.{◌≡◌, ℕ, ◌<◌, ◌≤◌, Bool, true, false, None, Some, refl, arith, nat_lt, if◌then◌else◌}
 use Rattle.std.proofs.lemmas.Bool.Decides.{nat_tests}
 use Rattle.tacho_time.specs.declared.span.Span.{Span}
-use Rattle.tacho_hours.specs.declared.run.Run.{Run}
-use Rattle.tacho_hours.proofs.RunsLemmas.{run_of}
+use Rattle.tacho_law.specs.declared.run.Run.{Run}
+use Rattle.tacho_law.proofs.RunsLemmas.{run_of}
 use Rattle.tacho_pass.specs.Heard.{is_rest, run_before}
 
 -- what is known of this run

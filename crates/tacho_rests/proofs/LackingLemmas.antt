@@ -4,18 +4,18 @@ use Rattle.std.proofs.Common.{[], ◌∷◌, ◌++◌, refl, sym, ap, subst, ◌
 use Rattle.std.proofs.lemmas.Bool.{cases_lt}
 use Rattle.tacho_time.specs.declared.span.Activity.TheVariants.{Rest}
 use Rattle.tacho_time.specs.declared.span.Span.{Span}
-use Rattle.tacho_hours.specs.declared.run.Run.{Run}
-use Rattle.tacho_hours.specs.declared.run.TheConstants.{FAR}
-use Rattle.tacho_hours.specs.declared.breach.Breach.{Breach}
-use Rattle.tacho_hours.specs.declared.debt.Debt.{Debt}
-use Rattle.tacho_hours.specs.Line.{line_of, Joined, IsExamined, Line}
-use Rattle.tacho_hours.specs.Limits.{first_base, latest}
-use Rattle.tacho_hours.specs.Runs.{IsRestRun, AreRestRuns, minutes_of, IsRestOf}
-use Rattle.tacho_hours.specs.Weeks.{week_start}
-use Rattle.tacho_hours.specs.SoFar.{AreCollected}
-use Rattle.tacho_hours.specs.Breaches.{IsLacking}
-use Rattle.tacho_hours.proofs.RunsLemmas.{run_of, joined_le, line_before}
-use Rattle.tacho_hours.proofs.ByRunsLemmas.{one_run}
+use Rattle.tacho_law.specs.declared.run.Run.{Run}
+use Rattle.tacho_law.specs.declared.run.TheConstants.{FAR}
+use Rattle.tacho_law.specs.declared.breach.Breach.{Breach}
+use Rattle.tacho_law.specs.declared.debt.Debt.{Debt}
+use Rattle.tacho_law.specs.Line.{line_of, Joined, IsExamined, Line}
+use Rattle.tacho_law.specs.Limits.{first_base, latest}
+use Rattle.tacho_law.specs.Runs.{IsRestRun, AreRestRuns, minutes_of, IsRestOf}
+use Rattle.tacho_law.specs.Weeks.{week_start}
+use Rattle.tacho_law.specs.SoFar.{AreCollected}
+use Rattle.tacho_law.specs.Breaches.{IsLacking}
+use Rattle.tacho_law.proofs.RunsLemmas.{run_of, joined_le, line_before}
+use Rattle.tacho_law.proofs.ByRunsLemmas.{one_run}
 use Rattle.tacho_pass.specs.Heard.{is_rest, start_after, run_before, Continues, IsHeard, IsLineTo}
 use Rattle.tacho_pass.proofs.HearingLemmas.{line_append, line_at_end, joined_append, rests_yes, rests_no, heard_rest}
 use Rattle.tacho_pass.proofs.HearingLemmas.{heard_busy, heard_gap, by_span, line_runs, line_to}

@@ -5,18 +5,18 @@ use Rattle.std.specs.Prelude.{MatchOption}
 use Rattle.std.proofs.lemmas.Bool.{cases_lt}
 use Rattle.std.proofs.lemmas.Bool.Decides.{nat_tests}
 use Rattle.std.proofs.lemmas.List.{append-nil}
-use Rattle.tacho_hours.specs.declared.run.Run.{Run}
-use Rattle.tacho_hours.specs.declared.breach.Breach.{Breach}
-use Rattle.tacho_hours.specs.declared.breach.Kind.TheVariants.{B8}
-use Rattle.tacho_hours.specs.Runs.{IsRestRun, AreRestRuns, Before, IsRestOf, AreNeighbours}
-use Rattle.tacho_hours.specs.Line.{Line}
-use Rattle.tacho_hours.specs.Breaches.{IsB8, IsLate}
-use Rattle.tacho_hours.specs.Order.{Apart}
-use Rattle.tacho_hours.specs.SoFar.{AreCollected}
-use Rattle.tacho_hours.proofs.DebtsLemmas.{separate}
-use Rattle.tacho_hours.proofs.ByRunsLemmas.{one_run}
-use Rattle.tacho_hours.proofs.OrderLemmas.{same_breach}
-use Rattle.tacho_hours.proofs.ExactlyLemmas.{exactly_as, exactly_skip, exactly_add}
+use Rattle.tacho_law.specs.declared.run.Run.{Run}
+use Rattle.tacho_law.specs.declared.breach.Breach.{Breach}
+use Rattle.tacho_law.specs.declared.breach.Kind.TheVariants.{B8}
+use Rattle.tacho_law.specs.Runs.{IsRestRun, AreRestRuns, Before, IsRestOf, AreNeighbours}
+use Rattle.tacho_law.specs.Line.{Line}
+use Rattle.tacho_law.specs.Breaches.{IsB8, IsLate}
+use Rattle.tacho_law.specs.Order.{Apart}
+use Rattle.tacho_law.specs.SoFar.{AreCollected}
+use Rattle.tacho_law.proofs.DebtsLemmas.{separate}
+use Rattle.tacho_law.proofs.ByRunsLemmas.{one_run}
+use Rattle.tacho_law.proofs.OrderLemmas.{same_breach}
+use Rattle.tacho_law.proofs.ExactlyLemmas.{exactly_as, exactly_skip, exactly_add}
 use Rattle.tacho_pass.specs.Found.{as_list}
 use Rattle.tacho_rests.specs.Lateness.{late_of, IsLateBefore, IsLastRest, IsLateSoFar}
 

@@ -9,15 +9,15 @@ use Rattle.std.proofs.lemmas.List.{append-nil}
 use Rattle.std.proofs.lemmas.List.Elements.{All-nil, All-cons}
 use Rattle.tacho_time.specs.declared.span.Activity.TheVariants.{Rest}
 use Rattle.tacho_time.specs.declared.span.Span.{Span}
-use Rattle.tacho_hours.specs.declared.run.Run.{Run}
-use Rattle.tacho_hours.specs.declared.run.TheConstants.{FAR}
-use Rattle.tacho_hours.specs.declared.breach.Breach.{Breach}
-use Rattle.tacho_hours.specs.declared.debt.Debt.{Debt}
-use Rattle.tacho_hours.specs.declared.breach.Kind.TheVariants.{B8}
-use Rattle.tacho_hours.specs.Line.{line_of, Joined, IsExamined, Line}
-use Rattle.tacho_hours.specs.Runs.{IsRestRun, AreRestRuns, minutes_of}
-use Rattle.tacho_hours.proofs.RunsLemmas.{run_of}
-use Rattle.tacho_hours.proofs.ByRunsLemmas.{one_run}
+use Rattle.tacho_law.specs.declared.run.Run.{Run}
+use Rattle.tacho_law.specs.declared.run.TheConstants.{FAR}
+use Rattle.tacho_law.specs.declared.breach.Breach.{Breach}
+use Rattle.tacho_law.specs.declared.debt.Debt.{Debt}
+use Rattle.tacho_law.specs.declared.breach.Kind.TheVariants.{B8}
+use Rattle.tacho_law.specs.Line.{line_of, Joined, IsExamined, Line}
+use Rattle.tacho_law.specs.Runs.{IsRestRun, AreRestRuns, minutes_of}
+use Rattle.tacho_law.proofs.RunsLemmas.{run_of}
+use Rattle.tacho_law.proofs.ByRunsLemmas.{one_run}
 use Rattle.tacho_pass.specs.Kinds.{is_b8}
 use Rattle.tacho_pass.specs.Heard.{is_rest, start_after, run_before, Continues, IsHeard, IsLineTo}
 use Rattle.tacho_pass.specs.Found.{as_list}

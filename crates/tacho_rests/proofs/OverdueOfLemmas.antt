@@ -7,13 +7,13 @@ use Rattle.std.specs.List.{All, AllPairs, Contains}
 use Rattle.std.proofs.lemmas.Bool.Decides.{nat_tests}
 use Rattle.std.proofs.lemmas.List.{append-nil, append_assoc}
 use Rattle.std.proofs.lemmas.List.Elements.{All-nil, All-cons}
-use Rattle.tacho_hours.specs.declared.breach.Breach.{Breach}
-use Rattle.tacho_hours.specs.declared.debt.Debt.{Debt}
-use Rattle.tacho_hours.specs.Debts.{EarlierWeek}
-use Rattle.tacho_hours.specs.SoFar.{AreCollected}
-use Rattle.tacho_hours.specs.Breaches.{IsOverdue}
-use Rattle.tacho_hours.proofs.ExactlyLemmas.{head_first, tail_order}
-use Rattle.tacho_hours.proofs.OverdueLemmas.{OverdueFound, overdue_none, overdue_skip, overdue_add, overdue_all}
+use Rattle.tacho_law.specs.declared.breach.Breach.{Breach}
+use Rattle.tacho_law.specs.declared.debt.Debt.{Debt}
+use Rattle.tacho_law.specs.Debts.{EarlierWeek}
+use Rattle.tacho_law.specs.SoFar.{AreCollected}
+use Rattle.tacho_law.specs.Breaches.{IsOverdue}
+use Rattle.tacho_law.proofs.ExactlyLemmas.{head_first, tail_order}
+use Rattle.tacho_law.proofs.OverdueLemmas.{OverdueFound, overdue_none, overdue_skip, overdue_add, overdue_all}
 use Rattle.tacho_pass.specs.Kinds.{is_b10}
 use Rattle.tacho_rests.specs.Paying.{overdue_breach, is_overdue, overdue_of}
 

@@ -5,16 +5,16 @@ use Rattle.std.specs.List.{Contains}
 use Rattle.std.proofs.lemmas.Bool.{cases_lt}
 use Rattle.tacho_time.specs.declared.span.Activity.TheVariants.{Rest}
 use Rattle.tacho_time.specs.declared.span.Span.{Span}
-use Rattle.tacho_hours.specs.declared.run.Run.{Run}
-use Rattle.tacho_hours.specs.declared.run.TheConstants.{FAR}
-use Rattle.tacho_hours.specs.declared.breach.Breach.{Breach}
-use Rattle.tacho_hours.specs.declared.debt.Debt.{Debt}
-use Rattle.tacho_hours.specs.Line.{line_of, Joined, IsExamined, IsBase, Line}
-use Rattle.tacho_hours.specs.Weeks.{week_start}
-use Rattle.tacho_hours.specs.Debts.{AreDebts}
-use Rattle.tacho_hours.specs.SoFar.{AreCollected}
-use Rattle.tacho_hours.specs.Breaches.{IsOverdue}
-use Rattle.tacho_hours.proofs.RunsLemmas.{run_of}
+use Rattle.tacho_law.specs.declared.run.Run.{Run}
+use Rattle.tacho_law.specs.declared.run.TheConstants.{FAR}
+use Rattle.tacho_law.specs.declared.breach.Breach.{Breach}
+use Rattle.tacho_law.specs.declared.debt.Debt.{Debt}
+use Rattle.tacho_law.specs.Line.{line_of, Joined, IsExamined, IsBase, Line}
+use Rattle.tacho_law.specs.Weeks.{week_start}
+use Rattle.tacho_law.specs.Debts.{AreDebts}
+use Rattle.tacho_law.specs.SoFar.{AreCollected}
+use Rattle.tacho_law.specs.Breaches.{IsOverdue}
+use Rattle.tacho_law.proofs.RunsLemmas.{run_of}
 use Rattle.tacho_pass.specs.Heard.{is_rest, start_after, run_before, Continues, IsNext, IsLineTo}
 use Rattle.tacho_pass.proofs.HearingLemmas.{line_append, line_at_end, joined_append, rests_yes, rests_no, heard_rest}
 use Rattle.tacho_pass.proofs.HearingLemmas.{heard_busy, heard_next, heard_gap, line_to, last_next}

@@ -6,13 +6,13 @@ use Rattle.std.specs.List.{Contains}
 use Rattle.std.proofs.lemmas.Bool.Decides.{nat_tests}
 use Rattle.std.proofs.lemmas.List.{append-nil, append_assoc}
 use Rattle.std.proofs.lemmas.List.Sums.{sum_by_push}
-use Rattle.tacho_hours.specs.declared.run.Run.{Run}
-use Rattle.tacho_hours.specs.declared.debt.Debt.{Debt}
-use Rattle.tacho_hours.specs.Runs.{IsRestRun, Before}
-use Rattle.tacho_hours.specs.Line.{Line}
-use Rattle.tacho_hours.specs.Debts.{minutes_before, share, paid_from, IsMainRest, Keeps, CanPay}
-use Rattle.tacho_hours.specs.ByRuns.{CanTake, AfterRun, IsDone, AreDone}
-use Rattle.tacho_hours.specs.MainRests.{IsKept}
+use Rattle.tacho_law.specs.declared.run.Run.{Run}
+use Rattle.tacho_law.specs.declared.debt.Debt.{Debt}
+use Rattle.tacho_law.specs.Runs.{IsRestRun, Before}
+use Rattle.tacho_law.specs.Line.{Line}
+use Rattle.tacho_law.specs.Debts.{minutes_before, share, paid_from, IsMainRest, Keeps, CanPay}
+use Rattle.tacho_law.specs.ByRuns.{CanTake, AfterRun, IsDone, AreDone}
+use Rattle.tacho_law.specs.MainRests.{IsKept}
 use Rattle.tacho_rests.specs.Paying.{takes, pay_all, turn, turns, is_main}
 use Rattle.tacho_rests.proofs.TurnsLemmas.{kept_least}
 

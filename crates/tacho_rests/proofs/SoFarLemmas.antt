@@ -8,16 +8,16 @@ use Rattle.std.proofs.lemmas.Bool.Decides.{nat_tests}
 use Rattle.std.proofs.lemmas.List.{append_assoc}
 use Rattle.std.proofs.lemmas.List.Elements.{Contains-push, Contains-append_left, Contains-push_cases, Contains-get_or}
 use Rattle.std.proofs.lemmas.List.Quantifiers.{all_pairs_push}
-use Rattle.tacho_hours.specs.declared.run.Run.{Run}
-use Rattle.tacho_hours.specs.declared.run.TheConstants.{FAR}
-use Rattle.tacho_hours.specs.declared.debt.Debt.{Debt}
-use Rattle.tacho_hours.specs.Runs.{IsRestRun, minutes_of}
-use Rattle.tacho_hours.specs.Line.{Line}
-use Rattle.tacho_hours.specs.Weeks.{week_start, IsInWeek}
-use Rattle.tacho_hours.specs.Debts.{EarlierWeek, AreDebts}
-use Rattle.tacho_hours.proofs.ExactlyLemmas.{contains_head, contains_tail, head_first, tail_order}
-use Rattle.tacho_hours.proofs.DebtsLemmas.{separate}
-use Rattle.tacho_hours.proofs.ByRunsLemmas.{one_run}
+use Rattle.tacho_law.specs.declared.run.Run.{Run}
+use Rattle.tacho_law.specs.declared.run.TheConstants.{FAR}
+use Rattle.tacho_law.specs.declared.debt.Debt.{Debt}
+use Rattle.tacho_law.specs.Runs.{IsRestRun, minutes_of}
+use Rattle.tacho_law.specs.Line.{Line}
+use Rattle.tacho_law.specs.Weeks.{week_start, IsInWeek}
+use Rattle.tacho_law.specs.Debts.{EarlierWeek, AreDebts}
+use Rattle.tacho_law.proofs.ExactlyLemmas.{contains_head, contains_tail, head_first, tail_order}
+use Rattle.tacho_law.proofs.DebtsLemmas.{separate}
+use Rattle.tacho_law.proofs.ByRunsLemmas.{one_run}
 use Rattle.tacho_pass.specs.Heard.{IsNext, IsLineTo}
 use Rattle.tacho_rests.specs.Turns.{OwesBefore, AreDebtsBefore, StartsBefore, AreTurns, IsWeekOf, IsMainOf, IsOwedOf}
 use Rattle.tacho_rests.specs.Turns.{IsSoFar}

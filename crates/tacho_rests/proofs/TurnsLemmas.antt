@@ -6,17 +6,17 @@ use Rattle.std.proofs.lemmas.Bool.{cases_lt}
 use Rattle.std.proofs.lemmas.List.{append-nil, append_assoc}
 use Rattle.std.proofs.lemmas.List.Elements.{Contains-push, Contains-append_left, Contains-push_cases, Contains-get_or}
 use Rattle.std.proofs.lemmas.List.Quantifiers.{all_pairs_push}
-use Rattle.tacho_hours.specs.declared.run.Run.{Run}
-use Rattle.tacho_hours.specs.declared.debt.Debt.{Debt}
-use Rattle.tacho_hours.specs.Runs.{IsRestRun, AreRestRuns, minutes_of}
-use Rattle.tacho_hours.specs.Line.{Line}
-use Rattle.tacho_hours.specs.Weeks.{week_start}
-use Rattle.tacho_hours.specs.Debts.{minutes_before, paid_from, IsMainRest, Owes, Keeps, CanPay, AreDebts, EarlierWeek}
-use Rattle.tacho_hours.specs.ByRuns.{AfterRun, IsDone, AreDone}
-use Rattle.tacho_hours.proofs.ExactlyLemmas.{contains_head, contains_tail, contains_cases, head_first, tail_order}
-use Rattle.tacho_hours.proofs.DebtsLemmas.{Alike}
-use Rattle.tacho_hours.proofs.ByRunsLemmas.{bare, bare_alike, bare_at, bare_length, bare_match, one_run, agree_same}
-use Rattle.tacho_hours.proofs.ByRunsLemmas.{run_done, run_bare, are_settled}
+use Rattle.tacho_law.specs.declared.run.Run.{Run}
+use Rattle.tacho_law.specs.declared.debt.Debt.{Debt}
+use Rattle.tacho_law.specs.Runs.{IsRestRun, AreRestRuns, minutes_of}
+use Rattle.tacho_law.specs.Line.{Line}
+use Rattle.tacho_law.specs.Weeks.{week_start}
+use Rattle.tacho_law.specs.Debts.{minutes_before, paid_from, IsMainRest, Owes, Keeps, CanPay, AreDebts, EarlierWeek}
+use Rattle.tacho_law.specs.ByRuns.{AfterRun, IsDone, AreDone}
+use Rattle.tacho_law.proofs.ExactlyLemmas.{contains_head, contains_tail, contains_cases, head_first, tail_order}
+use Rattle.tacho_law.proofs.DebtsLemmas.{Alike}
+use Rattle.tacho_law.proofs.ByRunsLemmas.{bare, bare_alike, bare_at, bare_length, bare_match, one_run, agree_same}
+use Rattle.tacho_law.proofs.ByRunsLemmas.{run_done, run_bare, are_settled}
 use Rattle.tacho_rests.specs.Turns.{OwesBefore, AreDebtsBefore, StartsBefore, AreTurns, IsNewDebt}
 
 -- a rest keeps at least nine hours

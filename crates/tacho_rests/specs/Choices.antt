@@ -2,17 +2,17 @@
 -- first subparagraph, and 8(9)).
 use Rattle.std.specs.Prelude.{◌≡◌, ℕ, ◌+◌, ◌-◌, ◌<◌, ◌≤◌, ◌⊎◌, ◌↔◌, ◌&&◌, not, Bool, true, false, List, [], ◌∷◌}
 use Rattle.std.specs.Prelude.{Option, None, Some, MatchOption}
-use Rattle.tacho_hours.specs.declared.run.Run.{Run}
-use Rattle.tacho_hours.specs.declared.breach.Breach.{Breach}
-use Rattle.tacho_hours.specs.declared.breach.Kind.TheVariants.{B9}
-use Rattle.tacho_hours.specs.Line.{Line}
-use Rattle.tacho_hours.specs.Limits.{weekly_rest}
-use Rattle.tacho_hours.specs.Runs.{IsRestOf}
-use Rattle.tacho_hours.specs.Weeks.{week_start, IsWhollyAtRest}
-use Rattle.tacho_hours.specs.Choice.{CanServe}
-use Rattle.tacho_hours.specs.Anew.{Fails, EndedBy}
-use Rattle.tacho_hours.specs.SoFar.{AreCollected}
-use Rattle.tacho_hours.specs.Breaches.{IsB9}
+use Rattle.tacho_law.specs.declared.run.Run.{Run}
+use Rattle.tacho_law.specs.declared.breach.Breach.{Breach}
+use Rattle.tacho_law.specs.declared.breach.Kind.TheVariants.{B9}
+use Rattle.tacho_law.specs.Line.{Line}
+use Rattle.tacho_law.specs.Limits.{weekly_rest}
+use Rattle.tacho_law.specs.Runs.{IsRestOf}
+use Rattle.tacho_law.specs.Weeks.{week_start, IsWhollyAtRest}
+use Rattle.tacho_law.specs.Choice.{CanServe}
+use Rattle.tacho_law.specs.Anew.{Fails, EndedBy}
+use Rattle.tacho_law.specs.SoFar.{AreCollected}
+use Rattle.tacho_law.specs.Breaches.{IsB9}
 use Rattle.tacho_choice.specs.declared.outcome.Outcome.{Outcome}
 use Rattle.tacho_choice.specs.declared.outcome.TheConstants.{ANY}
 use Rattle.tacho_choice.specs.declared.week.WeekOfRests.{WeekOfRests}

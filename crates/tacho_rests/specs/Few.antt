@@ -1,7 +1,7 @@
 -- Private to tacho_rests: A few debts and a few rests, from the slots that are used.
 use Rattle.std.specs.Prelude.{List, take}
-use Rattle.tacho_hours.specs.declared.run.Run.{Run}
-use Rattle.tacho_hours.specs.declared.debt.Debt.{Debt}
+use Rattle.tacho_law.specs.declared.run.Run.{Run}
+use Rattle.tacho_law.specs.declared.debt.Debt.{Debt}
 use Rattle.tacho_rests.specs.declared.few.Debts.{Debts}
 use Rattle.tacho_rests.specs.declared.few.Rests.{Rests}
 

@@ -2,15 +2,15 @@
 -- span by span: the state of the rule, and what it represents.
 use Rattle.std.specs.Prelude.{◌≡◌, ℕ, ◌<◌, ◌≤◌, List, []}
 use Rattle.tacho_time.specs.declared.span.Span.{Span}
-use Rattle.tacho_hours.specs.declared.run.Run.{Run}
-use Rattle.tacho_hours.specs.declared.breach.Breach.{Breach}
-use Rattle.tacho_hours.specs.declared.debt.Debt.{Debt}
-use Rattle.tacho_hours.specs.Line.{line_of, Joined, Line}
-use Rattle.tacho_hours.specs.Limits.{first_week}
-use Rattle.tacho_hours.specs.Runs.{AreRestRuns}
-use Rattle.tacho_hours.specs.Weeks.{week_start}
-use Rattle.tacho_hours.specs.SoFar.{AreCollected}
-use Rattle.tacho_hours.specs.Breaches.{IsLacking}
+use Rattle.tacho_law.specs.declared.run.Run.{Run}
+use Rattle.tacho_law.specs.declared.breach.Breach.{Breach}
+use Rattle.tacho_law.specs.declared.debt.Debt.{Debt}
+use Rattle.tacho_law.specs.Line.{line_of, Joined, Line}
+use Rattle.tacho_law.specs.Limits.{first_week}
+use Rattle.tacho_law.specs.Runs.{AreRestRuns}
+use Rattle.tacho_law.specs.Weeks.{week_start}
+use Rattle.tacho_law.specs.SoFar.{AreCollected}
+use Rattle.tacho_law.specs.Breaches.{IsLacking}
 use Rattle.tacho_pass.specs.Heard.{Continues, IsHeard, IsLineTo}
 use Rattle.tacho_rests.specs.declared.missing_rest.Choices.{Choices}
 use Rattle.tacho_rests.specs.Choices.{AreChoices}

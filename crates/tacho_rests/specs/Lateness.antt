@@ -3,15 +3,15 @@
 use Rattle.std.specs.Prelude.{◌≡◌, ℕ, ◌+◌, ◌-◌, ◌<◌, ◌≤◌, nat_lt, nat_le, List, [], Option, None, Some, MatchOption}
 use Rattle.std.specs.Prelude.{if◌then◌else◌}
 use Rattle.tacho_time.specs.declared.span.Span.{Span}
-use Rattle.tacho_hours.specs.declared.run.Run.{Run}
-use Rattle.tacho_hours.specs.declared.breach.Breach.{Breach}
-use Rattle.tacho_hours.specs.declared.debt.Debt.{Debt}
-use Rattle.tacho_hours.specs.declared.breach.Kind.TheVariants.{B8}
-use Rattle.tacho_hours.specs.Line.{line_of, Joined, Line}
-use Rattle.tacho_hours.specs.Limits.{first_week, weekly_rest, six_days}
-use Rattle.tacho_hours.specs.Runs.{AreRestRuns, IsRestOf, minutes_of}
-use Rattle.tacho_hours.specs.SoFar.{AreCollected}
-use Rattle.tacho_hours.specs.Breaches.{IsB8, IsLate}
+use Rattle.tacho_law.specs.declared.run.Run.{Run}
+use Rattle.tacho_law.specs.declared.breach.Breach.{Breach}
+use Rattle.tacho_law.specs.declared.debt.Debt.{Debt}
+use Rattle.tacho_law.specs.declared.breach.Kind.TheVariants.{B8}
+use Rattle.tacho_law.specs.Line.{line_of, Joined, Line}
+use Rattle.tacho_law.specs.Limits.{first_week, weekly_rest, six_days}
+use Rattle.tacho_law.specs.Runs.{AreRestRuns, IsRestOf, minutes_of}
+use Rattle.tacho_law.specs.SoFar.{AreCollected}
+use Rattle.tacho_law.specs.Breaches.{IsB8, IsLate}
 use Rattle.tacho_pass.specs.Heard.{Continues, IsHeard}
 use Rattle.tacho_rests.specs.declared.late_rest.Late.{Late}
 

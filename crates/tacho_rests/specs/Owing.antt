@@ -2,14 +2,14 @@
 -- debts represents.
 use Rattle.std.specs.Prelude.{ℕ, ◌≤◌, List}
 use Rattle.tacho_time.specs.declared.span.Span.{Span}
-use Rattle.tacho_hours.specs.declared.run.Run.{Run}
-use Rattle.tacho_hours.specs.declared.breach.Breach.{Breach}
-use Rattle.tacho_hours.specs.declared.debt.Debt.{Debt}
-use Rattle.tacho_hours.specs.Line.{line_of, Joined, Line}
-use Rattle.tacho_hours.specs.Limits.{first_week}
-use Rattle.tacho_hours.specs.Debts.{AreDebts}
-use Rattle.tacho_hours.specs.SoFar.{AreCollected}
-use Rattle.tacho_hours.specs.Breaches.{IsOverdue}
+use Rattle.tacho_law.specs.declared.run.Run.{Run}
+use Rattle.tacho_law.specs.declared.breach.Breach.{Breach}
+use Rattle.tacho_law.specs.declared.debt.Debt.{Debt}
+use Rattle.tacho_law.specs.Line.{line_of, Joined, Line}
+use Rattle.tacho_law.specs.Limits.{first_week}
+use Rattle.tacho_law.specs.Debts.{AreDebts}
+use Rattle.tacho_law.specs.SoFar.{AreCollected}
+use Rattle.tacho_law.specs.Breaches.{IsOverdue}
 use Rattle.tacho_pass.specs.Heard.{Continues, IsHeard, IsLineTo}
 use Rattle.tacho_rests.specs.declared.compensation.Ledger.{Ledger}
 use Rattle.tacho_rests.specs.Few.{debts_in, rests_in}

@@ -3,14 +3,14 @@
 use Rattle.std.specs.Prelude.{ℕ, ◌+◌, ◌-◌, ◌&&◌, Bool, true, false, nat_le, nat_lt, nat_eq, min, List, [], ◌∷◌, ◌++◌}
 use Rattle.std.specs.Prelude.{length, Option, None, Some, if◌then◌else◌}
 use Rattle.std.specs.Option.{option_map_or}
-use Rattle.tacho_hours.specs.declared.run.Run.{Run}
-use Rattle.tacho_hours.specs.declared.debt.Debt.{Debt}
-use Rattle.tacho_hours.specs.declared.breach.Breach.{Breach}
-use Rattle.tacho_hours.specs.declared.breach.Kind.TheVariants.{B10}
-use Rattle.tacho_hours.specs.Limits.{daily_rest, weekly_rest, regular_weekly_rest, weeks_to_pay}
-use Rattle.tacho_hours.specs.Runs.{minutes_of}
-use Rattle.tacho_hours.specs.Debts.{minutes_before}
-use Rattle.tacho_hours.specs.Weeks.{week_start}
+use Rattle.tacho_law.specs.declared.run.Run.{Run}
+use Rattle.tacho_law.specs.declared.debt.Debt.{Debt}
+use Rattle.tacho_law.specs.declared.breach.Breach.{Breach}
+use Rattle.tacho_law.specs.declared.breach.Kind.TheVariants.{B10}
+use Rattle.tacho_law.specs.Limits.{daily_rest, weekly_rest, regular_weekly_rest, weeks_to_pay}
+use Rattle.tacho_law.specs.Runs.{minutes_of}
+use Rattle.tacho_law.specs.Debts.{minutes_before}
+use Rattle.tacho_law.specs.Weeks.{week_start}
 
 -- appends an item, if the list has fewer than `most`
 abbrev pub push_few : {A : Type 0} → ℕ → List A → A → List A

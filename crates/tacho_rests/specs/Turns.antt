@@ -1,15 +1,15 @@
 -- Private to tacho_rests: Debts, as the rests of a line come one at a time (Regulation (EC) 561/2006, Articles 4(h) and 8(6b); 8(6b) as
 -- amended by (EU) 2020/1054).
 use Rattle.std.specs.Prelude.{◌≡◌, ℕ, ◌+◌, ◌<◌, ◌≤◌, ◌↔◌, List, [], ◌++◌, Contains, AllPairs, Option, None, MatchOption}
-use Rattle.tacho_hours.specs.declared.run.Run.{Run}
-use Rattle.tacho_hours.specs.declared.debt.Debt.{Debt}
-use Rattle.tacho_hours.specs.declared.breach.Breach.{Breach}
-use Rattle.tacho_hours.specs.Line.{Line}
-use Rattle.tacho_hours.specs.Limits.{daily_rest, weeks_to_pay}
-use Rattle.tacho_hours.specs.Runs.{IsRestRun, minutes_of}
-use Rattle.tacho_hours.specs.Weeks.{week_start, IsInWeek}
-use Rattle.tacho_hours.specs.Debts.{IsMainRest, Owes, EarlierWeek, AreDebts}
-use Rattle.tacho_hours.specs.ByRuns.{AreDone}
+use Rattle.tacho_law.specs.declared.run.Run.{Run}
+use Rattle.tacho_law.specs.declared.debt.Debt.{Debt}
+use Rattle.tacho_law.specs.declared.breach.Breach.{Breach}
+use Rattle.tacho_law.specs.Line.{Line}
+use Rattle.tacho_law.specs.Limits.{daily_rest, weeks_to_pay}
+use Rattle.tacho_law.specs.Runs.{IsRestRun, minutes_of}
+use Rattle.tacho_law.specs.Weeks.{week_start, IsInWeek}
+use Rattle.tacho_law.specs.Debts.{IsMainRest, Owes, EarlierWeek, AreDebts}
+use Rattle.tacho_law.specs.ByRuns.{AreDone}
 use Rattle.tacho_pass.specs.Heard.{IsNext}
 use Rattle.tacho_rests.specs.Paying.{overdue_of}
 

@@ -2,12 +2,12 @@
 -- amended by (EU) 2020/1054).
 use Rattle.std.specs.Prelude.{ℕ, List}
 use Rattle.tacho_time.specs.declared.span.Span.{Span}
-use Rattle.tacho_hours.specs.declared.breach.Breach.{Breach}
-use Rattle.tacho_hours.specs.declared.debt.Debt.{Debt}
-use Rattle.tacho_hours.specs.Line.{line_of}
-use Rattle.tacho_hours.specs.Debts.{AreDebts}
-use Rattle.tacho_hours.specs.SoFar.{AreCollected}
-use Rattle.tacho_hours.specs.Breaches.{IsRestBreach}
+use Rattle.tacho_law.specs.declared.breach.Breach.{Breach}
+use Rattle.tacho_law.specs.declared.debt.Debt.{Debt}
+use Rattle.tacho_law.specs.Line.{line_of}
+use Rattle.tacho_law.specs.Debts.{AreDebts}
+use Rattle.tacho_law.specs.SoFar.{AreCollected}
+use Rattle.tacho_law.specs.Breaches.{IsRestBreach}
 
 -- exactly the debts are found, and the breaches of the rules on weekly rests
 pub record WeekRestsDefined (own : List Breach) (owed : List Debt) (base horizon : ℕ) (spans : List Span) : Type 0 where

@@ -1,8 +1,8 @@
 ghost use Rattle.std.specs.Prelude.{◌≡◌, ◌≤◌, ◌<◌, ◌+◌, ◌++◌, [], ℕ, true, IfOk, OnOk};
-ghost use Rattle.tacho_hours.specs.declared.run.Run.{Run as RunValue};
-ghost use Rattle.tacho_hours.specs.Line.{Line};
-ghost use Rattle.tacho_hours.specs.Limits.{first_week, latest};
-ghost use Rattle.tacho_hours.specs.Weeks.{week_start, IsInWeek};
+ghost use Rattle.tacho_law.specs.declared.run.Run.{Run as RunValue};
+ghost use Rattle.tacho_law.specs.Line.{Line};
+ghost use Rattle.tacho_law.specs.Limits.{first_week, latest};
+ghost use Rattle.tacho_law.specs.Weeks.{week_start, IsInWeek};
 ghost use Rattle.tacho_pass.specs.Found.{Appends, own_of};
 ghost use Rattle.tacho_pass.specs.Kinds.{is_b10};
 ghost use Rattle.tacho_pass.specs.Heard.{IsNext, IsLineTo};
@@ -14,8 +14,8 @@ use crate::due_debts::{due, emit, open};
 use crate::few::{Debts, Rests};
 use crate::payment::{main_of, owed_for, turns};
 use std::alloc::AllocError;
-use tacho_hours::limits::{DAILY_REST, FIRST_WEEK};
-use tacho_hours::{FAR, Run};
+use tacho_law::limits::{DAILY_REST, FIRST_WEEK};
+use tacho_law::{FAR, Run};
 use tacho_pass::{Found, Judge};
 use tacho_time::{Minute, Span, Week, first_minute, week_of};
 

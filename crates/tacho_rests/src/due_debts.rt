@@ -6,7 +6,7 @@ ghost use Rattle.tacho_rests.specs.Paying.{overdue_breach, overdue_of, is_overdu
 
 use crate::few::Debts;
 use std::alloc::AllocError;
-use tacho_hours::{Breach, Debt, Kind};
+use tacho_law::{Breach, Debt, Kind};
 use tacho_pass::Found;
 use tacho_time::{Minute, first_minute};
 

@@ -1,10 +1,10 @@
 //! A few debts and a few rests, each in an array with a count. They don't use `ArrayVec`, since a scan is `Copy` and an `ArrayVec` isn't.
 
 ghost use Rattle.std.specs.Prelude.{◌≡◌, ◌≤◌, [], All, length, take};
-ghost use Rattle.tacho_hours.specs.Limits.{latest};
+ghost use Rattle.tacho_law.specs.Limits.{latest};
 ghost use Rattle.tacho_rests.specs.Paying.{push_few};
 
-use tacho_hours::{Debt, Run};
+use tacho_law::{Debt, Run};
 use tacho_time::{Minute, Week};
 
 /// The most debts that can be open at once: those of four weeks.

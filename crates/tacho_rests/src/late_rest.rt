@@ -1,11 +1,11 @@
 ghost use Rattle.std.specs.Prelude.{◌≡◌, ◌≤◌, true, false};
-ghost use Rattle.tacho_hours.specs.Limits.{latest};
+ghost use Rattle.tacho_law.specs.Limits.{latest};
 ghost use Rattle.tacho_pass.specs.Kinds.{is_b8};
 ghost use Rattle.tacho_rests.specs.Lateness.{late_of, late_run, end_after as end_after_it, LateStands, LateDefined};
 
 use std::alloc::AllocError;
-use tacho_hours::limits::{SIX_DAYS, WEEKLY_REST};
-use tacho_hours::{Breach, FAR, Kind, Run};
+use tacho_law::limits::{SIX_DAYS, WEEKLY_REST};
+use tacho_law::{Breach, FAR, Kind, Run};
 use tacho_pass::{Found, Judge, put};
 use tacho_time::{Minute, Span};
 

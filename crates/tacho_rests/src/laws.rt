@@ -2,7 +2,7 @@
 
 ghost use Rattle.std.specs.Prelude.{ℕ, List};
 ghost use Rattle.tacho_time.specs.declared.span.Span.{Span as Stretch};
-ghost use Rattle.tacho_hours.specs.Line.{line_of, IsExamined};
+ghost use Rattle.tacho_law.specs.Line.{line_of, IsExamined};
 ghost use Rattle.tacho_choice.specs.Weeks.{IsInWeeks};
 
 /// The law on choices of a week for each weekly rest (`choices_reach`) holds for every examined line, since each of its weekly rests has a

@@ -1,13 +1,13 @@
 ghost use Rattle.std.specs.Prelude.{◌≡◌, ◌≤◌, ◌<◌, ◌⊎◌, ◌+◌, ◌++◌, ◌&&◌, ◌↔◌, ℕ, List, Some, None, true, false, not};
 ghost use Rattle.std.specs.Prelude.{length, slice_index_or, IsTrue, MatchOption, OnOk, OnErr};
-ghost use Rattle.tacho_hours.specs.declared.breach.Breach.{Breach as BreachValue};
-ghost use Rattle.tacho_hours.specs.declared.run.Run.{Run as RunValue};
-ghost use Rattle.tacho_hours.specs.Line.{Line};
-ghost use Rattle.tacho_hours.specs.Limits.{first_week, latest, weekly_rest};
-ghost use Rattle.tacho_hours.specs.Runs.{IsRestOf};
-ghost use Rattle.tacho_hours.specs.Weeks.{week_start};
-ghost use Rattle.tacho_hours.specs.SoFar.{AreCollected};
-ghost use Rattle.tacho_hours.specs.Breaches.{IsLacking};
+ghost use Rattle.tacho_law.specs.declared.breach.Breach.{Breach as BreachValue};
+ghost use Rattle.tacho_law.specs.declared.run.Run.{Run as RunValue};
+ghost use Rattle.tacho_law.specs.Line.{Line};
+ghost use Rattle.tacho_law.specs.Limits.{first_week, latest, weekly_rest};
+ghost use Rattle.tacho_law.specs.Runs.{IsRestOf};
+ghost use Rattle.tacho_law.specs.Weeks.{week_start};
+ghost use Rattle.tacho_law.specs.SoFar.{AreCollected};
+ghost use Rattle.tacho_law.specs.Breaches.{IsLacking};
 ghost use Rattle.tacho_choice.specs.Weeks.{IsInWeeks, week_none, week_with};
 ghost use Rattle.tacho_pass.specs.Found.{Appends, own_of};
 ghost use Rattle.tacho_pass.specs.Kinds.{is_b9};
@@ -16,8 +16,8 @@ ghost use Rattle.tacho_rests.specs.Choices.{IsServedStep, IsUnservedStep, IsJudg
 
 use std::alloc::AllocError;
 use tacho_choice::{ANY, WeekOfRests};
-use tacho_hours::limits::{FIRST_WEEK, WEEKLY_REST};
-use tacho_hours::{Breach, FAR, Kind, Run};
+use tacho_law::limits::{FIRST_WEEK, WEEKLY_REST};
+use tacho_law::{Breach, FAR, Kind, Run};
 use tacho_pass::{Found, Judge};
 use tacho_time::{Minute, Span, Week, first_minute, week_of};
 

@@ -1,12 +1,12 @@
 ghost use Rattle.std.specs.Prelude.{◌≡◌, ◌<◌, ◌≤◌, All, None as NoRun};
-ghost use Rattle.tacho_hours.specs.Limits.{latest};
+ghost use Rattle.tacho_law.specs.Limits.{latest};
 ghost use Rattle.tacho_rests.specs.Few.{debts_in};
 ghost use Rattle.tacho_rests.specs.Paying.{takes as takes_it, pay_all, longest_rest, debt_for, is_main as is_main_of};
 ghost use Rattle.tacho_rests.specs.Paying.{turn as turn_of, turns as turns_of};
 
 use crate::few::Debts;
-use tacho_hours::limits::{DAILY_REST, REGULAR_WEEKLY_REST, WEEKLY_REST, WEEKS_TO_PAY};
-use tacho_hours::{Debt, Run, known_minutes};
+use tacho_law::limits::{DAILY_REST, REGULAR_WEEKLY_REST, WEEKLY_REST, WEEKS_TO_PAY};
+use tacho_law::{Debt, Run, known_minutes};
 use tacho_time::{Minute, Week, first_minute};
 
 /// Returns true if no rest pays a debt yet and this rest has room for it, in addition to the minutes that are spent (Article 8(6b)).

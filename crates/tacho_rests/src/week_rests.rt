@@ -7,7 +7,7 @@ use crate::compensation::Ledger;
 use crate::late_rest::Late;
 use crate::missing_rest::Choices;
 use std::alloc::AllocError;
-use tacho_hours::Run;
+use tacho_law::Run;
 use tacho_pass::{Found, Hearing, Judge};
 use tacho_time::{Minute, Span};
 

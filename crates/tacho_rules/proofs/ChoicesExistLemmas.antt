@@ -2,16 +2,16 @@
 use Rattle.std.proofs.Common.{◌≡◌, ℕ, zero, suc, ◌+◌, ◌-◌, ◌<◌, ◌≤◌, ◌⊎◌, inl, inr, Bool, true, false}
 use Rattle.std.proofs.Common.{refl, sym, ap, subst, ◌∙◌, arith}
 use Rattle.std.specs.Prelude.{not, ◌&&◌, is_some}
-use Rattle.tacho_hours.specs.declared.breach.Kind.TheVariants.{B9}
-use Rattle.tacho_hours.specs.declared.breach.Breach.{Breach}
-use Rattle.tacho_hours.specs.Line.{Line}
-use Rattle.tacho_hours.specs.Weeks.{week_start, IsWeeklyRest}
-use Rattle.tacho_hours.specs.Choice.{CanServe}
-use Rattle.tacho_hours.specs.Anew.{EndedBy, FailsFrom, Fails}
-use Rattle.tacho_hours.specs.Anew.Fails.{at_first, anew}
-use Rattle.tacho_hours.specs.Breaches.{IsB9}
-use Rattle.tacho_hours.proofs.AnewLemmas.{ended_by}
-use Rattle.tacho_hours.proofs.LackingWeekLemmas.{serves_less}
+use Rattle.tacho_law.specs.declared.breach.Kind.TheVariants.{B9}
+use Rattle.tacho_law.specs.declared.breach.Breach.{Breach}
+use Rattle.tacho_law.specs.Line.{Line}
+use Rattle.tacho_law.specs.Weeks.{week_start, IsWeeklyRest}
+use Rattle.tacho_law.specs.Choice.{CanServe}
+use Rattle.tacho_law.specs.Anew.{EndedBy, FailsFrom, Fails}
+use Rattle.tacho_law.specs.Anew.Fails.{at_first, anew}
+use Rattle.tacho_law.specs.Breaches.{IsB9}
+use Rattle.tacho_law.proofs.AnewLemmas.{ended_by}
+use Rattle.tacho_law.proofs.LackingWeekLemmas.{serves_less}
 use Rattle.tacho_choice.specs.declared.counted.Counted.{Counted}
 use Rattle.tacho_choice.specs.declared.outcome.Outcome.{Outcome}
 use Rattle.tacho_choice.specs.declared.week.WeekOfRests.{WeekOfRests}

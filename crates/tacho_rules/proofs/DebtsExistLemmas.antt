@@ -3,20 +3,20 @@ use Rattle.std.proofs.Common.{◌≡◌, ℕ, ◌+◌, ◌-◌, ◌<◌, ◌≤�
 use Rattle.std.proofs.Common.{sym, ap, subst, ◌∙◌, arith, min}
 use Rattle.std.specs.List.{All, AllPairs, Contains}
 use Rattle.std.proofs.lemmas.Bool.{cases_lt}
-use Rattle.tacho_hours.specs.declared.run.Run.{Run}
-use Rattle.tacho_hours.specs.declared.run.TheConstants.{FAR}
-use Rattle.tacho_hours.specs.declared.debt.Debt.{Debt}
-use Rattle.tacho_hours.specs.declared.breach.Kind.TheVariants.{B10}
-use Rattle.tacho_hours.specs.declared.breach.Breach.{Breach}
-use Rattle.tacho_hours.specs.Line.{Line}
-use Rattle.tacho_hours.specs.Exactly.{AreExactly}
-use Rattle.tacho_hours.specs.Runs.{IsRestRun, AreRestRuns, Before, minutes_of}
-use Rattle.tacho_hours.specs.Weeks.{week_start}
-use Rattle.tacho_hours.specs.Debts.{minutes_before, IsCandidate, IsMainRest, Owes, Keeps, paid_from, CanPay, EarlierWeek, AreOwed, AreDebts}
-use Rattle.tacho_hours.specs.ByRuns.{AfterRun, AfterRuns}
-use Rattle.tacho_hours.specs.Breaches.{IsB10}
-use Rattle.tacho_hours.proofs.ByRunsLemmas.{paid_by_turns}
-use Rattle.tacho_hours.proofs.ExactlyLemmas.{contains_head, contains_tail, contains_cases, head_first, tail_order, at_index}
+use Rattle.tacho_law.specs.declared.run.Run.{Run}
+use Rattle.tacho_law.specs.declared.run.TheConstants.{FAR}
+use Rattle.tacho_law.specs.declared.debt.Debt.{Debt}
+use Rattle.tacho_law.specs.declared.breach.Kind.TheVariants.{B10}
+use Rattle.tacho_law.specs.declared.breach.Breach.{Breach}
+use Rattle.tacho_law.specs.Line.{Line}
+use Rattle.tacho_law.specs.Exactly.{AreExactly}
+use Rattle.tacho_law.specs.Runs.{IsRestRun, AreRestRuns, Before, minutes_of}
+use Rattle.tacho_law.specs.Weeks.{week_start}
+use Rattle.tacho_law.specs.Debts.{minutes_before, IsCandidate, IsMainRest, Owes, Keeps, paid_from, CanPay, EarlierWeek, AreOwed, AreDebts}
+use Rattle.tacho_law.specs.ByRuns.{AfterRun, AfterRuns}
+use Rattle.tacho_law.specs.Breaches.{IsB10}
+use Rattle.tacho_law.proofs.ByRunsLemmas.{paid_by_turns}
+use Rattle.tacho_law.proofs.ExactlyLemmas.{contains_head, contains_tail, contains_cases, head_first, tail_order, at_index}
 use Rattle.tacho_rules.proofs.FiniteLemmas.{Decided, decide_both, decide_if, decide_as, decide_lt, decide_le, decide_eq}
 use Rattle.tacho_rules.proofs.FiniteLemmas.{decide_some, decide_all, IsFinite, no_member, finite_one, finite_as}
 use Rattle.tacho_rules.proofs.FiniteLemmas.{finite_of, finite_when, finite_where, finite_below, finite_in, listed}

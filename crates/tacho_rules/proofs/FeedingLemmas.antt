@@ -5,10 +5,10 @@ use Rattle.std.proofs.lemmas.List.{length-map, get_or-map, drop_more, drop_all, 
 use Rattle.tacho_time.specs.declared.span.Span.{Span}
 use Rattle.tacho_line.specs.declared.horizon.Horizon.{Horizon}
 use Rattle.tacho_line.specs.Line.{IsHorizon}
-use Rattle.tacho_hours.specs.declared.breach.Breach.{Breach}
-use Rattle.tacho_hours.specs.declared.debt.Debt.{Debt}
-use Rattle.tacho_hours.specs.Line.{Joined}
-use Rattle.tacho_hours.proofs.RunsLemmas.{place_of, place_is, joined_le}
+use Rattle.tacho_law.specs.declared.breach.Breach.{Breach}
+use Rattle.tacho_law.specs.declared.debt.Debt.{Debt}
+use Rattle.tacho_law.specs.Line.{Joined}
+use Rattle.tacho_law.proofs.RunsLemmas.{place_of, place_is, joined_le}
 use Rattle.tacho_pass.specs.declared.found.Found.{Found}
 use Rattle.tacho_pass.specs.Found.{Appends}
 use Rattle.tacho_pass.specs.Kinds.{is_any}

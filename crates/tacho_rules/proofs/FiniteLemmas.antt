@@ -4,8 +4,8 @@ use Rattle.std.specs.List.{AllPairs, Contains}
 use Rattle.std.proofs.lemmas.Bool.{cases_lt}
 use Rattle.std.proofs.lemmas.List.Elements.{Contains-get_or}
 use Rattle.std.proofs.lemmas.List.Kept.{AllPairs-cons}
-use Rattle.tacho_hours.specs.Exactly.{AreExactly}
-use Rattle.tacho_hours.proofs.ExactlyLemmas.{contains_head, contains_tail, contains_cases, head_first, tail_order}
+use Rattle.tacho_law.specs.Exactly.{AreExactly}
+use Rattle.tacho_law.proofs.ExactlyLemmas.{contains_head, contains_tail, contains_cases, head_first, tail_order}
 
 -- ---- decided properties
 

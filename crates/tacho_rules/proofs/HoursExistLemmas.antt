@@ -4,21 +4,21 @@ use Rattle.std.specs.List.{Contains}
 use Rattle.std.proofs.lemmas.Bool.{cases_lt}
 use Rattle.tacho_time.specs.declared.span.Activity.{Activity}
 use Rattle.tacho_time.specs.declared.span.Activity.TheVariants.{Rest, Available, Work, Drive}
-use Rattle.tacho_hours.specs.declared.run.Run.{Run}
-use Rattle.tacho_hours.specs.declared.breach.Kind.{Kind}
-use Rattle.tacho_hours.specs.declared.breach.Kind.TheVariants.{B1, B2, B3, B4, B5, B6, B7, B8}
-use Rattle.tacho_hours.specs.declared.breach.Breach.{Breach}
-use Rattle.tacho_hours.specs.declared.days.DutyDay.{DutyDay}
-use Rattle.tacho_hours.specs.Line.{Line}
-use Rattle.tacho_hours.specs.Exactly.{HasCount}
-use Rattle.tacho_hours.specs.Runs.{IsRestRun, IsRestOf, AreNeighbours, Before, minutes_of}
-use Rattle.tacho_hours.specs.Driving.{driving, IsDrivingMinute, IsDrivingAbove}
-use Rattle.tacho_hours.specs.Days.{EarlierDay, IsDuty, HasPortion, IsRegular, IsReduced}
-use Rattle.tacho_hours.specs.Weeks.{week_start, IsInWeek, IsWeeklyRest}
-use Rattle.tacho_hours.specs.Breaches.{IsB1, IsB2, IsB3, IsB4, IsB5, IsB6, IsB7, IsB8, IsExtended}
-use Rattle.tacho_hours.proofs.DrivingLemmas.{driving_minute_only, driving_reaches}
-use Rattle.tacho_hours.proofs.ExactlyLemmas.{how_many_only}
-use Rattle.tacho_hours.proofs.OrderLemmas.{same_breach}
+use Rattle.tacho_law.specs.declared.run.Run.{Run}
+use Rattle.tacho_law.specs.declared.breach.Kind.{Kind}
+use Rattle.tacho_law.specs.declared.breach.Kind.TheVariants.{B1, B2, B3, B4, B5, B6, B7, B8}
+use Rattle.tacho_law.specs.declared.breach.Breach.{Breach}
+use Rattle.tacho_law.specs.declared.days.DutyDay.{DutyDay}
+use Rattle.tacho_law.specs.Line.{Line}
+use Rattle.tacho_law.specs.Exactly.{HasCount}
+use Rattle.tacho_law.specs.Runs.{IsRestRun, IsRestOf, AreNeighbours, Before, minutes_of}
+use Rattle.tacho_law.specs.Driving.{driving, IsDrivingMinute, IsDrivingAbove}
+use Rattle.tacho_law.specs.Days.{EarlierDay, IsDuty, HasPortion, IsRegular, IsReduced}
+use Rattle.tacho_law.specs.Weeks.{week_start, IsInWeek, IsWeeklyRest}
+use Rattle.tacho_law.specs.Breaches.{IsB1, IsB2, IsB3, IsB4, IsB5, IsB6, IsB7, IsB8, IsExtended}
+use Rattle.tacho_law.proofs.DrivingLemmas.{driving_minute_only, driving_reaches}
+use Rattle.tacho_law.proofs.ExactlyLemmas.{how_many_only}
+use Rattle.tacho_law.proofs.OrderLemmas.{same_breach}
 use Rattle.tacho_rules.proofs.FiniteLemmas.{Decided, decide_both, decide_either, decide_not, decide_as, decide_lt}
 use Rattle.tacho_rules.proofs.FiniteLemmas.{decide_le, decide_eq, decide_some, decide_all, IsFinite, finite_none}
 use Rattle.tacho_rules.proofs.FiniteLemmas.{finite_one, finite_as, finite_of, finite_when, finite_where, finite_below}

@@ -2,12 +2,12 @@
 use Rattle.std.proofs.Common.{◌≡◌, ◌-◌, ◌+◌, List, [], ◌∷◌, None, true, false, refl, ap, arith}
 use Rattle.tacho_time.specs.declared.span.Activity.TheVariants.{Rest, Work, Drive}
 use Rattle.tacho_time.specs.declared.span.Span.{Span}
-use Rattle.tacho_hours.specs.declared.breach.Breach.{Breach}
-use Rattle.tacho_hours.specs.declared.debt.Debt.{Debt}
-use Rattle.tacho_hours.specs.declared.breach.Kind.TheVariants.{B10}
-use Rattle.tacho_hours.specs.Debts.{minutes_before}
-use Rattle.tacho_hours.proofs.PageFacts.{at, rest_between, one_member}
-use Rattle.tacho_hours.specs.Breaches.{IsOverdue}
+use Rattle.tacho_law.specs.declared.breach.Breach.{Breach}
+use Rattle.tacho_law.specs.declared.debt.Debt.{Debt}
+use Rattle.tacho_law.specs.declared.breach.Kind.TheVariants.{B10}
+use Rattle.tacho_law.specs.Debts.{minutes_before}
+use Rattle.tacho_law.proofs.PageFacts.{at, rest_between, one_member}
+use Rattle.tacho_law.specs.Breaches.{IsOverdue}
 use Rattle.tacho_rules.specs.Report.{examined_line}
 
 -- ---- what is examined

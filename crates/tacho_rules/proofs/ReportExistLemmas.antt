@@ -10,19 +10,19 @@ use Rattle.tacho_line.specs.declared.horizon.Cause.{Cause}
 use Rattle.tacho_line.specs.declared.horizon.Cause.TheVariants.{Unknown, Crew}
 use Rattle.tacho_line.specs.declared.horizon.Horizon.{Horizon}
 use Rattle.tacho_line.specs.Line.{mark_at, IsSingle, IsCause, IsHorizon}
-use Rattle.tacho_hours.specs.declared.run.Run.{Run}
-use Rattle.tacho_hours.specs.declared.debt.Debt.{Debt}
-use Rattle.tacho_hours.specs.declared.breach.Kind.{Kind}
-use Rattle.tacho_hours.specs.declared.breach.Kind.TheVariants.{B1, B2, B3, B4, B5, B6, B7, B8, B9, B10}
-use Rattle.tacho_hours.specs.declared.breach.Breach.{Breach}
-use Rattle.tacho_hours.specs.Line.{Line, IsBase}
-use Rattle.tacho_hours.specs.Runs.{AreRestRuns}
-use Rattle.tacho_hours.specs.Breaks.{AreCompleteBreaks}
-use Rattle.tacho_hours.specs.Weeks.{week_start}
-use Rattle.tacho_hours.specs.Debts.{AreDebts}
-use Rattle.tacho_hours.specs.Order.{Earlier, AreBreaches, place_of_kind}
-use Rattle.tacho_hours.specs.Breaches.{IsBreach}
-use Rattle.tacho_hours.proofs.OrderLemmas.{earlier_trans}
+use Rattle.tacho_law.specs.declared.run.Run.{Run}
+use Rattle.tacho_law.specs.declared.debt.Debt.{Debt}
+use Rattle.tacho_law.specs.declared.breach.Kind.{Kind}
+use Rattle.tacho_law.specs.declared.breach.Kind.TheVariants.{B1, B2, B3, B4, B5, B6, B7, B8, B9, B10}
+use Rattle.tacho_law.specs.declared.breach.Breach.{Breach}
+use Rattle.tacho_law.specs.Line.{Line, IsBase}
+use Rattle.tacho_law.specs.Runs.{AreRestRuns}
+use Rattle.tacho_law.specs.Breaks.{AreCompleteBreaks}
+use Rattle.tacho_law.specs.Weeks.{week_start}
+use Rattle.tacho_law.specs.Debts.{AreDebts}
+use Rattle.tacho_law.specs.Order.{Earlier, AreBreaches, place_of_kind}
+use Rattle.tacho_law.specs.Breaches.{IsBreach}
+use Rattle.tacho_law.proofs.OrderLemmas.{earlier_trans}
 use Rattle.tacho_rules.specs.Report.{examined_line, IsReport}
 use Rattle.tacho_rules.proofs.SliceLemmas.{before_end, early_horizon}
 use Rattle.tacho_rules.proofs.FiniteLemmas.{IsFinite, finite_as, finite_of, finite_in, listed}

@@ -13,24 +13,24 @@ use Rattle.tacho_line.specs.declared.horizon.Cause.{Cause}
 use Rattle.tacho_line.specs.declared.horizon.Cause.TheVariants.{Unknown, Crew}
 use Rattle.tacho_line.specs.declared.horizon.Horizon.{Horizon}
 use Rattle.tacho_line.specs.Line.{mark_at, IsSingle, IsCause, IsHorizon}
-use Rattle.tacho_hours.specs.declared.run.Run.{Run}
-use Rattle.tacho_hours.specs.declared.days.DutyDay.{DutyDay}
-use Rattle.tacho_hours.specs.declared.breach.Breach.{Breach}
-use Rattle.tacho_hours.specs.declared.debt.Debt.{Debt}
-use Rattle.tacho_hours.specs.declared.breach.Kind.{Kind}
-use Rattle.tacho_hours.specs.declared.breach.Kind.TheVariants.{B1, B2, B3, B4, B5, B6, B7, B8, B9, B10}
-use Rattle.tacho_hours.specs.Runs.{IsRestRun, AreRestRuns, Before}
-use Rattle.tacho_hours.specs.Breaks.{AreCompleteBreaks}
-use Rattle.tacho_hours.specs.Line.{Line}
-use Rattle.tacho_hours.specs.Days.{IsDuty}
-use Rattle.tacho_hours.specs.Weeks.{week_start}
-use Rattle.tacho_hours.specs.Debts.{Owes, AreDebts}
-use Rattle.tacho_hours.specs.Breaches.{IsBreach}
-use Rattle.tacho_hours.specs.Order.{AreBreaches}
-use Rattle.tacho_hours.proofs.RunsLemmas.{one_rest_runs, rest_runs_are}
-use Rattle.tacho_hours.proofs.BreaksLemmas.{one_complete_breaks}
-use Rattle.tacho_hours.proofs.OrderLemmas.{one_breaches}
-use Rattle.tacho_hours.proofs.DebtsLemmas.{one_debts}
+use Rattle.tacho_law.specs.declared.run.Run.{Run}
+use Rattle.tacho_law.specs.declared.days.DutyDay.{DutyDay}
+use Rattle.tacho_law.specs.declared.breach.Breach.{Breach}
+use Rattle.tacho_law.specs.declared.debt.Debt.{Debt}
+use Rattle.tacho_law.specs.declared.breach.Kind.{Kind}
+use Rattle.tacho_law.specs.declared.breach.Kind.TheVariants.{B1, B2, B3, B4, B5, B6, B7, B8, B9, B10}
+use Rattle.tacho_law.specs.Runs.{IsRestRun, AreRestRuns, Before}
+use Rattle.tacho_law.specs.Breaks.{AreCompleteBreaks}
+use Rattle.tacho_law.specs.Line.{Line}
+use Rattle.tacho_law.specs.Days.{IsDuty}
+use Rattle.tacho_law.specs.Weeks.{week_start}
+use Rattle.tacho_law.specs.Debts.{Owes, AreDebts}
+use Rattle.tacho_law.specs.Breaches.{IsBreach}
+use Rattle.tacho_law.specs.Order.{AreBreaches}
+use Rattle.tacho_law.proofs.RunsLemmas.{one_rest_runs, rest_runs_are}
+use Rattle.tacho_law.proofs.BreaksLemmas.{one_complete_breaks}
+use Rattle.tacho_law.proofs.OrderLemmas.{one_breaches}
+use Rattle.tacho_law.proofs.DebtsLemmas.{one_debts}
 use Rattle.tacho_rules.specs.Report.{examined_line, IsReport}
 use Rattle.tacho_rules.proofs.StayingChoiceLemmas.{none_at_rest}
 

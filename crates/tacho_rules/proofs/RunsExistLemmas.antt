@@ -6,16 +6,16 @@ use Rattle.std.specs.List.{AllPairs, Contains}
 use Rattle.std.proofs.lemmas.Bool.{cases_lt}
 use Rattle.std.proofs.lemmas.List.{append-nil, append_assoc}
 use Rattle.tacho_time.specs.declared.span.Activity.TheVariants.{Rest}
-use Rattle.tacho_hours.specs.declared.run.Run.{Run}
-use Rattle.tacho_hours.specs.declared.run.TheConstants.{FAR}
-use Rattle.tacho_hours.specs.Line.{Line}
-use Rattle.tacho_hours.specs.Runs.{IsRestRun, AreRestRuns, IsRestOf, AreNeighbours, Before, minutes_of}
-use Rattle.tacho_hours.specs.Breaks.{AreCompleteBreaks}
-use Rattle.tacho_hours.specs.SoFar.{Breaking}
-use Rattle.tacho_hours.proofs.BreaksLemmas.{breaking_none, breaking_add, breaking_short, breaking_stay}
-use Rattle.tacho_hours.proofs.CoveringLemmas.{rest_or}
-use Rattle.tacho_hours.proofs.DebtsLemmas.{separate}
-use Rattle.tacho_hours.proofs.ExactlyLemmas.{contains_head, contains_cases, head_first, tail_order}
+use Rattle.tacho_law.specs.declared.run.Run.{Run}
+use Rattle.tacho_law.specs.declared.run.TheConstants.{FAR}
+use Rattle.tacho_law.specs.Line.{Line}
+use Rattle.tacho_law.specs.Runs.{IsRestRun, AreRestRuns, IsRestOf, AreNeighbours, Before, minutes_of}
+use Rattle.tacho_law.specs.Breaks.{AreCompleteBreaks}
+use Rattle.tacho_law.specs.SoFar.{Breaking}
+use Rattle.tacho_law.proofs.BreaksLemmas.{breaking_none, breaking_add, breaking_short, breaking_stay}
+use Rattle.tacho_law.proofs.CoveringLemmas.{rest_or}
+use Rattle.tacho_law.proofs.DebtsLemmas.{separate}
+use Rattle.tacho_law.proofs.ExactlyLemmas.{contains_head, contains_cases, head_first, tail_order}
 use Rattle.tacho_rules.proofs.FiniteLemmas.{Decided, decide_both, decide_either, decide_not, decide_if, decide_as}
 use Rattle.tacho_rules.proofs.FiniteLemmas.{decide_lt, decide_le, decide_eq, decide_all, IsFinite, no_member}
 use Rattle.tacho_rules.proofs.FiniteLemmas.{append_left, append_right, finite_one, finite_as, finite_of, finite_where}

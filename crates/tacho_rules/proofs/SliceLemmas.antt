@@ -13,11 +13,11 @@ use Rattle.tacho_time.specs.Spans.{Gives, IsCanonical, IsCanonicalOf}
 use Rattle.tacho_time.proofs.CanonicalLemmas.{later, canonical_starts}
 use Rattle.tacho_line.specs.declared.horizon.Horizon.{Horizon}
 use Rattle.tacho_line.specs.Line.{mark_at, IsSingle, HoldsWithin, IsHorizon}
-use Rattle.tacho_hours.specs.Line.{Line}
-use Rattle.tacho_hours.specs.Line.{line_of, Joined, IsBase, IsExamined}
-use Rattle.tacho_hours.proofs.RunsLemmas.{line_before, line_within, line_past}
+use Rattle.tacho_law.specs.Line.{Line}
+use Rattle.tacho_law.specs.Line.{line_of, Joined, IsBase, IsExamined}
+use Rattle.tacho_law.proofs.RunsLemmas.{line_before, line_within, line_past}
 use Rattle.tacho_rules.specs.Report.{examined_line}
-use Rattle.tacho_hours.proofs.DrivingLemmas.{line_from_past}
+use Rattle.tacho_law.proofs.DrivingLemmas.{line_from_past}
 
 -- a minute after the first span is given by the other spans
 given_after : (s : Span) (spans : List Span) (m : ℕ) (mark : Mark)

@@ -2,14 +2,14 @@
 use Rattle.std.proofs.Common.{◌≡◌, ℕ, zero, suc, ◌+◌, ◌<◌, ◌≤◌, inl, inr, List, get_or, refl, arith}
 use Rattle.std.specs.List.{Contains}
 use Rattle.std.proofs.lemmas.List.Elements.{Contains-get_or}
-use Rattle.tacho_hours.specs.declared.run.Run.{Run}
-use Rattle.tacho_hours.specs.declared.breach.Breach.{Breach}
-use Rattle.tacho_hours.specs.declared.breach.Kind.TheVariants.{B1}
-use Rattle.tacho_hours.specs.Line.{Line}
-use Rattle.tacho_hours.specs.Limits.{latest, driving_before_break}
-use Rattle.tacho_hours.specs.Runs.{AreRestRuns, AreRuns, Before}
-use Rattle.tacho_hours.specs.Breaks.{Completes, AreCompleteBreaks}
-use Rattle.tacho_hours.specs.Breaches.{IsB1}
+use Rattle.tacho_law.specs.declared.run.Run.{Run}
+use Rattle.tacho_law.specs.declared.breach.Breach.{Breach}
+use Rattle.tacho_law.specs.declared.breach.Kind.TheVariants.{B1}
+use Rattle.tacho_law.specs.Line.{Line}
+use Rattle.tacho_law.specs.Limits.{latest, driving_before_break}
+use Rattle.tacho_law.specs.Runs.{AreRestRuns, AreRuns, Before}
+use Rattle.tacho_law.specs.Breaks.{Completes, AreCompleteBreaks}
+use Rattle.tacho_law.specs.Breaches.{IsB1}
 use Rattle.tacho_rules.proofs.StayingLemmas.{GoesOn, run_stays, run_was, last_run, next_there}
 use Rattle.tacho_rules.proofs.StayingHoursLemmas.{HasSame, minute_stays, over_stays}
 

@@ -4,19 +4,19 @@ use Rattle.std.proofs.Common.{◌≡◌, ◌≢◌, ℕ, ◌+◌, ◌-◌, ◌<�
 use Rattle.std.proofs.Common.{cond, leb, ltb, ◌/◌}
 use Rattle.std.proofs.lemmas.Bool.{cases_lt, le-leb, lt-leb, lt-ltb, le-ltb, cond-true, cond-false}
 use Rattle.tacho_time.specs.declared.span.Activity.TheVariants.{Rest}
-use Rattle.tacho_hours.specs.declared.run.Run.{Run}
-use Rattle.tacho_hours.specs.declared.run.TheConstants.{FAR}
-use Rattle.tacho_hours.specs.declared.breach.Breach.{Breach}
-use Rattle.tacho_hours.specs.declared.breach.Kind.TheVariants.{B9}
-use Rattle.tacho_hours.specs.Line.{Line}
-use Rattle.tacho_hours.specs.Limits.{latest, weekly_rest, regular_weekly_rest, minutes_of_week, first_week}
-use Rattle.tacho_hours.specs.Runs.{IsRestRun, IsRestOf, minutes_of}
-use Rattle.tacho_hours.specs.Weeks.{week_start, Touches, IsWhollyAtRest, IsWeeklyRest}
-use Rattle.tacho_hours.specs.Choice.{IsChoice, IsCounted, Serves, CanServe}
-use Rattle.tacho_hours.specs.Anew.{FailsFrom, Fails, EndedBy}
-use Rattle.tacho_hours.specs.Anew.Fails.{at_first, anew}
-use Rattle.tacho_hours.specs.Breaches.{IsB9}
-use Rattle.tacho_hours.proofs.CoveringLemmas.{EndsAfter, ends_after}
+use Rattle.tacho_law.specs.declared.run.Run.{Run}
+use Rattle.tacho_law.specs.declared.run.TheConstants.{FAR}
+use Rattle.tacho_law.specs.declared.breach.Breach.{Breach}
+use Rattle.tacho_law.specs.declared.breach.Kind.TheVariants.{B9}
+use Rattle.tacho_law.specs.Line.{Line}
+use Rattle.tacho_law.specs.Limits.{latest, weekly_rest, regular_weekly_rest, minutes_of_week, first_week}
+use Rattle.tacho_law.specs.Runs.{IsRestRun, IsRestOf, minutes_of}
+use Rattle.tacho_law.specs.Weeks.{week_start, Touches, IsWhollyAtRest, IsWeeklyRest}
+use Rattle.tacho_law.specs.Choice.{IsChoice, IsCounted, Serves, CanServe}
+use Rattle.tacho_law.specs.Anew.{FailsFrom, Fails, EndedBy}
+use Rattle.tacho_law.specs.Anew.Fails.{at_first, anew}
+use Rattle.tacho_law.specs.Breaches.{IsB9}
+use Rattle.tacho_law.proofs.CoveringLemmas.{EndsAfter, ends_after}
 use Rattle.tacho_rules.proofs.StayingLemmas.{GoesOn}
 use Rattle.tacho_rules.proofs.StayingHoursLemmas.{HasSame}
 

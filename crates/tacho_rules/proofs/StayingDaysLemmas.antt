@@ -6,22 +6,22 @@ use Rattle.std.proofs.lemmas.Bool.{cases_lt}
 use Rattle.std.proofs.lemmas.Bool.Decides.{nat_tests}
 use Rattle.std.proofs.lemmas.List.Elements.{Contains-get_or}
 use Rattle.std.proofs.lemmas.List.{get_or-map, get_or_default, length-map}
-use Rattle.tacho_hours.specs.declared.run.Run.{Run}
-use Rattle.tacho_hours.specs.declared.days.DutyDay.{DutyDay}
-use Rattle.tacho_hours.specs.declared.breach.Breach.{Breach}
-use Rattle.tacho_hours.specs.declared.breach.Kind.TheVariants.{B2, B3, B4, B5}
-use Rattle.tacho_hours.specs.Exactly.{HasCount}
-use Rattle.tacho_hours.specs.Line.{Line}
-use Rattle.tacho_hours.specs.Limits.{latest, daily_rest, weekly_rest, first_part_of_daily_rest, driving_in_day}
-use Rattle.tacho_hours.specs.Limits.{driving_in_extended_day}
-use Rattle.tacho_hours.specs.Runs.{IsRestOf, AreRestRuns, Before, minutes_of}
-use Rattle.tacho_hours.specs.Driving.{driving, IsDrivingAbove}
-use Rattle.tacho_hours.specs.Days.{IsDuty, EarlierDay, HasPortion, IsRegular, IsReduced}
-use Rattle.tacho_hours.specs.Breaches.{IsB2, IsB3, IsB4, IsB5, IsExtended}
-use Rattle.tacho_hours.proofs.ExactlyLemmas.{how_many_as}
-use Rattle.tacho_hours.proofs.DrivingLemmas.{driving_mono}
-use Rattle.tacho_hours.proofs.DebtsLemmas.{separate}
-use Rattle.tacho_hours.proofs.ByRunsLemmas.{one_run}
+use Rattle.tacho_law.specs.declared.run.Run.{Run}
+use Rattle.tacho_law.specs.declared.days.DutyDay.{DutyDay}
+use Rattle.tacho_law.specs.declared.breach.Breach.{Breach}
+use Rattle.tacho_law.specs.declared.breach.Kind.TheVariants.{B2, B3, B4, B5}
+use Rattle.tacho_law.specs.Exactly.{HasCount}
+use Rattle.tacho_law.specs.Line.{Line}
+use Rattle.tacho_law.specs.Limits.{latest, daily_rest, weekly_rest, first_part_of_daily_rest, driving_in_day}
+use Rattle.tacho_law.specs.Limits.{driving_in_extended_day}
+use Rattle.tacho_law.specs.Runs.{IsRestOf, AreRestRuns, Before, minutes_of}
+use Rattle.tacho_law.specs.Driving.{driving, IsDrivingAbove}
+use Rattle.tacho_law.specs.Days.{IsDuty, EarlierDay, HasPortion, IsRegular, IsReduced}
+use Rattle.tacho_law.specs.Breaches.{IsB2, IsB3, IsB4, IsB5, IsExtended}
+use Rattle.tacho_law.proofs.ExactlyLemmas.{how_many_as}
+use Rattle.tacho_law.proofs.DrivingLemmas.{driving_mono}
+use Rattle.tacho_law.proofs.DebtsLemmas.{separate}
+use Rattle.tacho_law.proofs.ByRunsLemmas.{one_run}
 use Rattle.tacho_rules.proofs.StayingLemmas.{GoesOn, ending}
 use Rattle.tacho_rules.proofs.StayingHoursLemmas.{HasSame, driving_same, starts_by, over_stays, ends_too}
 use Rattle.tacho_rules.proofs.StayingHoursLemmas.{neighbours_stay, neighbours_were, rest_stays, rest_was}

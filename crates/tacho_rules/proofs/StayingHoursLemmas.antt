@@ -5,17 +5,17 @@ use Rattle.std.specs.List.{Contains}
 use Rattle.std.proofs.lemmas.Bool.{cases_lt}
 use Rattle.tacho_time.specs.declared.span.Activity.{Activity}
 use Rattle.tacho_time.specs.declared.span.Activity.TheVariants.{Rest, Drive}
-use Rattle.tacho_hours.specs.declared.run.Run.{Run}
-use Rattle.tacho_hours.specs.declared.breach.Breach.{Breach}
-use Rattle.tacho_hours.specs.Line.{Line}
-use Rattle.tacho_hours.specs.Limits.{latest}
-use Rattle.tacho_hours.specs.Runs.{IsRestRun, IsRestOf, AreRestRuns, AreNeighbours, minutes_of}
-use Rattle.tacho_hours.specs.Driving.{driving, is_drive, IsDrivingMinute, IsDrivingAbove}
-use Rattle.tacho_hours.specs.Breaches.{HasDrivingAbove}
-use Rattle.tacho_hours.specs.Order.{Agree}
-use Rattle.tacho_hours.proofs.DrivingLemmas.{driving_reaches}
-use Rattle.tacho_hours.proofs.RunsLemmas.{rest_runs_are}
-use Rattle.tacho_hours.proofs.ByRunsLemmas.{one_run}
+use Rattle.tacho_law.specs.declared.run.Run.{Run}
+use Rattle.tacho_law.specs.declared.breach.Breach.{Breach}
+use Rattle.tacho_law.specs.Line.{Line}
+use Rattle.tacho_law.specs.Limits.{latest}
+use Rattle.tacho_law.specs.Runs.{IsRestRun, IsRestOf, AreRestRuns, AreNeighbours, minutes_of}
+use Rattle.tacho_law.specs.Driving.{driving, is_drive, IsDrivingMinute, IsDrivingAbove}
+use Rattle.tacho_law.specs.Breaches.{HasDrivingAbove}
+use Rattle.tacho_law.specs.Order.{Agree}
+use Rattle.tacho_law.proofs.DrivingLemmas.{driving_reaches}
+use Rattle.tacho_law.proofs.RunsLemmas.{rest_runs_are}
+use Rattle.tacho_law.proofs.ByRunsLemmas.{one_run}
 use Rattle.tacho_rules.proofs.StayingLemmas.{GoesOn, run_stays, run_was, last_run, next_there}
 
 -- a breach that satisfies `P`, at the same place in the order

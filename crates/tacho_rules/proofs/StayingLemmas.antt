@@ -4,14 +4,14 @@ use Rattle.std.proofs.Common.{refl, sym, ap, subst, ◌∙◌, arith}
 use Rattle.std.specs.List.{All, AllPairs, Contains}
 use Rattle.std.proofs.lemmas.Bool.{cases_lt}
 use Rattle.tacho_time.specs.declared.span.Activity.TheVariants.{Rest}
-use Rattle.tacho_hours.specs.declared.run.Run.{Run}
-use Rattle.tacho_hours.specs.declared.run.TheConstants.{FAR}
-use Rattle.tacho_hours.specs.Line.{Line}
-use Rattle.tacho_hours.specs.Limits.{latest}
-use Rattle.tacho_hours.specs.Runs.{IsRestRun, AreRuns, Before, minutes_of}
-use Rattle.tacho_hours.proofs.ExactlyLemmas.{head_first, tail_order, contains_head, contains_tail, contains_cases}
-use Rattle.tacho_hours.proofs.DebtsLemmas.{separate}
-use Rattle.tacho_hours.proofs.CoveringLemmas.{Covers, covered}
+use Rattle.tacho_law.specs.declared.run.Run.{Run}
+use Rattle.tacho_law.specs.declared.run.TheConstants.{FAR}
+use Rattle.tacho_law.specs.Line.{Line}
+use Rattle.tacho_law.specs.Limits.{latest}
+use Rattle.tacho_law.specs.Runs.{IsRestRun, AreRuns, Before, minutes_of}
+use Rattle.tacho_law.proofs.ExactlyLemmas.{head_first, tail_order, contains_head, contains_tail, contains_cases}
+use Rattle.tacho_law.proofs.DebtsLemmas.{separate}
+use Rattle.tacho_law.proofs.CoveringLemmas.{Covers, covered}
 
 -- `line` is at rest from its horizon `h` on; `other` is at rest from `k` on, and agrees with `line` before `h`
 pub record GoesOn (line other : Line) (h k : ℕ) : Type 0 where

@@ -1,13 +1,13 @@
 -- Breaches of the rules on weeks and on late weekly rests stay when a line continues after its horizon (`laws::breaches_stay`).
 use Rattle.std.proofs.Common.{◌≡◌, ℕ, ◌+◌, ◌-◌, ◌<◌, List, refl, arith}
-use Rattle.tacho_hours.specs.declared.run.Run.{Run}
-use Rattle.tacho_hours.specs.declared.breach.Breach.{Breach}
-use Rattle.tacho_hours.specs.declared.breach.Kind.TheVariants.{B6, B7, B8}
-use Rattle.tacho_hours.specs.Line.{Line}
-use Rattle.tacho_hours.specs.Limits.{driving_in_week, driving_in_two_weeks, weekly_rest}
-use Rattle.tacho_hours.specs.Runs.{AreRestRuns}
-use Rattle.tacho_hours.specs.Weeks.{week_start}
-use Rattle.tacho_hours.specs.Breaches.{IsB6, IsB7, IsB8}
+use Rattle.tacho_law.specs.declared.run.Run.{Run}
+use Rattle.tacho_law.specs.declared.breach.Breach.{Breach}
+use Rattle.tacho_law.specs.declared.breach.Kind.TheVariants.{B6, B7, B8}
+use Rattle.tacho_law.specs.Line.{Line}
+use Rattle.tacho_law.specs.Limits.{driving_in_week, driving_in_two_weeks, weekly_rest}
+use Rattle.tacho_law.specs.Runs.{AreRestRuns}
+use Rattle.tacho_law.specs.Weeks.{week_start}
+use Rattle.tacho_law.specs.Breaches.{IsB6, IsB7, IsB8}
 use Rattle.tacho_rules.proofs.StayingLemmas.{GoesOn}
 use Rattle.tacho_rules.proofs.StayingHoursLemmas.{HasSame, over_stays, neighbours_stay}
 

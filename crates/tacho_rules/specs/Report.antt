@@ -6,15 +6,15 @@ use Rattle.tacho_time.specs.declared.span.Activity.TheVariants.{Rest}
 use Rattle.tacho_time.specs.declared.span.Span.{Span}
 use Rattle.tacho_line.specs.declared.horizon.Horizon.{Horizon}
 use Rattle.tacho_line.specs.Line.{mark_at, IsHorizon}
-use Rattle.tacho_hours.specs.declared.run.Run.{Run}
-use Rattle.tacho_hours.specs.declared.breach.Breach.{Breach}
-use Rattle.tacho_hours.specs.declared.debt.Debt.{Debt}
-use Rattle.tacho_hours.specs.Runs.{AreRestRuns}
-use Rattle.tacho_hours.specs.Breaks.{AreCompleteBreaks}
-use Rattle.tacho_hours.specs.Line.{Line}
-use Rattle.tacho_hours.specs.Debts.{AreDebts}
-use Rattle.tacho_hours.specs.Breaches.{IsBreach}
-use Rattle.tacho_hours.specs.Order.{AreBreaches}
+use Rattle.tacho_law.specs.declared.run.Run.{Run}
+use Rattle.tacho_law.specs.declared.breach.Breach.{Breach}
+use Rattle.tacho_law.specs.declared.debt.Debt.{Debt}
+use Rattle.tacho_law.specs.Runs.{AreRestRuns}
+use Rattle.tacho_law.specs.Breaks.{AreCompleteBreaks}
+use Rattle.tacho_law.specs.Line.{Line}
+use Rattle.tacho_law.specs.Debts.{AreDebts}
+use Rattle.tacho_law.specs.Breaches.{IsBreach}
+use Rattle.tacho_law.specs.Order.{AreBreaches}
 
 -- the examined line: what is held from the base to before the horizon, and rest in every other minute
 abbrev pub examined_line : List Span → ℕ → ℕ → Line

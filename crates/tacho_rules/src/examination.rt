@@ -1,12 +1,12 @@
 ghost use Rattle.std.specs.Prelude.{◌≤◌, All, IfOk, IsTrue};
-ghost use Rattle.tacho_hours.specs.Line.{IsBase};
-ghost use Rattle.tacho_hours.specs.Limits.{latest};
+ghost use Rattle.tacho_law.specs.Line.{IsBase};
+ghost use Rattle.tacho_law.specs.Limits.{latest};
 ghost use Rattle.tacho_rules.specs.Report.{IsReport};
 
 use crate::report::Report;
 use crate::scan::Scan;
 use std::alloc::{AllocError, Global};
-use tacho_hours::limits::{FIRST_BASE, LATEST};
+use tacho_law::limits::{FIRST_BASE, LATEST};
 use tacho_line::Line;
 use tacho_pass::Found;
 use tacho_time::{Minute, first_minute, week_of};

@@ -5,13 +5,13 @@ ghost use Rattle.tacho_time.specs.declared.span.Activity.TheVariants.{Rest};
 ghost use Rattle.tacho_time.specs.declared.span.Span.{Span as Stretch};
 ghost use Rattle.tacho_line.specs.declared.horizon.Horizon.{Horizon as HorizonValue};
 ghost use Rattle.tacho_line.specs.Line.{mark_at};
-ghost use Rattle.tacho_hours.specs.declared.breach.Breach.{Breach as BreachValue};
-ghost use Rattle.tacho_hours.specs.declared.breach.Kind.{Kind as KindValue};
-ghost use Rattle.tacho_hours.specs.declared.breach.Kind.TheVariants.{B10};
-ghost use Rattle.tacho_hours.specs.declared.debt.Debt.{Debt as DebtValue};
-ghost use Rattle.tacho_hours.specs.Limits.{latest};
-ghost use Rattle.tacho_hours.specs.Line.{IsBase};
-ghost use Rattle.tacho_hours.specs.Order.{Agree};
+ghost use Rattle.tacho_law.specs.declared.breach.Breach.{Breach as BreachValue};
+ghost use Rattle.tacho_law.specs.declared.breach.Kind.{Kind as KindValue};
+ghost use Rattle.tacho_law.specs.declared.breach.Kind.TheVariants.{B10};
+ghost use Rattle.tacho_law.specs.declared.debt.Debt.{Debt as DebtValue};
+ghost use Rattle.tacho_law.specs.Limits.{latest};
+ghost use Rattle.tacho_law.specs.Line.{IsBase};
+ghost use Rattle.tacho_law.specs.Order.{Agree};
 ghost use Rattle.tacho_pass.specs.Kinds.{is_b1, is_b2_to_b5, is_b6_or_b7, is_b8_to_b10};
 ghost use Rattle.tacho_driving.specs.Periods.{BreaksDefined};
 ghost use Rattle.tacho_driving.specs.Sums.{WeekSumsDefined};
@@ -21,7 +21,7 @@ ghost use Rattle.tacho_rules.specs.Report.{IsReport, examined_line};
 
 use crate::{Breaks, Days, Pass, WeekRests, WeekSums};
 pub use tacho_choice::laws::{choices_reach, each_week_has_its_rests};
-pub use tacho_hours::laws::paid_by_runs;
+pub use tacho_law::laws::paid_by_runs;
 pub use tacho_rests::laws::examined_line_is_in_weeks;
 
 /// Held spans have one report from a base.

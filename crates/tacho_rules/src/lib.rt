@@ -13,7 +13,7 @@ pub use rules::Rules;
 pub use scan::Scan;
 pub use tacho_days::Days;
 pub use tacho_driving::{Breaks, WeekSums};
-pub use tacho_hours::{Breach, Debt, Kind, limits};
+pub use tacho_law::{Breach, Debt, Kind, limits};
 pub use tacho_line::{Cause, Horizon};
 pub use tacho_pass::{Found, Pass, Plain};
 pub use tacho_rests::WeekRests;

@@ -1,4 +1,4 @@
-use tacho_hours::{Breach, Debt};
+use tacho_law::{Breach, Debt};
 use tacho_line::Horizon;
 
 /// The report of a timeline, from a base to its horizon.

@@ -1,9 +1,9 @@
 ghost use Rattle.std.specs.Prelude.{◌≡◌, ◌⊎◌, ◌++◌, ◌∷◌, [], ◌<◌, ◌≤◌, ℕ, List, Contains, map, true, IsErr, IfOk, OnOk, OnErr};
 ghost use Rattle.tacho_time.specs.declared.span.Span.{Span as SpanValue};
-ghost use Rattle.tacho_hours.specs.declared.breach.Breach.{Breach as BreachValue};
-ghost use Rattle.tacho_hours.specs.declared.debt.Debt.{Debt as DebtValue};
-ghost use Rattle.tacho_hours.specs.Line.{line_of, Joined, IsBase, IsExamined};
-ghost use Rattle.tacho_hours.specs.Limits.{latest};
+ghost use Rattle.tacho_law.specs.declared.breach.Breach.{Breach as BreachValue};
+ghost use Rattle.tacho_law.specs.declared.debt.Debt.{Debt as DebtValue};
+ghost use Rattle.tacho_law.specs.Line.{line_of, Joined, IsBase, IsExamined};
+ghost use Rattle.tacho_law.specs.Limits.{latest};
 ghost use Rattle.tacho_line.specs.Walk.{cut_to};
 ghost use Rattle.tacho_pass.specs.declared.found.Found.{Found as FoundValue};
 ghost use Rattle.tacho_pass.specs.Found.{Appends};
@@ -13,7 +13,7 @@ ghost use Rattle.tacho_rules.specs.Scan.{AreFindings, AreGathered, IsAt, CanTake
 use crate::report::Report;
 use crate::rules::Rules;
 use std::alloc::AllocError;
-use tacho_hours::put_in_order;
+use tacho_law::put_in_order;
 use tacho_line::{Horizon, cut};
 use tacho_pass::{Found, Hearing, Pass, Plain};
 use tacho_time::{Minute, Span};

@@ -7,7 +7,7 @@ use Rattle.tacho_time.specs.Text.{day_text, month_text}
 use Rattle.tacho_line.specs.declared.gap.Gap.{Gap}
 use Rattle.tacho_line.specs.declared.horizon.Horizon.{Horizon}
 use Rattle.tacho_line.specs.Line.{mark_at, AgreeWithin, AreGaps, HoldsWithin}
-use Rattle.tacho_hours.specs.declared.breach.Breach.{Breach}
+use Rattle.tacho_law.specs.declared.breach.Breach.{Breach}
 use Rattle.tacho_stretches.specs.Stretches.{Judged}
 use Rattle.tacho_sheet.proofs.AmountLemmas.{count_same}
 use Rattle.tacho_sheet.specs.Reports.{amount_text, amounts_text, breach_line, breaches_within, columns, count_from, day_line, day_lines, horizon_line, right_aligned, column_minutes, weekday_name, AgreeIn, IsGapText, IsMonthSheet, IsSpanCsv}

@@ -6,7 +6,7 @@ use Rattle.tacho_time.specs.declared.span.Span.{Span}
 use Rattle.tacho_line.specs.Line.{AreGaps, HoldsWithin}
 use Rattle.tacho_line.specs.declared.gap.Gap.{Gap}
 use Rattle.tacho_line.specs.declared.horizon.Horizon.{Horizon}
-use Rattle.tacho_hours.specs.declared.breach.Breach.{Breach}
+use Rattle.tacho_law.specs.declared.breach.Breach.{Breach}
 use Rattle.tacho_sheet.specs.Reports.{AreBounds, IsGapText, IsMonthSheet, IsSpanCsv, csv_text, gap_line, sheet_text}
 use Rattle.tacho_stretches.specs.Stretches.{Judged}
 use Rattle.tacho_sheet.specs.Months.{month_breaches, incident_row, numbers_of, overview_row, AreIncidentRows, IsOverviewRow}

@@ -9,9 +9,9 @@ use Rattle.tacho_time.specs.Calendar.{year_after, month_after, civil}
 use Rattle.tacho_card.specs.declared.fault.CardFault.TheVariants as card
 use Rattle.tacho_line.specs.declared.horizon.Cause.TheVariants.{Unknown, Crew}
 use Rattle.tacho_line.specs.declared.horizon.Horizon.{Horizon}
-use Rattle.tacho_hours.specs.declared.breach.Breach.{Breach}
-use Rattle.tacho_hours.specs.declared.debt.Debt.{Debt}
-use Rattle.tacho_hours.specs.declared.breach.Kind.TheVariants.{B1, B2, B3, B4, B5, B6, B7, B8, B9, B10}
+use Rattle.tacho_law.specs.declared.breach.Breach.{Breach}
+use Rattle.tacho_law.specs.declared.debt.Debt.{Debt}
+use Rattle.tacho_law.specs.declared.breach.Kind.TheVariants.{B1, B2, B3, B4, B5, B6, B7, B8, B9, B10}
 use Rattle.tacho_stretches.specs.Stretches.{Judged}
 use Rattle.tacho_state.specs.declared.driver.Column.TheVariants as column
 use Rattle.tacho_state.specs.declared.entry.Entry.{Entry}

@@ -2,10 +2,10 @@
 use Rattle.std.specs.Prelude.{◌≡◌, ℕ, ◌-◌, ◌==◌, ◌&&◌, ◌||◌, nat_lt, nat_le, Bool, false, List, [], ◌∷◌, ◌++◌, codes, decimal, count_by, flat_map, map}
 use Rattle.tacho_time.specs.declared.span.Span.{Span}
 use Rattle.tacho_time.specs.Text.{minute_text}
-use Rattle.tacho_hours.specs.declared.breach.Breach.{Breach}
-use Rattle.tacho_hours.specs.declared.breach.Kind.{Kind}
-use Rattle.tacho_hours.specs.declared.breach.Kind.TheVariants.{B1, B2, B3, B4, B5, B6, B7, B8, B9, B10}
-use Rattle.tacho_hours.specs.Order.{place_of_kind}
+use Rattle.tacho_law.specs.declared.breach.Breach.{Breach}
+use Rattle.tacho_law.specs.declared.breach.Kind.{Kind}
+use Rattle.tacho_law.specs.declared.breach.Kind.TheVariants.{B1, B2, B3, B4, B5, B6, B7, B8, B9, B10}
+use Rattle.tacho_law.specs.Order.{place_of_kind}
 use Rattle.tacho_stretches.specs.Stretches.{Judged}
 use Rattle.tacho_sheet.specs.Reports.{AreBounds, breaches_within, columns, count_from, column_minutes}
 

@@ -14,10 +14,10 @@ use Rattle.tacho_line.specs.declared.horizon.Cause.{Cause}
 use Rattle.tacho_line.specs.declared.horizon.Cause.TheVariants.{Unknown, Crew}
 use Rattle.tacho_line.specs.declared.horizon.Horizon.{Horizon}
 use Rattle.tacho_line.specs.Line.{mark_at, AgreeWithin, AreGaps, HoldsWithin}
-use Rattle.tacho_hours.specs.declared.breach.Breach.{Breach}
-use Rattle.tacho_hours.specs.declared.debt.Debt.{Debt}
-use Rattle.tacho_hours.specs.declared.breach.Kind.{Kind}
-use Rattle.tacho_hours.specs.declared.breach.Kind.TheVariants.{B1, B2, B3, B4, B5, B6, B7, B8, B9, B10}
+use Rattle.tacho_law.specs.declared.breach.Breach.{Breach}
+use Rattle.tacho_law.specs.declared.debt.Debt.{Debt}
+use Rattle.tacho_law.specs.declared.breach.Kind.{Kind}
+use Rattle.tacho_law.specs.declared.breach.Kind.TheVariants.{B1, B2, B3, B4, B5, B6, B7, B8, B9, B10}
 
 -- ---- breaches
 

@@ -5,8 +5,8 @@ ghost use Rattle.std.specs.Prelude.{◌≡◌, ◌+◌, ◌<◌, ◌≤◌, ◌�
 ghost use Rattle.tacho_time.specs.declared.span.Span.{Span as SpanValue};
 ghost use Rattle.tacho_line.specs.declared.gap.Gap.{Gap};
 ghost use Rattle.tacho_line.specs.declared.horizon.Horizon.{Horizon as HorizonValue};
-ghost use Rattle.tacho_hours.specs.declared.breach.Breach.{Breach as BreachValue};
-ghost use Rattle.tacho_hours.specs.declared.breach.Kind.{Kind as KindValue};
+ghost use Rattle.tacho_law.specs.declared.breach.Breach.{Breach as BreachValue};
+ghost use Rattle.tacho_law.specs.declared.breach.Kind.{Kind as KindValue};
 ghost use Rattle.tacho_line.specs.Line.{AgreeWithin, AreGaps, InGaps};
 ghost use Rattle.tacho_stretches.specs.Start.{IsEndOfHeld};
 ghost use Rattle.tacho_stretches.specs.Stretches.{Judged};

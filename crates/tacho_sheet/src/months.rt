@@ -8,7 +8,7 @@ ghost use Rattle.tacho_sheet.specs.Months.{article, month_breaches, count_of as 
 use crate::amounts::{Amounts, amounts_of_range};
 use crate::sheet::is_within;
 use std::alloc::{AllocError, Global};
-use tacho_hours::{Breach, Kind};
+use tacho_law::{Breach, Kind};
 use tacho_line::Line;
 use tacho_stretches::Stretch;
 use tacho_time::{Minute, Month, month_range};

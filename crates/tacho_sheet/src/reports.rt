@@ -2,7 +2,7 @@ ghost use Rattle.std.specs.Prelude.{◌≡◌, ◌++◌, codes, flat_map, IfOk, 
 ghost use Rattle.tacho_sheet.specs.Reports.{breach_line, breach_text as text_of_breaches, cause_name, csv_line, debt_line, gap_line, horizon_line, kind_name, owed_text as text_of_debts, paid_text, IsGapText, IsSpanCsv};
 
 use std::alloc::{AllocError, Global};
-use tacho_hours::{Breach, Debt, Kind};
+use tacho_law::{Breach, Debt, Kind};
 use tacho_line::{Cause, Gap, Horizon, Line};
 use tacho_rules::Report;
 use tacho_time::{Day, Minute, Month, Span, month_range, write_day};

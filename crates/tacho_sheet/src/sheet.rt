@@ -8,7 +8,7 @@ use crate::amounts::{Amounts, amounts_of_day};
 use crate::reports::{push_breach, push_horizon};
 use jiff_core::civil::Weekday;
 use std::alloc::{AllocError, Global};
-use tacho_hours::Breach;
+use tacho_law::Breach;
 use tacho_line::Line;
 use tacho_rules::Report;
 use tacho_time::{Day, Minute, Month, month_range, weekday, write_day};

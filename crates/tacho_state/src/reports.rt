@@ -1,7 +1,7 @@
 ghost use Rattle.std.specs.Prelude.{◌≡◌, ◌⊎◌, ◌*◌, ◌<◌, ◌≤◌, false, IfOk, IfErr, IfSome, IsNone, map};
 ghost use Rattle.tacho_time.specs.OrMemory.{OrMemory};
-ghost use Rattle.tacho_hours.specs.Line.{IsBase};
-ghost use Rattle.tacho_hours.specs.Limits.{latest};
+ghost use Rattle.tacho_law.specs.Line.{IsBase};
+ghost use Rattle.tacho_law.specs.Limits.{latest};
 ghost use Rattle.tacho_rules.specs.Report.{IsReport};
 ghost use Rattle.tacho_stretches.specs.Stretches.{AreStretches, judged_of};
 ghost use Rattle.tacho_state.specs.Steps.{is_monday};

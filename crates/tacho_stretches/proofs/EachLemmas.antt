@@ -7,7 +7,7 @@ use Rattle.tacho_time.specs.declared.span.Mark.{Mark}
 use Rattle.tacho_time.specs.declared.span.Span.{Span}
 use Rattle.tacho_time.proofs.CanonicalLemmas.{lt_or_le}
 use Rattle.tacho_line.specs.Line.{mark_at, IsSingle}
-use Rattle.tacho_hours.specs.Line.{IsBase}
+use Rattle.tacho_law.specs.Line.{IsBase}
 use Rattle.tacho_rules.proofs.ReportExistLemmas.{HasReport, each_report}
 use Rattle.tacho_stretches.specs.Start.{IsStart, IsNextStart, IsHeld, IsEndOfHeld}
 use Rattle.tacho_stretches.specs.Stretches.{Judged, first_monday, unseen_to, AreAll, AreStretches}

@@ -6,8 +6,8 @@ use Rattle.tacho_time.specs.declared.span.Mark.{Mark}
 use Rattle.tacho_time.specs.declared.span.Span.{Span}
 use Rattle.tacho_line.specs.declared.horizon.Horizon.{Horizon}
 use Rattle.tacho_line.specs.Line.{mark_at, IsSingle, IsHorizon}
-use Rattle.tacho_hours.specs.declared.breach.Breach.{Breach}
-use Rattle.tacho_hours.specs.declared.debt.Debt.{Debt}
+use Rattle.tacho_law.specs.declared.breach.Breach.{Breach}
+use Rattle.tacho_law.specs.declared.debt.Debt.{Debt}
 use Rattle.tacho_rules.specs.Report.{IsReport}
 use Rattle.tacho_rules.proofs.ReportLemmas.{one_report}
 use Rattle.tacho_stretches.specs.Start.{IsNextStart, IsHeld, IsEndOfHeld}

@@ -16,9 +16,9 @@ use Rattle.tacho_line.specs.declared.horizon.Horizon.{Horizon}
 use Rattle.tacho_line.specs.Line.{covers, mark_at, Holds, IsSingle, IsCause, IsHorizon}
 use Rattle.tacho_line.proofs.LineLemmas.{first_holds, rest_holds, none_before, canonical_from}
 use Rattle.tacho_line.proofs.MergeLemmas.{append_gives}
-use Rattle.tacho_hours.specs.Line.{line_of, Joined, IsBase, IsExamined}
-use Rattle.tacho_hours.proofs.RunsLemmas.{line_before, line_within, line_past, joined_le}
-use Rattle.tacho_hours.proofs.DrivingLemmas.{line_from_past}
+use Rattle.tacho_law.specs.Line.{line_of, Joined, IsBase, IsExamined}
+use Rattle.tacho_law.proofs.RunsLemmas.{line_before, line_within, line_past, joined_le}
+use Rattle.tacho_law.proofs.DrivingLemmas.{line_from_past}
 use Rattle.tacho_rules.specs.declared.report.Report.{Report}
 use Rattle.tacho_rules.specs.Report.{examined_line, IsReport}
 use Rattle.tacho_rules.specs.Scan.{AreFindings, IsScanOf}

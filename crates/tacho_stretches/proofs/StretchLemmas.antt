@@ -7,7 +7,7 @@ use Rattle.std.proofs.lemmas.Bool.{cases_lt}
 use Rattle.tacho_time.specs.declared.span.Span.{Span}
 use Rattle.tacho_line.specs.Line.{mark_at, IsSingle, IsHorizon}
 use Rattle.tacho_line.specs.declared.horizon.Horizon.{Horizon}
-use Rattle.tacho_hours.specs.Line.{IsBase}
+use Rattle.tacho_law.specs.Line.{IsBase}
 use Rattle.tacho_rules.specs.Report.{IsReport}
 use Rattle.tacho_rules.proofs.SliceLemmas.{early_horizon}
 use Rattle.tacho_stretches.specs.declared.stretch.Stretch.{Stretch}

@@ -4,8 +4,8 @@ use Rattle.tacho_time.specs.declared.span.Mark.{Mark}
 use Rattle.tacho_time.specs.declared.span.Span.{Span}
 use Rattle.tacho_time.specs.Spans.{Gives}
 use Rattle.tacho_line.specs.Line.{mark_at, Holds}
-use Rattle.tacho_hours.specs.Limits.{latest}
-use Rattle.tacho_hours.specs.Line.{Joined, IsBase}
+use Rattle.tacho_law.specs.Limits.{latest}
+use Rattle.tacho_law.specs.Line.{Joined, IsBase}
 use Rattle.tacho_rules.specs.Report.{IsReport}
 use Rattle.tacho_rules.specs.Scan.{IsScanOf}
 use Rattle.tacho_stretches.specs.declared.examination.Examination.{Examination}

@@ -3,7 +3,7 @@ use Rattle.std.specs.Prelude.{◌≡◌, ℕ, ◌+◌, ◌<◌, ◌≤◌, ◌�
 use Rattle.tacho_time.specs.declared.span.Mark.{Mark}
 use Rattle.tacho_time.specs.declared.span.Span.{Span}
 use Rattle.tacho_line.specs.Line.{mark_at, Holds, IsSingle}
-use Rattle.tacho_hours.specs.Line.{IsBase}
+use Rattle.tacho_law.specs.Line.{IsBase}
 
 -- the first minute of a Monday, after a minute, that is held without a second driver
 pub record IsStart (line : List Span) (after m : ℕ) : Type 0 where

@@ -1,5 +1,5 @@
 ghost use Rattle.std.specs.Prelude.{◌≤◌};
-ghost use Rattle.tacho_hours.specs.Limits.{first_base, latest};
+ghost use Rattle.tacho_law.specs.Limits.{first_base, latest};
 ghost use Rattle.tacho_rules.specs.Scan.{IsAt};
 
 use std::alloc::{AllocError, Global};
@@ -38,8 +38,8 @@ impl Examination {
     ghost use Rattle.std.specs.Prelude.{◌≡◌, ◌≤◌, ◌<◌, ◌++◌, ◌∷◌, [], List, false, IfOk, OnOk};
     ghost use Rattle.tacho_time.specs.declared.span.Span.{Span as SpanValue};
     ghost use Rattle.tacho_line.specs.Line.{mark_at, IsCause};
-    ghost use Rattle.tacho_hours.specs.Line.{IsBase};
-    ghost use Rattle.tacho_hours.specs.Limits.{latest};
+    ghost use Rattle.tacho_law.specs.Line.{IsBase};
+    ghost use Rattle.tacho_law.specs.Limits.{latest};
     ghost use Rattle.tacho_stretches.specs.Pass.{EndsBy, IsExaminationOf, IsReportOf};
 
     /// Makes an examination from a Monday that has examined no minute yet.

@@ -3,8 +3,8 @@
 ghost use Rattle.std.specs.Prelude.{◌≡◌, ◌<◌, ◌≤◌, ℕ, List, ◌∷◌, ◌++◌, All};
 ghost use Rattle.tacho_time.specs.declared.span.Span.{Span};
 ghost use Rattle.tacho_line.specs.Line.{IsWithin, mark_at};
-ghost use Rattle.tacho_hours.specs.Limits.{latest};
-ghost use Rattle.tacho_hours.specs.Line.{IsBase};
+ghost use Rattle.tacho_law.specs.Limits.{latest};
+ghost use Rattle.tacho_law.specs.Line.{IsBase};
 ghost use Rattle.tacho_rules.specs.Report.{IsReport};
 ghost use Rattle.tacho_stretches.specs.Start.{IsEndOfHeld};
 ghost use Rattle.tacho_stretches.specs.Stretches.{Judged, AreStretches};

@@ -1,7 +1,7 @@
 ghost use Rattle.std.specs.Prelude.{◌≡◌, ◌<◌, ◌≤◌, ◌++◌, ◌∷◌, [], ℕ, List, None, map, IfOk, OnOk, IsTrue};
 ghost use Rattle.tacho_time.specs.declared.span.Span.{Span as SpanValue};
-ghost use Rattle.tacho_hours.specs.Line.{IsBase};
-ghost use Rattle.tacho_hours.specs.Limits.{latest};
+ghost use Rattle.tacho_law.specs.Line.{IsBase};
+ghost use Rattle.tacho_law.specs.Limits.{latest};
 ghost use Rattle.tacho_stretches.specs.Start.{IsNextStart};
 ghost use Rattle.tacho_stretches.specs.Stretches.{AreStretches, judged_of};
 ghost use Rattle.tacho_stretches.specs.Pass.{monday_of, EndsBy, IsNext, IsReportOf, IsExaminedOf, IsStageOf, AreDone, CanTake, IsPassOf};
@@ -10,7 +10,7 @@ use crate::examination::{Examination, Examined};
 use crate::start::start_in;
 use crate::stretch::{Stretch, horizon_of, unseen_after};
 use std::alloc::{AllocError, Global};
-use tacho_hours::limits::LATEST;
+use tacho_law::limits::LATEST;
 use tacho_line::Cause;
 use tacho_time::{Minute, Span};
 

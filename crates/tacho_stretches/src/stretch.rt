@@ -1,6 +1,6 @@
 ghost use Rattle.std.specs.Prelude.{◌≡◌, ◌≤◌, All, IfOk, map};
-ghost use Rattle.tacho_hours.specs.Line.{IsBase};
-ghost use Rattle.tacho_hours.specs.Limits.{latest};
+ghost use Rattle.tacho_law.specs.Line.{IsBase};
+ghost use Rattle.tacho_law.specs.Limits.{latest};
 ghost use Rattle.tacho_stretches.specs.Stretches.{AreStretches, judged_of, unseen_to};
 
 use crate::end::end_of_held;

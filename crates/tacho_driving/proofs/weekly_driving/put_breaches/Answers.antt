@@ -1,8 +1,8 @@
 use Rattle.std.proofs.Common.{◌≡◌, ◌+◌, ◌++◌, [], false, List, refl, sym, ap, ◌∙◌}
 use Rattle.std.proofs.lemmas.List.{append-nil, append_assoc}
-use Rattle.tacho_hours.specs.declared.breach.Breach.{Breach}
-use Rattle.tacho_hours.specs.declared.breach.Kind.TheVariants.{B6, B7}
-use Rattle.tacho_hours.specs.Weeks.{week_start}
+use Rattle.tacho_law.specs.declared.breach.Breach.{Breach}
+use Rattle.tacho_law.specs.declared.breach.Kind.TheVariants.{B6, B7}
+use Rattle.tacho_law.specs.Weeks.{week_start}
 use Rattle.tacho_pass.specs.Found.{as_list}
 use Rattle.tacho_pass.proofs.AppendingLemmas.{appends_some}
 use Rattle.tacho_driving.specs.declared.weekly_driving.Sums.{Sums}

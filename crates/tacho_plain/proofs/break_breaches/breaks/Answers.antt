@@ -1,7 +1,7 @@
-use Rattle.tacho_hours.specs.Line.{line_of}
-use Rattle.tacho_hours.specs.Runs.{AreRuns}
+use Rattle.tacho_law.specs.Line.{line_of}
+use Rattle.tacho_law.specs.Runs.{AreRuns}
 use Rattle.tacho_plain.proofs.BreaksLemmas.{breaks_are}
-use Rattle.tacho_hours.proofs.RunsLemmas.{rest_runs_are}
+use Rattle.tacho_law.proofs.RunsLemmas.{rest_runs_are}
 use Rattle.tacho_plain.proofs.break_breaches.breaks.Goals as goal
 
 pub complete_breaks-requires : goal.complete_breaks-requires

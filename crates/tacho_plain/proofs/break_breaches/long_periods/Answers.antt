@@ -1,8 +1,8 @@
 use Rattle.std.proofs.Common.{◌≤◌, ℕ, ◌-◌, List, get_or}
 use Rattle.tacho_time.specs.declared.span.Activity.{Activity}
-use Rattle.tacho_hours.specs.declared.run.Run.{Run}
-use Rattle.tacho_hours.specs.Line.{line_of}
-use Rattle.tacho_hours.specs.Driving.{driving}
+use Rattle.tacho_law.specs.declared.run.Run.{Run}
+use Rattle.tacho_law.specs.Line.{line_of}
+use Rattle.tacho_law.specs.Driving.{driving}
 use Rattle.tacho_plain.proofs.RunsLemmas.{no_run}
 use Rattle.tacho_plain.proofs.BreakBreachesLemmas.{found_none, found_add, found_skip, found_all}
 use Rattle.tacho_plain.proofs.break_breaches.long_periods.Goals as goal

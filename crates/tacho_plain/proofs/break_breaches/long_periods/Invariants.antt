@@ -1,4 +1,4 @@
-use Rattle.tacho_hours.specs.Line.{line_of}
+use Rattle.tacho_law.specs.Line.{line_of}
 use Rattle.tacho_plain.proofs.BreakBreachesLemmas.{Found}
 use Rattle.tacho_plain.proofs.break_breaches.long_periods.Given as goal
 

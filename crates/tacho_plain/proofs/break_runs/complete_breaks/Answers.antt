@@ -1,10 +1,10 @@
 use Rattle.std.proofs.Common.{◌≡◌, ◌≤◌, ℕ, ◌⊎◌, Bool, true, List, get_or, take, arith, subst}
 use Rattle.std.specs.Prelude.{◌↔◌, IsTrue}
 use Rattle.std.proofs.lemmas.List.{take_all}
-use Rattle.tacho_hours.specs.declared.run.Run.{Run}
-use Rattle.tacho_hours.specs.Runs.{minutes_of}
-use Rattle.tacho_hours.specs.Breaks.{AreCompleteBreaks}
-use Rattle.tacho_hours.proofs.BreaksLemmas.{breaking_none}
+use Rattle.tacho_law.specs.declared.run.Run.{Run}
+use Rattle.tacho_law.specs.Runs.{minutes_of}
+use Rattle.tacho_law.specs.Breaks.{AreCompleteBreaks}
+use Rattle.tacho_law.proofs.BreaksLemmas.{breaking_none}
 use Rattle.tacho_plain.proofs.BreaksLemmas.{add_here, short_here, stay_here}
 use Rattle.tacho_plain.proofs.break_runs.complete_breaks.Goals as goal
 use Rattle.tacho_plain.proofs.break_runs.complete_breaks.Goals.{then-completes+in_ok-push}

@@ -1,5 +1,5 @@
 use Rattle.std.proofs.Common.{take}
-use Rattle.tacho_hours.specs.SoFar.{Breaking}
+use Rattle.tacho_law.specs.SoFar.{Breaking}
 use Rattle.tacho_plain.proofs.break_runs.complete_breaks.Given as goal
 
 abbrev pub invariant-loop-run : goal.invariant-loop-run

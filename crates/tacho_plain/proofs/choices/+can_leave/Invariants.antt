@@ -1,5 +1,5 @@
 use Rattle.std.proofs.Common.{ℕ, ◌+◌, ◌-◌}
-use Rattle.tacho_hours.specs.Line.{Line}
+use Rattle.tacho_law.specs.Line.{Line}
 use Rattle.tacho_choice.specs.Step.{IsNext}
 use Rattle.tacho_choice.specs.Weeks.{IsInWeeks, CanReach}
 use Rattle.tacho_plain.specs.Choices.{AreWeeksOf}

@@ -2,8 +2,8 @@ use Rattle.std.proofs.Common.{◌≡◌, ℕ, ◌+◌, ◌<◌, arith}
 use Rattle.std.specs.Prelude.{◌↔◌}
 use Rattle.std.specs.List.{Contains}
 use Rattle.std.proofs.lemmas.List.Elements.{All-contains}
-use Rattle.tacho_hours.specs.declared.run.Run.{Run}
-use Rattle.tacho_hours.specs.Weeks.{week_start}
+use Rattle.tacho_law.specs.declared.run.Run.{Run}
+use Rattle.tacho_law.specs.Weeks.{week_start}
 use Rattle.tacho_plain.proofs.WeeksOfRestsLemmas.{seen_week_none, seen_week_more, seen_week_all}
 use Rattle.tacho_plain.proofs.choices.week_of_rests.Goals as goal
 

@@ -1,6 +1,6 @@
 use Rattle.std.proofs.Common.{◌≡◌, ◌+◌, length}
-use Rattle.tacho_hours.specs.Line.{Line}
-use Rattle.tacho_hours.specs.Runs.{AreRestsOf}
+use Rattle.tacho_law.specs.Line.{Line}
+use Rattle.tacho_law.specs.Runs.{AreRestsOf}
 use Rattle.tacho_choice.specs.Weeks.{IsInWeeks}
 use Rattle.tacho_plain.specs.Choices.{AreWeeksOf}
 use Rattle.tacho_plain.proofs.choices.weeks_of_rests.Given as goal

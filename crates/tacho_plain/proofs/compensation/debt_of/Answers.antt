@@ -1,8 +1,8 @@
 use Rattle.std.proofs.Common.{◌≡◌, ◌≤◌, ◌<◌, ◌+◌, ◌-◌, ℕ, subst, sym, arith, true}
-use Rattle.tacho_hours.specs.Runs.{minutes_of}
-use Rattle.tacho_hours.specs.Weeks.{IsInWeek, week_start}
-use Rattle.tacho_hours.specs.Debts.{IsMainRest}
-use Rattle.tacho_hours.proofs.MainRestLemmas.{one_week}
+use Rattle.tacho_law.specs.Runs.{minutes_of}
+use Rattle.tacho_law.specs.Weeks.{IsInWeek, week_start}
+use Rattle.tacho_law.specs.Debts.{IsMainRest}
+use Rattle.tacho_law.proofs.MainRestLemmas.{one_week}
 use Rattle.tacho_plain.proofs.MainRestLemmas.{main_in}
 use Rattle.tacho_plain.proofs.CompensationLemmas.{owes_lacks, last_only}
 use Rattle.tacho_plain.proofs.compensation.debt_of.Goals as goal

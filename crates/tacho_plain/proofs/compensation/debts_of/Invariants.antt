@@ -1,6 +1,6 @@
 use Rattle.std.proofs.Common.{take}
-use Rattle.tacho_hours.specs.Line.{Line}
-use Rattle.tacho_hours.specs.Runs.{AreRestsOf}
+use Rattle.tacho_law.specs.Line.{Line}
+use Rattle.tacho_law.specs.Runs.{AreRestsOf}
 use Rattle.tacho_plain.specs.RestBreaches.{IsLastRun}
 use Rattle.tacho_plain.proofs.CompensationLemmas.{AreSettled}
 use Rattle.tacho_plain.proofs.compensation.debts_of.Given as goal

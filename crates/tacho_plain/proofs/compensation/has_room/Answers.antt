@@ -1,9 +1,9 @@
 use Rattle.std.proofs.Common.{◌≡◌, ◌≤◌, ◌<◌, ◌+◌, ◌-◌, ℕ, ◌∙◌, ap, arith, min, true, false}
 use Rattle.std.proofs.lemmas.Bool.{leb-true, le-leb}
-use Rattle.tacho_hours.specs.declared.debt.Debt.{Debt}
-use Rattle.tacho_hours.specs.declared.run.Run.{Run}
-use Rattle.tacho_hours.specs.Debts.{minutes_before, paid_from}
-use Rattle.tacho_hours.specs.MainRests.{IsKept}
+use Rattle.tacho_law.specs.declared.debt.Debt.{Debt}
+use Rattle.tacho_law.specs.declared.run.Run.{Run}
+use Rattle.tacho_law.specs.Debts.{minutes_before, paid_from}
+use Rattle.tacho_law.specs.MainRests.{IsKept}
 use Rattle.tacho_plain.proofs.CompensationLemmas.{keeps_is, kept_only, room_yes, room_no}
 use Rattle.tacho_plain.proofs.compensation.has_room.Goals as goal
 

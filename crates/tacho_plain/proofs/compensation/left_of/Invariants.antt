@@ -1,5 +1,5 @@
 use Rattle.std.proofs.Common.{◌≡◌, ◌-◌, take}
-use Rattle.tacho_hours.specs.Debts.{paid_from}
+use Rattle.tacho_law.specs.Debts.{paid_from}
 use Rattle.tacho_plain.proofs.compensation.left_of.Given as goal
 
 abbrev pub invariant-loop-debt : goal.invariant-loop-debt

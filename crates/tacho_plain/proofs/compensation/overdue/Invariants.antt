@@ -1,7 +1,7 @@
 use Rattle.std.proofs.Common.{take}
-use Rattle.tacho_hours.specs.Line.{Line}
-use Rattle.tacho_hours.specs.Debts.{AreDebts}
-use Rattle.tacho_hours.proofs.OverdueLemmas.{OverdueFound}
+use Rattle.tacho_law.specs.Line.{Line}
+use Rattle.tacho_law.specs.Debts.{AreDebts}
+use Rattle.tacho_law.proofs.OverdueLemmas.{OverdueFound}
 use Rattle.tacho_plain.proofs.compensation.overdue.Given as goal
 
 abbrev pub invariant-loop-debt : goal.invariant-loop-debt

@@ -1,9 +1,9 @@
 use Rattle.std.proofs.Common.{take}
 use Rattle.std.specs.List.{All}
-use Rattle.tacho_hours.specs.declared.run.Run.{Run}
-use Rattle.tacho_hours.specs.Line.{Line}
-use Rattle.tacho_hours.specs.Runs.{AreRestsOf}
-use Rattle.tacho_hours.specs.Debts.{HasRoom}
+use Rattle.tacho_law.specs.declared.run.Run.{Run}
+use Rattle.tacho_law.specs.Line.{Line}
+use Rattle.tacho_law.specs.Runs.{AreRestsOf}
+use Rattle.tacho_law.specs.Debts.{HasRoom}
 use Rattle.tacho_plain.proofs.compensation.payer_of.Given as goal
 
 abbrev pub invariant-loop-rest : goal.invariant-loop-rest

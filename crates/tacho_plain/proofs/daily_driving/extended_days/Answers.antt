@@ -1,9 +1,9 @@
 use Rattle.std.proofs.Common.{◌≡◌, ◌<◌, ℕ, List, take, arith, subst}
 use Rattle.std.proofs.lemmas.List.{take_all}
-use Rattle.tacho_hours.specs.declared.days.DutyDay.{DutyDay}
-use Rattle.tacho_hours.specs.Line.{line_of, Line}
-use Rattle.tacho_hours.specs.Days.{EarlierDay}
-use Rattle.tacho_hours.specs.Driving.{driving}
+use Rattle.tacho_law.specs.declared.days.DutyDay.{DutyDay}
+use Rattle.tacho_law.specs.Line.{line_of, Line}
+use Rattle.tacho_law.specs.Days.{EarlierDay}
+use Rattle.tacho_law.specs.Driving.{driving}
 use Rattle.tacho_plain.proofs.KeptLemmas.{AreKept, kept_none, kept_add_at, kept_skip_at}
 use Rattle.tacho_plain.proofs.DayFoundLemmas.{no_day}
 use Rattle.tacho_plain.proofs.daily_driving.extended_days.Goals as goal

@@ -1,8 +1,8 @@
 use Rattle.std.proofs.Common.{◌<◌, take}
-use Rattle.tacho_hours.specs.declared.days.DutyDay.{DutyDay}
-use Rattle.tacho_hours.specs.Line.{line_of}
-use Rattle.tacho_hours.specs.Days.{EarlierDay}
-use Rattle.tacho_hours.specs.Driving.{driving}
+use Rattle.tacho_law.specs.declared.days.DutyDay.{DutyDay}
+use Rattle.tacho_law.specs.Line.{line_of}
+use Rattle.tacho_law.specs.Days.{EarlierDay}
+use Rattle.tacho_law.specs.Driving.{driving}
 use Rattle.tacho_plain.proofs.KeptLemmas.{AreKept}
 use Rattle.tacho_plain.proofs.daily_driving.extended_days.Given as goal
 

@@ -1,13 +1,13 @@
 use Rattle.std.proofs.Common.{◌≡◌, ◌<◌, ◌≤◌, ℕ, List, get_or, arith}
 use Rattle.std.proofs.lemmas.List.Elements.{All-contains, Contains-get_or}
-use Rattle.tacho_hours.specs.declared.days.DutyDay.{DutyDay}
-use Rattle.tacho_hours.specs.declared.breach.Kind.TheVariants.{B4}
-use Rattle.tacho_hours.specs.Line.{Line, line_of}
-use Rattle.tacho_hours.specs.Days.{IsDuty}
-use Rattle.tacho_hours.specs.Driving.{driving}
-use Rattle.tacho_hours.specs.Breaches.{IsB4}
+use Rattle.tacho_law.specs.declared.days.DutyDay.{DutyDay}
+use Rattle.tacho_law.specs.declared.breach.Kind.TheVariants.{B4}
+use Rattle.tacho_law.specs.Line.{Line, line_of}
+use Rattle.tacho_law.specs.Days.{IsDuty}
+use Rattle.tacho_law.specs.Driving.{driving}
+use Rattle.tacho_law.specs.Breaches.{IsB4}
 use Rattle.tacho_plain.specs.DayBreaches.{IsInTime}
-use Rattle.tacho_hours.proofs.LongDrivingLemmas.{too_much_reaches}
+use Rattle.tacho_law.proofs.LongDrivingLemmas.{too_much_reaches}
 use Rattle.tacho_plain.proofs.DayFoundLemmas.{no_day, B4Of, b4_is, b4_to, b4_back, found_none}
 use Rattle.tacho_plain.proofs.DayFoundLemmas.{found_add_at, found_skip_at, found_exactly}
 use Rattle.tacho_plain.proofs.daily_driving.long_days.Goals as goal

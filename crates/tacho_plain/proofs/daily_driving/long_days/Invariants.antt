@@ -1,5 +1,5 @@
 use Rattle.std.proofs.Common.{take}
-use Rattle.tacho_hours.specs.Line.{line_of}
+use Rattle.tacho_law.specs.Line.{line_of}
 use Rattle.tacho_plain.proofs.DayFoundLemmas.{DayFound, B4Of}
 use Rattle.tacho_plain.proofs.daily_driving.long_days.Given as goal
 

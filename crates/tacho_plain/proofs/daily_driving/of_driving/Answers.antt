@@ -1,8 +1,8 @@
 use Rattle.std.proofs.Common.{List, sym, subst}
 use Rattle.std.specs.List.{All}
 use Rattle.std.proofs.lemmas.List.Elements.{All-contains}
-use Rattle.tacho_hours.specs.declared.days.DutyDay.{DutyDay}
-use Rattle.tacho_hours.specs.Line.{line_of}
+use Rattle.tacho_law.specs.declared.days.DutyDay.{DutyDay}
+use Rattle.tacho_law.specs.Line.{line_of}
 use Rattle.tacho_plain.specs.DayBreaches.{IsInTime}
 use Rattle.tacho_plain.specs.DailyDriving.{IsLongDuty}
 use Rattle.tacho_plain.proofs.DayBreachesLemmas.{drives_join, times_of}

@@ -1,11 +1,11 @@
 use Rattle.std.proofs.Common.{◌≡◌, ◌<◌, ◌≤◌, ◌+◌, ℕ, List, get_or, take, arith, subst, sym}
 use Rattle.std.proofs.lemmas.List.Elements.{All-contains, Contains-get_or}
-use Rattle.tacho_hours.specs.declared.days.DutyDay.{DutyDay}
-use Rattle.tacho_hours.specs.declared.breach.Kind.TheVariants.{B5}
-use Rattle.tacho_hours.specs.Line.{Line}
-use Rattle.tacho_hours.specs.Driving.{driving}
-use Rattle.tacho_hours.specs.Line.{line_of}
-use Rattle.tacho_hours.specs.Breaches.{IsB5}
+use Rattle.tacho_law.specs.declared.days.DutyDay.{DutyDay}
+use Rattle.tacho_law.specs.declared.breach.Kind.TheVariants.{B5}
+use Rattle.tacho_law.specs.Line.{Line}
+use Rattle.tacho_law.specs.Driving.{driving}
+use Rattle.tacho_law.specs.Line.{line_of}
+use Rattle.tacho_law.specs.Breaches.{IsB5}
 use Rattle.tacho_plain.specs.DayBreaches.{IsInTime}
 use Rattle.tacho_plain.specs.DailyDriving.{IsLongDuty}
 use Rattle.tacho_plain.proofs.DayFoundLemmas.{no_day, found_none, found_add_at, found_skip_at, found_exactly}

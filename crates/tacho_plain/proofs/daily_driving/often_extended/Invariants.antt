@@ -1,5 +1,5 @@
 use Rattle.std.proofs.Common.{take}
-use Rattle.tacho_hours.specs.Line.{line_of}
+use Rattle.tacho_law.specs.Line.{line_of}
 use Rattle.tacho_plain.proofs.DayFoundLemmas.{DayFound}
 use Rattle.tacho_plain.proofs.TallyLemmas.{Tallied}
 use Rattle.tacho_plain.proofs.OrdinalLemmas.{InWeek, B5Of}

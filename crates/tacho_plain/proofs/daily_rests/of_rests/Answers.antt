@@ -1,10 +1,10 @@
 use Rattle.std.proofs.Common.{List, sym, subst}
 use Rattle.std.specs.List.{All, AllPairs}
 use Rattle.std.proofs.lemmas.List.Elements.{All-contains}
-use Rattle.tacho_hours.specs.declared.run.Run.{Run}
-use Rattle.tacho_hours.specs.declared.days.DutyDay.{DutyDay}
-use Rattle.tacho_hours.specs.Runs.{AreRestsOf}
-use Rattle.tacho_hours.specs.Days.{EarlierDay, IsReduced}
+use Rattle.tacho_law.specs.declared.run.Run.{Run}
+use Rattle.tacho_law.specs.declared.days.DutyDay.{DutyDay}
+use Rattle.tacho_law.specs.Runs.{AreRestsOf}
+use Rattle.tacho_law.specs.Days.{EarlierDay, IsReduced}
 use Rattle.tacho_plain.specs.DayBreaches.{IsInTime, AreTheDays}
 use Rattle.tacho_plain.proofs.RunsLemmas.{rests_are}
 use Rattle.tacho_plain.proofs.DayBreachesLemmas.{rests_join, times_of}

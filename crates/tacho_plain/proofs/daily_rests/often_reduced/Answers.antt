@@ -1,10 +1,10 @@
 use Rattle.std.proofs.Common.{◌≡◌, ◌≢◌, ◌<◌, ◌≤◌, ◌+◌, ℕ, List, get_or, take, arith, subst, sym, refl, inl, inr, ◌∙◌}
 use Rattle.std.proofs.lemmas.Bool.{cases_lt}
 use Rattle.std.proofs.lemmas.List.Elements.{All-contains, Contains-get_or}
-use Rattle.tacho_hours.specs.declared.days.DutyDay.{DutyDay}
-use Rattle.tacho_hours.specs.declared.breach.Kind.TheVariants.{B3}
-use Rattle.tacho_hours.specs.Days.{IsReduced}
-use Rattle.tacho_hours.specs.Breaches.{IsB3}
+use Rattle.tacho_law.specs.declared.days.DutyDay.{DutyDay}
+use Rattle.tacho_law.specs.declared.breach.Kind.TheVariants.{B3}
+use Rattle.tacho_law.specs.Days.{IsReduced}
+use Rattle.tacho_law.specs.Breaches.{IsB3}
 use Rattle.tacho_plain.specs.DayBreaches.{IsInTime}
 use Rattle.tacho_plain.proofs.DayFoundLemmas.{no_day, found_none, found_add_at, found_skip_at, found_exactly}
 use Rattle.tacho_plain.proofs.TallyLemmas.{Tallied, tally_none, tally_at, tally_skip_at, index_below}

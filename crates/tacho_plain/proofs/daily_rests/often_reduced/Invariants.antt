@@ -1,8 +1,8 @@
 use Rattle.std.proofs.Common.{◌≤◌, List, take}
-use Rattle.tacho_hours.specs.declared.run.Run.{Run}
-use Rattle.tacho_hours.specs.Runs.{AreRestRuns, AreRestsOf}
-use Rattle.tacho_hours.specs.Line.{Line}
-use Rattle.tacho_hours.specs.Days.{IsReduced}
+use Rattle.tacho_law.specs.declared.run.Run.{Run}
+use Rattle.tacho_law.specs.Runs.{AreRestRuns, AreRestsOf}
+use Rattle.tacho_law.specs.Line.{Line}
+use Rattle.tacho_law.specs.Days.{IsReduced}
 use Rattle.tacho_plain.specs.DayBreaches.{AreTheDays}
 use Rattle.tacho_plain.proofs.DayFoundLemmas.{DayFound}
 use Rattle.tacho_plain.proofs.TallyLemmas.{Tallied}

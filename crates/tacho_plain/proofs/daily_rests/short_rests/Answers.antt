@@ -1,9 +1,9 @@
 use Rattle.std.proofs.Common.{◌≡◌, ℕ, List, get_or}
 use Rattle.std.proofs.lemmas.List.Elements.{All-contains, Contains-get_or}
-use Rattle.tacho_hours.specs.declared.days.DutyDay.{DutyDay}
-use Rattle.tacho_hours.specs.declared.breach.Kind.TheVariants.{B2}
-use Rattle.tacho_hours.specs.Days.{IsDuty}
-use Rattle.tacho_hours.specs.Breaches.{IsB2}
+use Rattle.tacho_law.specs.declared.days.DutyDay.{DutyDay}
+use Rattle.tacho_law.specs.declared.breach.Kind.TheVariants.{B2}
+use Rattle.tacho_law.specs.Days.{IsDuty}
+use Rattle.tacho_law.specs.Breaches.{IsB2}
 use Rattle.tacho_plain.specs.DayBreaches.{IsInTime}
 use Rattle.tacho_plain.proofs.DayFoundLemmas.{no_day, ShortOf, short_is, short_to, short_back}
 use Rattle.tacho_plain.proofs.DayFoundLemmas.{found_none, found_add_at, found_skip_at, found_exactly}

@@ -1,8 +1,8 @@
 use Rattle.std.proofs.Common.{rules, ◌≡◌, ◌≢◌, ◌<◌, ℕ, ◌+◌, ◌-◌, List, ◌∷◌, length, take, drop, arith, min, max}
 use Rattle.tacho_time.specs.declared.span.Activity.TheVariants.{Drive}
 use Rattle.tacho_time.specs.declared.span.Span.{Span}
-use Rattle.tacho_hours.specs.Line.{line_of}
-use Rattle.tacho_hours.specs.Driving.{driving}
+use Rattle.tacho_law.specs.Line.{line_of}
+use Rattle.tacho_law.specs.Driving.{driving}
 use Rattle.tacho_plain.proofs.DrivingLemmas.{Counted, counted_from, counted_idle, counted_outside}
 use Rattle.tacho_plain.proofs.DrivingLemmas.{counted_drive, counted_at, counted_here, counted_over}
 use Rattle.tacho_plain.proofs.driving.driving_minute.Goals as goal

@@ -1,7 +1,7 @@
 use Rattle.std.proofs.Common.{◌≤◌, ◌+◌, arith}
-use Rattle.tacho_hours.specs.Line.{line_of}
-use Rattle.tacho_hours.specs.Driving.{driving}
-use Rattle.tacho_hours.proofs.DrivingLemmas.{driving_reaches}
+use Rattle.tacho_law.specs.Line.{line_of}
+use Rattle.tacho_law.specs.Driving.{driving}
+use Rattle.tacho_law.proofs.DrivingLemmas.{driving_reaches}
 use Rattle.tacho_plain.proofs.DrivingLemmas.{drives_within}
 use Rattle.tacho_plain.proofs.driving.excess_between.Goals as goal
 

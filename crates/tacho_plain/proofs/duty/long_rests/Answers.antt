@@ -1,7 +1,7 @@
 use Rattle.std.proofs.Common.{◌≡◌, ◌≤◌, ℕ, List, take, arith, subst}
 use Rattle.std.proofs.lemmas.List.{take_all}
-use Rattle.tacho_hours.specs.declared.run.Run.{Run}
-use Rattle.tacho_hours.specs.Runs.{Before, minutes_of}
+use Rattle.tacho_law.specs.declared.run.Run.{Run}
+use Rattle.tacho_law.specs.Runs.{Before, minutes_of}
 use Rattle.tacho_plain.proofs.KeptLemmas.{AreKept, kept_none, kept_add_at, kept_skip_at}
 use Rattle.tacho_plain.proofs.RunsLemmas.{no_run}
 use Rattle.tacho_plain.proofs.DaysLemmas.{rests_of}

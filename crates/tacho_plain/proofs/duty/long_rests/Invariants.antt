@@ -1,6 +1,6 @@
 use Rattle.std.proofs.Common.{◌≤◌, take}
-use Rattle.tacho_hours.specs.declared.run.Run.{Run}
-use Rattle.tacho_hours.specs.Runs.{Before, minutes_of}
+use Rattle.tacho_law.specs.declared.run.Run.{Run}
+use Rattle.tacho_law.specs.Runs.{Before, minutes_of}
 use Rattle.tacho_plain.proofs.KeptLemmas.{AreKept}
 use Rattle.tacho_plain.proofs.duty.long_rests.Given as goal
 

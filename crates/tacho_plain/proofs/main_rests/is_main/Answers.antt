@@ -1,8 +1,8 @@
 use Rattle.std.proofs.Common.{◌≡◌, ◌≤◌, ℕ, arith}
 use Rattle.std.specs.List.{Contains}
-use Rattle.tacho_hours.specs.declared.run.Run.{Run}
-use Rattle.tacho_hours.specs.Debts.{minutes_before}
-use Rattle.tacho_hours.specs.Weeks.{IsInWeek}
+use Rattle.tacho_law.specs.declared.run.Run.{Run}
+use Rattle.tacho_law.specs.Debts.{minutes_before}
+use Rattle.tacho_law.specs.Weeks.{IsInWeek}
 use Rattle.tacho_plain.specs.MainRests.{IsBetter}
 use Rattle.tacho_plain.proofs.MainRestLemmas.{not_test, main_yes, main_best, main_in}
 use Rattle.tacho_plain.proofs.main_rests.is_main.Goals as goal

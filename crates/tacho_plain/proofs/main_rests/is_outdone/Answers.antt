@@ -1,7 +1,7 @@
 use Rattle.std.proofs.Common.{◌≡◌, ◌≤◌, ◌<◌, ◌+◌, ℕ, List, get_or, refl, arith, true, false}
 use Rattle.std.proofs.lemmas.List.Elements.{All-contains, Contains-get_or}
-use Rattle.tacho_hours.specs.declared.run.Run.{Run}
-use Rattle.tacho_hours.specs.Weeks.{week_start}
+use Rattle.tacho_law.specs.declared.run.Run.{Run}
+use Rattle.tacho_law.specs.Weeks.{week_start}
 use Rattle.tacho_plain.proofs.RunsLemmas.{no_run}
 use Rattle.tacho_plain.specs.MainRests.{IsBetter}
 use Rattle.tacho_plain.proofs.MainRestLemmas.{all_more, all_seen}

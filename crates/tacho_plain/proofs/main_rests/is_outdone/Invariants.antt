@@ -1,6 +1,6 @@
 use Rattle.std.proofs.Common.{◌≤◌, take}
 use Rattle.std.specs.List.{All}
-use Rattle.tacho_hours.specs.declared.run.Run.{Run}
+use Rattle.tacho_law.specs.declared.run.Run.{Run}
 use Rattle.tacho_plain.specs.MainRests.{IsBetter}
 use Rattle.tacho_plain.proofs.main_rests.is_outdone.Given as goal
 

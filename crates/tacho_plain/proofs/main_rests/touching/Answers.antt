@@ -1,7 +1,7 @@
 use Rattle.std.proofs.Common.{rules, List}
 use Rattle.std.proofs.Math.Dec.{leb, ltb}
 use Rattle.std.proofs.lemmas.List.Sorted.{IsPartitionPoint-from_clause, IsPartitionedBy-leb, IsPartitionedBy-ltb}
-use Rattle.tacho_hours.specs.declared.run.Run.{Run}
+use Rattle.tacho_law.specs.declared.run.Run.{Run}
 use Rattle.tacho_plain.proofs.DaysLemmas.{starts_rise, pasts_rise, HaveEnded}
 use Rattle.tacho_plain.proofs.TouchingLemmas.{HaveStarted, in_range, part_each}
 use Rattle.tacho_plain.proofs.main_rests.touching.Goals as goal

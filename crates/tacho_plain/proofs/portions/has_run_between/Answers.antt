@@ -1,7 +1,7 @@
 use Rattle.std.proofs.Common.{rules, ℕ, List}
 use Rattle.std.proofs.Math.Dec.{ltb}
 use Rattle.std.proofs.lemmas.List.Sorted.{IsPartitionPoint-from_clause, IsPartitionedBy-ltb}
-use Rattle.tacho_hours.specs.declared.run.Run.{Run}
+use Rattle.tacho_law.specs.declared.run.Run.{Run}
 use Rattle.tacho_plain.proofs.DaysLemmas.{starts_rise, first_between, none_between}
 use Rattle.tacho_plain.proofs.portions.has_run_between.Goals as goal
 

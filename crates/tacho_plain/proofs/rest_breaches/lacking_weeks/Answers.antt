@@ -1,10 +1,10 @@
 use Rattle.std.proofs.Common.{◌≡◌, ℕ, ◌+◌, ◌-◌, ◌*◌, ◌≤◌, ◌<◌, List, refl, arith}
 use Rattle.std.specs.Prelude.{◌↔◌, IsTrue}
 use Rattle.std.proofs.lemmas.Bool.{both_ways}
-use Rattle.tacho_hours.specs.declared.breach.Breach.{Breach}
-use Rattle.tacho_hours.specs.Line.{Line}
-use Rattle.tacho_hours.specs.Runs.{AreRestsOf}
-use Rattle.tacho_hours.specs.Choice.{CanServe}
+use Rattle.tacho_law.specs.declared.breach.Breach.{Breach}
+use Rattle.tacho_law.specs.Line.{Line}
+use Rattle.tacho_law.specs.Runs.{AreRestsOf}
+use Rattle.tacho_law.specs.Choice.{CanServe}
 use Rattle.tacho_choice.specs.Weeks.{IsInWeeks}
 use Rattle.tacho_plain.proofs.ServedLemmas.{judged_first, judged_on, judged_anew, judged_all}
 use Rattle.tacho_plain.proofs.rest_breaches.lacking_weeks.Goals as goal

@@ -1,6 +1,6 @@
 use Rattle.std.proofs.Common.{◌+◌, ◌-◌, ◌<◌}
-use Rattle.tacho_hours.specs.Line.{Line}
-use Rattle.tacho_hours.specs.Runs.{AreRestsOf}
+use Rattle.tacho_law.specs.Line.{Line}
+use Rattle.tacho_law.specs.Runs.{AreRestsOf}
 use Rattle.tacho_choice.specs.Weeks.{IsInWeeks}
 use Rattle.tacho_plain.proofs.ServedLemmas.{AreJudged}
 use Rattle.tacho_plain.proofs.rest_breaches.lacking_weeks.Given as goal

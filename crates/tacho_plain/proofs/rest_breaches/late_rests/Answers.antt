@@ -1,5 +1,5 @@
 use Rattle.std.proofs.Common.{ℕ, List, refl, arith}
-use Rattle.tacho_hours.specs.declared.run.Run.{Run}
+use Rattle.tacho_law.specs.declared.run.Run.{Run}
 use Rattle.tacho_plain.proofs.LateRestLemmas.{late_none, late_skip, late_add, late_all}
 use Rattle.tacho_plain.proofs.rest_breaches.late_rests.Goals as goal
 use Rattle.tacho_plain.proofs.rest_breaches.late_rests.Goals.{then-latest-start+in_ok-push, else-latest-start}

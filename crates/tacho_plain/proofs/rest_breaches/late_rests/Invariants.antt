@@ -1,4 +1,4 @@
-use Rattle.tacho_hours.specs.SoFar.{AreCollected}
+use Rattle.tacho_law.specs.SoFar.{AreCollected}
 use Rattle.tacho_plain.proofs.LateRestLemmas.{LateBelow}
 use Rattle.tacho_plain.proofs.rest_breaches.late_rests.Given as goal
 

@@ -1,12 +1,12 @@
 use Rattle.std.proofs.Common.{◌≡◌, ℕ, ◌-◌, ◌<◌, ◌++◌, length, get_or, sym, ap, subst, ◌∙◌, arith}
-use Rattle.tacho_hours.specs.declared.run.Run.{Run}
-use Rattle.tacho_hours.specs.Line.{line_of, Line}
-use Rattle.tacho_hours.specs.Runs.{AreRestRuns, AreRestsOf}
-use Rattle.tacho_hours.specs.Debts.{AreDebts}
-use Rattle.tacho_hours.proofs.RunsLemmas.{joined_le, rest_runs_are}
-use Rattle.tacho_hours.specs.SoFar.{AreCollected}
+use Rattle.tacho_law.specs.declared.run.Run.{Run}
+use Rattle.tacho_law.specs.Line.{line_of, Line}
+use Rattle.tacho_law.specs.Runs.{AreRestRuns, AreRestsOf}
+use Rattle.tacho_law.specs.Debts.{AreDebts}
+use Rattle.tacho_law.proofs.RunsLemmas.{joined_le, rest_runs_are}
+use Rattle.tacho_law.specs.SoFar.{AreCollected}
 use Rattle.tacho_plain.specs.RestBreaches.{IsLastRun}
-use Rattle.tacho_hours.specs.Breaches.{IsLate, IsLacking, IsOverdue}
+use Rattle.tacho_law.specs.Breaches.{IsLate, IsLacking, IsOverdue}
 use Rattle.tacho_plain.proofs.LastRunLemmas.{some_run, last_is_last, in_weeks, rests_in_time}
 use Rattle.tacho_plain.proofs.RestBreachesLemmas.{IsRestKind, weekly_join, rests_join, due_as, rests_exactly}
 use Rattle.tacho_plain.proofs.rest_breaches.rests.Goals as goal

@@ -2,9 +2,9 @@ use Rattle.std.proofs.Common.{rules, ◌≡◌, ◌≢◌, ℕ, ◌+◌, ◌<◌
 use Rattle.std.proofs.lemmas.List.{drop_all}
 use Rattle.tacho_time.specs.declared.span.Activity.TheVariants.{Rest}
 use Rattle.tacho_time.specs.declared.span.Span.{Span}
-use Rattle.tacho_hours.specs.declared.run.Run.{Run}
-use Rattle.tacho_hours.proofs.RunsLemmas.{Running, running_none, running_rest, running_busy}
-use Rattle.tacho_hours.proofs.RunsLemmas.{running_gap, running_end}
+use Rattle.tacho_law.specs.declared.run.Run.{Run}
+use Rattle.tacho_law.proofs.RunsLemmas.{Running, running_none, running_rest, running_busy}
+use Rattle.tacho_law.proofs.RunsLemmas.{running_gap, running_end}
 use Rattle.tacho_plain.proofs.RunsLemmas.{running_here}
 use Rattle.tacho_plain.proofs.runs.rest_runs.Goals as goal
 use Rattle.tacho_plain.proofs.runs.rest_runs.Goals.{then-not-is_rest, then-start-stop+in_ok-push}

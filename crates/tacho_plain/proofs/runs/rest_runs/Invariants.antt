@@ -1,5 +1,5 @@
 use Rattle.std.proofs.Common.{drop}
-use Rattle.tacho_hours.proofs.RunsLemmas.{Running}
+use Rattle.tacho_law.proofs.RunsLemmas.{Running}
 use Rattle.tacho_plain.proofs.runs.rest_runs.Given as goal
 
 abbrev pub invariant-loop-span : goal.invariant-loop-span

@@ -1,9 +1,9 @@
 use Rattle.std.proofs.Common.{◌≡◌, ◌+◌, ◌≤◌, ℕ, List, subst, arith}
 use Rattle.tacho_time.specs.declared.span.Activity.{Activity}
-use Rattle.tacho_hours.specs.declared.breach.Breach.{Breach}
-use Rattle.tacho_hours.specs.Line.{line_of}
-use Rattle.tacho_hours.specs.Driving.{driving}
-use Rattle.tacho_hours.specs.Weeks.{week_start}
+use Rattle.tacho_law.specs.declared.breach.Breach.{Breach}
+use Rattle.tacho_law.specs.Line.{line_of}
+use Rattle.tacho_law.specs.Driving.{driving}
+use Rattle.tacho_law.specs.Weeks.{week_start}
 use Rattle.tacho_plain.specs.WeekBreaches.{IsLongWeek, IsLongPair, AreOfWeeks}
 use Rattle.tacho_plain.proofs.WeekBreachesLemmas.{WithWeek, weeks_none, week_skip, week_add, pair_skip, pair_add}
 use Rattle.tacho_plain.proofs.week_breaches.breaches_of_weeks.Goals as goal

@@ -1,4 +1,4 @@
-use Rattle.tacho_hours.specs.Line.{line_of}
+use Rattle.tacho_law.specs.Line.{line_of}
 use Rattle.tacho_plain.specs.WeekBreaches.{AreOfWeeks}
 use Rattle.tacho_plain.proofs.week_breaches.breaches_of_weeks.Given as goal
 

@@ -1,6 +1,6 @@
 use Rattle.std.proofs.Common.{◌≡◌, ◌+◌, ◌-◌, ◌*◌, ◌≤◌, arith}
-use Rattle.tacho_hours.specs.Weeks.{week_start}
-use Rattle.tacho_hours.proofs.RunsLemmas.{joined_le}
+use Rattle.tacho_law.specs.Weeks.{week_start}
+use Rattle.tacho_law.proofs.RunsLemmas.{joined_le}
 use Rattle.tacho_plain.proofs.WeekBreachesLemmas.{weeks_all}
 use Rattle.tacho_plain.proofs.week_breaches.weeks.Goals as goal
 

@@ -2,7 +2,7 @@ use Rattle.std.proofs.Common.{◌≡◌, ◌∷◌, [], true, false, refl, sym, 
 use Rattle.std.specs.Prelude.{IsTrue}
 use Rattle.std.proofs.lemmas.List.{append-nil}
 use Rattle.std.proofs.lemmas.List.Elements.{All-nil}
-use Rattle.tacho_hours.specs.declared.breach.Breach.{Breach}
+use Rattle.tacho_law.specs.declared.breach.Breach.{Breach}
 use Rattle.tacho_pass.specs.Kinds.{is_b10}
 use Rattle.tacho_pass.proofs.AppendingLemmas.{appends_some}
 use Rattle.tacho_rests.proofs.due_debts.emit_one.Goals as goal

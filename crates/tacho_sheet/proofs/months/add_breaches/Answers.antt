@@ -1,5 +1,5 @@
 use Rattle.std.proofs.Common.{rules, ◌≡◌, ◌&&◌, nat_le, nat_lt, ◌++◌, ◌∷◌, [], ◌∙◌, ap, sym, get_or, ℕ, List, Bool, true, false}
-use Rattle.tacho_hours.specs.declared.breach.Breach.{Breach}
+use Rattle.tacho_law.specs.declared.breach.Breach.{Breach}
 use Rattle.tacho_sheet.proofs.TextLemmas.{one_more_of, none_more_of}
 use Rattle.tacho_sheet.proofs.months.add_breaches.Goals as goal
 use Rattle.tacho_sheet.proofs.months.add_breaches.Goals.{then-is_within+in_ok-push, else-is_within}

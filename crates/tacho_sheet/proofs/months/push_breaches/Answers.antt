@@ -1,5 +1,5 @@
 use Rattle.std.proofs.Common.{rules, ◌≡◌, ◌&&◌, nat_le, nat_lt, ◌++◌, ◌∙◌, ap, sym, get_or, string_bytes, ℕ, List, Bool, true, false}
-use Rattle.tacho_hours.specs.declared.breach.Breach.{Breach}
+use Rattle.tacho_law.specs.declared.breach.Breach.{Breach}
 use Rattle.tacho_sheet.specs.Months.{incident_row}
 use Rattle.tacho_sheet.proofs.TextLemmas.{one_more_kept, none_more_kept}
 use Rattle.tacho_sheet.proofs.months.push_breaches.Goals as goal

@@ -1,5 +1,5 @@
 use Rattle.std.proofs.Common.{◌≡◌, ◌++◌, codes, decimal, string_bytes}
-use Rattle.tacho_hours.specs.declared.breach.Kind.TheVariants.{B1}
+use Rattle.tacho_law.specs.declared.breach.Kind.TheVariants.{B1}
 use Rattle.tacho_sheet.specs.Months.{kinds}
 use Rattle.tacho_sheet.proofs.MonthLemmas.{counts_more}
 use Rattle.tacho_sheet.proofs.months.push_counts.Goals as goal

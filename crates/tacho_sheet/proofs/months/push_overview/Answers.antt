@@ -1,5 +1,5 @@
 use Rattle.std.proofs.Common.{rules, ◌≡◌, ◌∙◌, ◌-◌, ◌++◌, codes, decimal, string_bytes, ℕ, List, map, refl}
-use Rattle.tacho_hours.specs.declared.breach.Breach.{Breach}
+use Rattle.tacho_law.specs.declared.breach.Breach.{Breach}
 use Rattle.tacho_stretches.specs.Stretches.{Judged, judged_of}
 use Rattle.tacho_sheet.specs.declared.amounts.Amounts.{Amounts}
 use Rattle.tacho_sheet.specs.Amounts.{AreAmounts, amounts_in, cells}

@@ -1,6 +1,6 @@
 use Rattle.std.proofs.Common.{rules, ◌≡◌, ◌+◌, ◌-◌, ◌*◌, ◌<◌, ◌++◌, ◌∙◌, pos, codes, decimal, string_bytes, ℕ, List, ap, sym, arith}
 use Rattle.std.specs.List.{flat_map}
-use Rattle.tacho_hours.specs.declared.breach.Breach.{Breach}
+use Rattle.tacho_law.specs.declared.breach.Breach.{Breach}
 use Rattle.tacho_time.specs.Reading.{month_start}
 use Rattle.tacho_time.specs.Text.{month_text}
 use Rattle.tacho_sheet.specs.Reports.{amounts_text, breach_line, breaches_within, day_lines, horizon_line}

@@ -1,5 +1,5 @@
 use Rattle.std.proofs.Common.{◌≡◌, ◌≤◌, ◌+◌, ◌-◌, ◌++◌, IsTrue, false}
-use Rattle.tacho_hours.specs.Weeks.{week_start}
+use Rattle.tacho_law.specs.Weeks.{week_start}
 use Rattle.tacho_pass.specs.Found.{Appends}
 use Rattle.tacho_pass.specs.Kinds.{is_b6_or_b7}
 use Rattle.tacho_driving.specs.Sums.{sums_in_range, through, through_found}

@@ -1,7 +1,7 @@
 use Rattle.std.proofs.Common.{◌≡◌, ◌<◌, ◌++◌, Bool, ℕ, List, [], refl, ap, ◌∙◌}
 use Rattle.tacho_time.specs.declared.span.Span.{Span}
-use Rattle.tacho_hours.specs.Driving.{is_drive}
-use Rattle.tacho_hours.specs.declared.breach.Breach.{Breach}
+use Rattle.tacho_law.specs.Driving.{is_drive}
+use Rattle.tacho_law.specs.declared.breach.Breach.{Breach}
 use Rattle.tacho_pass.specs.Found.{own_of}
 use Rattle.tacho_pass.proofs.AppendingLemmas.{own_more}
 use Rattle.tacho_driving.specs.declared.weekly_driving.Sums.{Sums}

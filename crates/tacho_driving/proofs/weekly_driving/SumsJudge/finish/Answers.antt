@@ -1,7 +1,7 @@
 use Rattle.std.proofs.Common.{◌≡◌, ◌≤◌, ◌+◌, ◌&&◌, ◌++◌, ℕ, List, [], refl, ap, ◌∙◌, arith, nat_le, true, false, Bool}
 use Rattle.std.proofs.lemmas.Bool.Decides.{nat_tests}
-use Rattle.tacho_hours.specs.declared.breach.Breach.{Breach}
-use Rattle.tacho_hours.specs.Weeks.{week_start}
+use Rattle.tacho_law.specs.declared.breach.Breach.{Breach}
+use Rattle.tacho_law.specs.Weeks.{week_start}
 use Rattle.tacho_pass.specs.Found.{own_of}
 use Rattle.tacho_pass.proofs.AppendingLemmas.{own_more}
 use Rattle.tacho_driving.specs.declared.weekly_driving.Sums.{Sums}

@@ -1,5 +1,5 @@
 use Rattle.std.proofs.Common.{◌≡◌, ◌≤◌, ◌<◌, ◌+◌, ◌-◌, ◌*◌, ℕ, arith}
-use Rattle.tacho_hours.specs.Weeks.{week_start}
+use Rattle.tacho_law.specs.Weeks.{week_start}
 use Rattle.tacho_driving.proofs.SumsLemmas.{sums_none}
 use Rattle.tacho_driving.proofs.weekly_driving.SumsJudge.new.Goals as goal
 

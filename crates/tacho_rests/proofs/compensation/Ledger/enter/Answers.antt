@@ -1,8 +1,8 @@
 use Rattle.std.proofs.Common.{◌≡◌, ◌++◌, ℕ, true, List, take, sym, ap, ◌∙◌}
-use Rattle.tacho_hours.specs.declared.run.Run.{Run}
-use Rattle.tacho_hours.specs.declared.breach.Breach.{Breach}
-use Rattle.tacho_hours.specs.declared.debt.Debt.{Debt}
-use Rattle.tacho_hours.specs.Weeks.{week_start}
+use Rattle.tacho_law.specs.declared.run.Run.{Run}
+use Rattle.tacho_law.specs.declared.breach.Breach.{Breach}
+use Rattle.tacho_law.specs.declared.debt.Debt.{Debt}
+use Rattle.tacho_law.specs.Weeks.{week_start}
 use Rattle.tacho_pass.specs.Found.{own_of}
 use Rattle.tacho_pass.specs.Kinds.{is_b10}
 use Rattle.tacho_pass.proofs.AppendingLemmas.{appends_none, own_more}

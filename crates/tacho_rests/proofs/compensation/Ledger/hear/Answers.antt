@@ -1,7 +1,7 @@
 use Rattle.std.proofs.Common.{◌≡◌, ◌+◌, ◌<◌, ◌≤◌, ℕ, List, take, arith}
-use Rattle.tacho_hours.specs.declared.run.Run.{Run}
-use Rattle.tacho_hours.specs.declared.debt.Debt.{Debt}
-use Rattle.tacho_hours.specs.Weeks.{week_start, IsInWeek}
+use Rattle.tacho_law.specs.declared.run.Run.{Run}
+use Rattle.tacho_law.specs.declared.debt.Debt.{Debt}
+use Rattle.tacho_law.specs.Weeks.{week_start, IsInWeek}
 use Rattle.tacho_pass.specs.Found.{own_of}
 use Rattle.tacho_pass.specs.Kinds.{is_b10}
 use Rattle.tacho_rests.specs.Turns.{IsOpened}

@@ -1,7 +1,7 @@
 use Rattle.std.proofs.Common.{◌≡◌, ◌++◌, ◌≤◌, List, [], arith, ap, ◌∙◌}
-use Rattle.tacho_hours.specs.declared.run.Run.{Run}
-use Rattle.tacho_hours.specs.declared.run.TheConstants.{FAR}
-use Rattle.tacho_hours.specs.declared.breach.Breach.{Breach}
+use Rattle.tacho_law.specs.declared.run.Run.{Run}
+use Rattle.tacho_law.specs.declared.run.TheConstants.{FAR}
+use Rattle.tacho_law.specs.declared.breach.Breach.{Breach}
 use Rattle.tacho_pass.specs.Found.{own_of, as_list}
 use Rattle.tacho_pass.specs.Kinds.{is_b8}
 use Rattle.tacho_pass.proofs.AppendingLemmas.{own_more}

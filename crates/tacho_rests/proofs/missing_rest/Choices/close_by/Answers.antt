@@ -1,8 +1,8 @@
 use Rattle.std.proofs.Common.{◌≡◌, ◌+◌, ◌*◌, ◌++◌, ◌<◌, ◌≤◌, ℕ, Bool, false, List, Option, refl, sym, ap, ◌∙◌, arith}
 use Rattle.std.proofs.Common.{[]}
 use Rattle.std.proofs.lemmas.List.{append-nil}
-use Rattle.tacho_hours.specs.declared.run.Run.{Run}
-use Rattle.tacho_hours.specs.declared.breach.Breach.{Breach}
+use Rattle.tacho_law.specs.declared.run.Run.{Run}
+use Rattle.tacho_law.specs.declared.breach.Breach.{Breach}
 use Rattle.tacho_pass.specs.Found.{own_of}
 use Rattle.tacho_pass.specs.Kinds.{is_b9}
 use Rattle.tacho_pass.proofs.AppendingLemmas.{appends_none, appends_then, appends_some, own_more}

@@ -1,7 +1,7 @@
 use Rattle.std.proofs.Common.{◌≡◌, ◌≤◌, ◌<◌, ℕ, false}
-use Rattle.tacho_hours.specs.declared.run.Run.{Run}
-use Rattle.tacho_hours.specs.Runs.{IsRestOf}
-use Rattle.tacho_hours.specs.Line.{Line}
+use Rattle.tacho_law.specs.declared.run.Run.{Run}
+use Rattle.tacho_law.specs.Runs.{IsRestOf}
+use Rattle.tacho_law.specs.Line.{Line}
 use Rattle.tacho_choice.specs.Weeks.{IsInWeeks}
 use Rattle.tacho_pass.specs.Found.{Appends, own_of}
 use Rattle.tacho_pass.specs.Kinds.{is_b9}

@@ -1,5 +1,5 @@
 use Rattle.std.proofs.Common.{◌≡◌, ◌+◌, ℕ, false, inl, inr, arith, ap}
-use Rattle.tacho_hours.specs.declared.run.Run.{Run}
+use Rattle.tacho_law.specs.declared.run.Run.{Run}
 use Rattle.tacho_pass.specs.Found.{own_of}
 use Rattle.tacho_pass.specs.Kinds.{is_b9}
 use Rattle.tacho_pass.proofs.AppendingLemmas.{appends_then}

@@ -1,5 +1,0 @@
-use Rattle.tacho_hours.proofs.OrderLemmas.{one_list_in_order}
-use Rattle.tacho_hours.proofs.laws.one_list_of_breaches.Goals as goal
-
-pub returns : goal.returns
-returns c = one_list_in_order

@@ -1,6 +1,0 @@
-use Rattle.tacho_hours.specs.Breaches.{IsDayBreach}
-use Rattle.tacho_hours.proofs.OrderLemmas.{one_breaches}
-use Rattle.tacho_hours.proofs.laws.one_list_of_day_breaches.Goals as goal
-
-pub returns : goal.returns
-returns c = λ line. one_breaches (λ breach. IsDayBreach line breach.kind breach)

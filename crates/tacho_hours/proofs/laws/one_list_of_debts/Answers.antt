@@ -1,5 +1,0 @@
-use Rattle.tacho_hours.proofs.DebtsLemmas.{one_debts}
-use Rattle.tacho_hours.proofs.laws.one_list_of_debts.Goals as goal
-
-pub returns : goal.returns
-returns c = one_debts

@@ -1,5 +1,0 @@
-use Rattle.tacho_hours.proofs.RunsLemmas.{one_rest_runs}
-use Rattle.tacho_hours.proofs.laws.one_list_of_rest_runs.Goals as goal
-
-pub returns : goal.returns
-returns c = one_rest_runs

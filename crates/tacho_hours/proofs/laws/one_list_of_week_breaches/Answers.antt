@@ -1,6 +1,0 @@
-use Rattle.tacho_hours.specs.Breaches.{IsWeekBreach}
-use Rattle.tacho_hours.proofs.OrderLemmas.{one_breaches}
-use Rattle.tacho_hours.proofs.laws.one_list_of_week_breaches.Goals as goal
-
-pub returns : goal.returns
-returns c = λ line. one_breaches (λ breach. IsWeekBreach line breach.kind breach)

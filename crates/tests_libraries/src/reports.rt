@@ -1,0 +1,274 @@
+use crate::same::assert_same;
+use std::alloc::Global;
+use std::test::Fail;
+use tacho_law::{Breach, Debt, Kind};
+use tacho_line::{Cause, Horizon, Line, LineFault};
+use tacho_rules::Report;
+use tacho_sheet::{breach_text, gap_text, month_sheet, owed_text, span_csv};
+use tacho_time::{Activity, Mark, Minute, Month, Span, Week, span_lines};
+
+// `checks/failing_sheet.py` runs each test with each of its allocations refused in turn. So a test returns an error by `?` if it runs out
+// of memory, and asserts everything else.
+
+/// Friday, 1 March 2024, 00:00.
+const MARCH: u32 = 28_487_520;
+
+/// Returns a minute of a day of March 2024. Day 32 is 1 April, and day 0 is the last of February.
+fn at(day: u32, minute: u32) -> Minute {
+    Minute::new((MARCH - 1440) + 1440 * day.min(60) + minute.min(1440))
+}
+
+/// Returns a span within one day.
+fn span(day: u32, from: u32, to: u32, activity: Activity, crew: bool) -> Span {
+    Span {
+        start: at(day, from),
+        past: at(day, to),
+        mark: Mark { activity, crew },
+    }
+}
+
+/// Returns a line that holds these spans.
+fn line_of(alloc: Global, spans: &[Span]) -> Result<Line, LineFault> {
+    let mut line = Line::empty(alloc);
+    let gains = line.gains(alloc, spans)?;
+    if line.add(&gains).is_err() {
+        return Err(LineFault::Memory);
+    }
+    Ok(line)
+}
+
+/// Returns rest, work and driving on Monday the 4th, and rest over the month's end.
+fn a_month(alloc: Global) -> Result<Line, LineFault> {
+    let spans = [
+        span(4, 0, 480, Activity::Rest, false),
+        span(4, 480, 510, Activity::Work, false),
+        span(4, 510, 1020, Activity::Drive, false),
+        span(31, 960, 1440, Activity::Rest, false),
+        span(32, 0, 480, Activity::Rest, false),
+    ];
+    line_of(alloc, &spans)
+}
+
+/// Returns March 2024.
+fn march() -> Result<Month, Fail> {
+    match Month::read(b"2024-03") {
+        Ok(month) => Ok(month),
+        Err(_) => Err(Fail::new("no month")),
+    }
+}
+
+/// Returns a breach.
+fn breach(kind: Kind, moment: Minute, since: Minute, amount: u32) -> Breach {
+    Breach {
+        kind,
+        moment,
+        since,
+        amount,
+    }
+}
+
+/// Returns a debt of the week of Monday the 4th, which has to be paid by 1 April.
+fn debt(amount: u32, paid_by: Option<Minute>) -> Debt {
+    Debt {
+        week: Week::new(2826),
+        amount,
+        deadline: at(32, 0),
+        paid_by,
+    }
+}
+
+/// Returns a report with these breaches.
+fn report_of(alloc: Global, horizon: Horizon, breaches: &[Breach]) -> Result<Report, Fail> {
+    Ok(Report {
+        horizon,
+        breaches: Vec::from_slice(alloc, breaches)?,
+        debts: Vec::new(alloc),
+    })
+}
+
+/// Returns the text of debts, if the examination ends at a minute.
+fn owed(alloc: Global, debts: &[Debt], minute: Minute) -> Result<String, Fail> {
+    let report = Report {
+        horizon: Horizon {
+            minute,
+            cause: Cause::Unknown,
+        },
+        breaches: Vec::new(alloc),
+        debts: Vec::from_slice(alloc, debts)?,
+    };
+    Ok(owed_text(alloc, &report)?)
+}
+
+/// Returns the horizon of the month's examination.
+fn end() -> Horizon {
+    Horizon {
+        minute: at(4, 1020),
+        cause: Cause::Unknown,
+    }
+}
+
+#[test]
+fn spans_have_lines(rt: HostRuntime) -> Result<(), Fail> {
+    let spans = [
+        span(4, 0, 480, Activity::Rest, false),
+        span(4, 480, 510, Activity::Work, true),
+        span(4, 510, 1020, Activity::Drive, false),
+        span(31, 1380, 1440, Activity::Available, true),
+        // The spans needn't be in order.
+        span(4, 1020, 1021, Activity::Rest, true),
+    ];
+    let text = span_lines(rt.alloc(), &spans)?;
+    let wanted =
+        b"2024-03-04 00:00 2024-03-04 08:00 rest single\n2024-03-04 08:00 2024-03-04 08:30 work crew\n2024-03-04 08:30 2024-03-04 17:00 drive single\n2024-03-31 23:00 2024-04-01 00:00 available crew\n2024-03-04 17:00 2024-03-04 17:01 rest crew\n";
+    assert_same(&rt, text.as_slice(), wanted.as_slice());
+    Ok(())
+}
+
+#[test]
+fn breaches_are_printed(rt: HostRuntime) -> Result<(), Fail> {
+    let alloc = rt.alloc();
+    let breaches = [
+        breach(Kind::B1, at(4, 780), at(4, 510), 240),
+        breach(Kind::B2, at(5, 0), at(4, 480), 1),
+        breach(Kind::B3, at(6, 0), at(4, 480), 2),
+        breach(Kind::B4, at(7, 0), at(4, 480), 3),
+        breach(Kind::B5, at(8, 0), at(4, 480), 4),
+        breach(Kind::B6, at(9, 0), at(4, 480), 5),
+        breach(Kind::B7, at(10, 0), at(4, 480), 6),
+        breach(Kind::B8, at(11, 0), at(4, 480), 7),
+        breach(Kind::B9, at(12, 0), at(4, 480), 0),
+        breach(Kind::B10, at(13, 0), at(4, 480), 1260),
+    ];
+    let text = breach_text(alloc, &report_of(alloc, end(), &breaches)?)?;
+    assert_same(
+        &rt,
+        text.as_str(),
+        "B1 Art 7 at 2024-03-04 13:00 since 2024-03-04 08:30 amount 240\nB2 Art 8(2) at 2024-03-05 00:00 since 2024-03-04 08:00 amount 1\nB3 Art 8(4) at 2024-03-06 00:00 since 2024-03-04 08:00 amount 2\nB4 Art 6(1) at 2024-03-07 00:00 since 2024-03-04 08:00 amount 3\nB5 Art 6(1) at 2024-03-08 00:00 since 2024-03-04 08:00 amount 4\nB6 Art 6(2) at 2024-03-09 00:00 since 2024-03-04 08:00 amount 5\nB7 Art 6(3) at 2024-03-10 00:00 since 2024-03-04 08:00 amount 6\nB8 Art 8(6) at 2024-03-11 00:00 since 2024-03-04 08:00 amount 7\nB9 Art 8(6) at 2024-03-12 00:00 since 2024-03-04 08:00 amount 0\nB10 Art 8(6b) at 2024-03-13 00:00 since 2024-03-04 08:00 amount 1260\nEXAMINED TO 2024-03-04 17:00 unknown\n",
+    );
+    let crew = Horizon {
+        minute: at(4, 1020),
+        cause: Cause::Crew,
+    };
+    let text = breach_text(alloc, &report_of(alloc, crew, &[])?)?;
+    assert_same(&rt, text.as_str(), "EXAMINED TO 2024-03-04 17:00 crew\n");
+    Ok(())
+}
+
+#[test]
+fn a_lack_of_weekly_rests_is_printed(rt: HostRuntime) -> Result<(), Fail> {
+    let alloc = rt.alloc();
+    let april = Horizon {
+        minute: at(32, 0),
+        cause: Cause::Unknown,
+    };
+    let lacking = breach(Kind::B9, at(32, 0), at(18, 0), 0);
+    let report = report_of(alloc, april, &[lacking])?;
+    assert_same(
+        &rt,
+        breach_text(alloc, &report)?.as_str(),
+        "B9 Art 8(6) at 2024-04-01 00:00 since 2024-03-18 00:00 amount 0\nEXAMINED TO 2024-04-01 00:00 unknown\n",
+    );
+    assert_same(
+        &rt,
+        owed_text(alloc, &report)?.as_str(),
+        "EXAMINED TO 2024-04-01 00:00 unknown\n",
+    );
+    Ok(())
+}
+
+#[test]
+fn debts_are_printed(rt: HostRuntime) -> Result<(), Fail> {
+    let alloc = rt.alloc();
+    assert_same(
+        &rt,
+        owed(alloc, &[debt(1260, None)], at(31, 1439))?.as_str(),
+        "WEEK 2024-03-04 owes 1260 by 2024-04-01 00:00 open\nEXAMINED TO 2024-03-31 23:59 unknown\n",
+    );
+    assert_same(
+        &rt,
+        owed(alloc, &[debt(1260, None)], at(32, 0))?.as_str(),
+        "WEEK 2024-03-04 owes 1260 by 2024-04-01 00:00 late\nEXAMINED TO 2024-04-01 00:00 unknown\n",
+    );
+    assert_same(
+        &rt,
+        owed(alloc, &[debt(1260, Some(at(20, 0)))], at(32, 0))?.as_str(),
+        "WEEK 2024-03-04 owes 1260 by 2024-04-01 00:00 paid 2024-03-20 00:00\nEXAMINED TO 2024-04-01 00:00 unknown\n",
+    );
+    Ok(())
+}
+
+#[test]
+fn gaps_of_a_month_are_printed(rt: HostRuntime) -> Result<(), Fail> {
+    let alloc = rt.alloc();
+    let text = gap_text(alloc, &a_month(alloc)?, march()?)?;
+    assert_same(
+        &rt,
+        text.as_str(),
+        "2024-03-01 00:00 2024-03-04 00:00\n2024-03-04 17:00 2024-03-31 16:00\n",
+    );
+    let text = gap_text(alloc, &Line::empty(alloc), march()?)?;
+    assert_same(&rt, text.as_str(), "2024-03-01 00:00 2024-04-01 00:00\n");
+    Ok(())
+}
+
+#[test]
+fn spans_of_a_month_are_printed(rt: HostRuntime) -> Result<(), Fail> {
+    let alloc = rt.alloc();
+    let text = span_csv(alloc, &a_month(alloc)?, march()?)?;
+    assert_same(
+        &rt,
+        text.as_str(),
+        "start,past,activity,manning\n2024-03-04 00:00,2024-03-04 08:00,rest,single\n2024-03-04 08:00,2024-03-04 08:30,work,single\n2024-03-04 08:30,2024-03-04 17:00,drive,single\n2024-03-31 16:00,2024-04-01 00:00,rest,single\n",
+    );
+    let held = [span(4, 0, 1, Activity::Available, true)];
+    let text = span_csv(alloc, &line_of(alloc, &held)?, march()?)?;
+    assert_same(
+        &rt,
+        text.as_str(),
+        "start,past,activity,manning\n2024-03-04 00:00,2024-03-04 00:01,available,crew\n",
+    );
+    Ok(())
+}
+
+#[test]
+fn a_month_is_printed(rt: HostRuntime) -> Result<(), Fail> {
+    let alloc = rt.alloc();
+    // Breaches at the month's first and last minutes, and at the minutes next to them.
+    let breaches = [
+        breach(Kind::B2, at(0, 1439), at(0, 0), 1),
+        breach(Kind::B6, at(1, 0), at(0, 0), 2),
+        breach(Kind::B1, at(4, 780), at(4, 510), 240),
+        breach(Kind::B4, at(31, 1439), at(31, 0), 3),
+        breach(Kind::B2, at(32, 0), at(31, 0), 4),
+    ];
+    let report = report_of(alloc, end(), &breaches)?;
+    let text = month_sheet(alloc, 17, "Anna Berg", &a_month(alloc)?, &report, march()?)?;
+    assert_same(
+        &rt,
+        text.as_str(),
+        "DRIVER 17 Anna Berg\nMONTH 2024-03\nDATE       DAY   REST  AVAIL   WORK  DRIVE   CREW   NONE\n2024-03-01 Fri   0:00   0:00   0:00   0:00   0:00  24:00\n2024-03-02 Sat   0:00   0:00   0:00   0:00   0:00  24:00\n2024-03-03 Sun   0:00   0:00   0:00   0:00   0:00  24:00\n2024-03-04 Mon   8:00   0:00   0:30   8:30   0:00   7:00\n2024-03-05 Tue   0:00   0:00   0:00   0:00   0:00  24:00\n2024-03-06 Wed   0:00   0:00   0:00   0:00   0:00  24:00\n2024-03-07 Thu   0:00   0:00   0:00   0:00   0:00  24:00\n2024-03-08 Fri   0:00   0:00   0:00   0:00   0:00  24:00\n2024-03-09 Sat   0:00   0:00   0:00   0:00   0:00  24:00\n2024-03-10 Sun   0:00   0:00   0:00   0:00   0:00  24:00\n2024-03-11 Mon   0:00   0:00   0:00   0:00   0:00  24:00\n2024-03-12 Tue   0:00   0:00   0:00   0:00   0:00  24:00\n2024-03-13 Wed   0:00   0:00   0:00   0:00   0:00  24:00\n2024-03-14 Thu   0:00   0:00   0:00   0:00   0:00  24:00\n2024-03-15 Fri   0:00   0:00   0:00   0:00   0:00  24:00\n2024-03-16 Sat   0:00   0:00   0:00   0:00   0:00  24:00\n2024-03-17 Sun   0:00   0:00   0:00   0:00   0:00  24:00\n2024-03-18 Mon   0:00   0:00   0:00   0:00   0:00  24:00\n2024-03-19 Tue   0:00   0:00   0:00   0:00   0:00  24:00\n2024-03-20 Wed   0:00   0:00   0:00   0:00   0:00  24:00\n2024-03-21 Thu   0:00   0:00   0:00   0:00   0:00  24:00\n2024-03-22 Fri   0:00   0:00   0:00   0:00   0:00  24:00\n2024-03-23 Sat   0:00   0:00   0:00   0:00   0:00  24:00\n2024-03-24 Sun   0:00   0:00   0:00   0:00   0:00  24:00\n2024-03-25 Mon   0:00   0:00   0:00   0:00   0:00  24:00\n2024-03-26 Tue   0:00   0:00   0:00   0:00   0:00  24:00\n2024-03-27 Wed   0:00   0:00   0:00   0:00   0:00  24:00\n2024-03-28 Thu   0:00   0:00   0:00   0:00   0:00  24:00\n2024-03-29 Fri   0:00   0:00   0:00   0:00   0:00  24:00\n2024-03-30 Sat   0:00   0:00   0:00   0:00   0:00  24:00\n2024-03-31 Sun   8:00   0:00   0:00   0:00   0:00  16:00\nTOTAL           16:00   0:00   0:30   8:30   0:00 719:00\nB6 Art 6(2) at 2024-03-01 00:00 since 2024-02-29 00:00 amount 2\nB1 Art 7 at 2024-03-04 13:00 since 2024-03-04 08:30 amount 240\nB4 Art 6(1) at 2024-03-31 23:59 since 2024-03-31 00:00 amount 3\nEXAMINED TO 2024-03-04 17:00 unknown\n",
+    );
+    Ok(())
+}
+
+#[test]
+fn a_day_with_every_mark_is_printed(rt: HostRuntime) -> Result<(), Fail> {
+    let alloc = rt.alloc();
+    let held = [
+        span(4, 0, 1, Activity::Rest, false),
+        span(4, 1, 3, Activity::Available, false),
+        span(4, 3, 6, Activity::Work, false),
+        span(4, 6, 65, Activity::Drive, false),
+        span(4, 65, 125, Activity::Rest, true),
+        span(4, 125, 126, Activity::Drive, true),
+    ];
+    let report = report_of(alloc, end(), &[])?;
+    let text = month_sheet(alloc, 1, "Bo", &line_of(alloc, &held)?, &report, march()?)?;
+    assert!(rt; text.contains("\n2024-03-04 Mon   0:01   0:02   0:03   0:59   1:01  21:54\n"));
+    assert!(rt;
+        text.ends_with(
+            "\nTOTAL            0:01   0:02   0:03   0:59   1:01 741:54\nEXAMINED TO 2024-03-04 17:00 unknown\n"
+        )
+    );
+    Ok(())
+}
