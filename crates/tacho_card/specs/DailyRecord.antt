@@ -4,6 +4,7 @@ use Rattle.tacho_card.specs.declared.fault.CardFault.{CardFault}
 use Rattle.tacho_card.specs.declared.fault.CardFault.TheVariants.{RecordLength, Chain, DayRange, WordMinute, WordOrder}
 use Rattle.tacho_card.specs.ActivityChangeInfo.{time_of}
 use Rattle.tacho_card.specs.DriverActivity.{wrap_place, number_at}
+use Rattle.tacho_time.specs.Limits.{first_day, last_day}
 
 -- a record in a buffer: the place at which it begins, and the number of its words
 pub record DailyRecord : Type 0 where
@@ -37,7 +38,7 @@ is_length size len = nat_le 12 len && (len % 2 == 0) && nat_le len size
 
 -- true if a day is from 2000-01-03 to 2099-12-31
 abbrev pub is_read_day : ℕ → Bool
-is_read_day day = nat_le 10959 day && nat_le day 47481
+is_read_day day = nat_le first_day day && nat_le day last_day
 
 -- the first fault of k words from the i-th on, after a word with the minute `before`; C12 comes before C13
 unfoldable pub words_fault : List ℕ → ℕ → ℕ → ℕ → ℕ → Option CardFault

@@ -8,6 +8,7 @@ use Rattle.tacho_card.specs.DriverActivity.{DriverActivity, wrap_place}
 use Rattle.tacho_card.specs.DailyRecord.{DailyRecord, length_at, record_day, word_place, word_at}
 use Rattle.tacho_card.specs.Chain.{lengths}
 use Rattle.tacho_card.specs.CardFile.{FileBlock, activity_data, identification, holder_in}
+use Rattle.tacho_time.specs.Limits.{first_day, last_day}
 
 -- ---- C2 to C5: the blocks of a file
 
@@ -80,7 +81,7 @@ IsTooLong activity front place = length activity.buffer < lengths activity.buffe
 
 -- the record's day is from 2000-01-03 to 2099-12-31; C11: it isn't
 abbrev pub HasReadDay : DriverActivity → ℕ → Type 0
-HasReadDay activity place = (10959 ≤ record_day activity.buffer place) × (record_day activity.buffer place ≤ 47481)
+HasReadDay activity place = (first_day ≤ record_day activity.buffer place) × (record_day activity.buffer place ≤ last_day)
 
 -- C12: the minute of a word isn't one of a day; C13: it is below that of the word before
 abbrev pub IsWordFault : List ℕ → ℕ → ℕ → CardFault → Type 0

@@ -2,13 +2,14 @@ ghost use Rattle.std.specs.Prelude.{◌≡◌, ◌+◌, ◌*◌, ◌<◌, ◌≤
 ghost use Rattle.tacho_card.specs.ActivityChangeInfo.{time_of};
 ghost use Rattle.tacho_card.specs.RawSpans.{span_of_mark};
 ghost use Rattle.tacho_card.specs.DailyRecord.{is_length as length_test, is_read_day as day_test, record_day, words_fault};
+ghost use Rattle.tacho_time.specs.Limits.{last_day};
 
 use crate::cyclic::{number_in, place_in};
 use crate::fault::CardFault;
 use crate::word::Word;
 use std::alloc::AllocError;
 use std::marker::Model;
-use tacho_time::{Day, Mark, Minute, Span};
+use tacho_time::{Day, FIRST_DAY, LAST_DAY, Mark, Minute, Span};
 
 /// CardActivityDailyRecord (Annex IC, Appendix 1), borrowed from the buffer: the changes of activity of a day.
 #[derive(Drop)]
@@ -126,7 +127,7 @@ impl<'a> Record<'a> {
 
 /// Returns the minute from which a word holds, on the day that begins at `midnight`.
 fn minute_from(midnight: u32, word: Word) -> Minute
-    requires { midnight ≤ 1440 * 47481 }
+    requires { midnight ≤ 1440 * last_day }
     ensures { result ≡ midnight + time_of word }
 {
     Minute::new(midnight + word.minute() as u32)
@@ -169,7 +170,7 @@ fn is_length(size: usize, len: usize) -> bool
 fn is_read_day(day: u32) -> bool
     ensures { result ≡ day_test day }
 {
-    10959 <= day && day <= 47481
+    FIRST_DAY <= day && day <= LAST_DAY
 }
 
 /// Returns the first fault of the words of the record at a place.

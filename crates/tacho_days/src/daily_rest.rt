@@ -7,6 +7,7 @@ ghost use Rattle.tacho_days.specs.DailyRests.{DailyRestsStand, DailyRestsDefined
 ghost use Rattle.tacho_days.specs.DutyDays.{day_to};
 ghost use Rattle.tacho_days.specs.RestingDays.{resting_none, regular_of, reduced_of};
 ghost use Rattle.tacho_days.specs.RestingDays.{short_of, often_of, rest_found, after_rest, after_optional_rest, found_at_optional_rest};
+ghost use Rattle.tacho_time.specs.Limits.{greatest_minute};
 
 use std::alloc::AllocError;
 use tacho_law::limits::{
@@ -46,7 +47,7 @@ impl RestingDay {
     /// Returns the duty day that a daily rest ends.
     fn day(&self, rest: Run) -> DutyDay
         ensures day { result ≡ day_to self.now.from rest }
-        ensures started { result.start ≤ 68428800 }
+        ensures started { result.start ≤ greatest_minute }
     {
         DutyDay {
             start: self.from.number(),

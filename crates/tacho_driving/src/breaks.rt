@@ -5,6 +5,7 @@ ghost use Rattle.tacho_pass.specs.Kinds.{is_b1};
 ghost use Rattle.tacho_driving.specs.Periods.{BreaksStand, BreaksDefined};
 ghost use Rattle.tacho_driving.specs.Periods.{period_none, period_in_range, completes as completes_it, after_run, found_at, after_optional_run};
 ghost use Rattle.tacho_driving.specs.Periods.{found_at_optional_run, period_with};
+ghost use Rattle.tacho_time.specs.Limits.{greatest_week};
 
 use std::alloc::AllocError;
 use tacho_law::limits::{
@@ -48,7 +49,7 @@ impl Period {
     fn add(&mut self, drives: bool, from: u32, to: u32)
         requires few { IsTrue (period_in_range self.old from) }
         requires some { from ≤ to }
-        requires early { to ≤ week_start 6788 }
+        requires early { to ≤ week_start greatest_week }
         ensures with { self.new ≡ period_with drives from to self.old }
         ensures few { IsTrue (period_in_range self.new to) }
     {
@@ -89,7 +90,7 @@ impl Period {
     ) -> Result<(), AllocError>
         requires few { IsTrue (period_in_range self.old from) }
         requires some { from ≤ to }
-        requires early { to ≤ week_start 6788 }
+        requires early { to ≤ week_start greatest_week }
         ensures after { OnOk result (self.new ≡ period_with drives from to (after_optional_run run self.old)) }
         ensures few { IsTrue (period_in_range self.new to) }
         ensures breaches { OnOk result (found.new.breaches.items ≡ found.old.breaches.items ++ found_at_optional_run run self.old) }

@@ -6,6 +6,7 @@ ghost use Rattle.tacho_pass.specs.Kinds.{is_b6_or_b7};
 ghost use Rattle.tacho_pass.specs.Counts.{count_none};
 ghost use Rattle.tacho_driving.specs.Sums.{WeekSumsStand, WeekSumsDefined};
 ghost use Rattle.tacho_driving.specs.Sums.{sums_in_range, fill_week, close_week, sum_breaches, turn_week, turn_found, through, through_found};
+ghost use Rattle.tacho_time.specs.Limits.{greatest_week};
 
 use std::alloc::AllocError;
 use tacho_law::limits::{DRIVING_IN_TWO_WEEKS, DRIVING_IN_WEEK};
@@ -57,7 +58,7 @@ impl Sums {
     fn fill(&mut self, drives: bool, from: u32, to: u32)
         requires few { IsTrue (sums_in_range self.old from) }
         requires some { from ≤ to }
-        requires early { to ≤ week_start 6788 }
+        requires early { to ≤ week_start greatest_week }
         ensures filled { self.new ≡ fill_week drives from to self.old }
         ensures few { IsTrue (sums_in_range self.new to) }
     {
@@ -111,7 +112,7 @@ impl Sums {
         requires few { IsTrue (sums_in_range self.old from) }
         requires before { from ≤ week_start (self.old.week + 2) }
         requires some { from ≤ to }
-        requires early { to ≤ week_start 6788 }
+        requires early { to ≤ week_start greatest_week }
         requires ends { week_start (self.old.week + 1 + ends) ≤ to }
         ensures through { OnOk result (self.new ≡ through ends drives from to self.old) }
         ensures few { OnOk result (IsTrue (sums_in_range self.new to)) }

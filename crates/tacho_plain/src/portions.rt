@@ -2,6 +2,7 @@ ghost use Rattle.std.specs.Prelude.{◌<◌, ◌≤◌, ◌↔◌, All, AllPairs
 ghost use Rattle.tacho_law.specs.declared.run.Run.{Run as RunValue};
 ghost use Rattle.tacho_law.specs.Runs.{AreRuns};
 ghost use Rattle.tacho_law.specs.Days.{HasRegularRest, HasReducedRest};
+ghost use Rattle.tacho_time.specs.Limits.{greatest_minute};
 
 use tacho_law::limits::{DAILY_REST, REGULAR_DAILY_REST, WEEKLY_REST};
 use tacho_law::{DutyDay, Run, has_portion};
@@ -18,8 +19,8 @@ fn has_run_between(runs: &[Run], from: u32, to: u32) -> bool
 /// True if the daily rest of a duty day is regular (Article 4(g) of Regulation (EC) 561/2006). `parts` are the rests of three hours or
 /// more.
 pub fn is_regular(day: DutyDay, parts: &[Run]) -> bool
-    requires started { day.start ≤ 68428800 }
-    requires ended { day.past ≤ 68428800 }
+    requires started { day.start ≤ greatest_minute }
+    requires ended { day.past ≤ greatest_minute }
     requires parts { AreRuns parts.now }
     ensures { IsTrue result ↔ HasRegularRest parts.now day }
 {
@@ -30,8 +31,8 @@ pub fn is_regular(day: DutyDay, parts: &[Run]) -> bool
 /// True if the daily rest of a duty day is reduced (Article 4(g) and Article 8(4) of Regulation (EC) 561/2006). `parts` are the rests of
 /// three hours or more.
 pub fn is_reduced(day: DutyDay, parts: &[Run]) -> bool
-    requires started { day.start ≤ 68428800 }
-    requires ended { day.past ≤ 68428800 }
+    requires started { day.start ≤ greatest_minute }
+    requires ended { day.past ≤ greatest_minute }
     requires rests { day.rest.start < day.rest.past }
     requires parts { AreRuns parts.now }
     ensures { IsTrue result ↔ HasReducedRest parts.now day }

@@ -16,6 +16,7 @@ use Rattle.tacho_state.specs.Summaries.{Summary}
 use Rattle.tacho_tables.specs.Rows.{SpanRow, DownloadRow, EntryRow, DriverRow}
 use Rattle.tacho_tables.specs.declared.rows.StoredSpan.{StoredSpan}
 use Rattle.tacho_tables.specs.Tables.{ListedDriver, ListedEntry, Tables, HasTables, has_number, is_of, is_row_near, is_kept_near, span_of, entry_span_of}
+use Rattle.tacho_time.specs.Limits.{greatest_day, greatest_minute}
 
 -- ---- marks as numbers: 0 rest, 1 available, 2 work, 3 drive, and 4 more for crew
 
@@ -178,8 +179,8 @@ pub record SameRows (t u : Tables) : Type 0 where
 
 -- both numbers are minutes: 68428800 is the last minute
 pub record AreMinutes (from until : ℕ) : Type 0 where
-  pub start : from ≤ 68428800
-  pub past : until ≤ 68428800
+  pub start : from ≤ greatest_minute
+  pub past : until ≤ greatest_minute
 
 -- a stored span that an archive can have written: its numbers are minutes and a mark
 pub record IsFit (s : StoredSpan) : Type 0 where
@@ -222,4 +223,4 @@ summary_of_listed d = record { number = d.driver; holder = d.holder; base = d.ba
 
 -- the driver's base is the number of a day: 47520 is the last
 abbrev pub HasBaseDay : ListedDriver → Type 0
-HasBaseDay d = d.base ≤ 47520
+HasBaseDay d = d.base ≤ greatest_day

@@ -10,13 +10,7 @@ use std::alloc::{AllocError, Global};
 use tacho_line::Line;
 use tacho_state::{DriverSummary, Entry, EntryLine, StoreFault, line_of};
 use tacho_tables::{StoredDriver, StoredEntry, StoredSpan};
-use tacho_time::{Activity, Day, Mark, Minute, Span, SpanFault};
-
-/// The last minute's number.
-const LAST: u32 = 68_428_800;
-
-/// The last day's number.
-const LAST_DAY: u32 = 47_520;
+use tacho_time::{Activity, Day, GREATEST_DAY, GREATEST_MINUTE, Mark, Minute, Span, SpanFault};
 
 /// Returns the number of an activity: 0 rest, 1 available, 2 work, 3 drive.
 fn number_of_activity(activity: Activity) -> u32
@@ -67,9 +61,9 @@ fn mark_of(number: u32) -> Option<Mark>
 /// Returns the minute with this number, if there is one.
 pub fn minute_of(number: u32) -> Option<Minute>
     ensures some { IfSome result (λ minute. minute ≡ number) }
-    ensures none { IsNone result ↔ (LAST < number) }
+    ensures none { IsNone result ↔ (GREATEST_MINUTE < number) }
 {
-    if number > LAST {
+    if number > GREATEST_MINUTE {
         return None;
     }
     Some(Minute::new(number))
@@ -165,9 +159,9 @@ pub fn listed_entries(alloc: Global, rows: Vec<StoredEntry>) -> Result<Vec<Entry
 /// Returns the day with this number, if there is one.
 fn day_of(number: u32) -> Option<Day>
     ensures some { IfSome result (λ day. day ≡ number) }
-    ensures none { IsNone result ↔ (LAST_DAY < number) }
+    ensures none { IsNone result ↔ (GREATEST_DAY < number) }
 {
-    if number > LAST_DAY {
+    if number > GREATEST_DAY {
         return None;
     }
     Some(Day::new(number))

@@ -2,6 +2,7 @@ ghost use Rattle.std.specs.Prelude.{◌≡◌, ◌+◌, ◌-◌, ◌*◌, ◌<�
 ghost use Rattle.tacho_time.specs.declared.span.Activity.TheVariants.{Rest as RestOf, Available as AvailableOf, Work as WorkOf, Drive as DriveOf};
 ghost use Rattle.tacho_sheet.specs.Reports.{is_single_minute, is_crew, is_lacking};
 ghost use Rattle.tacho_sheet.specs.Amounts.{AreAmounts, AreFrom, all_or_none, whole};
+ghost use Rattle.tacho_time.specs.Limits.{greatest_day};
 
 use std::alloc::{AllocError, Global};
 use tacho_line::Line;
@@ -102,7 +103,7 @@ fn amounts_of(spans: &[Span], start: Minute, past: Minute) -> Amounts
 
 /// Counts the minutes of a day.
 pub(crate) fn amounts_of_day(alloc: Global, line: &Line, day: Day) -> Result<Amounts, AllocError>
-    requires { day < 47520 }
+    requires { day < greatest_day }
     ensures { IfOk result (AreAmounts line.now (1440 * day) 1440) }
 {
     let first = MINUTES_OF_DAY * day.number();

@@ -11,10 +11,10 @@ use Rattle.tacho_state.specs.declared.imported.Imported.TheVariants.{Added, Repe
 use Rattle.tacho_state.specs.Least.{least_conflict, is_within}
 use Rattle.tacho_state.specs.State.{Driver, State, driver_of, holding, put, given_spans, held_spans, with_download}
 use Rattle.tacho_state.specs.Content.{FileTells, part_number}
-use Rattle.tacho_state.specs.Steps.{Turn, Own, Content, most_records, refusal_turn, turn_of, own_turn, kept_by, import_own, import_by_driver, import_step}
+use Rattle.tacho_state.specs.Steps.{Turn, Own, Content, most_records, refusal_turn, turn_of, own_turn, kept_by, import_own, import_by_driver, import_step, known_driver}
 use Rattle.tacho_state.specs.Acts.{Answers}
 use Rattle.tacho_state.proofs.ContentLemmas.{one_content}
-use Rattle.tacho_shelf.specs.Shelf.{AreNumbered, IsIndexOf, IsStepFault, IsCardFault, IsOwnerAt, known_driver, known_by, owner_of, Turns}
+use Rattle.tacho_shelf.specs.Shelf.{AreNumbered, IsIndexOf, IsStepFault, IsCardFault, IsOwnerAt, known_by, owner_of, Turns}
 use Rattle.tacho_shelf.proofs.ShelfLemmas.{put_at}
 
 -- ---- refusals

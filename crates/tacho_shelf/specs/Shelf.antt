@@ -12,7 +12,7 @@ use Rattle.tacho_state.specs.declared.imported.Imported.TheVariants.{Added, Repe
 use Rattle.tacho_state.specs.Content.{FileTells}
 use Rattle.tacho_state.specs.Registration.{Registration}
 use Rattle.tacho_state.specs.State.{Download, Entry, Driver, State, driver_of, holding, given_spans, entered_spans, with_download}
-use Rattle.tacho_state.specs.Steps.{Turn, most_records}
+use Rattle.tacho_state.specs.Steps.{Turn, most_records, known_driver}
 use Rattle.tacho_state.specs.Acts.{Answers, state_left_by}
 
 -- no two drivers have the same number
@@ -46,11 +46,6 @@ IsEnteredAt entries number i = (number ≡ 1 + i) × ((e : Entry) × (slice_get 
 -- the fault is out of memory, or the first fault of the card file for this part
 abbrev pub IsCardFault : Part → List ℕ → StoreFault → Type 0
 IsCardFault part bytes fault = OrMemory Memory fault ((f : CardFault) × (fault ≡ Card f) × FileTells part bytes (Err f))
-
--- the driver, if there is one: S4
-abbrev pub known_driver : Option Driver → Result Driver StoreFault
-known_driver None = Err UnknownDriver
-known_driver (Some d) = Ok d
 
 -- the driver, if there is one and their card has this holder: S4, S5
 abbrev pub known_by : List ℕ → Option Driver → Result Driver StoreFault

@@ -3,7 +3,6 @@ ghost use Rattle.tacho_time.specs.OrMemory.{OrMemory};
 ghost use Rattle.tacho_line.specs.declared.line.LineFault.TheVariants.{Memory as NoMemory};
 ghost use Rattle.tacho_state.specs.Limits.{next_number};
 ghost use Rattle.tacho_state.specs.State.{driver_of, driver_with_key, holding};
-ghost use Rattle.tacho_state.specs.Steps.{is_monday as on_monday};
 ghost use Rattle.tacho_shelf.specs.Shelf.{IsIndexOf};
 
 use crate::hours::{Hours, add_spans, hours_of};
@@ -463,11 +462,4 @@ pub(crate) fn place_of_holder(rows: &[Row], holder: &[u8]) -> Option<usize>
     ensures { IsIndexOf rows.now (holding holder.now rows.now) result }
 {
     rows.iter().position(|row| row.holder.as_slice() == holder)
-}
-
-/// True if a day is a Monday: day 0 was a Thursday.
-pub(crate) fn is_monday(day: Day) -> bool
-    ensures { result ≡ on_monday day }
-{
-    (day.number() + 3) % 7 == 0
 }

@@ -5,15 +5,15 @@ ghost use Rattle.tacho_line.specs.Line.{mark_at};
 ghost use Rattle.tacho_state.specs.State.{driver_of, holding};
 ghost use Rattle.tacho_state.specs.Content.{FileTells, part_number};
 ghost use Rattle.tacho_state.specs.Batch.{IsBatch, batch_of};
-ghost use Rattle.tacho_state.specs.Steps.{Content, register_step, import_step, enter_step, withdraw_step, rebase_step, refusal_turn, owner, name_reading, line_reading, entries_reading, file_reading, report_reading};
+ghost use Rattle.tacho_state.specs.Steps.{Content, register_step, import_step, enter_step, withdraw_step, rebase_step, refusal_turn, owner, name_reading, line_reading, entries_reading, file_reading, report_reading, known_driver};
 ghost use Rattle.tacho_state.specs.Reported.{AreStretchesOf, IsHeldWithin, IsDriverReport};
 ghost use Rattle.tacho_stretches.specs.Stretches.{judged_of};
 ghost use Rattle.tacho_state.specs.Summaries.{AreSummaries, told_summary};
 ghost use Rattle.tacho_state.specs.Acts.{Answers, caller_number};
-ghost use Rattle.tacho_shelf.specs.Shelf.{Turns, IsOwnerAt, known_driver, known_by, owner_of, new_driver};
+ghost use Rattle.tacho_shelf.specs.Shelf.{Turns, IsOwnerAt, known_by, owner_of, new_driver};
 
 use crate::content::read_content;
-use crate::row::{Row, is_monday, place_of, place_of_holder, place_of_key};
+use crate::row::{Row, place_of, place_of_holder, place_of_key};
 use std::alloc::{AllocError, Global};
 use std::marker::Model;
 use tacho_card::Part;
@@ -21,6 +21,7 @@ use tacho_line::Line;
 use tacho_rules::Report;
 use tacho_state::{
     Caller, Driver, DriverSummary, Entered, Entry, EntryLine, Imported, Keeper, StoreFault,
+    is_monday,
 };
 use tacho_stretches::Stretch;
 use tacho_time::{Day, Minute};

@@ -3,6 +3,7 @@ use Rattle.std.specs.Prelude.{ℕ, ◌≤◌, List}
 use Rattle.tacho_state.specs.declared.driver.Column.{Column}
 use Rattle.tacho_state.specs.declared.driver.Column.TheVariants as column
 use Rattle.tacho_state.specs.Limits.{IsKey, IsName}
+use Rattle.tacho_time.specs.Limits.{first_day, last_day}
 
 -- the driver's number, their card's holder, their key, the day from which they are examined, and their name
 pub record Registration : Type 0 where
@@ -17,7 +18,7 @@ IsNumber number = (1 ≤ number) × (number ≤ 999999)
 
 -- a day from 2000-01-03 to 2099-12-31
 abbrev pub IsReadDay : ℕ → Type 0
-IsReadDay day = (10959 ≤ day) × (day ≤ 47481)
+IsReadDay day = (first_day ≤ day) × (day ≤ last_day)
 
 -- each column is within its limits
 pub record IsRegistration (r : Registration) : Type 0 where

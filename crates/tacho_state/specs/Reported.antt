@@ -7,6 +7,7 @@ use Rattle.tacho_rules.specs.Report.{IsReport}
 use Rattle.tacho_stretches.specs.Stretches.{Judged, AreStretches}
 use Rattle.tacho_state.specs.State.{State, driver_of, held_spans}
 use Rattle.tacho_state.specs.Steps.{is_monday}
+use Rattle.tacho_time.specs.Limits.{first_day, last_day}
 
 -- the report of what the driver with this number holds, from the first minute of their base; there is exactly one
 abbrev pub IsDriverReport : ℕ → State → Report → Type 0
@@ -23,7 +24,7 @@ IsHeldWithin n start past s line = IfSome (driver_of n s) (λ d. AgreeWithin sta
 
 -- values that no archive has: a base that isn't a Monday from 2000-01-03 to the end of 2099, or a line that goes past that end
 abbrev pub IsNoBase : ℕ → Type 0
-IsNoBase base = (base < 10959) ⊎ ((47481 < base) ⊎ (is_monday base ≡ false))
+IsNoBase base = (base < first_day) ⊎ ((last_day < base) ⊎ (is_monday base ≡ false))
 
 abbrev pub IsOutOfLimits : List Span → ℕ → Type 0
 IsOutOfLimits line base = IsNoBase base ⊎ ¬ All (λ (s : Span). s.past ≤ 68374080) line

@@ -124,6 +124,11 @@ abbrev pub reading_of : {A : Type 0} → (Driver → Result A StoreFault) → Op
 reading_of f None = Err UnknownDriver
 reading_of f (Some d) = f d
 
+-- the driver, if there is one: S4
+abbrev pub known_driver : Option Driver → Result Driver StoreFault
+known_driver None = Err UnknownDriver
+known_driver (Some d) = Ok d
+
 -- the number of the driver with this key, if there is one
 abbrev pub owner : List ℕ → State → Result (Option ℕ) StoreFault
 owner key s = Ok (option_map (λ (d : Driver). d.number) (driver_with_key key s))

@@ -3,7 +3,7 @@ ghost use Rattle.tacho_state.specs.Registration.{Registration, IsRegistration, I
 
 use crate::limits::{is_key, is_name};
 use std::marker::Model;
-use tacho_time::Day;
+use tacho_time::{Day, FIRST_DAY, LAST_DAY};
 
 /// A column of a driver, or of hours that are entered by hand.
 #[derive(Clone, Copy, Debug, PartialEq, Eq)]
@@ -65,7 +65,7 @@ impl Driver {
         if !is_key(&key) {
             return Err(Column::Key);
         }
-        if base.number() < 10_959 || base.number() > 47_481 {
+        if base.number() < FIRST_DAY || base.number() > LAST_DAY {
             return Err(Column::Base);
         }
         if !is_name(&name) {

@@ -19,7 +19,7 @@ pub use entry::{Entered, Entry, EntryLine};
 pub use fault::StoreFault;
 pub use imported::Imported;
 pub use keeper::Keeper;
-pub use limits::{first_number, is_key, is_name, is_note};
+pub use limits::{first_number, is_key, is_monday, is_name, is_note};
 pub use parts::{inside_of, line_of, outside_of};
 pub use reports::{base_of, report_of, stretches_of};
 pub use summary::DriverSummary;

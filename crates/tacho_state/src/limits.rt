@@ -1,8 +1,18 @@
 ghost use Rattle.std.specs.Prelude.{◌≡◌, ◌↔◌, All, IsTrue};
 ghost use Rattle.tacho_state.specs.Limits.{IsKey, IsName, IsNameByte, IsNote, next_number};
+ghost use Rattle.tacho_state.specs.Steps.{is_monday};
+
+use tacho_time::Day;
 
 /// How many numbers are given out, at most, to a driver's downloads, and to a driver's entries.
 const MOST: u32 = 1_000_000;
+
+/// True if a day is a Monday. Day 0 was a Thursday.
+pub fn is_monday(day: Day) -> bool
+    ensures { result ≡ is_monday day }
+{
+    (day.number() + 3) % 7 == 0
+}
 
 /// True if a text can be a key: 8 to 64 letters, digits and hyphens. Allocates no memory.
 pub fn is_key(text: &str) -> bool

@@ -12,14 +12,14 @@ use std::alloc::Global;
 use tacho_line::Line;
 use tacho_rules::{Report, can_be_examined, examine};
 use tacho_stretches::{Stretch, stretches};
-use tacho_time::Minute;
+use tacho_time::{FIRST_DAY, LAST_DAY, Minute};
 
 /// Returns the first minute of a day, if it is a Monday from 2000-01-03 to the end of 2099.
 pub fn base_of(day: u32) -> Option<Minute>
     ensures some { IfSome result (λ base. (base ≡ 1440 * day) × IsBase base × (base ≤ latest)) }
     ensures none { IsNone result → IsNoBase day }
 {
-    if day < 10_959 || day > 47_481 || (day + 3) % 7 != 0 {
+    if day < FIRST_DAY || day > LAST_DAY || (day + 3) % 7 != 0 {
         return None;
     }
     Some(Minute::new(day * 1440))

@@ -5,11 +5,11 @@ use Rattle.tacho_state.specs.declared.fault.StoreFault.{StoreFault}
 use Rattle.tacho_state.specs.declared.fault.StoreFault.TheVariants.{UnknownDriver, NotYourCard, Memory, Store}
 use Rattle.tacho_state.specs.declared.imported.Imported.{Imported}
 use Rattle.tacho_state.specs.State.{Driver, State, driver_of, holding}
-use Rattle.tacho_state.specs.Steps.{Content, Turn, own_turn, turn_of, refusal_turn, import_own, import_by_driver, import_step}
+use Rattle.tacho_state.specs.Steps.{Content, Turn, own_turn, turn_of, refusal_turn, import_own, import_by_driver, import_step, known_driver}
 use Rattle.tacho_tables.specs.declared.rows.StoredDriver.{StoredDriver}
 use Rattle.tacho_reading.specs.Finding.{IsFindingFault, IsStored, IsDriver}
 use Rattle.tacho_reading.proofs.LookUpLemmas.{IsNumberOf, unknown_refuses}
-use Rattle.tacho_store.specs.Importing.{known_driver, with_card, importer, IsImporterOf, IsImporter}
+use Rattle.tacho_store.specs.Importing.{with_card, importer, IsImporterOf, IsImporter}
 use Rattle.tacho_store.specs.declared.import.Importer.{Importer}
 
 -- if it isn't different, it is the same

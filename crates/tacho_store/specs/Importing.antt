@@ -9,7 +9,7 @@ use Rattle.tacho_state.specs.declared.imported.Imported.{Imported}
 use Rattle.tacho_state.specs.declared.imported.Imported.TheVariants.{Added, Repeated}
 use Rattle.tacho_state.specs.Content.{FileTells, part_number}
 use Rattle.tacho_state.specs.State.{Driver, State, driver_of, holding, put, with_download}
-use Rattle.tacho_state.specs.Steps.{Content, Turn, turn_of, import_own, most_records}
+use Rattle.tacho_state.specs.Steps.{Content, Turn, turn_of, import_own, most_records, known_driver}
 use Rattle.tacho_tables.specs.Rows.{SpanRow}
 use Rattle.tacho_tables.specs.Tables.{Tables, HasTables, with_downloads}
 use Rattle.tacho_reading.specs.Standing.{Follows, span_row}
@@ -17,11 +17,6 @@ use Rattle.tacho_reading.specs.Finding.{IsFindingFault}
 use Rattle.tacho_store.specs.declared.content.CardContent.{CardContent}
 use Rattle.tacho_store.specs.declared.import.Importer.{Importer}
 use Rattle.tacho_store.specs.declared.news.News.{News}
-
--- the driver, or S4 if there is none
-abbrev pub known_driver : Option Driver → Result Driver StoreFault
-known_driver None = Err UnknownDriver
-known_driver (Some d) = Ok d
 
 -- the driver, or S4; S5 if the driver's card has another holder
 abbrev pub with_card : List ℕ → Option Driver → Result Driver StoreFault

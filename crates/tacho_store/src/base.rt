@@ -1,5 +1,5 @@
 ghost use Rattle.std.specs.Prelude.{◌≡◌, false};
-ghost use Rattle.tacho_state.specs.Steps.{rebase_step, is_monday};
+ghost use Rattle.tacho_state.specs.Steps.{rebase_step};
 ghost use Rattle.tacho_reading.specs.Calls.{Steps};
 ghost use Rattle.tacho_state.specs.Acts.{IsOfNoFile};
 ghost use Rattle.tacho_reading.specs.Kept.{ActsOn};
@@ -7,16 +7,9 @@ ghost use Rattle.tacho_reading.specs.Kept.{ActsOn};
 use sqlite::{Alter, Connection, Transaction};
 use tacho_reading::fault::store_fault;
 use tacho_reading::finding::driver_with;
-use tacho_state::StoreFault;
+use tacho_state::{StoreFault, is_monday};
 use tacho_tables::{drivers, opening};
 use tacho_time::Day;
-
-/// Whether a day is a Monday.
-pub fn is_monday(day: Day) -> bool
-    ensures { result ≡ is_monday day }
-{
-    (day.number() + 3) % 7 == 0
-}
 
 /// Sets a driver's base, within a transaction: S4, S9.
 fn rebase_in<S: Alter>(

@@ -5,10 +5,9 @@ ghost use Rattle.tacho_state.specs.Acts.{IsOfNoFile};
 ghost use Rattle.tacho_reading.specs.Kept.{ActsOn};
 ghost use Rattle.tacho_store.specs.Registering.{IsAskedFree};
 
-use crate::base::is_monday;
 use sqlite::{Alter, Connection, Transaction};
 use tacho_reading::fault::store_fault;
-use tacho_state::{Driver, StoreFault};
+use tacho_state::{Driver, StoreFault, is_monday};
 use tacho_tables::{drivers, opening};
 
 /// Checks that nobody has a new driver's number, key or holder: S1, S2, S3.

@@ -1,3 +1,4 @@
+pub mod Limits
 pub mod Calendar
 pub mod Text
 pub mod Device

@@ -6,6 +6,7 @@ use Rattle.jiff_core.specs.Calendar.{days_from_civil, days_in_month}
 use Rattle.tacho_time.specs.declared.read.DateParts.{DateParts}
 use Rattle.tacho_time.specs.declared.fault.TimeFault.{TimeFault}
 use Rattle.tacho_time.specs.declared.fault.TimeFault.TheVariants.{Shape, NoSuchDate, OutOfRange}
+use Rattle.tacho_time.specs.Limits.{first_day, last_day}
 
 -- the number that the digits so far (n) and these bytes spell; none if a byte isn't a digit
 abbrev pub digits_from : ℕ → List ℕ → Option ℕ
@@ -30,7 +31,7 @@ is_time hour minute = nat_lt hour 24 && nat_lt minute 60
 
 -- the day, if it is from 2000-01-03 to 2099-12-31; else Z3
 abbrev pub read_day : ℤ → Result ℕ TimeFault
-read_day (pos n) = if nat_le 10959 n && nat_le n 47481 then Ok n else Err OutOfRange
+read_day (pos n) = if nat_le first_day n && nat_le n last_day then Ok n else Err OutOfRange
 read_day (negsuc n) = Err OutOfRange
 
 -- the day of a date; Z2 if there is no such date, or Z3

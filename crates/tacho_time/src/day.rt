@@ -1,9 +1,19 @@
 ghost use Rattle.std.specs.Prelude.{◌≡◌, ℕ, ◌≤◌};
 ghost use Rattle.tacho_time.specs.Reading.{day_at};
+ghost use Rattle.tacho_time.specs.Limits.{greatest_day};
 
 use crate::fault::TimeFault;
 use crate::read;
 use std::marker::Model;
+
+/// The first day that is read: 2000-01-03, a Monday.
+pub const FIRST_DAY: u32 = 10_959;
+
+/// The last day that is read: 2099-12-31.
+pub const LAST_DAY: u32 = 47_481;
+
+/// The greatest number of a day: that of 2100-02-08.
+pub const GREATEST_DAY: u32 = 47_520;
 
 /// A day in UTC, by its number from 1970-01-01 (day 0) to 2100-02-08 (day 47,520).
 #[derive(Clone, Copy, Debug, PartialEq, Eq, PartialOrd, Ord)]
@@ -16,7 +26,7 @@ impl Model for Day {
 
     ghost view = { λ day. day.number };
 
-    ghost invariant = { λ day. day.number ≤ 47520 };
+    ghost invariant = { λ day. day.number ≤ greatest_day };
 
     ghost inverse = { λ n. record { number = n } };
 }
@@ -24,7 +34,7 @@ impl Model for Day {
 impl Day {
     /// Returns the day with this number.
     pub fn new(number: u32) -> Day
-        requires { number ≤ 47520 }
+        requires { number ≤ greatest_day }
         ensures { result ≡ number }
     {
         Day { number }
@@ -33,7 +43,7 @@ impl Day {
     /// Returns the day's number.
     pub fn number(self) -> u32
         ensures value { result ≡ self }
-        ensures bound { result ≤ 47520 }
+        ensures bound { result ≤ greatest_day }
     {
         self.number
     }

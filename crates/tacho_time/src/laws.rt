@@ -10,10 +10,11 @@ ghost use Rattle.tacho_time.specs.Calendar.{civil, HasNumber};
 ghost use Rattle.tacho_time.specs.Reading.{day_at, minute_at, month_at};
 ghost use Rattle.tacho_time.specs.Spans.{Gives, IsCanonical, IsCanonicalOf, GiveSame, IsFirstConflict};
 ghost use Rattle.tacho_time.specs.Text.{day_text, minute_text, month_text};
+ghost use Rattle.tacho_time.specs.Limits.{first_day, greatest_day, last_day};
 
 /// The date that is written for a day is the calendar's date with that number.
 pub fn civil_dates()
-    ensures { (n : ℕ) → n ≤ 47520 → HasNumber (civil n) n }
+    ensures { (n : ℕ) → n ≤ greatest_day → HasNumber (civil n) n }
 {}
 
 /// The weekday that `weekday` gives for a day is that of the calendar's date with this number.
@@ -24,7 +25,7 @@ pub fn weekday_of_dates()
 
 /// A day is read from its written form, and from no other text.
 pub fn day_is_read_back()
-    ensures { (text : List ℕ) (n : ℕ) → (day_at text ≡ Ok n) ↔ ((10959 ≤ n) × (n ≤ 47481) × (text ≡ day_text n)) }
+    ensures { (text : List ℕ) (n : ℕ) → (day_at text ≡ Ok n) ↔ ((first_day ≤ n) × (n ≤ last_day) × (text ≡ day_text n)) }
 {}
 
 /// A minute of these days is read from its written form, and from no other text.

@@ -16,12 +16,12 @@ mod week;
 mod whole;
 
 pub use canonical::{SpanFault, canonical_spans};
-pub use day::Day;
+pub use day::{Day, FIRST_DAY, GREATEST_DAY, LAST_DAY};
 pub use device::{Device, Failed, Sink, Source};
 pub use fault::TimeFault;
 pub use jiff_core::civil::Weekday;
 pub use lines::span_lines;
-pub use minute::Minute;
+pub use minute::{GREATEST_MINUTE, Minute};
 pub use month::{Month, month_range};
 pub use span::{Activity, Mark, Span};
 pub use text::{day_line, minute_line, write_day, write_minute, write_span};

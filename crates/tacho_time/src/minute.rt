@@ -1,10 +1,14 @@
 ghost use Rattle.std.specs.Prelude.{◌≡◌, ℕ, ◌≤◌, ◌/◌, ◌%◌};
 ghost use Rattle.tacho_time.specs.Reading.{minute_at};
+ghost use Rattle.tacho_time.specs.Limits.{greatest_minute};
 
 use crate::day::Day;
 use crate::fault::TimeFault;
 use crate::read;
 use std::marker::Model;
+
+/// The greatest number of a minute: the first of 2100-02-08.
+pub const GREATEST_MINUTE: u32 = 68_428_800;
 
 /// A whole number of minutes since 1970-01-01 00:00 UTC, to 2100-02-08 00:00 (68,428,800).
 #[derive(Clone, Copy, Debug, PartialEq, Eq, PartialOrd, Ord)]
@@ -17,7 +21,7 @@ impl Model for Minute {
 
     ghost view = { λ minute. minute.number };
 
-    ghost invariant = { λ minute. minute.number ≤ 68428800 };
+    ghost invariant = { λ minute. minute.number ≤ greatest_minute };
 
     ghost inverse = { λ n. record { number = n } };
 }
@@ -25,7 +29,7 @@ impl Model for Minute {
 impl Minute {
     /// Returns the minute with this number.
     pub fn new(number: u32) -> Minute
-        requires { number ≤ 68428800 }
+        requires { number ≤ greatest_minute }
         ensures { result ≡ number }
     {
         Minute { number }
@@ -34,7 +38,7 @@ impl Minute {
     /// Returns the minute's number.
     pub fn number(self) -> u32
         ensures value { result ≡ self }
-        ensures bound { result ≤ 68428800 }
+        ensures bound { result ≤ greatest_minute }
     {
         self.number
     }

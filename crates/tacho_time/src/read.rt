@@ -1,7 +1,7 @@
 ghost use Rattle.std.specs.Prelude.{◌≡◌, ◌<◌, ◌≤◌, ◌^◌, length, IfSome};
 ghost use Rattle.tacho_time.specs.Reading.{digits_at, date_at, day_of_date as date_day, minute_of_parts as parts_minute, AreWritten};
 
-use crate::day::Day;
+use crate::day::{Day, FIRST_DAY, LAST_DAY};
 use crate::fault::TimeFault;
 use crate::minute::Minute;
 use jiff_core::civil::Date;
@@ -54,7 +54,7 @@ pub(crate) fn day_of_date(date: DateParts) -> Result<Day, TimeFault>
         return Err(TimeFault::NoSuchDate);
     };
     let number = date.to_unix_epoch_day();
-    if number < 10_959 || number > 47_481 {
+    if number < FIRST_DAY as i32 || number > LAST_DAY as i32 {
         return Err(TimeFault::OutOfRange);
     }
     Ok(Day::new(number as u32))

@@ -1,5 +1,6 @@
 ghost use Rattle.std.specs.Prelude.{◌≡◌, ℕ, ◌+◌, ◌*◌, ◌%◌, ◌<◌, ◌≤◌};
 ghost use Rattle.jiff_core.specs.Weekday.{monday_zero};
+ghost use Rattle.tacho_time.specs.Limits.{greatest_week};
 
 use crate::day::Day;
 use crate::minute::Minute;
@@ -24,7 +25,7 @@ impl Model for Week {
 
     ghost view = { λ week. week.number };
 
-    ghost invariant = { λ week. week.number ≤ 6788 };
+    ghost invariant = { λ week. week.number ≤ greatest_week };
 
     ghost inverse = { λ n. record { number = n } };
 }
@@ -32,7 +33,7 @@ impl Model for Week {
 impl Week {
     /// Returns the week with this number.
     pub fn new(number: u32) -> Week
-        requires { number ≤ 6788 }
+        requires { number ≤ greatest_week }
         ensures { result ≡ number }
     {
         Week { number }
@@ -41,7 +42,7 @@ impl Week {
     /// Returns the week's number.
     pub fn number(self) -> u32
         ensures value { result ≡ self }
-        ensures bound { result ≤ 6788 }
+        ensures bound { result ≤ greatest_week }
     {
         self.number
     }
@@ -65,7 +66,7 @@ pub fn first_minute(week: Week) -> Minute
 
 /// Returns the next week.
 pub fn next_week(week: Week) -> Week
-    requires { week < 6788 }
+    requires { week < greatest_week }
     ensures { result ≡ week + 1 }
 {
     Week::new(week.number() + 1)

@@ -7,7 +7,7 @@ use tacho_line::{Cause, Horizon, Line, LineFault};
 use tacho_rules::can_be_examined;
 use tacho_stretches::{Stretch, StretchPass, range_of, stretches};
 use tacho_time::Activity::{Drive, Rest, Work};
-use tacho_time::{Activity, Mark, Minute, Span, Week};
+use tacho_time::{Activity, GREATEST_MINUTE, Mark, Minute, Span, Week};
 
 // `checks/failing_sheet.py` runs each test with each of its allocations refused in turn. So a test returns an error by `?` if it runs out
 // of memory, and asserts everything else.
@@ -460,7 +460,7 @@ const NEXT: &[(u32, u32, bool)] = &[
 
 /// Returns a minute, or the last possible minute if the number is too large.
 fn minute(number: u32) -> Minute {
-    Minute::new(number.min(68_428_800))
+    Minute::new(number.min(GREATEST_MINUTE))
 }
 
 /// Returns a pass from the Monday on that was fed one span.

@@ -1,4 +1,5 @@
 ghost use Rattle.std.specs.Prelude.{◌≤◌};
+ghost use Rattle.tacho_time.specs.Limits.{greatest_minute};
 
 use crate::same::assert_same;
 use std::test::Fail;
@@ -14,8 +15,8 @@ const TWO_DAYS: [u8; 40] = [
 
 /// Returns a span of a driver who is alone.
 fn single(start: u32, past: u32, activity: Activity) -> Span
-    requires start { start ≤ 68428800 }
-    requires past { past ≤ 68428800 }
+    requires start { start ≤ greatest_minute }
+    requires past { past ≤ greatest_minute }
 {
     Span {
         start: Minute::new(start),

@@ -1,7 +1,7 @@
 use std::alloc::{AllocError, Global};
 use std::{io, str};
 use tacho_line::{Line, LineFault};
-use tacho_time::{Activity, Mark, Minute, Span};
+use tacho_time::{Activity, GREATEST_MINUTE, Mark, Minute, Span};
 
 /// Returns the mark of a number: 0 rest, 1 available, 2 work, 3 drive, plus 4 for crew.
 fn mark_of(number: u32) -> Mark {
@@ -30,7 +30,7 @@ fn number_of(mark: Mark) -> u32 {
 
 /// Returns the minute with this number, or the last minute if the number is greater.
 pub(crate) fn minute_of(number: u32) -> Minute {
-    Minute::new(number.min(68_428_800))
+    Minute::new(number.min(GREATEST_MINUTE))
 }
 
 /// Returns the numbers among the words of a line.
