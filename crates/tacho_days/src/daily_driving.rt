@@ -44,11 +44,11 @@ impl DutyDriving {
 
     /// Adds the minutes from `from` to before `to`. Either all are driving or none is.
     fn add(&mut self, drives: bool, from: u32, to: u32)
-        requires few { IsTrue (driving_in_range self.old from) }
-        requires some { from ≤ to }
-        requires early { to ≤ latest }
+        requires bounded { IsTrue (driving_in_range self.old from) }
+        requires nonempty { from ≤ to }
+        requires in_range { to ≤ latest }
         ensures with { self.new ≡ duty_with drives from to self.old }
-        ensures few { IsTrue (driving_in_range self.new to) }
+        ensures bounded { IsTrue (driving_in_range self.new to) }
     {
         if drives {
             self.nine.add(DRIVING_IN_DAY, from, to);
@@ -58,7 +58,7 @@ impl DutyDriving {
 
     /// Returns the day's number among the extended days of its week, if it is extended.
     fn ordinal(self) -> u32
-        requires from { first_week ≤ self.from }
+        requires from_first_week { first_week ≤ self.from }
         requires extended { self.extended ≤ latest }
         ensures ordinal { result ≡ ordinal_of self }
         ensures extended { result ≤ self.extended + 1 }
@@ -73,7 +73,7 @@ impl DutyDriving {
 
     /// Returns the breach of a third or later extended day of the week.
     fn often(self) -> Option<Breach>
-        requires from { first_week ≤ self.from }
+        requires from_first_week { first_week ≤ self.from }
         requires extended { self.extended ≤ latest }
         ensures { as_list result ≡ often_of self }
     {
@@ -87,7 +87,7 @@ impl DutyDriving {
 
     /// Returns the state after the day, when the next one starts at `from`.
     fn next(self, from: Minute) -> DutyDriving
-        requires from { first_week ≤ self.from }
+        requires from_first_week { first_week ≤ self.from }
         requires extended { self.extended ≤ latest }
         ensures next { result ≡ next_day from self }
         ensures extended { result.extended ≤ self.extended + 1 }
@@ -108,7 +108,7 @@ impl DutyDriving {
 
     /// Appends the breaches of the day that a rest run ends.
     fn end(&self, run: Run, found: &mut Found) -> Result<(), AllocError>
-        requires from { first_week ≤ self.now.from }
+        requires from_first_week { first_week ≤ self.now.from }
         requires extended { self.now.extended ≤ latest }
         ensures breaches { OnOk result (
             found.new.breaches.items ≡ found.old.breaches.items ++ duty_found run self.now) }
@@ -126,14 +126,14 @@ impl DutyDriving {
 
     /// Moves past a rest run, which may end the day.
     fn turn(&mut self, run: Run)
-        requires from { first_week ≤ self.old.from }
+        requires from_first_week { first_week ≤ self.old.from }
         requires extended { self.old.extended ≤ latest }
         requires late { first_week ≤ run.past }
-        requires early { run.past ≤ latest }
+        requires in_range { run.past ≤ latest }
         ensures after { self.new ≡ duty_after run self.old }
-        ensures from { first_week ≤ self.new.from }
+        ensures from_first_week { first_week ≤ self.new.from }
         ensures extended { self.new.extended ≤ self.old.extended + 1 }
-        ensures few { (place : ℕ) → IsTrue (driving_in_range self.old place) → IsTrue (driving_in_range self.new place) }
+        ensures bounded { (place : ℕ) → IsTrue (driving_in_range self.old place) → IsTrue (driving_in_range self.new place) }
     {
         if ends_day(run) {
             *self = self.next(Minute::new(run.past));
@@ -150,15 +150,15 @@ impl DutyDriving {
         found: &mut Found,
     ) -> Result<(), AllocError>
         requires day { first_week ≤ self.old.from }
-        requires few { IsTrue (driving_in_range self.old from) }
+        requires bounded { IsTrue (driving_in_range self.old from) }
         requires extended { self.old.extended ≤ from }
         requires run { MatchOption run ⊤ (λ run. run.past ≡ from) }
         requires late { first_week ≤ from }
-        requires some { from < to }
-        requires early { to ≤ latest }
+        requires nonempty { from < to }
+        requires in_range { to ≤ latest }
         ensures after { OnOk result (self.new ≡ duty_with drives from to (duty_any run self.old)) }
         ensures day { first_week ≤ self.new.from }
-        ensures few { IsTrue (driving_in_range self.new to) }
+        ensures bounded { IsTrue (driving_in_range self.new to) }
         ensures extended { self.new.extended ≤ to }
         ensures breaches { OnOk result (
             found.new.breaches.items ≡ found.old.breaches.items ++ duty_found_at_optional_run run self.old) }

@@ -98,7 +98,7 @@ impl RestingDay {
     /// Returns the breach of a fourth or later reduced daily rest since the last weekly one (Article 8(4)).
     fn often_reduced(&self, rest: Run) -> Option<Breach>
         requires start { rest.start ≤ latest }
-        requires few { self.now.number ≤ latest }
+        requires bounded { self.now.number ≤ latest }
         ensures { result ≡ often_of rest self.now }
     {
         let ordinal = self.number + 1;
@@ -117,9 +117,9 @@ impl RestingDay {
     fn after(&self, rest: Run) -> RestingDay
         requires start { rest.start ≤ latest }
         requires past { rest.past ≤ latest }
-        requires few { self.now.number ≤ latest }
+        requires bounded { self.now.number ≤ latest }
         ensures after { result ≡ after_rest rest self.now }
-        ensures few { result.number ≤ self.now.number + 1 }
+        ensures bounded { result.number ≤ self.now.number + 1 }
     {
         let minutes = rest.past.saturating_sub(rest.start);
         if minutes >= WEEKLY_REST {
@@ -153,7 +153,7 @@ impl RestingDay {
     /// Appends the breaches of a rest.
     fn end(&self, rest: Run, found: &mut Found) -> Result<(), AllocError>
         requires start { rest.start ≤ latest }
-        requires few { self.now.number ≤ latest }
+        requires bounded { self.now.number ≤ latest }
         ensures breaches { OnOk result (
             found.new.breaches.items ≡ found.old.breaches.items ++ rest_found rest self.now) }
         ensures appends { Appends is_b2_or_b3 false found.old found.new }
@@ -169,9 +169,9 @@ impl RestingDay {
     fn hear(&mut self, rest: Option<Run>, found: &mut Found) -> Result<(), AllocError>
         requires start { MatchOption rest ⊤ (λ rest. rest.start ≤ latest) }
         requires past { MatchOption rest ⊤ (λ rest. rest.past ≤ latest) }
-        requires few { self.old.number ≤ latest }
+        requires bounded { self.old.number ≤ latest }
         ensures after { OnOk result (self.new ≡ after_optional_rest rest self.old) }
-        ensures few { self.new.number ≤ self.old.number + 1 }
+        ensures bounded { self.new.number ≤ self.old.number + 1 }
         ensures breaches { OnOk result (
             found.new.breaches.items ≡ found.old.breaches.items ++ found_at_optional_rest rest self.old) }
         ensures appends { Appends is_b2_or_b3 false found.old found.new }

@@ -47,11 +47,11 @@ impl Period {
 
     /// Adds the minutes from `from` to before `to`. Either all are driving or none is.
     fn add(&mut self, drives: bool, from: u32, to: u32)
-        requires few { IsTrue (period_in_range self.old from) }
-        requires some { from ≤ to }
-        requires early { to ≤ week_start greatest_week }
+        requires bounded { IsTrue (period_in_range self.old from) }
+        requires nonempty { from ≤ to }
+        requires in_range { to ≤ week_start greatest_week }
         ensures with { self.new ≡ period_with drives from to self.old }
-        ensures few { IsTrue (period_in_range self.new to) }
+        ensures bounded { IsTrue (period_in_range self.new to) }
     {
         if drives {
             self.over.add(DRIVING_BEFORE_BREAK, from, to);
@@ -62,7 +62,7 @@ impl Period {
     /// Moves past a rest run, which may end the period.
     fn end(&mut self, run: Run, found: &mut Found) -> Result<(), AllocError>
         ensures after { OnOk result (self.new ≡ after_run run self.old) }
-        ensures few { (place : ℕ) → IsTrue (period_in_range self.old place) → IsTrue (period_in_range self.new place) }
+        ensures bounded { (place : ℕ) → IsTrue (period_in_range self.old place) → IsTrue (period_in_range self.new place) }
         ensures breaches { OnOk result (found.new.breaches.items ≡ found.old.breaches.items ++ found_at run self.old) }
         ensures appends { Appends is_b1 false found.old found.new }
     {
@@ -88,11 +88,11 @@ impl Period {
         to: u32,
         found: &mut Found,
     ) -> Result<(), AllocError>
-        requires few { IsTrue (period_in_range self.old from) }
-        requires some { from ≤ to }
-        requires early { to ≤ week_start greatest_week }
+        requires bounded { IsTrue (period_in_range self.old from) }
+        requires nonempty { from ≤ to }
+        requires in_range { to ≤ week_start greatest_week }
         ensures after { OnOk result (self.new ≡ period_with drives from to (after_optional_run run self.old)) }
-        ensures few { IsTrue (period_in_range self.new to) }
+        ensures bounded { IsTrue (period_in_range self.new to) }
         ensures breaches { OnOk result (found.new.breaches.items ≡ found.old.breaches.items ++ found_at_optional_run run self.old) }
         ensures appends { Appends is_b1 false found.old found.new }
     {

@@ -42,8 +42,8 @@ impl Sums {
 
     /// Returns how many weeks, starting with the current one, end at or before a minute. Most spans end in the current week.
     fn ends_by(&self, minute: Minute) -> u32
-        requires from { week_start (self.now.week + 1) ≤ minute }
-        requires early { minute ≤ latest }
+        requires in_later_week { week_start (self.now.week + 1) ≤ minute }
+        requires in_range { minute ≤ latest }
         ensures ended { week_start (self.now.week + 1 + result) ≤ minute }
         ensures open { minute ≤ week_start (self.now.week + 2 + result) }
     {
@@ -56,11 +56,11 @@ impl Sums {
 
     /// Adds the minutes from `from` to before `to`, all in the same week. Either all are driving or none is.
     fn fill(&mut self, drives: bool, from: u32, to: u32)
-        requires few { IsTrue (sums_in_range self.old from) }
-        requires some { from ≤ to }
-        requires early { to ≤ week_start greatest_week }
+        requires bounded { IsTrue (sums_in_range self.old from) }
+        requires nonempty { from ≤ to }
+        requires in_range { to ≤ week_start greatest_week }
         ensures filled { self.new ≡ fill_week drives from to self.old }
-        ensures few { IsTrue (sums_in_range self.new to) }
+        ensures bounded { IsTrue (sums_in_range self.new to) }
     {
         if drives {
             self.here.add(DRIVING_IN_WEEK, from, to);
@@ -85,10 +85,10 @@ impl Sums {
     /// Adds the minutes from `from` to the end of the week, and continues in the next week.
     fn turn(&mut self, drives: bool, from: u32, found: &mut Found) -> Result<(), AllocError>
         requires week { self.old.week ≤ 6786 }
-        requires few { IsTrue (sums_in_range self.old from) }
+        requires bounded { IsTrue (sums_in_range self.old from) }
         requires before { from ≤ week_start (self.old.week + 2) }
         ensures turned { OnOk result (self.new ≡ turn_week drives from self.old) }
-        ensures few { OnOk result (IsTrue (sums_in_range self.new (week_start (self.old.week + 2)))) }
+        ensures bounded { OnOk result (IsTrue (sums_in_range self.new (week_start (self.old.week + 2)))) }
         ensures breaches { OnOk result
             (found.new.breaches.items ≡ found.old.breaches.items ++ turn_found drives from self.old) }
         ensures appends { Appends is_b6_or_b7 false found.old found.new }
@@ -109,13 +109,13 @@ impl Sums {
         ends: u32,
         found: &mut Found,
     ) -> Result<(), AllocError>
-        requires few { IsTrue (sums_in_range self.old from) }
+        requires bounded { IsTrue (sums_in_range self.old from) }
         requires before { from ≤ week_start (self.old.week + 2) }
-        requires some { from ≤ to }
-        requires early { to ≤ week_start greatest_week }
+        requires nonempty { from ≤ to }
+        requires in_range { to ≤ week_start greatest_week }
         requires ends { week_start (self.old.week + 1 + ends) ≤ to }
         ensures through { OnOk result (self.new ≡ through ends drives from to self.old) }
-        ensures few { OnOk result (IsTrue (sums_in_range self.new to)) }
+        ensures bounded { OnOk result (IsTrue (sums_in_range self.new to)) }
         ensures week { OnOk result (self.new.week ≡ self.old.week + ends) }
         ensures breaches { OnOk result
             (found.new.breaches.items ≡ found.old.breaches.items ++ through_found ends drives from self.old) }

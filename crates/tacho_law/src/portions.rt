@@ -10,7 +10,7 @@ use crate::limits::MINUTES_OF_DAY;
 pub fn has_portion(day: DutyDay, minutes: u32) -> bool
     requires started { day.start ≤ greatest_minute }
     requires ended { day.past ≤ greatest_minute }
-    requires few { minutes ≤ minutes_of_day }
+    requires bounded { minutes ≤ minutes_of_day }
     ensures { IsTrue result ↔ HasPortion day minutes }
 {
     day.past + minutes <= day.rest.past.min(day.start + MINUTES_OF_DAY)

@@ -18,7 +18,7 @@ use tacho_time::{Week, first_minute};
 /// Returns a week, built from the weekly rests that touch it.
 fn week_of_rests(weekly: &[Run], number: u32) -> WeekOfRests
     requires in_time { AreInTime weekly.now }
-    requires early { number ≤ 6786 }
+    requires in_range { number ≤ 6786 }
     ensures { (line : Line) → AreRestsOf line weekly_rest weekly.now → IsInWeeks line
         → IsWeekOfRests (IsWeeklyRest line) number result }
 {
@@ -41,7 +41,7 @@ pub fn weeks_of_rests(
 ) -> Result<Vec<WeekOfRests>, AllocError>
     requires in_time { AreInTime weekly.now }
     requires range { first ≤ past }
-    requires early { past ≤ 6787 }
+    requires in_range { past ≤ 6787 }
     ensures count { IfOk result (λ weeks. first + length weeks.items ≡ past) }
     ensures each { IfOk result (λ weeks. (line : Line) → AreRestsOf line weekly_rest weekly.now → IsInWeeks line
         → AreWeeksOf line first weeks.items) }

@@ -22,8 +22,8 @@ use tacho_time::{Minute, Week, first_minute, week_of};
 /// week (Article 8(6b)). `weekly` are the weekly rests.
 fn debt_of(weekly: &[Run], horizon: u32, last: Run, rest: Run) -> Option<Debt>
     requires in_time { AreInTime weekly.now }
-    requires early { rest.start ≤ latest }
-    requires some { rest.start < rest.past }
+    requires in_range { rest.start ≤ latest }
+    requires nonempty { rest.start < rest.past }
     requires last { last.start ≤ latest }
     ensures { (line : Line) → AreRestsOf line weekly_rest weekly.now → IsLastRun line last → IsRestRun line rest
         → MatchOption result
@@ -70,8 +70,8 @@ fn left_of(minutes: u32, rest: Run, debts: &[Debt]) -> u32
 /// True if a rest has room for a debt, in addition to what it keeps and what it pays of earlier debts (Article 8(6b)).
 fn has_room(weekly: &[Run], horizon: u32, earlier: &[Debt], debt: &Debt, rest: Run) -> bool
     requires in_time { AreInTime weekly.now }
-    requires early { rest.start ≤ latest }
-    requires some { 0 < debt.now.amount }
+    requires in_range { rest.start ≤ latest }
+    requires nonempty { 0 < debt.now.amount }
     ensures { (line : Line) → AreRestsOf line weekly_rest weekly.now → IsRestRun line rest
         → (IsTrue result ↔ HasRoom line horizon earlier.now debt.now rest) }
 {
@@ -95,7 +95,7 @@ fn payer_of(
 ) -> Option<Minute>
     requires daily { AreInTime daily.now }
     requires weekly { AreInTime weekly.now }
-    requires some { 0 < debt.now.amount }
+    requires nonempty { 0 < debt.now.amount }
     requires range { main.past ≤ debt.now.deadline }
     ensures { (line : Line) → AreRestsOf line daily_rest daily.now → AreRestsOf line weekly_rest weekly.now
         → IsMainRest line horizon debt.now.week main

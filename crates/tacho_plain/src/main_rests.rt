@@ -38,7 +38,7 @@ fn is_better(rest: Run, other: Run, horizon: u32) -> bool
 /// True if one of the weekly rests that start in a week is better than a rest.
 fn is_outdone(weekly: &[Run], horizon: u32, week: Week, rest: Run) -> bool
     requires in_time { AreInTime weekly.now }
-    requires early { week ≤ 6787 }
+    requires in_range { week ≤ 6787 }
     ensures { IsTrue result ↔ ((other : RunValue) × Contains weekly.now other × IsInWeek week other.start
         × IsBetter horizon other rest) }
 {
@@ -56,7 +56,7 @@ fn is_outdone(weekly: &[Run], horizon: u32, week: Week, rest: Run) -> bool
 /// minutes before it, and of equals the earliest (Article 8(6b)). `weekly` are the weekly rests.
 pub fn is_main(weekly: &[Run], horizon: u32, rest: Run) -> bool
     requires in_time { AreInTime weekly.now }
-    requires early { rest.start ≤ latest }
+    requires in_range { rest.start ≤ latest }
     ensures week { IsTrue result → first_week ≤ rest.start }
     ensures main { (line : Line) → AreRestsOf line weekly_rest weekly.now → IsRestRun line rest
         → (IsTrue result ↔ ((w : ℕ) × IsMainRest line horizon w rest)) }
@@ -70,7 +70,7 @@ pub fn is_main(weekly: &[Run], horizon: u32, rest: Run) -> bool
 /// Returns what a rest keeps of its minutes: 45 hours if it is the main rest of its week, else 9 hours (Article 8(7)).
 pub fn kept_minutes(weekly: &[Run], horizon: u32, rest: Run) -> u32
     requires in_time { AreInTime weekly.now }
-    requires early { rest.start ≤ latest }
+    requires in_range { rest.start ≤ latest }
     ensures { (line : Line) → AreRestsOf line weekly_rest weekly.now → IsRestRun line rest
         → IsKept line horizon rest result }
 {

@@ -52,7 +52,7 @@ fn lacking_weeks(
     requires in_time { AreInTime weekly.now }
     requires base { IsBase base }
     requires range { base ≤ horizon }
-    requires early { horizon ≤ latest }
+    requires in_range { horizon ≤ latest }
     ensures { IfOk result (λ found. (line : Line) → AreRestsOf line weekly_rest weekly.now → IsInWeeks line
         → AreCollected (IsLacking line base horizon) found.items) }
 {

@@ -42,7 +42,7 @@ fn breaches_of_weeks(
 ) -> Result<Vec<Breach>, AllocError>
     requires examined { IsExamined examined.now.spans.now examined.now.base examined.now.past }
     requires within { end ≤ 6787 }
-    requires some { first ≤ end }
+    requires nonempty { first ≤ end }
     ensures { IfOk result (λ found. AreOfWeeks (line_of examined.now.spans.now) first end found.items) }
 {
     let mut found = Vec::new(alloc);

@@ -52,8 +52,8 @@ fn take(
     found: &mut Found,
 ) -> Result<Step, StoreFault>
     requires at { IsAt scan.old minute }
-    requires from { base ≤ minute }
-    requires early { minute ≤ latest }
+    requires from_base { base ≤ minute }
+    requires in_range { minute ≤ latest }
     ensures step { IfOk result (IsStepOf base minute row.now scan.old found.old scan.new found.new) }
     ensures refused { IfErr result (IsRefusalOf base minute row.now scan.old found.old scan.new found.new) }
 {
@@ -90,7 +90,7 @@ pub fn feed_rows<S: Alter>(
     found: &mut Found,
 ) -> Result<Horizon, StoreFault>
     requires at { IsAt scan.old base }
-    requires early { base ≤ latest }
+    requires in_range { base ≤ latest }
     ensures reads { ReadsRows S.Store result rows.old.conn rows.new.conn }
     ensures ends { EndsAt base scan.old found.old scan.new found.new result }
     ensures fed { HasCleanDisk (state S.Store rows.new.conn.now)
@@ -126,7 +126,7 @@ pub fn feed_held<S: Alter>(
 ) -> Result<Horizon, StoreFault>
     requires settled { conn.old.in_transaction ≡ false }
     requires at { IsAt scan.old base }
-    requires early { base ≤ latest }
+    requires in_range { base ≤ latest }
     ensures reads { ReadsSettled S.Store result conn.old conn.new }
     ensures ends { EndsAt base scan.old found.old scan.new found.new result }
     ensures fed { HasCleanDisk (state S.Store conn.new) → IsArchive (state S.Store conn.old).now

@@ -72,8 +72,8 @@ impl Ledger {
 
     /// Adds one more rest of the week, if it has nine hours or more.
     fn add(&mut self, rest: Run)
-        requires early { rest.start ≤ latest }
-        requires some { rest.start < rest.past }
+        requires in_range { rest.start ≤ latest }
+        requires nonempty { rest.start < rest.past }
         ensures week { self.new.week ≡ self.old.week }
         ensures debts { self.new.debts ≡ self.old.debts }
         ensures rests { rests_in self.new.rests ≡ rests_with (rests_in self.old.rests) rest }
@@ -121,9 +121,9 @@ impl Ledger {
 
     /// Takes the next rest run of the line. The run starts in week 0 or later.
     pub fn hear(&mut self, run: Run, found: &mut Found) -> Result<(), AllocError>
-        requires from { first_week ≤ run.start }
-        requires early { run.start ≤ latest }
-        requires some { run.start < run.past }
+        requires from_first_week { first_week ≤ run.start }
+        requires in_range { run.start ≤ latest }
+        requires nonempty { run.start < run.past }
         ensures kept { OnOk result ((line : Line) (horizon : ℕ) (last : RunValue) (e : ℕ)
             → IsLineTo line horizon last → IsNext line e run
             → IsLedger line horizon e self.old.week (rests_in self.old.rests) (debts_in self.old.debts)
@@ -140,8 +140,8 @@ impl Ledger {
 
     /// Appends all remaining debts to what is found, with their breaches. The last rest run starts at `start`.
     pub fn end(self, start: u32, horizon: Minute, found: &mut Found) -> Result<(), AllocError>
-        requires from { first_week ≤ start }
-        requires early { start ≤ latest }
+        requires from_first_week { first_week ≤ start }
+        requires in_range { start ≤ latest }
         ensures debts { OnOk result ((line : Line) (last : RunValue) (e : ℕ)
             → IsLineTo line horizon last → last.start ≡ start → IsNext line e last
             → IsLedger line horizon e self.week (rests_in self.rests) (debts_in self.debts)

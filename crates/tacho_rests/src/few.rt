@@ -41,7 +41,7 @@ impl Debts {
     /// Returns all the debts.
     pub fn as_slice(&self) -> &[Debt]
         ensures all { result.now ≡ take self.now.count self.now.slots }
-        ensures few { length result.now ≤ 4 }
+        ensures bounded { length result.now ≤ 4 }
     {
         &self.slots[..self.count]
     }
@@ -80,7 +80,7 @@ impl Rests {
     /// Returns all the rests.
     pub fn as_slice(&self) -> &[Run]
         ensures all { result.now ≡ take self.now.count self.now.slots }
-        ensures early { All (λ run. run.start ≤ latest) result.now }
+        ensures in_range { All (λ run. run.start ≤ latest) result.now }
     {
         &self.slots[..self.count]
     }

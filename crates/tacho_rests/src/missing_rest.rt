@@ -149,8 +149,8 @@ impl Choices {
 
     /// Closes all weeks that have ended by a minute. All weekly rests that start before this minute have been seen.
     fn close_by(&mut self, by: Minute, found: &mut Found) -> Result<(), AllocError>
-        requires early { by ≤ latest }
-        requires from { first_week ≤ by }
+        requires in_range { by ≤ latest }
+        requires from_first_week { first_week ≤ by }
         ensures kept { OnOk result ((line : Line) (horizon first start : ℕ)
             → IsInWeeks line → by ≤ horizon
             → ((x : RunValue) → IsRestOf line weekly_rest x → x.start < by → x.start < start)
@@ -192,8 +192,8 @@ impl Choices {
     /// Takes the last rest run, and closes all weeks that have ended by the horizon.
     pub fn end(self, last: Run, horizon: Minute, found: &mut Found) -> Result<(), AllocError>
         requires start { last.start ≤ latest }
-        requires from { first_week ≤ horizon }
-        requires early { horizon ≤ latest }
+        requires from_first_week { first_week ≤ horizon }
+        requires in_range { horizon ≤ latest }
         ensures kept { OnOk result ((line : Line) (base first : ℕ)
             → IsInWeeks line → base ≡ week_start first → last.start ≤ horizon
             → IsRestOf line weekly_rest last

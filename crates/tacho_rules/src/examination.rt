@@ -15,7 +15,7 @@ use tacho_time::{Minute, first_minute, week_of};
 /// goes past that end. Minutes are in UTC.
 pub fn can_be_examined(line: &Line, base: Minute) -> bool
     ensures monday { IsTrue result → IsBase base }
-    ensures early { IsTrue result → base ≤ latest }
+    ensures in_range { IsTrue result → base ≤ latest }
     ensures within { IsTrue result → All (λ span. span.past ≤ latest) line.now }
     ensures all { IsBase base → base ≤ latest → All (λ span. span.past ≤ latest) line.now → IsTrue result }
 {
@@ -29,7 +29,7 @@ pub fn can_be_examined(line: &Line, base: Minute) -> bool
 /// rest hours (Articles 6, 7 and 8 of Regulation (EC) 561/2006) once, and every debt. Minutes are in UTC.
 pub fn examine(alloc: Global, line: &Line, base: Minute) -> Result<Report, AllocError>
     requires monday { IsBase base }
-    requires early { base ≤ latest }
+    requires in_range { base ≤ latest }
     requires within { All (λ span. span.past ≤ latest) line.now }
     ensures { IfOk result (λ report. IsReport line.now base report.horizon report.breaches.items report.debts.items) }
 {

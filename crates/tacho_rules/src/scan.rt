@@ -32,7 +32,7 @@ impl Scan {
     /// Makes a scan over no spans, from a base, the first minute of a Monday.
     pub fn new(base: Minute) -> Scan
         requires monday { IsBase base }
-        requires early { base ≤ latest }
+        requires in_range { base ≤ latest }
         ensures at { IsAt result base }
         ensures none { (found : FoundValue) → found.breaches.items ≡ [] → found.debts.items ≡ []
             → IsScanOf result found base [] }
@@ -45,7 +45,7 @@ impl Scan {
     /// Feeds the next span, which starts where the last one ended. If memory runs out, all later calls fail too.
     pub fn feed(&mut self, span: Span, found: &mut Found) -> Result<(), AllocError>
         requires next { IsAt self.old span.start }
-        requires some { span.start < span.past }
+        requires nonempty { span.start < span.past }
         requires within { span.past ≤ latest }
         ensures at { IsAt self.new span.past }
         ensures fed { OnOk result ((base : ℕ) (spans : List SpanValue) → IsScanOf self.old found.old base spans

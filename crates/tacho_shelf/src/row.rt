@@ -250,7 +250,7 @@ impl Row {
         requires { first_empty spans.now ≡ None }
         ensures told { (part : ℕ) (file : List ℕ) → MatchResult result (λ number. import_own part file spans.now self.now ≡ Ok (import_answer part file spans.now self.now number)) (IsStepFault (import_own part file spans.now self.now)) }
         ensures agreed { IfOk result (λ number. OnSome number ((m : ℕ) → ¬ (Conflicts (Gives (held_spans self.now ++ spans.now)) m))) }
-        ensures few { IfOk result (λ number. OnSome number (length self.now.downloads < most_records)) }
+        ensures bounded { IfOk result (λ number. OnSome number (length self.now.downloads < most_records)) }
     {
         let Ok(repeated) = self.has_given(alloc, spans) else {
             return Err(StoreFault::Memory);

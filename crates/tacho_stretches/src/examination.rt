@@ -45,7 +45,7 @@ impl Examination {
     /// Makes an examination from a Monday that has examined no minute yet.
     pub(crate) fn new(alloc: Global, monday: Minute) -> Examination
         requires monday { IsBase monday }
-        requires early { monday ≤ latest }
+        requires in_range { monday ≤ latest }
         ensures monday { result.monday ≡ monday }
         ensures minute { result.minute ≡ monday }
         ensures none { (spans : List SpanValue) → IsExaminationOf result spans }

@@ -32,7 +32,7 @@ impl StretchPass {
     /// Makes a pass over no spans, from a base, the first minute of a Monday.
     pub fn new(alloc: Global, base: Minute) -> StretchPass
         requires monday { IsBase base }
-        requires early { base ≤ latest }
+        requires in_range { base ≤ latest }
         ensures none { IsPassOf result base [] }
         ensures next { (s : SpanValue) → s.start < s.past → s.past ≤ latest → CanTake result s }
     {

@@ -26,7 +26,7 @@ pub struct Stretch {
 /// next Monday whose first minute is held without a second driver. Minutes are in UTC. Fails only if memory runs out.
 pub fn stretches(alloc: Global, line: &Line, base: Minute) -> Result<Vec<Stretch>, AllocError>
     requires monday { IsBase base }
-    requires early { base ≤ latest }
+    requires in_range { base ≤ latest }
     requires within { All (λ span. span.past ≤ latest) line.now }
     ensures { IfOk result (λ stretches. AreStretches line.now base (map judged_of stretches.items)) }
 {

@@ -67,7 +67,7 @@ fn runs_of_day(alloc: Global, spans: &[Span]) -> Result<Vec<Run>, AllocError>
 fn driven(spans: &[Span], from: u32, to: u32) -> u32
     requires joined { Joined spans.now 28491840 28493280 }
     requires single { All (λ span. span.mark.crew ≡ false) spans.now }
-    requires from { from ≤ 1440 }
+    requires within_day { from ≤ 1440 }
     requires to { to ≤ 1440 }
 {
     let (base, past) = (Minute::new(BASE), Minute::new(HORIZON));
@@ -123,7 +123,7 @@ fn driving_is_counted(rt: HostRuntime) {
 fn driven_above(spans: &[Span], from: u32, to: u32, limit: u32) -> Option<(u32, u32)>
     requires joined { Joined spans.now 28491840 28493280 }
     requires single { All (λ span. span.mark.crew ≡ false) spans.now }
-    requires from { from ≤ 1440 }
+    requires within_day { from ≤ 1440 }
     requires to { to ≤ 1440 }
 {
     let (base, past) = (Minute::new(BASE), Minute::new(HORIZON));

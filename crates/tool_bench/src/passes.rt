@@ -17,7 +17,7 @@ pub(crate) fn examine_plainly(
     base: Minute,
 ) -> Result<Report, AllocError>
     requires monday { IsBase base }
-    requires early { base ≤ latest }
+    requires in_range { base ≤ latest }
     requires within { All (λ span. span.past ≤ latest) line.now }
 {
     let horizon = line.horizon(base);

@@ -18,8 +18,8 @@ use Rattle.tacho_plain.proofs.compensation.debts_of.Goals.{in-Some+in_ok-push, i
 pub loop-main-init : goal.loop-main-init
 loop-main-init c = λ line are of_weeks last. rw c.new-debts.ensures.items (settled_none line c.args.horizon)
 
-pub payer_of-debt-requires-clause-some : goal.payer_of-debt-requires-clause-some
-payer_of-debt-requires-clause-some c =
+pub payer_of-debt-requires-clause-nonempty : goal.payer_of-debt-requires-clause-nonempty
+payer_of-debt-requires-clause-nonempty c =
     let (line, of_weeks, last) = c.requires.line in
     let main : Run = get_or c.args.weekly.now c.loop-main.main-index no_run in
     let rests : IsRestRun line main =

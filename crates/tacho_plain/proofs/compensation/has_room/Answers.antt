@@ -40,7 +40,7 @@ returns c = λ line are is.
     let left : c.left_of.result ≡ (c.known_minutes-minutes.result - kept) - paid = omega arith in (
       λ h.
           let fits : debt.amount ≤ c.left_of.result = leb-true debt.amount c.left_of.result h in
-          let some : 0 < debt.amount = c.requires.some in
+          let some : 0 < debt.amount = c.requires.nonempty in
           let room : kept + paid + debt.amount ≤ c.known_minutes-minutes.result =
           room_yes debt.amount c.known_minutes-minutes.result kept paid some (omega arith) in
           record { kept = kept; keeps = keeps_is line c.args.horizon rest kept keeps; room = omega arith },

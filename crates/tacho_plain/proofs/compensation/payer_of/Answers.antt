@@ -12,8 +12,8 @@ use Rattle.tacho_plain.proofs.compensation.payer_of.Goals as goal
 pub loop-rest-init : goal.loop-rest-init
 loop-rest-init c = λ line are of_weeks k d within. absurd (omega arith)
 
-pub has_room-requires-clause-early : goal.has_room-requires-clause-early
-has_room-requires-clause-early c =
+pub has_room-requires-clause-in_range : goal.has_room-requires-clause-in_range
+has_room-requires-clause-in_range c =
     let items : List Run = c.touching-rest-items.result.now in
     let x : Run = get_or items c.loop-rest.rest-index no_run in
     All-contains (λ (run : Run). run.start ≤ 68374080) c.args.daily.now x c.requires.daily.early
@@ -54,7 +54,7 @@ returns-then-has_room c = λ line are of_weeks is.
       first = λ run before can.
           (let (in', early, late) =
           payer_among line c.args.daily.now c.args.weekly.now are of_weeks
-          c.args.horizon earlier debt c.args.main is run c.requires.some can in
+          c.args.horizon earlier debt c.args.main is run c.requires.nonempty can in
           let seen =
           sooner_seen items c.touching-rest-items.ensures.in_order i c.loop-rest-test.true rests.some run
           can.rests.some
@@ -84,7 +84,7 @@ returns c = λ line are of_weeks is run can.
     let debt : Debt = c.args.debt.now in
     let (in', early, late) =
     payer_among line c.args.daily.now c.args.weekly.now are of_weeks c.args.horizon
-    c.args.earlier.now debt c.args.main is run c.requires.some can in
+    c.args.earlier.now debt c.args.main is run c.requires.nonempty can in
     all_seen (λ (other : Run). HasRoom line c.args.horizon c.args.earlier.now debt other → ⊥) items
     c.loop-rest.rest-index c.loop-rest-test.false (c.loop-rest.invariant line are of_weeks) run
     ((c.touching-rest-items.ensures.each run).1

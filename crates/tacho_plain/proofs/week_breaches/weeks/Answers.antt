@@ -10,8 +10,8 @@ week_of-requires-2 c =
     let from : 15780960 ≤ c.args.base = c.requires.base_is.from in
     omega arith
 
-pub breaches_of_weeks-requires-clause-some : goal.breaches_of_weeks-requires-clause-some
-breaches_of_weeks-requires-clause-some c =
+pub breaches_of_weeks-requires-clause-nonempty : goal.breaches_of_weeks-requires-clause-nonempty
+breaches_of_weeks-requires-clause-nonempty c =
     let le : c.args.base ≤ c.args.past = joined_le c.args.spans.now c.args.base c.args.past c.requires.joined in
     omega arith
 

@@ -20,7 +20,7 @@ returns-in-Err-clause-ends g c = record {
   left = (
     c.args.base,
     [],
-    taken_none c.args.base c.args.scan.now c.args.found.now c.requires.at c.requires.early,
+    taken_none c.args.base c.args.scan.now c.args.found.now c.requires.at c.requires.in_range,
   );
 }
 

@@ -15,7 +15,7 @@ rows-init g c =
       refl,
       survives_self (state g.S.Store old),
       λ mode. mode,
-      feeding_none g.S.Store old c.args.base c.args.scan.now c.args.found.now c.requires.at c.requires.early,
+      feeding_none g.S.Store old c.args.base c.args.scan.now c.args.found.now c.requires.at c.requires.in_range,
     )
 
 pub returns-in_default-clause-fed : goal.returns-in_default-clause-fed

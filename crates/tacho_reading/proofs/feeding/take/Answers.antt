@@ -8,7 +8,7 @@ use Rattle.tacho_reading.proofs.feeding.take.Goals as goal
 pub returns-then-row-number-clause-step : goal.returns-then-row-number-clause-step
 returns-then-row-number-clause-step c =
     taken_after c.args.base c.args.minute (stored_span c.args.row.now) c.args.scan.now c.args.found.now c.requires.at
-    c.requires.early (search rules)
+    c.requires.in_range (search rules)
 
 pub returns-clause-step : goal.returns-clause-step
 returns-clause-step c =

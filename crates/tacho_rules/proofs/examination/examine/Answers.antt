@@ -8,7 +8,7 @@ use Rattle.tacho_rules.proofs.examination.examine.Goals as goal
 pub feed_within-requires : goal.feed_within-requires
 feed_within-requires c =
     let x =
-    slice_examined c.horizon-horizon.ensures c.meeting-spans.ensures refl c.requires.monday c.requires.early
+    slice_examined c.horizon-horizon.ensures c.meeting-spans.ensures refl c.requires.monday c.requires.in_range
     c.requires.within in
     record {
       place = c.args.base;
@@ -21,7 +21,7 @@ feed_within-requires c =
 pub finish-requires : goal.finish-requires
 finish-requires c =
     let x =
-    slice_examined c.horizon-horizon.ensures c.meeting-spans.ensures refl c.requires.monday c.requires.early
+    slice_examined c.horizon-horizon.ensures c.meeting-spans.ensures refl c.requires.monday c.requires.in_range
     c.requires.within in
     c.in_ok-feed_within.ensures.at c.args.base c.horizon-horizon.result.minute c.new-scan.ensures.at x.joined
 
@@ -29,7 +29,7 @@ pub returns : goal.returns
 returns c =
     let h = c.horizon-horizon.ensures in
     let slice = c.meeting-spans.ensures in
-    let x = slice_examined h slice refl c.requires.monday c.requires.early c.requires.within in
+    let x = slice_examined h slice refl c.requires.monday c.requires.in_range c.requires.within in
     let past : ℕ = c.horizon-horizon.result.minute in
     let is =
     c.in_ok-feed_within.ensures.fed c.args.base []

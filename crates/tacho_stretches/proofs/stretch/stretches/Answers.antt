@@ -8,10 +8,10 @@ pub from-init : goal.from-init
 from-init c =
     subst (λ (xs : List Stretch). IsSoFar c.args.line.now c.args.base c.end_of_held-end.result (map judged_of xs) c.args.base)
     (sym c.new-stretches.ensures.items)
-    (none_yet c.args.line.now c.args.base c.end_of_held-end.result c.requires.monday c.requires.early)
+    (none_yet c.args.line.now c.args.base c.end_of_held-end.result c.requires.monday c.requires.in_range)
 
-pub next_start-next-requires-clause-early : goal.next_start-next-requires-clause-early
-next_start-next-requires-clause-early c =
+pub next_start-next-requires-clause-in_range : goal.next_start-next-requires-clause-in_range
+next_start-next-requires-clause-in_range c =
     early_end c.args.line.now c.from.monday c.horizon_of-horizon.result c.in_ok-report.report.horizon
     c.in_ok-report.ensures.is_horizon c.horizon_of-horizon.ensures c.from.invariant.early c.requires.within
 

@@ -6,8 +6,8 @@ use Rattle.tacho_law.proofs.RunsLemmas.{joined_le}
 use Rattle.tool_rows.proofs.CutLemmas.{cut_none}
 use Rattle.tool_rows.proofs.rules.scanned.Goals as goal
 
-pub new-scan-requires-clause-early : goal.new-scan-requires-clause-early
-new-scan-requires-clause-early c =
+pub new-scan-requires-clause-in_range : goal.new-scan-requires-clause-in_range
+new-scan-requires-clause-in_range c =
     let by : c.args.base ≤ c.args.past = joined_le c.args.spans.now c.args.base c.args.past c.requires.joined in
     let within : c.args.past ≤ 68374080 = c.requires.within in
     omega arith

@@ -33,4 +33,4 @@ returns-clause-fed c = λ base spans r.
     c.in_ok-hear.ensures.breaches ∙ rw run_is refl in
     let own_is : own_of is_b4_or_b5 c.hear.new.found.breaches.items ≡ own ++ duty_found_at_optional_run run p =
     ap (own_of is_b4_or_b5) items ∙ own_more is_b4_or_b5 old (duty_found_at_optional_run run p) (any_kinds run p) in
-    rw (own_is, duty) (driven_fed spans x base start p own [] r c.requires.some (omega arith) late))
+    rw (own_is, duty) (driven_fed spans x base start p own [] r c.requires.nonempty (omega arith) late))

@@ -26,4 +26,4 @@ returns-clause-fed c = λ base spans r.
     c.in_ok-hear.ensures.breaches ∙ rw run_is refl in
     let own_is : own_of is_b2_or_b3 c.hear.new.found.breaches.items ≡ own ++ found_at_optional_rest run d =
     ap (own_of is_b2_or_b3) items ∙ own_more is_b2_or_b3 old (found_at_optional_rest run d) (any_kinds run d) in
-    rw (own_is, day) (rests_fed spans x base start d own [] r c.requires.some (omega arith)))
+    rw (own_is, day) (rests_fed spans x base start d own [] r c.requires.nonempty (omega arith)))

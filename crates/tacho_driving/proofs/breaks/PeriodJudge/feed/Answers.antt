@@ -28,4 +28,4 @@ returns-clause-fed c = λ base spans r.
     c.in_ok-hear.ensures.breaches ∙ rw run_is refl in
     let own_is : own_of is_b1 c.hear.new.found.breaches.items ≡ own ++ found_at_optional_run run p =
     ap (own_of is_b1) items ∙ own_more is_b1 old (found_at_optional_run run p) (any_kinds run p) in
-    rw (own_is, period) (periods_fed spans x base start p own [] r c.requires.some (omega arith)))
+    rw (own_is, period) (periods_fed spans x base start p own [] r c.requires.nonempty (omega arith)))

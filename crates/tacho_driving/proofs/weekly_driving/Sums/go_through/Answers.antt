@@ -12,10 +12,10 @@ pub loop-init : goal.loop-init
 loop-init c =
     let z : c.args.ends - 0 ≡ c.args.ends = omega arith in
     record {
-      place = c.requires.some;
+      place = c.requires.nonempty;
       before = c.requires.before;
       week = omega arith;
-      few = c.requires.few;
+      few = c.requires.bounded;
       sums = rw z refl;
       breaches = rw z refl;
       appends = appends_none is_b6_or_b7 false c.args.found.now;
@@ -27,7 +27,7 @@ turn-requires-clause-week c =
     let low : week_start (c.args.self.now.week + 1 + c.args.ends) ≤ c.args.to = c.requires.ends in
     let w : c.loop.self.week ≡ c.args.self.now.week + i = c.loop.invariant.week in
     let t : i < c.args.ends = c.loop-test.true in
-    let early : c.args.to ≤ week_start 6788 = c.requires.early in
+    let early : c.args.to ≤ week_start 6788 = c.requires.in_range in
     omega arith
 
 pub returns-in_err-turn-clause-appends : goal.returns-in_err-turn-clause-appends
@@ -65,7 +65,7 @@ loop-preserved c =
       place = omega arith;
       before = omega arith;
       week = omega arith;
-      few = subst (λ (p : ℕ). IsTrue (sums_in_range next p)) (sym is) c.in_ok-turn.ensures.few;
+      few = subst (λ (p : ℕ). IsTrue (sums_in_range next p)) (sym is) c.in_ok-turn.ensures.bounded;
       sums = on ∙ ap (λ (m : ℕ). through m d place to now) e ∙ c.loop.invariant.sums;
       breaches = ap (λ (xs : List Breach). xs ++ through_found k d end next) c.in_ok-turn.ensures.breaches
           ∙ append_assoc seen (turn_found d place now) (through_found k d end next)

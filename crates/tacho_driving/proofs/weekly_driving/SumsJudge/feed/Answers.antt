@@ -18,7 +18,7 @@ returns-clause-fed c = λ base spans r.
     let own : List Breach = own_of is_b6_or_b7 old in
     let n : ℕ = c.ends_by-ends.result in
     let d : Bool = is_drive x.mark.activity in
-    let some : x.start < x.past = c.requires.some in
+    let some : x.start < x.past = c.requires.nonempty in
     let sums : c.go_through.new.self ≡ through n d x.start x.past s =
     c.in_ok-go_through.ensures.through ∙ rw (c.is_drive-drives.ensures, c.number-from.ensures.value, c.number-to.ensures.value) refl in
     let items : c.go_through.new.found.breaches.items ≡ old ++ through_found n d x.start s =

@@ -21,7 +21,7 @@ returns-in_default-clause-fed c = λ base spans r.
     let owed : List Debt = c.args.found.now.debts.items in
     let s : Span = c.args._span in
     let none : run_before c.args._start s ≡ None = sym c.requires.run ∙ c.in_default.is in
-    fed_none spans s base c.args._start c.args.self.now own owed r c.requires.some none)
+    fed_none spans s base c.args._start c.args.self.now own owed r c.requires.nonempty none)
 
 pub returns-then-run-lt-FIRST_WEEK-clause-fed : goal.returns-then-run-lt-FIRST_WEEK-clause-fed
 returns-then-run-lt-FIRST_WEEK-clause-fed c = λ base spans r.
@@ -29,7 +29,7 @@ returns-then-run-lt-FIRST_WEEK-clause-fed c = λ base spans r.
     let owed : List Debt = c.args.found.now.debts.items in
     let s : Span = c.args._span in
     let is : run_before c.args._start s ≡ Some c.in-Some.run' = sym c.requires.run ∙ c.in-Some.is in
-    fed_first spans s base c.args._start c.args.self.now own owed r c.requires.some c.in-Some.run' is
+    fed_first spans s base c.args._start c.args.self.now own owed r c.requires.nonempty c.in-Some.run' is
     c.if-run-lt-FIRST_WEEK.true)
 
 pub returns-clause-fed : goal.returns-clause-fed
@@ -38,6 +38,6 @@ returns-clause-fed c = λ base spans r.
     let owed : List Debt = c.args.found.now.debts.items in
     let s : Span = c.args._span in
     let is : run_before c.args._start s ≡ Some c.in-Some.run' = sym c.requires.run ∙ c.in-Some.is in
-    fed_next spans s base c.args._start c.args.self.now own owed r c.requires.some c.in-Some.run' is
+    fed_next spans s base c.args._start c.args.self.now own owed r c.requires.nonempty c.in-Some.run' is
     c.if-run-lt-FIRST_WEEK.false c.hear.new.self (own_of is_b10 c.hear.new.found.breaches.items)
     c.hear.new.found.debts.items c.in_ok-hear.ensures.kept)

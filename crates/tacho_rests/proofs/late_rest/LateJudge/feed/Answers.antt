@@ -19,7 +19,7 @@ returns-in_default-clause-fed c = λ base spans r.
     (let own : List Breach = own_of is_b8 c.args.found.now.breaches.items in
     let s : Span = c.args._span in
     let none : run_before c.args._start s ≡ None = sym c.requires.run ∙ c.in_default.is in
-    late_fed_none spans s base c.args._start c.args.self.now own [] r c.requires.some none)
+    late_fed_none spans s base c.args._start c.args.self.now own [] r c.requires.nonempty none)
 
 pub returns-clause-fed : goal.returns-clause-fed
 returns-clause-fed c = λ base spans r.
@@ -32,4 +32,4 @@ returns-clause-fed c = λ base spans r.
     ap (own_of is_b8) c.in_ok-put.ensures.breaches
     ∙ rw c.breach_of.ensures
     (own_more is_b8 c.args.found.now.breaches.items (as_list (late_run late.end run)) (late_kinds late.end run)) in
-    rw (own_is, c.end_after-self.ensures) (late_fed spans s base c.args._start late own [] r c.requires.some run is))
+    rw (own_is, c.end_after-self.ensures) (late_fed spans s base c.args._start late own [] r c.requires.nonempty run is))

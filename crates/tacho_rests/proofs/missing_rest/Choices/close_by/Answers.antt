@@ -34,7 +34,7 @@ loop-week-preserved c =
     let from : 5760 + 10080 * c.week_of.result ≤ c.args.by = c.week_of.ensures.from in
     let is : c.number-end.result ≡ c.week_of.result = c.number-end.ensures.value in
     let below : c.loop-week._week < c.number-end.result = c.loop-week-test.true in
-    let early : c.args.by ≤ 68374080 = c.requires.early in
+    let early : c.args.by ≤ 68374080 = c.requires.in_range in
     let own_is : own_of is_b9 c.close.new.found.breaches.items ≡ own_of is_b9 old ++ more =
     ap (own_of is_b9) longer ∙ own_more is_b9 old more kinds in
     record {

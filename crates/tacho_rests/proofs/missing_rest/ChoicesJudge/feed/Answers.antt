@@ -21,7 +21,7 @@ returns-in_default-clause-fed c = λ base spans r.
     (let own : List Breach = own_of is_b9 c.args.found.now.breaches.items in
     let s : Span = c.args._span in
     let none : run_before c.args._start s ≡ None = sym c.requires.run ∙ c.in_default.is in
-    choices_fed_none spans s base c.args._start c.args.self.now own [] r c.requires.some none)
+    choices_fed_none spans s base c.args._start c.args.self.now own [] r c.requires.nonempty none)
 
 pub returns-then-saturating_sub-lt-WEEKLY_REST-clause-fed : goal.returns-then-saturating_sub-lt-WEEKLY_REST-clause-fed
 returns-then-saturating_sub-lt-WEEKLY_REST-clause-fed c = λ base spans r.
@@ -31,7 +31,7 @@ returns-then-saturating_sub-lt-WEEKLY_REST-clause-fed c = λ base spans r.
     let is : run_before c.args._start s ≡ Some run = sym c.requires.run ∙ c.in-Some.is in
     let sub : c.saturating_sub.result ≡ run.past - run.start = c.saturating_sub.ensures in
     let short : c.saturating_sub.result < 1440 = c.if-saturating_sub-lt-WEEKLY_REST.true in
-    choices_fed_short spans s base c.args._start c.args.self.now own [] r c.requires.some run is
+    choices_fed_short spans s base c.args._start c.args.self.now own [] r c.requires.nonempty run is
     (omega arith))
 
 pub returns-clause-fed : goal.returns-clause-fed
@@ -42,6 +42,6 @@ returns-clause-fed c = λ base spans r.
     let is : run_before c.args._start s ≡ Some run = sym c.requires.run ∙ c.in-Some.is in
     let sub : c.saturating_sub.result ≡ run.past - run.start = c.saturating_sub.ensures in
     let long : 1440 ≤ c.saturating_sub.result = c.if-saturating_sub-lt-WEEKLY_REST.false in
-    choices_fed_more spans s base c.args._start c.args.self.now own [] r c.requires.some run is
+    choices_fed_more spans s base c.args._start c.args.self.now own [] r c.requires.nonempty run is
     (omega arith) c.hear.new.self (own_of is_b9 c.hear.new.found.breaches.items)
     c.in_ok-hear.ensures.kept)

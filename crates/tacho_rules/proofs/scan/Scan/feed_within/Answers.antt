@@ -21,8 +21,8 @@ feed-requires-clause-next c =
     (part item) (part_within part c.args.spans.now i within) (part_is part c.args.spans.now i item within c.span-item.is)
     c.requires.place c.requires.past c.requires.at c.requires.joined)
 
-pub feed-requires-clause-some : goal.feed-requires-clause-some
-feed-requires-clause-some c =
+pub feed-requires-clause-nonempty : goal.feed-requires-clause-nonempty
+feed-requires-clause-nonempty c =
     let part = cut_to c.args.start c.args.past in
     let i = c.loop-span.span-index in
     let item = c.span-item.result in

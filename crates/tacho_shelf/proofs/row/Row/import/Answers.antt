@@ -17,7 +17,7 @@ invariant_of-self-2 c =
     let added : List Span → Download = λ spans. record { part = part_number c.args.part; file = c.in-Ok.file.items; spans = spans } in
     let kept = subst (λ (d : Driver). AreKept d.downloads d.entries) c.self.view_is c.self.invariant in
     let agreed = rw c.in-Some.is at c.in_ok-number.ensures.agreed in
-    let room = rw c.in-Some.is at c.in_ok-number.ensures.few in
+    let room = rw c.in-Some.is at c.in_ok-number.ensures.bounded in
     let more = kept_download c.args.self.now (part_number c.args.part) c.in-Ok.file.items c.deref.result.now kept room agreed in
     let after : c.push.new.self.items ≡ downloads ++ added c.args.spans.items ∷ [] = c.in-Ok-push.ensures.items in
     let same : downloads ++ added c.deref.result.now ∷ [] ≡ c.push.new.self.items =
