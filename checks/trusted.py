@@ -59,7 +59,7 @@ LAWYER = Order(
         ("what a report is", "tacho_rules: Report"),
         ("what is held, what is examined, and where the examination ends",
          "tacho_time: Spans; tacho_line: Line; tacho_law: Line"),
-        ("the numbers of the law", "tacho_law: Limits"),
+        ("the numbers of the law, and the range of days", "tacho_law: Limits; tacho_time: Limits"),
         ("runs of rest, driving time, and breaks", "tacho_law: Runs Driving Breaks"),
         ("duty days, weeks, and weekly rests that are owed", "tacho_law: Days Weeks Debts"),
         ("the week in which a weekly rest is counted, and where no choice of weeks serves", "tacho_law: Choice Anew"),

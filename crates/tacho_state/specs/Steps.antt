@@ -1,4 +1,4 @@
--- Trusted: What each command and each reading answers, and the state after it. A refusal leaves the state as it was. If several refusals
+-- Trusted in part: What each command and each reading answers, and the state after it. A refusal leaves the state as it was. If several refusals
 -- apply, the first in the order S1 to S14 is answered; a fault of the card file (S11) comes before all others.
 use Rattle.std.specs.Prelude.{ℕ, ◌+◌, ◌%◌, ◌==◌, nat_lt, Bool, List, [], ◌∷◌, ◌++◌, length, Option, Some, None, is_some, option_map, Result, Ok, Err, bytes_eq, if◌then◌else◌}
 use Rattle.tacho_time.specs.declared.span.Span.{Span}
