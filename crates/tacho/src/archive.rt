@@ -1,6 +1,6 @@
 //! The file of an archive, and the jobs that are done there.
 //!
-//! Functions on an archive are generic over its store, and take and return the connection by value. Only `open` and `at_file` name the
+//! Functions on an archive are generic over its store, and take and return the connection by value. Only `open_file` and `at_file` name the
 //! file's store: there each call of a function that is generic over a store is proved again, which takes 15 to 50 times as long.
 
 ghost use Rattle.std.specs.Prelude.{◌≡◌, false};
@@ -80,7 +80,7 @@ fn tell(rt: &impl Print, ending: Ending) -> u8 {
 }
 
 /// `tacho init`: makes an archive without drivers.
-fn create<S: Alter + Drop>(conn: Connection<S>) -> (Ending, Connection<S>)
+fn create_archive<S: Alter + Drop>(conn: Connection<S>) -> (Ending, Connection<S>)
     requires { conn.in_transaction ≡ false }
 {
     match Archive::create(conn) {
@@ -90,7 +90,7 @@ fn create<S: Alter + Drop>(conn: Connection<S>) -> (Ending, Connection<S>)
 }
 
 /// `tacho migrate`: migrates an archive of schema 1 to schema 2.
-fn migrate<S: Alter + Drop>(conn: Connection<S>) -> (Ending, Connection<S>)
+fn migrate_archive<S: Alter + Drop>(conn: Connection<S>) -> (Ending, Connection<S>)
     requires { conn.in_transaction ≡ false }
 {
     match Archive::migrate(conn) {
@@ -100,7 +100,7 @@ fn migrate<S: Alter + Drop>(conn: Connection<S>) -> (Ending, Connection<S>)
 }
 
 /// Does a job at an existing archive, with standard input and output.
-fn perform<S: Alter + Drop>(
+fn do_task<S: Alter + Drop>(
     rt: &HostRuntime,
     conn: Connection<S>,
     job: DeskJob<'_>,
@@ -118,7 +118,7 @@ fn perform<S: Alter + Drop>(
 }
 
 /// `tacho serve`: answers `count` connections on a port of 127.0.0.1, at an existing archive.
-fn answer<S: Alter + Drop>(
+fn serve_requests<S: Alter + Drop>(
     rt: &HostRuntime,
     conn: Connection<S>,
     key: &str,
@@ -152,10 +152,10 @@ fn at_connection<S: Alter + Drop>(
         return (refused(StoreFault::Store), conn);
     }
     match work {
-        Work::Create => create(conn),
-        Work::Migrate => migrate(conn),
-        Work::Task(job) => perform(rt, conn, job),
-        Work::Serve { key, port, count } => answer(rt, conn, key, port, count),
+        Work::Create => create_archive(conn),
+        Work::Migrate => migrate_archive(conn),
+        Work::Task(job) => do_task(rt, conn, job),
+        Work::Serve { key, port, count } => serve_requests(rt, conn, key, port, count),
     }
 }
 
@@ -172,7 +172,7 @@ fn make_own(rt: &HostRuntime, path: &str) {
 
 /// Opens an archive's file: a new one if the archive is to be made, otherwise an existing one. A new file gets checksums of its pages, by which
 /// later opens find what was changed in it.
-fn open(rt: &HostRuntime, path: &str, work: Work<'_>) -> Result<FileConnection, StoreFault> {
+fn open_file(rt: &HostRuntime, path: &str, work: Work<'_>) -> Result<FileConnection, StoreFault> {
     if matches!(work, Work::Create) {
         make_own(rt, path);
     } else if !matches!(fs::exists(rt, path), Ok(true)) {
@@ -188,7 +188,7 @@ fn open(rt: &HostRuntime, path: &str, work: Work<'_>) -> Result<FileConnection, 
 /// Does the work at the archive in a file, and returns the program's status. What was done is durable, even if the file's log can't be written
 /// back to the file at close: the next open does that.
 pub fn at_file(rt: &HostRuntime, path: &str, work: Work<'_>) -> u8 {
-    match open(rt, path, work) {
+    match open_file(rt, path, work) {
         Ok(conn) => {
             let (ending, conn) = at_connection(rt, conn, work);
             let _ = conn.close();

@@ -42,7 +42,7 @@ pub fn perform_at_desk<K: Keeper, R: Source, W: Sink>(
     ensures words { (fault : FaultValue) → IsTask job.entry.want Caller.Office job.entry.driver.now job.entry.word.now (Err fault)
         → reader.new ≡ reader.old }
 {
-    match answer(alloc, job.want, job.driver, job.word, keeper, reader) {
+    match job_answer(alloc, job.want, job.driver, job.word, keeper, reader) {
         Ok(text) => tell(writer, text.bytes(), 0),
         Err(fault) => tell_fault(writer, fault),
     }
@@ -74,7 +74,7 @@ pub fn perform<K: Keeper, R: Source, W: Sink>(
 }
 
 /// Answers a job at the office's archive, with the texts of its arguments.
-fn answer<K: Keeper, R: Source>(
+fn job_answer<K: Keeper, R: Source>(
     alloc: Global,
     want: Want,
     driver: &str,

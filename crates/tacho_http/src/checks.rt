@@ -79,13 +79,13 @@ fn by_caller<K: Keeper, R: Source>(
     };
     let takes = asked.want.takes_input();
     match body_length_of(method, takes, request.buffer, request.fields) {
-        Ok(length) => run(alloc, keeper, caller, asked, length, reader, request.behind),
+        Ok(length) => run_task(alloc, keeper, caller, asked, length, reader, request.behind),
         Err(status) => Ok(fixed(status)),
     }
 }
 
 /// Does what a caller asks for, with a body of `count` bytes. The first bytes of the body came after the head.
-fn run<K: Keeper, R: Source>(
+fn run_task<K: Keeper, R: Source>(
     alloc: Global,
     keeper: &mut K,
     caller: Caller,

@@ -133,6 +133,7 @@ pub fn feed_held<S: Alter>(
         → (t : Tables) → HasTables (state S.Store conn.old).now.trees t
         → IfOk result (AreFed driver start base t.held scan.old found.old scan.new found.new) }
 {
+    // For the proof alone: nothing is pending, so what is seen is what was committed.
     let _settled = conn.is_autocommit();
     let mut rows = match held::onward(conn, driver, start) {
         Ok(rows) => rows,

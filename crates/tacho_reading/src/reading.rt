@@ -45,6 +45,7 @@ pub fn who<S: Alter>(conn: &mut Connection<S>, key: &[u8]) -> Result<Option<u32>
     ensures autocommit { conn.new.in_transaction ≡ false }
     ensures reads { ReadsOn S.Store (λ found. found) conn.old conn.new result (owner key.now) }
 {
+    // For the proof alone: nothing is pending, so what is seen is what was committed.
     let _settled = conn.is_autocommit();
     let mut tx = conn.transaction();
     let found = who_in(&mut tx, key);
@@ -78,6 +79,7 @@ pub fn drivers<S: Alter>(
     ensures drivers { HasCleanDisk (state S.Store conn.new) → (s : State) → SeesWhileOpen (state S.Store conn.old) s
         → IfOk result (λ found. AreSummaries s (map told_summary found.items)) }
 {
+    // For the proof alone: nothing is pending, so what is seen is what was committed.
     let _settled = conn.is_autocommit();
     let mut tx = conn.transaction();
     let found = drivers_in(alloc, &mut tx);
@@ -103,6 +105,7 @@ pub fn name<S: Alter>(conn: &mut Connection<S>, driver: u32) -> Result<String, S
     ensures autocommit { conn.new.in_transaction ≡ false }
     ensures reads { ReadsOn S.Store (λ name. string_bytes name) conn.old conn.new result (name_reading driver) }
 {
+    // For the proof alone: nothing is pending, so what is seen is what was committed.
     let _settled = conn.is_autocommit();
     let mut tx = conn.transaction();
     let found = name_in(&mut tx, driver);
@@ -137,6 +140,7 @@ pub fn download<S: Alter>(
     ensures autocommit { conn.new.in_transaction ≡ false }
     ensures reads { ReadsOn S.Store (λ bytes. bytes.items) conn.old conn.new result (file_reading driver number) }
 {
+    // For the proof alone: nothing is pending, so what is seen is what was committed.
     let _settled = conn.is_autocommit();
     let mut tx = conn.transaction();
     let file = download_in(&mut tx, driver, number);
@@ -171,6 +175,7 @@ pub fn line<S: Alter>(
     ensures autocommit { conn.new.in_transaction ≡ false }
     ensures reads { ReadsOn S.Store (λ line. mark_at line) conn.old conn.new result (line_reading driver) }
 {
+    // For the proof alone: nothing is pending, so what is seen is what was committed.
     let _settled = conn.is_autocommit();
     let mut tx = conn.transaction();
     let line = line_in(alloc, &mut tx, driver);
@@ -219,6 +224,7 @@ pub fn line_within<S: Alter>(
     ensures within { HasCleanDisk (state S.Store conn.new) → (s : State) → SeesWhileOpen (state S.Store conn.old) s
         → IfOk result (IsHeldWithin driver start past s) }
 {
+    // For the proof alone: nothing is pending, so what is seen is what was committed.
     let _settled = conn.is_autocommit();
     let mut tx = conn.transaction();
     let line = line_within_in(alloc, &mut tx, driver, start, past);
@@ -253,6 +259,7 @@ pub fn entries<S: Alter>(
     ensures autocommit { conn.new.in_transaction ≡ false }
     ensures reads { ReadsOn S.Store (λ entries. entries.items) conn.old conn.new result (entries_reading driver) }
 {
+    // For the proof alone: nothing is pending, so what is seen is what was committed.
     let _settled = conn.is_autocommit();
     let mut tx = conn.transaction();
     let found = entries_in(alloc, &mut tx, driver);
@@ -308,6 +315,7 @@ fn begin<S: Alter>(
     ensures begun { HasCleanDisk (state S.Store conn.new) → (s : State) → SeesWhileOpen (state S.Store conn.old) s
         → IfOk result (IsBegun (state S.Store conn.new).now.trees driver from s) }
 {
+    // For the proof alone: nothing is pending, so what is seen is what was committed.
     let _settled = conn.is_autocommit();
     let mut tx = conn.transaction();
     let found = begin_in(&mut tx, driver, from);

@@ -90,6 +90,7 @@ pub fn take_held<S: Alter>(
         → (t : Tables) → HasTables (state S.Store conn.old).now.trees t
         → OnOk result (HasTakenHeld driver first start past t.held pass.old pass.new near.old.items near.new.items) }
 {
+    // For the proof alone: nothing is pending, so what is seen is what was committed.
     let _settled = conn.is_autocommit();
     let mut rows = match held::onward(conn, driver, first) {
         Ok(rows) => rows,

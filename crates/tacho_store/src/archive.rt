@@ -52,12 +52,14 @@ fn make<S: Alter>(conn: &mut Connection<S>) -> Result<(), StoreFault>
     if opening::has_tables(conn) {
         return Err(StoreFault::Store);
     }
+    // For the proof alone: nothing is pending, so what is seen is what was committed.
     let _settled = conn.is_autocommit();
     let mut tx = conn.transaction();
     make_in(&mut tx)?;
     match tx.commit() {
         Ok(()) => Ok(()),
         Err(_) => {
+            // For the proof alone: the commit that failed left nothing pending.
             let _undone = conn.is_autocommit();
             Err(StoreFault::Store)
         }
@@ -71,6 +73,7 @@ fn read_version<S: Alter>(conn: &mut Connection<S>) -> Result<Option<u32>, Store
     ensures refused { IfErr result HasGivenUp }
     ensures version { TellsSchema (state S.Store conn.old) (state S.Store conn.new) result }
 {
+    // For the proof alone: nothing is pending, so what is seen is what was committed.
     let _settled = conn.is_autocommit();
     let mut tx = conn.transaction();
     making::version(&mut tx).map_err(store_fault)
@@ -86,9 +89,11 @@ fn check<S: Alter>(conn: &mut Connection<S>) -> Result<(), StoreFault>
 {
     let has_archive = opening::has_archive(conn);
     let has_old_archive = opening::has_old_archive(conn);
+    // For the proof alone: nothing is pending, so what is seen is what was committed.
     let _settled = conn.is_autocommit();
     opening::ask(conn).map_err(store_fault)?;
     let version = read_version(conn)?;
+    // For the proof alone: nothing is pending, so what is seen is what was committed.
     let _settled = conn.is_autocommit();
     opening::ask(conn).map_err(store_fault)?;
     match version {
@@ -113,12 +118,14 @@ fn carry<S: Alter>(conn: &mut Connection<S>) -> Result<(), StoreFault>
     ensures refused { IfErr result HasGivenUp }
     ensures carried { IsCarried (state S.Store conn.old) (state S.Store conn.new) result }
 {
+    // For the proof alone: nothing is pending, so what is seen is what was committed.
     let _settled = conn.is_autocommit();
     let mut tx = conn.transaction();
     carry_in(&mut tx)?;
     match tx.commit() {
         Ok(()) => Ok(()),
         Err(_) => {
+            // For the proof alone: the commit that failed left nothing pending.
             let _undone = conn.is_autocommit();
             Err(StoreFault::Store)
         }
@@ -164,9 +171,11 @@ impl<S: Alter> Archive<S> {
         ensures old { IfErr result (λ e. HasCleanDisk (state S.Store e.1) → e.0 ≡ OldSchema
             → IsTrue (state S.Store e.1).is_open × IsOld (state S.Store conn)) }
     {
+        // For the proof alone: the schema that the connection has read is that of the stored tables.
         let _sound = conn.schema();
         match check(&mut conn) {
             Ok(()) => {
+                // For the proof alone: nothing is pending, so what is seen is what was committed.
                 let _settled = conn.is_autocommit();
                 Ok(Archive { conn })
             }
@@ -185,6 +194,7 @@ impl<S: Alter> Archive<S> {
         ensures refused { IfErr result (λ e. HasGivenUp e.0 × (e.1.in_transaction ≡ false)
             × IsNotMigrated (state S.Store conn) (state S.Store e.1)) }
     {
+        // For the proof alone: the schema that the connection has read is that of the stored tables.
         let _sound = conn.schema();
         match Self::adopt(conn) {
             Ok(archive) => Ok(archive),

@@ -34,12 +34,14 @@ pub fn rebase<S: Alter>(conn: &mut Connection<S>, driver: u32, base: Day) -> Res
     ensures of_no_file { IsOfNoFile result }
     ensures acts { ActsOn S.Store (λ _. tt) conn.old conn.new result (rebase_step driver base) }
 {
+    // For the proof alone: nothing is pending, so what is seen is what was committed.
     let _settled = conn.is_autocommit();
     let mut tx = conn.transaction();
     match rebase_in(&mut tx, driver, base) {
         Ok(()) => match tx.commit() {
             Ok(()) => Ok(()),
             Err(_) => {
+                // For the proof alone: the commit that failed left nothing pending.
                 let _undone = conn.is_autocommit();
                 Err(StoreFault::Store)
             }

@@ -198,12 +198,14 @@ pub fn enter<S: Alter>(
     ensures acts { ActsOn S.Store (λ done. done.first) conn.old conn.new result (enter_step driver (batch_of lines.now)) }
     ensures count { IfOk result (λ done. done.count ≡ length lines.now) }
 {
+    // For the proof alone: nothing is pending, so what is seen is what was committed.
     let _settled = conn.is_autocommit();
     let mut tx = conn.transaction();
     match enter_in(alloc, &mut tx, driver, lines) {
         Ok(done) => match tx.commit() {
             Ok(()) => Ok(done),
             Err(_) => {
+                // For the proof alone: the commit that failed left nothing pending.
                 let _undone = conn.is_autocommit();
                 Err(StoreFault::Store)
             }

@@ -241,12 +241,14 @@ pub fn import<S: Alter>(
         → result ≡ Ok (Repeated number) → IsSame (state S.Store conn.old) (state S.Store conn.new) }
     ensures of_no_file { IsOfNoFile result }
 {
+    // For the proof alone: nothing is pending, so what is seen is what was committed.
     let _settled = conn.is_autocommit();
     let mut tx = conn.transaction();
     match import_in(alloc, &mut tx, caller, part, file, content) {
         Ok(done) => match tx.commit() {
             Ok(()) => Ok(done),
             Err(_) => {
+                // For the proof alone: the commit that failed left nothing pending.
                 let _undone = conn.is_autocommit();
                 Err(StoreFault::Store)
             }

@@ -60,12 +60,14 @@ pub fn register<S: Alter>(conn: &mut Connection<S>, driver: &Driver) -> Result<(
     ensures acts { ActsOn S.Store (λ _. tt) conn.old conn.new result
         (register_step driver.now.number driver.now.holder driver.now.key driver.now.base driver.now.name) }
 {
+    // For the proof alone: nothing is pending, so what is seen is what was committed.
     let _settled = conn.is_autocommit();
     let mut tx = conn.transaction();
     match register_in(&mut tx, driver) {
         Ok(()) => match tx.commit() {
             Ok(()) => Ok(()),
             Err(_) => {
+                // For the proof alone: the commit that failed left nothing pending.
                 let _undone = conn.is_autocommit();
                 Err(StoreFault::Store)
             }

@@ -191,12 +191,14 @@ pub fn withdraw<S: Alter>(
     ensures of_no_file { IsOfNoFile result }
     ensures acts { ActsOn S.Store (λ _. tt) conn.old conn.new result (withdraw_step driver number) }
 {
+    // For the proof alone: nothing is pending, so what is seen is what was committed.
     let _settled = conn.is_autocommit();
     let mut tx = conn.transaction();
     match withdraw_in(alloc, &mut tx, driver, number) {
         Ok(()) => match tx.commit() {
             Ok(()) => Ok(()),
             Err(_) => {
+                // For the proof alone: the commit that failed left nothing pending.
                 let _undone = conn.is_autocommit();
                 Err(StoreFault::Store)
             }

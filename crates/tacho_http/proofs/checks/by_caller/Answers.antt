@@ -47,17 +47,17 @@ returns-in-Ok-body_length_of-clause-responds g c h is =
     c.read-method.ensures c.asker_of.ensures c.find.ensures is.method is.path c.in-Ok-asked_of.ensures in
     let long = length_found h c.read-method.result r.method.now w.want c.takes_input-takes.result (map (header_bytes r.buffer.now) r.fields.now) (Ok c.in-Ok-body_length_of.length)
     c.read-method.ensures c.takes_input-takes.ensures is.method is.fields c.in-Ok-body_length_of.ensures in
-    by_wish k.stands k.is_clean k.is_live k.leaves k.is_same k.same_self c.args.keeper.now c.run.new.keeper (is_command w.want) (g.R.Source.unread c.args.reader.now)
-    c.run.result c.args.caller h r.behind.now w c.in-Ok-body_length_of.length
+    by_wish k.stands k.is_clean k.is_live k.leaves k.is_same k.same_self c.args.keeper.now c.run_task.new.keeper (is_command w.want) (g.R.Source.unread c.args.reader.now)
+    c.run_task.result c.args.caller h r.behind.now w c.in-Ok-body_length_of.length
     (λ post. posts_are_commands (asker_of c.args.caller) h.method h.target w found post)
-    (λ other. commands_are_posts (asker_of c.args.caller) h.method h.target w found other) found long c.run.ensures.responds
+    (λ other. commands_are_posts (asker_of c.args.caller) h.method h.target w found other) found long c.run_task.ensures.responds
 
 pub returns-in-Ok-body_length_of-clause-lacks : goal.returns-in-Ok-body_length_of-clause-lacks
 returns-in-Ok-body_length_of-clause-lacks g c h key is has err =
     let r = c.args.request.now in
     let asked = c.in-Ok-asked_of.asked in
     let w : Wish = record { want = asked.want; driver = asked.driver.now; word = asked.word.now } in
-    let l = c.run.ensures.lacks err in
+    let l = c.run_task.ensures.lacks err in
     record {
       given = l.given;
       came = l.came;

@@ -8,7 +8,7 @@ use Rattle.tacho_desk.specs.declared.want.Want.{Want}
 use Rattle.tacho_http.specs.Asked.{Wish}
 use Rattle.tacho_http.specs.Serve.{Runs}
 use Rattle.tacho_http.proofs.RespondLemmas.{carried_out, unavailable, unread_body, wrong_word}
-use Rattle.tacho_http.proofs.checks.run.Goals as goal
+use Rattle.tacho_http.proofs.checks.run_task.Goals as goal
 
 pub returns-in-Err-Memory-clause-responds : goal.returns-in-Err-Memory-clause-responds
 returns-in-Err-Memory-clause-responds g c =

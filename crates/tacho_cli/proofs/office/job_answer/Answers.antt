@@ -12,7 +12,7 @@ use Rattle.tacho_desk.specs.declared.want.Want.{Want}
 use Rattle.tacho_desk.proofs.MeantLemmas.{faulty}
 use Rattle.tacho_desk.proofs.WordLemmas.{task_once}
 use Rattle.tacho_cli.proofs.OfficeLemmas.{of_bytes, over_input, refused_words, unread_input, without_input}
-use Rattle.tacho_cli.proofs.office.answer.Goals as goal
+use Rattle.tacho_cli.proofs.office.job_answer.Goals as goal
 
 -- arguments that make a task have no fault
 no_fault : (w : Want) (driver word : List ℕ) (t : Task) (f : Fault) → IsTask w caller.Office driver word (Ok t)
