@@ -50,16 +50,16 @@ module _ (month start past : ℕ) (bounds : AreBounds month start past) where
       → IfSome o (λ d. IsReport (held_spans d) (1440 * d.base) report.horizon report.breaches.items report.debts.items)
       → IsMonthSheet n name line report.breaches.items report.horizon month text
       → IsTextOf (λ d. OfReport (λ breaches debts horizon. IsMonthSheet n d.name (held_spans d) breaches horizon month) d) o (Ok (Long text))
-  sheet_of n None name line report text name_reading within r is = cc
-  sheet_of n (Some d) name line report text name_reading within r is =
-      let his : name ≡ d.name = cc in (
+  sheet_of n None name line report text is_name within r is = cc
+  sheet_of n (Some d) name line report text is_name within r is =
+      let same : name ≡ d.name = cc in (
         report.horizon,
         report.breaches.items,
         report.debts.items,
         r,
         month_sheet_same n d.name line (held_spans d) report.breaches.items report.horizon month text
             (agree_in month start past line (held_spans d) bounds within)
-            (subst (λ (name : List ℕ). IsMonthSheet n name line report.breaches.items report.horizon month text) his is),
+            (subst (λ (name : List ℕ). IsMonthSheet n name line report.breaches.items report.horizon month text) same is),
       )
 
   -- the sheet of the driver with a number

@@ -19,7 +19,7 @@ use Rattle.tacho_state.specs.declared.caller.Caller.{Caller}
 use Rattle.tacho_state.specs.declared.entry.EntryLine.{EntryLine}
 use Rattle.tacho_state.specs.declared.fault.StoreFault.TheVariants as store
 use Rattle.tacho_state.specs.declared.imported.Imported.{Imported}
-use Rattle.tacho_state.specs.declared.imported.Imported.TheVariants as import_step
+use Rattle.tacho_state.specs.declared.imported.Imported.TheVariants as imported
 use Rattle.tacho_sheet.specs.declared.fault.SheetFault.{SheetFault}
 use Rattle.tacho_sheet.specs.declared.fault.SheetFault.TheVariants as sheet
 use Rattle.tacho_sheet.specs.Done.{base_line, entered_text, imported_text, number_line}
@@ -54,15 +54,15 @@ OrCsv Is read = Is read ⊎ (read ≡ Err sheet.Csv)
 -- the fault E1, E2, E8 or E9; or the step of the registration
 abbrev pub RegistersRead : State → Result Registration SheetFault → Doing
 RegistersRead s (Err f) = Refuses (sheet_fault f) s
-RegistersRead s (Ok r) = Steps (λ _. Added (number_line (codes "register_step ") r.number)) (register_step r.number r.holder r.key r.base r.name s)
+RegistersRead s (Ok r) = Steps (λ _. Added (number_line (codes "registered ") r.number)) (register_step r.number r.holder r.key r.base r.name s)
 
 abbrev pub Registers : List ℕ → State → Doing
 Registers input s answer after = (read : Result Registration SheetFault) × OrCsv (IsDriverRead input) read × RegistersRead s read answer after
 
 -- the answer for a file that was added, or one that was there already
 abbrev pub imported_told : Imported → Told
-imported_told (import_step.Added driver number) = Added (imported_text (import_step.Added driver number))
-imported_told (import_step.Repeated driver) = Line (imported_text (import_step.Repeated driver))
+imported_told (imported.Added driver number) = Added (imported_text (imported.Added driver number))
+imported_told (imported.Repeated driver) = Line (imported_text (imported.Repeated driver))
 
 -- the step of an import for a caller
 abbrev pub Imports : Caller → Part → List ℕ → State → Doing
@@ -83,7 +83,7 @@ abbrev pub Enters : ℕ → List ℕ → State → Doing
 Enters n input s answer after = (read : Lines) × OrCsv (IsRead input) read × EntersRead n s read answer after
 
 abbrev pub Withdraws : ℕ → ℕ → State → Doing
-Withdraws n number s = Steps (λ _. Line (number_line (codes "withdraw_step ") number)) (withdraw_step n number s)
+Withdraws n number s = Steps (λ _. Line (number_line (codes "withdrawn ") number)) (withdraw_step n number s)
 
 abbrev pub Rebases : ℕ → ℕ → State → Doing
 Rebases n day s = Steps (λ _. Line (base_line day)) (rebase_step n day s)
@@ -130,9 +130,9 @@ ShowsDrivers s answer after =
 -- the texts of the listed drivers, in sequence
 abbrev pub AreOfEach : (Summary → Driver → List ℕ → Type 0) → State → List Summary → List ℕ → Type 0
 AreOfEach Is s [] text = text ≡ []
-AreOfEach Is s (x ∷ entries_reading) text =
+AreOfEach Is s (x ∷ summaries) text =
     (d : Driver) × (driver_of x.number s ≡ Some d)
-    × (front : List ℕ) × (back : List ℕ) × (text ≡ front ++ back) × Is x d front × AreOfEach Is s entries_reading back
+    × (front : List ℕ) × (back : List ℕ) × (text ≡ front ++ back) × Is x d front × AreOfEach Is s summaries back
 
 -- a head, and a text of each driver of the state, in the order of their numbers
 abbrev pub IsOfAll : List ℕ → (Summary → Driver → List ℕ → Type 0) → State → List ℕ → Type 0

@@ -112,7 +112,7 @@ lines_in_range lines first last h from to m k g =
 pub line_entered : (n i : ℕ) (line : Hours) (row : StoredSpan) → row_of n row ≡ span_row n (entry_span (entry_of line))
     → entered_row n i row line.author line.note ≡ entry_row n i (entry_of line)
 line_entered n i line row is =
-    let enter_step : SpanRow → EntryRow = λ x. record {
+    let as_entry : SpanRow → EntryRow = λ x. record {
       driver = x.driver;
       number = i;
       start = x.start;
@@ -123,7 +123,7 @@ line_entered n i line row is =
       note = line.note;
     } in
     let same : activity_number line.activity + 0 ≡ activity_number line.activity = omega arith in
-    ap enter_step is ∙ ap (λ (k : ℕ). record (entry_row n i (entry_of line)) { mark = k }) same
+    ap as_entry is ∙ ap (λ (k : ℕ). record (entry_row n i (entry_of line)) { mark = k }) same
 
 -- an element within a list doesn't depend on the default for elements outside it
 pub any_default : {X : Type 0} (xs : List X) (i : ℕ) (d e : X) → i < length xs → get_or xs i d ≡ get_or xs i e

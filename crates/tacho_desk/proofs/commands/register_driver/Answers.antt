@@ -17,8 +17,8 @@ returns-in_err-register-clause-serves g c =
     let f = c.in_err-register.field-0.0 in
     let e = faulty c.from_residual.result (fault_of_store f) c.from_residual.ensures.1 in
     subst (λ (answer : Answer). Serves k.stands k.is_clean k.is_live k.leaves k.is_same c.args.keeper.now c.register.new.self true answer
-    (λ s. Steps (λ _. Added (number_line (codes "register_step ") r.number)) (register_step r.number r.holder r.key r.base r.name s))) (sym e)
-    (refused_without_file k.stands k.is_clean k.is_live k.leaves k.is_same (λ _. tt) (λ _. Added (number_line (codes "register_step ") r.number))
+    (λ s. Steps (λ _. Added (number_line (codes "registered ") r.number)) (register_step r.number r.holder r.key r.base r.name s))) (sym e)
+    (refused_without_file k.stands k.is_clean k.is_live k.leaves k.is_same (λ _. tt) (λ _. Added (number_line (codes "registered ") r.number))
     c.args.keeper.now c.register.new.self f (λ s. register_step r.number r.holder r.key r.base r.name s)
     (λ s. registered_keeps r.number r.holder r.key r.base r.name s) (λ s. registered_tells_no_file r.number r.holder r.key r.base r.name s)
     c.in_err-register.ensures.registered)
