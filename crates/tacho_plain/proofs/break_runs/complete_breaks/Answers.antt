@@ -27,16 +27,16 @@ loop-run-preserved c =
     elim c.if-completes.branch [
       | then-completes+in_ok-push w ↦
           rw (w.breaks-is, w.has_first_part-is, w.in_ok-push.ensures.items)
-          (add_here xs i none c.loop-run-test.true c.requires.in_order c.requires.nonempty
+          (add_here xs i none c.loop-run-test.true c.requires.in_order c.requires.some
           breaks short c.loop-run.invariant (test.0 w.if-completes.true))
       | else-completes+then-minutes-ge-FIRST_PART_OF_BREAK w ↦
           rw (w.breaks-is, w.has_first_part-is)
-          (short_here xs i none c.loop-run-test.true c.requires.in_order c.requires.nonempty breaks
+          (short_here xs i none c.loop-run-test.true c.requires.in_order c.requires.some breaks
           short c.loop-run.invariant (λ h. let e : c.completes.result ≡ true = test.1 h in cc)
           w.if-minutes-ge-FIRST_PART_OF_BREAK.true)
       | else-completes+else-minutes-ge-FIRST_PART_OF_BREAK w ↦
           rw (w.breaks-is, w.has_first_part-is)
-          (stay_here xs i none c.loop-run-test.true c.requires.in_order c.requires.nonempty breaks short
+          (stay_here xs i none c.loop-run-test.true c.requires.in_order c.requires.some breaks short
           c.loop-run.invariant (λ h. let e : c.completes.result ≡ true = test.1 h in cc) (omega arith))
     ]
 

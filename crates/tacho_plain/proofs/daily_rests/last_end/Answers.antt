@@ -14,7 +14,7 @@ returns-then-ended-eq0 c =
     IsPartitionPoint-from_clause (λ (s : Run). leb s.past c.args.minute) xs n
     c.partition_point-ended.ensures.partitioned
     (IsPartitionedBy-leb (λ (s : Run). s.past) xs c.args.minute
-    (λ i j d le lt. pasts_rise xs c.requires.nonempty c.requires.in_order i j d le lt))
+    (λ i j d le lt. pasts_rise xs c.requires.some c.requires.in_order i j d le lt))
     (λ a b f' called. search rules) in
     end_none xs c.args.minute n found c.if-ended-eq0.true
 
@@ -26,7 +26,7 @@ returns c =
     IsPartitionPoint-from_clause (λ (s : Run). leb s.past c.args.minute) xs n
     c.partition_point-ended.ensures.partitioned
     (IsPartitionedBy-leb (λ (s : Run). s.past) xs c.args.minute
-    (λ i j d le lt. pasts_rise xs c.requires.nonempty c.requires.in_order i j d le lt))
+    (λ i j d le lt. pasts_rise xs c.requires.some c.requires.in_order i j d le lt))
     (λ a b f' called. search rules) in
-    end_some xs c.args.minute n c.requires.nonempty c.requires.in_order
+    end_some xs c.args.minute n c.requires.some c.requires.in_order
     found c.partition_point-ended.ensures.bound (omega arith)

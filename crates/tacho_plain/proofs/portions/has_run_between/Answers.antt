@@ -13,9 +13,9 @@ returns-then-first-runs c =
     IsPartitionPoint-from_clause (λ (s : Run). ltb s.start c.args.from) xs n
     c.partition_point-first.ensures.partitioned
     (IsPartitionedBy-ltb (λ (s : Run). s.start) xs c.args.from
-    (λ i j d le lt. starts_rise xs c.requires.nonempty c.requires.in_order i j d le lt))
+    (λ i j d le lt. starts_rise xs c.requires.some c.requires.in_order i j d le lt))
     (λ a b f' called. search rules) in
-    first_between xs c.requires.nonempty c.requires.in_order c.args.from c.args.to n found c.if-first-runs.true
+    first_between xs c.requires.some c.requires.in_order c.args.from c.args.to n found c.if-first-runs.true
 
 pub returns-else-first-runs : goal.returns-else-first-runs
 returns-else-first-runs c =
@@ -25,6 +25,6 @@ returns-else-first-runs c =
     IsPartitionPoint-from_clause (λ (s : Run). ltb s.start c.args.from) xs n
     c.partition_point-first.ensures.partitioned
     (IsPartitionedBy-ltb (λ (s : Run). s.start) xs c.args.from
-    (λ i j d le lt. starts_rise xs c.requires.nonempty c.requires.in_order i j d le lt))
+    (λ i j d le lt. starts_rise xs c.requires.some c.requires.in_order i j d le lt))
     (λ a b f' called. search rules) in
     none_between xs c.args.from c.args.to n found c.if-first-runs.false

@@ -4,8 +4,8 @@ use Rattle.tacho_state.proofs.reports.base_of.Goals as goal
 pub returns-clause-some : goal.returns-clause-some
 returns-clause-some c =
     let value = c.new.ensures in
-    let low = c.if-day.false in
-    let high = c.if-day-2.false in
+    let low = c.if-day-lt-FIRST_DAY.false in
+    let high = c.if-day-gt-LAST_DAY.false in
     let monday = c.if-day-ne0.false in (
       omega (arith, value),
       record {
