@@ -193,7 +193,7 @@ fn a_first_part_serves_once(rt: HostRuntime) -> Result<(), Fail> {
 /// Adds rest, and driving from 06:00 to 10:00 and from 10:45 to a later minute of the day that begins at `midnight`.
 fn add_day(spans: &mut Vec<Span>, at: u32, midnight: u32, end: u32) -> Result<(), AllocError>
     requires before { at ≤ midnight }
-    requires within { 645 < end }
+    requires enough { 645 < end }
     requires within { midnight + end ≤ 20160 }
     requires joined { Joined spans.old.items 28491840 (28491840 + at) }
     requires single { All (λ span. span.mark.crew ≡ false) spans.old.items }
