@@ -123,11 +123,11 @@ registered_is t s d h n k o none empty =
 -- ---- another base
 
 -- the driver's own row gets the base
-based_own : (n base : ℕ) (r : DriverRow) → r.driver ≡ n → tables.with_base n base r ≡ record r { base = base }
+based_own : (n base : ℕ) (r : DriverRow) → r.driver ≡ n → tables.with_row_base n base r ≡ record r { base = base }
 based_own n base r e = ap (λ b. cond b (record r { base = base }) r) (subst (λ (k : ℕ). (k == n) ≡ true) (sym e) (eq_self n))
 
 -- no other row changes
-based_other : (n base : ℕ) (r : DriverRow) → r.driver ≢ n → tables.with_base n base r ≡ r
+based_other : (n base : ℕ) (r : DriverRow) → r.driver ≢ n → tables.with_row_base n base r ≡ r
 based_other n base r d = ap (λ b. cond b (record r { base = base }) r) (eq_not r.driver n d)
 
 -- no row changes except the driver's own
@@ -141,8 +141,8 @@ rebased_is t s n base d h k =
     let same = found_number n s d k in
     let own = found_of t n s d k h.each in
     put_is t (with_rebased n base t) n (with_base base d) d s h k same (record { key = refl; holder = refl })
-    (ap (λ (x : List DriverRow). map (tables.with_base n base) x) h.drivers
-    ∙ rows_put (tables.with_base n base) n (with_base base d) d s k same h.distinct (based_own n base (driver_columns d) same)
+    (ap (λ (x : List DriverRow). map (tables.with_row_base n base) x) h.drivers
+    ∙ rows_put (tables.with_row_base n base) n (with_base base d) d s k same h.distinct (based_own n base (driver_columns d) same)
     (λ x o. based_other n base x o))
     (record { downloads = own.downloads; read = own.read; entries = own.entries; full = own.full; card_spans = own.card_spans; held = own.held })
     (λ j o. based_same t n base j)
