@@ -6,7 +6,7 @@ import sys
 
 TOP = os.path.dirname(os.path.dirname(os.path.abspath(__file__)))
 sys.path.insert(0, os.path.join(TOP, "checks"))
-from slow_reader import ACTIVITIES, blocks_of, card_file, number, pairs_of_file, runs
+from slow.slow_reader import ACTIVITIES, blocks_of, card_file, number, pairs_of_file, runs  # noqa: E402
 
 YEAR = 364
 ACTIVITY_DATA, IDENTIFICATION = 0x0504, 0x0520

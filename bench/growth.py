@@ -5,7 +5,6 @@ Behind the opening, and what has it meet each statement, are measured: `enter` a
 others; reports (`breaches`) and a sheet, of a driver who has entered rest where his cards tell nothing, so that all is examined; and
 imports of the years behind. What a command takes that is refused at its first word is taken out. Each time is the least of some rounds,
 in which the archives take turns, of the median in each; a factor is the median of the rounds' factors."""
-import functools
 import os
 import shutil
 from statistics import median

@@ -12,10 +12,9 @@ import sys
 
 import cards
 from archive import DONE, STOCK, Program, content
+from lib import old_archive
 from measuring import Rounds, less, only, processor_time, told
 from stock import BASE
-
-import old_archive
 
 ROUNDS = 10
 FIRST = 21_039_840  # 2010-01-02 00:00, the minute from which entries are

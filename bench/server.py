@@ -16,17 +16,17 @@ import sys
 import time
 
 import cards
-import compare_server
+import lib.server
 from archive import DONE, Program, content, time_text
-from compare_server import OFFICE, Serving, asking, posting
 from compiling import plain
+from lib.server import OFFICE, Serving, asking, posting
 from measuring import CALLGRIND, Instructions, Rounds, collected, instruction_heads, less, only, tell_instructions
 from office import DRIVER, date_of, fill, written
 
 YEARS = [1, 10]
 ROUNDS, TURN = 5, 100  # rounds, and the requests of a turn
 SHEETS = 2  # whose instructions are counted
-compare_server.SECONDS = 600  # how long a server is waited for, since callgrind is slow
+lib.server.SECONDS = 600  # how long a server is waited for, since callgrind is slow
 KEY, SHEET = "key-of-0001", "GET /drivers/1/sheet"
 DONE_HEAD, ADDED_HEAD = b"HTTP/1.1 200 ", b"HTTP/1.1 201 "
 

@@ -2,27 +2,26 @@
 """Gives an archive in a file random commands, and compares what it prints of each and the status with the slow office, and with those of
 the archive in memory; then it reads the file's tables by SQLite itself.
 
-The file is closed after half of the commands, and opened again for the others. The word is the program `tool_script`.
+The file is closed after half of the commands, and opened again for the others. Argument: the program `tool_script`.
 The last line is 'N passed, M failed'."""
-import contextlib
 import datetime
 import multiprocessing
 import os
-import re
-import sqlite3
-import subprocess
 import sys
 import tempfile
 
-import counting
-import random_cards
-import random_commands
-import slow_office
-from office_rows import ADDED, ANNA, BOTH, BREACH, DAY, DAY_OFF, DAY_OFF_LINE, EXAMINED, FREE_DAYS, FREE_LINE, HOLDER, HOURS_HEAD, LONG_NOTE
-from office_rows import NO_AUTHOR, NOON, NOTHING, OTHER_DAY, SATURDAY, SPANS, done, refused
+from inputs import random_cards, random_commands
+from lib import counting
+from lib.office_rows import (
+    ADDED, ANNA, BOTH, BREACH, DAY, DAY_OFF, DAY_OFF_LINE, EXAMINED, FREE_DAYS, FREE_LINE, LONG_NOTE, NO_AUTHOR, NOON, NOTHING,
+    OTHER_DAY, SATURDAY, SPANS, bert, done, hours, refused,
+)
+from lib.script import answers, of_commands, wanted_of
+from slow import slow_office
 
 SEEDS = 160
 PROCESSES = 2
+
 
 # Worked rows: commands, and what they print.
 
@@ -38,18 +37,6 @@ MORNING = f"{SPAN_HEAD}{REST},single\n{WORK},single\n"
 LONG_DRIVE = "2024-03-04 08:30,2024-03-04 18:00,drive,single\n"
 LONG_NIGHT = "2024-03-04 23:00,2024-03-05 08:00,rest,single\n"
 REFUSED_DAY = "S6 contradiction at 2024-03-04 08:00"
-
-
-def hours(*rows, head=HOURS_HEAD):
-    """The text of CSV with rows of hours."""
-    return head + "".join(f"{row}\n" for row in rows).encode()
-
-
-def bert(key, holder=HOLDER, base="2024-03-05"):
-    """The text of CSV with another driver."""
-    return f"driver,holder,key,base,name\n18,{holder},{key},{base},Bert\n".encode()
-
-
 FILE_SPANS = done("spans 17 2024-03", SPANS)
 FILE_MORNING = done("spans 17 2024-03", MORNING)
 NO_SPANS = done("spans 17 2024-03", SPAN_HEAD)
@@ -171,7 +158,7 @@ ROWS = {
         done("withdraw 17 2", "withdrawn 2\n"),
         FILE_SPANS,
     ],
-    "spans behind the horizon": [
+    "spans after the horizon": [
         done("enter 17", "entered 1 to 3\n", hours(REST, WORK, DRIVE)),
         done("breaches 17", BREACH + EXAMINED),
         done("enter 17", "entered 4 to 5\n", hours(EVENING, NEXT_DRIVE)),
@@ -193,13 +180,15 @@ ROWS = {
 
 # In an archive that has Anna and 3,000 entries of a day each, without a gap, from 3 January 2000 on: work and rest in turn.
 DAYS = [str(datetime.date(2000, 1, 3) + datetime.timedelta(days=place)) for place in range(3001)]
+
 FULL_DAYS = [(a, b, "rest" if place % 2 else "work") for place, (a, b) in enumerate(zip(DAYS, DAYS[1:]))]
 FULL_ROWS = [f"{a} 00:00,{b} 00:00,{activity}" for a, b, activity in FULL_DAYS]
 FULL_ENTRIES = [f'{n} {a} 00:00 {b} 00:00 {activity} kept "office" ""\n' for n, (a, b, activity) in enumerate(FULL_DAYS, 1)]
 LATE_BASE = "2008-02-11"  # a Monday, 39 days before the last entry ends
 LATE_ENTRIES = 60
 LAST_ENTRY = FREE_LINE.replace("1", "3001", 1)
-ROWS_BEHIND_ENTRIES = {
+
+ROWS_AFTER_ENTRIES = {
     "another day": ROWS["another day"],
     "two generations": ROWS["two generations"],
     "hours that give way to a file": [
@@ -213,121 +202,7 @@ ROWS_BEHIND_ENTRIES = {
 }
 
 
-def documented():
-    """The statements by which the tables of both schemas are made, as the document shows them, by the names of the tables."""
-    path = os.path.join(os.path.dirname(os.path.abspath(__file__)), "..", "docs", "TABLES.md")
-    with open(path, encoding="utf-8") as document:
-        found = re.findall(r"^    (CREATE TABLE (\w+) .*\n(?:      .*\n)*)", document.read(), re.MULTILINE)
-    return {name: " ".join(statement.split()) for statement, name in found}
-
-
-MADE = documented()
-# The tables of schema 2 as `init` makes them, and as `migrate` leaves them, each in its order.
-TABLES = ["meta", "drivers", "downloads", "card_spans", "entry_rows", "held"]
-CARRIED_TABLES = ["meta", "drivers", "downloads", "card_spans", "entries", "held", "entry_rows"]
-
-
-# What is told
-
-
-def line_for(folder, number, words, given):
-    """The line by which the program is given a command. Its input lies in a file of the folder."""
-    path = os.path.join(folder, f"input-{number}")
-    with open(path, "wb") as file:
-        file.write(given)
-    word, *others = words
-    return " ".join([word, "-", *others, "<", path]) + "\n"
-
-
-def given(folder, commands):
-    """The input with commands."""
-    return "".join(line_for(folder, number, *command) for number, command in enumerate(commands)).encode()
-
-
-def answers_of(run):
-    """What a run of the program told: of the opening, and of each command, what it printed and its status, and at the end what was
-    printed behind, and the run's own status."""
-    *answers, rest = re.split(rb"status ([0-9])\n", run.stdout)
-    return [*zip(answers[::2], map(int, answers[1::2])), (rest, run.returncode)]
-
-
-def answers(words, folder, commands):
-    """What the program tells of commands."""
-    return answers_of(subprocess.run(words, input=given(folder, commands), capture_output=True))
-
-
-def minutes_of(rows):
-    """The minutes of rows of spans, each with its driver and its mark, as often as rows have it; of a row that has none, -1."""
-    return sorted((driver, minute, mark) for driver, a, b, mark in rows for minute in range(a, b) or [-1])
-
-
-def read(store):
-    """The tables of a store, the statements that made them, and what SQLite says of all."""
-    made = store.execute("select name, sql from sqlite_schema where type = 'table' order by rowid").fetchall()
-    found = {name: sorted(store.execute(f"select * from {name}")) for name, _ in made}
-    for question in ["integrity_check", "foreign_key_check"]:
-        found[question] = store.execute(f"pragma {question}").fetchall()
-    return {**found, "statements": [statement for _, statement in made]}
-
-
-def rows_at(path):
-    """The tables of a file as SQLite reads them, or why it doesn't."""
-    with contextlib.closing(sqlite3.connect(path)) as store:
-        try:
-            return read(store)
-        except sqlite3.Error as fault:
-            return {"fault": [str(fault)]}
-
-
-def tables(path):
-    """The same, with minutes in the place of spans."""
-    found = rows_at(path)
-    return {**found, **{name: minutes_of(found.get(name, [])) for name in ["card_spans", "held"]}}
-
-
-def rows_of(found):
-    """The rows of tables in one list, those of each behind its name."""
-    return [row for name in sorted(found) for row in [name, *found[name]]]
-
-
-# What has to be told
-
-
-def wanted_of(office, commands):
-    """What has to be told of an opening, of commands, as the slow office answers them, and of the end."""
-    return [(b"", 0), *[office.answer(*command) for command in commands], (b"", 0)]
-
-
-def sound(names, rows):
-    """What SQLite has to find in a file that has these tables, in this order, with these rows."""
-    found = {name: sorted(rows[name]) for name in names}
-    return {**found, "statements": [MADE[name] for name in names], "integrity_check": [("ok",)], "foreign_key_check": []}
-
-
-def wanted_tables(archive, is_carried):
-    """What SQLite has to find in the file of an archive that `init` has made, or that was carried over from schema 1."""
-    return sound(CARRIED_TABLES if is_carried else TABLES, {"entries": [], **archive.tables()})
-
-
 # Comparisons
-
-
-def of_tables(name, path, archive, is_carried=False):
-    """The comparison of a file's tables with those that it has to have."""
-    return f"{name}: tables", rows_of(tables(path)), rows_of(wanted_tables(archive, is_carried))
-
-
-def of_commands(program, name, commands):
-    """The comparisons of commands, the first half and then the others, on a new file and in memory."""
-    half = len(commands) // 2
-    office = slow_office.Office()
-    first, second = wanted_of(office, commands[:half]), wanted_of(office, commands[half:])
-    with tempfile.TemporaryDirectory() as folder:
-        path = os.path.join(folder, "archive.db")
-        yield f"{name}, on a file", answers([program, "archive", path], folder, commands[:half]), first
-        yield f"{name}, on that file again", answers([program, "archive", path], folder, commands[half:]), second
-        yield of_tables(name, path, office.archive)
-        yield f"{name}, in memory", answers([program, "shelf"], folder, commands), first[:-1] + second[1:]
 
 
 def of_rows(program):
@@ -341,7 +216,7 @@ def of_rows(program):
 
 
 def told_of(program, name, rows):
-    """The comparisons of rows with what the program tells, of an archive in a file and in memory."""
+    """The comparisons of rows with what the program answers, at an archive in a file and in memory."""
     commands = [(row.words, row.given) for row in rows]
     wanted = [(b"", 0), *[(row.text, row.status) for row in rows], (b"", 0)]
     with tempfile.TemporaryDirectory() as folder:
@@ -351,12 +226,12 @@ def told_of(program, name, rows):
 
 
 def of_many_entries(program):
-    """The comparisons of an archive with 3,000 entries: it tells of the worked rows what one without them does, and of a base near
-    their end what the slow office tells of the last of them."""
+    """The comparisons of an archive with 3,000 entries: it answers the worked rows as one without them does, and a base near their end
+    as the slow office with the last of them."""
     entered = done("enter 17", "entered 1 to 3000\n", hours(*FULL_ROWS))
-    for name, rows in ROWS_BEHIND_ENTRIES.items():
+    for name, rows in ROWS_AFTER_ENTRIES.items():
         rows = [done("register", "registered 17\n", ANNA), entered, *rows]
-        yield from told_of(program, f"{name}, behind 3,000 entries", rows)
+        yield from told_of(program, f"{name}, after 3,000 entries", rows)
     anna, office = ANNA.replace(b"2024-03-04", LATE_BASE.encode()), slow_office.Office()
     office.answer(["register"], anna)
     office.answer(["enter", "17"], hours(*FULL_ROWS[-LATE_ENTRIES:]))
@@ -371,7 +246,7 @@ def of_seed(question):
     return list(of_commands(program, f"seed {seed}", random_commands.Commands(seed).all()))
 
 
-def comparisons(program):
+def comparisons(program: str) -> counting.Comparisons:
     yield from of_rows(program)
     yield from of_many_entries(program)
     with multiprocessing.Pool(PROCESSES) as pool:

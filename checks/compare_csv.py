@@ -3,7 +3,7 @@
 worked texts, the examples, and random texts, good ones, with faults, as spreadsheets write them, and with bytes that were
 changed. The slow reader's records are compared with those of Python's module `csv`, where the two have to agree.
 
-The words are the program `tool_rows` and, where memory is to be refused in turn, the compiler of C. The last line is
+Arguments: the program `tool_rows` and, where memory is to be refused in turn, the compiler of C. The last line is
 'N passed, M failed'."""
 import csv
 import io
@@ -11,29 +11,22 @@ import os
 import random
 import sys
 
-import counting
-import programs
-import random_commands
-import slow_csv
+from inputs.random_texts import ALPHABET, ANNA, COLUMNS, HEAD, HOLDER, REST, SIGNED, Texts
+from lib import counting, programs
+from lib.files import EXAMPLES, read
+from slow import slow_csv
 
-EXAMPLES = os.path.join(os.path.dirname(os.path.dirname(os.path.abspath(__file__))), "examples")
 SEEDS = 3000  # of each of the two
-REFUSED_SEEDS = 100  # one in so many is also run with its allocations refused
+REFUSED_SEEDS = 100  # one in 100 is also run with its allocations refused
 RECORD_SEEDS = 2000
-FIRST, LAST = random_commands.MINUTES[0], random_commands.MINUTES[-1]  # 2000-01-03 00:00 and 2099-12-31 23:59
-ALPHABET = b',"\r\n a1'
-
 QUESTIONS = {"entries": slow_csv.entries, "driver": slow_csv.driver}
+
 
 # Worked texts, and what has to be printed of them. 2024-03-04 00:00 is the minute 28,491,840.
 
-HEAD = "start,past,activity\n"
-REST = "2024-03-04 00:00,2024-03-04 12:00,rest\n"
 RESTED = '28491840 28492560 rest "office" ""\n'
 WORK = "2024-03-04 12:00,2024-03-04 12:01,work\n"
 WORKED = '28492560 28492561 work "office" ""\n'
-
-SIGNED = "start,past,activity,author,note\n"
 SIGNED_REST = REST[:-1] + ",Eva Lund,day off\n"
 SIGNED_RESTED = '28491840 28492560 rest "Eva Lund" "day off"\n'
 SIGNED_WORK = WORK[:-1] + ",b,\n"
@@ -138,7 +131,7 @@ ENTRIES = {
     SIGNED + SIGNED_REST.replace("day off", '"day\r\noff"'): NO_NOTE,
     SIGNED + SIGNED_REST.replace("day off", "day\0off"): NO_NOTE,
     SIGNED + SIGNED_REST.replace("day off", "day off\x7f"): NO_NOTE,
-    # which of two faults is told
+    # which of two faults is reported
     SIGNED + SIGNED_REST.replace("Eva Lund", "").replace("day off", 201 * "n"): NO_AUTHOR,
     SIGNED + "2024-01-01 00:00,2025-01-01 00:01,rest,,\n": "E7 too long in row 2\n",
     SIGNED + "2024-01-01 00:00,2025-01-01 00:00,rest,,\n": NO_AUTHOR,
@@ -163,9 +156,6 @@ BYTES = {
     (HEAD + REST[:-1]).encode() + b"\xff\n": "E6 no such activity in row 2\n",
 }
 
-COLUMNS = "driver,holder,key,base,name\n"
-HOLDER = "0d4431303030303030303037303031"
-ANNA = f"17,{HOLDER},anna-key-17,2024-03-04,Anna Berg\n"
 ANNAS = f"17 {HOLDER} anna-key-17 19786 Anna Berg\n"
 
 DRIVERS = {
@@ -213,151 +203,6 @@ WORKED_TEXTS["driver"] = {text.encode(): wanted for text, wanted in DRIVERS.item
 FILES = {"entries.csv": "entries", "entries-spreadsheet.csv": "entries", "entries-signed.csv": "entries", "driver.csv": "driver"}
 
 
-# Random texts
-
-WORDS = ["rest", "available", "work", "drive"]
-BAD_COLUMNS = [
-    ["", "0", "017", "1000000", "+17", "-17", " 17", "17 ", "4294967297", "x"],
-    ["", HOLDER[1:], HOLDER + "0", HOLDER.upper(), HOLDER[:-1] + "g"],
-    ["", 7 * "k", 65 * "k", "anna key 17", "anna_key_17", "ännannnn"],
-    ["", "Monday", "2024-02-30", "2000-01-02", "2100-01-01", "2024-3-4", "2024-03-04 00:00"],
-    ["", 65 * "n", 63 * "n" + "ö", "Berg, Anna", 'Anna "B"', "Anna\nBerg", "Anna\tBerg", "Anna\x7f", b"Anna \xff", b"\xc3"],
-]
-
-
-# What stands before random bytes: nothing, a head, a row with its end of line or without, one up to its author or his note, a driver
-# up to his name.
-BEGINNINGS = {
-    "entries": ["", HEAD[:-1], HEAD, HEAD + REST[:-1], HEAD + REST, SIGNED[:-1], SIGNED + REST[:-1] + ",", SIGNED + REST[:-1] + ",b,"],
-    "driver": ["", COLUMNS[:-1], COLUMNS, COLUMNS + ANNA[:-10], COLUMNS + ANNA[:-10], COLUMNS + ANNA],
-}
-
-
-class Texts:
-    """Random texts of a seed."""
-
-    def __init__(self, seed):
-        self.chance = random.Random(seed)
-
-    def is_now(self, part):
-        return self.chance.random() < part
-
-    def spans(self):
-        """Hours to be entered, some right behind those before. Some are so many that the reader takes them in pieces."""
-        chance = self.chance
-        count = chance.choice([0, 1, 2, 3, 5] * 10 + [500])
-        lengths = [1, 15, 480] if count == 500 else [1, 15, 480, 1440, 527_039, 527_040]
-        minute = chance.choice([FIRST, 28_491_840, 28_491_840, LAST - 5_000, chance.randrange(FIRST, LAST)])
-        spans = []
-        for _ in range(count):
-            start = min(LAST - 1, minute + chance.choice([0, 0, 1, 30, 600]))
-            past = min(LAST, start + chance.choice(lengths))
-            if start < past:
-                spans.append((start, past, chance.choice(WORDS)))
-                minute = past
-        return spans
-
-    def driver_row(self):
-        """The columns of a driver, near their limits too."""
-        chance = self.chance
-        return [
-            str(chance.choice([1, 17, 999_999])),
-            HOLDER,
-            chance.choice(["anna-key-17", 8 * "k", 64 * "K"]),
-            chance.choice(["2024-03-04", "2024-03-05", "2000-01-03", "2099-12-31"]),
-            chance.choice(["Anna Berg", "Åsa Öberg", "n", 64 * "n", 32 * "ö", "a'b;c"]),
-        ]
-
-    def spoil_entry(self, rows):
-        """Puts a fault into a row."""
-        random_commands.spoil_hours(self.chance, rows)
-
-    def spoil_driver(self, rows):
-        """Puts a fault into the driver's columns, or adds or removes a row."""
-        chance = self.chance
-        kind = chance.randrange(8)
-        if kind == 0:
-            rows.append(self.driver_row())
-        elif kind == 1:
-            rows.pop()
-        elif kind == 2:
-            rows[0].append("")
-        elif kind == 3:
-            rows[0].pop()
-        else:
-            place = chance.randrange(5)
-            rows[0][place : place + 1] = [chance.choice(BAD_COLUMNS[place])]
-
-    def spoil_head(self, head):
-        """Changes the head."""
-        place = self.chance.randrange(len(head))
-        head[place : place + 1] = self.chance.choice([[], [head[place].upper()], [head[place], b""], [b" " + head[place]]])
-
-    def field(self, field, style):
-        """A field as it is written: as it is where that can be, in quotes, or partly in quotes."""
-        field = field if isinstance(field, bytes) else field.encode()
-        if style == "odd":
-            style = self.chance.choice(["plain", "quoted", "partly"])
-        if style == "plain" and not any(byte in field for byte in b',"\r\n'):
-            return field
-        inside = field.replace(b'"', b'""')
-        if style == "partly" and b'"' not in field and not any(byte in field for byte in b",\r\n"):
-            place = self.chance.randrange(len(field) + 1)
-            return b'"' + field[:place] + b'"' + field[place:]
-        return b'"' + inside + b'"'
-
-    def written(self, rows):
-        """The rows as one of many programs would write them."""
-        chance = self.chance
-        style = chance.choice(["plain", "plain", "quoted", "odd"])
-        mixed = [b"\n", b"\r\n", b"\r", b"\n\n", b"\r\n\r\n", b"\n\r"]
-        ends = chance.choice([[b"\n"], [b"\n"], [b"\r\n"], [b"\r"], mixed])
-        text = chance.choice([b""] * 6 + [slow_csv.MARK] * 4 + [slow_csv.MARK * 2, b"\r\n"])
-        for row in rows:
-            text += b",".join(self.field(field, style) for field in row) + chance.choice(ends)
-        return text if self.is_now(0.7) else text.rstrip(b"\r\n")
-
-    def unclosed(self, text):
-        """The text with one quote less, or with one before its last field."""
-        if b'"' in text and self.is_now(0.5):
-            place = self.chance.choice([i for i, byte in enumerate(text) if byte == b'"'[0]])
-            return text[:place] + text[place + 1 :]
-        place = text.rfind(b",") + 1
-        return text[:place] + b'"' + text[place:]
-
-    def noisy(self, text):
-        """The text with some bytes added, changed or removed."""
-        chance = self.chance
-        for _ in range(chance.choice([1, 1, 2, 3])):
-            place = chance.randrange(len(text) + 1)
-            added = bytes(chance.choice(ALPHABET) for _ in range(chance.randrange(4)))
-            text = text[:place] + added + text[place + chance.randrange(2) :]
-        return text
-
-    def random_bytes(self, question):
-        """Bytes of a small alphabet, behind a beginning."""
-        before = self.chance.choice(BEGINNINGS[question]).encode()
-        return before + bytes(self.chance.choice(ALPHABET) for _ in range(self.chance.randrange(12)))
-
-    def text(self, question):
-        """A text: one in ten of random bytes alone, half of the others with a fault or more, some of them changed."""
-        if self.is_now(0.1):
-            return self.random_bytes(question)
-        if question == "entries":
-            (head, *rows), spoil = random_commands.rows_of(self.chance, self.spans()), self.spoil_entry
-        else:
-            head, rows, spoil = [*slow_csv.DRIVER_HEAD], [self.driver_row()], self.spoil_driver
-        for _ in range(self.chance.choice([0, 0, 0, 1, 1, 2])):
-            if rows and all(rows):
-                spoil(rows)
-        if self.is_now(0.05):
-            self.spoil_head(head)
-        text = self.written([head, *rows])
-        if self.is_now(0.1):
-            text = self.unclosed(text)
-        return self.noisy(text) if self.is_now(0.15) else text
-
-
 # Comparisons
 
 
@@ -372,12 +217,6 @@ def of_worked(program):
         for text, wanted in texts.items():
             yield f"the slow {question} of {text!r}", QUESTIONS[question](text), wanted
             yield of_text(program, question, "a worked text", text)
-
-
-def example(name):
-    """The bytes of an example."""
-    with open(os.path.join(EXAMPLES, name), "rb") as file:
-        return file.read()
 
 
 def span_of(line):
@@ -396,21 +235,24 @@ def of_examples(program):
     """The comparisons of the examples: each is read, two of the files of entries enter the same hours, and these don't
     contradict the spans of the example of a card, nor do those of the third contradict any of them."""
     for name, question in FILES.items():
-        text = example(name)
+        text = read(os.path.join(EXAMPLES, name))
         yield of_text(program, question, name, text)
         yield f"whether {name} is read", QUESTIONS[question](text)[:1].isdigit(), True
-    lines = slow_csv.entries_of(example("entries.csv"))
-    spans = [span_of(line) for line in example("driver-year.spans").decode().splitlines()]
-    yield "entries-spreadsheet.csv", slow_csv.entries_of(example("entries-spreadsheet.csv")), lines
+    lines = slow_csv.entries_of(read(os.path.join(EXAMPLES, "entries.csv")))
+    spans = [span_of(line) for line in read(os.path.join(EXAMPLES, "driver-year.spans")).decode().splitlines()]
+    yield "entries-spreadsheet.csv", slow_csv.entries_of(read(os.path.join(EXAMPLES, "entries-spreadsheet.csv"))), lines
     yield "what entries.csv contradicts", contradictions(lines, spans), []
-    signed = slow_csv.entries_of(example("entries-signed.csv"))
+    signed = slow_csv.entries_of(read(os.path.join(EXAMPLES, "entries-signed.csv")))
     yield "what entries-signed.csv contradicts", contradictions(signed, [*spans, *lines]), []
 
 
 def of_records(seed):
     """The comparisons of the slow reader's records, and of those of Python's module, with the records that were written."""
     chance = random.Random(seed)
-    field = lambda: "".join(chr(chance.choice(ALPHABET)) for _ in range(chance.choice([0, 1, 2, 3, 8])))
+
+    def field():
+        return "".join(chr(chance.choice(ALPHABET)) for _ in range(chance.choice([0, 1, 2, 3, 8])))
+
     records = [[field() for _ in range(chance.randrange(1, 5))] for _ in range(chance.randrange(5))]
     written = io.StringIO(newline="")
     # Where lines end in less than CR LF, the module's writer leaves some ends of lines in fields without quotes.
@@ -423,8 +265,8 @@ def of_records(seed):
 
 
 def wanted_without_memory(question, text, told):
-    """What has to be told where an allocation was refused: that there was no memory, for the words of the command line, for
-    the input or for the reading; or the right answer."""
+    """What is expected where an allocation was refused: that the reader of the arguments, that of the input or the reading is out of
+    memory; or the right answer."""
     return told if told in [("", 1), ("not read\n", 0), ("M1 no memory\n", 0)] else (QUESTIONS[question](text), 0)
 
 
@@ -438,7 +280,7 @@ def of_seed(program, question, seed, compiler):
             yield name, told, wanted_without_memory(question, text, told)
 
 
-def comparisons(program, compiler=None):
+def comparisons(program: str, compiler: str | None = None) -> counting.Comparisons:
     yield from of_worked(program)
     yield from of_examples(program)
     for seed in range(RECORD_SEEDS):

@@ -2,24 +2,18 @@
 """Runs `tacho dump` on every single-byte change of one value, and on it with every pair of pointers into its buffer, and compares it with
 the slow reader; of the pairs, which are read at all is a worked row.
 
-The word is the program. The last line is 'N passed, M failed'."""
+Argument: the program. The last line is 'N passed, M failed'."""
 import itertools
 import multiprocessing
 import struct
 import sys
 
-import counting
-import programs
-import slow_reader
+from lib import counting, programs
+from lib.office_rows import ACTIVITY_DATA
+from slow import slow_reader
 
 PROCESSES = 2
-VALUE = bytes.fromhex(
-    "00000014"
-    "0000001465e50f0000010064000011e019fe23fc"
-    "0014001065e6608000020000000011e0"
-)
-
-BUFFER = len(VALUE) - 4
+BUFFER = len(ACTIVITY_DATA) - 4
 
 # The pairs of pointers at which the value is read, and how many spans it gives there. Where both point at a record whose length is 0,
 # there is none.
@@ -45,9 +39,9 @@ def of_change(question):
     return name, programs.answer([program, "dump"], value), slow_reader.dump(value)
 
 
-def comparisons(program):
-    questions = [(program, name, value) for name, value in changes(VALUE)]
-    questions += [(program, pair, value) for pair, value in pointed(VALUE)]
+def comparisons(program: str) -> counting.Comparisons:
+    questions = [(program, name, value) for name, value in changes(ACTIVITY_DATA)]
+    questions += [(program, pair, value) for pair, value in pointed(ACTIVITY_DATA)]
     read = {}
     with multiprocessing.Pool(PROCESSES) as pool:
         for name, told, wanted in pool.imap(of_change, questions, chunksize=100):

@@ -2,14 +2,13 @@
 """Runs `tacho holder` and the card's spans on a small card file of both generations, on every cut of it, and on it with
 each byte changed to a few other values, and compares them with the slow reader.
 
-The words are the programs `tacho` and `tool_rows`. The last line is 'N passed, M failed'."""
+Arguments: the programs `tacho` and `tool_rows`. The last line is 'N passed, M failed'."""
 import multiprocessing
 import re
 import sys
 
-import counting
-import programs
-import slow_reader
+from lib import counting, programs
+from slow import slow_reader
 
 PROCESSES = 2
 IDENTIFICATION = "0520000011" "0d44313233343536373839303132333030"
@@ -72,7 +71,7 @@ def of_file(question):
     return found
 
 
-def comparisons(tacho, rows):
+def comparisons(tacho: str, rows: str) -> counting.Comparisons:
     with multiprocessing.Pool(PROCESSES) as pool:
         for found in pool.imap(of_file, [(tacho, rows, name, file) for name, file in files()], chunksize=20):
             yield from found

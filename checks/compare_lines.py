@@ -1,17 +1,16 @@
 #!/usr/bin/env python3
 """Gives a timeline random commands, and compares its answers with a map from minutes to marks.
 
-The words are the program `tool_rows` and, where memory is to be refused in turn, the compiler of C. The last line is
+Arguments: the program `tool_rows` and, where memory is to be refused in turn, the compiler of C. The last line is
 'N passed, M failed'."""
 import random
 import sys
 
-import counting
-import programs
-from slow_reader import runs
+from lib import counting, programs
+from slow.slow_reader import runs
 
 SEEDS = 400
-REFUSED_SEEDS = 40  # one in so many is also run with its allocations refused
+REFUSED_SEEDS = 40  # one in 40 is also run with its allocations refused
 LAST = 68_428_800
 
 
@@ -55,7 +54,10 @@ def commands(seed):
     """Spans that touch, overlap, are equal or empty, and ranges, near a minute that may be the first or the last."""
     chance = random.Random(seed)
     near = chance.choice([0, 0, 28_491_840, LAST - 60])
-    minute = lambda: min(LAST, near + chance.randrange(61))
+
+    def minute():
+        return min(LAST, near + chance.randrange(61))
+
     for _ in range(12):
         if chance.random() < 0.4:
             yield [minute(), minute()]
@@ -69,7 +71,7 @@ def commands(seed):
 
 
 def wanted(given, told=None):
-    """What has to be told; a command for which there was no memory, as `told` says, has no effect."""
+    """What is expected; a command that was out of memory, as `told` says, has no effect."""
     line, lines = Timeline(), []
 
     def is_told(text):
@@ -91,7 +93,7 @@ def wanted(given, told=None):
 
 
 def wanted_without_memory(given, told):
-    """What has to be told where an allocation was refused. There may have been no memory for the words or for the input."""
+    """What is expected where an allocation was refused. The reader of the arguments or of the input may have been out of memory."""
     return told if told in ([], ["not read"]) else wanted(given, told)
 
 
@@ -99,7 +101,7 @@ def lines_of(text):
     return [line.strip() for line in text.splitlines()]
 
 
-def comparisons(program, compiler=None):
+def comparisons(program: str, compiler: str | None = None) -> counting.Comparisons:
     for seed in range(SEEDS):
         given = list(commands(seed))
         text = "".join(" ".join(map(str, numbers)) + "\n" for numbers in given).encode()

@@ -1,10 +1,9 @@
 #!/usr/bin/env python3
 """Runs the program's commands on archives in files, each as a process of its own, and compares what it prints and its status
-with worked rows and with a slow office; and gives it bad words, bad files, bad devices, and files of which a bit has changed.
+with worked rows and with a slow office; and gives it bad arguments, bad files, bad devices, and files of which a bit has changed.
 
-Standard error has to be empty but where words name no command. The word is the program. The last line is 'N passed, M failed'."""
+Standard error has to be empty but where the arguments name no command. Argument: the program. The last line is 'N passed, M failed'."""
 import contextlib
-import multiprocessing
 import os
 import random
 import shutil
@@ -12,45 +11,25 @@ import sqlite3
 import subprocess
 import sys
 import tempfile
+from typing import Any
 
-import compare_archive
-import counting
-import office_lines
-import office_rows
-import random_cards
-import rule_examples
-import slow_archive
-import slow_office
-import slow_reader
-from random_commands import hours_csv
+from inputs import random_cards
+from inputs.random_commands import hours_csv
+from lib import counting, office_lines, office_rows, pools, programs, rules
+from lib.files import content, write
+from lib.office import (
+    CHANGES, COMMANDS, READINGS, STORE_FAILED, WITH_ANNA, WITH_DAY, Desk, make_text, name_of, of_refused_file, to_full, to_nobody,
+)
+from slow import slow_archive, slow_office, slow_reader
 
 SEEDS = 80
 PROCESSES = 2
 BITS = 40
 FREE_BYTES = range(72, 92)  # of a file of SQLite: no version of it reads them
-
-STORE_FAILED = (b"S12 store failed\n", 3, b"")
 DEVICE_FAILED = (b"X2 device failed\n", 3, b"")
-
-READINGS = [
-    "spans 17 2024-03",
-    "gaps 17 2024-03",
-    "sheet 17 2024-03",
-    "breaches 17",
-    "owed 17",
-    "entries 17",
-    "file 17 1",
-    "drivers",
-    "stretches 17",
-    "debts 17",
-    "overview 2024-03",
-    "incidents 2024-03",
-    "form 17",
-]
-COMMANDS = ["register", "import both", "enter 17", "withdraw 17 1", "base 17 2024-03-11", *READINGS]
 OPENING = ["migrate", *COMMANDS]
 
-# Words that name no command, with the archive's path where it belongs.
+# Arguments that name no command, with the archive's path where it belongs.
 NO_COMMANDS = [
     [],
     [""],
@@ -109,73 +88,6 @@ NO_COMMANDS = [
 ]
 
 
-# A program and a file
-
-
-def told_by(words, given=b"", **others):
-    """What a program prints for an input, its status, and what it prints on standard error."""
-    made = subprocess.run(words, input=given, capture_output=True, **others)
-    return made.stdout, made.returncode, made.stderr
-
-
-def content(path):
-    """The bytes of a file, or nothing where there is none."""
-    if not os.path.isfile(path):
-        return None
-    with open(path, "rb") as file:
-        return file.read()
-
-
-def write(path, given):
-    """Writes a file."""
-    with open(path, "wb") as file:
-        file.write(given)
-
-
-class Desk:
-    """The program at an archive in a folder, and the slow office beside it."""
-
-    def __init__(self, program, folder):
-        self.program = program
-        self.path = os.path.join(folder, "archive.db")
-        self.office = slow_office.Office()
-
-    def words(self, words):
-        """The words of a command line, from those without the program and the path."""
-        return [self.program, words[0], self.path, *words[1:]]
-
-    def run(self, words, given=b"", **others):
-        """What a command tells."""
-        return told_by(self.words(words), given, **others)
-
-    def both(self, words, given=b""):
-        """What a command tells, and what the slow office wants."""
-        text, status = self.office.answer(words, given)
-        return self.run(words, given), (text, status, b"")
-
-    def tables(self, name):
-        """The comparison of the file's tables with those that it has to have."""
-        return compare_archive.of_tables(name, self.path, self.office.archive)
-
-    def prepare(self, lines):
-        """Makes the archive and gives it some lines, words and input each, that have to be done."""
-        for words, given in [(["init"], b""), *lines]:
-            _, status, _ = self.run(words, given)
-            if status:
-                raise RuntimeError(f"{words} has the status {status}")
-            if words != ["init"]:
-                self.office.answer(words, given)
-
-
-WITH_ANNA = [(["register"], office_rows.ANNA)]
-WITH_DAY = [*WITH_ANNA, (["import", "both"], office_rows.DAY), (["enter", "17"], office_rows.FREE_DAYS)]
-
-
-def name_of(words):
-    """The words of a command line in one."""
-    return " ".join(map(str, words))
-
-
 # Worked rows
 
 
@@ -194,10 +106,10 @@ def of_rows(program, name):
 
 
 def example_lines(number, row):
-    """The lines that register a driver and enter what a worked example of the rules has for him."""
+    """The lines that register a driver and enter what a worked example of the rules has for them."""
     holder = office_rows.HOLDER[:-6] + f"{number:06}"
     driver = f"{office_rows.DRIVER_HEAD}{number},{holder},example-{number},2024-03-04,Example {number}\n"
-    spans = rule_examples.joined(row.busy, rule_examples.BASE, row.horizon)
+    spans = rules.joined(row.busy, rules.BASE, row.horizon)
     return driver.encode(), hours_csv(spans), len(spans)
 
 
@@ -206,7 +118,7 @@ def of_examples(program):
     with tempfile.TemporaryDirectory() as folder:
         desk = Desk(program, folder)
         desk.prepare([])
-        for number, row in enumerate(rule_examples.ROWS, 1):
+        for number, row in enumerate(rules.ROWS, 1):
             driver, hours, count = example_lines(number, row)
             entered = f"entered 1 to {count}\n" if count else "entered none\n"
             breaches = slow_office.breaches_text(row.horizon, "Unknown", row.breaches)
@@ -220,8 +132,8 @@ def of_examples(program):
 
 def of_month_ends(desk):
     """The comparisons of a breach at a month's first minute: it is in that month's sheet, and not in the one before."""
-    place = next(place for place, row in enumerate(rule_examples.ROWS) if row.name == "a debt is overdue")
-    row, number = rule_examples.ROWS[place], str(place + 1)
+    place = next(place for place, row in enumerate(rules.ROWS) if row.name == "a debt is overdue")
+    row, number = rules.ROWS[place], str(place + 1)
     line = slow_office.breaches_text(row.horizon, "Unknown", row.breaches).encode()
     horizon = slow_office.horizon_text(row.horizon, "Unknown").encode()
     for month, wanted in [("2024-03", horizon), ("2024-04", line)]:
@@ -230,37 +142,21 @@ def of_month_ends(desk):
         yield f"a breach at a month's end, {month}", (end, status, errors), (wanted, 0, b"")
 
 
-# Words
+# Arguments
 
 
-def of_words(program):
-    """The comparisons of words that name no command: nothing on standard output, and something on standard error."""
+def of_arguments(program):
+    """The comparisons of arguments that name no command: nothing on standard output, and something on standard error."""
     with tempfile.TemporaryDirectory() as folder:
         desk = Desk(program, folder)
         desk.prepare(WITH_DAY)
         for words in NO_COMMANDS:
-            text, status, errors = told_by([program, *[desk.path if word == "PATH" else word for word in words]])
-            yield f"words {words}", (text, status, bool(errors)), (b"", 2, True)
-        yield desk.tables("after words that name no command")
+            text, status, errors = programs.told_by([program, *[desk.path if word == "PATH" else word for word in words]])
+            yield f"arguments {words}", (text, status, bool(errors)), (b"", 2, True)
+        yield desk.tables("after arguments that name no command")
 
 
 # Files
-
-
-def lying_at(path):
-    """What lies in a path's folder, but for a log beside a file, and the file's bytes."""
-    names = os.listdir(os.path.dirname(path))
-    logs = [os.path.basename(path) + "-wal"] if os.path.isfile(path) else []
-    return sorted({*names} - {*logs}), content(path)
-
-
-def of_refused_file(desk, name, make, commands, wanted=STORE_FAILED):
-    """The comparisons of commands on a path where no archive can be opened: what lies there stays as it is."""
-    make(desk.path)
-    for words in commands:
-        before = lying_at(desk.path)
-        yield f"{name}: {words}", desk.run(words.split()), wanted
-        yield f"{name}: {words}: what lies there", lying_at(desk.path), before
 
 
 def make_database(path, rows):
@@ -280,7 +176,7 @@ def make_other(path):
 
 FILES = {
     "no file": (lambda path: None, OPENING),
-    "a text": (lambda path: write(path, b"driver,holder,key,base,name\n" * 400), ["init", *OPENING]),
+    "a text": (make_text, ["init", *OPENING]),
     "a folder": (os.mkdir, ["init", *OPENING]),
     "a later schema": (lambda path: make_database(path, [(1, 3)]), ["init", *OPENING]),
     "no version": (lambda path: make_database(path, []), ["init", *OPENING]),
@@ -306,7 +202,7 @@ def of_files(program):
 
 
 def of_rights(program):
-    """The comparisons of an archive that the user may not open, and of a folder in which he may make none."""
+    """The comparisons of an archive that the user may not open, and of a folder in which they may make none."""
     someone = {"user": "nobody", "group": "nogroup", "extra_groups": []} if os.geteuid() == 0 else {}
     with tempfile.TemporaryDirectory() as folder:
         os.chmod(folder, 0o755)
@@ -326,36 +222,7 @@ def of_rights(program):
 
 # Devices
 
-CHANGES = [
-    (["register"], office_rows.BERT),
-    (["import", "both"], office_rows.SATURDAY),
-    (["enter", "17"], office_rows.MORNING),
-    (["withdraw", "17", "1"], b""),
-    (["base", "17", "2024-03-11"], b""),
-]
 WITH_HOURS = [WITH_DAY[0], WITH_DAY[1], (["enter", "17"], office_rows.MORNING)]
-
-
-def run_to(desk, words, given, output):
-    """The status of a command whose standard output is a file that is open, and what it prints on standard error."""
-    made = subprocess.run(desk.words(words), input=given, stdout=output, stderr=subprocess.PIPE)
-    return made.returncode, made.stderr
-
-
-def to_full(desk, words, given):
-    """A run to a device that is full."""
-    with open("/dev/full", "wb") as output:
-        return run_to(desk, words, given, output)
-
-
-def to_nobody(desk, words, given):
-    """A run to a pipe that nobody reads."""
-    source, target = os.pipe()
-    os.close(source)
-    try:
-        return run_to(desk, words, given, target)
-    finally:
-        os.close(target)
 
 
 def of_outputs(program):
@@ -393,18 +260,18 @@ CARDS = 300
 
 
 def of_cards(program):
-    """The comparisons of card files without an archive: a file of each seed by a part, and words and files that are refused."""
+    """The comparisons of card files without an archive: a file of each seed by a part, and arguments and files that are refused."""
     for seed in range(CARDS):
         chance = random.Random(seed)
         part = chance.choice(slow_archive.PARTS)
         file = random_cards.Card(chance, random_cards.HOLDERS[0]).file()
         text, status = slow_reader.card(file, part)
-        yield f"card of seed {seed} by {part}", told_by([program, "card", part], file), (text.encode(), status, b"")
+        yield f"card of seed {seed} by {part}", programs.told_by([program, "card", part], file), (text.encode(), status, b"")
     for part, file, wanted in office_rows.CARDS:
-        yield f"card {part} of {len(file)} bytes", told_by([program, "card", part], file), (*wanted, b"")
+        yield f"card {part} of {len(file)} bytes", programs.told_by([program, "card", part], file), (*wanted, b"")
     for name, run, wanted in [("a full device", to_full, (3, b"")), ("a closed pipe", to_nobody, (3, b""))]:
         yield f"card to {name}", run(Words(program), ["card", "both"], office_rows.DAY), wanted
-    yield "card of a bad part waits for nobody", unasked([program, "card", "whole"]), (b"P1 bad part\n", 1)
+    yield "card of a bad part waits for nobody", programs.unasked([program, "card", "whole"]), (b"P1 bad part\n", 1)
 
 
 class Words:
@@ -417,28 +284,16 @@ class Words:
         return [self.program, *words]
 
 
-def unasked(words):
-    """What a program prints while its input is open and nobody writes it, and its status."""
-    source, target = os.pipe()
-    try:
-        made = subprocess.run(words, stdin=source, stdout=subprocess.PIPE, timeout=20)
-        return made.stdout, made.returncode
-    finally:
-        os.close(source)
-        os.close(target)
-
-
 # Bits
-
 
 DAY_HOURS = [(0, 30, "work"), (30, 270, "drive"), (270, 315, "rest"), (315, 555, "drive"), (555, 1440, "rest")]
 
 
 def many_hours(days):
-    """The text of CSV with the same hours on so many days, from 4 March 2024, 06:00."""
-    first = rule_examples.BASE + 360
+    """The text of CSV with the same hours on each of some days, from 4 March 2024, 06:00."""
+    first = rules.BASE + 360
     hours = [(first + 1440 * day + start, first + 1440 * day + past, what) for day in range(days) for start, past, what in DAY_HOURS]
-    return hours_csv([(rule_examples.BASE, first, "rest"), *hours])
+    return hours_csv([(rules.BASE, first, "rest"), *hours])
 
 
 def places(length):
@@ -485,22 +340,12 @@ def of_seed(program, seed):
 # All
 
 
-def of_question(question):
-    """The comparisons of a question: a function and what it is given."""
-    function, *words = question
-    return list(function(*words))
-
-
-def comparisons(program):
+def comparisons(program: str) -> counting.Comparisons:
     program = os.path.abspath(program)
-    questions = [(of_rows, program, name) for name in office_rows.ROWS]
-    questions += [(part, program) for part in [of_examples, of_words, of_files, of_rights, of_outputs, of_inputs, of_cards, of_bits]]
+    questions: list[tuple[Any, ...]] = [(of_rows, program, name) for name in office_rows.ROWS]
+    questions += [(part, program) for part in [of_examples, of_arguments, of_files, of_rights, of_outputs, of_inputs, of_cards, of_bits]]
     questions += [(of_seed, program, seed) for seed in range(SEEDS)]
-    with multiprocessing.Pool(PROCESSES) as pool:
-        for found in pool.imap(of_question, questions):
-            yield from found
-        pool.close()
-        pool.join()
+    yield from pools.of_questions(questions, PROCESSES)
 
 
 if __name__ == "__main__":

@@ -1,27 +1,26 @@
 #!/usr/bin/env python3
 """Compares the readings of stretches, of a month of all drivers and of the form for gaps with expected outputs and with the slow office.
 
-The folders of checks/readings have commands, their input files, and what the readings print after them, computed by a program that shares no
-code with this repository. Then come random archives of two drivers: weeks with gaps and crew at any place, often at a Monday's first minute
-or beside it; bases before, within and after what is held; and the last minutes of 2099. Each form is filled in and entered: then no gap is
-left. The words are the program and `tool_script`. The last line is 'N passed, M failed'."""
-import multiprocessing
+The folders of checks/readings have commands, their input files, and what the readings print after them, computed by a program that shares
+no code with this repository. Then come random archives of two drivers: weeks with gaps and crew at any place, often at a Monday's first
+minute or beside it; bases before, within and after what is held; and the last minutes of 2099. Each form is filled in and entered: then no
+gap is left. Arguments: the program and `tool_script`. The last line is 'N passed, M failed'."""
 import os
 import random
 import subprocess
 import sys
 import tempfile
+from typing import Any
 
-import compare_archive
-import counting
-import random_cards
-import slow_office
-import slow_reader
-from random_commands import KEYS, NAMES, date_text, driver_csv
+from inputs import random_cards
+from inputs.random_commands import KEYS, NAMES, date_text, driver_csv
+from lib import counting, files, pools
+from lib.script import of_commands
+from slow import slow_office, slow_reader
 
 SEEDS = 80
 PROCESSES = 2
-FOLDER = os.path.join(os.path.dirname(os.path.abspath(__file__)), "readings")
+FOLDER = os.path.join(files.CHECKS, "readings")
 DAY, WEEK = 1440, 10_080
 LAST_DAY = 47_481  # 2099-12-31
 NUMBERS = [900, 17]
@@ -35,19 +34,13 @@ NIGHTS = [480, 539, 540, 599, 660, 661, 1440, 2699, 2700]
 
 
 def steps_of(case):
-    """The commands of a folder: their words, their input, and what they answer."""
+    """The commands of a folder: their arguments, their input, and what they answer."""
     with open(os.path.join(FOLDER, case, "steps"), encoding="utf-8") as file:
         for line in file.read().splitlines():
             command, arrow, told = line.partition(" -> ")
             if arrow:
                 words, _, name = command.partition(" < ")
-                yield words.split(" "), content(os.path.join(FOLDER, case, name)) if name else b"", told
-
-
-def content(path):
-    """The bytes of a file."""
-    with open(path, "rb") as file:
-        return file.read()
+                yield words.split(" "), files.read(os.path.join(FOLDER, case, name)) if name else b"", told
 
 
 def of_case(program, case):
@@ -65,7 +58,7 @@ def of_case(program, case):
         expected = os.path.join(FOLDER, case, "expected")
         for name in sorted(os.listdir(expected)):
             words = name.split("-", 1)
-            yield f"{case}: {name}", told(words), (content(os.path.join(expected, name)), b"")
+            yield f"{case}: {name}", told(words), (files.read(os.path.join(expected, name)), b"")
 
 
 # Random archives
@@ -131,7 +124,8 @@ class Weeks:
 
     def base(self):
         """A base before what is held, at its first week, within it, or after it."""
-        return max(10_959, min(self.first + 7 * self.chance.choice([-1, 0, 0, 0, 0, 1, 2, self.count]), LAST_DAY - 2 - (LAST_DAY - 2 - 4) % 7))
+        later = 7 * self.chance.choice([-1, 0, 0, 0, 0, 1, 2, self.count])
+        return max(10_959, min(self.first + later, LAST_DAY - 2 - (LAST_DAY - 2 - 4) % 7))
 
     def months(self):
         """The months of its first and its last day, and the next."""
@@ -183,7 +177,7 @@ def commands_of(seed):
 
 def of_seed(program, seed):
     """The comparisons of a seed's commands, of an archive in a file and in memory."""
-    yield from compare_archive.of_commands(program, f"seed {seed}", commands_of(seed))
+    yield from of_commands(program, f"seed {seed}", commands_of(seed))
 
 
 def of_forms(seed):
@@ -204,21 +198,11 @@ def of_forms(seed):
 # All
 
 
-def of_question(question):
-    """The comparisons of a question: a function and what it is given."""
-    function, *given = question
-    return list(function(*given))
-
-
-def comparisons(program, script):
+def comparisons(program: str, script: str) -> counting.Comparisons:
     program, script = os.path.abspath(program), os.path.abspath(script)
-    questions = [(of_case, program, case) for case in sorted(os.listdir(FOLDER))]
+    questions: list[tuple[Any, ...]] = [(of_case, program, case) for case in sorted(os.listdir(FOLDER))]
     questions += [(of_seed, script, seed) for seed in range(SEEDS)] + [(of_forms, seed) for seed in range(SEEDS // 4)]
-    with multiprocessing.Pool(PROCESSES) as pool:
-        for found in pool.imap(of_question, questions):
-            yield from found
-        pool.close()
-        pool.join()
+    yield from pools.of_questions(questions, PROCESSES)
 
 
 if __name__ == "__main__":

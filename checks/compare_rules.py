@@ -8,17 +8,15 @@ Some of the lines are rows of weeks whose rests lie over their ends, asked of th
 a third have to be such that a rule which judges each two weeks by themselves finds other breaches B9 in them; how many
 there are is printed.
 
-The words are the program `tool_rows` and, where memory is to be refused in turn, the compiler of C. The last line is
+Arguments: the program `tool_rows` and, where memory is to be refused in turn, the compiler of C. The last line is
 'N passed, M failed'."""
 import multiprocessing
 import random
 import sys
 
-import counting
-import hard_timelines
-import programs
-import rule_examples
-import slow_rules
+from inputs import hard_timelines
+from lib import counting, programs, rules
+from slow import slow_rules
 
 NUMBERS = {"rest": 0, "available": 1, "work": 2, "drive": 3}
 PASSES = {"breaks": {1}, "days": {2, 3, 4, 5}, "weeks": {6, 7}, "rests": {8, 9, 10}}
@@ -32,51 +30,51 @@ REFUSED_LINES = 5
 INPUT_LIMIT = 262_144
 
 
-# The words of lines and timelines
+# Lines and timelines as the program reads them
 
 
 def given_line(spans):
-    """The words of the spans of a line."""
+    """The spans of a line."""
     return " ".join(f"{start} {past} {NUMBERS[activity]}" for start, past, activity in spans) + "\n"
 
 
 def given_held(spans, base):
-    """The words of a base and of the spans of a timeline."""
+    """A base, and the spans of a timeline."""
     marks = [f"{start} {past} {NUMBERS[activity] + 4 * crew}" for start, past, activity, crew in spans]
     return " ".join([str(base)] + marks) + "\n"
 
 
-# What has to be told
+# What is expected
 
 
 def breaches_told(name, breaches):
-    """What has to be told of breaches under a name."""
+    """The line expected of breaches, under a name."""
     return " ".join([name] + [f"B{kind} {moment} {since} {amount}" for kind, moment, since, amount in breaches])
 
 
 def debts_told(debts):
-    """What has to be told of debts."""
+    """The line expected of debts."""
     payers = [(week, amount, deadline, "-" if payer is None else payer) for week, amount, deadline, payer in debts]
     return " ".join(["debts"] + [f"{week} {amount} {deadline} {payer}" for week, amount, deadline, payer in payers])
 
 
 def passes_told(breaches, debts):
-    """What has to be told of a line: the breaches, a line each pass, and the debts."""
+    """What is expected of a line: the breaches, a line each pass, and the debts."""
     passes = [(name, [breach for breach in breaches if breach[0] in kinds]) for name, kinds in PASSES.items()]
     return [breaches_told(name, found) for name, found in passes] + [debts_told(debts)]
 
 
 def scan_told(breaches, debts):
-    """What a scan has to tell of a line: all breaches, and the debts."""
+    """What is expected of a scan of a line: all breaches, and the debts."""
     return [breaches_told("scan", breaches), debts_told(debts)]
 
 
 def report_told(horizon, cause, breaches, debts):
-    """What has to be told of a timeline: the horizon, the breaches and the debts."""
+    """What is expected of a timeline: the horizon, the breaches and the debts."""
     return [f"horizon {horizon} {cause}", breaches_told("breaches", breaches), debts_told(debts)]
 
 
-# Questions: the word that asks, the words given, and what has to be told, line by line
+# Questions: the argument that asks, the input, and what is expected, line by line
 
 
 def line_question(line, found):
@@ -169,9 +167,9 @@ def near_horizons(seed):
 
 def examples():
     """The questions of the worked examples: as a line, where that isn't empty, and as a timeline that ends in either way."""
-    base = rule_examples.BASE
-    for row in rule_examples.ROWS:
-        spans = rule_examples.joined(row.busy, base, row.horizon)
+    base = rules.BASE
+    for row in rules.ROWS:
+        spans = rules.joined(row.busy, base, row.horizon)
         if spans:
             yield "rules", given_line(spans), passes_told(row.breaches, row.debts)
             for seed in range(3):
@@ -185,22 +183,22 @@ def examples():
 
 def quiet_year():
     """The spans of 52 weeks of 2024 from Monday, 1 January, with an hour of work on each Monday to Friday: of these there
-    is no breach and no debt, so that a scan of them needs no memory."""
+    is no breach and no debt, so that a scan of them asks for no memory."""
     base = 28_401_120
     days = [base + 1440 * day for day in range(7 * 52) if day % 7 < 5]
-    return rule_examples.joined([(day + 360, day + 420, "work") for day in days], base, base + 7 * 52 * 1440)
+    return rules.joined([(day + 360, day + 420, "work") for day in days], base, base + 7 * 52 * 1440)
 
 
 def of_seeds(pool, question, count):
-    """The questions of so many seeds that there are."""
+    """The questions of the seeds up to a count, as far as there are any."""
     return [found for found in pool.map(question, range(count), chunksize=25) if found]
 
 
-# What is told
+# What the program answers
 
 
 def batches(questions):
-    """The questions in groups that the program takes at once, each of one word."""
+    """The questions in groups that the program takes at once, each by one argument."""
     batch, length = [], 0
     for question in questions:
         word, given, _ = question
@@ -214,7 +212,7 @@ def batches(questions):
 
 
 def answers(program, questions):
-    """What the program tells of each of the questions: as many lines as have to be told, and of the last that it takes at
+    """What the program answers to each of the questions: as many lines as are expected, and for the last that it takes at
     once all that are left, and its status where that isn't 0."""
     for batch in batches(questions):
         given = "".join(given for _, given, _ in batch).encode()
@@ -229,7 +227,7 @@ def answers(program, questions):
 
 
 def is_answer_without_memory(word, answer, expected):
-    """The input or its line wasn't read, or there was no memory for a report, or each pass is told or had no memory."""
+    """The input or its line wasn't read, or a report was out of memory, or each pass has answered or was out of memory."""
     if answer in ([], ["not read"]):
         return True
     if word == "reports":
@@ -237,7 +235,7 @@ def is_answer_without_memory(word, answer, expected):
     return len(answer) == len(expected) and all(line in (other, "Memory") for line, other in zip(answer, expected))
 
 
-def comparisons(program, compiler=None):
+def comparisons(program: str, compiler: str | None = None) -> counting.Comparisons:
     with multiprocessing.Pool(PROCESSES) as pool:
         lines = of_seeds(pool, near_limits, LINES)
         weekly_lines = of_seeds(pool, near_weekly_limits, WEEKLY_LINES)

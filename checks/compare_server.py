@@ -3,17 +3,13 @@
 for byte, with worked rows and with a slow server; and then the archive's tables, read by SQLite itself.
 
 The requests are worked rows, the examples of docs/FORMATS.md, each route by the client of Python's library, and random lists. A client
-keeps its own end open until the reply has come whole, and ends its half before only where the server has to wait for that. The word is the
+keeps its own end open until the reply has come whole, and ends its half before only where the server has to wait for that. Argument: the
 program; with '--slow' in its place the slow server is compared with the rows, and no program is started.
 The last line is 'N passed, M failed'."""
 import contextlib
-import functools
 import http.client
 import io
-import itertools
-import multiprocessing
 import os
-import random
 import re
 import shlex
 import socket
@@ -21,70 +17,32 @@ import struct
 import subprocess
 import sys
 import tempfile
-import time
 from collections import namedtuple
+from typing import Any
 
-import compare_archive
-import compare_office
-import counting
-import random_requests
-import slow_office
-import slow_server
-from office_rows import ANNA, BERT, BREACH, CARD, DAY, DAY_OFF, DAY_OFF_LINE, EXAMINED, FREE_DAYS, FREE_LINE, GAPS, HOLDER, HOURS_HEAD
-from office_rows import LARGEST_DAY, LARGEST_HOURS, LIMIT, LONG_NOTE, MARCH, NO_AUTHOR, SATURDAY, SIGNED_HEAD, SPANS
+from inputs import random_requests
+from lib import counting, pools, programs
+from lib.archive import of_tables
+from lib.files import DOCS
+from lib.office import WITH_ANNA, Desk
+from lib.office_rows import (
+    ANNA, BERT, BREACH, CARD, DAY, DAY_OFF, DAY_OFF_LINE, EXAMINED, FREE_DAYS, FREE_LINE, GAPS, HOLDER, HOURS_HEAD, LARGEST_DAY,
+    LARGEST_HOURS, LIMIT, LONG_NOTE, MARCH, NO_AUTHOR, SATURDAY, SIGNED_HEAD, SPANS,
+)
+from lib.server import (
+    ADDED, BAD, BAD_KEY, BAD_NUMBER, BREACHES, COUNTED, DRIVER, ENDED, FORBIDDEN, HOST, LARGE_HEAD, NO_DATE, NO_LENGTH, NO_PORT, NOT_FOUND,
+    OFFICE, OTHER_METHOD, OWN, REPEATED, STORED, TEXT, TOO_LARGE, Serving, asked_of, asking, free_port, line, of_asked, one_of, posting,
+    sent, server_after, told,
+)
+from slow import slow_server
 
 SEEDS = 80
 SLOW_SEEDS = 20
 PROCESSES = 2
-HOST = "127.0.0.1"
-FIRST_PORT, LAST_PORT = 12_000, 32_000  # below those that the system gives to clients
-BLOCK = 100  # ports that a process has for itself
-NUMBERS = itertools.count()
-SECONDS = 30
-OFFICE = "office-key-1"
-DRIVER = "anna-key-1"
-TEXT = "text/plain; charset=utf-8"
-STORED = "application/octet-stream"
 
 # Worked rows: what is asked, and the replies of which one is right.
 
 Row = namedtuple("Row", "name request replies")
-
-
-def told(status, length, body, kind=TEXT):
-    """A reply: its status and phrase, the length that its head tells, and its body."""
-    head = f"HTTP/1.1 {status}\r\ncontent-type: {kind}\r\ncontent-length: {length}\r\nconnection: close\r\n\r\n"
-    return head.encode() + (body if isinstance(body, bytes) else body.encode())
-
-
-def line(status, length, text):
-    """A reply of one line."""
-    return told(status, length, f"{text}\n")
-
-
-BAD = line("400 Bad Request", 12, "bad request")
-FORBIDDEN = line("403 Forbidden", 10, "forbidden")
-NOT_FOUND = line("404 Not Found", 10, "not found")
-OTHER_METHOD = line("405 Method Not Allowed", 19, "method not allowed")
-NO_LENGTH = line("411 Length Required", 16, "length required")
-TOO_LARGE = line("413 Payload Too Large", 10, "too large")
-LARGE_HEAD = line("431 Request Header Fields Too Large", 15, "head too large")
-BAD_NUMBER = line("400 Bad Request", 14, "N1 bad number")
-NO_DATE = line("400 Bad Request", 16, "Z2 no such date")
-BREACHES = told("200 OK", 100, BREACH + EXAMINED)
-ADDED = line("201 Created", 25, "added driver 17 number 1")
-REPEATED = line("200 OK", 19, "repeated driver 17")
-
-
-def asking(first, key, *fields, body=b""):
-    """The bytes of a request."""
-    keys = [] if key is None else [f"x-key: {key}"]
-    return "\r\n".join([f"{first} HTTP/1.1", *keys, *fields, "", ""]).encode() + body
-
-
-def posting(path, key, body, *fields):
-    """The bytes of a request with a body."""
-    return asking(f"POST {path}", key, f"content-length: {len(body)}", *fields, body=body)
 
 
 def row(first, key, reply, *fields, body=b""):
@@ -105,14 +63,12 @@ def raw(name, request, *replies):
 SAME_HOLDER = BERT.replace(HOLDER[:-1].encode() + b"4", HOLDER.encode())
 FERRY = FREE_DAYS.replace(b"rest", b"ferry")
 OTHER_HOLDER = bytes.fromhex(CARD.replace(HOLDER, HOLDER[:-2] + "34") + "0504000010" + "00" * 16)
-OWN = b"GET /me/breaches HTTP/1.1\r\nx-key: anna-key-1\r\n\r\n"
 FIRST = b"GET /me/breaches HTTP/1.1\r\nx-key: anna-key-1\r\n"
 WITH_DAY = posted("/cards/both", OFFICE, DAY, ADDED)
-COUNTED = "content-length: "
 
 
 def fields(count):
-    """The bytes of a head of so many fields, but for the empty line at its end."""
+    """The bytes of a head with a count of fields, but for the empty line at its end."""
     return FIRST + (count - 1) * b"a: b\r\n"
 
 
@@ -156,7 +112,7 @@ ROWS = {
     "heads": [
         WITH_DAY,
         raw("empty lines before it", b"\r\n\n\r\n" + OWN, BREACHES),
-        raw("another request behind it", OWN + OWN, BREACHES),
+        raw("another request after it", OWN + OWN, BREACHES),
         raw("lines that end in LF", OWN.replace(b"\r", b""), BREACHES),
         raw("an older version", OWN.replace(b"1.1", b"1.0"), BREACHES),
         raw("a later version", OWN.replace(b"1.1", b"1.2"), BAD),
@@ -190,7 +146,7 @@ ROWS = {
         raw("8,191 bytes of a value without an end", padded(8_191, b""), BAD),
         raw("a value that goes on", padded(60_000, b""), LARGE_HEAD),
         raw("a zero in the last byte", padded(8_192, b"\0"), BAD),
-        raw("a zero behind the last byte", padded(8_193, b"\0"), LARGE_HEAD),
+        raw("a zero after the last byte", padded(8_193, b"\0"), LARGE_HEAD),
         raw("8,192 bytes of empty lines", 4_096 * b"\r\n", LARGE_HEAD),
         raw("empty lines before a head", 4_000 * b"\r\n" + OWN, BREACHES),
         raw("more empty lines before a head", 4_073 * b"\r\n" + OWN, LARGE_HEAD),
@@ -333,6 +289,7 @@ ROWS = {
     ],
 }
 
+
 # Each route once, by the client of Python's library: method, path, key and body, and the status, the phrase and the body of the reply.
 
 OWN_PATHS = {
@@ -343,6 +300,7 @@ OWN_PATHS = {
     "owed": EXAMINED,
     "entries": FREE_LINE,
 }
+
 LIBRARY = [
     ("POST", "/drivers", OFFICE, ANNA, 201, "Created", "registered 17\n"),
     ("POST", "/cards/both", OFFICE, DAY, 201, "Created", "added driver 17 number 1\n"),
@@ -401,163 +359,19 @@ def wanted_by_library(path, status, phrase, text):
     return status, phrase, [("content-type", kind), ("content-length", str(len(body))), ("connection", "close")], body
 
 
-# The program
-
-
-@functools.cache
-def block_of(process):
-    """A socket at the first port of a block, which is this process's own as long as it runs: no other process that compares servers
-    takes a port of it, nor does the system for a client."""
-    for first in range(FIRST_PORT, LAST_PORT, BLOCK):
-        with contextlib.suppress(OSError):
-            return socket.create_server((HOST, first))
-    raise RuntimeError(f"process {process} finds no free block of ports")
-
-
-def free_port():
-    """A port on which nobody listens, the next of this process's block."""
-    first = block_of(os.getpid()).getsockname()[1]
-    for number in NUMBERS:
-        port = first + 1 + number % (BLOCK - 1)
-        with contextlib.suppress(OSError), socket.create_server((HOST, port)):
-            return port
-
-
-def sent(connection, pieces):
-    """Sends the pieces of a request. The program may have replied and hung up before it has read all."""
-    connection.setsockopt(socket.IPPROTO_TCP, socket.TCP_NODELAY, 1)
-    with contextlib.suppress(BrokenPipeError, ConnectionResetError):
-        for number, piece in enumerate(pieces):
-            time.sleep(0.001 if number else 0)
-            connection.sendall(piece)
-
-
-def received(connection):
-    """All bytes of a reply, up to the end of the connection. Where the program hasn't read all of the request, it ends as broken."""
-    found = b""
-    with contextlib.suppress(ConnectionResetError):
-        while piece := connection.recv(65_536):
-            found += piece
-    return found
-
-
-class Serving:
-    """The program as a server on an archive, for so many connections, with some more words in its environment."""
-
-    def __init__(self, program, path, key, count, environment=None):
-        self.port = free_port()
-        words = [program, "serve", path, key, str(self.port), str(count)]
-        pipes = {"stdin": subprocess.DEVNULL, "stdout": subprocess.PIPE, "stderr": subprocess.PIPE}
-        self.process = subprocess.Popen(words, env={**os.environ, **(environment or {})}, **pipes)
-        self.lost = None
-
-    def __enter__(self):
-        return self
-
-    def __exit__(self, *_):
-        self.process.kill()
-        self.process.communicate()
-
-    def connection(self):
-        """A new connection. The first has to wait until the program listens."""
-        last = time.monotonic() + SECONDS
-        while True:
-            try:
-                return socket.create_connection((HOST, self.port), SECONDS)
-            except ConnectionRefusedError:
-                if self.process.poll() is not None or time.monotonic() > last:
-                    raise
-                time.sleep(0.01)
-
-    def ask(self, pieces, waits):
-        """The reply to a request in pieces, or why there was none; then no other is asked for. Where the program waits for it, the
-        request is ended."""
-        if self.lost:
-            return self.lost
-        try:
-            with self.connection() as connection:
-                sent(connection, pieces)
-                if waits:
-                    with contextlib.suppress(OSError):
-                        connection.shutdown(socket.SHUT_WR)
-                return received(connection)
-        except OSError as fault:
-            self.lost = repr(fault)
-            return self.lost
-
-    def end(self):
-        """What the program has printed, and its status, after its last connection."""
-        if self.lost:
-            return self.lost
-        try:
-            text, errors = self.process.communicate(timeout=SECONDS)
-        except subprocess.TimeoutExpired as fault:
-            return repr(fault)
-        return text, self.process.returncode, errors
-
-
-ENDED = (b"", 0, b"")
-
-
 # Comparisons
-
-Asked = namedtuple("Asked", "name request replies waits")
-
-
-def server_after(commands, key=OFFICE):
-    """The slow server over an office that was given commands."""
-    office = slow_office.Office()
-    for command in commands:
-        office.answer(*command)
-    return slow_server.Server(office, key)
-
-
-def asked_of(server, named):
-    """Named requests, one after the other, with the replies of which one is right, and whether they wait for their end."""
-    asked = []
-    for name, request in named:
-        waits = server.waits(request)
-        asked.append(Asked(name, request, server.replies(request), waits))
-    return asked
-
-
-def one_of(name, given, replies):
-    """The comparison of a reply with those of which one is right."""
-    return name, given, given if given in replies else replies[0]
-
-
-def pieces_of(chance, request):
-    """A request in pieces: mostly in one, else cut at a few places."""
-    if chance.random() < 0.7:
-        return [request]
-    places = sorted(chance.randrange(len(request) + 1) for _ in range(chance.randrange(1, 4)))
-    return [request[start:past] for start, past in zip([0, *places], [*places, len(request)])]
-
-
-def of_asked(program, name, commands, asked, server):
-    """The comparisons of requests to the program, on an archive that was given commands, and of its tables after them with those of the
-    slow server, which has had the same requests."""
-    chance = random.Random(name)
-    with tempfile.TemporaryDirectory() as folder:
-        desk = compare_office.Desk(program, folder)
-        desk.prepare(commands)
-        with Serving(program, desk.path, server.office_key.decode(), len(asked)) as serving:
-            for one in asked:
-                yield one_of(f"{name}: {one.name}", serving.ask(pieces_of(chance, one.request), one.waits), one.replies)
-            yield f"{name}: the end", serving.end(), ENDED
-        yield compare_archive.of_tables(name, desk.path, server.office.archive)
 
 
 def of_rows(program, name):
     """The comparisons of worked rows, and of the slow server with what they say."""
     rows = ROWS[name]
-    server = server_after(compare_office.WITH_ANNA)
+    server = server_after(WITH_ANNA)
     asked = asked_of(server, [(row.name, row.request) for row in rows])
     for row, one in zip(rows, asked):
         yield f"{name}: {row.name}, by the slow server", one.replies, row.replies
     if program:
         right = [one._replace(replies=row.replies) for row, one in zip(rows, asked)]
-        yield from of_asked(program, name, compare_office.WITH_ANNA, right, server)
+        yield from of_asked(program, name, WITH_ANNA, right, server)
 
 
 def of_library(program):
@@ -568,19 +382,19 @@ def of_library(program):
         yield f"{method} {path} by the library, by the slow server", told, wanted_by_library(path, *wanted)
     if program:
         with tempfile.TemporaryDirectory() as folder:
-            desk = compare_office.Desk(program, folder)
+            desk = Desk(program, folder)
             desk.prepare([])
             with Serving(program, desk.path, OFFICE, len(LIBRARY)) as serving:
                 for method, path, key, body, *wanted in LIBRARY:
                     told = by_library(serving.connection, method, path, key, body)
                     yield f"{method} {path} by the library", told, wanted_by_library(path, *wanted)
                 yield "by the library: the end", serving.end(), ENDED
-            yield compare_archive.of_tables("by the library", desk.path, server.office.archive)
+            yield of_tables("by the library", desk.path, server.office.archive)
 
 
 # The examples of the document
 
-DOCUMENT = os.path.join(os.path.dirname(os.path.abspath(__file__)), "..", "docs", "FORMATS.md")
+DOCUMENT = os.path.join(DOCS, "FORMATS.md")
 EXAMPLE = re.compile(r"^    \$ (curl .*)\n((?:    (?!\$ ).*\n|\n(?=    (?!\$ )))*)", re.MULTILINE)
 FILES = {"@anna.csv": ANNA, "@anna.ddd": DAY, "@hours.csv": FREE_DAYS}
 BY_CURL = ["host: 127.0.0.1:8017", "user-agent: curl/8", "accept: */*"]
@@ -594,7 +408,7 @@ def examples():
 
 
 def request_by_curl(words):
-    """The bytes of the request that `curl` makes of some words, and whether it shows the head of the reply, or nothing of it."""
+    """The bytes of the request that `curl` makes of its arguments, and whether it shows the head of the reply, or nothing of it."""
     fields, method, body, shown, address = [*BY_CURL], None, None, "body", None
     words = iter(words)
     for word in words:
@@ -683,7 +497,7 @@ def route_of(server, request):
 
 def of_variety():
     """The comparisons of random requests by the slow server alone: the library understands each reply, a refusal or a reading changes
-    nothing, each status but 503 is told, and each route is served."""
+    nothing, each status but 503 comes, and each route is served."""
     statuses, routes = set(), set()
     for seed in range(SLOW_SEEDS):
         made = random_requests.Requests(seed)
@@ -701,7 +515,7 @@ def of_variety():
     yield "routes", sorted(routes), sorted((method, form) for form, by in slow_server.ROUTES.items() for method in by)
 
 
-# Clients that leave, pieces, and words
+# Clients that leave, pieces, and arguments
 
 
 def leave(serving, request, is_broken):
@@ -714,14 +528,14 @@ def leave(serving, request, is_broken):
 
 def of_leaving(program):
     """The comparisons of an archive whose clients leave before a reply has come: the next one is served. Whether a file of one who
-    left was taken can't be told, so that it is sent again."""
+    left was taken can't be seen, so that it is sent again."""
     file = posting("/cards/both", OFFICE, DAY)
     left = [b"", OWN[:20], OWN, asking("GET /drivers/17/sheet/2024-03", OFFICE), file[:-1], padded(60_000, b""), file]
     questions = [(request, is_broken) for request in left for is_broken in (False, True)]
-    server = server_after([*compare_office.WITH_ANNA, (["import", "both"], DAY)])
+    server = server_after([*WITH_ANNA, (["import", "both"], DAY)])
     with tempfile.TemporaryDirectory() as folder:
-        desk = compare_office.Desk(program, folder)
-        desk.prepare(compare_office.WITH_ANNA)
+        desk = Desk(program, folder)
+        desk.prepare(WITH_ANNA)
         with Serving(program, desk.path, OFFICE, 2 * len(questions) + 2) as serving:
             for number, (request, is_broken) in enumerate(questions):
                 leave(serving, request, is_broken)
@@ -730,15 +544,15 @@ def of_leaving(program):
             yield one_of("a file after clients have left", serving.ask([file], False), [ADDED, REPEATED])
             yield "after clients have left", serving.ask([OWN], False), BREACHES
             yield "after clients have left: the end", serving.end(), ENDED
-        yield compare_archive.of_tables("after clients have left", desk.path, server.office.archive)
+        yield of_tables("after clients have left", desk.path, server.office.archive)
 
 
 def of_pieces(program):
     """The comparisons of requests that come byte by byte."""
     rows = [WITH_DAY, raw("a driver's own breaches", OWN, BREACHES), raw("33 fields", fields(33) + b"\r\n", LARGE_HEAD)]
     with tempfile.TemporaryDirectory() as folder:
-        desk = compare_office.Desk(program, folder)
-        desk.prepare(compare_office.WITH_ANNA)
+        desk = Desk(program, folder)
+        desk.prepare(WITH_ANNA)
         with Serving(program, desk.path, OFFICE, len(rows)) as serving:
             for row in rows:
                 told = serving.ask([bytes([byte]) for byte in row.request], False)
@@ -746,12 +560,11 @@ def of_pieces(program):
             yield "byte by byte: the end", serving.end(), ENDED
 
 
-# Words of the command line, with PATH for an archive, PORT for a free port and TAKEN for one on which another listens: what is printed,
-# and the status. The key is looked at first, then the archive is opened, and then the port.
-BAD_KEY = (b"E9 bad value for key\n", 1)
+# Arguments of `serve`, with PATH for an archive, PORT for a free port and TAKEN for one on which another listens: what is printed, and the
+# status. The key is looked at first, then the archive is opened, and then the port.
 NO_STORE = (b"S12 store failed\n", 3)
-NO_PORT = (b"X2 device failed\n", 3)
 USAGE = (b"", 2)
+
 WORDS = [
     *[(["PATH", key, "PORT", "1"], BAD_KEY) for key in ["short-1", "under_score", 65 * "k", "", "office key 1", "office-key-\u00e4"]],
     (["NONE", "short-1", "TAKEN", "1"], BAD_KEY),
@@ -767,44 +580,34 @@ WORDS = [
 ]
 
 
-def of_words(program):
-    """The comparisons of words with which no server begins: all but a text of usage stands on standard output, and where that is full,
+def of_arguments(program):
+    """The comparisons of arguments with which no server begins: all but a text of usage stands on standard output, and where that is full,
     the status is 3."""
     with tempfile.TemporaryDirectory() as folder, socket.create_server((HOST, 0)) as other, open("/dev/full", "wb") as full:
-        desk = compare_office.Desk(program, folder)
-        desk.prepare(compare_office.WITH_ANNA)
+        desk = Desk(program, folder)
+        desk.prepare(WITH_ANNA)
         taken = str(other.getsockname()[1])
         for words, (text, status) in WORDS:
             named = {"PATH": desk.path, "NONE": f"{desk.path}.none", "PORT": str(free_port()), "TAKEN": taken}
             given = [program, "serve", *[named.get(word, word) for word in words]]
-            told, code, errors = compare_office.told_by(given)
+            told, code, errors = programs.told_by(given)
             yield f"serve {words}", (told, code, bool(errors)), (text, status, status == 2)
             code = subprocess.run(given, stdin=subprocess.DEVNULL, stdout=full, stderr=subprocess.DEVNULL).returncode
             yield f"serve {words}, to a full device", code, 2 if status == 2 else 3
-        yield desk.tables("after words with which no server begins")
+        yield desk.tables("after arguments with which no server begins")
 
 
 # All
 
 
-def of_question(question):
-    """The comparisons of a question: a function and what it is given."""
-    function, *words = question
-    return list(function(*words))
-
-
-def comparisons(program):
-    program = None if program == "--slow" else os.path.abspath(program)
-    questions = [(of_rows, program, name) for name in ROWS]
-    questions += [(of_library, program), (of_document, program), (of_variety,)]
-    if program:
-        questions += [(part, program) for part in [of_leaving, of_pieces, of_words]]
-        questions += [(of_seed, program, seed) for seed in range(SEEDS)]
-    with multiprocessing.Pool(PROCESSES) as pool:
-        for found in pool.imap(of_question, questions):
-            yield from found
-        pool.close()
-        pool.join()
+def comparisons(program: str) -> counting.Comparisons:
+    started = None if program == "--slow" else os.path.abspath(program)
+    questions: list[tuple[Any, ...]] = [(of_rows, started, name) for name in ROWS]
+    questions += [(of_library, started), (of_document, started), (of_variety,)]
+    if started:
+        questions += [(part, started) for part in [of_leaving, of_pieces, of_arguments]]
+        questions += [(of_seed, started, seed) for seed in range(SEEDS)]
+    yield from pools.of_questions(questions, PROCESSES)
 
 
 if __name__ == "__main__":

@@ -1,28 +1,26 @@
 #!/usr/bin/env python3
 """Runs commands on an archive in a file with their allocations refused in turn, and looks for an answer or a table that changes.
 
-Each command is given twice. One of the two may find no memory: it answers M1, or S12 where the store had none, or the status 2 alone,
+Each command is given twice. One of the two may be out of memory: it answers M1, or S12 where the store was, or the status 2 alone,
 where its line couldn't be read, and has no effect, so that the other gives the undisturbed answer, and SQLite finds what the slow
 office's archive holds. Some allocations are refused while a file is opened or made: then nothing is done, and the next run opens it.
-Of those of the reader of a command's words, which knows no archive, some are refused too. The words are the program `tool_script`
+Of those of the reader of a command's arguments, which knows no archive, some are refused too. Arguments: the program `tool_script`
 and the compiler of C. The last line is 'N passed, M failed'."""
 import bisect
-import multiprocessing
 import os
 import sys
 import tempfile
+from typing import Any
 
-import compare_archive
-import counting
-import programs
-import slow_office
-from compare_archive import bert, hours
-from office_rows import ANNA, DAY, NO_AUTHOR, NOON, OTHER_DAY, SIGNED_HEAD
+from lib import counting, pools, programs, script
+from lib.archive import of_tables
+from lib.office_rows import ANNA, DAY, NO_AUTHOR, NOON, OTHER_DAY, SIGNED_HEAD, bert, hours
+from slow import slow_office
 
 PROCESSES = 2
 MOST = 100_000  # more allocations than any run asks for
-STEP = 43  # one in so many of the allocations of an opening, or of a reading of words, is refused
-MARGIN = 20  # allocations at the end of a reading of words that are all refused
+STEP = 43  # one in 43 of the allocations of an opening, or of a reading of arguments, is refused
+MARGIN = 20  # allocations at the end of a reading of arguments that are all refused
 GIVEN_UP = [(b"M1 no memory\n", 3), (b"S12 store failed\n", 3), (b"", 2)]
 ENDED = [(b"", 1)]
 NOT_OPENED = [[(b"", 3), (b"", 0)], ENDED]
@@ -36,7 +34,7 @@ CONTRADICT = (["enter", "17"], hours("2024-03-04 17:00,2024-03-04 17:40,drive", 
 WITH_DAY = [REGISTER, (["import", "both"], DAY)]
 WITH_HOURS = [*WITH_DAY, ENTER]
 GAP = (["enter", "17"], hours("2024-03-11 00:00,2024-03-11 07:00,rest", "2024-03-11 07:00,2024-03-11 12:00,drive"))
-REFUSED = (["entries", "0"], b"")  # a command that is refused when its words are read
+REFUSED = (["entries", "0"], b"")  # a command that is refused when its arguments are read
 
 # What an archive has before, and the command.
 CASES = {
@@ -79,8 +77,8 @@ class Store:
             self.bytes = file.read()
 
     def answers(self, commands):
-        """What the program tells of commands."""
-        return compare_archive.answers(self.words, self.folder, commands)
+        """What the program answers to commands."""
+        return script.answers(self.words, self.folder, commands)
 
     def restore(self):
         """Makes the file what it was, without a log."""
@@ -97,12 +95,12 @@ class Store:
     def office(self):
         """The slow office after the commands."""
         office = slow_office.Office()
-        compare_archive.wanted_of(office, self.commands)
+        script.wanted_of(office, self.commands)
         return office
 
     def allocations(self, refuser, commands):
         """How many allocations the program asks for where it is given commands."""
-        given = compare_archive.given(self.folder, commands)
+        given = script.given(self.folder, commands)
 
         def is_more(number):
             self.restore()
@@ -112,7 +110,7 @@ class Store:
 
 
 def wanted_without_memory(office, commands, told):
-    """What has to be told where one command at the most found no memory, or the program ended for want of it."""
+    """What is expected where one command at the most was out of memory, or the program has ended since it was."""
     wanted, is_refused = [(b"", 0)], False
     for place, command in enumerate(commands, 1):
         if not is_refused and told[place] in GIVEN_UP:
@@ -126,7 +124,8 @@ def wanted_without_memory(office, commands, told):
 
 
 def numbers_of(store, refuser, command):
-    """The allocations that are refused of a command that is given twice: each time some of the reading of its words, and all behind."""
+    """The allocations that are refused of a command that is given twice: each time some of the reading of its arguments, and all after
+    that."""
     opening = store.allocations(refuser, [])
     reading = store.allocations(refuser, [REFUSED]) - opening - MARGIN
     first = store.allocations(refuser, [command])
@@ -140,12 +139,12 @@ def of_command(program, compiler, case):
     with tempfile.TemporaryDirectory() as folder:
         store = Store(program, folder, before)
         numbers = numbers_of(store, programs.built(compiler, folder), command)
-        given = compare_archive.given(folder, [command] * 2)
+        given = script.given(folder, [command] * 2)
         store.restore()
         for number, run in programs.runs_without_memory(compiler, store.words, given, numbers):
-            name, told, office = f"{case}, allocation {number} refused", compare_archive.answers_of(run), store.office()
+            name, told, office = f"{case}, allocation {number} refused", script.answers_of(run), store.office()
             yield name, told, wanted_without_memory(office, [command] * 2, told)
-            yield compare_archive.of_tables(name, store.path, office.archive)
+            yield of_tables(name, store.path, office.archive)
             store.restore()
 
 
@@ -157,29 +156,19 @@ def of_opening(program, compiler, case, is_new):
         put_back = store.remove if is_new else store.restore
         put_back()
         for number, run in programs.runs_without_memory(compiler, store.words, b"", range(1, MOST, STEP)):
-            name, told, office = f"{case}, allocation {number} refused", compare_archive.answers_of(run), store.office()
+            name, told, office = f"{case}, allocation {number} refused", script.answers_of(run), store.office()
             yield name, told, told if told in NOT_OPENED else [(b"", 0), (b"", 0)]
             answer = (b"registered 17\n", 0) if is_new else (b"S1 driver taken\n", 1)
             yield name, store.answers([REGISTER]), [(b"", 0), answer, (b"", 0)]
-            yield compare_archive.of_tables(name, store.path, office.archive)
+            yield of_tables(name, store.path, office.archive)
             put_back()
 
 
-def of_question(question):
-    """The comparisons of a question: a function and what it is given."""
-    function, *words = question
-    return list(function(*words))
-
-
-def comparisons(program, compiler):
-    questions = [(of_command, program, compiler, case) for case in CASES]
+def comparisons(program: str, compiler: str) -> counting.Comparisons:
+    questions: list[tuple[Any, ...]] = [(of_command, program, compiler, case) for case in CASES]
     questions.append((of_opening, program, compiler, "a new file", True))
     questions.append((of_opening, program, compiler, "an archive", False))
-    with multiprocessing.Pool(PROCESSES) as pool:
-        for found in pool.imap(of_question, questions):
-            yield from found
-        pool.close()
-        pool.join()
+    yield from pools.of_questions(questions, PROCESSES)
 
 
 if __name__ == "__main__":

@@ -1,21 +1,19 @@
 #!/usr/bin/env python3
 """Runs the program with each of its allocations refused in turn, and looks for an answer that changes.
 
-The words are the program and the compiler of C. A run whose allocation is refused has to print M1's line alone, with
-status 3, or the undisturbed answer whole; where the reader of the command line has no memory, that counts as words that
+Arguments: the program and the compiler of C. A run whose allocation is refused has to print M1's line alone, with
+status 3, or the undisturbed answer whole; where the reader of the command line is out of memory, that counts as arguments that
 name no job, with status 2 and nothing on standard output. The last line is 'N passed, M failed'."""
 import sys
 
-import compare_dump
-import counting
-import programs
-from office_rows import BOTH, DAY
+from lib import counting, programs
+from lib.office_rows import ACTIVITY_DATA, BOTH, DAY
 
 NO_MEMORY = ("M1 no memory\n", 3)
 NO_JOB = ("", 2)
 RUNS = [
-    (["dump"], compare_dump.VALUE),
-    (["dump"], b"\0\0\0\2" + compare_dump.VALUE[4:]),
+    (["dump"], ACTIVITY_DATA),
+    (["dump"], b"\0\0\0\2" + ACTIVITY_DATA[4:]),
     (["dump"], b""),
     (["holder"], DAY),
     (["card", "both"], DAY),
@@ -27,7 +25,7 @@ RUNS = [
 ]
 
 
-def comparisons(program, compiler):
+def comparisons(program: str, compiler: str) -> counting.Comparisons:
     for words, given in RUNS:
         undisturbed = programs.answer([program, *words], given)
         for number, told in programs.answers_without_memory(compiler, [program, *words], given):

@@ -2,45 +2,28 @@
 """Runs the program's commands on an archive in a file with each of their allocations refused in turn, and on a disk that stops at
 each of their calls in turn or fails that call alone, and looks for an answer or a table that changes.
 
-A run whose allocation is refused answers as without, or says that there was no memory (M1), that the store had none (S12), or
-nothing, where the reader of the command line had none. In the last three the archive is as before: the same command, given
-again, answers as the first would have. Of the allocations of an opening some are refused. A run whose disk stops answers as without, and
-has then acted, or says that the store failed (S12), and has then acted or hasn't: SQLite itself tells which, in a copy, and the same
-command, given again on a disk that works, answers so. The words are the program and the compiler of C. The last line is 'N passed, M
-failed'."""
-import contextlib
+A run whose allocation is refused answers as without, or says that it is out of memory (M1), that the store is (S12), or nothing, where
+the reader of the command line is. In the last three the archive is as before: the same command, given again, answers as the first would
+have. Of the allocations of an opening some are refused. A run whose disk stops answers as without, and has then acted, or says that the
+store failed (S12), and has then acted or hasn't: SQLite itself tells which, in a copy, and the same command, given again on a disk that
+works, answers so. Arguments: the program and the compiler of C. The last line is 'N passed, M failed'."""
 import itertools
-import multiprocessing
-import os
-import sqlite3
 import sys
 import tempfile
+from typing import Any
 
-import compare_office
-import counting
-import migrating_archive
-import old_archive
-import programs
-from office_rows import DAY, HOLDER, NOON, OTHER_DAY
+from lib import counting, pools, programs
+from lib.failing import (
+    ANNA, CONTRADICT, ENTER, GIVEN_UP, NO_FILE, OF_SCHEMA_1, SIGNED, STORE_FAILED, WITH_DAY, WITH_HOURS, Office,
+)
+from lib.office_rows import HOLDER, NOON, OTHER_DAY
 
 PROCESSES = 2
-STEP = 43  # one in so many of the allocations of an opening is refused
-STORE_FAILED = ("S12 store failed\n", 3)
-GIVEN_UP = [("M1 no memory\n", 3), STORE_FAILED, ("", 2)]
-
-ANNA = (["register"], f"driver,holder,key,base,name\n17,{HOLDER},anna-key-1,2024-03-04,Anna Berg\n".encode())
+STEP = 43  # one in 43 of the allocations of an opening is refused
 BERT = (["register"], f"driver,holder,key,base,name\n18,{HOLDER},bert-key-1,2024-03-04,Bert Holm\n".encode())
 OTHER = (["register"], f"driver,holder,key,base,name\n9,{HOLDER[:-1]}9,carl-key-1,2024-03-04,Carl Ek\n".encode())
-ENTER = (["enter", "17"], b"start,past,activity\n2024-03-04 07:00,2024-03-04 08:00,rest\n2024-03-04 16:30,2024-03-04 18:00,drive\n")
-SIGNED_ROWS = b"2024-03-04 07:00,2024-03-04 08:00,rest,Eva Lund,\n2024-03-04 16:30,2024-03-04 18:00,drive,Zo\xc3\xab,by the printout\n"
-SIGNED = (["enter", "17"], b"start,past,activity,author,note\n" + SIGNED_ROWS)
-CONTRADICT = (["enter", "17"], b"start,past,activity\n2024-03-04 17:00,2024-03-04 18:00,rest\n2024-03-04 16:00,2024-03-04 17:30,work\n")
-WITH_DAY = [ANNA, (["import", "both"], DAY)]
-WITH_HOURS = [*WITH_DAY, ENTER]
 GAP = (["enter", "17"], b"start,past,activity\n2024-03-11 00:00,2024-03-11 07:00,rest\n2024-03-11 07:00,2024-03-11 12:00,drive\n")
 WITH_GAP = [*WITH_HOURS, GAP]
-OF_SCHEMA_1 = None
-NO_FILE = ()
 
 # What an archive was given before, and the command.
 CASES = {
@@ -74,53 +57,9 @@ CASES = {
 
 # Those of a disk that stops, and for how many calls it does so; and the making of an archive.
 NEW = {"a new archive": (NO_FILE, (["init"], b""))}
+
 STOPPED = [*NEW, "a first driver", "a first download", "signed hours", "a withdrawal", "another base", "a migration", "an old archive"]
 STOPS = {"the disk stopped at": None, "the disk failed": 1}
-
-
-class Office:
-    """An archive in a folder, to which some commands were given, or one of schema 1."""
-
-    def __init__(self, program, folder, commands):
-        self.program = program
-        self.path = os.path.join(folder, "archive.db")
-        self.make(commands)
-        self.bytes = compare_office.content(self.path)
-
-    def make(self, commands):
-        """Makes the file."""
-        if commands is OF_SCHEMA_1:
-            old_archive.make(self.path, old_archive.example_rows())
-        elif commands is not NO_FILE:
-            for command in [(["init"], b""), *commands]:
-                self.answer(command)
-
-    def words(self, command):
-        """The command line of a command."""
-        name, *others = command[0]
-        return [self.program, name, self.path, *others]
-
-    def answer(self, command):
-        """What the program answers."""
-        return programs.answer(self.words(command), command[1])
-
-    def restore(self):
-        """Makes the file what it was, without a log."""
-        for name in [self.path, self.path + "-wal"]:
-            with contextlib.suppress(FileNotFoundError):
-                os.remove(name)
-        if self.bytes is not None:
-            compare_office.write(self.path, self.bytes)
-
-    def tables(self, path=None):
-        """All that SQLite finds in the archive, or in another one. A file whose making has only begun is none."""
-        path = path or self.path
-        with contextlib.closing(sqlite3.connect(":memory:" if migrating_archive.is_begun(path) else path)) as connection:
-            return list(connection.iterdump())
-
-    def left(self, folder):
-        """The same in a copy of its file and its log, so that both stay as they are."""
-        return self.tables(migrating_archive.copied(self.path, folder))
 
 
 def undisturbed(office, command):
@@ -183,20 +122,10 @@ def of_allocations(program, compiler, case):
             yield f"{name}, and again", (office.answer(command), office.tables()), wanted[0 if gave_up else 1]
 
 
-def of_question(question):
-    """The comparisons of a question: a function and what it is given."""
-    function, *words = question
-    return list(function(*words))
-
-
-def comparisons(program, compiler):
-    questions = [(of_allocations, program, compiler, case) for case in CASES]
+def comparisons(program: str, compiler: str) -> counting.Comparisons:
+    questions: list[tuple[Any, ...]] = [(of_allocations, program, compiler, case) for case in CASES]
     questions += [(of_stops, program, compiler, case, kind) for case in STOPPED for kind in STOPS]
-    with multiprocessing.Pool(PROCESSES) as pool:
-        for found in pool.imap(of_question, questions):
-            yield from found
-        pool.close()
-        pool.join()
+    yield from pools.of_questions(questions, PROCESSES)
 
 
 if __name__ == "__main__":

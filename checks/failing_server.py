@@ -3,9 +3,9 @@
 or a table that changes.
 
 A server whose allocation is refused replies as without, or that it's unavailable (503); or it has ended before it took its port, where
-the command line or the opening had no memory. In the last two the archive is as before, and in the first as after the request. A request
-without a head or without one key is replied to as without. Of the allocations of an opening some are refused. The words are the program
-and the compiler of C. The last line is 'N passed, M failed'."""
+the command line or the opening was out of memory. In the last two the archive is as before, and in the first as after the request. A
+request without a head or without one key is replied to as without. Of the allocations of an opening some are refused. Arguments: the
+program and the compiler of C. The last line is 'N passed, M failed'."""
 import itertools
 import multiprocessing
 import socket
@@ -13,25 +13,20 @@ import sys
 import tempfile
 from collections import namedtuple
 
-import compare_server
-import counting
-import failing_office
-import programs
-from compare_server import DRIVER, HOST, OFFICE, asking, posting
-from failing_office import ANNA, CONTRADICT, SIGNED, WITH_DAY, WITH_HOURS
-from office_rows import DAY, OTHER_DAY
+from lib import counting, failing, programs
+from lib.failing import ANNA, CONTRADICT, SIGNED, WITH_DAY, WITH_HOURS
+from lib.office_rows import DAY, OTHER_DAY
+from lib.server import DRIVER, HOST, OFFICE, SECONDS, UNAVAILABLE, Serving, asking, posting
 
 PROCESSES = 4  # each waits for its program most of the time
-STEP = 97  # one in so many of the allocations of an opening is refused
-UNAVAILABLE = compare_server.line("503 Service Unavailable", 12, "unavailable")
-
+STEP = 97  # one in 97 of the allocations of an opening is refused
 Case = namedtuple("Case", "before request")
 
 CASES = {
     "a first driver": Case([], posting("/drivers", OFFICE, ANNA[1])),
     "a first download": Case([ANNA], posting("/cards/both", OFFICE, DAY)),
     "a repeated download": Case(WITH_DAY, posting("/cards/both", OFFICE, DAY)),
-    "a download of his own": Case([ANNA], posting("/me/cards/both", DRIVER, DAY)),
+    "a download by the driver": Case([ANNA], posting("/me/cards/both", DRIVER, DAY)),
     "a contradiction": Case(WITH_DAY, posting("/cards/both", OFFICE, OTHER_DAY)),
     "signed hours": Case(WITH_DAY, posting("/drivers/17/entries", OFFICE, SIGNED[1])),
     "hours in another order": Case(WITH_DAY, posting("/drivers/17/entries", OFFICE, CONTRADICT[1])),
@@ -56,16 +51,15 @@ CERTAIN = {
     "two keys": Case(WITH_HOURS, asking("GET /me/breaches", DRIVER, f"x-key: {OFFICE}")),
 }
 
-
-# What the program says of a command line, an opening, a port or a connection that had no memory: it has replied nothing.
-GIVEN_UP = [*failing_office.GIVEN_UP, ("X2 device failed\n", 3)]
+# What the program says where the command line, the opening, the port or the connection was out of memory: it has replied nothing.
+GIVEN_UP = [*failing.GIVEN_UP, ("X2 device failed\n", 3)]
 
 
 class Server:
     """The program as a server of one connection, on an archive to which some commands were given."""
 
     def __init__(self, program, compiler, folder, commands):
-        self.office = failing_office.Office(program, folder, commands)
+        self.office = failing.Office(program, folder, commands)
         self.compiler = compiler
         self.refuser = programs.built(compiler, folder)
 
@@ -73,20 +67,20 @@ class Server:
         """The reply to a request, with an allocation refused, and what the program printed, and its status; and whether the allocation was
         asked for."""
         refused = {"LD_PRELOAD": self.refuser, "REFUSED_ALLOCATION": str(number)} if number else {}
-        with compare_server.Serving(self.office.program, self.office.path, OFFICE, 1, refused) as serving:
+        with Serving(self.office.program, self.office.path, OFFICE, 1, refused) as serving:
             reply = serving.ask([request], waits=True)
-            text, errors = serving.process.communicate(timeout=compare_server.SECONDS)
+            text, errors = serving.process.communicate(timeout=SECONDS)
         reply = b"" if serving.lost else reply
         return (reply, text.decode(), serving.process.returncode), b"refused\n" in errors
 
     def opening(self):
-        """How many allocations the opening takes: where the port is taken, the program ends behind it."""
+        """How many allocations the opening takes: where the port is taken, the program ends after it."""
         with socket.create_server((HOST, 0)) as other:
             port = str(other.getsockname()[1])
             return programs.allocations(self.compiler, [self.office.program, "serve", self.office.path, OFFICE, port, "1"], b"")
 
     def runs(self, request):
-        """What is told, and the tables after it, with some allocations of the opening refused in turn and all after it."""
+        """What comes, and the tables after it, with some allocations of the opening refused in turn and all after it."""
         opening = self.opening() - 20
         for number in itertools.chain(range(1, opening, STEP), itertools.count(max(1, opening))):
             self.office.restore()
@@ -121,7 +115,7 @@ def comparisons_of(program, compiler, name):
         yield f"{name}: whether some were unavailable", unavailable > 0, name not in CERTAIN
 
 
-def comparisons(program, compiler):
+def comparisons(program: str, compiler: str) -> counting.Comparisons:
     with multiprocessing.Pool(PROCESSES) as pool:
         for found in pool.imap(of_case, [(program, compiler, name) for name in [*CASES, *CERTAIN]]):
             yield from found

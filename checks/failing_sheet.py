@@ -1,19 +1,17 @@
 #!/usr/bin/env python3
 """Runs each test of the readers of CSV, of the texts, of the scan and of the stretches with each of its allocations refused in turn, and
-looks for an answer in place of want of memory. Of tests that ask for no memory it looks that they ask for none.
+looks for an answer in place of being out of memory. Of tests that ask for no memory it looks that they ask for none.
 
-The words are the program of the worked cases and the compiler of C. A test whose allocation is refused has to end by want of memory,
+Arguments: the program of the worked cases and the compiler of C. A test whose allocation is refused has to end out of memory,
 which is `Memory` of a reader and `AllocError` of a text.
 
 The tests that hold spans in a line may pass instead. What is collected there into a list, as the spans of a slice, asks for
-the room of all that may come, and where that is refused asks at once for the room of one more: only a refusal of both is
-want of memory. So where such a test passes, it is run once more with the next allocation refused as well, and then has to
-end by want of memory. The last line is 'N passed, M failed'."""
+the room of all that may come, and where that is refused asks at once for the room of one more: only where both are refused
+is it out of memory. So where such a test passes, it is run once more with the next allocation refused as well, and then has to
+end out of memory. The last line is 'N passed, M failed'."""
 import sys
 
-import counting
-import failing_tables
-import programs
+from lib import counting, programs, tests
 
 FAULTS = ["error: Memory", "error: AllocError"]
 MODULES = ["sheets", "reports", "readings", "scans", "stretches"]
@@ -41,7 +39,7 @@ COLLECTING = [
 
 
 def end_of(run):
-    return failing_tables.told(run, FAULTS)
+    return tests.end_of(run, FAULTS)
 
 
 def run_without_two(program, test, number, compiler):
@@ -50,8 +48,8 @@ def run_without_two(program, test, number, compiler):
     return list(runs)[0][1]
 
 
-def comparisons(program, compiler):
-    for test in failing_tables.tests(program, MODULES):
+def comparisons(program: str, compiler: str) -> counting.Comparisons:
+    for test in tests.names_of(program, MODULES):
         if test in WITHOUT_MEMORY:
             yield f"memory that {test} asks for", programs.allocations(compiler, [program, test], b""), 0
             continue
@@ -59,7 +57,7 @@ def comparisons(program, compiler):
             name, end = f"{test}, allocation {number} refused", end_of(run)
             if end == "passed" and test in COLLECTING:
                 name, end = f"{name}, and the next", end_of(run_without_two(program, test, number, compiler))
-            yield name, end, end if end in FAULTS else "want of memory"
+            yield name, end, end if end in FAULTS else "out of memory"
 
 
 if __name__ == "__main__":

@@ -2,10 +2,10 @@
 """Gives the program mutated card files, texts of CSV, command lines and requests, and compares what it answers, and the tables that it
 leaves, with the slow reader, the slow office and the slow server.
 
-The first word is the program. With no other one the inputs of some seeds are tried, and of each kind all answers have to come that stand
-below. With '--seconds N' those from a seed on are tried until the time is over ('--first SEED', '--processes P'), and before the last line
-stand the seeds, and of each kind how many inputs were tried, and how often each answer was wanted. With '--kind KIND --seed SEED' those of
-one seed are tried. A failure tells kind, seed and input. The last line is 'N passed, M failed'."""
+The first argument is the program. With no other one the inputs of some seeds are tried, and of each kind all answers have to come that
+stand below. With '--seconds N' those from a seed on are tried until the time is over ('--first SEED', '--processes P'), and before the
+last line stand the seeds, and of each kind how many inputs were tried, and how often each answer was expected. With '--kind KIND --seed
+SEED' those of one seed are tried. A failure names kind, seed and input. The last line is 'N passed, M failed'."""
 import argparse
 import collections
 import itertools
@@ -17,23 +17,20 @@ import sys
 import tempfile
 import time
 
-import compare_office
-import compare_server
-import counting
-import mutated_inputs
-import slow_archive
-import slow_office
-import slow_reader
-from compare_office import STORE_FAILED
-from mutated_inputs import NO_TEXT, PATH
-from office_rows import ANNA, CARD, DAY
+from inputs import mutated_inputs
+from inputs.mutated_inputs import NO_TEXT, PATH
+from lib import counting, programs
+from lib.office import STORE_FAILED, Desk
+from lib.office_rows import ANNA, CARD, DAY
+from lib.server import asked_of, of_asked, server_after
+from slow import slow_archive, slow_office, slow_reader
 
 SEEDS = 45
 STEP = 4  # seeds of a round
 HANGING = 60  # seconds
 SHOWN = 3_000
 
-# Inputs that are tried first in each run: the kind, the bytes, and why. Those of a command line are its words, an end of line, and then
+# Inputs that are tried first in each run: the kind, the bytes, and why. Those of a command line are its arguments, an end of line, and then
 # what it reads. Texts of CSV are given to `register` and to `enter`, command lines and requests to an archive with a driver and a file.
 CARDS, CSV, LINES, REQUESTS = "card files", "csv", "command lines", "requests"
 KEPT = [
@@ -43,7 +40,7 @@ KEPT = [
     (LINES, b"sheet PATH 17 -- 2024-03", "two hyphens among the values"),
     (LINES, b"breaches PATH -- --", "two hyphens as a value"),
     (LINES, b"breaches PATH -", "a hyphen as a value"),
-    (LINES, b"breaches PATH 17 --", "two hyphens behind the values"),
+    (LINES, b"breaches PATH 17 --", "two hyphens after the values"),
     (LINES, b"drivers help", "a path that is a command's name"),
     (REQUESTS, b"\n\r\nGET /drivers/17/breaches HTTP/1.0\nX-KEY:office-key-1\n\r\n\0GET", "ends of lines of both forms"),
 ]
@@ -68,14 +65,14 @@ def shown(number, *given):
 def told_by(words, given, folder=None):
     """What the program prints for an input, its status, and whether it prints something on standard error; or that it hangs."""
     try:
-        text, status, errors = compare_office.told_by(words, given, cwd=folder, timeout=HANGING)
+        text, status, errors = programs.told_by(words, given, cwd=folder, timeout=HANGING)
         return text, status, bool(errors)
     except subprocess.TimeoutExpired as fault:
         return repr(fault)
 
 
 def answer_of(text, status, *_):
-    """What an answer says in a word: the code of a fault, or what the status says."""
+    """What an answer says, in short: the code of a fault, or what the status says."""
     return text.split(b" ")[0].decode() if status in (1, 3) else ["done", "", "usage"][status]
 
 
@@ -83,7 +80,7 @@ def answer_of(text, status, *_):
 
 
 def of_files(program, name, files):
-    """The comparisons of card files, and of activity data: what `holder`, `card` and `dump` tell."""
+    """The comparisons of card files, and of activity data: what `holder`, `card` and `dump` print."""
     for number, (file, part, value) in enumerate(files, 1):
         told = [told_by([program, "holder"], file), told_by([program, "card", part], file), told_by([program, "dump"], value)]
         wanted = [slow_reader.holder(file), slow_reader.card(file, part), slow_reader.dump(value)]
@@ -100,7 +97,7 @@ USAGE = b"", 2
 
 
 def values_of(words):
-    """The words that are values, or nothing where one of them is an option. Behind two hyphens each of them is a value."""
+    """The arguments that are values, or None where one of them is an option. After two hyphens each of them is a value."""
     front = [*itertools.takewhile(lambda word: word != "--", words)]
     if any(word.startswith("-") and word != "-" for word in front):
         return None
@@ -116,7 +113,7 @@ def without_archive(name, given, part=None):
 
 
 def answer_to(office, words, given):
-    """What a command line prints, whose words are those behind the program's name, and its status."""
+    """What a command line prints that has these arguments, and its status."""
     name, *others = words or [""]
     values = values_of(others)
     if any(NO_TEXT in word for word in words) or values is None or len(values) != COUNTS.get(name):
@@ -129,7 +126,7 @@ def answer_to(office, words, given):
 def of_lines(program, name, office, lines):
     """The comparisons of command lines at an archive, and of the tables that they leave."""
     with tempfile.TemporaryDirectory() as folder:
-        desk = compare_office.Desk(program, folder)
+        desk = Desk(program, folder)
         desk.office = office
         desk.run(["init"])
         for number, (words, given) in enumerate(lines, 1):
@@ -151,8 +148,8 @@ def answers_of_reply(reply):
 
 def of_requests(program, name, server, commands, requests):
     """The comparisons of requests to an archive that was given commands, and of the tables that they leave."""
-    asked = compare_server.asked_of(server, ((shown(number, one), one) for number, one in enumerate(requests, 1)))
-    found = compare_server.of_asked(program, name, commands, asked, server)
+    asked = asked_of(server, ((shown(number, one), one) for number, one in enumerate(requests, 1)))
+    found = of_asked(program, name, commands, asked, server)
     for comparison, one in itertools.zip_longest(found, asked):
         yield Tried(*comparison, answers_of_reply(one.replies[0]) if one else [])
 
@@ -167,9 +164,9 @@ def of_seed(program, kind, seed):
         return of_files(program, name, mutated_inputs.Files(seed).files())
     if kind == REQUESTS:
         maker = mutated_inputs.Requests(seed)
-        return of_requests(program, name, maker.server, [], maker.requests())
+        return of_requests(program, name, maker.server, [], maker.requests_in_turn())
     maker = {CSV: mutated_inputs.Texts, LINES: mutated_inputs.Lines}[kind](seed)
-    return of_lines(program, name, maker.office, maker.lines())
+    return of_lines(program, name, maker.office, maker.lines_in_turn())
 
 
 def of_kept(program, kind, number):
@@ -180,7 +177,7 @@ def of_kept(program, kind, number):
         return of_files(program, name, [(given, part, given) for part in slow_archive.PARTS])
     if kind == REQUESTS:
         commands = [(["register"], ANNA), (["import", "both"], DAY)]
-        return of_requests(program, name, compare_server.server_after(commands), commands, [given])
+        return of_requests(program, name, server_after(commands), commands, [given])
     words, _, rest = given.partition(b"\n")
     others = [(["register", PATH], given), (["enter", PATH, "17"], given)] if kind == CSV else [(words.decode().split(" "), rest)]
     lines = [(["register", PATH], ANNA), (["import", PATH, "both"], DAY), *others]
@@ -215,7 +212,7 @@ def rounds(program, asked):
     print(f"seeds: {asked.first} to {first - 1}")
 
 
-def comparisons(program, asked):
+def comparisons(program: str, asked: argparse.Namespace) -> counting.Comparisons:
     program = os.path.abspath(program)
     counts, answers = collections.Counter(), {kind: collections.Counter() for kind in ANSWERS}
     with multiprocessing.Pool(asked.processes) as pool:
@@ -236,8 +233,8 @@ def comparisons(program, asked):
             yield f"{kind}: answers that didn't come", [answer for answer in wanted.split() if answer not in answers[kind]], []
 
 
-def words():
-    """The words of the command line."""
+def arguments() -> argparse.Namespace:
+    """The arguments of the command line."""
     reader = argparse.ArgumentParser()
     reader.add_argument("program")
     reader.add_argument("--first", type=int, default=SEEDS)
@@ -249,5 +246,5 @@ def words():
 
 
 if __name__ == "__main__":
-    ASKED = words()
+    ASKED = arguments()
     sys.exit(counting.count(comparisons(ASKED.program, ASKED)))

@@ -3,14 +3,12 @@
 while it serves requests that change it. Then it looks at what is left.
 
 SQLite itself has to find, in a copy of the file and its log, the tables as they were before the command that was ended, or as they are
-behind it, and behind it where it has answered; and of requests those of all that were answered, and perhaps of the next one. Then the
-program has to tell what a slow office tells of that state, and the same once more is answered as there. Half of the ends come at any
-time and half behind a change of the files, and some of them while the program opens what another end has left. The word is the program;
-behind it may stand how many lists of commands and of requests there are, as `--rounds N`, and the seed of the first, as `--first SEED`.
+after it, and after it where it has answered; and of requests those of all that were answered, and perhaps of the next one. Then the
+program has to answer as a slow office does in that state, and the same once more is answered as there. Half of the ends come at any
+time and half after a change of the files, and some of them while the program opens what another end has left. Argument: the program;
+after it may stand how many lists of commands and of requests there are, as `--rounds N`, and the seed of the first, as `--first SEED`.
 The last line is 'N passed, M failed'."""
 import argparse
-import copy
-import functools
 import multiprocessing
 import os
 import random
@@ -21,19 +19,14 @@ import sys
 import tempfile
 import threading
 import time
+from typing import Any
 
-import compare_archive
-import compare_office
-import compare_server
-import counting
-import migrating_archive
-import office_lines
-import random_commands
-import random_requests
-import slow_office
-import slow_reader
-import slow_server
-from compare_office import STORE_FAILED, name_of
+from inputs import random_commands, random_requests
+from lib import counting, files, killing, office_lines
+from lib.archive import rows_of, rows_of_office, tables
+from lib.office import CREATED, STORE_FAILED, Desk, copy_of, name_of
+from lib.server import ENDED, Serving, received, sent
+from slow import slow_office, slow_reader, slow_server
 
 ROUNDS = 6
 PROCESSES = 2
@@ -44,32 +37,12 @@ OTHERS_LEFT = 0.2  # of a list: of the readings, and of the commands that change
 CHANGED = re.compile(rb"registered|added|entered [0-9]|withdrawn|base ")
 CHANGING = ["init", "register", "import", "enter", "withdraw", "base"]
 HOURS = 60  # of a long batch, at the most
-LATER = 0.002  # seconds at the most behind a change of the files
+LATER = 0.002  # seconds at the most after a change of the files
 KILLED = -signal.SIGKILL
-CREATED = (b"created\n", 0, b"")
 NO_DRIVERS = (b"", 0, b"")
 
 
-def copy_of(office):
-    """A copy of a slow office: what is done at the one doesn't change the other."""
-    made = slow_office.Office()
-    for number, driver in office.archive.drivers.items():
-        other = copy.copy(driver)
-        other.downloads = [*driver.downloads]
-        other.entries = [copy.copy(entry) for entry in driver.entries]
-        made.archive.drivers[number] = other
-    return made
-
-
-@functools.lru_cache(maxsize=8)
-def rows_of(office):
-    """What SQLite has to find in the file of an archive that stands for a slow office, which isn't changed behind that, or for none."""
-    if office is None:
-        return compare_archive.rows_of({**compare_archive.sound([], {}), "card_spans": [], "held": []})
-    return compare_archive.rows_of(compare_archive.wanted_tables(office.archive, False))
-
-
-class Desk(compare_office.Desk):
+class KilledDesk(Desk):
     """The program at an archive in a folder, which ends it, and the slow office beside it, in the state that the last end has left."""
 
     def __init__(self, program, folder, chance):
@@ -83,22 +56,22 @@ class Desk(compare_office.Desk):
     # Ends
 
     def started(self, path, words, given):
-        """The program, which runs with words at a file. What it prints goes to a file, also that to standard error."""
-        compare_office.write(os.path.join(self.aside, "input"), given)
+        """The program, which runs with arguments at a file. What it prints goes to a file, also that to standard error."""
+        files.write(os.path.join(self.aside, "input"), given)
         with open(os.path.join(self.aside, "input"), "rb") as source, open(os.path.join(self.aside, "output"), "wb") as target:
             line = [self.program, words[0], path, *words[1:]]
             return subprocess.Popen(line, stdin=source, stdout=target, stderr=subprocess.STDOUT)
 
     def measured(self, words, given):
         """How long a command takes that nobody ends, in seconds, and how often it changes its files: at a copy of them."""
-        path, start = migrating_archive.copied(self.path, self.aside), time.monotonic()
+        path, start = files.copied(self.path, self.aside), time.monotonic()
         with self.started(path, words, given) as running:
-            count = migrating_archive.watch(running, path, sys.maxsize)
+            count = killing.watch(running, path, sys.maxsize)
         return time.monotonic() - start, count
 
     def wait(self, running, seconds, count):
         """Waits for a random moment of a running program, at times a little longer than up to a change of its files."""
-        migrating_archive.wait(running, self.path, self.chance, seconds, count)
+        killing.wait(running, self.path, self.chance, seconds, count)
         time.sleep(self.chance.choice([0, self.chance.uniform(0, LATER)]))
 
     def ended(self, words, given):
@@ -106,14 +79,14 @@ class Desk(compare_office.Desk):
         seconds, count = self.measured(words, given)
         with self.started(self.path, words, given) as running:
             self.wait(running, seconds, count)
-            migrating_archive.end(running)
-        return compare_office.content(os.path.join(self.aside, "output")), running.returncode
+            killing.end(running)
+        return files.content(os.path.join(self.aside, "output")), running.returncode
 
     def served(self, path, requests, key, watching):
-        """The replies to requests by the program as a server, as far as they come, and how it ends; and what is told by a function that
+        """The replies to requests by the program as a server, as far as they come, and how it ends; and what is answered by a function that
         watches it meanwhile, and hears when the first connection begins."""
         told, begun = [], threading.Event()
-        with compare_server.Serving(self.program, path, key, len(requests)) as serving:
+        with Serving(self.program, path, key, len(requests)) as serving:
             watcher = threading.Thread(target=lambda: told.append(watching(serving.process, begun)))
             watcher.start()
             replies = replies_of(serving, requests, begun)
@@ -124,12 +97,12 @@ class Desk(compare_office.Desk):
 
     def ended_serving(self, requests, key):
         """The replies by a server that is ended at a random moment, mostly once its first connection has begun, and how it ends."""
-        copied = migrating_archive.copied(self.path, self.aside)
+        copied = files.copied(self.path, self.aside)
 
         def measure(process, begun):
             wait_for(begun, process)
             start = time.monotonic()
-            return migrating_archive.watch(process, copied, sys.maxsize), time.monotonic() - start
+            return killing.watch(process, copied, sys.maxsize), time.monotonic() - start
 
         *_, (count, seconds) = self.served(copied, requests, key, measure)
 
@@ -146,15 +119,15 @@ class Desk(compare_office.Desk):
 
     def found(self):
         """What SQLite finds in a copy of the file and its log. A file whose making has only begun is none, as it is to the program."""
-        copied = migrating_archive.copied(self.path, self.aside)
-        if migrating_archive.is_begun(copied):
-            return rows_of(None)
-        return compare_archive.rows_of(compare_archive.tables(copied))
+        copied = files.copied(self.path, self.aside)
+        if files.is_begun(copied):
+            return rows_of_office(None)
+        return rows_of(tables(copied))
 
     def left(self, name, word, before, after, is_answered, is_killed):
-        """The comparison of what an end has left of a command with the tables before it, where it hasn't answered, and with those behind
+        """The comparison of what an end has left of a command with the tables before it, where it hasn't answered, and with those after
         it. The slow office is in that state then; if it is neither, the list ends."""
-        found, was, now = self.found(), rows_of(before), rows_of(after)
+        found, was, now = self.found(), rows_of_office(before), rows_of_office(after)
         is_before = found == was and not is_answered
         self.office = before if is_before else after
         self.is_known = self.is_known and (is_before or found == now)
@@ -187,7 +160,7 @@ class Desk(compare_office.Desk):
         yield f"{name}, and then drivers", self.run(["drivers"]), NO_DRIVERS if self.office else STORE_FAILED
         yield f"{name} once more", self.run(["init"]), STORE_FAILED if self.office else CREATED
         self.office = slow_office.Office()
-        yield f"{name} once more: tables", self.found(), rows_of(self.office)
+        yield f"{name} once more: tables", self.found(), rows_of_office(self.office)
 
     def of_command(self, name, words, given):
         """The comparisons of a command that is ended once or a few times, and then given once more."""
@@ -200,7 +173,7 @@ class Desk(compare_office.Desk):
         yield self.of_state(name)
         self.office = copy_of(self.office)
         yield f"{name} once more", *self.both(words, given)
-        yield f"{name} once more: tables", self.found(), rows_of(self.office)
+        yield f"{name} once more: tables", self.found(), rows_of_office(self.office)
 
     def of_requests(self, name, requests, key):
         """The comparisons of requests to a server that is ended; then the one that wasn't answered is mostly sent once more, and a reading
@@ -214,9 +187,9 @@ class Desk(compare_office.Desk):
             is_cut = number == len(replies) and wanted.startswith(reply)
             yield f"{name}, request {number}", reply, reply if is_cut else wanted
         has_all = is_answered and len(replies) == len(requests)
-        yield f"{name}: its end", told, told if has_all and told == compare_server.ENDED else (b"", KILLED, b"")
-        yield self.left(name, "serve", before, after, is_answered, told != compare_server.ENDED)
-        done = len(replies) - (not is_answered and rows_of(self.office) != rows_of(after))
+        yield f"{name}: its end", told, told if has_all and told == ENDED else (b"", KILLED, b"")
+        yield self.left(name, "serve", before, after, is_answered, told != ENDED)
+        done = len(replies) - (not is_answered and rows_of_office(self.office) != rows_of_office(after))
         if self.chance.random() < 0.6:
             yield self.of_state(name)
             yield from self.of_once_more(name, requests[min(done, len(requests) - 1)], key)
@@ -227,20 +200,20 @@ class Desk(compare_office.Desk):
         """The comparisons of a request that is sent to a server of its own."""
         self.office = copy_of(self.office)
         wanted = slow_server.Server(self.office, key).reply(request)
-        with compare_server.Serving(self.program, self.path, key, 1) as serving:
+        with Serving(self.program, self.path, key, 1) as serving:
             yield f"{name}: {request[:40]} once more", serving.ask([request], False), wanted
-            yield f"{name}: the end of the server then", serving.end(), compare_server.ENDED
-        yield f"{name}: tables then", self.found(), rows_of(self.office)
+            yield f"{name}: the end of the server then", serving.end(), ENDED
+        yield f"{name}: tables then", self.found(), rows_of_office(self.office)
 
 
 def is_whole(told, wanted):
-    """Whether a command has told all that it has to tell: by its status, or by its text alone where it was ended behind that."""
+    """Whether a command has printed all that is expected: by its status, or by its text alone where it was ended after that."""
     text, status = told
     return status != KILLED or text != b"" and text == wanted[0]
 
 
 def right_of(told, wanted):
-    """What a command has to tell: where it was ended, the beginning of its text."""
+    """What is expected of a command: where it was ended, the beginning of its text."""
     text, status = told
     return told if status == KILLED and wanted[0].startswith(text) else wanted
 
@@ -259,8 +232,8 @@ def replies_of(serving, requests, begun):
         try:
             with serving.connection() as connection:
                 begun.set()
-                compare_server.sent(connection, [request])
-                replies.append(compare_server.received(connection))
+                sent(connection, [request])
+                replies.append(received(connection))
         except OSError:
             break
         head, _, body = replies[-1].partition(b"\r\n\r\n")
@@ -281,14 +254,14 @@ def long_batch(chance, number):
 
 
 def enlarged(chance, words, given):
-    """The same, where it is an import now and then with blocks behind the file that aren't read."""
+    """The same, where it is an import now and then with blocks after the file that aren't read."""
     if words[0] in ("import", "own") and len(given) < slow_office.INPUT_LIMIT and chance.random() < 0.3:
         return words, random_requests.padded_file(given, chance.randrange(len(given), slow_office.INPUT_LIMIT + 1))
     return words, given
 
 
 def is_kept(chance, told):
-    """Whether a command is kept in a list that has told this: one that changes the archive is, and some of the others."""
+    """Whether a command is kept in a list that has printed this: one that changes the archive is, and some of the others."""
     return bool(CHANGED.match(told)) or chance.random() < OTHERS_LEFT
 
 
@@ -308,7 +281,7 @@ def requests_of(seed, chance):
     while len(requests) < REQUESTS:
         line = lines.pop(0) if lines else enlarged(chance, *made.line())
         line = long_batch(chance, made.number()) if chance.random() < 0.1 else line
-        request = made.parts(*line).bytes()
+        request = made.parts(*line).written()
         if is_kept(chance, made.server.reply(request).partition(b"\r\n\r\n")[2]):
             requests.append(request)
     return requests, made.office_key
@@ -343,13 +316,14 @@ def of_question(question):
     """The comparisons of a function over a list, and which kinds of states the ends have left."""
     function, program, seed = question
     with tempfile.TemporaryDirectory() as folder:
-        desk = Desk(program, folder, random.Random(f"{function.__name__} {seed}"))
+        desk = KilledDesk(program, folder, random.Random(f"{function.__name__} {seed}"))
         return list(function(desk, seed)), desk.kinds
 
 
-def comparisons(program, rounds, first):
+def comparisons(program: str, rounds: int, first: int) -> counting.Comparisons:
     program = os.path.abspath(program)
-    questions = [(part, program, seed) for seed in range(first, first + rounds) for part in (of_commands, of_serving)]
+    seeds = range(first, first + rounds)
+    questions: list[tuple[Any, ...]] = [(part, program, seed) for seed in seeds for part in (of_commands, of_serving)]
     kinds = set()
     with multiprocessing.Pool(PROCESSES) as pool:
         for found, left in pool.imap(of_question, questions):
@@ -362,8 +336,8 @@ def comparisons(program, rounds, first):
     yield "whether ends have left a request undone and done", "serve" in both, True
 
 
-def words():
-    """The words of the command line."""
+def arguments() -> argparse.Namespace:
+    """The arguments of the command line."""
     parser = argparse.ArgumentParser()
     parser.add_argument("program")
     parser.add_argument("--rounds", type=int, default=ROUNDS)
@@ -372,4 +346,4 @@ def words():
 
 
 if __name__ == "__main__":
-    sys.exit(counting.count(comparisons(**vars(words()))))
+    sys.exit(counting.count(comparisons(**vars(arguments()))))

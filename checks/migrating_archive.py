@@ -1,54 +1,52 @@
 #!/usr/bin/env python3
 """Gives the program archives of schema 1, each of which every command but `migrate` has to refuse, has them carried over to schema 2, and
-compares each row with that of the old file and all that is told then with a slow office. A migration is also ended at many moments:
+compares each row with that of the old file and all answers after that with a slow office. A migration is also ended at many moments:
 what is left has to be the old archive or the new one, and the next migration ends it.
 
-SQLite itself writes the old archives (old_archive.py), and reads the new ones: worked ones, that of examples/archive-schema-1.sql, and
-what random command lines have left, with thousands of entries in some. The words are the program and, for longer lists of commands at
+SQLite itself writes the old archives (lib/old_archive.py), and reads the new ones: worked ones, that of examples/archive-schema-1.sql, and
+what random command lines have left, with thousands of entries in some. Arguments: the program and, for longer lists of commands at
 archives that were carried over, `tool_script`. The last line is 'N passed, M failed'."""
 import contextlib
 import datetime
 import multiprocessing
 import os
 import random
-import shutil
 import socket
 import sqlite3
 import subprocess
 import sys
 import tempfile
 import time
+from typing import Any
 
-import compare_archive
-import compare_office
-import compare_server
-import counting
-import office_lines
-import office_rows
-import old_archive
-import random_commands
-import slow_archive
-import slow_office
-from compare_office import CHANGES, COMMANDS, STORE_FAILED
-from office_rows import DAY_OFF, DAY_OFF_LINE, FREE_LINE, LONG_NOTE, NO_AUTHOR, SATURDAY, done, refused
+from inputs import random_commands
+from lib import counting, files, killing, office_lines, office_rows, old_archive, pools, programs
+from lib.archive import CARRIED_TABLES, of_tables, rows_at, rows_of, sound
+from lib.files import EXAMPLES
+from lib.office import CHANGES, COMMANDS, STORE_FAILED, WITH_ANNA, Desk, of_refused_file, to_full, to_nobody
+from lib.office_rows import DAY_OFF, DAY_OFF_LINE, FREE_LINE, LONG_NOTE, NO_AUTHOR, SATURDAY, done, refused
+from lib.script import answers, wanted_of
+from lib.server import BAD_KEY, HOST, OFFICE, free_port
+from slow import slow_archive, slow_office
 
 SEEDS = 60
 SCRIPT_SEEDS = 40
 PROCESSES = 2
-KILLS, ROUNDS = 200, 8  # so many in all, in so many lists
+KILLS, ROUNDS = 200, 8  # 200 in all, in 8 lists
 SECONDS = 60
-EXAMPLE = os.path.join(os.path.dirname(os.path.dirname(os.path.abspath(__file__))), "examples", "archive-schema-1.sql")
-
+EXAMPLE = os.path.join(EXAMPLES, "archive-schema-1.sql")
 OLD = (b"S13 old archive\n", 1, b"")
 MIGRATED = (b"migrated\n", 0, b"")
 
-# What is refused before its words and its input are looked at.
+# What is refused before its arguments and its input are looked at.
 BAD_COMMANDS = ["import whole", "enter 017", "withdraw 17 0", "base 17 2024-02-30", "sheet 17 2024-13", "breaches 18", "file 17 2"]
 
-# In the archive of one driver, before it is carried over and behind that.
+# In the archive of one driver, before it is carried over and after that.
 ENTERED = [(["enter", "17"], office_rows.FREE_DAYS), (["withdraw", "17", "1"], b"")]
-FIRST = [*compare_office.WITH_ANNA, *ENTERED, (["import", "both"], SATURDAY)]
+
+FIRST = [*WITH_ANNA, *ENTERED, (["import", "both"], SATURDAY)]
 HELD = "2024-03-09 00:00,2024-03-09 08:00,rest,single\n2024-03-09 08:00,2024-03-09 10:00,work,single\n"
+
 ROWS = [
     done("migrate", "migrated\n"),
     done("entries 17", FREE_LINE),
@@ -68,7 +66,7 @@ ROWS = [
 # An old archive
 
 
-class OldDesk(compare_office.Desk):
+class OldDesk(Desk):
     """The program at an archive of schema 1 in a folder, beside a slow office."""
 
     def __init__(self, program, folder, office, make=old_archive.make, chance=None):
@@ -76,35 +74,35 @@ class OldDesk(compare_office.Desk):
         self.office = office
         self.rows = old_archive.rows_of(office.archive, chance)
         make(self.path, self.rows)
-        self.whole = compare_office.content(self.path)
+        self.whole = files.content(self.path)
 
     def restore(self):
         """Makes the file what it was, without a log."""
         with contextlib.suppress(FileNotFoundError):
             os.remove(self.path + "-wal")
-        compare_office.write(self.path, self.whole)
+        files.write(self.path, self.whole)
 
     def old(self):
         """What SQLite finds in the file before it is carried over."""
-        return compare_archive.rows_of(compare_archive.sound(old_archive.TABLES, self.rows))
+        return rows_of(sound(old_archive.TABLES, self.rows))
 
     def new(self):
-        """What it has to find in it behind that: each row as it was, and each entry by the office, without a note."""
+        """What it has to find in it after that: each row as it was, and each entry by the office, without a note."""
         entries = [(*row, "office", "") for row in self.rows["entries"]]
         rows = {**self.rows, "meta": [(1, 2)], "entries": [], "entry_rows": entries}
-        return compare_archive.rows_of(compare_archive.sound(compare_archive.CARRIED_TABLES, rows))
+        return rows_of(sound(CARRIED_TABLES, rows))
 
     def carried(self, name):
-        """The comparisons of a migration, and of another one behind it, which changes nothing."""
+        """The comparisons of a migration, and of another one after it, which changes nothing."""
         yield f"{name}: migrate", self.run(["migrate"]), MIGRATED
-        yield f"{name}: its rows", compare_archive.rows_of(compare_archive.rows_at(self.path)), self.new()
-        before = compare_office.lying_at(self.path)
+        yield f"{name}: its rows", rows_of(rows_at(self.path)), self.new()
+        before = files.lying_at(self.path)
         yield f"{name}: migrate once more", self.run(["migrate"]), MIGRATED
-        yield f"{name}: what lies there then", compare_office.lying_at(self.path), before
+        yield f"{name}: what lies there then", files.lying_at(self.path), before
 
     def tables(self, name):
         """The comparison of the tables of the file, which was carried over, with those that it has to have."""
-        return compare_archive.of_tables(name, self.path, self.office.archive, is_carried=True)
+        return of_tables(name, self.path, self.office.archive, is_carried=True)
 
 
 def make_plain(path, rows):
@@ -128,38 +126,38 @@ def make_by_text(path, _):
 
 
 def ended(words):
-    """What a program tells, or that it didn't end."""
+    """What a program prints, or that it didn't end."""
     try:
-        return compare_office.told_by(words, timeout=SECONDS)
+        return programs.told_by(words, timeout=SECONDS)
     except subprocess.TimeoutExpired as fault:
         return repr(fault)
 
 
 def of_serve(desk, name):
-    """The comparisons of `serve` at an old archive: it ends before it takes its port, and behind a look at its key."""
-    with socket.create_server((compare_server.HOST, 0)) as other:
+    """The comparisons of `serve` at an old archive: it ends before it takes its port, and after a look at its key."""
+    with socket.create_server((HOST, 0)) as other:
         taken = str(other.getsockname()[1])
         for key, port, wanted in [
-            (compare_server.OFFICE, str(compare_server.free_port()), OLD),
-            (compare_server.OFFICE, taken, OLD),
-            ("short-1", taken, (*compare_server.BAD_KEY, b"")),
+            (OFFICE, str(free_port()), OLD),
+            (OFFICE, taken, OLD),
+            ("short-1", taken, (*BAD_KEY, b"")),
         ]:
             yield f"{name}: serve {key} {port}", ended(desk.words(["serve", key, port, "1"])), wanted
 
 
 def of_old(desk, name):
     """The comparisons of each command at an old archive: it is refused, and what lies there stays as it is."""
-    before = compare_office.lying_at(desk.path)
-    yield from compare_office.of_refused_file(desk, name, lambda path: None, [*COMMANDS, *BAD_COMMANDS], OLD)
-    yield from compare_office.of_refused_file(desk, name, lambda path: None, ["init"])
+    before = files.lying_at(desk.path)
+    yield from of_refused_file(desk, name, lambda path: None, [*COMMANDS, *BAD_COMMANDS], OLD)
+    yield from of_refused_file(desk, name, lambda path: None, ["init"])
     for words, given in CHANGES:
         yield f"{name}: {words} with an input", desk.run(words, given), OLD
     for words in [["register"], ["enter", "17"]]:
-        yield f"{name}: {words} waits for nobody", compare_office.unasked(desk.words(words)), OLD[:2]
+        yield f"{name}: {words} waits for nobody", programs.unasked(desk.words(words)), OLD[:2]
     yield from of_serve(desk, name)
-    yield f"{name}: words too many", desk.run(["migrate", "17"])[:2], (b"", 2)
-    yield f"{name}: what lies there behind all", compare_office.lying_at(desk.path), before
-    yield f"{name}: its rows behind all", compare_archive.rows_of(compare_archive.rows_at(desk.path)), desk.old()
+    yield f"{name}: too many arguments", desk.run(["migrate", "17"])[:2], (b"", 2)
+    yield f"{name}: what lies there after all", files.lying_at(desk.path), before
+    yield f"{name}: its rows after all", rows_of(rows_at(desk.path)), desk.old()
 
 
 # Worked archives
@@ -195,14 +193,14 @@ def of_worked(program, name):
 
 
 def readings_of(driver, months):
-    """The readings of a driver: the words of each."""
+    """The readings of a driver: the arguments of each."""
     words = [f"{word} {{}} {month}" for word in ["spans", "gaps", "sheet"] for month in months]
     words += ["breaches {}", "owed {}", "entries {}", "file {} 1", "file {} 2", "withdraw {} 1"]
     return [text.format(driver).split(" ") for text in words]
 
 
 def of_example(program, name, make):
-    """The comparisons of the example: carried over, each driver is told as by the slow office."""
+    """The comparisons of the example: carried over, each driver's readings are as by the slow office."""
     with tempfile.TemporaryDirectory() as folder:
         desk = OldDesk(program, folder, old_archive.office_after(old_archive.EXAMPLE), make)
         yield from of_old(desk, name)
@@ -221,16 +219,16 @@ def of_text():
     with tempfile.TemporaryDirectory() as folder:
         path = os.path.join(folder, "archive.db")
         make_by_text(path, rows)
-        wanted = compare_archive.rows_of(compare_archive.sound(old_archive.TABLES, rows))
-        yield "the rows of the example", compare_archive.rows_of(compare_archive.rows_at(path)), wanted
+        wanted = rows_of(sound(old_archive.TABLES, rows))
+        yield "the rows of the example", rows_of(rows_at(path)), wanted
 
 
 # Devices
 
 
 def of_devices(program):
-    """The comparisons of outputs that can't be written, behind which the archive is carried over, and of an input that nobody writes."""
-    for name, run in [("a full device", compare_office.to_full), ("a closed pipe", compare_office.to_nobody)]:
+    """The comparisons of outputs that can't be written, after which the archive is carried over, and of an input that nobody writes."""
+    for name, run in [("a full device", to_full), ("a closed pipe", to_nobody)]:
         with tempfile.TemporaryDirectory() as folder:
             desk = OldDesk(program, folder, old_archive.office_after(FIRST))
             yield f"{name}: a command at an old archive", run(desk, ["drivers"], b""), (3, b"")
@@ -238,7 +236,7 @@ def of_devices(program):
             yield desk.tables(f"{name}: migrate")
     with tempfile.TemporaryDirectory() as folder:
         desk = OldDesk(program, folder, old_archive.office_after(FIRST))
-        yield "migrate waits for nobody", compare_office.unasked(desk.words(["migrate"])), MIGRATED[:2]
+        yield "migrate waits for nobody", programs.unasked(desk.words(["migrate"])), MIGRATED[:2]
         yield desk.tables("migrate without an input")
 
 
@@ -246,13 +244,13 @@ def of_damage(program):
     """The comparisons of a migration of a file with a bit changed in each of its pages: it is refused, and the file stays as it is."""
     with tempfile.TemporaryDirectory() as folder:
         desk = OldDesk(program, folder, old_archive.office_after(old_archive.EXAMPLE))
-        for number in range(len(desk.whole) // old_archive.PAGE):
+        for number in range(len(desk.whole) // files.PAGE):
             bad = bytearray(desk.whole)
-            bad[number * old_archive.PAGE + 100 + 37 * number] ^= 1 << number % 8
+            bad[number * files.PAGE + 100 + 37 * number] ^= 1 << number % 8
             desk.restore()
-            compare_office.write(desk.path, bad)
+            files.write(desk.path, bad)
             yield f"migrate with a bit of page {number} changed", desk.run(["migrate"]), STORE_FAILED
-            yield f"migrate with a bit of page {number} changed: the file", compare_office.content(desk.path), bytes(bad)
+            yield f"migrate with a bit of page {number} changed: the file", files.content(desk.path), bytes(bad)
         desk.restore()
         yield from desk.carried("after the bits are back")
 
@@ -261,7 +259,7 @@ def of_damage(program):
 
 
 def add_entries(chance, driver, count):
-    """Gives a driver of a slow archive so many entries more, from 2010 on, one behind the other, of which some are withdrawn."""
+    """Gives a driver of a slow archive more entries, from 2010 on, one after the other, of which some are withdrawn."""
     start = 1440 * slow_office.day_number(datetime.date(2010, 1, 4))
     for _ in range(count):
         start += chance.choice([0, 0, 30])
@@ -272,7 +270,7 @@ def add_entries(chance, driver, count):
 
 
 def office_of(chance, lines, count):
-    """The slow office after some lines, without authors and notes, with so many entries more of one driver, and fewer of the others."""
+    """The slow office after some lines, without authors and notes, with more entries of one driver, and fewer of the others."""
     office = slow_office.Office()
     for line in lines:
         office.answer(*line)
@@ -307,31 +305,12 @@ def of_script(program, script, seed):
     with tempfile.TemporaryDirectory() as folder:
         desk = OldDesk(program, folder, office_of(chance, commands[:half], 0), chance=chance)
         yield from desk.carried(name)
-        wanted = compare_archive.wanted_of(desk.office, commands[half:])
-        yield name, compare_archive.answers([script, "archive", desk.path], folder, commands[half:]), wanted
+        wanted = wanted_of(desk.office, commands[half:])
+        yield name, answers([script, "archive", desk.path], folder, commands[half:]), wanted
         yield desk.tables(name)
 
 
 # Migrations that are ended
-
-
-def stamps(path):
-    """The length of a file and of its log, and when each was changed."""
-    found = []
-    for name in [path, path + "-wal"]:
-        with contextlib.suppress(FileNotFoundError):
-            told = os.stat(name)
-            found.append((told.st_size, told.st_mtime_ns))
-    return found
-
-
-def watch(running, path, most):
-    """Waits until a running program has changed a file or its log so often, or until it has ended, and tells how often it has."""
-    count, before = 0, stamps(path)
-    while count < most and running.poll() is None:
-        now = stamps(path)
-        count, before = count + (now != before), now
-    return count
 
 
 def running_at(desk):
@@ -339,55 +318,24 @@ def running_at(desk):
     return subprocess.Popen(desk.words(["migrate"]), stdin=subprocess.DEVNULL, stdout=subprocess.DEVNULL, stderr=subprocess.DEVNULL)
 
 
-def end(running):
-    """Ends a program at once, and waits for that."""
-    running.kill()
-    running.wait()
-
-
 def measured(desk):
     """How long a migration takes that nobody ends, in seconds, and how often it changes its files."""
     with running_at(desk) as running:
         start = time.monotonic()
-        count = watch(running, desk.path, sys.maxsize)
+        count = killing.watch(running, desk.path, sys.maxsize)
         return time.monotonic() - start, count
-
-
-def wait(running, path, chance, seconds, count):
-    """Waits for a random moment of a running program: of the time that it takes, or behind one of the changes of its files."""
-    if chance.random() < 0.5:
-        time.sleep(chance.uniform(0, 1.2 * seconds))
-    else:
-        watch(running, path, chance.randrange(1, count + 2))
 
 
 def kill(desk, chance, seconds, count):
     """Ends a migration at a random moment."""
     with running_at(desk) as running:
-        wait(running, desk.path, chance, seconds, count)
-        end(running)
-
-
-def copied(path, folder):
-    """Copies a file and its log, as far as they are there, into a folder, and tells the copy's path."""
-    copy = os.path.join(folder, "copy.db")
-    for ending in ["", "-wal"]:
-        with contextlib.suppress(FileNotFoundError):
-            os.remove(copy + ending)
-        with contextlib.suppress(FileNotFoundError):
-            shutil.copy(path + ending, copy + ending)
-    return copy
-
-
-def is_begun(path):
-    """Whether the making of a file has begun and no more: it has one page at the most, and not its first byte, which is written last."""
-    whole = compare_office.content(path)
-    return whole is not None and len(whole) <= old_archive.PAGE and whole[:1] in (b"", b"\0")
+        killing.wait(running, desk.path, chance, seconds, count)
+        killing.end(running)
 
 
 def left(desk, folder):
     """What an end has left, by SQLite over a copy of the file and its log: the old archive, or the new one, or what it is."""
-    found = compare_archive.rows_of(compare_archive.rows_at(copied(desk.path, folder)))
+    found = rows_of(rows_at(files.copied(desk.path, folder)))
     return "old" if found == desk.old() else "new" if found == desk.new() else found
 
 
@@ -407,21 +355,15 @@ def of_kills(program, number):
             yield f"{name}: what is left", kind, kind if kind in ("old", "new") else "old or new"
             yield f"{name}: what the program says", desk.run(["drivers"]), OLD if kind == "old" else (*listed, b"")
             yield f"{name}: migrate once more", desk.run(["migrate"]), MIGRATED
-            yield f"{name}: its rows", compare_archive.rows_of(compare_archive.rows_at(desk.path)), desk.new()
+            yield f"{name}: its rows", rows_of(rows_at(desk.path)), desk.new()
 
 
 # All
 
 
-def of_question(question):
-    """The comparisons of a question: a function and what it is given."""
-    function, *words = question
-    return list(function(*words))
-
-
-def comparisons(program, script=None):
+def comparisons(program: str, script: str | None = None) -> counting.Comparisons:
     program = os.path.abspath(program)
-    questions = [(of_text,), (of_devices, program), (of_damage, program)]
+    questions: list[tuple[Any, ...]] = [(of_text,), (of_devices, program), (of_damage, program)]
     questions += [(of_rows, program, "one driver", old_archive.make), (of_rows, program, "one driver, without sums", make_plain)]
     questions += [(of_example, program, "the example", old_archive.make), (of_example, program, "the example's text", make_by_text)]
     questions += [(of_worked, program, name) for name in office_rows.ROWS]
@@ -430,7 +372,7 @@ def comparisons(program, script=None):
     kills = [(of_kills, program, number) for number in range(ROUNDS)]
     kinds = set()
     with multiprocessing.Pool(PROCESSES) as pool:
-        for found in pool.imap(of_question, questions + kills):
+        for found in pool.imap(pools.of_question, questions + kills):
             yield from found
             kinds.update(told for name, told, _ in found if name.endswith(": what is left") and isinstance(told, str))
         pool.close()

@@ -1,10 +1,10 @@
 #!/usr/bin/env python3
 """Types what docs/OFFICE.md says is to be typed, block by block in a temporary folder, and compares what it prints, and what it says
-in words, with what that page promises. A block is a run of indented lines. The blocks of the service have `systemctl` and its
+in prose, with what that page promises. A block is a run of indented lines. The blocks of the service have `systemctl` and its
 like pretended, and their folders below the temporary one: the service's command is the one of examples/tacho.service. What
 README.md shows of the tour is compared with examples/tour.expected, and the edit that it names with the code.
 
-The argument is the program. The last line is 'N passed, M failed'."""
+Argument: the program. The last line is 'N passed, M failed'."""
 import contextlib
 import os
 import re
@@ -17,13 +17,11 @@ import sys
 import tempfile
 import time
 
-import counting
-import old_archive
-from office_rows import ANNA, CREW_DAY, DAY, HOLDER, OTHER_DAY
-from random_commands import hours_csv
+from inputs.random_commands import hours_csv
+from lib import counting, old_archive
+from lib.files import EXAMPLES, TOP
+from lib.office_rows import ANNA, CREW_DAY, DAY, HOLDER, OTHER_DAY
 
-TOP = os.path.dirname(os.path.dirname(os.path.abspath(__file__)))
-EXAMPLES = os.path.join(TOP, "examples")
 KEY = "office-key-1"
 ROW = re.compile(r"^\| (.*) \|$", re.MULTILINE)
 
@@ -227,7 +225,7 @@ def elsewhere(office, name):
 
 
 def beginnings(office):
-    """An archive, a driver, his first file, and his base."""
+    """An archive, a driver, their first file, and their base."""
     yield office.typed("umask 077\nmkdir archive", "created\n")
     yield "who may read the folder and the file", [mode(office.path(name)) for name in ("archive", "archive/archive.db")], [0o700, 0o600]
     office.folder = office.path("archive")
@@ -345,7 +343,7 @@ SPREADSHEETS = {
     "`24:00`": b"start,past,activity\n2024-03-11 06:00,2024-03-11 24:00,work\n",
     "an empty row at the end, saved as `,,`": b"start,past,activity\n2024-03-11 06:00,2024-03-11 14:00,work\n,,\n",
     "a row with nothing but a blank": b"start,past,activity\n2024-03-11 06:00,2024-03-11 14:00,work\n \n",
-    "`Rest`, or `rest` with a blank behind it": b"start,past,activity\n2024-03-11 06:00,2024-03-11 14:00,Rest\n",
+    "`Rest`, or `rest` with a blank after it": b"start,past,activity\n2024-03-11 06:00,2024-03-11 14:00,Rest\n",
     "a row whose author is empty": b"start,past,activity,author,note\n2024-03-11 06:00,2024-03-11 14:00,work,,ill\n",
     "a note with a comma or a quote in it, saved as `\"ill, at home\"`":
         b'start,past,activity,author,note\n2024-03-11 06:00,2024-03-11 14:00,rest,Eva Lund,"ill, at home"\n',
@@ -395,11 +393,12 @@ def months(office):
     rows = [(1440 * number + start, 1440 * number + past, what) for number in range(19_787, 19_814) for start, past, what in day][:-1]
     yield "his hours", office.told("enter", "19", given=hours_csv(rows)), f"entered 1 to {len(rows)}\n"
     sheet = office.told("sheet", "19", "2024-03").splitlines(keepends=True)
-    front, _, back = shown.partition("..\n")
+    front, _, back = shown.partition("...\n")
     yield "the sheet of the page", "".join([*sheet[6:9], *sheet[-2:]]), front + back
     yield "what is told of his days", [line for line in sheet if re.match("B[0-9]", line)], []
     yield "a driver with a new holder", office.told("register", given=driver_like_anna(18, b"anna-key-2", "8")), "registered 18\n"
-    yield office.typed("./tacho spans archive.db 17 2024-03 > march.csv", f"entered 1 to {len(office.told('spans', '17', '2024-03').splitlines()) - 1}\n")
+    count = len(office.told("spans", "17", "2024-03").splitlines()) - 1
+    yield office.typed("./tacho spans archive.db 17 2024-03 > march.csv", f"entered 1 to {count}\n")
     yield "what he holds", office.told("spans", "18", "2024-03"), office.told("spans", "17", "2024-03")
     yield office.typed("./tacho base archive.db 17 2024-03-11", "base 2024-03-11\n")
     yield office.typed("./tacho file archive.db 17 1", "")
@@ -450,7 +449,7 @@ def backups(office):
     before = office.told("entries", "17")
     yield office.typed("umask 077\nmkdir -p backup", "")
     yield "who may read the backup", mode(office.path("backup/2024-04-01/archive.db")), 0o600
-    yield "a change behind it", office.told("withdraw", "17", "1"), "withdrawn 1\n"
+    yield "a change after it", office.told("withdraw", "17", "1"), "withdrawn 1\n"
     yield office.typed("rm -f archive.db-wal", before)
     for name, make in {
         ".backup": lambda one, path: one.backup(sqlite3.connect(path)),
@@ -467,7 +466,7 @@ def backups(office):
     with contextlib.closing(sqlite3.connect(os.path.join(folder, "archive.db"))) as one, one:
         one.execute("UPDATE drivers SET base = base + 7")
     run = subprocess.run([office.program, "entries", os.path.join(folder, "archive.db"), "17"], capture_output=True)
-    yield "an archive behind an UPDATE", (run.stdout, run.returncode), (b"S12 store failed\n", 3)
+    yield "an archive after an UPDATE", (run.stdout, run.returncode), (b"S12 store failed\n", 3)
 
 
 def updates(office):
@@ -513,7 +512,7 @@ def services(office):
     before = office.type(asked)
     shutil.rmtree(office.path("backup"))
     yield office.typed("umask 077\nsystemctl stop tacho", "")
-    yield "a change behind the copy", office.type(f"{asked[:-len('entries')]}withdraw/1 -X POST"), ("withdrawn 1\n", 0)
+    yield "a change after the copy", office.type(f"{asked[:-len('entries')]}withdraw/1 -X POST"), ("withdrawn 1\n", 0)
     yield office.typed("systemctl stop tacho\nrm -f", "")
     yield "what is served after the restore", office.type(asked), before
     yield from updated(office)
@@ -521,7 +520,8 @@ def services(office):
     copies = unit_commands(office, "tacho-backup.service")
     yield "the commands of the backup's unit", office.run("\n".join(copies)), ("", 0)
     made = os.listdir(os.path.join(root, "var/backups/tacho"))
-    yield "what it has copied", [sorted(os.listdir(os.path.join(root, "var/backups/tacho", name))) for name in made], [["archive.db", "archive.db-wal"]]
+    copied = [sorted(os.listdir(os.path.join(root, "var/backups/tacho", name))) for name in made]
+    yield "what it has copied", copied, [["archive.db", "archive.db-wal"]]
     if all(map(shutil.which, ("nginx", "openssl", "curl"))):
         yield from proxied(office)
     office.type("systemctl stop tacho")
@@ -637,7 +637,7 @@ def front(_):
         expected = file.read()
     shown = next(block for block in blocks_of(text) if block.startswith("$ tacho import"))
     place = 0
-    for run in shown.split("..\n"):
+    for run in shown.split("...\n"):
         found = expected.find(run, place)
         yield f"what README.md shows: {run.splitlines()[0]}", found >= 0, True
         place = found + len(run)
@@ -649,7 +649,7 @@ def front(_):
         yield f"the line of {name}", file.read().count(edit["old"]), 1
 
 
-def comparisons(program):
+def comparisons(program: str) -> counting.Comparisons:
     with tempfile.TemporaryDirectory() as folder:
         office = Office(program, folder)
         try:

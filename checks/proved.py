@@ -2,16 +2,16 @@
 """Makes docs/PROVED.md from the doc comments of the public calls, and compares it with the one that is there.
 
 Each call stands with the first sentence of its doc comment, or all of it where it is one of WHOLE, and with the definitions that its
-contract cites. `checks/trusted.py` finds the calls and what they cite. With the argument `--write` the page is written instead. The last
+contract cites. lib/contracts.py finds the calls and what they cite. With the argument `--write` the page is written instead. The last
 line is 'N passed, M failed'."""
 import os
 import re
 import sys
 
-import counting
-import trusted
+from lib import contracts, counting
+from lib.files import DOCS, TOP
 
-DOCUMENT = os.path.join(trusted.TOP, "docs", "PROVED.md")
+DOCUMENT = os.path.join(DOCS, "PROVED.md")
 
 OPENING = (
     "# What is proved",
@@ -72,12 +72,12 @@ ITEM = re.compile(r"(?:pub(?:\(crate\))? )?(?:const )?(fn|struct|enum|trait) (\w
 def comments_of(crate, module):
     """The doc comments of a file, by the type or trait that they stand in, and the name of the function."""
     found, comment, owner = {}, [], None
-    with open(os.path.join(trusted.TOP, "crates", crate, "src", module + ".rt"), encoding="utf-8") as file:
+    with open(os.path.join(TOP, "crates", crate, "src", module + ".rt"), encoding="utf-8") as file:
         lines = file.read().split("\n")
     for line in lines:
         text = line.strip()
         if line.startswith("impl"):
-            owner = trusted.head_of(line)[1]
+            owner = contracts.head_of(line)[1]
         if text.startswith("///"):
             comment.append(text[3:].strip())
             continue
@@ -98,17 +98,17 @@ def first_sentence(comment):
 
 
 def methods_of(crate, module, name):
-    """The methods of a trait that have a contract, each with its words."""
-    block = next(chunk for chunk in trusted.source(crate, module)[0] if re.match(rf"pub trait {name}\b", chunk))
-    for text in trusted.block_texts(crate, module, block, lambda item: item.startswith("fn ") and trusted.promises(item)):
+    """The methods of a trait that have a contract, each with what it says."""
+    block = next(chunk for chunk in contracts.source(crate, module)[0] if re.match(rf"pub trait {name}\b", chunk))
+    for text in contracts.block_texts(crate, module, block, lambda item: item.startswith("fn ") and contracts.promises(item)):
         yield re.search(r"^ +fn (\w+)", text.words, re.MULTILINE)[1], [text]
 
 
 def calls():
     """Each call: its crate, its place, the name by which it is called, and what its contract says."""
-    for place, texts in trusted.all_entries():
+    for place, texts in contracts.all_entries():
         crate, module, *names = place.split("::")
-        if trusted.source(crate, module) is None or names[-1] == names[-1].capitalize() and len(names) == 2:
+        if contracts.source(crate, module) is None or names[-1] == names[-1].capitalize() and len(names) == 2:
             continue
         if names[0][0].isupper() and len(names) == 1:
             for name, words in methods_of(crate, module, names[0]):
@@ -119,22 +119,22 @@ def calls():
 
 def is_said(node):
     """Whether a contract says something by a node: a definition of the crates that isn't a type of values, nor the end of 2099."""
-    if not isinstance(node, trusted.Definition) or node.name == "latest":
+    if not isinstance(node, contracts.Definition) or node.name == "latest":
         return False
-    text = trusted.spec(node.crate, node.file).definitions.get(node.name, "")
+    text = contracts.spec(node.crate, node.file).definitions.get(node.name, "")
     return not re.match(rf"(?:abbrev )?(?:pub )?(?:record |data )?{node.name} *: Type", text)
 
 
 def cited_names(crate, texts):
     """The definitions that a contract cites, those of its own crate first."""
-    nodes = filter(is_said, trusted.cited(texts))
+    nodes = filter(is_said, contracts.cited(texts))
     return [node.name for node in sorted(nodes, key=lambda node: (node.crate != crate, node.crate, node.name))]
 
 
 def comment_of(crate, module, called):
     """The doc comment of a call, also where the crate shows another one's law."""
     found = comments_of(crate, module).get(called, "")
-    shown = {name: path for path, name, _ in trusted.shown_names(crate, module)}
+    shown = {name: path for path, name, _ in contracts.shown_names(crate, module)}
     return found if found or called[1] not in shown else comment_of(shown[called[1]][0], module, called)
 
 
@@ -150,13 +150,13 @@ def line_of(crate, module, called, texts):
     says = comment if whole else first_sentence(comment)
     if not names and len(says.split()) < FEW:
         return []
-    return trusted.wrapped(f"- `{path}`: {says}" + (f" ({names})" if names else ""), "  ")
+    return contracts.wrapped(f"- `{path}`: {says}" + (f" ({names})" if names else ""), "  ")
 
 
 def document():
     """The lines of docs/PROVED.md."""
     for paragraph in OPENING:
-        yield from trusted.wrapped(paragraph, "  " if paragraph.startswith("- ") else "")
+        yield from contracts.wrapped(paragraph, "  " if paragraph.startswith("- ") else "")
         if not paragraph.startswith("- ") or paragraph == OPENING[-2]:
             yield ""
     crate = None
@@ -174,7 +174,7 @@ def tidy(lines):
     return [line for number, line in enumerate(lines) if line or number and lines[number - 1]]
 
 
-def comparisons():
+def comparisons() -> counting.Comparisons:
     """The page beside the one that is made."""
     with open(DOCUMENT, encoding="utf-8") as file:
         yield "docs/PROVED.md", file.read().split("\n"), [*tidy(document()), ""]
@@ -183,9 +183,9 @@ def comparisons():
         yield place, (names[0] if len(names) == 2 else None, names[-1]) in comments_of(crate, module), True
 
 
-def main(words):
+def main(arguments: list[str]) -> int:
     """Does what the arguments ask for."""
-    if words == ["--write"]:
+    if arguments == ["--write"]:
         with open(DOCUMENT, "w", encoding="utf-8") as file:
             file.write("\n".join(tidy(document())) + "\n")
         return 0

@@ -1,7 +1,8 @@
-"""Changes the slow reading of the rules in one place at a time, and wants each change noticed by a worked row.
+#!/usr/bin/env python3
+"""Changes the slow reading of the rules in one place at a time, and expects each change to be noticed by a worked row.
 
 A limit that is one off, `<` for `<=`, `and` for `or`, `+` for `-`, `min` for `max`, a condition left out: whatever reads
-the law in another way must find something else in one of the rows of rule_examples.py, or what the rows fix is no
+the law in another way must find something else in one of the rows of lib/rules.py, or what the rows fix is no
 reading of it. A few changes mean the same, and are listed with the reason. Run it; it ends in 'N passed, M failed'.
 """
 
@@ -12,9 +13,8 @@ import signal
 import sys
 import types
 
-import counting
-import rule_examples
-import slow_rules
+from lib import counting, rules
+from slow import slow_rules
 
 # Functions that say nothing of the law: what is held and how it is read, and what spans have to be.
 APART = {"check_examined", "held_minutes", "horizon_of", "examined_spans", "report", "read_line", "main"}
@@ -54,14 +54,14 @@ SAME = {
     ("weeks_around", "week_of(base) - 2", "week_of(base) - 3"),
     ("weeks_around", "week_of(past) + 3", "week_of(past) + 2"),
     ("weeks_around", "week_of(past) + 3", "week_of(past) + 4"),
-    # A rest that is counted in a week behind the last serves none of the weeks.
+    # A rest that is counted in a week after the last serves none of the weeks.
     ("weeks_touched", "last + 1", "last + 2"),
     # Two weeks may be judged later, at the latest when no rest is left.
     ("can_be_counted", "week + 1", "week + 2"),
     # A minute more or less than none is below any limit too.
     ("minutes_before", f"max(0, {KNOWN})", f"max(1, {KNOWN})"),
     ("minutes_before", f"max(0, {KNOWN})", f"max(-1, {KNOWN})"),
-    # The first rest that none passes behind it is the one that none before it reaches.
+    # The first rest that none after it passes is the one that none before it reaches.
     ("main_rest", "longer_than_earlier and as_long_as_later", "as_long_as_later"),
     ("main_rest", "minutes_before(horizon, other) < known", "minutes_before(horizon, other) <= known"),
     # No rest is longer than itself.
@@ -112,7 +112,7 @@ class Replacing(ast.NodeTransformer):
 
 
 def places_of(tree):
-    """Each node of a function that says something of the law, with the function's name and what tells its place: of a number it is
+    """Each node of a function that says something of the law, with the function's name and what shows its place: of a number it is
     the node that it stands in."""
     for function in tree.body:
         if isinstance(function, ast.FunctionDef) and function.name not in APART:
@@ -139,7 +139,7 @@ def is_noticed(reading):
     all rows take a tenth."""
     signal.setitimer(signal.ITIMER_REAL, 3)
     try:
-        return any(told != wanted for _, told, wanted in rule_examples.comparisons(reading))
+        return any(told != wanted for _, told, wanted in rules.comparisons(reading))
     except Exception:  # whatever a wrong reading does
         return True
     finally:
@@ -151,7 +151,7 @@ def give_up(number, frame):
     raise TimeoutError
 
 
-def comparisons():
+def comparisons() -> counting.Comparisons:
     """Of each change whether a row notices it, against whether one has to."""
     signal.signal(signal.SIGALRM, give_up)
     source = pathlib.Path(slow_rules.__file__).read_text(encoding="utf-8")

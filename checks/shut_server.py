@@ -2,10 +2,10 @@
 """Starts the program as a server on a disk that stops at each of its calls in turn, or fails that call alone, and looks for a reply, a
 table or an end that is wrong; and looks at who may read the files that it makes.
 
-A request that changes the archive is replied to as by a slow server, or with 503, and then the archive is as before it or as behind it.
-Behind a 503 the next request is replied to as in one of these two states, or the server has ended, since the store is shut: it says so
-(S12), and its status is 3. What it has replied to is in the tables that SQLite finds at the end, and what the program tells of them then
-is as it was told. The file of a new archive and its log are their owner's alone, whatever the umask. The words are the program and the
+A request that changes the archive is replied to as by a slow server, or with 503, and then the archive is as before it or as after it.
+After a 503 the next request is replied to as in one of these two states, or the server has ended, since the store is shut: it says so
+(S12), and its status is 3. What it has replied to is in the tables that SQLite finds at the end, and what the program reports of them then
+is as it was reported. The file of a new archive and its log are their owner's alone, whatever the umask. Arguments: the program and the
 compiler of C. The last line is 'N passed, M failed'."""
 import contextlib
 import itertools
@@ -16,18 +16,14 @@ import stat
 import subprocess
 import sys
 import tempfile
+from typing import Any
 
-import compare_archive
-import compare_office
-import counting
-import migrating_archive
-import programs
-import slow_server
-from compare_office import STORE_FAILED, WITH_ANNA, WITH_DAY
-from compare_server import ENDED, OFFICE, Serving, asking, posting
-from failing_server import UNAVAILABLE
-from killing_office import CREATED, copy_of, rows_of
-from office_rows import ANNA, BERT, DAY, DAY_OFF, LARGEST_DAY, MORNING
+from lib import counting, files, killing, pools, programs
+from lib.archive import rows_of, rows_of_office, tables
+from lib.office import CREATED, STORE_FAILED, WITH_ANNA, WITH_DAY, Desk, copy_of, make_text
+from lib.office_rows import ANNA, BERT, DAY, DAY_OFF, LARGEST_DAY, MORNING
+from lib.server import ENDED, OFFICE, UNAVAILABLE, Serving, asking, posting
+from slow import slow_server
 
 PROCESSES = 4  # each waits for its program most of the time
 STOPPED = b"stopped\n"
@@ -58,7 +54,7 @@ CASES = {
 
 
 class Judge:
-    """What may be told by a server whose disk fails: the states in which its archive may be, and how many replies may still be 503."""
+    """What may come from a server whose disk fails: the states in which its archive may be, and how many replies may still be 503."""
 
     def __init__(self, office, most):
         self.states = [office]
@@ -74,7 +70,7 @@ class Judge:
         return b"" in self.replies
 
     def right(self, request, reply):
-        """The reply to a request if it may be so, and else one that may. Behind it the archive may be in other states."""
+        """The reply to a request if it may be so, and else one that may. After it the archive may be in other states."""
         may_end = self.has_failed() or self.has_ended() or not self.replies
         may_fail = request.startswith(b"POST ") and self.replies.count(UNAVAILABLE) < self.most
         is_over = self.has_ended()
@@ -90,12 +86,12 @@ class Judge:
         return reply if reply in wanted else wanted[0]
 
     def end(self, told):
-        """How the server may end: where the store is shut behind its last reply, it ends so too."""
+        """How the server may end: where the store is shut after its last reply, it ends so too."""
         may_be_shut = self.has_ended() or self.replies[-1] == UNAVAILABLE
         return STORE_FAILED[:2] if self.has_ended() or may_be_shut and told == STORE_FAILED[:2] else ENDED[:2]
 
     def kind(self, told):
-        """What has become of the server that ended so, in a word."""
+        """What has become of the server that ended so, in short."""
         if not self.has_failed():
             return "unopened" if self.has_ended() else "undisturbed"
         return "shut" if told == STORE_FAILED[:2] else "open"
@@ -107,7 +103,7 @@ def remove_log(path):
         os.remove(path + "-wal")
 
 
-class Desk(compare_office.Desk):
+class StoppedDesk(Desk):
     """The program at an archive in a folder, to which some commands were given, the slow office beside it, and a folder for copies."""
 
     def __init__(self, program, folder, commands):
@@ -124,7 +120,7 @@ class Desk(compare_office.Desk):
 
     def found(self):
         """What SQLite finds in a copy of the file and its log."""
-        return compare_archive.rows_of(compare_archive.tables(migrating_archive.copied(self.path, self.aside)))
+        return rows_of(tables(files.copied(self.path, self.aside)))
 
     def of_server(self, name, requests, environment, most):
         """The comparisons of requests to a server whose disk fails, and of what it leaves. Answers whether the disk has failed."""
@@ -138,8 +134,8 @@ class Desk(compare_office.Desk):
             *told, errors = serving.end()
         yield f"{name}: the end", tuple(told), judge.end(tuple(told))
         found = self.found()
-        office = next((office for office in judge.states if rows_of(office) == found), judge.states[0])
-        yield f"{name}: tables", found, rows_of(office)
+        office = next((office for office in judge.states if rows_of_office(office) == found), judge.states[0])
+        yield f"{name}: tables", found, rows_of_office(office)
         yield f"{name}, and then entries", self.run(["entries", "17"]), (*office.answer(["entries", "17"]), b"")
         is_stopped, kind = errors == STOPPED, judge.kind(tuple(told))
         yield f"{name}{BECOMES if is_stopped else ' was not made'}", kind, kind if is_stopped else "undisturbed"
@@ -151,7 +147,7 @@ def of_case(program, compiler, case, kind):
     commands, requests = CASES[case]
     count, most = STOPS[kind]
     with tempfile.TemporaryDirectory() as folder:
-        desk = Desk(program, folder, commands)
+        desk = StoppedDesk(program, folder, commands)
         stopper = programs.built(compiler, folder, "stop_disk")
         for number in itertools.count(1):
             desk.restore()
@@ -190,7 +186,7 @@ def end_in_log(desk):
         with subprocess.Popen(desk.words(["enter", "17"]), stdin=source, stdout=subprocess.DEVNULL) as running:
             while not os.path.exists(desk.path + "-wal") and running.poll() is None:
                 pass
-            migrating_archive.end(running)
+            killing.end(running)
 
 
 def of_modes(program, umask):
@@ -198,7 +194,7 @@ def of_modes(program, umask):
     the log is made anew."""
     name = f"umask {umask:03o}"
     with tempfile.TemporaryDirectory() as folder, masked(umask):
-        desk = compare_office.Desk(program, folder)
+        desk = Desk(program, folder)
         yield f"{name}: init", desk.run(["init"]), CREATED
         yield f"{name}: the modes after init", modes(desk.path), OWNED
         yield f"{name}: register", *desk.both(["register"], ANNA)
@@ -221,11 +217,11 @@ def of_refused_modes(program):
     for mode in (0o600, 0o640, 0o644, 0o666):
         for name in ["a text", "an archive"]:
             with tempfile.TemporaryDirectory() as folder:
-                desk = compare_office.Desk(program, folder)
+                desk = Desk(program, folder)
                 if name == "an archive":
                     desk.prepare([])
                 else:
-                    compare_office.FILES[name][0](desk.path)
+                    make_text(desk.path)
                 os.chmod(desk.path, mode)
                 yield f"{name} of mode {mode:03o}: init", desk.run(["init"]), STORE_FAILED
                 yield f"{name} of mode {mode:03o}: its mode", modes(desk.path)[""], f"{mode:o}"
@@ -234,18 +230,12 @@ def of_refused_modes(program):
 # All
 
 
-def of_question(question):
-    """The comparisons of a question: a function and what it is given."""
-    function, *words = question
-    return list(function(*words))
-
-
-def comparisons(program, compiler):
-    questions = [(of_case, program, compiler, case, kind) for case in CASES for kind in STOPS]
+def comparisons(program: str, compiler: str) -> counting.Comparisons:
+    questions: list[tuple[Any, ...]] = [(of_case, program, compiler, case, kind) for case in CASES for kind in STOPS]
     questions += [(of_modes, program, 0o022), (of_modes, program, 0), (of_refused_modes, program)]
     kinds = set()
     with multiprocessing.Pool(PROCESSES) as pool:
-        for found in pool.imap(of_question, questions):
+        for found in pool.imap(pools.of_question, questions):
             yield from found
             kinds.update(told for name, told, _ in found if name.endswith(BECOMES))
         pool.close()

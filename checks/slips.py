@@ -32,7 +32,8 @@ TOP = os.path.dirname(os.path.dirname(os.path.abspath(__file__)))
 sys.path.insert(0, os.path.join(TOP, "build"))
 
 import build  # noqa: E402
-import counting  # noqa: E402
+
+from lib import counting  # noqa: E402
 
 KEPT = os.path.join(os.environ.get("XDG_CACHE_HOME") or os.path.expanduser("~/.cache"), "mansulip-slips")
 
@@ -214,7 +215,7 @@ def try_crate(kit, crate, below, whole, anew):
     return answers
 
 
-def comparisons(names, anew):
+def comparisons(names: list[str], anew: bool) -> counting.Comparisons:
     kit = build.Kit()
     below = build.lines_of_crates()
     with_slips = [name for name in below if os.path.isdir(os.path.join(build.folder_of(name), "slips"))]
@@ -238,9 +239,9 @@ def comparisons(names, anew):
         pool.shutdown(cancel_futures=True)
 
 
-def main(words):
+def main(arguments: list[str]) -> int:
     try:
-        return counting.count(comparisons([word for word in words if word != "--anew"], "--anew" in words))
+        return counting.count(comparisons([name for name in arguments if name != "--anew"], "--anew" in arguments))
     except build.Stop as stop:
         print(f"failed: {stop}\n0 passed, 1 failed")
         return 1

@@ -2,49 +2,26 @@
 """Finds the definitions that a reader has to trust: those that public contracts cite, and what these stand on.
 
 It compares the first lines of the crates' specs/*.antt and docs/TRUSTED.md with what it found, and ends in 'N passed,
-M failed'. With the word `--write` it writes docs/TRUSTED.md instead. With `--why FILE NAME`, as in `--why
-tacho_line/Walk cut_to`, it tells by which way a definition is reached.
-
-It reads the sources alone. A word that has the name of an imported definition counts as that definition, also where it
-is a variable: so it may find too many. Of a function it takes the types of its signature too, of a type the fields and
-the `Model`, and of a trait all that it says."""
+M failed'. With the argument `--write` it writes docs/TRUSTED.md instead. With `--why FILE NAME`, as in `--why
+tacho_line/Walk cut_to`, it prints by which way a definition is reached. lib/contracts.py reads the sources, and says how."""
 import collections
-import functools
 import itertools
 import os
 import re
 import sys
-import textwrap
+from collections.abc import Iterable, Iterator
+from typing import Any
 
-import counting
+from lib import counting
+from lib.contracts import (
+    CRATES, ENTRIES, SPECS, Declared, Definition, Entry, Kit, Node, Text, all_entries, cited, declared_texts, faults, spec, wrapped,
+)
+from lib.files import DOCS
 
-TOP = os.path.dirname(os.path.dirname(os.path.abspath(__file__)))
-DOCUMENT = os.path.join(TOP, "docs", "TRUSTED.md")
+Found = dict[Node, Node | str]  # what is reached, and by what it was first cited
+Rows = dict[tuple[str, str], tuple[list[str], list[str]]]  # by crate and file: which of its definitions are trusted, and all of them
 
-# The crates by whose public contracts the product is known, each with those of its modules that count, or None for all.
-# The crates that stand between aren't here: what theirs say is used in proofs of these, and the prover has checked it.
-# Of tacho_rules the scan stands between too: the program's reports are told by IsReport, however they are made. So it is of the pass of
-# tacho_stretches.
-ENTRIES = {
-    "tacho_time": None,
-    "tacho_card": None,
-    "tacho_line": None,
-    "tacho_rules": ("examination", "laws", "report"),
-    "tacho_stretches": ("laws", "range", "stretch"),
-    "tacho_state": None,
-    "tacho_sheet": None,
-    "tacho_desk": None,
-    "tacho_store": None,
-    "tacho_message": None,
-    "tacho_http": None,
-    "tacho_cli": None,
-}
-
-# Laws of these that are about what stands between: what each pass of a scan finds.
-BETWEEN = {f"tacho_rules::laws::{name}_as_defined" for name in ("breaks", "days", "week_sums", "week_rests")}
-
-# What these show of other crates by `pub use`, and what stands between all the same: the scan's passes, and what reads rows for it.
-PASSED_ON = {"Breaks", "Days", "Found", "Pass", "Plain", "WeekRests", "WeekSums", "feed_rows"}
+DOCUMENT = os.path.join(DOCS, "TRUSTED.md")
 
 # What to read in which order, each step with what it is about and its files, or all of another order. Of a public item
 # whose name begins with one of the roots everything has to stand in these files, or in crates that are left to others.
@@ -82,10 +59,10 @@ DATABASE = Order(
          "tacho_state: Steps Content Batch Registration Limits Least Disjoint Reported Summaries"),
         ("what a call does to an archive, and what a crash within it or after several leaves",
          "tacho_state: Acts; tacho_reading: Kept; tacho_state: Runs"),
-        ("how an archive is made, found again and carried over from schema 1; the tables after a command", "tacho_store: Opening Old After"),
+        ("how an archive is made, found again and carried over from schema 1; the tables after a command",
+         "tacho_store: Opening Old After"),
     ),
 )
-
 
 AUDITOR = Order(
     "An auditor of the whole",
@@ -114,399 +91,8 @@ AUDITOR = Order(
 
 ORDERS = LAWYER, DATABASE, AUDITOR
 
-# A definition of the crates, a type or trait of their code, or a definition of a library of the kit.
-Definition = collections.namedtuple("Definition", "crate file name")
-Declared = collections.namedtuple("Declared", "crate module name")
-Kit = collections.namedtuple("Kit", "library path name")
-
-# What an .antt file has: its first comment, its definitions by name, which of them a constructor is of, and its scope.
-Spec = collections.namedtuple("Spec", "comment definitions constructors scope")
-
-# What words mean in a place: names, and prefixes of names, as `status.Okay`.
-Scope = collections.namedtuple("Scope", "names prefixes")
-
-# A part of a source with the scope that its words have.
-Text = collections.namedtuple("Text", "words scope")
-
-# What is wrong in the sources, each by the place and the name.
-faults = set()
-
-
-def crates_in_order():
-    """Each crate of crates.txt with the crates and libraries that it uses."""
-    with open(os.path.join(TOP, "crates.txt"), encoding="utf-8") as file:
-        rows = [row.partition(":") for row in file if not row.startswith("#")]
-    return {name: uses.split() for name, _, uses in rows}
-
-
-def files_of(crate, folder, ending):
-    """The names of a crate's files in a folder, in order, but those of Lib.antt and lib.rt."""
-    path = os.path.join(TOP, "crates", crate, folder)
-    names = sorted(os.listdir(path)) if os.path.isdir(path) else []
-    return [name.removesuffix(ending) for name in names if name.endswith(ending) and name.lower() != "lib" + ending]
-
-
-USES = crates_in_order()
-CRATES = list(USES)
-LIBRARIES = {"std", *CRATES, *sum(USES.values(), [])}
-SPECS = {crate: files_of(crate, "specs", ".antt") for crate in CRATES}
-MODULES = {crate: files_of(crate, "src", ".rt") for crate in CRATES}
-
-
-# ---- words
-
-
-def without_comments(text, mark):
-    """The text without strings, characters and comments, which begin with a mark."""
-    strings = r'"(?:\\.|[^"\\])*"|' + r"'(?:\\.|[^'\\\n])'"
-    return re.sub(strings + "|" + mark + r"[^\n]*", lambda found: "" if found[0].startswith(mark) else '""', text)
-
-
-def words_of(text):
-    """The words of a text, each with what it has behind its first dot, and its signs."""
-    return re.findall(r"\.?[^\W\d][\w-]*(?:\.\w[\w-]*)*|\[\]|[^\s\w(){}\[\];,.\"]+", text)
-
-
-def kit_words(name):
-    """The word by which a name is cited: of `◌≡◌` it is the sign, and of `if◌then◌else◌` the first word."""
-    return [part for part in name.split("◌") if part][:1]
-
-
-# ---- imports
-
-
-def target(path, name):
-    """What a name behind a path is, or None where the path leads nowhere."""
-    parts = path.split(".")
-    if len(parts) < 3 or parts[1] not in LIBRARIES:
-        return None
-    crate = parts[1]
-    if crate not in CRATES:
-        return Kit(crate, ".".join(parts[2:]), name)
-    if parts[2:4] == ["specs", "declared"] and len(parts) >= 6:
-        return Declared(crate, parts[4], name if parts[5] == "TheConstants" else parts[5])
-    if parts[2] == "specs" and len(parts) == 4 and parts[3] in SPECS[crate]:
-        return Definition(crate, parts[3], name)
-    return None
-
-
-IMPORT = re.compile(r"use (Rattle[\w.]+?)(?:\.\{([^}]*)\}| as (\w+))")
-
-
-def scope_of(place, text):
-    """The scope that the imports of a text make. What can't be resolved is a fault of the place."""
-    scope = Scope({}, {})
-    imports = IMPORT.findall(text)
-    if len(imports) != len(re.findall(r"^ *(?:ghost )?use ", text, re.MULTILINE)):
-        faults.add(f"{place}: an import that can't be read")
-    for path, names, prefix in imports:
-        if target(path, "") is None:
-            faults.add(f"{place}: no such import: {path}")
-        elif prefix:
-            scope.prefixes[prefix] = path
-        else:
-            scope.names.update(named(path, names))
-    return scope
-
-
-def named(path, names):
-    """The words of an import, each with what it cites."""
-    for row in filter(None, (name.strip() for name in names.split(","))):
-        name, _, other = row.partition(" as ")
-        for word in kit_words(other or name):
-            yield word, target(path, name)
-
-
-def meaning(word, scope):
-    """What a word cites in a scope, or None. What follows a dot is a field, unless a prefix stands before it."""
-    head, _, rest = word.partition(".")
-    if head in scope.prefixes and rest:
-        return target(scope.prefixes[head], rest.split(".")[0])
-    return scope.names.get(head) if head else None
-
-
-# ---- definitions
-
-
-HEAD = re.compile(r"(?:(?:abbrev|unfoldable) +)?(?:pub +)?(?:(?:record|data) +)?([A-Za-z_][\w-]*)(?= |$)")
-
-
-def signature(line):
-    """The name that a line defines, or None: it has a keyword before the name, or a colon behind it."""
-    found = HEAD.match(line)
-    if not found:
-        return None
-    has_keyword = re.match(r"(abbrev|unfoldable|pub|record|data) ", line)
-    return found[1] if has_keyword or line[found.end() :].lstrip().startswith(":") else None
-
-
-def definitions_of(place, text):
-    """The definitions of an .antt file, each with its text, and the head of the modules that it stands in."""
-    definitions = {}
-    heads = []
-    last = []
-    for line in filter(str.strip, text.split("\n")):
-        indent = len(line) - len(line.lstrip())
-        heads = heads[: indent // 2]
-        if indent > 2 * len(heads) or not re.match(r" *[^\W\d]", line):
-            last.append(line)
-        elif line.lstrip().startswith("module "):
-            last = [line]
-            heads.append(last)
-        else:
-            name = signature(line.lstrip())
-            if name:
-                definitions[name] = sum(heads, [])
-            elif (name := line.split()[0]) not in definitions:
-                faults.add(f"{place}: no definition of this file: {name}")
-                definitions[name] = []
-            last = definitions[name]
-            last.append(line)
-    return {name: "\n".join(lines) for name, lines in definitions.items()}
-
-
-def constructors_of(definitions):
-    """Of each constructor of a `data` the name of the data."""
-    found = {}
-    for name, text in definitions.items():
-        if re.match(r"(?:pub +)?data ", text):
-            for constructor in re.findall(r"^  (?:pub +)?([A-Za-z_][\w-]*) +:", text, re.MULTILINE):
-                found[constructor] = name
-    return found
-
-
-def first_comment(text):
-    """The lines of the comment that a file begins with, without their marks."""
-    lines = []
-    for line in text.split("\n"):
-        if not line.startswith("--"):
-            break
-        lines.append(line[2:].strip())
-    return lines
-
-
-@functools.cache
-def spec(crate, file):
-    """What an .antt file has."""
-    place = f"{crate}/{file}"
-    with open(os.path.join(TOP, "crates", crate, "specs", file + ".antt"), encoding="utf-8") as source:
-        whole = source.read()
-    text = without_comments(whole, "--")
-    imports = re.findall(r"^use [^{\n]*(?:\{[^}]*\})?[^\n]*", text, re.MULTILINE)
-    for line in imports:
-        text = text.replace(line, "", 1)
-    definitions = definitions_of(place, text)
-    scope = scope_of(place, "\n".join(imports))
-    constructors = constructors_of(definitions)
-    own = {**constructors, **{name: name for name in definitions}}
-    scope.names.update({name: Definition(crate, file, other) for name, other in own.items()})
-    return Spec(first_comment(whole), definitions, constructors, scope)
-
-
-# ---- code
-
-
-def chunks(text, indent):
-    """The items of a text at an indent: each begins there with a letter, and has the lines below it."""
-    found = []
-    for line in text.split("\n"):
-        if re.match(" " * indent + "[a-z]", line) and not re.match(" *where\\b", line):
-            found.append(line)
-        elif found:
-            found[-1] += "\n" + line
-    return found
-
-
-def rust_names(crate, module, text):
-    """The types and traits of the crates that a file has or imports."""
-    names = {}
-    for path, group, single in re.findall(r"^use ([\w:]+)::(?:\{([^}]*)\}|([\w ]+));", text, re.MULTILINE):
-        for name, _, other in (row.strip().partition(" as ") for row in (group or single).split(",")):
-            found = exported(crate, path.split("::"), name)
-            if found:
-                names[found.name if name == "self" else other or name] = found
-    for name in re.findall(r"^(?:pub(?:\(crate\))? )?(?:struct|enum|trait|type) (\w+)", text, re.MULTILINE):
-        names[name] = Declared(crate, module, name)
-    return names
-
-
-def exported(crate, path, name):
-    """The type or trait of the crates that a path of the code leads to, or None: of a variant it is the type."""
-    if path[0] == "crate":
-        path = [crate, *path[1:]]
-    while path[-1][0].isupper():
-        *path, name = path
-    if path[0] not in CRATES or not name[:1].isupper():
-        return None
-    if len(path) > 1:
-        return Declared(path[0], path[1], name)
-    return library(path[0]).get(name)
-
-
-@functools.cache
-def library(crate):
-    """What the lib.rt of a crate shows of types and traits, by the names that it gives them."""
-    types = {}
-    for path, name, other in shown_names(crate):
-        found = exported(crate, ["crate", *path] if path[0] not in CRATES else path, name)
-        if found:
-            types[other] = found
-    return types
-
-
-def shown_names(crate, module="lib"):
-    """What a file of a crate shows by `pub use`: the path, the name in it, and the name outside."""
-    path = os.path.join(TOP, "crates", crate, "src", module + ".rt")
-    if not os.path.exists(path):
-        return
-    with open(path, encoding="utf-8") as file:
-        text = without_comments(file.read(), "//")
-    for path, group, single in re.findall(r"^pub use ([\w:]+)::(?:\{([^}]*)\}|([\w ]+));", text, re.MULTILINE):
-        for name, _, other in (row.strip().partition(" as ") for row in (group or single).split(",") if row.strip()):
-            yield path.split("::"), name, other or name
-
-
-def shown_modules(crate):
-    """The modules that the lib.rt of a crate shows whole."""
-    with open(os.path.join(TOP, "crates", crate, "src", "lib.rt"), encoding="utf-8") as file:
-        return re.findall(r"^pub mod (\w+);", file.read(), re.MULTILINE)
-
-
-@functools.cache
-def source(crate, module):
-    """The items of a file of code, and the scope of its ghost words; None where there is no such file."""
-    path = os.path.join(TOP, "crates", crate, "src", module + ".rt")
-    if not os.path.exists(path):
-        return None
-    with open(path, encoding="utf-8") as file:
-        text = without_comments(file.read(), "//")
-    imports = "\n".join(chunk for chunk in chunks(text, 0) if chunk.startswith("ghost use"))
-    scope = scope_of(f"{crate}/src/{module}.rt", imports)
-    return chunks(text, 0), Scope({**rust_names(crate, module, text), **scope.names}, scope.prefixes)
-
-
-def contract(item):
-    """The signature of a function and the clauses of its contract, without its body."""
-    lines = item.split("\n")
-    indent = len(lines[0]) - len(lines[0].lstrip())
-    body = [number for number, line in enumerate(lines) if line in (" " * indent + "{", " " * indent + "{}")]
-    if body:
-        return "\n".join(lines[: body[0]])
-    return item.partition(" {\n")[0] if lines[0].lstrip().startswith(("fn ", "pub fn ")) else item
-
-
-def promises(item):
-    """Whether a function has a contract."""
-    return bool(re.search(r"^ +(ensures|requires)\b", contract(item), re.MULTILINE))
-
-
-def block_texts(crate, module, block, wanted):
-    """The items of an impl or a trait that are wanted, in the scope of the file and of its own imports."""
-    items = chunks(block, 4)
-    scope = source(crate, module)[1]
-    imports = "\n".join(item for item in items if item.lstrip().startswith("ghost use"))
-    own = scope_of(f"{crate}/src/{module}.rt", imports)
-    scope = Scope({**scope.names, **own.names}, {**scope.prefixes, **own.prefixes})
-    head = block.split("{")[0]
-    return [Text(head + "\n" + contract(item), scope) for item in items if wanted(item.lstrip())]
-
-
-def is_ghost(item):
-    """Whether it is a ghost item that says something."""
-    return item.startswith("ghost ") and not item.startswith("ghost use")
-
-
-def is_shown(item):
-    """Whether it is a public function with a contract."""
-    return item.startswith("pub fn ") and promises(item)
-
-
-def head_of(block):
-    """The trait and the type of an impl: the trait is empty where it has none."""
-    head = block.split("{")[0]
-    while "<" in head:
-        head = re.sub(r"<[^<>]*>", "", head)
-    words = [word.split("::")[-1] for word in head.split()[1:]]
-    return (words[0], words[2]) if "for" in words else ("", words[0])
-
-
-def impls_of(crate, name):
-    """The impl blocks of a type in its crate: module, trait, text."""
-    for module in MODULES[crate]:
-        for block in source(crate, module)[0]:
-            if block.startswith("impl") and head_of(block)[1] == name:
-                yield module, head_of(block)[0], block
-
-
-def declared_texts(declared):
-    """What is to be known of a type or a trait that is cited: its fields or its methods, and its Model."""
-    read = source(declared.crate, declared.module)
-    pattern = re.compile(rf"(?:pub(?:\(crate\))? )?(?:struct|enum|trait|type|const|static) {declared.name}\b")
-    found = [chunk for chunk in read[0] if pattern.match(chunk)] if read else []
-    if not found:
-        faults.add(f"{declared.crate}: no such type: {declared.module}::{declared.name}")
-        return []
-    texts = [Text(found[0], read[1])]
-    if re.match(r"(?:pub(?:\(crate\))? )?trait ", found[0]):
-        texts = block_texts(declared.crate, declared.module, found[0], lambda item: not item.startswith("ghost use"))
-    for module, trait, block in impls_of(declared.crate, declared.name):
-        if trait == "Model":
-            texts += block_texts(declared.crate, module, block, is_ghost)
-    return texts
-
-
-def entries_of(crate, modules):
-    """The public items of a crate that have a contract: the name of each, and its texts."""
-    there = [(path[0], name) for path, name, _ in shown_names(crate) if path[0] in MODULES[crate]]
-    there += [(module, None) for module in shown_modules(crate)]
-    for module, name in there:
-        if modules is None or module in modules:
-            yield from entries_in(crate, module, name)
-    for path, name, _ in itertools.chain(shown_names(crate), *(shown_names(crate, module) for module in shown_modules(crate))):
-        if path[0] in CRATES and path[0] not in ENTRIES and name not in PASSED_ON:
-            yield from entries_shown(path[0], path[1:], name)
-
-
-def entries_shown(crate, path, name):
-    """The public items of a crate that another one shows: those with this name, in the file that a path leads to or that lib.rt says."""
-    if name in shown_modules(crate):
-        yield from entries_in(crate, name, None)
-        return
-    modules = path or [found[0] for found, inner, _ in shown_names(crate) if inner == name and found[0] in MODULES[crate]]
-    for module in modules:
-        yield from entries_in(crate, module, name)
-
-
-def entries_in(crate, module, name):
-    """The public items of a file with this name, or all of them."""
-    chunks_there, scope = source(crate, module)
-    for chunk in chunks_there:
-        found = re.match(r"pub (fn|struct|enum|trait) (\w+)", chunk)
-        if not found or name not in (None, found[2]):
-            continue
-        if found[1] == "fn":
-            if promises(chunk):
-                yield f"{module}::{found[2]}", [Text(contract(chunk), scope)]
-        elif found[1] == "trait":
-            yield f"{module}::{found[2]}", declared_texts(Declared(crate, module, found[2]))
-        else:
-            yield from entries_of_type(crate, found[2])
-
-
-def entries_of_type(crate, name):
-    """The public methods of a type that have a contract, and what its impls of traits say of it."""
-    for module, trait, block in impls_of(crate, name):
-        for text in block_texts(crate, module, block, is_ghost if trait else is_shown):
-            called = re.search(r"^ +(?:pub fn|ghost) (\w+)", text.words, re.MULTILINE)[1]
-            yield f"{module}::{name}::{called}", [text]
-
 
 # ---- what is reached
-
-
-def cited(texts):
-    """What texts cite."""
-    return {found for text in texts for word in words_of(text.words) if (found := meaning(word, text.scope))}
 
 
 def shown(place):
@@ -530,10 +116,10 @@ def beyond(node, place):
     return cited([Text(read.definitions[name], read.scope)])
 
 
-def reached(entries):
+def reached(entries: Iterable[Entry]) -> Found:
     """All that is cited by entries, and by what they cite: each with what it was first cited by."""
-    found = {}
-    waiting = collections.deque()
+    found: Found = {}
+    waiting: collections.deque[tuple[Node, Node | str]] = collections.deque()
     for name, texts in entries:
         waiting.extend((node, name) for node in sorted(cited(texts), key=str))
     while waiting:
@@ -544,9 +130,9 @@ def reached(entries):
     return found
 
 
-def way_to(node, found):
+def way_to(node: Node, found: Found) -> list[str]:
     """How a definition is reached, from the public item on."""
-    way = [node]
+    way: list[Any] = [node]
     while way[-1] in found:
         way.append(found[way[-1]])
     return [shown(step) for step in reversed(way)]
@@ -555,9 +141,9 @@ def way_to(node, found):
 # ---- files and documents
 
 
-def verdicts(found):
+def verdicts(found: Found) -> Rows:
     """Of each .antt file, by crate and name, which of its definitions are trusted, and all of them."""
-    rows = {}
+    rows: Rows = {}
     for crate in CRATES:
         for file in SPECS[crate]:
             names = list(spec(crate, file).definitions)
@@ -576,11 +162,6 @@ def about(crate, file):
     """What a file is about: the first sentence of its first comment, without what says whether it is trusted."""
     comment = re.sub(r"^(Trusted|Trusted in part|Private to \w+): ", "", " ".join(spec(crate, file).comment))
     return re.split(r"(?<=\.) (?=[A-Z])", comment)[0].rstrip(".")
-
-
-def wrapped(text, indent=""):
-    """A paragraph in lines."""
-    return textwrap.wrap(text, 120, subsequent_indent=indent, break_long_words=False, break_on_hyphens=False)
 
 
 def of_files(rows):
@@ -661,7 +242,7 @@ OPENING = (
 )
 
 
-def document(entries, found, rows):
+def document(entries: list[Entry], found: Found, rows: Rows) -> Iterator[str]:
     """The lines of docs/TRUSTED.md."""
     crates = ", ".join(f"`{crate}`" for crate in ENTRIES)
     for paragraph in OPENING:
@@ -679,19 +260,6 @@ def document(entries, found, rows):
 
 
 # ---- the check
-
-
-def all_entries():
-    """The public items that have a contract, each with its texts."""
-    entries = []
-    for crate, modules in ENTRIES.items():
-        there = [(f"{crate}::{name}", texts) for name, texts in entries_of(crate, modules)]
-        if not there:
-            faults.add(f"{crate}: nothing public has a contract")
-        entries += there
-    for name in sorted(BETWEEN - {name for name, _ in entries}):
-        faults.add(f"no such law: {name}")
-    return [entry for entry in entries if entry[0] not in BETWEEN]
 
 
 def missing_names():
@@ -721,7 +289,7 @@ def order_rows(order, entries, rows):
         yield place, "trusted" if rows.get((crate, file), ([], []))[0] else "not trusted", "trusted"
 
 
-def comparisons(entries, found, rows):
+def comparisons(entries: list[Entry], found: Found, rows: Rows) -> counting.Comparisons:
     """The first lines, the orders, the document, and what is wrong in the sources."""
     yield from first_line_rows(rows)
     for order in ORDERS:
@@ -734,28 +302,28 @@ def comparisons(entries, found, rows):
         yield fault, "not found", "found"
 
 
-def write(entries, found, rows):
+def write(entries: list[Entry], found: Found, rows: Rows) -> int:
     """Writes docs/TRUSTED.md."""
     with open(DOCUMENT, "w", encoding="utf-8") as file:
         file.write("\n".join(document(entries, found, rows)) + "\n")
     return 0
 
 
-def tell(found, place, name):
+def tell(found: Found, place: str, name: str) -> int:
     """Prints by which way a definition is reached."""
     node = Definition(*place.split("/"), name)
     print("\n".join(way_to(node, found)) if node in found else f"{place} {name} isn't reached")
     return 0
 
 
-def main(words):
-    """Does what the words ask for."""
+def main(arguments: list[str]) -> int:
+    """Does what the arguments ask for."""
     entries = all_entries()
     found = reached(entries)
-    if words[:1] == ["--why"]:
-        return tell(found, *words[1:])
+    if arguments[:1] == ["--why"]:
+        return tell(found, *arguments[1:])
     rows = verdicts(found)
-    if words == ["--write"]:
+    if arguments == ["--write"]:
         return write(entries, found, rows)
     return counting.count(comparisons(entries, found, rows))
 

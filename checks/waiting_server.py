@@ -1,9 +1,9 @@
 #!/usr/bin/env python3
-"""Starts the program as a server on archives in files and keeps it waiting: by clients that are slow, or go on behind their reply, by
-signals that stop it for a while, and by want of files. It has to wait as long as docs/OFFICE.md says and no longer, and then to answer
-who has come behind.
+"""Starts the program as a server on archives in files and keeps it waiting: by clients that are slow, or go on after their reply, by
+signals that stop it for a while, and by a lack of files. It has to wait as long as docs/OFFICE.md says and no longer, and then to answer
+who has come after them.
 
-Most of the time nothing happens, and so all parts run side by side, each with a server and clients of its own. The word is the program.
+Most of the time nothing happens, and so all parts run side by side, each with a server and clients of its own. Argument: the program.
 The last line is 'N passed, M failed'."""
 import contextlib
 import itertools
@@ -17,20 +17,22 @@ import subprocess
 import sys
 import tempfile
 import time
+from typing import Any
 
-import compare_office
-import counting
-from compare_server import BREACHES, COUNTED, ENDED, FORBIDDEN, NO_PORT, OFFICE, OWN, REPEATED, STORED, TOO_LARGE
-from compare_server import Serving, asking, posting, received, told
-from office_rows import DAY, LARGEST_DAY, LIMIT
+from lib import counting
+from lib.office import WITH_ANNA, Desk
+from lib.office_rows import DAY, LARGEST_DAY, LIMIT
+from lib.server import (
+    BREACHES, COUNTED, ENDED, FORBIDDEN, NO_PORT, OFFICE, OWN, REPEATED, STORED, TOO_LARGE, Serving, asking, posting, received, told,
+)
 
 # Between how many seconds the program may take. The system wakes a call that waits up to an eighth too late, and a busy machine later.
 CONNECTION = (29.5, 45)
 LINGERING = (1.9, 10)
 FILES = (29.5, 60)
 SOON = (0, 5)
-BEHIND_ONE = (29.5, 40)  # that another client waits behind a silent one
-BEHIND_MANY = (19.5, 40)  # that it waits behind those of which each leaves after a second
+AFTER_ONE = (29.5, 40)  # that another client waits after a silent one
+AFTER_MANY = (19.5, 40)  # that it waits after those of which each leaves after a second
 MANY = 20
 LONGEST = 65  # after that a client gives up
 PIECE = bytes(65_536)
@@ -57,10 +59,10 @@ def within(seconds, limits):
 
 @contextlib.contextmanager
 def served(program, count, file=DAY):
-    """The program as a server, for so many connections, on an archive that has Anna and a card file of hers."""
+    """The program as a server, for a number of connections, on an archive that has Anna and a card file of hers."""
     with tempfile.TemporaryDirectory() as folder:
-        desk = compare_office.Desk(program, folder)
-        desk.prepare([*compare_office.WITH_ANNA, (["import", "both"], file)])
+        desk = Desk(program, folder)
+        desk.prepare([*WITH_ANNA, (["import", "both"], file)])
         with Serving(program, desk.path, OFFICE, count) as serving:
             yield serving
 
@@ -100,7 +102,7 @@ def push(connection, piece, pause):
 
 
 def of_slow(program, name, front, pieces):
-    """The comparisons of a client whose request doesn't come to its end, and of the one behind it."""
+    """The comparisons of a client whose request doesn't come to its end, and of the one after it."""
     with served(program, 2) as serving, serving.connection() as slow, serving.connection() as other:
         slow.sendall(front)
         other.sendall(OWN)
@@ -119,7 +121,7 @@ def timed_reply(connection):
 
 
 def of_pushing(program, name, piece, pause):
-    """The comparisons of a client that goes on sending behind its request, and of the one behind it."""
+    """The comparisons of a client that goes on sending after its request, and of the one after it."""
     with served(program, 2) as serving, serving.connection() as pushing, serving.connection() as other:
         pushing.sendall(OWN)
         other.sendall(OWN)
@@ -130,7 +132,7 @@ def of_pushing(program, name, piece, pause):
 
 
 def of_answered(program, name, front, reply):
-    """The comparisons of a client that has its reply soon, takes it whole, and then sends a byte a second, and of the one behind it."""
+    """The comparisons of a client that has its reply soon, takes it whole, and then sends a byte a second, and of the one after it."""
     with served(program, 2) as serving, serving.connection() as answered, serving.connection() as other:
         answered.sendall(front)
         other.sendall(OWN)
@@ -142,7 +144,7 @@ def of_answered(program, name, front, reply):
 
 
 def of_silent(program, name, stays, limits):
-    """The comparisons of the one behind clients that send nothing, each of which leaves so many seconds after the one before it, or stays
+    """The comparisons of the one after clients that send nothing, each of which leaves some seconds after the one before it, or stays
     where there is no such number."""
     with served(program, len(stays) + 1) as serving, contextlib.ExitStack() as clients:
         silent = [clients.enter_context(serving.connection()) for _ in stays]
@@ -160,7 +162,7 @@ def of_silent(program, name, stays, limits):
 
 
 def of_staying(program):
-    """The comparisons of a client that doesn't close its end, takes its reply late and has it whole, and of the one behind it."""
+    """The comparisons of a client that doesn't close its end, takes its reply late and has it whole, and of the one after it."""
     name = "a client that takes its reply late"
     with served(program, 2, LARGEST_DAY) as serving, serving.connection() as staying, serving.connection() as other:
         staying.sendall(FILE)
@@ -193,7 +195,7 @@ def stop_for_a_while(process):
 
 
 def of_stops(program):
-    """The comparisons of a server that is stopped while it waits: for a client, in a head, in a body, and behind a reply."""
+    """The comparisons of a server that is stopped while it waits: for a client, in a head, in a body, and after a reply."""
     file = posting("/cards/both", OFFICE, DAY)
     with served(program, 4) as serving:
         with serving.connection() as first:
@@ -210,11 +212,11 @@ def of_stops(program):
             yield "stopped before a connection and in a body", received(second), REPEATED
         with serving.connection() as third, serving.connection() as other:
             third.sendall(OWN)
-            yield "stopped behind a reply: the reply", received(third), BREACHES
+            yield "stopped after a reply: the reply", received(third), BREACHES
             stop_for_a_while(serving.process)
             other.sendall(OWN)
             other.settimeout(LONGEST)
-            yield "stopped behind a reply: the next", received(other), BREACHES
+            yield "stopped after a reply: the next", received(other), BREACHES
         yield "stopped: the end", serving.end(), ENDED
 
 
@@ -290,20 +292,20 @@ def of_question(question):
     return found
 
 
-def comparisons(program):
+def comparisons(program: str) -> counting.Comparisons:
     program = os.path.abspath(program)
     file = posting("/cards/both", OFFICE, LARGEST_DAY)
-    questions = [
+    questions: list[tuple[Any, ...]] = [
         (of_slow, program, "a head byte by byte", b"", pieces_of(DRIPPED)),
         (of_slow, program, "a body byte by byte", file[: -len(LARGEST_DAY)], pieces_of(LARGEST_DAY[:200])),
         (of_slow, program, "a client that sends nothing", b"", LONGEST * [b""]),
-        (of_slow, program, "a head byte by byte behind an unknown key", UNKNOWN[:-2], pieces_of(PADDING.encode())),
-        (of_answered, program, "a byte a second behind a reply", OWN, BREACHES),
-        (of_answered, program, "a body byte by byte behind an unknown key", UNKNOWN_FRONT, FORBIDDEN),
-        (of_silent, program, "a silent client", [None], BEHIND_ONE),
-        (of_silent, program, "silent clients that leave", MANY * [1], BEHIND_MANY),
-        (of_pushing, program, "a byte now and then behind a request", b"p", 0.5),
-        (of_pushing, program, "all that goes behind a request", PIECE, 0),
+        (of_slow, program, "a head byte by byte after an unknown key", UNKNOWN[:-2], pieces_of(PADDING.encode())),
+        (of_answered, program, "a byte a second after a reply", OWN, BREACHES),
+        (of_answered, program, "a body byte by byte after an unknown key", UNKNOWN_FRONT, FORBIDDEN),
+        (of_silent, program, "a silent client", [None], AFTER_ONE),
+        (of_silent, program, "silent clients that leave", MANY * [1], AFTER_MANY),
+        (of_pushing, program, "a byte now and then after a request", b"p", 0.5),
+        (of_pushing, program, "all that goes after a request", PIECE, 0),
         *[(part, program) for part in [of_staying, of_unread, of_stops, of_files, of_no_files]],
     ]
     with multiprocessing.Pool(len(questions)) as pool:

@@ -1,18 +1,21 @@
 """A slow office over an archive, written from the definitions and not from the program: what each command line prints for an
 input, and its status. Its texts are written a minute at a time. `docs/FORMATS.md` says what they are.
 
-`Office.answer` is given the words without the archive's path (`["spans", "17", "2024-03"]`) and the input's bytes. It takes one
-command more than the program, `own`: the import of a card file by the driver himself whose number it has. Its archive is one of schema 2,
+`Office.answer` is given the arguments without the archive's path (`["spans", "17", "2024-03"]`) and the input's bytes. It takes one
+command more than the program, `own`: the import of a card file by the driver whose number it has. Its archive is one of schema 2,
 which `migrate` leaves as it is."""
 import datetime
 import functools
 import re
+from collections.abc import Callable, Iterable, Sequence
 
-import slow_archive
-import slow_csv
-import slow_reader
-import slow_rules
-from slow_archive import Refusal
+from slow import slow_archive, slow_csv, slow_reader, slow_rules
+from slow.slow_archive import Marks, Refusal
+from slow.slow_rules import FoundBreach, FoundDebt, Report
+
+Command = tuple[list[str], bytes]  # the arguments without the archive's path, and the input
+Month = tuple[int, int]  # a year, and the number of the month
+Runs = tuple[tuple[int, int, slow_reader.Mark], ...]
 
 INPUT_LIMIT = 262_144
 LONGEST = 527_040
@@ -50,17 +53,17 @@ FAULTS = {
 }
 
 
-# The words of a command
+# The arguments of a command
 
 
-def number_of(text, most):
-    """The number that a word is: N1."""
+def number_of(text: str, most: int) -> int:
+    """The number that an argument is: N1."""
     if not re.fullmatch("[1-9][0-9]{0,6}", text) or int(text) > most:
         raise slow_reader.Fault("N1 bad number")
     return int(text)
 
 
-def date_of(year, month, day):
+def date_of(year: int, month: int, day: int) -> datetime.date | None:
     """The date of three numbers, or nothing where the calendar has none. Of the year 0, which Python hasn't, that of the year 400,
     which has the same months."""
     try:
@@ -69,13 +72,13 @@ def date_of(year, month, day):
         return None
 
 
-def day_number(date):
+def day_number(date: datetime.date) -> int:
     """The number of a date."""
     return (date - EPOCH).days
 
 
-def day_of(text):
-    """The day that a word is: Z1, Z2, Z3."""
+def day_of(text: str) -> int:
+    """The day that an argument is: Z1, Z2, Z3."""
     if not re.fullmatch("[0-9]{4}-[0-9]{2}-[0-9]{2}", text):
         raise slow_reader.Fault("Z1 not of the shape")
     date = date_of(*[int(part) for part in text.split("-")])
@@ -86,8 +89,8 @@ def day_of(text):
     return day_number(date)
 
 
-def month_of(text):
-    """The year and the month that a word is: Z1, Z2, Z3."""
+def month_of(text: str) -> Month:
+    """The year and the month that an argument is: Z1, Z2, Z3."""
     if not re.fullmatch("[0-9]{4}-[0-9]{2}", text):
         raise slow_reader.Fault("Z1 not of the shape")
     year, month = [int(part) for part in text.split("-")]
@@ -98,8 +101,8 @@ def month_of(text):
     return year, month
 
 
-def part_of(text):
-    """The part of a card file that a word names: P1."""
+def part_of(text: str) -> str:
+    """The part of a card file that an argument names: P1."""
     if text not in slow_archive.PARTS:
         raise slow_reader.Fault("P1 bad part")
     return text
@@ -108,39 +111,39 @@ def part_of(text):
 # The texts of a month
 
 
-def days_of(month):
+def days_of(month: Month) -> list[datetime.date]:
     """The days of a month, by their dates."""
     year, number = month
     first = datetime.date(year, number, 1)
     return [day for day in (first + datetime.timedelta(days=place) for place in range(31)) if day.month == number]
 
 
-def minutes_of(date):
+def minutes_of(date: datetime.date) -> range:
     """The minutes of a date."""
     first = 1440 * day_number(date)
     return range(first, first + 1440)
 
 
-def month_minutes(month):
+def month_minutes(month: Month) -> range:
     """The minutes of a month."""
     days = days_of(month)
     return range(minutes_of(days[0]).start, minutes_of(days[-1]).stop)
 
 
-def spans_text(held, month):
+def spans_text(held: Marks, month: Month) -> str:
     """What is held in a month, as CSV."""
     runs = slow_reader.runs((minute, held[minute]) for minute in month_minutes(month) if minute in held)
     rows = [",".join([slow_reader.minute_text(a), slow_reader.minute_text(b), *mark]) for a, b, mark in runs]
     return "".join(row + "\n" for row in ["start,past,activity,manning", *rows])
 
 
-def gaps_text(held, month):
+def gaps_text(held: Marks, month: Month) -> str:
     """What isn't held in a month."""
     runs = slow_reader.runs((minute, "") for minute in month_minutes(month) if minute not in held)
     return "".join(f"{slow_reader.minute_text(a)} {slow_reader.minute_text(b)}\n" for a, b, _ in runs)
 
 
-def column_of(mark):
+def column_of(mark: slow_reader.Mark | None) -> str:
     """The column in which a minute counts."""
     if mark is None:
         return "none"
@@ -148,19 +151,19 @@ def column_of(mark):
     return "crew" if manning == "crew" else activity
 
 
-def amounts_text(held, minutes):
+def amounts_text(held: Marks, minutes: range) -> str:
     """The six amounts of some minutes."""
     found = [column_of(held.get(minute)) for minute in minutes]
     counts = [found.count(column) for column in [*slow_reader.ACTIVITIES, "crew", "none"]]
     return "".join(f"{count // 60}:{count % 60:02}".rjust(7) for count in counts)
 
 
-def day_text(held, date):
+def day_text(held: Marks, date: datetime.date) -> str:
     """The line of a day."""
     return f"{date.isoformat()} {WEEKDAYS[date.weekday()]}{amounts_text(held, minutes_of(date))}\n"
 
 
-def sheet_text(number, name, held, report, month):
+def sheet_text(number: int, name: str, held: Marks, report: Report, month: Month) -> str:
     """The sheet of a month."""
     horizon, cause, breaches, _ = report
     year, place = month
@@ -174,12 +177,12 @@ def sheet_text(number, name, held, report, month):
 # The texts of a report
 
 
-def horizon_text(horizon, cause):
+def horizon_text(horizon: int, cause: str) -> str:
     """Where the examination ends."""
     return f"EXAMINED TO {slow_reader.minute_text(horizon)} {cause.lower()}\n"
 
 
-def breaches_text(horizon, cause, breaches):
+def breaches_text(horizon: int, cause: str, breaches: Iterable[FoundBreach]) -> str:
     """Breaches, and where the examination ends."""
     lines = [
         f"B{kind} {ARTICLES[kind]} at {slow_reader.minute_text(moment)} since {slow_reader.minute_text(since)} amount {amount}\n"
@@ -188,14 +191,14 @@ def breaches_text(horizon, cause, breaches):
     return "".join(lines) + horizon_text(horizon, cause)
 
 
-def standing_of(horizon, deadline, payer):
+def standing_of(horizon: int, deadline: int, payer: int | None) -> str:
     """What became of a debt."""
     if payer is not None:
         return f"paid {slow_reader.minute_text(payer)}"
     return "late" if deadline <= horizon else "open"
 
 
-def owed_text(horizon, cause, debts):
+def owed_text(horizon: int, cause: str, debts: Iterable[FoundDebt]) -> str:
     """Debts, and where the examination ends."""
     lines = [
         f"WEEK {slow_reader.minute_text(slow_rules.week_start(week))[:10]} owes {amount} "
@@ -206,12 +209,12 @@ def owed_text(horizon, cause, debts):
 
 
 @functools.lru_cache(maxsize=1_000)
-def report_of_runs(runs, base):
+def report_of_runs(runs: Runs, base: int) -> Report:
     """The report of runs of minutes, each with its mark, from a minute on."""
     return slow_rules.report([(start, past, activity, manning == "crew") for start, past, (activity, manning) in runs], base)
 
 
-def report_of(held, base):
+def report_of(held: Marks, base: int) -> Report:
     """The report of what is held, from a day on: horizon, cause, breaches and debts."""
     return report_of_runs(tuple(tuple(run) for run in slow_reader.runs(held.items())), 1440 * base)
 
@@ -222,12 +225,12 @@ def report_of(held, base):
 class Stretch:
     """An examination from a Monday on, and where what isn't examined after it ends, if there is anything."""
 
-    def __init__(self, monday, report, unseen):
+    def __init__(self, monday: int, report: Report, unseen: int | None) -> None:
         self.monday = monday
         self.horizon, self.cause, self.breaches, self.debts = report
         self.unseen = unseen
 
-    def text(self, report):
+    def text(self, report: str) -> str:
         """Its lines, with these of its report."""
         parts = [f"FROM {slow_reader.minute_text(self.monday)[:10]}\n", report]
         if self.unseen is not None:
@@ -235,22 +238,23 @@ class Stretch:
         return "".join(parts)
 
 
-def is_start(held, minute):
+def is_start(held: Marks, minute: int) -> bool:
     """The first minute of a Monday that is held without a second driver."""
     return (minute - 1440 * 4) % 10080 == 0 and minute in held and held[minute][1] == "single"
 
 
-def end_of_held(held, base):
+def end_of_held(held: Marks, base: int) -> int:
     """The minute after the last that is held from a minute on, or that minute."""
     return max((minute + 1 for minute in held if minute >= base), default=base)
 
 
-def stretches_of(held, base):
+def stretches_of(held: Marks, base: int) -> list[Stretch]:
     """The stretches of what is held, from a day on."""
     runs = tuple(tuple(run) for run in slow_reader.runs(held.items()))
     starts = [minute for minute in held if is_start(held, minute)]
     end = end_of_held(held, 1440 * base)
-    found, monday = [], 1440 * base
+    found: list[Stretch] = []
+    monday: int | None = 1440 * base
     while monday is not None:
         report = report_of_runs(runs, monday)
         horizon = report[0]
@@ -261,22 +265,22 @@ def stretches_of(held, base):
     return found
 
 
-def stretches_text(stretches):
+def stretches_text(stretches: Iterable[Stretch]) -> str:
     """The stretches with their breaches."""
     return "".join(stretch.text(breaches_text(stretch.horizon, stretch.cause, stretch.breaches)) for stretch in stretches)
 
 
-def debts_text(stretches):
+def debts_text(stretches: Iterable[Stretch]) -> str:
     """The stretches with their debts."""
     return "".join(stretch.text(owed_text(stretch.horizon, stretch.cause, stretch.debts)) for stretch in stretches)
 
 
-def breaches_in(stretches, minutes):
+def breaches_in(stretches: Iterable[Stretch], minutes: range) -> list[FoundBreach]:
     """The breaches of all stretches with their moment among some minutes."""
     return [breach for stretch in stretches for breach in stretch.breaches if breach[1] in minutes]
 
 
-def overview_row(driver, minutes):
+def overview_row(driver: slow_archive.Driver, minutes: range) -> str:
     """What a driver holds of a month, what is examined of it, and how many breaches of each rule."""
     held = driver.held()
     stretches = stretches_of(held, driver.base)
@@ -288,15 +292,17 @@ def overview_row(driver, minutes):
     return ",".join(map(str, numbers)) + "\n"
 
 
-def incident_rows(driver, minutes):
+def incident_rows(driver: slow_archive.Driver, minutes: range) -> str:
     """The breaches of a driver in a month."""
     found = breaches_in(stretches_of(driver.held(), driver.base), minutes)
     return "".join(
-        f"{driver.number},{driver.name.decode()},B{kind},{ARTICLES[kind]},{slow_reader.minute_text(moment)},{slow_reader.minute_text(since)},"
-        f"{amount}\n" for kind, moment, since, amount in found)
+        f"{driver.number},{driver.name.decode()},B{kind},{ARTICLES[kind]},"
+        f"{slow_reader.minute_text(moment)},{slow_reader.minute_text(since)},{amount}\n"
+        for kind, moment, since, amount in found
+    )
 
 
-def form_text(held, base):
+def form_text(held: Marks, base: int) -> str:
     """What isn't held from a minute to the end of what is held, in rows of 366 days at the most."""
     runs = slow_reader.runs((minute, "") for minute in range(base, end_of_held(held, base)) if minute not in held)
     rows = [(start, min(start + LONGEST, past)) for first, past, _ in runs for start in range(first, past, LONGEST)]
@@ -307,7 +313,7 @@ def form_text(held, base):
 # The office
 
 
-def line_of(refusal):
+def line_of(refusal: Refusal) -> str:
     """The line of a refusal of the archive."""
     code, _, rest = str(refusal).partition(" ")
     if code == "S11":
@@ -315,7 +321,7 @@ def line_of(refusal):
     return f"S6 contradiction at {slow_reader.minute_text(int(rest))}" if code == "S6" else f"{code} {FAULTS[code]}"
 
 
-def within(given):
+def within(given: bytes) -> bytes:
     """An input, if it isn't too large: X1."""
     return slow_reader.within(given, INPUT_LIMIT)
 
@@ -323,13 +329,13 @@ def within(given):
 class Office:
     """The commands on an archive that is there."""
 
-    def __init__(self):
+    def __init__(self) -> None:
         self.archive = slow_archive.Archive()
 
-    def answer(self, words, given=b""):
+    def answer(self, words: Sequence[str], given: bytes = b"") -> tuple[bytes, int]:
         """What a command line prints for an input, as bytes, and its status. After a refusal nothing has changed."""
         command, *others = words
-        commands = {
+        commands: dict[str, Callable[[], str | bytes]] = {
             "register": lambda: self.register(given),
             "import": lambda: self.import_file(given, None, *others),
             "own": lambda: self.import_file(given, *others),
@@ -359,77 +365,78 @@ class Office:
             return f"{fault}\n".encode(), 1
         return told if isinstance(told, bytes) else told.encode(), 0
 
-    def driver(self, number):
-        """The driver whose number a word is: N1, S4."""
+    def driver(self, number: str) -> slow_archive.Driver:
+        """The driver whose number an argument is: N1, S4."""
         return self.archive.driver(number_of(number, LAST_DRIVER))
 
-    def register(self, given):
-        """X1, E1, E2, E9, S1, S2, S3, S9."""
+    def register(self, given: bytes) -> str:
+        """Registers a driver: X1, E1, E2, E9, S1, S2, S3, S9."""
         number, holder, key, base, name = slow_csv.driver_of(within(given))
-        columns = int(number), bytes.fromhex(holder.decode()), key.decode(), slow_csv.day_of(base), name
-        self.archive.register(slow_archive.Driver(*columns))
+        day = slow_csv.day_of(base)
+        assert day is not None  # the reader has refused others
+        self.archive.register(slow_archive.Driver(int(number), bytes.fromhex(holder.decode()), key.decode(), day, name))
         return f"registered {number.decode()}\n"
 
-    def import_file(self, given, caller, part):
-        """P1, X1, C1 to C14, S4, S5, S6, S14."""
+    def import_file(self, given: bytes, caller: str | None, part: str) -> str:
+        """Imports a card file: P1, X1, C1 to C14, S4, S5, S6, S14."""
         part = part_of(part)
-        caller = None if caller is None else number_of(caller, LAST_DRIVER)
-        return self.archive.import_file(caller, part, within(given)) + "\n"
+        number = None if caller is None else number_of(caller, LAST_DRIVER)
+        return self.archive.import_file(number, part, within(given)) + "\n"
 
-    def enter(self, given, number):
-        """N1, X1, E1 to E7, E10, S4, S6, S14."""
-        number = number_of(number, LAST_DRIVER)
+    def enter(self, given: bytes, number: str) -> str:
+        """Enters hours: N1, X1, E1 to E7, E10, S4, S6, S14."""
+        driver = number_of(number, LAST_DRIVER)
         lines = slow_csv.entries_of(within(given))
-        hours = [(start, past, slow_reader.ACTIVITIES.index(activity), *signs) for start, past, activity, *signs in lines]
-        first = self.archive.enter(number, hours)
+        hours = [(start, past, slow_reader.ACTIVITIES.index(activity), author, note) for start, past, activity, author, note in lines]
+        first = self.archive.enter(driver, hours)
         return f"entered {first} to {first + len(lines) - 1}\n" if lines else "entered none\n"
 
-    def withdraw(self, number, entry):
-        """N1, S4, S7, S8."""
-        number, entry = number_of(number, LAST_DRIVER), number_of(entry, LAST_NUMBER)
-        self.archive.withdraw(number, entry)
-        return f"withdrawn {entry}\n"
+    def withdraw(self, number: str, entry: str) -> str:
+        """Withdraws an entry: N1, S4, S7, S8."""
+        driver, place = number_of(number, LAST_DRIVER), number_of(entry, LAST_NUMBER)
+        self.archive.withdraw(driver, place)
+        return f"withdrawn {place}\n"
 
-    def rebase(self, number, date):
-        """N1, Z1, Z2, Z3, S4, S9."""
-        number, day = number_of(number, LAST_DRIVER), day_of(date)
-        self.archive.rebase(number, day)
+    def rebase(self, number: str, date: str) -> str:
+        """Sets another base: N1, Z1, Z2, Z3, S4, S9."""
+        driver, day = number_of(number, LAST_DRIVER), day_of(date)
+        self.archive.rebase(driver, day)
         return f"base {date}\n"
 
-    def month(self, number, month):
+    def month(self, number: str, month: str) -> tuple[slow_archive.Driver, Month]:
         """A driver and a month: N1, Z1, Z2, Z3, S4."""
-        number, month = number_of(number, LAST_DRIVER), month_of(month)
-        return self.archive.driver(number), month
+        driver, when = number_of(number, LAST_DRIVER), month_of(month)
+        return self.archive.driver(driver), when
 
-    def spans(self, number, month):
+    def spans(self, number: str, month: str) -> str:
         """What is held in a month."""
-        driver, month = self.month(number, month)
-        return spans_text(driver.held(), month)
+        driver, when = self.month(number, month)
+        return spans_text(driver.held(), when)
 
-    def gaps(self, number, month):
+    def gaps(self, number: str, month: str) -> str:
         """What isn't held in a month."""
-        driver, month = self.month(number, month)
-        return gaps_text(driver.held(), month)
+        driver, when = self.month(number, month)
+        return gaps_text(driver.held(), when)
 
-    def sheet(self, number, month):
+    def sheet(self, number: str, month: str) -> str:
         """The sheet of a month."""
-        driver, month = self.month(number, month)
+        driver, when = self.month(number, month)
         held = driver.held()
-        return sheet_text(driver.number, driver.name.decode(), held, report_of(held, driver.base), month)
+        return sheet_text(driver.number, driver.name.decode(), held, report_of(held, driver.base), when)
 
-    def breaches(self, number):
+    def breaches(self, number: str) -> str:
         """The breaches of a driver."""
         driver = self.driver(number)
         horizon, cause, breaches, _ = report_of(driver.held(), driver.base)
         return breaches_text(horizon, cause, breaches)
 
-    def owed(self, number):
+    def owed(self, number: str) -> str:
         """What a driver is owed."""
         driver = self.driver(number)
         horizon, cause, _, debts = report_of(driver.held(), driver.base)
         return owed_text(horizon, cause, debts)
 
-    def entries(self, number):
+    def entries(self, number: str) -> str:
         """The entries of a driver."""
         lines = [
             f"{place} {slow_reader.minute_text(entry.start)} {slow_reader.minute_text(entry.past)} {entry.mark[0]} "
@@ -438,12 +445,12 @@ class Office:
         ]
         return "".join(lines)
 
-    def file(self, number, download):
+    def file(self, number: str, download: str) -> bytes:
         """A card file of a driver: N1, S4, S10."""
-        number, download = number_of(number, LAST_DRIVER), number_of(download, LAST_NUMBER)
-        return self.archive.download(number, download)
+        driver, place = number_of(number, LAST_DRIVER), number_of(download, LAST_NUMBER)
+        return self.archive.download(driver, place)
 
-    def drivers(self):
+    def drivers(self) -> str:
         """A line for each driver."""
         lines = [
             f"{driver.number} {driver.holder.hex()} {slow_reader.minute_text(1440 * driver.base)[:10]} {len(driver.downloads)} "
@@ -452,27 +459,27 @@ class Office:
         ]
         return "".join(lines)
 
-    def stretches(self, number):
+    def stretches(self, number: str) -> str:
         """The breaches of a driver by stretches."""
         driver = self.driver(number)
         return stretches_text(stretches_of(driver.held(), driver.base))
 
-    def debts(self, number):
+    def debts(self, number: str) -> str:
         """What a driver is owed, by stretches."""
         driver = self.driver(number)
         return debts_text(stretches_of(driver.held(), driver.base))
 
-    def overview(self, month):
+    def overview(self, month: str) -> str:
         """A row of a month for each driver: Z1, Z2, Z3."""
         minutes = month_minutes(month_of(month))
         return OVERVIEW_HEAD + "".join(overview_row(driver, minutes) for _, driver in sorted(self.archive.drivers.items()))
 
-    def incidents(self, month):
+    def incidents(self, month: str) -> str:
         """A row for each breach of a month: Z1, Z2, Z3."""
         minutes = month_minutes(month_of(month))
         return INCIDENT_HEAD + "".join(incident_rows(driver, minutes) for _, driver in sorted(self.archive.drivers.items()))
 
-    def form(self, number):
+    def form(self, number: str) -> str:
         """The form for what a driver doesn't hold."""
         driver = self.driver(number)
         return form_text(driver.held(), 1440 * driver.base)

@@ -1,10 +1,10 @@
 """Random command lines of the office, from a seed: three drivers and their cards, weeks near the limits of the rules that are
 entered for one of them, and readings after what was done before."""
-import hard_timelines
-import random_commands
-import slow_csv
-import slow_office
-from random_commands import date_text, rows_csv, rows_of
+from inputs import hard_timelines, random_commands
+from inputs.random_commands import Columns, date_text, rows_csv, rows_of
+from slow import slow_csv, slow_office
+from slow.slow_archive import Driver
+from slow.slow_office import Command
 
 LINES = 30
 FIRST_DAY = 10_957  # 2000-01-01, the first day of a month that is read
@@ -16,8 +16,8 @@ BAD_MONTHS = ["2024-13", "2024-00", "2024-3", "1999-12", "2100-01", "0000-01", "
 BAD_DATES = ["2024-02-30", "2023-02-29", "1999-12-31", "2100-01-01", "0000-02-29", "2024-03", "2024-3-4"]
 BAD_PARTS = ["whole", "BOTH", "", "0"]
 
-# By the command: what its words, without the archive, are changed to.
-BAD = {
+# By the command: what its arguments, without the archive, are changed to.
+BAD: dict[str, list[list[str]]] = {
     "register": [],
     "import": [BAD_PARTS],
     "withdraw": [BAD_DRIVERS, BAD_NUMBERS],
@@ -33,55 +33,55 @@ BAD = {
 }
 
 
-def from_week(columns, day):
-    """The columns of a driver with the Monday of a day's week as his base."""
+def from_week(columns: Columns, day: int) -> Columns:
+    """The columns of a driver with the Monday of a day's week as the base."""
     number, holder, key, _, name = columns
     return number, holder, key, day - (day - 4) % 7, name
 
 
 class Lines(random_commands.Commands):
-    """Command lines of a seed: words and an input each."""
+    """Command lines of a seed: arguments and an input each."""
 
-    def __init__(self, seed):
+    def __init__(self, seed: int) -> None:
         super().__init__(seed)
         hard = hard_timelines.weekly_timeline(seed) if seed % 3 == 0 else hard_timelines.timeline(seed, 1 + seed % 2)
         self.hard, self.base, _ = hard
 
-    def from_card(self, columns):
-        """The columns of a driver with the Monday of his card's first week as his base."""
+    def from_card(self, columns: Columns) -> Columns:
+        """The columns of a driver with the Monday of the card's first week as the base."""
         _, holder, *_ = columns
         return from_week(columns, next(card.days[0][0] for card in self.cards if card.holder == holder))
 
-    def first_drivers(self):
+    def first_drivers(self) -> list[Columns]:
         """All drivers: the last of them from the Monday of the hard weeks on, and the others from that of their card on."""
         *drivers, last = super().first_drivers()
         self.examined = last[0]
         return [*map(self.from_card, drivers), from_week(last, self.base // 1440)]
 
-    def import_new(self):
+    def import_new(self) -> Command:
         """The import of a new file by the office."""
         words, file = super().import_new()
         self.imports[-1] = ["import", words[-1]], file
         return self.imports[-1]
 
-    def weeks(self):
+    def weeks(self) -> Command:
         """The entry of some of the hard weeks' hours that are left."""
         count = self.chance.choice([len(self.hard), len(self.hard), len(self.hard) // 2])
         taken, self.hard = self.hard[:count], self.hard[count:]
         return ["enter", str(self.examined)], rows_csv(*rows_of(self.chance, taken))
 
-    def month(self, driver):
-        """A month of which a driver holds something or the next to it, or a word that is none."""
+    def month(self, driver: Driver | None) -> str:
+        """A month of which a driver holds something or the next to it, or an argument that is none."""
         held = [minute // 1440 for minute in driver.held()] if driver else []
         day = self.chance.choice(held or [self.base // 1440]) + self.chance.choice([-31, 0, 0, 0, 31])
         return self.one_of([date_text(max(day, FIRST_DAY))[:7]], BAD_MONTHS)
 
-    def number(self):
+    def number(self) -> int:
         """A driver's number: that of the hard weeks, one with downloads, if there is any, or any other."""
         with_downloads = [number for number, driver in self.drivers.items() if driver.downloads]
         return self.chance.choice([self.examined, self.one_of(with_downloads or [self.examined]), self.one_of(random_commands.NUMBERS)])
 
-    def reading(self):
+    def reading(self) -> Command:
         """A reading of a driver, or a command that changes nothing of an archive of today."""
         word, number = self.chance.choice(READINGS), self.number()
         driver = self.drivers.get(number)
@@ -96,8 +96,8 @@ class Lines(random_commands.Commands):
             return [word, str(number), str(self.one_of(range(1, count + 1) or [1], [count + 1]))], b""
         return [word, str(number)], b""
 
-    def spoiled(self, words, given):
-        """The same with another word, or with an input that is too large, or as a spreadsheet saves it."""
+    def spoiled(self, words: list[str], given: bytes) -> Command:
+        """The same with another argument, or with an input that is too large, or as a spreadsheet saves it."""
         places = BAD.get(words[0], [BAD_DRIVERS])
         if places and self.chance.random() < 0.6:
             place = self.chance.randrange(len(places))
@@ -108,18 +108,18 @@ class Lines(random_commands.Commands):
             given = slow_csv.MARK + given.replace(b"\n", b"\r\n")
         return words, given
 
-    def command(self):
+    def command(self) -> Command:
         """A command."""
         kinds = [self.import_new] * 4 + [self.enter] * 4 + [self.withdraw] * 3 + [self.weeks] * 2
         kinds += [self.import_again, self.rebase, self.register]
         return self.chance.choice(kinds)()
 
-    def line(self):
+    def line(self) -> Command:
         """A command or a reading."""
         line = self.reading() if self.chance.random() < 0.5 else self.command()
         return self.spoiled(*line) if self.chance.random() < 0.1 else line
 
-    def lines(self):
+    def lines(self) -> list[Command]:
         """The command lines: some drivers first, then the weeks, and then anything."""
         lines = [*self.registrations(), self.weeks()]
         for line in lines:

@@ -2,21 +2,25 @@
 import itertools
 import signal
 import sys
+from collections.abc import Iterable, Iterator
+
+Comparison = tuple[str, object, object]  # a name, what came, and what was expected
+Comparisons = Iterator[Comparison]
 
 
-def difference(told, wanted):
-    """What was told, and what was wanted; of lists the first item that differs."""
+def difference(told: object, wanted: object) -> str:
+    """What was expected, and what came; of lists the first item that differs."""
     if isinstance(told, list) and isinstance(wanted, list):
         for number, (one, other) in enumerate(itertools.zip_longest(told, wanted), 1):
             if one != other:
-                return f"line {number} is {one!r}, and not {other!r}"
-    return f"{told!r}, and not {wanted!r}"
+                return f"expected {other!r}, got {one!r}, in line {number}"
+    return f"expected {wanted!r}, got {told!r}"
 
 
-def count(comparisons):
-    """The status of a check, whose comparisons are a name, what was told and what was wanted: 0 where some passed and none
+def count(comparisons: Iterable[Comparison]) -> int:
+    """The status of a check, whose comparisons are a name, what came and what was expected: 0 where some passed and none
     failed."""
-    # A check that is told to end leaves its `with` blocks, and so ends what it has started. One that has a pool closes and joins it
+    # A check that is asked to end leaves its `with` blocks, and so ends what it has started. One that has a pool closes and joins it
     # when it is done: a worker that is ended while it takes a lock doesn't hear of it, and the pool would wait for it for ever.
     signal.signal(signal.SIGTERM, lambda number, _: sys.exit(128 + number))
     passed = failed = 0

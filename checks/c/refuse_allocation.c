@@ -1,5 +1,5 @@
-/* Refuses the allocation whose number the environment's REFUSED_ALLOCATION tells, and says so on standard error. Where there
-   is a REFUSED_IN_A_ROW too, it refuses so many from that one on.
+/* Refuses the allocation whose number the environment's REFUSED_ALLOCATION gives, and says so on standard error. Where there
+   is a REFUSED_IN_A_ROW of n too, it refuses n from that one on.
    It is loaded before the C library by LD_PRELOAD. */
 extern void *__libc_malloc(unsigned long size);
 extern void *__libc_realloc(void *old, unsigned long size);

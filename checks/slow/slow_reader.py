@@ -1,25 +1,34 @@
 """A slow reader of driver card data, written from the definitions and not from the program: it asks of each minute
 which word gives it its mark. `docs/CARD.md` says the rules."""
 import datetime
+from collections.abc import Callable, Iterable, Sequence
+from typing import Any
 
 ACTIVITIES = ["rest", "available", "work", "drive"]
 READ_DAYS = range(10_959, 47_482)
+
+Mark = tuple[str, str]  # an activity, and "single" or "crew"
+Pair = tuple[int, Mark]  # a minute and its mark
+Block = tuple[int, int, bytes]  # identifier, kind and value
 
 
 class Fault(Exception):
     """The line of the first fault."""
 
 
-def number(buffer, place):
+def number(buffer: bytes | bytearray, place: int) -> int:
+    """The number of two bytes at a place of a cyclic buffer."""
     n = len(buffer)
     return buffer[place % n] * 256 + buffer[(place + 1) % n]
 
 
-def word_place(place, i):
+def word_place(place: int, i: int) -> int:
+    """The place of a word of the record at a place."""
     return place + 12 + 2 * i
 
 
-def mark_of(word):
+def mark_of(word: int) -> Mark | None:
+    """The mark that a word gives, or None where its activity isn't known."""
     crew, out = word >> 14 & 1, word >> 13 & 1
     activity = ACTIVITIES[word >> 11 & 3]
     if out:
@@ -27,7 +36,7 @@ def mark_of(word):
     return activity, "crew" if crew else "single"
 
 
-def record_of(buffer, place, lengths_before):
+def record_of(buffer: bytes | bytearray, place: int, lengths_before: int) -> tuple[int, int, list[int]]:
     """The day and the words of the record at a place, or its first fault."""
     n = len(buffer)
     length = number(buffer, place + 2)
@@ -47,7 +56,7 @@ def record_of(buffer, place, lengths_before):
     return length, day, words
 
 
-def pointers_of(value):
+def pointers_of(value: bytes) -> tuple[int, int, bytes]:
     """The two pointers of activity data, and its buffer."""
     if len(value) < 16:
         raise Fault("C7 activity data too short")
@@ -57,10 +66,10 @@ def pointers_of(value):
     return oldest, newest, buffer
 
 
-def pairs_of_value(value):
+def pairs_of_value(value: bytes) -> set[Pair]:
     """The pairs of a minute and a mark that activity data gives, as a set."""
     oldest, newest, buffer = pointers_of(value)
-    pairs = set()
+    pairs: set[Pair] = set()
     if oldest == newest and number(buffer, oldest + 2) == 0:
         return pairs
     place, taken = oldest, 0
@@ -77,7 +86,7 @@ def pairs_of_value(value):
         place, taken = (place + length) % len(buffer), taken + length
 
 
-def blocks_of(file):
+def blocks_of(file: bytes) -> list[Block]:
     """The blocks of a file: identifier, kind and value."""
     blocks, offset = [], 0
     while offset < len(file):
@@ -90,13 +99,13 @@ def blocks_of(file):
     return blocks
 
 
-def data_of(blocks, identifier):
+def data_of(blocks: Sequence[Block], identifier: int) -> list[bytes | None]:
     """The values of the two generations' data of an elementary file."""
     found = {kind: value for name, kind, value in reversed(blocks) if name == identifier}
     return [found.get(kind) for kind in (0, 2)]
 
 
-def card_file(file):
+def card_file(file: bytes) -> tuple[list[Block], bytes]:
     """The blocks of a file and its holder, or the first of C1 to C5."""
     blocks = blocks_of(file)
     seen = set()
@@ -116,27 +125,28 @@ def card_file(file):
     return blocks, holders.pop()
 
 
-def pairs_of_file(file, part):
+def pairs_of_file(file: bytes, part: str) -> list[Pair]:
     """The pairs of all records of the data that a part chooses."""
     blocks, _ = card_file(file)
     first, second = data_of(blocks, 0x0504)
     chosen = {"first": [first], "second": [second], "both": [first, second]}[part]
-    chosen = [value for value in chosen if value is not None]
-    if not chosen:
+    values = [value for value in chosen if value is not None]
+    if not values:
         raise Fault("C6 no activity data")
-    for value in chosen:
+    for value in values:
         pointers_of(value)
-    return [pair for value in chosen for pair in pairs_of_value(value)]
+    return [pair for value in values for pair in pairs_of_value(value)]
 
 
-def minute_text(minute):
+def minute_text(minute: int) -> str:
+    """The text of a minute."""
     moment = datetime.datetime(1970, 1, 1) + datetime.timedelta(minutes=minute)
     return moment.strftime("%Y-%m-%d %H:%M")
 
 
-def runs(pairs):
+def runs(pairs: Iterable[tuple[int, Any]]) -> list[list[Any]]:
     """The maximal runs of minutes with one value, as start, past and value."""
-    found = []
+    found: list[list[Any]] = []
     for minute, value in sorted(pairs):
         if found and found[-1][1] == minute and found[-1][2] == value:
             found[-1][1] = minute + 1
@@ -145,7 +155,7 @@ def runs(pairs):
     return found
 
 
-def map_of(pairs):
+def map_of(pairs: Iterable[Pair]) -> dict[int, Mark]:
     """The mark of each minute, or the fault of the least minute with two marks."""
     pairs = sorted(set(pairs))
     for (minute, _), (following, _) in zip(pairs, pairs[1:]):
@@ -154,20 +164,20 @@ def map_of(pairs):
     return dict(pairs)
 
 
-def lines_of_pairs(pairs):
+def lines_of_pairs(pairs: Iterable[Pair]) -> str:
     """The lines of the maximal runs of minutes of one mark, or the fault of the least minute with two marks."""
     found = runs(map_of(pairs).items())
     return "".join(f"{minute_text(a)} {minute_text(b)} {m[0]} {m[1]}\n" for a, b, m in found)
 
 
-def within(given, limit):
+def within(given: bytes, limit: int) -> bytes:
     """What is given, if it has no more bytes than the limit."""
     if len(given) > limit:
         raise Fault("X1 too large")
     return given
 
 
-def answer(lines):
+def answer(lines: Callable[[], str]) -> tuple[str, int]:
     """The lines that a call gives, or that of its first fault, and the status."""
     try:
         return lines(), 0
@@ -175,21 +185,21 @@ def answer(lines):
         return f"{fault}\n", 1
 
 
-def dump(value):
+def dump(value: bytes) -> tuple[str, int]:
     """What `tacho dump` prints, and its status."""
     return answer(lambda: lines_of_pairs(pairs_of_value(within(value, 65_535))))
 
 
-def holder(file):
+def holder(file: bytes) -> tuple[str, int]:
     """What `tacho holder` prints, and its status."""
     return answer(lambda: card_file(within(file, 262_144))[1].hex() + "\n")
 
 
-def card(file, part):
+def card(file: bytes, part: str) -> tuple[str, int]:
     """What `tacho card` prints of a part that is one, and its status."""
     return answer(lambda: lines_of_pairs(pairs_of_file(within(file, 262_144), part)))
 
 
-def spans(file, part):
+def spans(file: bytes, part: str) -> str:
     """What a part of a card file gives, or the line of its first fault."""
     return answer(lambda: lines_of_pairs(pairs_of_file(file, part)))[0]

@@ -1,31 +1,36 @@
-#!/usr/bin/env python3
 """Makes archives of schema 1, as the product made them before hours had an author and a note: SQLite itself writes the rows of a slow
-archive into a file, and each page gets the sum at its end that the product's own files have. Run by itself it prints the text of
-examples/archive-schema-1.sql."""
+archive into a file, and each page gets the sum at its end that the product's own files have. `python3 -m lib.old_archive` in checks/
+prints the text of examples/archive-schema-1.sql."""
 import contextlib
 import itertools
+import random
 import sqlite3
 import struct
+from collections.abc import Iterable, Iterator, Sequence
+from typing import Any
 
-import compare_archive
-import office_rows
-import slow_csv
-import slow_office
-import slow_reader
+from lib import office_rows
+from lib.archive import MADE
+from lib.files import PAGE
+from slow import slow_csv, slow_office, slow_reader
+from slow.slow_archive import Archive
+from slow.slow_office import Command
+
+Rows = dict[str, list[tuple[Any, ...]]]  # by the names of the tables
 
 TABLES = ["meta", "drivers", "downloads", "card_spans", "entries", "held"]
 
-# The numbers of a page and of its parts, and where a file's first page has them: how many bytes are left at the end of each page, and
-# where the first page's cells begin, of which there are none.
-PAGE, SUM = 4096, 8
+# How many bytes are left at the end of each page, and where the first page says so, and where that has its cells begin, of which there
+# are none.
+SUM = 8
 LEFT_PLACE, CELLS_PLACE = 20, 105
 
-# In which column a row has its start, with its past and its mark behind it.
+# In which column a row has its start, with its past and its mark after it.
 SPAN_PLACES = {"card_spans": 1, "entries": 2, "held": 1}
 
 # What the example was given.
 BERT_HOURS = office_rows.HOURS_HEAD + b"2024-03-05 06:00,2024-03-05 14:00,work\n2024-03-05 14:00,2024-03-06 06:00,rest\n"
-EXAMPLE = [
+EXAMPLE: list[Command] = [
     (["register"], office_rows.ANNA),
     (["import", "both"], office_rows.DAY),
     (["enter", "17"], office_rows.FREE_DAYS),
@@ -48,14 +53,14 @@ HEAD = """\
 # What is in an archive
 
 
-def forget_signs(archive):
+def forget_signs(archive: Archive) -> None:
     """Takes away who entered the hours of a slow archive, and why: in schema 1 nobody said so."""
     for driver in archive.drivers.values():
         for entry in driver.entries:
             entry.author, entry.note = slow_csv.OFFICE.decode(), ""
 
 
-def office_after(commands):
+def office_after(commands: Iterable[Command]) -> slow_office.Office:
     """The slow office after commands, each of which has to be done, without authors and notes."""
     office = slow_office.Office()
     for words, given in commands:
@@ -66,28 +71,28 @@ def office_after(commands):
     return office
 
 
-def cut(chance, start, past):
+def cut(chance: random.Random | None, start: int, past: int) -> list[tuple[int, int]]:
     """The parts of a run of minutes: sometimes two, and else one."""
     place = chance.randrange(start, past) if chance and chance.random() < 0.3 else start
     return [(start, past)] if place == start else [(start, place), (place, past)]
 
 
-def span_rows(chance, minutes):
+def span_rows(chance: random.Random | None, minutes: Iterable[tuple[int, int, int]]) -> Iterator[tuple[int, int, int, int]]:
     """Rows of spans for minutes, each with its driver and its mark. Two that touch may have one mark, as the product leaves them."""
     for driver, group in itertools.groupby(minutes, key=lambda row: row[0]):
         for start, past, mark in slow_reader.runs((minute, mark) for _, minute, mark in group):
             yield from ((driver, *part, mark) for part in cut(chance, start, past))
 
 
-def rows_of(archive, chance=None):
+def rows_of(archive: Archive, chance: random.Random | None = None) -> Rows:
     """The rows of each table of schema 1 for a slow archive; of spans some are cut at random."""
     found = archive.tables()
     entries = [row[:-2] for row in found.pop("entry_rows")]
-    spans = {name: [*span_rows(chance, found[name])] for name in ["card_spans", "held"]}
+    spans: Rows = {name: [*span_rows(chance, found[name])] for name in ["card_spans", "held"]}
     return {**found, **spans, "meta": [(1, 1)], "entries": entries}
 
 
-def example_rows():
+def example_rows() -> Rows:
     """The rows of the example."""
     return rows_of(office_after(EXAMPLE).archive)
 
@@ -95,7 +100,7 @@ def example_rows():
 # Files
 
 
-def leave_room(path):
+def leave_room(path: str) -> None:
     """Makes a file of SQLite without tables, in each page of which the last bytes are left for a sum."""
     with contextlib.closing(sqlite3.connect(path)) as store:
         store.execute(f"pragma page_size = {PAGE}")
@@ -109,7 +114,7 @@ def leave_room(path):
         file.write((PAGE - SUM).to_bytes(2, "big"))
 
 
-def sum_of(page):
+def sum_of(page: bytes) -> bytes:
     """The sum of the bytes of a page, as SQLite's extension cksumvfs has it: of pairs of words, each added to with the other."""
     words = struct.unpack(f"<{len(page) // 4}I", page)
     one = other = 0
@@ -119,7 +124,7 @@ def sum_of(page):
     return struct.pack("<2I", one, other)
 
 
-def put_sums(path):
+def put_sums(path: str) -> None:
     """Writes the sum of each page of a file at its end."""
     with open(path, "rb") as file:
         pages = iter(lambda: file.read(PAGE)[:-SUM], b"")
@@ -128,19 +133,19 @@ def put_sums(path):
         file.write(summed)
 
 
-def insert(store, name, rows):
+def insert(store: sqlite3.Connection, name: str, rows: Sequence[tuple[Any, ...]]) -> None:
     """Writes rows of a table."""
     if rows:
         store.executemany(f"INSERT INTO {name} VALUES ({', '.join('?' for _ in rows[0])})", rows)
 
 
-def make(path, rows, has_sums=True):
+def make(path: str, rows: Rows, has_sums: bool = True) -> None:
     """Makes a file of schema 1 with these rows, as the product's are, or without sums and a log, as SQLite makes one by itself."""
     if has_sums:
         leave_room(path)
     with contextlib.closing(sqlite3.connect(path)) as store, store:
         for name in TABLES:
-            store.execute(compare_archive.MADE[name])
+            store.execute(MADE[name])
             insert(store, name, rows[name])
     if has_sums:
         put_sums(path)
@@ -149,28 +154,28 @@ def make(path, rows, has_sums=True):
 # The example
 
 
-def literal(value):
+def literal(value: object) -> str:
     """A value as SQL writes it."""
     if isinstance(value, bytes):
         return f"X'{value.hex()}'"
     return f"'{value}'" if isinstance(value, str) else str(value)
 
 
-def remark(name, row):
-    """What a row's start, past and mark stand for, where it has them."""
+def remark(name: str, row: Sequence[Any]) -> str:
+    """What a row's start, past and mark are, where it has them."""
     if name not in SPAN_PLACES:
         return ""
     start, past, mark = row[SPAN_PLACES[name] :][:3]
     return f" -- {slow_reader.minute_text(start)} {slow_reader.minute_text(past)} {slow_reader.ACTIVITIES[mark]}"
 
 
-def table_text(name, rows):
+def table_text(name: str, rows: Iterable[Sequence[Any]]) -> str:
     """The text of SQL that makes a table and its rows."""
     lines = [f"INSERT INTO {name} VALUES ({', '.join(map(literal, row))});{remark(name, row)}\n" for row in rows]
-    return "".join([f"\n{compare_archive.MADE[name]};\n", *lines])
+    return "".join([f"\n{MADE[name]};\n", *lines])
 
 
-def text_of(rows):
+def text_of(rows: Rows) -> str:
     """The text of SQL that makes an archive of schema 1 with these rows."""
     return HEAD + "".join(table_text(name, rows[name]) for name in TABLES)
 

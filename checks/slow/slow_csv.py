@@ -1,13 +1,13 @@
 """A slow reader of the CSV that an office sends, written from the definitions and not from the program. `docs/FORMATS.md`
 says the rules.
 
-A field is taken whole by one pattern: a quoted part in front, where two quotes stand for one and which goes to the end of the
+A field is taken whole by one pattern: a quoted part in front, where two quotes mean one and which goes to the end of the
 text where nothing closes it, and then all bytes before the next comma or end of line, a quote among them as it is."""
 import re
 from datetime import date
 
-import slow_reader
-from slow_reader import Fault
+from slow import slow_reader
+from slow.slow_reader import Fault
 
 MARK = b"\xef\xbb\xbf"
 FIELD = re.compile(rb'(?:"((?:[^"]|"")*)(?:"|\Z))?([^,\r\n]*)')
@@ -24,11 +24,12 @@ LONGEST = 366 * 1440
 # Records
 
 
-def record_from(text, place):
-    """The fields of the record at a place, and the place behind them."""
-    fields = []
+def record_from(text: bytes, place: int) -> tuple[list[bytes], int]:
+    """The fields of the record at a place, and the place after them."""
+    fields: list[bytes] = []
     while True:
         found = FIELD.match(text, place)
+        assert found is not None  # the pattern matches no byte too
         fields.append((found[1] or b"").replace(b'""', b'"') + found[2])
         place = found.end()
         if text[place : place + 1] != b",":
@@ -36,11 +37,12 @@ def record_from(text, place):
         place += 1
 
 
-def records(text):
+def records(text: bytes) -> list[list[bytes]]:
     """The records of a text, without one byte order mark before them. Between two of them is one end of line or more, so a line
     without a byte is none."""
     text = text.removeprefix(MARK)
-    found, place = [], 0
+    found: list[list[bytes]] = []
+    place = 0
     while place < len(text):
         if text[place : place + 1] in LINE_ENDS:
             place += 1
@@ -53,7 +55,7 @@ def records(text):
 # Values
 
 
-def day_of(text):
+def day_of(text: bytes) -> int | None:
     """The day of a text `YYYY-MM-DD` from 2000-01-03 to 2099-12-31, as a number, or nothing."""
     if not re.fullmatch(rb"[0-9]{4}-[0-9]{2}-[0-9]{2}", text):
         return None
@@ -65,18 +67,21 @@ def day_of(text):
     return number if number in slow_reader.READ_DAYS else None
 
 
-def minute_of(text):
+def minute_of(text: bytes) -> int | None:
     """The minute of a text `YYYY-MM-DD HH:MM`, as a number, or nothing."""
     time = re.fullmatch(rb"(.{10}) ([01][0-9]|2[0-3]):([0-5][0-9])", text, re.DOTALL)
-    day = day_of(time[1]) if time else None
+    if time is None:
+        return None
+    day = day_of(time[1])
     return None if day is None else 1440 * day + 60 * int(time[2]) + int(time[3])
 
 
-def is_text(pattern, text):
+def is_text(pattern: bytes, text: bytes) -> bool:
+    """Whether the whole of a text matches a pattern."""
     return re.fullmatch(pattern, text) is not None
 
 
-def is_plain(text):
+def is_plain(text: bytes) -> bool:
     """Whether these are bytes of UTF-8 without controls, commas and double quotes."""
     try:
         text.decode()
@@ -85,12 +90,12 @@ def is_plain(text):
     return is_text(rb'[^\x00-\x1f\x7f,"]*', text)
 
 
-def is_name(text):
+def is_name(text: bytes) -> bool:
     """Whether these may be the name of a driver or of an author."""
     return is_plain(text) and 1 <= len(text) <= 64
 
 
-def is_note(text):
+def is_note(text: bytes) -> bool:
     """Whether these may be a note."""
     return is_plain(text) and len(text) <= 200
 
@@ -107,7 +112,7 @@ COLUMNS = {
 # What is read
 
 
-def rows_of(text, *heads):
+def rows_of(text: bytes, *heads: list[bytes]) -> list[list[bytes]]:
     """The rows: the first is one of these heads."""
     rows = records(text)
     if not rows or rows[0] not in heads:
@@ -115,7 +120,7 @@ def rows_of(text, *heads):
     return rows
 
 
-def worked_of(number, fields, before):
+def worked_of(number: int, fields: list[bytes], before: int) -> tuple[int, int, str]:
     """The start, the past and the activity of a row whose row before ends at a minute."""
     start, past = minute_of(fields[0]), minute_of(fields[1])
     activity = fields[2].decode(errors="replace")
@@ -132,8 +137,8 @@ def worked_of(number, fields, before):
     return start, past, activity
 
 
-def entry_of(number, fields, count, before):
-    """The start, the past, the activity, the author and the note of a row which has to have so many fields, and whose row before ends
+def entry_of(number: int, fields: list[bytes], count: int, before: int) -> tuple[int, int, str, str, str]:
+    """The start, the past, the activity, the author and the note of a row which has to have a count of fields, and whose row before ends
     at a minute."""
     if len(fields) != count:
         raise Fault(f"E2 wrong fields in row {number}")
@@ -146,16 +151,16 @@ def entry_of(number, fields, count, before):
     return *worked, author.decode(), note.decode()
 
 
-def entries_of(text):
+def entries_of(text: bytes) -> list[tuple[int, int, str, str, str]]:
     """The hours that a text enters, by either of the two heads."""
     head, *rows = rows_of(text, ENTRIES_HEAD, SIGNED_HEAD)
-    found = []
+    found: list[tuple[int, int, str, str, str]] = []
     for number, fields in enumerate(rows, 2):
         found.append(entry_of(number, fields, len(head), found[-1][1] if found else 0))
     return found
 
 
-def driver_of(text):
+def driver_of(text: bytes) -> list[bytes]:
     """The columns of the driver that a text registers."""
     _, *rows = rows_of(text, DRIVER_HEAD)
     if not rows or len(rows[0]) != 5:
@@ -171,13 +176,17 @@ def driver_of(text):
 # What is printed
 
 
-def entries(text):
+def entries(text: bytes) -> str:
     """The lines of the hours that a text enters, or that of its first fault."""
-    lines = lambda: "".join(f'{start} {past} {what} "{author}" "{note}"\n' for start, past, what, author, note in entries_of(text))
+
+
+    def lines():
+        return "".join(f'{start} {past} {what} "{author}" "{note}"\n' for start, past, what, author, note in entries_of(text))
+
     return slow_reader.answer(lines)[0]
 
 
-def driver(text):
+def driver(text: bytes) -> str:
     """The line of the driver that a text registers, or that of its first fault."""
 
     def line():

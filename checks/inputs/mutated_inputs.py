@@ -1,23 +1,23 @@
 """Mutated inputs from a seed: card files, texts of CSV, command lines and requests that were good, or nearly so, and then had bits, bytes,
-fields, records, words or lines changed, removed, repeated, exchanged, or taken from another one.
+fields, records, arguments or lines changed, removed, repeated, exchanged, or taken from another one.
 
 Commands and requests are made one after the other, each for what those before it have left: who takes one gives it to the office of its
-maker before he takes the next. In a command line PATH stands for that of the archive, and NO_TEXT for a word that isn't UTF-8."""
+maker before they take the next. In a command line PATH is that of the archive, and NO_TEXT an argument that isn't UTF-8."""
 import functools
 import os
 import random
 import re
 import struct
+from collections.abc import Iterable, Iterator, Sequence
+from typing import Any
 
-import compare_csv
-import office_lines
-import random_cards
-import random_commands
-import random_requests
-import slow_archive
-import slow_csv
-import slow_reader
-from random_cards import ACTIVITY, IDENTIFICATION
+from inputs import random_cards, random_commands, random_requests, random_texts
+from inputs.random_cards import ACTIVITY, IDENTIFICATION
+from lib import office_lines
+from lib.files import EXAMPLES
+from slow import slow_archive, slow_csv, slow_office, slow_reader
+from slow.slow_office import Command
+from slow.slow_reader import Block
 
 FILES, TEXTS, LINES, REQUESTS = 25, 40, 40, 60  # of a seed
 MOST_MINUTES = 200_000  # that are entered, since the slow office goes through each of them
@@ -25,7 +25,7 @@ LARGEST_FILE, LARGEST_VALUE = 262_144, 65_535
 EDGES = b'\x00\x01\x09\x0a\x0d\x20",/0:\x7f\x80\xc3\xfe\xff'  # bytes that mean something somewhere
 
 
-def changed(chance, given, other=b""):
+def changed(chance: random.Random, given: bytes, other: bytes = b"") -> bytes:
     """The same bytes with a few changes, for some of which others are wanted."""
     for _ in range(chance.choice([1, 1, 1, 2, 3])):
         start, middle, past = sorted(chance.randrange(len(given) + 1) for _ in range(3))
@@ -50,7 +50,7 @@ def changed(chance, given, other=b""):
 
 # Card files
 
-EXAMPLES = [os.path.join(compare_csv.EXAMPLES, name) for name in ("driver-year.ddd", "driver-two-generations.ddd")]
+FILES_OF_CARDS = [os.path.join(EXAMPLES, name) for name in ("driver-year.ddd", "driver-two-generations.ddd")]
 READ_DAYS = slow_reader.READ_DAYS
 DAYS = [0, READ_DAYS.start - 1, READ_DAYS.start, READ_DAYS.stop - 1, READ_DAYS.stop, 49_709]
 LENGTHS = [0, 10, 11, 12, 13, 14, 65_534]
@@ -59,17 +59,17 @@ LENGTHS = [0, 10, 11, 12, 13, 14, 65_534]
 class Activity:
     """Activity data that can be changed by chance: the two pointers and the buffer."""
 
-    def __init__(self, chance, value):
+    def __init__(self, chance: random.Random, value: bytes) -> None:
         self.chance = chance
         self.pointers = list(struct.unpack(">HH", value[:4]))
         self.buffer = bytearray(value[4:])
         self.size = len(self.buffer)
 
-    def number(self, place):
+    def number(self, place: int) -> int:
         """The number of two bytes at a place."""
         return slow_reader.number(self.buffer, place)
 
-    def places(self):
+    def places(self) -> list[int]:
         """The places of the records, one at least, as far as they follow one another."""
         place, newest = (pointer % self.size for pointer in self.pointers)
         found = [place]
@@ -78,19 +78,19 @@ class Activity:
             found.append(place)
         return found
 
-    def other_length(self, record):
+    def other_length(self, record: int) -> tuple[int, bytes]:
         """The place of a record's length, and another one."""
         length, size = self.number(record + 2), self.size
         lengths = [*LENGTHS, size - 1, size, size + 1, size + 2, length + 2, length - 2]
         return record + 2, struct.pack(">H", self.chance.choice(lengths) % 65_536)
 
-    def other_day(self, record):
+    def other_day(self, record: int) -> tuple[int, bytes]:
         """The place of a record's date, and another one."""
         day = (self.number(record + 4) * 65_536 + self.number(record + 6)) // 86_400
         seconds = 86_400 * self.chance.choice([*DAYS, day, day + 1, day - 1]) + self.chance.choice([-1, 0, 0, 86_399])
         return record + 4, struct.pack(">I", seconds % 2**32)
 
-    def other_word(self, record):
+    def other_word(self, record: int) -> tuple[int, bytes]:
         """The place of one of a record's words, and another one: of another minute, or with another mark, or both."""
         words = (self.number(record + 2) - 12) // 2
         place = record + 12 + 2 * self.chance.randrange(min(max(words, 1), 100))
@@ -98,7 +98,7 @@ class Activity:
         minutes = [minute, minute, (minute + 1) % 2048, self.number(place - 2) % 2048, 0, 1439, 1440, 2047]
         return place, struct.pack(">H", self.chance.choice([mark, self.chance.randrange(32)]) * 2048 + self.chance.choice(minutes))
 
-    def changed(self):
+    def changed(self) -> bytes:
         """The bytes with another pointer, or with a buffer that is longer or shorter, or with something else in a record."""
         kind, places = self.chance.random(), self.places()
         if kind < 0.2:
@@ -115,20 +115,22 @@ class Activity:
 
 
 @functools.cache
-def example_of(path):
+def example_of(path: str) -> tuple[list[Block], list[bytes]]:
     """The blocks of an example, and the records of its activity data."""
     with open(path, "rb") as file:
         blocks = slow_reader.blocks_of(file.read())
-    data = Activity(None, slow_reader.data_of(blocks, ACTIVITY)[0])
+    value = slow_reader.data_of(blocks, ACTIVITY)[0]
+    assert value is not None
+    data = Activity(random.Random(0), value)
     return blocks, [random_cards.record(*slow_reader.record_of(data.buffer, place, 0)[1:]) for place in data.places()]
 
 
-def is_activity(one):
+def is_activity(one: Block) -> bool:
     """Whether a block has activity data."""
     return one[0] == ACTIVITY and one[1] in (0, 2)
 
 
-def laid(blocks):
+def laid(blocks: Iterable[Block]) -> bytes:
     """The bytes of blocks."""
     return b"".join(random_cards.block(*one) for one in blocks)
 
@@ -136,30 +138,34 @@ def laid(blocks):
 class Files:
     """Card files of a seed."""
 
-    def __init__(self, seed):
+    def __init__(self, seed: int) -> None:
         self.chance = random.Random(f"files {seed}")
 
-    def of_random_card(self):
+    def of_random_card(self) -> list[Block]:
         """The blocks of a random card's file."""
-        card, blocks = random_cards.Card(self.chance, self.chance.choice(random_cards.HOLDERS)), []
+        card = random_cards.Card(self.chance, self.chance.choice(random_cards.HOLDERS))
+        blocks: list[Block] = []
         for kind in self.chance.choice([[0], [2], [0, 2], [0, 2]]):
             blocks += [(IDENTIFICATION, kind, card.identification()), (ACTIVITY, kind, card.activity()), (ACTIVITY, kind + 1, b"\xff")]
         return blocks
 
-    def of_example(self):
+    def of_example(self) -> list[Block]:
         """The blocks of an example, with a few of its days, and without some of those that aren't read."""
-        blocks, records = example_of(self.chance.choice(EXAMPLES))
+        blocks, records = example_of(self.chance.choice(FILES_OF_CARDS))
         first = self.chance.randrange(len(records))
         days = records[first : first + self.chance.randrange(1, 5)]
-        data = lambda: random_cards.activity_data(days, self.chance.choice([0, 50]), self.chance.choice([0, 0, 9]))
+
+        def data():
+            return random_cards.activity_data(days, self.chance.choice([0, 50]), self.chance.choice([0, 0, 9]))
+
         kept = [one for one in blocks if one[0] in (ACTIVITY, IDENTIFICATION) or self.chance.random() < 0.2]
         return [(*one[:2], data()) if is_activity(one) else one for one in kept]
 
-    def whole(self):
+    def whole(self) -> list[Block]:
         """The blocks of a file."""
         return self.of_random_card() if self.chance.random() < 0.6 else self.of_example()
 
-    def others_of(self, one):
+    def others_of(self, one: Block) -> list[Block]:
         """What may stand in the place of a block: nothing, twice the same, or one with another identifier, kind or value."""
         identifier, kind, value = one
         if is_activity(one) and len(value) >= 16 and self.chance.random() < 0.85:
@@ -171,8 +177,8 @@ class Files:
         others += [(self.chance.choice([IDENTIFICATION, ACTIVITY]), kind, value)]
         return self.chance.choice([[], [one, one], *[[other] for other in others]])
 
-    def change(self, blocks):
-        """Changes a block, mostly one that is read; now and then puts others behind, or all in another order."""
+    def change(self, blocks: list[Block]) -> None:
+        """Changes a block, mostly one that is read; now and then puts others after it, or all in another order."""
         wanted = self.chance.choice([ACTIVITY, ACTIVITY, ACTIVITY, IDENTIFICATION])
         found = [place for place, one in enumerate(blocks) if one[0] == wanted and one[1] in (0, 2)]
         place = self.chance.choice(found if found and self.chance.random() < 0.9 else range(len(blocks)))
@@ -182,7 +188,7 @@ class Files:
         if self.chance.random() < 0.05:
             self.chance.shuffle(blocks)
 
-    def file_of(self, blocks):
+    def file_of(self, blocks: Sequence[Block]) -> bytes:
         """The bytes of a file: mostly those of the blocks, now and then with others, or with another length in a block's head, or as many
         as a file may have."""
         file, kind = laid(blocks), self.chance.random()
@@ -194,7 +200,7 @@ class Files:
             return file[:place] + struct.pack(">H", length % 65_536) + file[place + 2 :]
         return random_requests.padded_file(file, LARGEST_FILE + self.chance.choice([0, 1])) if kind < 0.18 else file
 
-    def value_of(self, blocks):
+    def value_of(self, blocks: Iterable[Block]) -> bytes:
         """A value of activity data: mostly that of one of the blocks."""
         values = [one[2] for one in blocks if is_activity(one)] or [b""]
         value, kind = self.chance.choice(values), self.chance.random()
@@ -202,7 +208,7 @@ class Files:
             return changed(self.chance, value, self.chance.choice(values))
         return value + bytes(max(LARGEST_VALUE - len(value), 0) + self.chance.choice([0, 1])) if kind < 0.22 else value
 
-    def files(self):
+    def files(self) -> Iterator[tuple[bytes, str, bytes]]:
         """The files, each with a part by which it is read, and a value of activity data."""
         for _ in range(FILES):
             blocks = self.whole()
@@ -217,25 +223,25 @@ PATH, NO_TEXT = "PATH", "\ud800"
 TIMES = ["2000-01-02 23:59", "2000-01-03 00:00", "2099-12-31 23:59", "2100-01-01 00:00", "2024-02-29 24:00", "2024-03-04 00:00"]
 
 
-def at_path(words):
-    """The words of a command with that of the archive's path."""
+def at_path(words: Sequence[str]) -> list[str]:
+    """The arguments of a command, with the archive's path."""
     return [words[0], PATH, *words[1:]]
 
 
-def is_large(office):
-    """Whether so much is entered that the slow office takes long."""
+def is_large(office: slow_office.Office) -> bool:
+    """Whether the slow office takes long, since much is entered."""
     return sum(entry.past - entry.start for driver in office.archive.drivers.values() for entry in driver.entries) > MOST_MINUTES
 
 
 class Texts(random_commands.Commands):
     """Texts of CSV of a seed, in command lines."""
 
-    def __init__(self, seed):
+    def __init__(self, seed: int) -> None:
         super().__init__(seed)
-        self.writer = compare_csv.Texts(seed)
+        self.writer = random_texts.Texts(seed)
         self.writer.chance = self.chance
 
-    def register(self):
+    def register(self) -> Command:
         """A driver who is mostly none of those before."""
         if self.chance.random() < 0.3:
             return super().register()
@@ -244,11 +250,11 @@ class Texts(random_commands.Commands):
         columns = self.columns(number, holder, f"key-{number:06}", self.chance.choice(random_commands.NAMES))
         return ["register"], random_commands.driver_csv(*columns)
 
-    def activity(self, runs, start, past):
+    def activity(self, runs: Sequence[list[Any]], start: int, past: int) -> str:
         """An activity that may contradict what is held."""
         return super().activity(runs, start, past) if self.chance.random() < 0.7 else self.chance.choice(slow_reader.ACTIVITIES)
 
-    def change(self, rows):
+    def change(self, rows: list[list[bytes]]) -> None:
         """Changes, removes, repeats or adds fields of a row, or does so with rows."""
         place = self.chance.randrange(len(rows)) if self.chance.random() < 0.1 else len(rows) - 1
         row = rows[place]
@@ -261,7 +267,7 @@ class Texts(random_commands.Commands):
         else:
             rows[place : place + 1] = self.chance.choice([[], [row, [*row]], [row, [b" "]], rows[:1] + [row]])
 
-    def text(self, given):
+    def text(self, given: bytes) -> bytes:
         """The text with the rows of another one, mostly changed."""
         rows = slow_csv.records(given)
         for _ in range(self.chance.choice([0, 0, 0, 1, 1, 2])):
@@ -272,7 +278,7 @@ class Texts(random_commands.Commands):
             return self.writer.unclosed(text)
         return changed(self.chance, text, given) if kind < 0.2 else text
 
-    def lines(self):
+    def lines_in_turn(self) -> Iterator[Command]:
         """The command lines: some drivers first, and then drivers and hours."""
         yield from [(at_path(words), given) for words, given in self.registrations()]
         for _ in range(TEXTS):
@@ -293,14 +299,14 @@ OTHER_LINES = [["help"], [], ["init", PATH, "1"], ["init"]]
 OTHER_LINES += [["init", PATH], ["drivers", PATH], ["dump"], ["holder"], ["card", "both"], ["card", "first"], ["card", "second"]] * 5
 
 
-class Maker:
+class Maker(office_lines.Lines):
     """Makes commands and readings of a seed, at times with another input."""
 
-    def __init__(self, seed):
+    def __init__(self, seed: int) -> None:
         super().__init__(seed)
         self.texts = Texts(seed)
 
-    def line(self):
+    def line(self) -> Command:
         """A command or a reading."""
         words, given = super().line()
         if not given or len(given) > 10_000 or self.chance.random() < 0.7:
@@ -310,17 +316,17 @@ class Maker:
         return words, changed(self.chance, given, self.chance.choice(self.cards).file())
 
 
-class Lines(Maker, office_lines.Lines):
-    """Command lines of a seed: all words behind the program's name, and an input."""
+class Lines(Maker):
+    """Command lines of a seed: all arguments, and an input."""
 
-    def other_word(self, word):
-        """Another word."""
+    def other_word(self, word: str) -> str:
+        """Another argument."""
         place = self.chance.randrange(len(word) + 1)
         near = word[:place] + self.chance.choice(LETTERS) + word[place + self.chance.randrange(2) :]
         return self.chance.choice([near, near, word * 2, self.chance.choice(WORDS)])
 
-    def change(self, words):
-        """Changes, removes, repeats or exchanges words. That of the path stays a path."""
+    def change(self, words: list[str]) -> None:
+        """Changes, removes, repeats or exchanges arguments. The path stays a path."""
         place, other, kind = self.chance.randrange(len(words)), self.chance.randrange(len(words)), self.chance.randrange(12)
         if kind == 0:
             del words[place]
@@ -333,7 +339,7 @@ class Lines(Maker, office_lines.Lines):
         elif words[place] != PATH and place:
             words[place] = self.other_word(words[place])
 
-    def lines(self):
+    def lines_in_turn(self) -> Iterator[Command]:
         """The command lines: some drivers first, then weeks, and then anything."""
         yield from [(at_path(words), given) for words, given in [*self.registrations(), self.weeks()]]
         for _ in range(LINES):
@@ -357,9 +363,10 @@ class Requests(Maker, random_requests.Requests):
 
     last = b"GET / HTTP/1.1\r\n\r\n"
 
-    def mutated(self, request):
+    def mutated(self, request: bytes) -> bytes:
         """A request with other bytes in its head, with other lines there, or with other bytes anywhere."""
-        end, kind = re.search(rb"\n\r?\n|\Z", request).end(), self.chance.randrange(8)
+        found, kind = re.search(rb"\n\r?\n|\Z", request), self.chance.randrange(8)
+        end = found.end() if found else len(request)
         lines = request[:end].splitlines(keepends=True) or [b""]
         place, other = self.chance.randrange(len(lines)), self.chance.randrange(len(lines))
         if kind == 0:
@@ -375,9 +382,9 @@ class Requests(Maker, random_requests.Requests):
             return changed(self.chance, given, self.last) + request[len(given) :]
         return b"".join(lines) + request[end:]
 
-    def requests(self):
+    def requests_in_turn(self) -> Iterator[bytes]:
         """The requests: some drivers first, then weeks of one of them, and then anything."""
-        yield from [self.parts(*line).bytes() for line in [*self.registrations(), self.weeks()]]
+        yield from [self.parts(*line).written() for line in [*self.registrations(), self.weeks()]]
         for _ in range(REQUESTS):
             request = self.request(*self.line())
             yield self.mutated(request) if self.chance.random() < 0.3 else request

@@ -4,11 +4,17 @@
 `slow_rules.examine` takes them. The same seed and weeks give the same timeline. `weekly_timeline(seed)` returns the same
 at the limits of the rules on weekly rests and debts, `chained_timeline(seed)` long rows of weeks whose rests lie over
 their ends, and `held_timeline(seed)` returns (spans, base) as `slow_rules.report` takes them: spans of a card with crew
-and gaps. Run as a command with a seed and a number of weeks, it prints what `slow_rules.py` reads.
+and gaps. Run by `python3 -m inputs.hard_timelines` in checks/ with a seed and a number of weeks, it prints what
+`slow_rules.py` reads.
 """
-
 import random
 import sys
+from collections.abc import Iterable
+
+from slow.slow_rules import HeldSpan, Span
+
+Timeline = tuple[list[Span], int, int]  # spans, the Monday and the horizon
+Owed = tuple[int, int]  # the amount and the deadline of a debt
 
 WEEK = 10080
 USUAL_BASE = 28491840  # 2024-03-04
@@ -30,49 +36,49 @@ PAIR_DRIVES = [5399, 5400, 5401, 5402]
 class Writer:
     """Pieces of time laid end to end from the base."""
 
-    def __init__(self, chance, base, past):
+    def __init__(self, chance: random.Random, base: int, past: int) -> None:
         self.chance = chance
         self.base = base
         self.past = past
         self.place = base
-        self.pieces = []
-        self.marks = []  # minutes at which it may be of interest to end
+        self.pieces: list[Span] = []
+        self.marks: list[int] = []  # minutes at which it may be of interest to end
 
-    def is_full(self):
+    def is_full(self) -> bool:
         """Whether the pieces reach the horizon."""
         return self.place >= self.past
 
-    def add(self, activity, minutes):
-        """Lay a piece of so many minutes, cut at the horizon."""
+    def add(self, activity: str, minutes: int) -> None:
+        """Lay a piece of some minutes, cut at the horizon."""
         minutes = min(minutes, self.past - self.place)
         if minutes > 0:
             self.pieces.append((self.place, self.place + minutes, activity))
             self.place += minutes
 
-    def end(self, past):
+    def end(self, past: int) -> None:
         """Make this the horizon, or where the pieces end, if that is earlier: nothing is laid from it on."""
         self.past = max(self.base, min(past, self.place))
         self.pieces = [(start, min(end, self.past), activity) for start, end, activity in self.pieces if start < self.past]
 
-    def rest(self, minutes):
+    def rest(self, minutes: int) -> None:
         """Lay a rest."""
         self.add("rest", minutes)
 
-    def work(self, minutes):
+    def work(self, minutes: int) -> None:
         """Lay work, or being available."""
         self.add(self.chance.choice(["work", "work", "available"]), minutes)
 
-    def drive(self, minutes):
+    def drive(self, minutes: int) -> None:
         """Lay driving."""
         self.add("drive", minutes)
 
 
-def near(chance, minutes):
+def near(chance: random.Random, minutes: int) -> int:
     """These minutes, or one more or less."""
     return max(1, minutes + chance.choice([-1, 0, 0, 1]))
 
 
-def to_week_end(place, base):
+def to_week_end(place: int, base: int) -> int:
     """How many minutes are left of the week."""
     return WEEK - (place - base) % WEEK
 
@@ -80,7 +86,7 @@ def to_week_end(place, base):
 # Kinds of timeline
 
 
-def mixed(writer):
+def mixed(writer: Writer) -> None:
     """Rests of all limits and driving of all limits, one after the other."""
     chance = writer.chance
     weights = chance.choice([(8, 1, 3, 1), (3, 1, 3, 3), (20, 1, 1, 1), (1, 0, 4, 2)])
@@ -94,8 +100,8 @@ def mixed(writer):
         writer.rest(chance.choice(rests))
 
 
-def drive_with_breaks(writer, minutes):
-    """Driving of so many minutes in all, with breaks of all limits."""
+def drive_with_breaks(writer: Writer, minutes: int) -> None:
+    """Driving of some minutes in all, with breaks of all limits."""
     chance = writer.chance
     while minutes > 0:
         first = min(minutes, chance.choice(DRIVES))
@@ -109,7 +115,7 @@ def drive_with_breaks(writer, minutes):
                 minutes -= between
 
 
-def days(writer):
+def days(writer: Writer) -> None:
     """Duty days at the limits of driving and of the daily rest, with a weekly rest after six days."""
     chance = writer.chance
     lengths = chance.choice([[780, 781, 900, 901], [900, 900, 900, 899], [781, 840, 900], [600, 720, 780, 901]])
@@ -132,7 +138,7 @@ def days(writer):
             started = writer.place
 
 
-def weeks(writer):
+def weeks(writer: Writer) -> None:
     """Weeks at the limits of driving in one week and in two, with spans across midnights and week ends."""
     chance = writer.chance
     start = chance.choice([0, 360, 1200, 1380])
@@ -164,13 +170,13 @@ def weeks(writer):
         writer.rest(chance.choice([540, 660, max(1, 1440 - (writer.place - writer.base - start) % 1440)]))
 
 
-def debts(writer):
+def debts(writer: Writer) -> None:
     """Short work between weekly rests that are reduced, and rests that can just, or just not, pay for them."""
     chance = writer.chance
     patient = chance.random() < 0.4
     daily_rests = [539, 540, 541] if patient else [539, 540, 660, 1380, 1439]
     works = [240, 600, 900] if patient else [1, 60, 240]
-    owed = []
+    owed: list[int] = []
     while not writer.is_full():
         for _ in range(chance.randint(1, 5)):
             writer.work(chance.choice(works))
@@ -202,7 +208,7 @@ def debts(writer):
             writer.rest(near(chance, WEEK + to_week_end(writer.place, writer.base)))
 
 
-def work_until(writer, minute):
+def work_until(writer: Writer, minute: int) -> None:
     """Work and rests that pay for nothing, up to a minute."""
     while writer.place < min(minute, writer.past):
         writer.work(min(max(1, minute - writer.place), writer.chance.choice([240, 900, 901])))
@@ -210,10 +216,10 @@ def work_until(writer, minute):
             writer.rest(540)
 
 
-def paying(writer):
+def paying(writer: Writer) -> None:
     """Weeks that owe, and then one rest with room for some of what is owed, or a minute less, at a deadline or within it."""
     chance = writer.chance
-    owed = []
+    owed: list[int] = []
     for week in range(chance.choice([1, 2, 3, 4])):
         amount = chance.choice([1, 60, 345, 1259, 1260])
         owed.append(amount)
@@ -236,21 +242,21 @@ def paying(writer):
 # Weeks by their rests
 
 
-def rest_from(writer, minute, minutes):
+def rest_from(writer: Writer, minute: int, minutes: int) -> None:
     """Work and short rests up to a minute, one minute of work where that has passed, and then a rest."""
     work_until(writer, max(minute, writer.place + 1))
     writer.marks.append(writer.place + minutes)
     writer.rest(minutes)
 
 
-def place_in(chance, week, minutes):
-    """A minute of the week at which a rest of so many minutes starts: any, or one with which it starts or ends near the week's end."""
+def place_in(chance: random.Random, week: int, minutes: int) -> int:
+    """A minute of the week at which a rest of some minutes starts: any, or one with which it starts or ends near the week's end."""
     latest = week + WEEK - minutes
     near_end = chance.choice([latest, latest - 1, latest + 1, week + WEEK - 1, week + WEEK - 1440])
     return chance.choice([week + chance.choice([0, 1, 600]), chance.randint(week, max(week, latest)), near_end])
 
 
-def owing_week(writer, week, owed):
+def owing_week(writer: Writer, week: int, owed: list[Owed]) -> None:
     """A week whose longest rest is too short, maybe with others that are as long or pay for it, at its end or before."""
     chance = writer.chance
     amount = chance.choice(REDUCTIONS)
@@ -265,11 +271,12 @@ def owing_week(writer, week, owed):
     owed.append((amount, week + 4 * WEEK))
 
 
-def paying_week(writer, week, owed):
+def paying_week(writer: Writer, week: int, owed: list[Owed]) -> None:
     """A rest with room for some debts, or a minute less or more: as the week's longest rest, beside it, or at a deadline."""
     chance = writer.chance
     if not owed:
-        return owing_week(writer, week, owed)
+        owing_week(writer, week, owed)
+        return
     paid = chance.choice([owed[:1], owed[-1:], owed[:2], owed[-2:], owed])
     total = sum(amount for amount, _ in paid)
     start = writer.place + chance.choice([1, 60, 900, 2880])
@@ -290,51 +297,51 @@ def paying_week(writer, week, owed):
         owed[:] = [debt for debt in owed if debt not in paid]
 
 
-def ended_weekly_rests(writer):
+def ended_weekly_rests(writer: Writer) -> list[int]:
     """Where weekly rests have ended: the first of all, which has no start, and those of 24 hours."""
     firsts = [start for start, _, activity in writer.pieces if activity != "rest"][:1]
     return firsts + [past for start, past, activity in writer.pieces if activity == "rest" and past - start >= 1440]
 
 
-def six_days_later(writer, week, owed):
+def six_days_later(writer: Writer, week: int, owed: list[Owed]) -> None:
     """A weekly rest six days after the last, or a minute less or more."""
     chance = writer.chance
     ended = max(ended_weekly_rests(writer), default=writer.place)
     rest_from(writer, ended + 8640 + chance.choice([-1, 0, 1]), chance.choice(WEEKLY_RESTS))
 
 
-def two_rests(writer, week, owed):
+def two_rests(writer: Writer, week: int, owed: list[Owed]) -> None:
     """Two rests of all limits for weekly rests."""
     chance = writer.chance
     for start in [week + chance.choice([0, 1, 900]), week + WEEK // 2]:
         rest_from(writer, start, chance.choice(WEEKLY_RESTS))
 
 
-def no_rest(writer, week, owed):
+def no_rest(writer: Writer, week: int, owed: list[Owed]) -> None:
     """A week without a weekly rest."""
     work_until(writer, week + WEEK + writer.chance.choice([0, 0, -1, 1, 600]))
 
 
-def rest_alone(writer, week, owed):
+def rest_alone(writer: Writer, week: int, owed: list[Owed]) -> None:
     """A rest from about the week's start to about its end."""
     chance = writer.chance
     rest_from(writer, week + chance.choice([-1, 0, 0, 1]), WEEK + chance.choice([-1, 0, 0, 1, 600]))
     work_until(writer, writer.place + 1)
 
 
-def rest_across(writer, week, owed):
+def rest_across(writer: Writer, week: int, owed: list[Owed]) -> None:
     """A rest of a limit across the week's end."""
     chance = writer.chance
     minutes = chance.choice(WEEKLY_RESTS)
     rest_from(writer, week + WEEK - chance.choice([1, 2, minutes // 2, minutes - 1, minutes, minutes + 1]), minutes)
 
 
-def rested_weeks(writer):
+def rested_weeks(writer: Writer) -> None:
     """Weeks that owe, pay, lack rests or are at rest, in any order."""
     chance = writer.chance
     kinds = [owing_week, paying_week, six_days_later, two_rests, no_rest, rest_alone, rest_across]
     weights = chance.choice([(6, 6, 2, 1, 1, 1, 1), (8, 1, 1, 1, 1, 1, 0), (1, 1, 1, 4, 5, 2, 3), (1, 0, 8, 2, 1, 1, 1)])
-    owed = []
+    owed: list[Owed] = []
     while not writer.is_full():
         week = writer.place - (writer.place - writer.base) % WEEK
         if chance.random() < 0.5:
@@ -342,11 +349,11 @@ def rested_weeks(writer):
         chance.choices(kinds, weights)[0](writer, week, owed)
 
 
-def due_weeks(writer):
+def due_weeks(writer: Writer) -> None:
     """Weeks that owe, and then nothing that pays up to a deadline, or one rest with room before that or the horizon, or a
     minute less."""
     chance = writer.chance
-    owed = []
+    owed: list[Owed] = []
     for _ in range(chance.choice([1, 2, 2, 3, 3])):
         week = writer.place - (writer.place - writer.base) % WEEK
         amount = chance.choice([1, 60, 345, 400, 700, 1260])
@@ -370,12 +377,12 @@ def due_weeks(writer):
     writer.end(chance.choice([end, end, end + 1, end - 1, deadline, deadline + 1, writer.place, writer.place]))
 
 
-def laid(chance, writer):
+def laid(chance: random.Random, writer: Writer) -> tuple[list[Span], int]:
     """The pieces and the horizon as they are."""
     return writer.pieces, writer.past
 
 
-def closed(chance, writer):
+def closed(chance: random.Random, writer: Writer) -> tuple[list[Span], int]:
     """The pieces up to near the start of a week, a minute of work there, and a rest to the horizon."""
     start = writer.base + chance.randint(1, max(1, (writer.past - writer.base) // WEEK)) * WEEK + chance.choice([-1, 0, 0, 1])
     start -= chance.choice([0, 0, 0, WEEK // 2])
@@ -386,7 +393,7 @@ def closed(chance, writer):
     return pieces + [piece for piece in ends if piece[0] < piece[1]], max(start, past)
 
 
-def weekly_timeline(seed):
+def weekly_timeline(seed: int) -> Timeline:
     """The spans from a Monday's first minute to a horizon, the Monday, and the horizon: from two to ten weeks later, and up
     to three days more, or a last rest of up to three weeks; sometimes ended earlier."""
     chance = random.Random(f"weekly {seed}")
@@ -409,14 +416,14 @@ def weekly_timeline(seed):
 # Rests over the ends of weeks
 
 
-def over_end(writer, end):
+def over_end(writer: Writer, end: int) -> None:
     """A rest of a limit over a week's end, or one that only just reaches it from one side."""
     chance = writer.chance
     minutes = chance.choice([2700] * 5 + [2820, 2699, 1440])
     rest_from(writer, end - chance.choice([minutes // 2] * 6 + [1, minutes - 1, minutes, 0]), minutes)
 
 
-def within_week(writer, end):
+def within_week(writer: Writer, end: int) -> None:
     """A rest of a limit in the middle of the week, and maybe one over its end."""
     chance = writer.chance
     rest_from(writer, end - chance.choice([4, 5]) * 1440, chance.choice([2700, 2820, 2699, 1440]))
@@ -424,19 +431,19 @@ def within_week(writer, end):
         over_end(writer, end)
 
 
-def over_next_week(writer, end):
-    """A rest from before the next week, or near its first minute, to behind it, or near its last minute."""
+def over_next_week(writer: Writer, end: int) -> None:
+    """A rest from before the next week, or near its first minute, to after it, or near its last minute."""
     chance = writer.chance
     start = max(writer.place + 1, end - chance.choice([600, 1440, 1440, 1, 0, -1]))
     rest_from(writer, start, end + WEEK + chance.choice([600, 1440, 1440, 1, 0, -1]) - start)
 
 
-def without_rest(writer, end):
+def without_rest(writer: Writer, end: int) -> None:
     """A week without a weekly rest, up to its last minutes."""
     work_until(writer, end - writer.chance.choice([0, 600, 1350]))
 
 
-def chained_timeline(seed):
+def chained_timeline(seed: int) -> Timeline:
     """The spans from a Monday's first minute to a horizon, the Monday, and the horizon, about five to fourteen weeks later:
     long rows of weeks whose rests lie over their ends, so that the week in which one is counted decides over others."""
     chance = random.Random(f"chained {seed}")
@@ -457,9 +464,9 @@ def chained_timeline(seed):
 # A whole timeline
 
 
-def merged(pieces):
+def merged(pieces: Iterable[Span]) -> list[Span]:
     """Neighbouring pieces of one activity made one."""
-    spans = []
+    spans: list[Span] = []
     for start, past, activity in pieces:
         if spans and spans[-1][2] == activity:
             spans[-1] = (spans[-1][0], past, activity)
@@ -468,20 +475,20 @@ def merged(pieces):
     return spans
 
 
-def moved(chance, spans, count):
+def moved(chance: random.Random, spans: Iterable[Span], count: int) -> list[Span]:
     """Some ends of spans moved by a minute, where no span becomes empty."""
-    spans = list(spans)
-    for _ in range(count if len(spans) > 1 else 0):
-        place = chance.randrange(len(spans) - 1)
-        one, other = spans[place], spans[place + 1]
+    found = list(spans)
+    for _ in range(count if len(found) > 1 else 0):
+        place = chance.randrange(len(found) - 1)
+        one, other = found[place], found[place + 1]
         end = one[1] + chance.choice([-1, 1])
         if one[0] < end < other[1]:
-            spans[place] = (one[0], end, one[2])
-            spans[place + 1] = (end, other[1], other[2])
-    return spans
+            found[place] = (one[0], end, one[2])
+            found[place + 1] = (end, other[1], other[2])
+    return found
 
 
-def cut(chance, spans, count, unit, base):
+def cut(chance: random.Random, spans: list[Span], count: int, unit: int | None, base: int) -> list[Span]:
     """Spans cut in two with the same activity, as a card does at midnight."""
     for _ in range(count):
         start, past, activity = chance.choice(spans)
@@ -494,7 +501,7 @@ def cut(chance, spans, count, unit, base):
     return spans
 
 
-def bounds(chance, length):
+def bounds(chance: random.Random, length: int) -> tuple[int, int]:
     """A Monday and a horizon: whole weeks later, or a minute or a day less, or a minute more, or any minute before that, or
     one of the first day; sometimes at the ends of the calendar."""
     base = chance.choice([USUAL_BASE] * 8 + [FIRST_BASE, LAST_BASE - (length - 1) * WEEK])
@@ -509,7 +516,7 @@ def bounds(chance, length):
     return base, max(base, min(past, LAST_PAST))
 
 
-def ended(chance, writer):
+def ended(chance: random.Random, writer: Writer) -> tuple[list[Span], int]:
     """The pieces and the horizon, sometimes an earlier one within a rest, where what is known of it decides."""
     if chance.random() < 0.8:
         return writer.pieces, writer.past
@@ -524,7 +531,7 @@ def ended(chance, writer):
     return pieces, end
 
 
-def timeline(seed, weeks_long):
+def timeline(seed: int, weeks_long: int) -> Timeline:
     """The spans from a Monday's first minute to a horizon of at most six weeks, the Monday, and the horizon."""
     chance = random.Random(f"{seed} {weeks_long}")
     base, past = bounds(chance, max(1, min(6, weeks_long)))
@@ -544,25 +551,25 @@ def timeline(seed, weeks_long):
 # Spans of a card
 
 
-def as_crew(chance, spans):
+def as_crew(chance: random.Random, spans: Iterable[Span]) -> list[HeldSpan]:
     """The same minutes; none, some or all of them are as crew."""
     share = chance.choice([0, 0.3, 1])
     return [(*span, chance.random() < share) for span in spans]
 
 
-def span_of(chance, start, past):
+def span_of(chance: random.Random, start: int, past: int) -> list[Span]:
     """A span from one minute to another with any activity, or none where the minutes are out of order."""
     activity = chance.choice(["rest", "available", "work", "drive"])
     return [(start, min(past, LAST_PAST), activity)] if start < min(past, LAST_PAST) else []
 
 
-def before(chance, base):
+def before(chance: random.Random, base: int) -> list[HeldSpan]:
     """What is held before the base: nothing, or up to the base, or to some minutes before it."""
     past = base - chance.choice([0, 0, 1, 600])
     return as_crew(chance, span_of(chance, past - chance.choice([0, 1, 5000]), past))
 
 
-def behind(chance, horizon, spans):
+def after(chance: random.Random, horizon: int, spans: Iterable[Span]) -> list[HeldSpan]:
     """What is held from the horizon on: it begins as crew, or it begins later, or there is nothing."""
     gap = chance.choice([1, 1, 60, 3000])
     last = horizon + chance.choice([1, 45, 600, 20000])
@@ -573,11 +580,11 @@ def behind(chance, horizon, spans):
         kept = [(max(start, horizon + gap), past, activity) for start, past, activity in spans if horizon + gap < past]
         return as_crew(chance, kept or span_of(chance, horizon + gap, last + gap))
     kept = [(max(start, horizon), past, activity) for start, past, activity in spans if horizon < past]
-    first, *others = kept or span_of(chance, horizon, last) or [None]
-    return [(*first, True)] + as_crew(chance, others) if first else []
+    kept = kept or span_of(chance, horizon, last)
+    return [(*kept[0], True)] + as_crew(chance, kept[1:]) if kept else []
 
 
-def repeated(chance, spans, count):
+def repeated(chance: random.Random, spans: list[HeldSpan], count: int) -> list[HeldSpan]:
     """Some spans, and parts of them, given once more."""
     again = []
     for start, past, activity, crew in chance.choices(spans, k=count if spans else 0):
@@ -585,7 +592,7 @@ def repeated(chance, spans, count):
     return spans + again
 
 
-def held_timeline(seed):
+def held_timeline(seed: int) -> tuple[list[HeldSpan], int]:
     """Spans as a card would hold them, in any order, and a Monday. What is known from it on ends anywhere."""
     chance = random.Random(f"held {seed}")
     spans, base, past = weekly_timeline(seed) if chance.random() < 0.6 else timeline(seed, 1 + seed % 6)
@@ -594,7 +601,7 @@ def held_timeline(seed):
     known = [(start, min(end, horizon), activity) for start, end, activity in spans if start < horizon]
     if known and chance.random() < 0.5:
         known = cut(chance, known, chance.randint(1, 30), chance.choice([None, 1440]), base)
-    later = behind(chance, horizon, spans)
+    later = after(chance, horizon, spans)
     held = before(chance, base) + [(*span, False) for span in known] + later
     if chance.random() < 0.3:
         held = repeated(chance, held, chance.randint(1, 5))
@@ -605,7 +612,7 @@ def held_timeline(seed):
     return held, base
 
 
-def main():
+def main() -> None:
     """Print a timeline as `slow_rules.py` reads it."""
     spans, base, past = timeline(int(sys.argv[1]), int(sys.argv[2]))
     print(base, past)

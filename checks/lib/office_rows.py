@@ -1,5 +1,6 @@
 """Worked rows of the office: in an archive that has Anna, what each command prints for an input, and its status."""
 from collections import namedtuple
+from collections.abc import Sequence
 
 HOLDER = "0d4431323334353637383930313233"
 DRIVER_HEAD = "driver,holder,key,base,name\n"
@@ -9,6 +10,7 @@ BERT = f"{DRIVER_HEAD}18,{HOLDER[:-1]}4,bert-key-1,2024-02-05,Bert\n".encode()
 CARD = "0520000011" + HOLDER + "3030"
 VALUE = "00000014" "0000001465e50f0000010064000011e019fe23fc" "0014001065e6608000020000000011e0"
 OTHER_VALUE = "00000014" "0000001465e50f0000010064000011ea1a0823f2" "0014001065e6608000020000080011e0"
+ACTIVITY_DATA = bytes.fromhex(VALUE)
 DAY = bytes.fromhex(CARD + "0504000028" + VALUE)
 OTHER_DAY = bytes.fromhex(CARD + "0504000028" + OTHER_VALUE)
 CREW_DAY = bytes.fromhex(CARD + "0504000028" + VALUE.replace("19fe", "59fe"))
@@ -51,23 +53,33 @@ DAY_OFF_LINE = '2 2024-03-11 00:00 2024-03-12 00:00 rest kept "Eva Lund" "day of
 Row = namedtuple("Row", "words given text status")
 
 
-def row(words, text, given, status):
-    """A row whose words stand between blanks."""
+def row(words: str, text: str | bytes, given: bytes, status: int) -> Row:
+    """A row whose arguments stand between blanks."""
     text = text if isinstance(text, bytes) else text.encode()
     return Row(words.split(" "), given, text, status)
 
 
-def done(words, text, given=b""):
+def done(words: str, text: str | bytes, given: bytes = b"") -> Row:
     """A command that is done."""
     return row(words, text, given, 0)
 
 
-def refused(words, line, given=b""):
+def refused(words: str, line: str, given: bytes = b"") -> Row:
     """A command that is refused."""
     return row(words, f"{line}\n", given, 1)
 
 
-def days(month, weekdays, first=1):
+def hours(*rows: str, head: bytes = HOURS_HEAD) -> bytes:
+    """The text of CSV with rows of hours."""
+    return head + "".join(f"{row}\n" for row in rows).encode()
+
+
+def bert(key: str, holder: str = HOLDER, base: str = "2024-03-05") -> bytes:
+    """The text of CSV with another driver."""
+    return f"driver,holder,key,base,name\n18,{holder},{key},{base},Bert\n".encode()
+
+
+def days(month: str, weekdays: Sequence[str], first: int = 1) -> str:
     """The lines of days of which nothing is held, up to the month's last; its first day is the first of the days of the week."""
     return "".join(f"{month}-{day:02} {weekdays[(day - 1) % 7]}{NONE}" for day in range(first, LENGTHS[month] + 1))
 
@@ -136,7 +148,7 @@ ROWS = {
         done("file 17 1", DAY),
         refused("file 17 2", "S10 unknown download"),
     ],
-    "words": [
+    "arguments": [
         refused("import whole", "P1 bad part", DAY),
         refused("import Both", "P1 bad part", DAY),
         refused("import whole", "P1 bad part", TOO_LARGE),
@@ -317,8 +329,7 @@ ROWS = {
 }
 
 # What `card` prints of a part and a file, and its status.
-OF_DAY = "".join(f"{line}\n" for line in SPANS.replace(",", " ").splitlines()[1:])
-OF_DAY = OF_DAY.encode()
+OF_DAY = "".join(f"{line}\n" for line in SPANS.replace(",", " ").splitlines()[1:]).encode()
 CARDS = [
     ("both", DAY, (OF_DAY, 0)),
     ("first", DAY, (OF_DAY, 0)),

@@ -1,5 +1,5 @@
-/* Fails each call that writes, cuts or flushes a file at a place, from the one on whose number the environment's STOPPED_CALL tells, as
-   a disk that has stopped, and says so on standard error. Where STOPPED_CALLS is there, only so many of them fail, and those behind them
+/* Fails each call that writes, cuts or flushes a file at a place, from the one on whose number the environment's STOPPED_CALL gives, as
+   a disk that has stopped, and says so on standard error. Where there is a STOPPED_CALLS of n, only n of them fail, and those after them
    are made again, as by a disk that fails for a while. What goes to standard output isn't counted.
    It is loaded before the C library by LD_PRELOAD. */
 extern long syscall(long number, ...);

@@ -2,12 +2,13 @@
 `docs/FORMATS.md` says what a request is, and in which order it is checked.
 
 A head is read a byte at a time, by the grammar of the Rust crate httparse as it is without options. Where bytes have no head, that
-grammar doesn't always tell whether more of them are wanted or none would help; then more than one reply is right."""
+grammar doesn't always say whether more of them are expected or none would help; then more than one reply is right."""
 import codecs
 import re
 from collections import namedtuple
+from collections.abc import Container
 
-from slow_office import INPUT_LIMIT
+from slow.slow_office import INPUT_LIMIT, Office
 
 HEAD_LIMIT = 8_192
 FIELD_LIMIT = 32
@@ -51,7 +52,7 @@ FAULTS = {
     "S14": 409,
 }
 
-# By a path and a method: the command of the slow office. The words in braces are the command's.
+# By a path and a method: the command of the slow office. Its arguments stand in braces.
 OFFICE_ROUTES = {
     "/drivers": {"POST": "register"},
     "/cards/{part}": {"POST": "import"},
@@ -65,7 +66,7 @@ OFFICE_ROUTES = {
     "/drivers/{n}/owed": {"GET": "owed"},
     "/drivers/{n}/files/{k}": {"GET": "file"},
 }
-# The same of a driver, whose number is the command's first word.
+# The same of a driver, whose number is the command's first argument.
 DRIVER_ROUTES = {
     "/me/cards/{part}": {"POST": "own"},
     "/me/entries": {"GET": "entries"},
@@ -91,15 +92,15 @@ LINE_END_BYTES = b"\r\n"
 class Head(namedtuple("Head", "method target fields length")):
     """The head of a request: its fields are pairs of a name and a value, and its length is that of all its bytes."""
 
-    def values(self, name):
+    def values(self, name: bytes) -> list[bytes]:
         """The values of the fields with a name, in whatever case."""
         return [value for found, value in self.fields if found.lower() == name]
 
 
 class NoHead(Exception):
-    """There is no head: either other bytes behind these may make one, or none can; or a reader may say the one or the other."""
+    """There is no head: either other bytes after these may make one, or none can; or a reader may say the one or the other."""
 
-    def __init__(self, is_open, is_refused):
+    def __init__(self, is_open: bool, is_refused: bool) -> None:
         super().__init__()
         self.is_open = is_open
         self.is_refused = is_refused
@@ -108,42 +109,42 @@ class NoHead(Exception):
 class HeadReader:
     """Reads a head from the front of some bytes."""
 
-    def __init__(self, given):
+    def __init__(self, given: bytes) -> None:
         self.given = given
         self.place = 0
-        self.fields = []
+        self.fields: list[tuple[bytes, bytes]] = []
 
-    def next(self):
+    def next(self) -> int:
         """The next byte, which isn't taken yet."""
         if self.place == len(self.given):
             raise NoHead(True, False)
         return self.given[self.place]
 
-    def take(self, wanted):
+    def take(self, wanted: Container[int]) -> None:
         """Takes the next byte, which has to be one of those that are wanted."""
         if self.next() not in wanted:
             raise NoHead(False, True)
         self.place += 1
 
-    def run(self, wanted):
+    def run(self, wanted: Container[int]) -> bytes:
         """Takes the next bytes, up to the first that isn't wanted."""
         start = self.place
         while self.next() in wanted:
             self.place += 1
         return self.given[start : self.place]
 
-    def word(self, wanted):
+    def word(self, wanted: Container[int]) -> bytes:
         """Takes such bytes, one at least."""
         self.take(wanted)
         return self.given[self.place - 1 : self.place] + self.run(wanted)
 
-    def line_end(self):
+    def line_end(self) -> None:
         """Takes CR LF, or LF."""
         if self.next() in b"\r":
             self.take(b"\r")
         self.take(b"\n")
 
-    def target(self):
+    def target(self) -> bytes:
         """Takes the bytes of a target. They have to be UTF-8; where they don't end, a reader may look at that or not."""
         start = self.place
         try:
@@ -155,7 +156,7 @@ class HeadReader:
             raise NoHead(False, True)
         return target
 
-    def field(self):
+    def field(self) -> None:
         """Takes the line of a field. Blanks and tabs around its value don't belong to it."""
         name = self.word(TOKEN_BYTES)
         self.take(b":")
@@ -163,7 +164,7 @@ class HeadReader:
         self.line_end()
         self.fields.append((name, value.strip(b" \t")))
 
-    def head(self):
+    def head(self) -> Head:
         """Takes a head, and empty lines before it."""
         while self.next() in LINE_END_BYTES:
             self.line_end()
@@ -180,7 +181,7 @@ class HeadReader:
         return Head(method, target, self.fields, self.place)
 
 
-def is_text(given):
+def is_text(given: bytes) -> bool:
     """Whether these bytes are UTF-8."""
     try:
         given.decode()
@@ -189,8 +190,8 @@ def is_text(given):
     return True
 
 
-def is_text_so_far(given):
-    """Whether other bytes behind these can make them UTF-8."""
+def is_text_so_far(given: bytes) -> bool:
+    """Whether other bytes after these can make them UTF-8."""
     try:
         codecs.getincrementaldecoder("utf-8")().decode(given)
     except UnicodeDecodeError:
@@ -199,15 +200,15 @@ def is_text_so_far(given):
 
 
 class NotOne(Exception):
-    """The statuses of which one is told, since there is no head within the limits; and whether more bytes could have made one."""
+    """The statuses of which one comes, since there is no head within the limits; and whether more bytes could have made one."""
 
-    def __init__(self, statuses, is_open):
+    def __init__(self, statuses: list[int], is_open: bool) -> None:
         super().__init__()
         self.statuses = statuses
         self.is_open = is_open
 
 
-def head_of(given):
+def head_of(given: bytes) -> Head:
     """The head at the front of an input: 400 where the input ends before or no other bytes make one of it, and 431 where it is larger
     than its limits."""
     reader = HeadReader(given[:HEAD_LIMIT])
@@ -229,13 +230,13 @@ def head_of(given):
 class Refused(Exception):
     """The status of a request that fails a check."""
 
-    def __init__(self, status):
+    def __init__(self, status: int) -> None:
         super().__init__()
         self.status = status
 
 
-def words_in(path, form):
-    """The words that a path has where its form has braces, or nothing where it isn't of that form. None of them is empty."""
+def words_in(path: str, form: str) -> list[str] | None:
+    """What a path has where its form has braces, or None where it isn't of that form. None of it is empty."""
     parts, names = path.split("/"), form.split("/")
     is_word = [name.startswith("{") for name in names]
     if len(parts) != len(names) or not all(part if word else part == name for part, name, word in zip(parts, names, is_word)):
@@ -243,8 +244,8 @@ def words_in(path, form):
     return [part for part, word in zip(parts, is_word) if word]
 
 
-def form_of(path):
-    """The form of a path, and its words: 404."""
+def form_of(path: str) -> tuple[str, list[str]]:
+    """The form of a path, and what it has in the places of braces: 404."""
     for form in ROUTES:
         words = words_in(path, form)
         if words is not None:
@@ -252,8 +253,8 @@ def form_of(path):
     raise Refused(404)
 
 
-def body_length(head, command):
-    """How many bytes of a body are read: 400, 411, 413. Where a command has no input, there is none, and no length has to be told."""
+def body_length(head: Head, command: str) -> int:
+    """How many bytes of a body are read: 400, 411, 413. Where a command has no input, there is none, and no length has to be given."""
     if head.method == b"GET":
         return 0
     if head.values(b"transfer-encoding"):
@@ -274,20 +275,20 @@ def body_length(head, command):
 # Replies
 
 
-def reply_of(status, body, kind=TEXT):
+def reply_of(status: int, body: bytes, kind: str = TEXT) -> bytes:
     """The bytes of a reply."""
     phrase, _ = STATUSES[status]
     head = [f"HTTP/1.1 {status} {phrase}", f"content-type: {kind}", f"content-length: {len(body)}", "connection: close", "", ""]
     return "\r\n".join(head).encode() + body
 
 
-def reply_without_line(status):
+def reply_without_line(status: int) -> bytes:
     """The reply of a status that names no fault."""
     _, body = STATUSES[status]
     return reply_of(status, body)
 
 
-def reply_to_done(command, told):
+def reply_to_done(command: str, told: bytes) -> bytes:
     """The reply to a command that was done."""
     if command == "file":
         return reply_of(200, told, STORED)
@@ -295,20 +296,20 @@ def reply_to_done(command, told):
     return reply_of(201 if is_added else 200, told)
 
 
-def reply_to_fault(line):
+def reply_to_fault(line: bytes) -> bytes:
     """The reply to a fault with a line."""
     code = line.decode().split(" ")[0]
     return reply_of(FAULTS[code if code in FAULTS else code[0]], line)
 
 
 class Server:
-    """Replies to requests over an office, which has a key, as each of its drivers has his."""
+    """Replies to requests over an office, which has a key, as each of its drivers has one."""
 
-    def __init__(self, office, office_key):
+    def __init__(self, office: Office, office_key: str) -> None:
         self.office = office
         self.office_key = office_key.encode()
 
-    def caller(self, head):
+    def caller(self, head: Head) -> int | None:
         """Who asks: a driver's number, or nothing for the office; 403."""
         keys = head.values(b"x-key")
         if keys == [self.office_key]:
@@ -318,8 +319,8 @@ class Server:
                 return driver.number
         raise Refused(403)
 
-    def command(self, head):
-        """The words of the command that a head asks for: 403, 404, 405, 403."""
+    def command(self, head: Head) -> list[str]:
+        """The command that a head asks for, with its arguments: 403, 404, 405, 403."""
         caller = self.caller(head)
         form, words = form_of(head.target.decode())
         command = ROUTES[form].get(head.method.decode())
@@ -329,23 +330,23 @@ class Server:
             raise Refused(403)
         return [command, *words] if caller is None else [command, str(caller), *words]
 
-    def asked(self, head):
-        """The words of the command that a head asks for, and how many bytes of a body are read."""
+    def asked(self, head: Head) -> tuple[list[str], int]:
+        """The command that a head asks for, with its arguments, and how many bytes of a body are read."""
         words = self.command(head)
         return words, body_length(head, words[0])
 
-    def reply_to(self, head, behind):
-        """The reply to a head with the bytes behind it."""
+    def reply_to(self, head: Head, rest: bytes) -> bytes:
+        """The reply to a head with the bytes after it."""
         try:
             words, length = self.asked(head)
         except Refused as refused:
             return reply_without_line(refused.status)
-        if len(behind) < length:
+        if len(rest) < length:
             return reply_without_line(400)
-        told, status = self.office.answer(words, behind[:length])
+        told, status = self.office.answer(words, rest[:length])
         return reply_to_fault(told) if status else reply_to_done(words[0], told)
 
-    def replies(self, given):
+    def replies(self, given: bytes) -> list[bytes]:
         """The replies of which one is right. Where there are several, none of them changes anything."""
         try:
             head = head_of(given)
@@ -353,12 +354,12 @@ class Server:
             return [reply_without_line(status) for status in fault.statuses]
         return [self.reply_to(head, given[head.length :])]
 
-    def reply(self, given):
+    def reply(self, given: bytes) -> bytes:
         """The one reply that is right."""
         (told,) = self.replies(given)
         return told
 
-    def waits(self, given):
+    def waits(self, given: bytes) -> bool:
         """Whether a reply may wait for more bytes than these, or for their end."""
         try:
             head = head_of(given)

@@ -1,0 +1,51 @@
+"""The folders of the repository, and files: what they hold, and what lies beside them."""
+import contextlib
+import os
+import shutil
+
+TOP = os.path.dirname(os.path.dirname(os.path.dirname(os.path.abspath(__file__))))
+CHECKS = os.path.join(TOP, "checks")
+DOCS = os.path.join(TOP, "docs")
+EXAMPLES = os.path.join(TOP, "examples")
+PAGE = 4096  # bytes of a page of an archive's file
+
+
+def read(path: str) -> bytes:
+    """The bytes of a file."""
+    with open(path, "rb") as file:
+        return file.read()
+
+
+def content(path: str) -> bytes | None:
+    """The bytes of a file, or None where there is none."""
+    return read(path) if os.path.isfile(path) else None
+
+
+def write(path: str, given: bytes) -> None:
+    """Writes a file."""
+    with open(path, "wb") as file:
+        file.write(given)
+
+
+def lying_at(path: str) -> tuple[list[str], bytes | None]:
+    """What lies in a path's folder, but for a log beside a file, and the file's bytes."""
+    names = os.listdir(os.path.dirname(path))
+    logs = [os.path.basename(path) + "-wal"] if os.path.isfile(path) else []
+    return sorted({*names} - {*logs}), content(path)
+
+
+def copied(path: str, folder: str) -> str:
+    """Copies a file and its log, as far as they are there, into a folder, and returns the copy's path."""
+    copy = os.path.join(folder, "copy.db")
+    for ending in ["", "-wal"]:
+        with contextlib.suppress(FileNotFoundError):
+            os.remove(copy + ending)
+        with contextlib.suppress(FileNotFoundError):
+            shutil.copy(path + ending, copy + ending)
+    return copy
+
+
+def is_begun(path: str) -> bool:
+    """Whether the making of a file has begun and no more: it has one page at the most, and not its first byte, which is written last."""
+    whole = content(path)
+    return whole is not None and len(whole) <= PAGE and whole[:1] in (b"", b"\0")
