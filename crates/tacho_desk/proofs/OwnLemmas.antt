@@ -240,37 +240,37 @@ month_same month.Sheet m n s other e answer after h = shows_same _ n s other e a
 
 -- each of a driver's own tasks answers by the driver's rows alone
 pub same_answers : SameAnswers
-same_answers n (task.Import (caller.Driver m) p) his input s other e answer after h =
-    at_number n m his s other (Imports (caller.Driver m) p input) answer after (λ same. imports_same m p input s other same answer after h) e
-same_answers n (task.Import caller.Office p) his input s other e answer after h = absurd his
-same_answers n (task.Reading m text) his input s other e answer after h =
-    at_number n m his s other (ShowsReading text m) answer after (λ same. reading_same text m s other same answer after h) e
-same_answers n (task.MonthReading m month text) his input s other e answer after h =
-    at_number n m his s other (ShowsMonth text month m) answer after (λ same. month_same text month m s other same answer after h) e
-same_answers n (task.File m number) his input s other e answer after h =
-    at_number n m his s other (ShowsFile m number) answer after (λ same. lists_same _ _ m s other same answer after h) e
-same_answers n task.Register his input s other e answer after h = absurd his
-same_answers n (task.Enter m) his input s other e answer after h = absurd his
-same_answers n (task.Withdraw m number) his input s other e answer after h = absurd his
-same_answers n (task.Base m day) his input s other e answer after h = absurd his
-same_answers n task.Drivers his input s other e answer after h = absurd his
-same_answers n (task.MonthOfAll month text) his input s other e answer after h = absurd his
+same_answers n (task.Import (caller.Driver m) p) theirs input s other e answer after h =
+    at_number n m theirs s other (Imports (caller.Driver m) p input) answer after (λ same. imports_same m p input s other same answer after h) e
+same_answers n (task.Import caller.Office p) theirs input s other e answer after h = absurd theirs
+same_answers n (task.Reading m text) theirs input s other e answer after h =
+    at_number n m theirs s other (ShowsReading text m) answer after (λ same. reading_same text m s other same answer after h) e
+same_answers n (task.MonthReading m month text) theirs input s other e answer after h =
+    at_number n m theirs s other (ShowsMonth text month m) answer after (λ same. month_same text month m s other same answer after h) e
+same_answers n (task.File m number) theirs input s other e answer after h =
+    at_number n m theirs s other (ShowsFile m number) answer after (λ same. lists_same _ _ m s other same answer after h) e
+same_answers n task.Register theirs input s other e answer after h = absurd theirs
+same_answers n (task.Enter m) theirs input s other e answer after h = absurd theirs
+same_answers n (task.Withdraw m number) theirs input s other e answer after h = absurd theirs
+same_answers n (task.Base m day) theirs input s other e answer after h = absurd theirs
+same_answers n task.Drivers theirs input s other e answer after h = absurd theirs
+same_answers n (task.MonthOfAll month text) theirs input s other e answer after h = absurd theirs
 
 -- it changes no other driver's rows
 pub others_stay : OthersStay
-others_stay n (task.Import (caller.Driver k) p) his input s answer after h m other =
-    ap (driver_of m) h.2.1 ∙ import_others k m (part_number p) input h.0 s (λ e. other (e ∙ his))
-others_stay n (task.Import caller.Office p) his input s answer after h m other = absurd his
-others_stay n (task.Reading k text) his input s answer after h m other = ap (driver_of m) (reading_stays text k s answer after h)
-others_stay n (task.MonthReading k month text) his input s answer after h m other =
+others_stay n (task.Import (caller.Driver k) p) theirs input s answer after h m other =
+    ap (driver_of m) h.2.1 ∙ import_others k m (part_number p) input h.0 s (λ e. other (e ∙ theirs))
+others_stay n (task.Import caller.Office p) theirs input s answer after h m other = absurd theirs
+others_stay n (task.Reading k text) theirs input s answer after h m other = ap (driver_of m) (reading_stays text k s answer after h)
+others_stay n (task.MonthReading k month text) theirs input s answer after h m other =
     ap (driver_of m) (month_stays text month k s answer after h)
-others_stay n (task.File k number) his input s answer after h m other = ap (driver_of m) h.1
-others_stay n task.Register his input s answer after h m other = absurd his
-others_stay n (task.Enter k) his input s answer after h m other = absurd his
-others_stay n (task.Withdraw k number) his input s answer after h m other = absurd his
-others_stay n (task.Base k day) his input s answer after h m other = absurd his
-others_stay n task.Drivers his input s answer after h m other = absurd his
-others_stay n (task.MonthOfAll month text) his input s answer after h m other = absurd his
+others_stay n (task.File k number) theirs input s answer after h m other = ap (driver_of m) h.1
+others_stay n task.Register theirs input s answer after h m other = absurd theirs
+others_stay n (task.Enter k) theirs input s answer after h m other = absurd theirs
+others_stay n (task.Withdraw k number) theirs input s answer after h m other = absurd theirs
+others_stay n (task.Base k day) theirs input s answer after h m other = absurd theirs
+others_stay n task.Drivers theirs input s answer after h m other = absurd theirs
+others_stay n (task.MonthOfAll month text) theirs input s answer after h m other = absurd theirs
 
 -- ---- one answer
 
@@ -365,18 +365,18 @@ module _ (one_content : (p : Part) (bytes : List ℕ) (a b : Result Content Card
 
   -- each of a driver's own tasks has one answer
   pub one_answer : OneAnswer
-  one_answer n (task.Import (caller.Driver m) p) his input s a b after left h k =
+  one_answer n (task.Import (caller.Driver m) p) theirs input s a b after left h k =
       let same = one_content p input h.0 k.0 h.1 k.1 in (
         h.2.0 ∙ (ap (λ (content : Result Content CardFault). in_words imported_told (import_step (Some m) (part_number p) input content s).answer) same ∙ sym k.2.0),
         h.2.1 ∙ (ap (λ (content : Result Content CardFault). (import_step (Some m) (part_number p) input content s).after) same ∙ sym k.2.1),
       )
-  one_answer n (task.Import caller.Office p) his input s a b after left h k = absurd his
-  one_answer n (task.Reading m text) his input s a b after left h k = one_reading text m s a b after left h k
-  one_answer n (task.MonthReading m month text) his input s a b after left h k = one_month text month m s a b after left h k
-  one_answer n (task.File m number) his input s a b after left h k = one_listed _ s (file_reading m number s) a b after left h k
-  one_answer n task.Register his input s a b after left h k = absurd his
-  one_answer n (task.Enter m) his input s a b after left h k = absurd his
-  one_answer n (task.Withdraw m number) his input s a b after left h k = absurd his
-  one_answer n (task.Base m day) his input s a b after left h k = absurd his
-  one_answer n task.Drivers his input s a b after left h k = absurd his
-  one_answer n (task.MonthOfAll month text) his input s a b after left h k = absurd his
+  one_answer n (task.Import caller.Office p) theirs input s a b after left h k = absurd theirs
+  one_answer n (task.Reading m text) theirs input s a b after left h k = one_reading text m s a b after left h k
+  one_answer n (task.MonthReading m month text) theirs input s a b after left h k = one_month text month m s a b after left h k
+  one_answer n (task.File m number) theirs input s a b after left h k = one_listed _ s (file_reading m number s) a b after left h k
+  one_answer n task.Register theirs input s a b after left h k = absurd theirs
+  one_answer n (task.Enter m) theirs input s a b after left h k = absurd theirs
+  one_answer n (task.Withdraw m number) theirs input s a b after left h k = absurd theirs
+  one_answer n (task.Base m day) theirs input s a b after left h k = absurd theirs
+  one_answer n task.Drivers theirs input s a b after left h k = absurd theirs
+  one_answer n (task.MonthOfAll month text) theirs input s a b after left h k = absurd theirs

@@ -95,11 +95,11 @@ form_of : (o : Option Driver) (stretches : List Judged) (start past : ℕ) (line
 form_of None stretches start past line text there are ends within is = cc
 form_of (Some d) stretches start past line text there are ends within is =
     let both = ends (held_spans d) (1440 * d.base) are.end are are.is_end in
-    let his = form_same line (held_spans d) start past text within is in (
+    let theirs = form_same line (held_spans d) start past text within is in (
       are.end,
       are.is_end,
       subst (λ (end : ℕ). IsForm (held_spans d) (1440 * d.base) end text) both.1
-          (subst (λ (base : ℕ). IsForm (held_spans d) base past text) both.0 his),
+          (subst (λ (base : ℕ). IsForm (held_spans d) base past text) both.0 theirs),
     )
 
 pub form_shown : (n : ℕ) (s : State) (stretches : List Judged) (start past : ℕ) (line : List Span) (text : List ℕ) → report_reading n s ≡ Ok tt

@@ -176,9 +176,9 @@ module _ (own_wants : OwnWants) (same_answers : SameAnswers) (others_stay : Othe
   -- the reply to a driver's own task
   wanted_same : (n : ℕ) (s other : State) → driver_of n s ≡ driver_of n other → (wanted : Wanted) → ((t : Task) → wanted ≡ Ok t → IsHis n t) → (body : List ℕ) (reply : Reply) (after : State)
       → RepliesToTask wanted body s reply after → (left : State) × RepliesToTask wanted body other reply left × (driver_of n after ≡ driver_of n left)
-  wanted_same n s other e (Err f) his body reply after h = told_same n s other e (reply_to (Err f)) reply after h
-  wanted_same n s other e (Ok t) his body reply after h =
-      let x = same_answers n t (his t refl) body s other e h.0 after h.1 in (x.0, (h.0, x.1, h.2), x.2)
+  wanted_same n s other e (Err f) theirs body reply after h = told_same n s other e (reply_to (Err f)) reply after h
+  wanted_same n s other e (Ok t) theirs body reply after h =
+      let x = same_answers n t (theirs t refl) body s other e h.0 after h.1 in (x.0, (h.0, x.1, h.2), x.2)
 
   -- with its body
   run_same : (n : ℕ) (s other : State) → driver_of n s ≡ driver_of n other → (w : Wish) → is_own w.want ≡ true → (k : ℕ) (rest : List ℕ) (reply : Reply) (after : State)
@@ -235,8 +235,8 @@ module _ (own_wants : OwnWants) (same_answers : SameAnswers) (others_stay : Othe
       by_wanted h.1.0 (λ t is. task_is_own w.want n w.driver w.word t own (subst (IsTask w.want (caller.Driver n) w.driver w.word) is h.1.1)) h.1.2
     where
       by_wanted : (wanted : Wanted) → ((t : Task) → wanted ≡ Ok t → IsHis n t) → RepliesToTask wanted (take k rest) s reply after → driver_of m after ≡ driver_of m s
-      by_wanted (Err f) his h = ap (driver_of m) h.1
-      by_wanted (Ok t) his h = others_stay n t (his t refl) (take k rest) s h.0 after h.1 m differ
+      by_wanted (Err f) theirs h = ap (driver_of m) h.1
+      by_wanted (Ok t) theirs h = others_stay n t (theirs t refl) (take k rest) s h.0 after h.1 m differ
 
   -- for any length of its body
   body_others : (n m : ℕ) → m ≢ n → (s : State) (w : Wish) → is_own w.want ≡ true → (length : Result ℕ Status) (rest : List ℕ) (reply : Reply) (after : State)
@@ -274,9 +274,9 @@ module _ (own_wants : OwnWants) (same_answers : SameAnswers) (others_stay : Othe
   -- the reply to a driver's own task is the only one
   wanted_once : (n : ℕ) (s : State) (wanted : Wanted) → ((t : Task) → wanted ≡ Ok t → IsHis n t) → (body : List ℕ) (p q : Reply) (after left : State)
       → RepliesToTask wanted body s p after → RepliesToTask wanted body s q left → (p ≡ q) × (after ≡ left)
-  wanted_once n s (Err f) his body p q after left h k = told_once s (reply_to (Err f)) p q after left h k
-  wanted_once n s (Ok t) his body p q after left h k =
-      let x = one_answer n t (his t refl) body s h.0 k.0 after left h.1 k.1 in (h.2 ∙ (ap reply_to x.0 ∙ sym k.2), x.1)
+  wanted_once n s (Err f) theirs body p q after left h k = told_once s (reply_to (Err f)) p q after left h k
+  wanted_once n s (Ok t) theirs body p q after left h k =
+      let x = one_answer n t (theirs t refl) body s h.0 k.0 after left h.1 k.1 in (h.2 ∙ (ap reply_to x.0 ∙ sym k.2), x.1)
 
   -- with its body
   run_once : (n : ℕ) (s : State) (w : Wish) → is_own w.want ≡ true → (k : ℕ) (rest : List ℕ) (p q : Reply) (after left : State)

@@ -353,11 +353,11 @@ module _ (pattern path : List ℕ) (utf8 : IsUtf8 path) where
         ascii : y < 128
         ascii = ltb-true y 128 (plain_param x rest w parts.0)
 
-        behind : drop (token + 1) pattern ≡ rest
-        behind = drop_one token pattern rest x m.left
+        after_head : drop (token + 1) pattern ≡ rest
+        after_head = drop_one token pattern rest x m.left
 
         within : token + 1 < length pattern
-        within = drop_within (token + 1) pattern tokens y behind
+        within = drop_within (token + 1) pattern tokens y after_head
 
         by : Matches (x ∷ rest) (drop at path) → Meets rest (after_token token) stop
         by (inl k) = absurd (omega (arith, k.0, w))
@@ -367,12 +367,12 @@ module _ (pattern path : List ℕ) (utf8 : IsUtf8 path) where
             let room : length (segment rest) ≤ length (segment (drop at path)) = k.1 in
             let much = length (segment (drop at path)) - length (segment rest) in
             let leaves : stop ≡ at + length (segment (drop at path)) - length (segment rest) =
-            stop_before token at within wild ∙ ap (λ ys. at + length (segment (drop at path)) - length (segment ys)) behind in
+            stop_before token at within wild ∙ ap (λ ys. at + length (segment (drop at path)) - length (segment ys)) after_head in
             let ends : at + much ≡ stop = omega arith in
             let goes : Matches rest (drop stop path) =
             subst (λ (n : ℕ). Matches rest (drop n path)) ends (subst (Matches rest) (drop-drop much at path) k.2) in
             record {
-              left = rw next behind;
+              left = rw next after_head;
               edge = edge_before y tokens stop ascii goes;
               plain = parts.1;
               matches = goes;

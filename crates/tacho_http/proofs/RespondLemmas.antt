@@ -292,9 +292,9 @@ length_found h m text want takes fields r em et eh ef e =
     ∙ ap (λ (x : List (List ℕ × List ℕ)). body_length (method_of h.method) (takes_input want) x) ef)))
 
 -- if the body lacks bytes for one description of the caller, it does for a weaker one
-pub lacks_as : (IsBy IsOther : List ℕ → Caller → Type 0) (h : RequestHead) (behind : List ℕ) (old new : Option (List ℕ))
-    → ((key : List ℕ) (c : Caller) → IsBy key c → IsOther key c) → LacksMore IsBy h behind old new → LacksMore IsOther h behind old new
-lacks_as IsBy IsOther h behind old new f l = record {
+pub lacks_as : (IsBy IsOther : List ℕ → Caller → Type 0) (h : RequestHead) (after_head : List ℕ) (old new : Option (List ℕ))
+    → ((key : List ℕ) (c : Caller) → IsBy key c → IsOther key c) → LacksMore IsBy h after_head old new → LacksMore IsOther h after_head old new
+lacks_as IsBy IsOther h after_head old new f l = record {
   given = l.given;
   came = l.came;
   lacks = record {
@@ -311,10 +311,10 @@ lacks_as IsBy IsOther h behind old new f l = record {
 }
 
 -- for the caller with this key
-pub by_this : (IsOther : List ℕ → Caller → Type 0) (key : List ℕ) (c : Caller) (h : RequestHead) (behind : List ℕ) (old new : Option (List ℕ))
-    → IsOther key c → LacksMore (λ by who. (by ≡ key) × (who ≡ c)) h behind old new → LacksMore IsOther h behind old new
-by_this IsOther key c h behind old new is =
-    lacks_as _ IsOther h behind old new
+pub by_this : (IsOther : List ℕ → Caller → Type 0) (key : List ℕ) (c : Caller) (h : RequestHead) (after_head : List ℕ) (old new : Option (List ℕ))
+    → IsOther key c → LacksMore (λ by who. (by ≡ key) × (who ≡ c)) h after_head old new → LacksMore IsOther h after_head old new
+by_this IsOther key c h after_head old new is =
+    lacks_as _ IsOther h after_head old new
     (λ by who same. subst (λ (k : List ℕ). IsOther k who) (sym same.0) (subst (IsOther key) (sym same.1) is))
 
 -- ---- one function and its parts
@@ -395,85 +395,85 @@ module _ {K : Type 0} (stands : K → State → Type 0) (is_clean is_live : K �
   -- ---- bodies
 
   -- the input ended before the end of the body
-  pub cut_short : (keeper : K) (command : Bool) (unread : Option (List ℕ)) (response : Response) (w : Wish) (n : ℕ) (c : Caller) (behind : List ℕ)
-      → reply_of response ≡ reply_of_status status.BadRequest → IsCutShort behind unread n
+  pub cut_short : (keeper : K) (command : Bool) (unread : Option (List ℕ)) (response : Response) (w : Wish) (n : ℕ) (c : Caller) (after_head : List ℕ)
+      → reply_of response ≡ reply_of_status status.BadRequest → IsCutShort after_head unread n
       → Responds stands is_clean is_live leaves is_same keeper keeper command unread (Ok response)
-      (λ left s. Runs w n c (behind ++ left) s)
-  cut_short keeper command unread response w n c behind is cut =
-      nothing_of keeper command unread cut.left cut.told response (λ left s. Runs w n c (behind ++ left) s)
+      (λ left s. Runs w n c (after_head ++ left) s)
+  cut_short keeper command unread response w n c after_head is cut =
+      nothing_of keeper command unread cut.left cut.told response (λ left s. Runs w n c (after_head ++ left) s)
       (ap (λ (r : Reply). is_done r.status) is) (λ s. inl (cut.short, (is, refl)))
 
   -- an argument in the path is bad
-  pub wrong_word : (keeper : K) (command : Bool) (unread : Option (List ℕ)) (response : Response) (w : Wish) (n : ℕ) (c : Caller) (behind body : List ℕ) (f : Fault)
-      → reply_of response ≡ reply_to (Err f) → IsBody behind unread n body → IsTask w.want c w.driver w.word (Err f)
+  pub wrong_word : (keeper : K) (command : Bool) (unread : Option (List ℕ)) (response : Response) (w : Wish) (n : ℕ) (c : Caller) (after_head body : List ℕ) (f : Fault)
+      → reply_of response ≡ reply_to (Err f) → IsBody after_head unread n body → IsTask w.want c w.driver w.word (Err f)
       → Responds stands is_clean is_live leaves is_same keeper keeper command unread (Ok response)
-      (λ left s. Runs w n c (behind ++ left) s)
-  wrong_word keeper command unread response w n c behind body f is read wrong =
-      nothing_of keeper command unread read.left read.told response (λ left s. Runs w n c (behind ++ left) s)
+      (λ left s. Runs w n c (after_head ++ left) s)
+  wrong_word keeper command unread response w n c after_head body f is read wrong =
+      nothing_of keeper command unread read.left read.told response (λ left s. Runs w n c (after_head ++ left) s)
       (ap (λ (r : Reply). is_done r.status) is ∙ refused f) (λ s. inr (read.long, (Err f, wrong, (is, refl))))
 
   -- the task was carried out
-  pub carried_out : (old new : K) (command : Bool) (unread : Option (List ℕ)) (response : Response) (answer : Answer) (w : Wish) (n : ℕ) (c : Caller) (behind body : List ℕ) (t : Task)
-      → reply_of response ≡ reply_to answer → IsBody behind unread n body → IsTask w.want c w.driver w.word (Ok t)
+  pub carried_out : (old new : K) (command : Bool) (unread : Option (List ℕ)) (response : Response) (answer : Answer) (w : Wish) (n : ℕ) (c : Caller) (after_head body : List ℕ) (t : Task)
+      → reply_of response ≡ reply_to answer → IsBody after_head unread n body → IsTask w.want c w.driver w.word (Ok t)
       → Serves stands is_clean is_live leaves is_same old new command answer (Does t body)
-      → Responds stands is_clean is_live leaves is_same old new command unread (Ok response) (λ left s. Runs w n c (behind ++ left) s)
-  carried_out old new command unread response answer w n c behind body t is read task serves = record {
+      → Responds stands is_clean is_live leaves is_same old new command unread (Ok response) (λ left s. Runs w n c (after_head ++ left) s)
+  carried_out old new command unread response answer w n c after_head body t is read task serves = record {
     left = read.left;
     told = read.told;
     clean = serves.clean;
     live = λ clean done. is_live_after answer (serves.live clean) (subst (λ (r : Reply). is_done r.status ≡ true) is done);
     given = λ clean s st.
-        subst (HasReplied (stands new) (leaves new) command s (Runs w n c (behind ++ read.left) s)) (sym is)
-        (replied (stands new) (leaves new) s t body (Runs w n c (behind ++ read.left) s) (done_for s) command answer (serves.done clean s st)
+        subst (HasReplied (stands new) (leaves new) command s (Runs w n c (after_head ++ read.left) s)) (sym is)
+        (replied (stands new) (leaves new) s t body (Runs w n c (after_head ++ read.left) s) (done_for s) command answer (serves.done clean s st)
         (λ is. serves.kept is clean s st));
     same = λ undone. serves.same (changes_nothing command answer response.status (ap (λ (r : Reply). r.status) is) undone);
     crash = λ clean s past st l.
-        subst (CrashMayLeaveReply (leaves new) past (Runs w n c (behind ++ read.left) s)) (sym is)
-        (stopped (stands new) (leaves new) s t body (Runs w n c (behind ++ read.left) s) (done_for s) past answer (serves.crash clean s past st l));
+        subst (CrashMayLeaveReply (leaves new) past (Runs w n c (after_head ++ read.left) s)) (sym is)
+        (stopped (stands new) (leaves new) s t body (Runs w n c (after_head ++ read.left) s) (done_for s) past answer (serves.crash clean s past st l));
   }
     where
-      done_for : (s : State) (answer : Answer) (after : State) → Does t body s answer after → Runs w n c (behind ++ read.left) s (reply_to answer) after
+      done_for : (s : State) (answer : Answer) (after : State) → Does t body s answer after → Runs w n c (after_head ++ read.left) s (reply_to answer) after
       done_for s answer after does =
           inr (read.long, (Ok t, task, (answer, subst (λ (bytes : List ℕ). Does t bytes s answer after) read.bytes does, refl)))
 
   -- ---- who asks, and what for
 
   -- what is asked for was done
-  pub by_wish : (old new : K) (command : Bool) (unread : Option (List ℕ)) (result : Result Response Failed) (c : Caller) (h : RequestHead) (behind : List ℕ) (w : Wish) (n : ℕ)
+  pub by_wish : (old new : K) (command : Bool) (unread : Option (List ℕ)) (result : Result Response Failed) (c : Caller) (h : RequestHead) (after_head : List ℕ) (w : Wish) (n : ℕ)
       → (is_post (method_of h.method) ≡ true → command ≡ true) → (is_post (method_of h.method) ≡ false → command ≡ false)
       → wish_of (asker_of c) h.method h.target ≡ Ok w → body_of h w.want ≡ Ok n
-      → Responds stands is_clean is_live leaves is_same old new command unread result (λ left s. Runs w n c (behind ++ left) s)
-      → Responds stands is_clean is_live leaves is_same old new (is_post (method_of h.method)) unread result (λ left s. ByCaller c h (behind ++ left) s)
-  by_wish old new command unread result c h behind w n posted unposted wanted long r =
-      responds_as old new command (is_post (method_of h.method)) unread result (λ left s. Runs w n c (behind ++ left) s) (λ left s. ByCaller c h (behind ++ left) s) posted unposted
+      → Responds stands is_clean is_live leaves is_same old new command unread result (λ left s. Runs w n c (after_head ++ left) s)
+      → Responds stands is_clean is_live leaves is_same old new (is_post (method_of h.method)) unread result (λ left s. ByCaller c h (after_head ++ left) s)
+  by_wish old new command unread result c h after_head w n posted unposted wanted long r =
+      responds_as old new command (is_post (method_of h.method)) unread result (λ left s. Runs w n c (after_head ++ left) s) (λ left s. ByCaller c h (after_head ++ left) s) posted unposted
       (λ left s reply after does.
-      subst (λ (x : Result Wish Status). WithWish x c h (behind ++ left) s reply after) (sym wanted)
-      (subst (λ (x : Result ℕ Status). WithBody x w c (behind ++ left) s reply after) (sym long) does)) r
+      subst (λ (x : Result Wish Status). WithWish x c h (after_head ++ left) s reply after) (sym wanted)
+      (subst (λ (x : Result ℕ Status). WithBody x w c (after_head ++ left) s reply after) (sym long) does)) r
 
   -- the path names no place, or the place doesn't offer this method, or it is for the other asker
-  pub no_wish : (keeper : K) (unread : Option (List ℕ)) (response : Response) (c : Caller) (h : RequestHead) (behind : List ℕ) (refusal : Status)
+  pub no_wish : (keeper : K) (unread : Option (List ℕ)) (response : Response) (c : Caller) (h : RequestHead) (after_head : List ℕ) (refusal : Status)
       → reply_of response ≡ reply_of_status refusal → is_done refusal ≡ false → wish_of (asker_of c) h.method h.target ≡ Err refusal
-      → Responds stands is_clean is_live leaves is_same keeper keeper (is_post (method_of h.method)) unread (Ok response) (λ left s. ByCaller c h (behind ++ left) s)
-  no_wish keeper unread response c h behind refusal is none refused =
-      nothing keeper (is_post (method_of h.method)) unread response (λ left s. ByCaller c h (behind ++ left) s) (ap (λ (r : Reply). is_done r.status) is ∙ none)
-      (λ left s. subst (λ (x : Result Wish Status). WithWish x c h (behind ++ left) s (reply_of response) s) (sym refused) (is, refl))
+      → Responds stands is_clean is_live leaves is_same keeper keeper (is_post (method_of h.method)) unread (Ok response) (λ left s. ByCaller c h (after_head ++ left) s)
+  no_wish keeper unread response c h after_head refusal is none refused =
+      nothing keeper (is_post (method_of h.method)) unread response (λ left s. ByCaller c h (after_head ++ left) s) (ap (λ (r : Reply). is_done r.status) is ∙ none)
+      (λ left s. subst (λ (x : Result Wish Status). WithWish x c h (after_head ++ left) s (reply_of response) s) (sym refused) (is, refl))
 
   -- the length of the body is missing, bad, or too large
-  pub no_length : (keeper : K) (unread : Option (List ℕ)) (response : Response) (c : Caller) (h : RequestHead) (behind : List ℕ) (w : Wish) (refusal : Status)
+  pub no_length : (keeper : K) (unread : Option (List ℕ)) (response : Response) (c : Caller) (h : RequestHead) (after_head : List ℕ) (w : Wish) (refusal : Status)
       → reply_of response ≡ reply_of_status refusal → is_done refusal ≡ false → wish_of (asker_of c) h.method h.target ≡ Ok w → body_of h w.want ≡ Err refusal
-      → Responds stands is_clean is_live leaves is_same keeper keeper (is_post (method_of h.method)) unread (Ok response) (λ left s. ByCaller c h (behind ++ left) s)
-  no_length keeper unread response c h behind w refusal is none wanted refused =
-      nothing keeper (is_post (method_of h.method)) unread response (λ left s. ByCaller c h (behind ++ left) s) (ap (λ (r : Reply). is_done r.status) is ∙ none)
-      (λ left s. subst (λ (x : Result Wish Status). WithWish x c h (behind ++ left) s (reply_of response) s) (sym wanted)
-      (subst (λ (x : Result ℕ Status). WithBody x w c (behind ++ left) s (reply_of response) s) (sym refused) (is, refl)))
+      → Responds stands is_clean is_live leaves is_same keeper keeper (is_post (method_of h.method)) unread (Ok response) (λ left s. ByCaller c h (after_head ++ left) s)
+  no_length keeper unread response c h after_head w refusal is none wanted refused =
+      nothing keeper (is_post (method_of h.method)) unread response (λ left s. ByCaller c h (after_head ++ left) s) (ap (λ (r : Reply). is_done r.status) is ∙ none)
+      (λ left s. subst (λ (x : Result Wish Status). WithWish x c h (after_head ++ left) s (reply_of response) s) (sym wanted)
+      (subst (λ (x : Result ℕ Status). WithBody x w c (after_head ++ left) s (reply_of response) s) (sym refused) (is, refl)))
 
   -- the office asks
-  pub by_office : (old new : K) (command : Bool) (unread : Option (List ℕ)) (result : Result Response Failed) (office key : List ℕ) (h : RequestHead) (behind : List ℕ) → bytes_eq key office ≡ true
-      → Responds stands is_clean is_live leaves is_same old new command unread result (λ left s. ByCaller caller.Office h (behind ++ left) s)
-      → Responds stands is_clean is_live leaves is_same old new command unread result (λ left s. ByKey office key h (behind ++ left) s)
-  by_office old new command unread result office key h behind e r =
-      responds_as old new command command unread result (λ left s. ByCaller caller.Office h (behind ++ left) s) (λ left s. ByKey office key h (behind ++ left) s) (λ is. is) (λ is. is)
-      (λ left s reply after does. subst (λ (b : Bool). ByWhom b key h (behind ++ left) s reply after) (sym e) does) r
+  pub by_office : (old new : K) (command : Bool) (unread : Option (List ℕ)) (result : Result Response Failed) (office key : List ℕ) (h : RequestHead) (after_head : List ℕ) → bytes_eq key office ≡ true
+      → Responds stands is_clean is_live leaves is_same old new command unread result (λ left s. ByCaller caller.Office h (after_head ++ left) s)
+      → Responds stands is_clean is_live leaves is_same old new command unread result (λ left s. ByKey office key h (after_head ++ left) s)
+  by_office old new command unread result office key h after_head e r =
+      responds_as old new command command unread result (λ left s. ByCaller caller.Office h (after_head ++ left) s) (λ left s. ByKey office key h (after_head ++ left) s) (λ is. is) (λ is. is)
+      (λ left s reply after does. subst (λ (b : Bool). ByWhom b key h (after_head ++ left) s reply after) (sym e) does) r
 
 -- ---- keys
 
@@ -504,22 +504,22 @@ module _ {K : Type 0} (stands : K → State → Type 0) (is_clean is_live : K �
       gives s st (inr is) = inr (is, st)
 
   -- the key is nobody's
-  pub by_nobody : (old new : K) (command : Bool) (unread : Option (List ℕ)) (response : Response) (office key : List ℕ) (h : RequestHead) (behind : List ℕ)
+  pub by_nobody : (old new : K) (command : Bool) (unread : Option (List ℕ)) (response : Response) (office key : List ℕ) (h : RequestHead) (after_head : List ℕ)
       → bytes_eq key office ≡ false → reply_of response ≡ reply_of_status status.Forbidden
       → Reads stands is_clean is_live leaves is_same (λ (n : Option ℕ). n) old new (Ok None) (owner key)
-      → Responds stands is_clean is_live leaves is_same old new command unread (Ok response) (λ left s. ByKey office key h (behind ++ left) s)
-  by_nobody old new command unread response office key h behind e is reads =
-      asked_in_vain old new command unread response key (λ left s. ByKey office key h (behind ++ left) s) (Ok None) (ap (λ (r : Reply). is_done r.status) is) reads
-      (λ left s st clean. inl (subst (λ (b : Bool). ByWhom b key h (behind ++ left) s (reply_of response) s) (sym e)
-      (subst (λ (o : Result (Option ℕ) StoreFault). ByOwner o h (behind ++ left) s (reply_of response) s) (sym (reads.answer clean s st)) (is, refl))))
+      → Responds stands is_clean is_live leaves is_same old new command unread (Ok response) (λ left s. ByKey office key h (after_head ++ left) s)
+  by_nobody old new command unread response office key h after_head e is reads =
+      asked_in_vain old new command unread response key (λ left s. ByKey office key h (after_head ++ left) s) (Ok None) (ap (λ (r : Reply). is_done r.status) is) reads
+      (λ left s st clean. inl (subst (λ (b : Bool). ByWhom b key h (after_head ++ left) s (reply_of response) s) (sym e)
+      (subst (λ (o : Result (Option ℕ) StoreFault). ByOwner o h (after_head ++ left) s (reply_of response) s) (sym (reads.answer clean s st)) (is, refl))))
 
   -- the owner of the key couldn't be looked up
-  pub by_none : (old new : K) (command : Bool) (unread : Option (List ℕ)) (response : Response) (office key : List ℕ) (h : RequestHead) (behind : List ℕ) (f : StoreFault)
+  pub by_none : (old new : K) (command : Bool) (unread : Option (List ℕ)) (response : Response) (office key : List ℕ) (h : RequestHead) (after_head : List ℕ) (f : StoreFault)
       → reply_of response ≡ reply_of_status status.Unavailable
       → Reads stands is_clean is_live leaves is_same (λ (n : Option ℕ). n) old new (Err f) (owner key)
-      → Responds stands is_clean is_live leaves is_same old new command unread (Ok response) (λ left s. ByKey office key h (behind ++ left) s)
-  by_none old new command unread response office key h behind f is reads =
-      asked_in_vain old new command unread response key (λ left s. ByKey office key h (behind ++ left) s) (Err f) (ap (λ (r : Reply). is_done r.status) is) reads
+      → Responds stands is_clean is_live leaves is_same old new command unread (Ok response) (λ left s. ByKey office key h (after_head ++ left) s)
+  by_none old new command unread response office key h after_head f is reads =
+      asked_in_vain old new command unread response key (λ left s. ByKey office key h (after_head ++ left) s) (Err f) (ap (λ (r : Reply). is_done r.status) is) reads
       (λ left s st clean. inr is)
 
   -- the key is a driver's, and the driver's request was answered
@@ -549,16 +549,16 @@ module _ {K : Type 0} (stands : K → State → Type 0) (is_clean is_live : K �
   }
 
   -- a driver asks
-  pub by_driver : (old mid new : K) (command : Bool) (unread : Option (List ℕ)) (result : Result Response Failed) (office key : List ℕ) (n : ℕ) (h : RequestHead) (behind : List ℕ) → bytes_eq key office ≡ false
+  pub by_driver : (old mid new : K) (command : Bool) (unread : Option (List ℕ)) (result : Result Response Failed) (office key : List ℕ) (n : ℕ) (h : RequestHead) (after_head : List ℕ) → bytes_eq key office ≡ false
       → Reads stands is_clean is_live leaves is_same (λ (n : Option ℕ). n) old mid (Ok (Some n)) (owner key)
       → Responds stands is_clean is_live leaves is_same mid new command unread result
-      (λ left s. ByCaller (caller.Driver n) h (behind ++ left) s)
-      → Responds stands is_clean is_live leaves is_same old new command unread result (λ left s. ByKey office key h (behind ++ left) s)
-  by_driver old mid new command unread result office key n h behind e reads r =
-      asked_for old mid new command unread result key n (λ left s. ByCaller (caller.Driver n) h (behind ++ left) s) (λ left s. ByKey office key h (behind ++ left) s) reads
+      (λ left s. ByCaller (caller.Driver n) h (after_head ++ left) s)
+      → Responds stands is_clean is_live leaves is_same old new command unread result (λ left s. ByKey office key h (after_head ++ left) s)
+  by_driver old mid new command unread result office key n h after_head e reads r =
+      asked_for old mid new command unread result key n (λ left s. ByCaller (caller.Driver n) h (after_head ++ left) s) (λ left s. ByKey office key h (after_head ++ left) s) reads
       (λ left s reply after whose does.
-      subst (λ (b : Bool). ByWhom b key h (behind ++ left) s reply after) (sym e)
-      (subst (λ (o : Result (Option ℕ) StoreFault). ByOwner o h (behind ++ left) s reply after) (sym whose) does)) r
+      subst (λ (b : Bool). ByWhom b key h (after_head ++ left) s reply after) (sym e)
+      (subst (λ (o : Result (Option ℕ) StoreFault). ByOwner o h (after_head ++ left) s reply after) (sym whose) does)) r
 
 -- ---- the input
 
@@ -612,14 +612,14 @@ module _ {K : Type 0} (stands : K → State → Type 0) (is_clean is_live : K �
       nothing_answered keeper unread left response input told false (λ p. absurd (no_head p.0 p.1 p.2)) (λ is. cc) none h
 
   -- likewise for a head, found from the bytes that came
-  pub head_answered : (keeper : K) (unread left : Option (List ℕ)) (response : Response) (came behind : List ℕ) (h : RequestHead) → Consumes unread left came
-      → ((more : List ℕ) → BeginsWith 8192 32 (came ++ more) h (behind ++ more))
+  pub head_answered : (keeper : K) (unread left : Option (List ℕ)) (response : Response) (came after_head : List ℕ) (h : RequestHead) → Consumes unread left came
+      → ((more : List ℕ) → BeginsWith 8192 32 (came ++ more) h (after_head ++ more))
       → is_done response.status ≡ false → ((more : List ℕ) (s : State) → Reacts office (came ++ more) s (reply_of response) s)
       → Answered stands is_clean is_live leaves is_same keeper keeper office unread left (Ok response)
-  head_answered keeper unread left response came behind h cut begins none reacts =
+  head_answered keeper unread left response came after_head h cut begins none reacts =
       let i = some_left left in
       nothing_answered keeper unread left response (came ++ i.0) (consumed unread left came i.0 cut i.1) (is_post (method_of h.method))
-      (posted_by (came ++ i.0) (behind ++ i.0) h (begins i.0)) (λ is. (h, behind ++ i.0, begins i.0, is)) none (reacts i.0)
+      (posted_by (came ++ i.0) (after_head ++ i.0) h (begins i.0)) (λ is. (h, after_head ++ i.0, begins i.0, is)) none (reacts i.0)
 
   -- the reader failed before a whole request had come, whoever asks
   pub unread_head : (keeper : K) (unread left : Option (List ℕ)) (failed : Failed)
@@ -642,23 +642,23 @@ module _ {K : Type 0} (stands : K → State → Type 0) (is_clean is_live : K �
       }
 
   -- a request with one key was answered
-  pub keyed : (old new : K) (key came behind : List ℕ) (h : RequestHead) (unread mid left : Option (List ℕ)) (result : Result Response Failed)
-      → key_of h ≡ Some key → Consumes unread mid came → ((more : List ℕ) → BeginsWith 8192 32 (came ++ more) h (behind ++ more))
-      → Responds stands is_clean is_live leaves is_same old new (is_post (method_of h.method)) mid result (λ left s. ByKey office key h (behind ++ left) s)
-      → (IsErr result → LacksMore (MayAsk office) h behind mid left)
-      → (IsErr result → is_clean new → (s : State) → stands old s → LacksMore (Asks s office) h behind mid left)
+  pub keyed : (old new : K) (key came after_head : List ℕ) (h : RequestHead) (unread mid left : Option (List ℕ)) (result : Result Response Failed)
+      → key_of h ≡ Some key → Consumes unread mid came → ((more : List ℕ) → BeginsWith 8192 32 (came ++ more) h (after_head ++ more))
+      → Responds stands is_clean is_live leaves is_same old new (is_post (method_of h.method)) mid result (λ left s. ByKey office key h (after_head ++ left) s)
+      → (IsErr result → LacksMore (MayAsk office) h after_head mid left)
+      → (IsErr result → is_clean new → (s : State) → stands old s → LacksMore (Asks s office) h after_head mid left)
       → Answered stands is_clean is_live leaves is_same old new office unread left result
-  keyed old new key came behind h unread mid left result has cut begins r lacks known = record {
+  keyed old new key came after_head h unread mid left result has cut begins r lacks known = record {
     input = input;
     told = consumed unread mid came r.left cut r.told;
     command = is_post (method_of h.method);
-    posted = posted_by input (behind ++ r.left) h (begins r.left);
+    posted = posted_by input (after_head ++ r.left) h (begins r.left);
     is_posted = is_posted result;
     clean = r.clean;
     live = r.live;
     answers = λ c s st. answers s result (r.given c s st);
     same = r.same;
-    crash = λ c s past st l. stopped_as (leaves new) past (ByKey office key h (behind ++ r.left) s) (Reacts office input s) result (reacts s) (r.crash c s past st l);
+    crash = λ c s past st l. stopped_as (leaves new) past (ByKey office key h (after_head ++ r.left) s) (Reacts office input s) result (reacts s) (r.crash c s past st l);
     unfinished = λ e. unfinished _ (lacks e);
     known = λ c s st e. unfinished _ (known e c s st);
   }
@@ -666,31 +666,31 @@ module _ {K : Type 0} (stands : K → State → Type 0) (is_clean is_live : K �
       input : List ℕ
       input = came ++ r.left
 
-      reacts : (s : State) (reply : Reply) (after : State) → ByKey office key h (behind ++ r.left) s reply after → Reacts office input s reply after
+      reacts : (s : State) (reply : Reply) (after : State) → ByKey office key h (after_head ++ r.left) s reply after → Reacts office input s reply after
       reacts s reply after wants =
-          headed h (behind ++ r.left) reply after (begins r.left) (subst (λ (k : Option (List ℕ)). ByKeys office k h (behind ++ r.left) s reply after) (sym has) wants)
+          headed h (after_head ++ r.left) reply after (begins r.left) (subst (λ (k : Option (List ℕ)). ByKeys office k h (after_head ++ r.left) s reply after) (sym has) wants)
 
       answers : (s : State) (result : Result Response Failed)
-          → HasRepliedOrFailed (stands new) (leaves new) (is_post (method_of h.method)) s (ByKey office key h (behind ++ r.left) s) result
+          → HasRepliedOrFailed (stands new) (leaves new) (is_post (method_of h.method)) s (ByKey office key h (after_head ++ r.left) s) result
           → MatchResult result (λ response. AnswersInput (stands new) (leaves new) (is_post (method_of h.method)) office input s (reply_of response)) (λ failed. stands new s)
       answers s (Ok response) (inl g) = (g.0, g.1, reacts s (reply_of response) g.0 g.2, g.3)
       answers s (Ok response) (inr g) = (
         s,
         g.1,
-        subst (λ (reply : Reply). Reacts office input s reply s) (sym g.0) (unavailable_reply h (behind ++ r.left) key (begins r.left) has),
+        subst (λ (reply : Reply). Reacts office input s reply s) (sym g.0) (unavailable_reply h (after_head ++ r.left) key (begins r.left) has),
         λ is done. not_available (reply_of response) g.0 done,
       )
       answers s (Err failed) g = g
 
       is_posted : (result : Result Response Failed) → IfOk result (λ response. is_post (method_of h.method) ≡ true → IsPosted input)
-      is_posted (Ok response) = λ is. (h, behind ++ r.left, begins r.left, is)
+      is_posted (Ok response) = λ is. (h, after_head ++ r.left, begins r.left, is)
       is_posted (Err failed) = tt
 
-      unfinished : (IsBy : List ℕ → Caller → Type 0) → LacksMore IsBy h behind mid left → IsUnfinished IsBy unread left
+      unfinished : (IsBy : List ℕ → Caller → Type 0) → LacksMore IsBy h after_head mid left → IsUnfinished IsBy unread left
       unfinished IsBy l = record {
         given = came ++ l.given;
         came = consumed_more unread mid left came l.given cut l.came;
-        part = inr (h, behind ++ l.given, begins l.given, l.lacks);
+        part = inr (h, after_head ++ l.given, begins l.given, l.lacks);
       }
 
 -- ---- one request, one reply

@@ -105,10 +105,10 @@ pub record IsUnfinished (IsBy : List ℕ → Caller → Type 0) (old new : Optio
   pub part : IsPartOf IsBy given
 
 -- together with the bytes that came after the head, what the reader has given since then is less than the body
-pub record LacksMore (IsBy : List ℕ → Caller → Type 0) (h : RequestHead) (behind : List ℕ) (old new : Option (List ℕ)) : Type 0 where
+pub record LacksMore (IsBy : List ℕ → Caller → Type 0) (h : RequestHead) (after_head : List ℕ) (old new : Option (List ℕ)) : Type 0 where
   pub given : List ℕ
   pub came : Consumes old new given
-  pub lacks : LacksBody IsBy h (behind ++ given)
+  pub lacks : LacksBody IsBy h (after_head ++ given)
 
 -- ---- one request, one reply
 

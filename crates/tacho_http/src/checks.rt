@@ -34,12 +34,12 @@ pub(crate) fn by_key<K: Keeper, R: Source>(
     requires within { All (IsHeaderWithin (length request.now.buffer.now)) request.now.fields.now }
     ensures responds { (h : RequestHead) → IsRequest request.now h
         → Responds K.stands K.is_clean K.is_live K.leaves K.is_same keeper.old keeper.new (is_post (method_of h.method)) (R.unread reader.old) result
-        (λ left s. ByKey office_key.now key.now h (request.now.behind.now ++ left) s) }
+        (λ left s. ByKey office_key.now key.now h (request.now.after_head.now ++ left) s) }
     ensures lacks { (h : RequestHead) → IsRequest request.now h → key_of h ≡ Some key.now → IsErr result
-        → LacksMore (MayAsk office_key.now) h request.now.behind.now (R.unread reader.old) (R.unread reader.new) }
+        → LacksMore (MayAsk office_key.now) h request.now.after_head.now (R.unread reader.old) (R.unread reader.new) }
     ensures known { (h : RequestHead) → IsRequest request.now h → key_of h ≡ Some key.now → IsErr result
         → K.is_clean keeper.new → (s : State) → K.stands keeper.old s
-        → LacksMore (Asks s office_key.now) h request.now.behind.now (R.unread reader.old) (R.unread reader.new) }
+        → LacksMore (Asks s office_key.now) h request.now.after_head.now (R.unread reader.old) (R.unread reader.new) }
     ensures failed { IsErr result ↔ (R.has_failed reader.new ≡ true) }
 {
     if key == office_key {
@@ -64,9 +64,9 @@ fn by_caller<K: Keeper, R: Source>(
     requires within { All (IsHeaderWithin (length request.now.buffer.now)) request.now.fields.now }
     ensures responds { (h : RequestHead) → IsRequest request.now h
         → Responds K.stands K.is_clean K.is_live K.leaves K.is_same keeper.old keeper.new (is_post (method_of h.method)) (R.unread reader.old) result
-        (λ left s. ByCaller caller h (request.now.behind.now ++ left) s) }
+        (λ left s. ByCaller caller h (request.now.after_head.now ++ left) s) }
     ensures lacks { (h : RequestHead) (key : List ℕ) → IsRequest request.now h → key_of h ≡ Some key → IsErr result
-        → LacksMore (λ by c. (by ≡ key) × (c ≡ caller)) h request.now.behind.now (R.unread reader.old) (R.unread reader.new) }
+        → LacksMore (λ by c. (by ≡ key) × (c ≡ caller)) h request.now.after_head.now (R.unread reader.old) (R.unread reader.new) }
     ensures failed { IsErr result ↔ (R.has_failed reader.new ≡ true) }
 {
     let Ok(routes) = routes(alloc) else {
@@ -79,7 +79,7 @@ fn by_caller<K: Keeper, R: Source>(
     };
     let takes = asked.want.takes_input();
     match body_length_of(method, takes, request.buffer, request.fields) {
-        Ok(length) => run_task(alloc, keeper, caller, asked, length, reader, request.behind),
+        Ok(length) => run_task(alloc, keeper, caller, asked, length, reader, request.after_head),
         Err(status) => Ok(fixed(status)),
     }
 }
@@ -92,15 +92,15 @@ fn run_task<K: Keeper, R: Source>(
     asked: Asked<'_>,
     count: u64,
     reader: &mut R,
-    behind: &[u8],
+    after_head: &[u8],
 ) -> Result<Response, Failed>
     requires { R.has_failed reader.old ≡ false }
     ensures responds { Responds K.stands K.is_clean K.is_live K.leaves K.is_same keeper.old keeper.new (is_command asked.entry.want) (R.unread reader.old) result
-        (λ left s. Runs (record { want = asked.entry.want; driver = asked.entry.driver.now; word = asked.entry.word.now }) count caller (behind.now ++ left) s) }
-    ensures lacks { IsErr result → Lacks behind.now (R.unread reader.old) (R.unread reader.new) count }
+        (λ left s. Runs (record { want = asked.entry.want; driver = asked.entry.driver.now; word = asked.entry.word.now }) count caller (after_head.now ++ left) s) }
+    ensures lacks { IsErr result → Lacks after_head.now (R.unread reader.old) (R.unread reader.new) count }
     ensures failed { IsErr result ↔ (R.has_failed reader.new ≡ true) }
 {
-    let body = match read_body(alloc, reader, behind, count as usize) {
+    let body = match read_body(alloc, reader, after_head, count as usize) {
         Ok(body) => body,
         Err(BodyFault::Ended) => return Ok(fixed(Status::BadRequest)),
         Err(BodyFault::Memory) => return Ok(fixed(Status::Unavailable)),

@@ -88,16 +88,16 @@ failed_short known left after buf at h x keeps =
 -- ---- a body
 
 -- the body consists of what came after the head, and of what was read then
-pub body_of : (behind : List ℕ) (n : ℕ) (old new : Option (List ℕ)) (part items : List ℕ) → Consumes old new part
-    → length part ≡ n - length behind → items ≡ take n behind ++ part → IsBody behind old n items
-body_of behind n old new part items cut long is =
+pub body_of : (after_head : List ℕ) (n : ℕ) (old new : Option (List ℕ)) (part items : List ℕ) → Consumes old new part
+    → length part ≡ n - length after_head → items ≡ take n after_head ++ part → IsBody after_head old n items
+body_of after_head n old new part items cut long is =
     let b = some_begins part old new cut in
     record {
       left = b.input;
       told = b.told;
       long = rw b.is (simp (length-append, long) (omega arith));
-      bytes = is ∙ sym (rw b.is (take_body behind part b.rest n long));
+      bytes = is ∙ sym (rw b.is (take_body after_head part b.rest n long));
     }
   where
-    take_body : (behind part rest : List ℕ) (n : ℕ) → length part ≡ n - length behind → take n (behind ++ (part ++ rest)) ≡ take n behind ++ part
-    take_body behind part rest n long = grind (arith, common_steps)
+    take_body : (after_head part rest : List ℕ) (n : ℕ) → length part ≡ n - length after_head → take n (after_head ++ (part ++ rest)) ≡ take n after_head ++ part
+    take_body after_head part rest n long = grind (arith, common_steps)

@@ -4,20 +4,20 @@ use Rattle.std.specs.Io.KnownBytes.{Consumes}
 
 -- `body` is the first n of the bytes that came after the head, followed by the unread ones; `left` is the reader's unread bytes if they are
 -- known, otherwise some bytes
-pub record IsBody (behind : List ℕ) (unread : Option (List ℕ)) (n : ℕ) (body : List ℕ) : Type 0 where
+pub record IsBody (after_head : List ℕ) (unread : Option (List ℕ)) (n : ℕ) (body : List ℕ) : Type 0 where
   pub left : List ℕ
   pub told : IfSome unread (λ all. left ≡ all)
-  pub long : n ≤ length (behind ++ left)
-  pub bytes : body ≡ take n (behind ++ left)
+  pub long : n ≤ length (after_head ++ left)
+  pub bytes : body ≡ take n (after_head ++ left)
 
 -- the input ends before the end of the body
-pub record IsCutShort (behind : List ℕ) (unread : Option (List ℕ)) (n : ℕ) : Type 0 where
+pub record IsCutShort (after_head : List ℕ) (unread : Option (List ℕ)) (n : ℕ) : Type 0 where
   pub left : List ℕ
   pub told : IfSome unread (λ all. left ≡ all)
-  pub short : length (behind ++ left) < n
+  pub short : length (after_head ++ left) < n
 
 -- the reader has given fewer bytes since then than the body needed
-pub record Lacks (behind : List ℕ) (old new : Option (List ℕ)) (n : ℕ) : Type 0 where
+pub record Lacks (after_head : List ℕ) (old new : Option (List ℕ)) (n : ℕ) : Type 0 where
   pub given : List ℕ
   pub came : Consumes old new given
-  pub short : length (behind ++ given) < n
+  pub short : length (after_head ++ given) < n

@@ -36,25 +36,25 @@ impl From<Failed> for BodyFault {
     }
 }
 
-/// Reads a body of `count` bytes. Its first bytes, which came after the head, are in `behind`. Doesn't read beyond the body.
+/// Reads a body of `count` bytes. Its first bytes, which came after the head, are in `after_head`. Doesn't read beyond the body.
 pub fn read_body<R: Source>(
     alloc: Global,
     reader: &mut R,
-    behind: &[u8],
+    after_head: &[u8],
     count: usize,
 ) -> Result<Vec<u8>, BodyFault>
     requires { R.has_failed reader.old ≡ false }
-    ensures body { IfOk result (λ body. IsBody behind.now (R.unread reader.old) count body.items) }
+    ensures body { IfOk result (λ body. IsBody after_head.now (R.unread reader.old) count body.items) }
     // No more than the body was consumed.
-    ensures taken { IfOk result (λ body. Consumes (R.unread reader.old) (R.unread reader.new) (drop (length behind.now) body.items)) }
-    ensures ended { result ≡ Err BodyFault.Ended → IsCutShort behind.now (R.unread reader.old) count }
+    ensures taken { IfOk result (λ body. Consumes (R.unread reader.old) (R.unread reader.new) (drop (length after_head.now) body.items)) }
+    ensures ended { result ≡ Err BodyFault.Ended → IsCutShort after_head.now (R.unread reader.old) count }
     // If the reader failed, it had given fewer bytes than the body needed.
-    ensures lacks { result ≡ Err BodyFault.Read → Lacks behind.now (R.unread reader.old) (R.unread reader.new) count }
+    ensures lacks { result ≡ Err BodyFault.Read → Lacks after_head.now (R.unread reader.old) (R.unread reader.new) count }
     ensures failed { IsErrOf result BodyFault.Read ↔ (R.has_failed reader.new ≡ true) }
 {
-    let known = behind.len().min(count);
+    let known = after_head.len().min(count);
     let mut body = Vec::new(alloc);
-    body.extend_from_slice(&behind[..known])?;
+    body.extend_from_slice(&after_head[..known])?;
     body.resize(count, 0)?;
     fill(reader, &mut body[known..])?;
     Ok(body)

@@ -18,7 +18,7 @@ pub struct Request<'b> {
     pub buffer: &'b [u8],
     pub fields: &'b [HeaderSpan],
     /// The bytes that came after the head: the beginning of the body, if there is one.
-    pub behind: &'b [u8],
+    pub after_head: &'b [u8],
 }
 
 /// Makes a request of a head that was read into a buffer.
@@ -29,14 +29,14 @@ pub fn request_of<'b>(
 ) -> Request<'b>
     requires { IsHeadAt buffer.now (length fields.now) fields.now spans.now }
     ensures request { (h : RequestHead) → IsRequestAt buffer.now fields.now spans.now h → IsRequest result h }
-    ensures behind { result.behind.now ≡ drop spans.now.len buffer.now }
+    ensures after_head { result.after_head.now ≡ drop spans.now.len buffer.now }
 {
     Request {
         method: spans.method.of(buffer),
         path: str::from_utf8(spans.path.of(buffer)).unwrap_or(""),
         buffer,
         fields: &fields[..spans.headers],
-        behind: &buffer[spans.len..],
+        after_head: &buffer[spans.len..],
     }
 }
 

@@ -8,10 +8,10 @@ use Rattle.tacho_state.specs.Registration.{Registration}
 use Rattle.tacho_state.specs.declared.driver.Column.{Column}
 use Rattle.tacho_state.specs.declared.driver.Column.TheVariants as column
 use Rattle.tacho_sheet.specs.Rows.{Row}
-use Rattle.tacho_sheet.specs.Driver.{Five, IsDriverText, IsFirstBadColumn, five_of, IsRowAnswer, IsBodyAnswer}
+use Rattle.tacho_sheet.specs.Driver.{Columns, IsDriverText, IsFirstBadColumn, columns_of, IsRowAnswer, IsBodyAnswer}
 use Rattle.tacho_sheet.specs.declared.fault.SheetFault.TheVariants as fault
 
-pub third_row : {X : Type 0} (f : X → Row) (row : X) (more : List X) (r : Registration) → 0 < length more → IsRowAnswer (five_of (f row)) (Ok r)
+pub third_row : {X : Type 0} (f : X → Row) (row : X) (more : List X) (r : Registration) → 0 < length more → IsRowAnswer (columns_of (f row)) (Ok r)
     → IsBodyAnswer (map f (row ∷ more)) (Err (fault.Fields 3))
 third_row f row [] r h a = absurd (omega arith)
 third_row f row (x ∷ more) r h a = inr (refl, (r, a))
@@ -31,7 +31,7 @@ fifteen_bytes text out r said ok = go (decode_sized text 15) refl said where
   go (Err e) is h = cc (sym h ∙ ok)
 
 -- there is at most one first bad column
-pub one_bad_column : (f : Five) (c d : Column) → IsFirstBadColumn f c → IsFirstBadColumn f d → c ≡ d
+pub one_bad_column : (f : Columns) (c d : Column) → IsFirstBadColumn f c → IsFirstBadColumn f d → c ≡ d
 one_bad_column f column.Driver column.Driver a b = refl
 one_bad_column f column.Driver column.Holder a b = absurd (a b.0.0 b.0.1)
 one_bad_column f column.Driver column.Key a b = absurd (a b.0.0 b.0.1)
@@ -71,7 +71,7 @@ one_bad_column f column.Author d a b = absurd a
 one_bad_column f column.Note d a b = absurd a
 
 -- the texts of a driver have no bad column
-pub no_bad_column : (f : Five) (r : Registration) (c : Column) → IsDriverText f r → ¬ (IsFirstBadColumn f c)
+pub no_bad_column : (f : Columns) (r : Registration) (c : Column) → IsDriverText f r → ¬ (IsFirstBadColumn f c)
 no_bad_column f r column.Driver d bad = bad r.number d.driver
 no_bad_column f r column.Holder d bad = bad.1 r.holder d.holder.0 d.holder.1 d.holder.2
 no_bad_column f r column.Key d bad = bad.2 (rw d.key.0 at d.key.1)

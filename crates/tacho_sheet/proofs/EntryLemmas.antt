@@ -4,8 +4,7 @@ use Rattle.std.specs.declared.alloc.Global.{Global}
 use Rattle.std.proofs.lemmas.List.{append-nil}
 use Rattle.std.specs.Option.{option_map}
 use Rattle.csv.specs.Records.{field_at}
-use Rattle.tacho_sheet.specs.Rows.{IsReaderFault, Row, three_of}
-use Rattle.tacho_sheet.specs.Driver.{five_of}
+use Rattle.tacho_sheet.specs.Rows.{IsReaderFault, Row, three_of, five_of}
 use Rattle.tacho_sheet.specs.Entries.{RowAnswer, Lines, file_answer, head_of, row_answer, lines_from, lines_told, put_first, texts_of}
 use Rattle.tacho_sheet.specs.declared.entries.Head.{Head}
 use Rattle.tacho_sheet.specs.declared.entries.Head.TheVariants as head
@@ -91,7 +90,7 @@ put_none (Err e) = refl
 -- five fields, by their places
 pub five_at : (fields : List (List ℕ)) (a b c d e : List ℕ) → length fields ≡ 5 → Some a ≡ field_at fields 0 → Some b ≡ field_at fields 1
     → Some c ≡ field_at fields 2 → Some d ≡ field_at fields 3 → Some e ≡ field_at fields 4
-    → five_of fields ≡ Some (record { driver = a; holder = b; key = c; base = d; name = e })
+    → five_of fields ≡ Some (a, b, c, d, e)
 unfolding field_at
 five_at [] a b c d e n va vb vc vd ve = absurd (omega arith)
 five_at (p ∷ []) a b c d e n va vb vc vd ve = absurd (omega arith)
@@ -114,7 +113,7 @@ three_texts (a ∷ b ∷ c ∷ d ∷ more) = refl
 
 -- the texts of a row with five columns are its fields
 pub five_texts : (row : Row) → texts_of head.Five row
-    ≡ option_map (λ f. record { start = f.driver; past = f.holder; activity = f.key; author = f.base; note = f.name }) (five_of row)
+    ≡ option_map (λ f. record { start = f.0; past = f.1; activity = f.2; author = f.3; note = f.4 }) (five_of row)
 five_texts [] = refl
 five_texts (a ∷ []) = refl
 five_texts (a ∷ b ∷ []) = refl

@@ -40,6 +40,14 @@ abbrev pub three_of : Row → Option Three
 three_of (a ∷ b ∷ c ∷ []) = Some (a, b, c)
 three_of _ = None
 
+-- the five fields of a row that has exactly five
+abbrev pub Five : Type 0
+Five = List ℕ × List ℕ × List ℕ × List ℕ × List ℕ
+
+abbrev pub five_of : Row → Option Five
+five_of (a ∷ b ∷ c ∷ d ∷ e ∷ []) = Some (a, b, c, d, e)
+five_of _ = None
+
 -- out of memory, or E8
 abbrev pub IsReaderFault : SheetFault → Type 0
 IsReaderFault fault.Memory = Unit {0}

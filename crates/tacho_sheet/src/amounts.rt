@@ -96,8 +96,8 @@ fn amounts_of(spans: &[Span], start: Minute, past: Minute) -> Amounts
         amounts.add_run(Some(span.mark), within);
         from = span.past;
     }
-    let behind = past.number() - from.number();
-    amounts.add_run(None, behind);
+    let after = past.number() - from.number();
+    amounts.add_run(None, after);
     amounts
 }
 

@@ -4,7 +4,7 @@ ghost use Rattle.csv.specs.Records.{fields_of};
 ghost use Rattle.hex.specs.Hex.{IsBytes, encode_lower};
 ghost use Rattle.tacho_state.specs.Limits.{IsKey, IsName};
 ghost use Rattle.tacho_state.specs.Registration.{IsRegistration};
-ghost use Rattle.tacho_sheet.specs.Driver.{Five, IsNoHolderText, IsColumnFault, IsDriverText, IsKeyText, IsNameText, IsRowAnswer, IsBodyAnswer, IsDriverRead, five_of, is_driver_head, is_driver_head_of};
+ghost use Rattle.tacho_sheet.specs.Driver.{Columns, IsNoHolderText, IsColumnFault, IsDriverText, IsKeyText, IsNameText, IsRowAnswer, IsBodyAnswer, IsDriverRead, columns_of, is_driver_head, is_driver_head_of};
 ghost use Rattle.tacho_sheet.specs.Rows.{IsReaderFault};
 
 use crate::fault::SheetFault;
@@ -63,8 +63,8 @@ fn driver_of_texts(
     base: &[u8],
     name: &[u8],
 ) -> Result<Driver, SheetFault>
-    ensures { let five : Five = record { driver = driver.now; holder = holder.now; key = key.now; base = base.now; name = name.now } in
-        MatchResult result (λ d. IsDriverText five d) (λ fault. OrMemory SheetFault.Memory fault (IsColumnFault five fault)) }
+    ensures { let columns : Columns = record { driver = driver.now; holder = holder.now; key = key.now; base = base.now; name = name.now } in
+        MatchResult result (λ d. IsDriverText columns d) (λ fault. OrMemory SheetFault.Memory fault (IsColumnFault columns fault)) }
 {
     let Some(number) = read_number(driver, 999_999) else {
         return Err(SheetFault::Column(Column::Driver));
@@ -136,7 +136,7 @@ fn is_tail_words(base: &[u8], name: &[u8]) -> bool
 
 /// Reads the driver from row 2: E2, E9.
 fn driver_of_row(alloc: Global, fields: &ByteRecord) -> Result<Driver, SheetFault>
-    ensures { IsErrAnd result (λ fault. fault ≡ SheetFault.Memory) ⊎ IsRowAnswer (five_of (fields_of fields.now)) result }
+    ensures { IsErrAnd result (λ fault. fault ≡ SheetFault.Memory) ⊎ IsRowAnswer (columns_of (fields_of fields.now)) result }
 {
     match five_fields(fields) {
         Some((driver, holder, key, base, name)) => {

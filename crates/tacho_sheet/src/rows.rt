@@ -1,6 +1,5 @@
 ghost use Rattle.std.specs.Prelude.{◌≡◌, None, Some, IfOk, IfErr, MatchOption, map};
-ghost use Rattle.tacho_sheet.specs.Driver.{five_of};
-ghost use Rattle.tacho_sheet.specs.Rows.{HasLeft, IsReaderFault, three_of};
+ghost use Rattle.tacho_sheet.specs.Rows.{HasLeft, IsReaderFault, five_of, three_of};
 ghost use Rattle.csv.specs.Reading.{AreRecords, default_config, reader_state, strip_bom};
 ghost use Rattle.csv.specs.Records.{fields_of};
 ghost use Rattle.csv.specs.declared.parser.State.TheVariants as st;
@@ -67,7 +66,7 @@ pub(crate) fn three_fields(fields: &ByteRecord) -> Option<(&[u8], &[u8], &[u8])>
 pub(crate) fn five_fields(fields: &ByteRecord) -> Option<(&[u8], &[u8], &[u8], &[u8], &[u8])>
     ensures { MatchOption result (five_of (fields_of fields.now) ≡ None)
         (λ f. five_of (fields_of fields.now)
-        ≡ Some (record { driver = f.0.now; holder = f.1.now; key = f.2.now; base = f.3.now; name = f.4.now })) }
+        ≡ Some (f.0.now, f.1.now, f.2.now, f.3.now, f.4.now)) }
 {
     if fields.len() != 5 {
         return None;

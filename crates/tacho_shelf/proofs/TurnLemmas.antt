@@ -79,14 +79,14 @@ import_unowned None part bytes content s fault = go (holding content.holder s) w
   go None e = let same : UnknownDriver ≡ fault = cc in ap (λ (f : StoreFault). refusal_turn f s) same
   go (Some d) e = cc
 import_unowned (Some n) part bytes content s fault = go (driver_of n s) where
-  his : (d : Driver) (b : Bool) → cond b (Ok d) (Err NotYourCard) ≡ Err fault
+  theirs : (d : Driver) (b : Bool) → cond b (Ok d) (Err NotYourCard) ≡ Err fault
       → turn_of s (cond b (import_own part bytes content.spans d) (Err NotYourCard)) ≡ refusal_turn fault s
-  his d true e = cc
-  his d false e = let same : NotYourCard ≡ fault = cc in ap (λ (f : StoreFault). refusal_turn f s) same
+  theirs d true e = cc
+  theirs d false e = let same : NotYourCard ≡ fault = cc in ap (λ (f : StoreFault). refusal_turn f s) same
 
   go : (o : Option Driver) → known_by content.holder o ≡ Err fault → own_turn (import_by_driver part bytes content) s o ≡ refusal_turn fault s
   go None e = let same : UnknownDriver ≡ fault = cc in ap (λ (f : StoreFault). refusal_turn f s) same
-  go (Some d) e = his d (bytes_eq d.holder content.holder) e
+  go (Some d) e = theirs d (bytes_eq d.holder content.holder) e
 
 -- looking for the card's owner never fails with a file's fault
 pub owner_without_fault : (caller : Option ℕ) (holder : List ℕ) (s : State) (card : CardFault)
@@ -96,13 +96,13 @@ owner_without_fault None holder s card = go (holding holder s) where
   go None e = cc
   go (Some d) e = cc
 owner_without_fault (Some n) holder s card = go (driver_of n s) where
-  his : (d : Driver) (b : Bool) → cond b (Ok d) (Err NotYourCard) ≡ Err (Card card) → ⊥
-  his d true e = cc
-  his d false e = cc
+  theirs : (d : Driver) (b : Bool) → cond b (Ok d) (Err NotYourCard) ≡ Err (Card card) → ⊥
+  theirs d true e = cc
+  theirs d false e = cc
 
   go : (o : Option Driver) → known_by holder o ≡ Err (Card card) → ⊥
   go None e = cc
-  go (Some d) e = his d (bytes_eq d.holder holder) e
+  go (Some d) e = theirs d (bytes_eq d.holder holder) e
 
 -- a file of the owner's card
 import_owned : (caller : Option ℕ) (part : ℕ) (bytes : List ℕ) (content : Content) (s : State) (d : Driver) → owner_of caller content.holder s ≡ Ok d
@@ -112,15 +112,15 @@ import_owned None part bytes content s d = go (holding content.holder s) where
   go None e = cc
   go (Some x) e = let same : x ≡ d = cc in ap (λ (y : Driver). turn_of s (import_own part bytes content.spans y)) same
 import_owned (Some n) part bytes content s d = go (driver_of n s) where
-  his : (x : Driver) (b : Bool) → cond b (Ok x) (Err NotYourCard) ≡ Ok d
+  theirs : (x : Driver) (b : Bool) → cond b (Ok x) (Err NotYourCard) ≡ Ok d
       → turn_of s (cond b (import_own part bytes content.spans x) (Err NotYourCard)) ≡ turn_of s (import_own part bytes content.spans d)
-  his x true e = let same : x ≡ d = cc in ap (λ (y : Driver). turn_of s (import_own part bytes content.spans y)) same
-  his x false e = cc
+  theirs x true e = let same : x ≡ d = cc in ap (λ (y : Driver). turn_of s (import_own part bytes content.spans y)) same
+  theirs x false e = cc
 
   go : (o : Option Driver) → known_by content.holder o ≡ Ok d
       → own_turn (import_by_driver part bytes content) s o ≡ turn_of s (import_own part bytes content.spans d)
   go None e = cc
-  go (Some x) e = his x (bytes_eq x.holder content.holder) e
+  go (Some x) e = theirs x (bytes_eq x.holder content.holder) e
 
 -- the import of a file of an unknown driver's card, or of another driver's
 pub import_refused : (caller : Option ℕ) (part : Part) (bytes : List ℕ) (s : State) (fault : StoreFault) (read : Content) (content : Result Content CardFault)
@@ -241,7 +241,7 @@ pub import_turns : (caller : Option ℕ) (part : Part) (bytes : List ℕ) (s : S
     → FileTells part bytes content → Turns (λ (done : Imported). done) s (slice_set s i d) result (import_step caller (part_number part) bytes content)
 import_turns caller part bytes s i x d read content result h owner at n tells told kept t =
     let same : content ≡ Ok read = one_content part bytes content (Ok read) t tells in
-    let his : owner.0 ≡ x = cc (sym owner.1 ∙ at) in
+    let theirs : owner.0 ≡ x = cc (sym owner.1 ∙ at) in
     own_turns (λ done. done) (import_step caller (part_number part) bytes content) s i x d (import_own (part_number part) bytes read.spans x) result h at n
     (ap (λ (c : Result Content CardFault). import_step caller (part_number part) bytes c s) same
-    ∙ import_owned caller (part_number part) bytes read s x (owner.2 ∙ ap Ok his)) told kept
+    ∙ import_owned caller (part_number part) bytes read s x (owner.2 ∙ ap Ok theirs)) told kept

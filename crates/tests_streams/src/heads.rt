@@ -150,19 +150,19 @@ static FILLED: [(usize, &str, &str, &str); 6] = [
     ),
 ];
 
-/// A head with one field that is filled with letters until the head, including `behind` after the letters, has `length` bytes.
-fn filled(alloc: Global, length: usize, behind: &str) -> Result<String, AllocError> {
+/// A head with one field that is filled with letters until the head, including `after_fill` after the letters, has `length` bytes.
+fn filled(alloc: Global, length: usize, after_fill: &str) -> Result<String, AllocError> {
     let mut head = String::from_str(
         alloc,
         "GET /me/owed HTTP/1.1\r\nx-key: anna-key-1\r\nletters: ",
     )?;
     let letters = length
         .saturating_sub(head.len())
-        .saturating_sub(behind.len());
+        .saturating_sub(after_fill.len());
     for _ in 0..letters {
         head.push('a')?;
     }
-    head.push_str(behind)?;
+    head.push_str(after_fill)?;
     Ok(head)
 }
 
@@ -192,9 +192,9 @@ fn heads_have_limits(rt: HostRuntime) -> Result<(), Fail> {
         let reply = ask(alloc, &mut shelf, &head[..length])?;
         same(&rt, "head cut at", length, &reply, wanted.as_bytes());
     }
-    for (length, behind, status, text) in FILLED.iter() {
+    for (length, after_fill, status, text) in FILLED.iter() {
         let wanted = reply_with(alloc, status, text)?;
-        let head = filled(alloc, *length, behind)?;
+        let head = filled(alloc, *length, after_fill)?;
         let reply = ask(alloc, &mut shelf, head.as_bytes())?;
         same(&rt, "head of bytes", *length, &reply, wanted.as_bytes());
     }

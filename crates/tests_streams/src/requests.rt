@@ -38,7 +38,7 @@ static CONVERSATION: [Exchange; 39] = [
         b"GET /me/entries HTTP/1.1\r\nx-key: anna-key-1\r\n\r\n",
         b"HTTP/1.1 200 OK\r\ncontent-type: text/plain; charset=utf-8\r\ncontent-length: 0\r\nconnection: close\r\n\r\n",
     ),
-    // Card files: the driver's own, the same again, a different card's sent by the driver, one that belongs to nobody, and no card file.
+    // Card files: the driver's own (twice), a different card's sent by the driver, one that belongs to nobody, and no card file.
     (
         b"POST /cards/both HTTP/1.1\r\nx-key: office-key-1\r\ncontent-length: 67\r\n\r\n\x05\x20\x00\x00\x11\x0dD123456789012300\x05\x04\x00\x00\x28\x00\x00\x00\x14\x00\x00\x00\x14\x65\xe5\x0f\x00\x00\x01\x00\x64\x00\x00\x11\xe0\x19\xfe\x23\xfc\x00\x14\x00\x10\x65\xe6\x60\x80\x00\x02\x00\x00\x00\x00\x11\xe0",
         b"HTTP/1.1 201 Created\r\ncontent-type: text/plain; charset=utf-8\r\ncontent-length: 25\r\nconnection: close\r\n\r\nadded driver 17 number 1\n",

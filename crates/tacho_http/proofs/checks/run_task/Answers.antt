@@ -15,14 +15,14 @@ returns-in-Err-Memory-clause-responds g c =
     let k = g.K.Keeper in
     let w : Wish = record { want = c.args.asked.want; driver = c.args.asked.driver.now; word = c.args.asked.word.now } in
     unavailable k.stands k.is_clean k.is_live k.leaves k.is_same k.same_self c.args.keeper.now (is_command w.want) (g.R.Source.unread c.args.reader.now) c.fixed-in-Err-Memory.result
-    (λ left s. Runs w c.args.count c.args.caller (c.args.behind.now ++ left) s) c.fixed-in-Err-Memory.ensures
+    (λ left s. Runs w c.args.count c.args.caller (c.args.after_head.now ++ left) s) c.fixed-in-Err-Memory.ensures
 
 pub returns-in-Err-Read-clause-responds : goal.returns-in-Err-Read-clause-responds
 returns-in-Err-Read-clause-responds g c =
     let k = g.K.Keeper in
     let w : Wish = record { want = c.args.asked.want; driver = c.args.asked.driver.now; word = c.args.asked.word.now } in
     unread_body k.stands k.is_clean k.is_live k.leaves k.is_same k.same_self c.args.keeper.now (is_command w.want) (g.R.Source.unread c.args.reader.now) _
-    (λ left s. Runs w c.args.count c.args.caller (c.args.behind.now ++ left) s)
+    (λ left s. Runs w c.args.count c.args.caller (c.args.after_head.now ++ left) s)
 
 pub returns-in-Ok-task-clause-responds : goal.returns-in-Ok-task-clause-responds
 returns-in-Ok-task-clause-responds g c =
@@ -34,7 +34,7 @@ returns-in-Ok-task-clause-responds g c =
     let w : Wish = record { want = c.args.asked.want; driver = c.args.asked.driver.now; word = c.args.asked.word.now } in
     let task : IsTask w.want c.args.caller w.driver w.word (Ok t) = rw c.as_bytes.ensures.value at (rw c.as_bytes-2.ensures.value at c.in-Ok-task.ensures.task) in
     carried_out k.stands k.is_clean k.is_live k.leaves k.is_same k.same_self keeper new (is_command w.want) (g.R.Source.unread c.args.reader.now) c.reply.result answer
-    w c.args.count c.args.caller c.args.behind.now c.in-Ok.body.items t c.reply.ensures c.in-Ok.ensures.body task
+    w c.args.count c.args.caller c.args.after_head.now c.in-Ok.body.items t c.reply.ensures c.in-Ok.ensures.body task
     (subst (λ (want : Want). Serves k.stands k.is_clean k.is_live k.leaves k.is_same keeper new (is_command want) answer (Does t c.in-Ok.body.items)) c.in-Ok-task.ensures.want
     (subst (λ (body : List ℕ). Serves k.stands k.is_clean k.is_live k.leaves k.is_same keeper new (is_command (want_of t)) answer (Does t body)) c.deref.ensures.value c.carry_out.ensures.serves))
 
@@ -45,4 +45,4 @@ returns-clause-responds g c =
     let w : Wish = record { want = c.args.asked.want; driver = c.args.asked.driver.now; word = c.args.asked.word.now } in
     let wrong : IsTask w.want c.args.caller w.driver w.word (Err f) = rw c.as_bytes.ensures.value at (rw c.as_bytes-2.ensures.value at c.in-Err.ensures.task) in
     wrong_word k.stands k.is_clean k.is_live k.leaves k.is_same k.same_self c.args.keeper.now (is_command w.want) (g.R.Source.unread c.args.reader.now) c.refusal.result
-    w c.args.count c.args.caller c.args.behind.now c.in-Ok.body.items f c.refusal.ensures c.in-Ok.ensures.body wrong
+    w c.args.count c.args.caller c.args.after_head.now c.in-Ok.body.items f c.refusal.ensures c.in-Ok.ensures.body wrong

@@ -50,10 +50,10 @@ returns-in-Some-clause-answered g c =
     let short = short_came c.read_head.new.buffer c.in-Ok.head.filled (length c.args.buffer.now) c.read_head.auto.buffer c.requires.limit in
     let few = c.read_head.auto.fields ∙ c.requires.room in
     let has = key_found (Some c.in-Some.key.now) (map (header_bytes r.buffer.now) r.fields.now) h c.in-Some.ensures is.fields in
-    keyed k.stands k.is_clean k.is_live k.leaves k.is_same k.same_self c.args.office_key.now c.args.keeper.now c.by_key.new.keeper c.in-Some.key.now came r.behind.now h
+    keyed k.stands k.is_clean k.is_live k.leaves k.is_same k.same_self c.args.office_key.now c.args.keeper.now c.by_key.new.keeper c.in-Some.key.now came r.after_head.now h
     (g.R.Source.unread c.args.reader.now) (g.R.Source.unread c.read_head.new.reader) (g.R.Source.unread c.by_key.new.reader) c.by_key.result
     has c.in-Ok.ensures.read
-    (λ more. subst (λ (behind : List ℕ). BeginsWith 8192 32 (came ++ more) h (behind ++ more)) (sym c.request_of-request.ensures.behind)
+    (λ more. subst (λ (after_head : List ℕ). BeginsWith 8192 32 (came ++ more) h (after_head ++ more)) (sym c.request_of-request.ensures.after_head)
     (begins_with (came ++ more) came more c.read_head.new.fields spans h short few refl d.0 d.1.1))
     (c.by_key.ensures.responds h is) (c.by_key.ensures.lacks h is has) (c.by_key.ensures.known h is has)
 
@@ -67,10 +67,10 @@ returns-in-None-clause-answered g c =
     let is = c.request_of-request.ensures.request h d.1.1 in
     let short = short_came c.read_head.new.buffer c.in-Ok.head.filled (length c.args.buffer.now) c.read_head.auto.buffer c.requires.limit in
     let few = c.read_head.auto.fields ∙ c.requires.room in
-    let behind = drop c.in-Ok.head.spans.len came in
-    let begins : (more : List ℕ) → BeginsWith 8192 32 (came ++ more) h (behind ++ more) =
+    let after_head = drop c.in-Ok.head.spans.len came in
+    let begins : (more : List ℕ) → BeginsWith 8192 32 (came ++ more) h (after_head ++ more) =
     λ more. begins_with (came ++ more) came more c.read_head.new.fields c.in-Ok.head.spans h short few refl d.0 d.1.1 in
     head_answered k.stands k.is_clean k.is_live k.leaves k.is_same k.same_self c.args.office_key.now c.args.keeper.now (g.R.Source.unread c.args.reader.now) (g.R.Source.unread c.read_head.new.reader)
-    c.fixed-in-None.result came behind h c.in-Ok.ensures.read begins (ap (λ (reply : Reply). is_done reply.status) c.fixed-in-None.ensures)
-    (λ more s. unkeyed s c.args.office_key.now (came ++ more) (behind ++ more) h _ (begins more)
+    c.fixed-in-None.result came after_head h c.in-Ok.ensures.read begins (ap (λ (reply : Reply). is_done reply.status) c.fixed-in-None.ensures)
+    (λ more s. unkeyed s c.args.office_key.now (came ++ more) (after_head ++ more) h _ (begins more)
     (key_found None (map (header_bytes r.buffer.now) r.fields.now) h c.in-None.ensures is.fields) c.fixed-in-None.ensures)

@@ -68,8 +68,8 @@ loop-span-preserved c =
     longer_by (Some s.mark) (c.number-in-loop-span-2.result - c.number-in-loop-span-3.result) (s.past - s.start) b d (omega arith) (record { rest = c.add_run-in-loop-span.ensures.rest; available = c.add_run-in-loop-span.ensures.available; work = c.add_run-in-loop-span.ensures.work; drive = c.add_run-in-loop-span.ensures.drive; crew = c.add_run-in-loop-span.ensures.crew; lacking = c.add_run-in-loop-span.ensures.lacking }) in
     walked_next spans left s c.args.start from c.args.past a b d w gap run
 
-pub overflow_sub-behind : goal.overflow_sub-behind
-overflow_sub-behind c =
+pub overflow_sub-after : goal.overflow_sub-after
+overflow_sub-after c =
     let h : c.loop-span.from ≤ c.args.past = from_le (drop c.loop-span.span-index c.args.spans.now) c.loop-span.from c.args.past c.loop-span.invariant.left_from in
     omega arith
 
