@@ -1,14 +1,15 @@
-"""Measures an archive beside two programs over stock SQLite, which make the same rows of the same tables by the same statements: plain
-Rust, which reads cards and hours too (plain/commands.rs), and Python, which is given the rows (stock.py).
+"""Measures an archive, and compares it with two programs over stock SQLite. They write the same rows to the same tables by the same
+statements. One is plain Rust, which also reads cards and hours (plain/commands.rs); the other is Python, which gets the rows (stock.py).
 
-Each of the three is a running program that is told commands, a line each, as tool_script takes them. The processor time that it has
-had is asked of the system before a command and after its answer, so that neither the opening of an archive nor what filled it
-counts; what a command takes that is refused at its first word is taken out. Each time is the least of some rounds, and each ratio the
-median of the rounds' ratios. Before the first measure a program registers a driver, imports a card of one day, and enters and
-withdraws hours, so that it has met each statement. Behind each round all files have to have the same tables. The instructions of
-imports, of a batch of entries and of withdrawals are those of a program that has done them less those of one that hasn't; both end
-before they close their file, and what they leave has the same tables. Plain Rust adds each row by itself; its instructions are counted
-once more where it adds eight spans or four entries by an INSERT, as the product does."""
+Each of the three is a running program that reads commands, one a line, as tool_script does. The system reports its processor time before a
+command and after the answer, so neither the opening of an archive nor the commands that filled it count. The time of a command that is
+refused because of its first argument is subtracted. Each time is the least of some rounds, and each ratio is the median of the rounds'
+ratios. Before the first measurement a program registers a driver, imports a card of one day, and enters and withdraws hours, so that it has
+run each statement. After each round all files have to have the same tables.
+
+The instructions of imports, of a batch of entries and of withdrawals are those of a program that has done them, minus those of a program
+that hasn't. Both are terminated before they close their file, and the files that they leave have to have the same tables. Plain Rust adds
+each row by itself. Its instructions are counted a second time with eight spans or four entries to an INSERT, as in the product."""
 import datetime
 import functools
 import json
@@ -18,20 +19,28 @@ import sqlite3
 import subprocess
 import sys
 import time
+from collections.abc import Callable, Iterable, Mapping, Sequence
 from statistics import median
+from typing import Any
 
 import cards
 from compiling import plain
-from measuring import CALLGRIND, Instructions, Rounds, collected, instruction_heads, less, only, tell_instructions
+from measuring import CALLGRIND, Instructions, Rounds, collected, instruction_heads, less, only, print_instruction_note
+
+Answered = tuple[str, str]  # a command, and its answer
+Commands = list[Answered]
+Measured = Mapping[str, list[Commands]]  # for each work the repetitions, of which the last command is measured
+Sides = Mapping[str, Sequence[str]]  # the command that begins each side
+Contents = tuple[list[tuple[str, str]], dict[str, list[Any]]]  # the tables of a file with their statements, and the rows
 
 ROUNDS = 12
-SPARE, OLD, NEW = 999_999, 1, range(100, 110)  # the drivers of the one day, of ten years, and who are registered anew
+SPARE, OLD, NEW = 999_999, 1, range(100, 110)  # the driver of the one-day card, the driver with ten years, the drivers to be registered
 YEARS, DRIVERS = 10, 50
-ENTRIES, ENTERED = [10, 1_000, 10_000], 10  # entries that are there, and those that are entered and withdrawn
-BATCH = 5_000  # entries that a text has at the most, so that it isn't too large
-LINES = 1_000  # entries of the text whose entering is measured
+ENTRIES, ENTERED = [10, 1_000, 10_000], 10  # the numbers of existing entries, and how many are entered and withdrawn
+BATCH = 5_000  # the most entries in one text, so that it isn't too large
+LINES = 1_000  # the entries of the text whose entering is measured
 COUNTED = ["tacho", "plain", "many"]  # the sides whose instructions are counted
-ARCHIVES = {  # beside each the one from which its growth is told
+ARCHIVES = {  # each archive, and the one that its growth is relative to
     "empty": "empty",
     "ten years": "empty",
     "fifty drivers": "empty",
@@ -43,131 +52,136 @@ ARCHIVES = {  # beside each the one from which its growth is told
 }
 DAY, SHIFT, WORK = 1440, (480, 960), cards.mark_number(("work", ""))  # minutes of a day, an entry's hours, and its mark
 DONE, REFUSED, NO_COMMAND = "status 0\n", "status 1\n", "status 2\n"
-NOTHING = ("enter - 0", "N1 bad number\n" + REFUSED)  # what is taken out
+NOTHING = ("enter - 0", "N1 bad number\n" + REFUSED)  # the command whose time is subtracted
 STOCK = [sys.executable, os.path.join(cards.TOP, "bench", "stock.py")]
 
 
 class Program:
-    """A running program, which answers each command by a line."""
+    """A running program that answers commands, one a line."""
 
-    def __init__(self, words, **pipes):
-        self.words = words
-        self.running = subprocess.Popen(words, stdin=subprocess.PIPE, stdout=subprocess.PIPE, text=True, **pipes)
-        self.clock = ~self.running.pid << 3 | 2  # the clock of its processor time, as clock_getcpuclockid(3) names it
-        self.wants(DONE)
-        self.start = time.clock_gettime_ns(self.clock) / 1e6  # what it took to be ready, in milliseconds
+    def __init__(self, command: Sequence[str], **pipes: Any) -> None:
+        self.command = command
+        self.running = subprocess.Popen(command, stdin=subprocess.PIPE, stdout=subprocess.PIPE, text=True, **pipes)
+        assert self.running.stdin is not None and self.running.stdout is not None
+        self.commands, self.answers = self.running.stdin, self.running.stdout
+        self.clock = ~self.running.pid << 3 | 2  # the clock of its processor time, see clock_getcpuclockid(3)
+        self.expect(DONE)
+        self.start = time.clock_gettime_ns(self.clock) / 1e6  # the processor time until it was ready, in milliseconds
 
-    def answer(self):
-        """Its next answer: what it prints, and the line of its status."""
-        lines = []
+    def answer(self) -> str:
+        """Reads the next answer: what the program prints, and the line with its status."""
+        lines: list[str] = []
         while not lines or lines[-1] and not lines[-1].startswith("status "):
-            lines.append(self.running.stdout.readline())
+            lines.append(self.answers.readline())
         return "".join(lines)
 
-    def wants(self, wanted):
-        """Its next answer has to be this."""
+    def expect(self, expected: str) -> None:
+        """Reads the next answer, and exits unless it is the expected one."""
         answer = self.answer()
-        if answer != wanted:
-            sys.exit(f"{self.words} answered {answer!r} and not {wanted!r}")
+        if answer != expected:
+            sys.exit(f"{self.command}: expected {expected!r}, got {answer!r}")
 
-    def tell(self, command):
-        """Tells it a command."""
-        self.running.stdin.write(command + "\n")
-        self.running.stdin.flush()
+    def send(self, command: str) -> None:
+        """Sends a command."""
+        self.commands.write(command + "\n")
+        self.commands.flush()
 
-    def time_of(self, command, wanted):
-        """Tells it a command that has this answer, and gives the processor time that it took, in milliseconds."""
+    def time_of(self, command: str, expected: str) -> float:
+        """Runs a command that has to give this answer. Returns its processor time, in milliseconds."""
         before = time.clock_gettime_ns(self.clock)
-        self.tell(command)
-        self.wants(wanted)
+        self.send(command)
+        self.expect(expected)
         return (time.clock_gettime_ns(self.clock) - before) / 1e6
 
-    def time_of_last(self, commands):
-        """Tells it commands, and gives the time of the last one."""
+    def time_of_last(self, commands: Iterable[Answered]) -> float:
+        """Runs commands. Returns the processor time of the last one, in milliseconds."""
         return [self.time_of(*command) for command in commands][-1]
 
-    def end(self):
-        """Ends it."""
-        self.running.stdin.close()
-        if self.running.stdout.read() or self.running.wait():
-            sys.exit(f"{self.words} failed")
+    def end(self) -> None:
+        """Closes the program's input, and waits for its end. Exits if it printed anything more, or failed."""
+        self.commands.close()
+        if self.answers.read() or self.running.wait():
+            sys.exit(f"{self.command} failed")
 
 
-# Cards and hours, and what is done with them: commands with their answers
+# Cards and hours, and the commands on them with their answers
 
 
 class Files:
-    """Card files and texts of hours in a folder, each with the rows that an archive keeps of it beside it."""
+    """Card files and texts of hours in a folder. Next to each lies a file with the rows that an archive keeps of it."""
 
-    def __init__(self, folder):
+    def __init__(self, folder: str) -> None:
         self.folder = folder
         self.year = cards.year_of(cards.read("examples", "driver-year.ddd"))
         self.day = cards.read("bench", "day.ddd")
         self.year_rows = cards.rows_of(self.year)
-        self.past = self.year_rows[-1][1] // DAY  # the day after it
+        self.past = self.year_rows[-1][1] // DAY  # the day after the year
 
-    def written(self, name, content, rows):
-        """The path of a file with this content, beside which lies what an archive keeps of it."""
+    def written(self, name: str, content: bytes, rows: dict[str, Any]) -> str:
+        """Writes a file, and its rows next to it. Returns the path of the file."""
         path = os.path.join(self.folder, name)
         with open(path, "wb") as file:
             file.write(content)
-        with open(path + ".rows", "w", encoding="utf-8") as file:
-            json.dump(rows, file)
+        with open(path + ".rows", "w", encoding="utf-8") as file_of_rows:
+            json.dump(rows, file_of_rows)
         return path
 
-    def a_driver(self, driver):
-        """The path of a driver's registration."""
+    def a_driver(self, driver: int) -> str:
+        """Writes the CSV that registers a driver. Returns its path."""
         holder, key = cards.holder_of(cards.of_holder(self.day, driver)).hex(), f"driver-{driver}"
         text = f"driver,holder,key,base,name\n{driver},{holder},{key},2000-01-03,Anna Berg\n"
         return self.written(f"{driver}.csv", text.encode(), {"driver": driver, "holder": holder, "key": key})
 
-    def a_card(self, driver, file, rows):
-        """The path of a driver's card file of these rows."""
+    def a_card(self, driver: int, file: bytes, rows: list[cards.Row]) -> str:
+        """Writes a driver's card file, which gives these rows. Returns its path."""
         file = cards.of_holder(file, driver)
         kept = {"driver": driver, "holder": cards.holder_of(file).hex(), "spans": rows}
         return self.written(f"{driver}-{rows[0][0]}.ddd", file, kept)
 
-    def a_year(self, driver, years=0):
-        """The path of a driver's card of a year, so many years later than the example."""
+    def a_year(self, driver: int, years: int = 0) -> str:
+        """Writes a driver's card file of one year, this many years after the example's. Returns its path."""
         return self.a_card(driver, cards.years_later(self.year, years), cards.rows_later(self.year_rows, years))
 
-    def a_day(self, driver):
-        """The path of a driver's card of a day."""
+    def a_day(self, driver: int) -> str:
+        """Writes a driver's card file of one day. Returns its path."""
         return self.a_card(driver, self.day, cards.rows_of(self.day))
 
-    def sheet(self, first, count):
-        """The path of a text of hours: a shift of work on each of so many days, from a first one on."""
+    def sheet(self, first: int, count: int) -> str:
+        """Writes a text of hours: a shift of work on each of `count` days from the day `first` on. Returns its path."""
         rows = [(*(day * DAY + minute for minute in SHIFT), WORK) for day in range(first, first + count)]
         lines = [f"{time_text(start)},{time_text(past)},work\n" for start, past, _ in rows]
         return self.written(f"{first}-{count}.csv", "".join(["start,past,activity\n", *lines]).encode(), {"spans": rows})
 
 
-def time_text(minute):
-    """A minute as a text of hours writes it."""
+def time_text(minute: int) -> str:
+    """A minute, as a text of hours contains it."""
     return f"{datetime.datetime(1970, 1, 1) + datetime.timedelta(minutes=minute):%Y-%m-%d %H:%M}"
 
 
-def reading(words, path, text):
-    """A command that reads a file, which is done. Before it comes a line that has the file and no archive: by this the program of stock
-    SQLite learns the rows."""
-    name = words.split()[0]
-    return [(f"{name} < {path}", NO_COMMAND), (f"{words} < {path}", text + DONE)]
+def reading(command: str, path: str, text: str) -> Commands:
+    """A command that reads a file and succeeds. Before it comes a line with only the command's name and the file, by which stock.py loads
+    the rows of the file before it is measured. To all three programs that line is no command."""
+    name = command.split()[0]
+    return [(f"{name} < {path}", NO_COMMAND), (f"{command} < {path}", text + DONE)]
 
 
-def registering(driver, path):
+def registering(driver: int, path: str) -> Commands:
+    """The command that registers a driver."""
     return reading("register -", path, f"registered {driver}\n")
 
 
-def importing(driver, number, path):
+def importing(driver: int, number: int, path: str) -> Commands:
+    """The command that imports a driver's card file with this number."""
     return reading("import - both", path, f"added driver {driver} number {number}\n")
 
 
-def entering(driver, first, count, path):
+def entering(driver: int, first: int, count: int, path: str) -> Commands:
+    """The command that enters `count` entries, numbered from `first` on."""
     return reading(f"enter - {driver}", path, f"entered {first} to {first + count - 1}\n")
 
 
-def entering_many(files, driver, first, last, day):
-    """The commands that enter the entries of these numbers, each of the day of its number behind another day."""
+def entering_many(files: Files, driver: int, first: int, last: int, day: int) -> Commands:
+    """The commands that enter the entries from number `first` to `last`. Entry n is on day `day` + n."""
     commands = []
     for number in range(first, last + 1, BATCH):
         count = min(BATCH, last + 1 - number)
@@ -175,12 +189,13 @@ def entering_many(files, driver, first, last, day):
     return commands
 
 
-def withdrawing(driver, number):
+def withdrawing(driver: int, number: int) -> Commands:
+    """The command that withdraws a driver's entry."""
     return [(f"withdraw - {driver} {number}", f"withdrawn {number}\n" + DONE)]
 
 
-def filling(files):
-    """What fills each archive."""
+def filling(files: Files) -> dict[str, Commands]:
+    """The commands that fill each archive."""
     alone = registering(OLD, files.a_driver(OLD))
     years = list(alone)
     for number in range(1, YEARS + 1):
@@ -192,18 +207,18 @@ def filling(files):
     return dict(zip(ARCHIVES, [[], years, drivers, alone, alone + entries[0], *(years + entered for entered in entries)]))
 
 
-def warming(files):
-    """What has a program meet each statement."""
+def warming(files: Files) -> Commands:
+    """The commands that make a program run each statement once."""
     done = registering(SPARE, files.a_driver(SPARE)) + importing(SPARE, 1, files.a_day(SPARE))
     return done + entering(SPARE, 1, 1, files.sheet(files.past, 1)) + withdrawing(SPARE, 1)
 
 
-def measuring(files):
-    """What is measured in each archive, as often as it is there: of each list of commands the last one."""
+def measuring(files: Files) -> dict[str, Measured]:
+    """The works that are measured in each archive."""
     registers = [registering(driver, files.a_driver(driver)) for driver in NEW]
     first = importing(NEW[0], 1, files.a_year(NEW[0]))
     next_year = importing(OLD, YEARS + 1, files.a_year(OLD))
-    works = [{"register": registers, "import": [work]} for work in (first, next_year, first)]
+    works: list[Measured] = [{"register": registers, "import": [work]} for work in (first, next_year, first)]
     works.append({"enter": [entering(OLD, 1, LINES, files.sheet(files.past, LINES))]})
     for count in (ENTRIES[0], *ENTRIES):
         numbers = range(count + 1, count + 1 + ENTERED)
@@ -215,23 +230,23 @@ def measuring(files):
 # The times
 
 
-def path_of(folder, side, name):
+def path_of(folder: str, side: str, name: str) -> str:
     """The path of a side's database file."""
     return os.path.join(folder, f"{side} {name}.db")
 
 
-def make_files(sides, fills, folder):
-    """Makes the file of each archive, by each side."""
-    for side, words in sides.items():
+def make_files(sides: Sides, fills: Mapping[str, Commands], folder: str) -> None:
+    """Makes the file of each archive with each side."""
+    for side, command in sides.items():
         for name, fill in fills.items():
-            program = Program([*words, "archive", path_of(folder, side, name)])
-            for command in fill:
-                program.time_of(*command)
+            program = Program([*command, "archive", path_of(folder, side, name)])
+            for filling_command in fill:
+                program.time_of(*filling_command)
             program.end()
 
 
-def copied(folder, side, name):
-    """A copy of a side's file, without a log."""
+def copied(folder: str, side: str, name: str) -> str:
+    """Copies a side's file, without a log, and returns the path of the copy."""
     path = path_of(folder, side, f"copy of {name}")
     shutil.copyfile(path_of(folder, side, name), path)
     if os.path.exists(path + "-wal"):
@@ -239,26 +254,26 @@ def copied(folder, side, name):
     return path
 
 
-def begun(words, place, fill, path):
-    """A program with a filled archive: in memory it is filled first, in a file it is there."""
-    if place == "file":
-        return Program([*words, "archive", path])
-    program = Program([*words, "memory"])
-    for command in fill:
-        program.time_of(*command)
+def begun(command: Sequence[str], fill: Commands, path: str | None) -> Program:
+    """A program with a filled archive: opens the file at the path or, if there is no path, fills an archive in memory."""
+    if path is not None:
+        return Program([*command, "archive", path])
+    program = Program([*command, "memory"])
+    for filling_command in fill:
+        program.time_of(*filling_command)
     return program
 
 
-def times_of(program, warm, works):
-    """The time of a program's start, the median one of each work, and that of a command which is nothing but a command.
-    No least one: of a short work the system at times counts nothing where the machine is a virtual one."""
+def times_of(program: Program, warm: Commands, works: Measured) -> dict[str, float]:
+    """The times of a program in milliseconds: of its start, of each work, and of `nothing`, a command that does no work. The time of a work
+    is the median of its repetitions, not the least: on a virtual machine the system sometimes reports no time at all for a short work."""
     program.time_of_last(warm)
     works = {"nothing": [[NOTHING] for _ in NEW], **works}
     return {"start": program.start, **{work: median(map(program.time_of_last, times)) for work, times in works.items()}}
 
 
-def content(path):
-    """The tables of a file and their rows."""
+def content(path: str) -> Contents:
+    """The tables of a file with the statements that create them, and the rows of each."""
     connection = sqlite3.connect(path)
     tables = connection.execute("SELECT name, sql FROM sqlite_schema WHERE type = 'table' ORDER BY name").fetchall()
     rows = {name: connection.execute(f"SELECT * FROM {name} ORDER BY 1, 2").fetchall() for name, _ in tables}
@@ -266,70 +281,74 @@ def content(path):
     return tables, rows
 
 
-def check_same(name, contents):
-    """The contents of the sides' files have to be the same."""
+def check_same(name: str, contents: Sequence[Contents]) -> None:
+    """Exits unless the contents of the sides' files are the same."""
     if any(other != contents[0] for other in contents):
-        sys.exit(f"the archives have other tables: {name}")
+        sys.exit(f"the tables of the archives differ: {name}")
 
 
-def compare(folder, sides):
-    """The sides' files of each archive have to have the same tables."""
+def compare(folder: str, sides: Iterable[str]) -> None:
+    """Exits unless the sides' files of each archive have the same tables."""
     for name in ARCHIVES:
         check_same(name, [content(path_of(folder, side, f"copy of {name}")) for side in sides])
 
 
-def measured(sides, place, folder, fills, works, warm):
-    """What each work took, by archive and side."""
-    def turn(name, side):
+def measured(
+    sides: Sides, place: str, folder: str, fills: Mapping[str, Commands], works: Mapping[str, Measured], warm: Commands,
+) -> Rounds:
+    """The times of each work, for each archive and side. The archives are in files, or in memory, as `place` says."""
+    def turn(name: str, side: str) -> dict[str, float]:
         path = copied(folder, side, name) if place == "file" else None
-        program = begun(sides[side], place, fills[name], path)
+        program = begun(sides[side], fills[name], path)
         taken = times_of(program, warm, works[name])
         program.end()
         return taken
     turns = {(name, side): functools.partial(turn, name, side) for name in ARCHIVES for side in sides}
-    return Rounds(turns, ROUNDS, lambda: compare(folder, sides) if place == "file" else None)
+    return Rounds(turns, ROUNDS, (lambda: compare(folder, sides)) if place == "file" else None)
 
 
-def instructions_behind(words, path, commands):
-    """The instructions of a program that has done commands. It is ended before it closes its archive."""
-    program = Program([*CALLGRIND, *words, "archive", path], stderr=subprocess.PIPE)
-    for command in commands:
-        program.time_of(*command)
+def instructions_after(command: Sequence[str], path: str, commands: Iterable[Answered]) -> int:
+    """The number of instructions of a program that has run commands on an archive. It is terminated before it closes the archive."""
+    program = Program([*CALLGRIND, *command, "archive", path], stderr=subprocess.PIPE)
+    for one in commands:
+        program.time_of(*one)
     program.running.terminate()
     return collected(program.running.communicate()[1])
 
 
-def counted(sides, folder, name, works, warm):
-    """The instructions of the product, and of plain Rust that adds each row by itself or many at once, before an archive's last work, and
-    with it."""
+def counted(sides: Sides, folder: str, name: str, works: Measured, warm: Commands) -> Instructions:
+    """The instructions before an archive's last work, and with it: of the product, of plain Rust that adds each row by itself, and of plain
+    Rust that adds many at once."""
     *before, last = ([command for commands in work for command in commands] for work in works.values())
-    before = [*warm, *(command for commands in before for command in commands)]
-    words = {**sides, "many": [*sides["plain"], "many"]}
+    commands_before = [*warm, *(command for commands in before for command in commands)]
+    programs = {**sides, "many": [*sides["plain"], "many"]}
     contents = {}
 
-    def side_of(side):
-        def behind(commands):
+    def side_of(side: str) -> Callable[[], dict[str, int]]:
+        def count(commands: Commands) -> int:
             path = copied(folder, side if side in sides else "plain", name)
-            taken = instructions_behind(words[side], path, commands)
+            taken = instructions_after(programs[side], path, commands)
             contents[side] = content(path)
             return taken
-        return lambda: {"before": behind(before), "with": behind(before + last)}
+        return lambda: {"before": count(commands_before), "with": count(commands_before + last)}
     found = Instructions({side: side_of(side) for side in COUNTED})
     check_same(name, [*contents.values()])
     return found
 
 
-def settings(folder, side, words):
-    """The settings of a side's SQLite."""
-    program = Program([*words, "archive", copied(folder, side, "empty")])
-    program.tell("settings")
-    told = program.answer().split("\n")[0]
+def settings(folder: str, side: str, command: Sequence[str]) -> str:
+    """The settings of a side's SQLite, as one line of text."""
+    program = Program([*command, "archive", copied(folder, side, "empty")])
+    program.send("settings")
+    line = program.answer().split("\n")[0]
     program.end()
-    return told
+    return line
 
 
-def tell(place, sides, works, times, counts):
-    """Prints the times of a place, with the growth from the archive that ARCHIVES names beside each."""
+def print_times(
+    place: str, sides: Sides, works: Mapping[str, Measured], times: Rounds, counts: Mapping[str, Instructions] | None,
+) -> None:
+    """Prints the times of a place, and the growth of each relative to the archive that ARCHIVES names."""
     for work in ("register", "import", "enter", "withdraw"):
         cost = less(work, "nothing")
         for name in (name for name in ARCHIVES if work in works[name]):
@@ -341,26 +360,28 @@ def tell(place, sides, works, times, counts):
             print(f"{place:7} {work:9} {name:25} {taken} {ratios} {grown}{instructions}", flush=True)
 
 
-def archives(folder, program):
-    """Measures the program with archives, and stock SQLite."""
-    sides, files = {"tacho": [program], "plain": [plain(folder, "commands")], "stock": STOCK}, Files(folder)
+def archives(folder: str, program: str) -> None:
+    """Measures the program and both programs over stock SQLite with each archive, and prints a table."""
+    sides: Sides = {"tacho": [program], "plain": [plain(folder, "commands")], "stock": STOCK}
+    files = Files(folder)
     fills, works, warm = filling(files), measuring(files), warming(files)
     make_files(sides, fills, folder)
     print(f"an archive: processor time in ms, the least of {ROUNDS} rounds, ratios to plain Rust and to Python, and growth")
-    print(f"an import is of a year, {len(files.year_rows)} spans, by the office; ten years of that driver, or a year of fifty others")
-    print("enter is of one entry of eight hours, and withdraw of it, for a driver with other entries, and ten years or no cards;")
-    print(f"or it is of {LINES:,} such lines at once, one a day, for a driver without cards and entries")
-    print("the growth is from the empty archive on, from no cards on to 10 entries with ten years, and from these on to more")
-    print("a file of the archive's SQLite, with sums of its pages: journal_mode wal, synchronous 2, one process, cache of 2000 pages,")
+    print(f"import: the office imports a card of a year, {len(files.year_rows)} spans; the archive is empty, or has ten years of that")
+    print("driver, or a year of each of fifty others")
+    print("enter and withdraw: one entry of eight hours, of a driver with other entries, and with ten years of cards or none; or enter:")
+    print(f"{LINES:,} such lines at once, one a day, for a driver without cards and entries")
+    print("growth: from the empty archive; from no cards to ten years with 10 entries; and from there to more entries")
+    print("a file of the archive's SQLite, with checksums of its pages: journal_mode wal, synchronous 2, one process, cache of 2000 pages,")
     print("log of 1000 frames")
     for side, name in {"plain": "Rust", "stock": "Python"}.items():
-        print(f"a file of stock SQLite {sqlite3.sqlite_version}, by {name}: {settings(folder, side, sides[side])}")
-    tell_instructions("of imports, of the lines and of withdrawals over a file millions")
-    print("many is plain Rust that adds eight spans or four entries by an INSERT, as the product does, where plain adds each row by itself")
+        print(f"a file of stock SQLite {sqlite3.sqlite_version}, with {name}: {settings(folder, side, sides[side])}")
+    print_instruction_note("of imports, of the lines and of withdrawals over a file millions")
+    print("many is plain Rust with eight spans or four entries to an INSERT, as in the product; plain adds each row by itself")
     taken, grown = (" ".join(f"{side:>{width}}" for side in sides) for width in (8, 7))
     print(f"{'':43} {taken} {'/plain':>6} {'/stock':>6} {grown}{instruction_heads(others=COUNTED[1:])}")
-    tell("memory", sides, works, measured(sides, "memory", folder, fills, works, warm), None)
+    print_times("memory", sides, works, measured(sides, "memory", folder, fills, works, warm), None)
     times = measured(sides, "file", folder, fills, works, warm)
-    tell("file", sides, works, times, {name: counted(sides, folder, name, works[name], warm) for name in ARCHIVES})
+    print_times("file", sides, works, times, {name: counted(sides, folder, name, works[name], warm) for name in ARCHIVES})
     starts = "; ".join(f"{times.least((name, 'tacho'), only('start')):.0f} ({name})" for name in ARCHIVES)
-    print(f"the opening of a file, which is aside, takes tacho so many ms: {starts}")
+    print(f"tacho opens a file, which isn't counted above, in this many ms: {starts}")

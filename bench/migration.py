@@ -1,11 +1,11 @@
-"""Measures `migrate` of archives of schema 1 behind their opening, beside stock SQLite, which does the same by `INSERT .. SELECT` in one
-transaction (stock.py).
+"""Measures `migrate` on archives of schema 1, without the opening, and compares it with stock SQLite, which does the same by
+`INSERT .. SELECT` in one transaction (stock.py).
 
-An archive has drivers with so many entries each, one behind the other, of a quarter of an hour; SQLite itself writes it, with sums of
-its pages. The program is a process of its own for each migration. What its start and the opening take is measured by `drivers`, which is
-refused there when the archive is open (S13), and taken out. Stock SQLite is a running program that has the archive open; of it the time
-of the command counts. Both take their log into the file. Each time is the least of some rounds, in which the two take turns, each at a
-new copy, and each ratio is the median of the rounds' ratios. Behind each round both files have to have the same tables."""
+An archive has some drivers with the same number of entries each: a quarter of an hour every half hour. SQLite itself writes it, with
+checksums of its pages. Our program is a new process for each migration. The cost of its start and of the opening is measured by `drivers`,
+which is refused once the archive is open (S13), and subtracted. Stock SQLite is a running program that has the archive open; only the time
+of the command counts. Both write their log into the file. Each time is the least of some rounds, in which the two take turns, each with a
+new copy, and each ratio is the median of the rounds' ratios. After each round both files have to have the same tables."""
 import os
 import shutil
 import sys
@@ -13,16 +13,16 @@ import sys
 import cards
 from archive import DONE, STOCK, Program, content
 from lib import old_archive
-from measuring import Rounds, less, only, processor_time, told
+from measuring import Rounds, less, only, output_of, processor_time
 from stock import BASE
 
 ROUNDS = 10
-FIRST = 21_039_840  # 2010-01-02 00:00, the minute from which entries are
-ARCHIVES = {(50, 1_000): (50, 1_000), (1, 1_000): (1, 1_000), (1, 10_000): (1, 1_000)}  # beside each the one from which its growth is told
+FIRST = 21_039_840  # 2010-01-02 00:00, the start of the first entry
+ARCHIVES = {(50, 1_000): (50, 1_000), (1, 1_000): (1, 1_000), (1, 10_000): (1, 1_000)}  # each with the one that its growth is relative to
 
 
-def rows_of(drivers, entries):
-    """The rows of an archive of schema 1, of so many drivers with so many entries each."""
+def rows_of(drivers: int, entries: int) -> old_archive.Rows:
+    """The rows of an archive of schema 1 with this many drivers and this many entries for each."""
     spans = [(FIRST + 30 * number, FIRST + 30 * number + 15, number % len(cards.ACTIVITIES)) for number in range(entries)]
     people = range(1, drivers + 1)
     return {
@@ -35,8 +35,8 @@ def rows_of(drivers, entries):
     }
 
 
-def copied(path, side):
-    """A copy of an archive for a side, without a log."""
+def copied(path: str, side: str) -> str:
+    """Copies an archive for a side, without a log, and returns the path of the copy."""
     made = f"{path}-{side}"
     shutil.copyfile(path, made)
     if os.path.exists(made + "-wal"):
@@ -44,39 +44,40 @@ def copied(path, side):
     return made
 
 
-def ours(program, path):
-    """What the program's opening takes, and a migration with it."""
+def ours(program: str, path: str) -> dict[str, float]:
+    """The time of the program's opening, and that of a migration together with the opening, in milliseconds."""
     made = copied(path, "tacho")
     opening, whole = processor_time([program, "drivers", made]), processor_time([program, "migrate", made])
-    if told([program, "migrate", made])[0] != b"migrated\n":
-        sys.exit(f"{made} wasn't carried over")
+    if output_of([program, "migrate", made])[0] != b"migrated\n":
+        sys.exit(f"{made} wasn't migrated")
     return {"opening": opening, "whole": whole}
 
 
-def theirs(path):
-    """What stock SQLite takes, which has the archive open."""
+def theirs(path: str) -> dict[str, float]:
+    """The time of stock SQLite, which has the archive open, in milliseconds."""
     running = Program([*STOCK, "archive", copied(path, "stock")])
     taken = running.time_of("migrate -", "migrated\n" + DONE)
     running.end()
     return {"opening": 0, "whole": taken}
 
 
-def compare(path):
-    """The two files have to have the same tables."""
+def compare(path: str) -> None:
+    """Exits unless the two files have the same tables."""
     if content(f"{path}-tacho") != content(f"{path}-stock"):
-        sys.exit(f"the two archives have other tables: {path}")
+        sys.exit(f"the tables of the two archives differ: {path}")
 
 
-def times_of(program, path):
-    """The times of both at an archive."""
+def times_of(program: str, path: str) -> Rounds:
+    """The times of both sides at an archive."""
     return Rounds({"tacho": lambda: ours(program, path), "stock": lambda: theirs(path)}, ROUNDS, lambda: compare(path))
 
 
-def migrations(folder, program):
-    print(f"migrate behind the opening, beside stock SQLite: processor time in ms, the least of {ROUNDS} rounds, and its growth from")
-    print("1,000 entries of one driver on, which with 10,000 is to be 12 at the most")
+def migrations(folder: str, program: str) -> None:
+    """Measures the migration of each archive, and prints a table."""
+    print(f"migrate without the opening, and stock SQLite: processor time in ms, the least of {ROUNDS} rounds; then the growth from one")
+    print("driver with 1,000 entries, which may be at most 12 for 10,000 entries")
     print(f"{'drivers':>8} {'entries':>8} {'megabytes':>10} {'open':>8} {'tacho':>8} {'stock':>8} {'ratio':>6} {'tacho':>7} {'stock':>7}")
-    found = {}
+    found: dict[tuple[int, int], list[float]] = {}
     for drivers, entries in ARCHIVES:
         path = os.path.join(folder, f"{drivers}-{entries}.db")
         old_archive.make(path, rows_of(drivers, entries))

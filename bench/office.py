@@ -1,38 +1,39 @@
 """Measures the program's commands on archives in files.
 
-An archive has so many drivers, each with card files of so many years; tool_script fills it, in one process. What a start and
-the opening of the archive take is measured by the program with a number that is refused when the archive is open. The commands
-are measured behind an opening: tool_script does each of them on an archive that it has opened, and has to print what the program
-prints. Each time is the least of some rounds, in which the commands take turns."""
+tool_script fills an archive with some drivers, each with the card files of some years, in one process. The cost of starting the program and
+opening the archive is measured by running the program with a driver's number that is refused after the opening. The commands are measured
+without the opening: tool_script runs each of them on an archive that it has already opened, and has to print what the program prints. Each
+time is the least of some rounds, in which the commands take turns."""
 import datetime
 import functools
 import os
 
 import cards
-from archive import DONE, Program
-from measuring import Rounds, only, processor_time, told
+from archive import DONE, Answered, Program
+from measuring import Rounds, only, output_of, processor_time
 
 ROUNDS, OPENINGS = 40, 3
-ARCHIVES = [(1, 1), (1, 10), (10, 1), (10, 10), (50, 1), (50, 10)]  # drivers, and years of each
-DRIVER = 1  # the one who is asked for
+ARCHIVES = [(1, 1), (1, 10), (10, 1), (10, 10), (50, 1), (50, 10)]  # the number of drivers, and of years of each
+DRIVER = 1  # the driver whom the commands ask for
 DAY = 1440
 
 
-def date_of(day):
-    """A day as the program writes it."""
+def date_of(day: int) -> str:
+    """The date of a day number, as the program writes it."""
     return f"{datetime.date(1970, 1, 1) + datetime.timedelta(days=day)}"
 
 
-def written(folder, name, content):
-    """The path of a file with this content."""
+def written(folder: str, name: str, content: bytes) -> str:
+    """Writes a file, and returns its path."""
     path = os.path.join(folder, name)
     with open(path, "wb") as file:
         file.write(content)
     return path
 
 
-def commands_of(folder, drivers, years):
-    """What fills an archive, with the answers, and a day of the month that is asked for. The last year is that of the example's card."""
+def commands_of(folder: str, drivers: int, years: int) -> tuple[list[Answered], int]:
+    """The commands that fill an archive, with their answers, and a day of the month that is asked for. The last year is that of the
+    example's card."""
     year = cards.year_of(cards.read("examples", "driver-year.ddd"))
     last = cards.rows_of(year)[-1][0] // DAY
     base = (last - cards.YEAR * years + 3) // 7 * 7 + 4
@@ -48,8 +49,8 @@ def commands_of(folder, drivers, years):
     return commands, last - 40
 
 
-def fill(script, folder, path, drivers, years):
-    """Makes an archive, and gives a day of the month that is asked for."""
+def fill(script: str, folder: str, path: str, drivers: int, years: int) -> int:
+    """Makes an archive, and returns a day of the month that is asked for."""
     commands, day = commands_of(folder, drivers, years)
     running = Program([script, "archive", path])
     for command in commands:
@@ -58,8 +59,8 @@ def fill(script, folder, path, drivers, years):
     return day
 
 
-def times_of(program, script, path, month):
-    """What the opening takes, and each command behind it."""
+def times_of(program: str, script: str, path: str, month: str) -> tuple[float, dict[str, float]]:
+    """The time of the start and the opening, and the time of each command after it, in milliseconds."""
     commands = {
         "spans": ["spans", path, str(DRIVER), month],
         "gaps": ["gaps", path, str(DRIVER), month],
@@ -67,17 +68,21 @@ def times_of(program, script, path, month):
         "breaches": ["breaches", path, str(DRIVER)],
         "owed": ["owed", path, str(DRIVER)],
     }
-    wanted = {name: told([program, *words])[0].decode() + DONE for name, words in commands.items()}
+    expected = {name: output_of([program, *arguments])[0].decode() + DONE for name, arguments in commands.items()}
     opening = min(processor_time([program, "breaches", path, "0"]) for _ in range(OPENINGS))
     running = Program([script, "archive", path])
-    turn = lambda name: {"time": running.time_of(" ".join(commands[name]), wanted[name])}
+
+    def turn(name: str) -> dict[str, float]:
+        return {"time": running.time_of(" ".join(commands[name]), expected[name])}
+
     times = Rounds({name: functools.partial(turn, name) for name in commands}, ROUNDS)
     running.end()
     return opening, {name: times.least(name, only("time")) for name in commands}
 
 
-def offices(folder, program, script):
-    print("commands at an archive in a file: processor time in milliseconds, of the commands behind the opening")
+def offices(folder: str, program: str, script: str) -> None:
+    """Measures the commands on each archive, and prints a table."""
+    print("commands on an archive in a file: processor time in milliseconds, of the opening and of each command without it")
     print(f"{'drivers':>8} {'years':>6} {'megabytes':>10} {'open':>8} {'spans':>8} {'gaps':>8} {'sheet':>8} {'breaches':>9} {'owed':>8}")
     for drivers, years in ARCHIVES:
         path = os.path.join(folder, f"{drivers}-{years}.db")

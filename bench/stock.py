@@ -1,20 +1,22 @@
 #!/usr/bin/env python3
-"""What an archive makes of its tables, by stock SQLite: the same tables and statements, each command in one transaction.
+"""Does with stock SQLite what an archive does with its tables: the same tables and statements, and each command in one transaction.
 
-It takes words and commands of the program tool_script, and answers the same. Beside the file that a command reads there are the rows
-that an archive keeps of it, so that no card and no text is read here and nothing is decided: what is measured is SQLite. A line
-that has the file and no archive is no command; by it the rows are learnt."""
+It takes the arguments and commands of the program tool_script, and gives the same answers. Next to the file that a command reads lies a
+file with the rows that an archive keeps of it. So this program reads no card and no text, and decides nothing: what is measured is SQLite.
+A line that has a file but no archive is no command; it loads the rows of the file."""
 import functools
 import json
 import os
 import sqlite3
 import sys
+from collections.abc import Callable, Iterable
+from typing import Any
 
-BASE = 10_959
+BASE = 10_959  # 2000-01-03, the day number of each driver's base
 with open(os.path.join(os.path.dirname(os.path.abspath(__file__)), "tables.sql"), encoding="utf-8") as file:
     TABLES = [" ".join(text.split()) for text in file.read().split(";") if text.strip()]
-# What carries an archive of schema 1 over.
-CARRY = [
+# The statements that migrate an archive of schema 1.
+MIGRATE = [
     *[text for text in TABLES if " entry_rows " in text],
     "INSERT INTO entry_rows (driver, number, start, past, mark, withdrawn, author, note)"
     " SELECT driver, number, start, past, mark, withdrawn, 'office', '' FROM entries",
@@ -30,8 +32,9 @@ KEPT_NEAR = (
 ADD = "INSERT INTO {} (driver, start, past, mark) VALUES (?1, ?2, ?3, ?4)"
 
 
-def opened(path):
-    """A connection with the settings that the archive's SQLite has, as far as it can have them."""
+def opened(path: str | None) -> sqlite3.Connection:
+    """Opens the archive in a file, or in memory if there is no path. Makes the tables if there are none. The settings are those of the
+    archive's SQLite, as far as stock SQLite has them."""
     connection = sqlite3.connect(path or ":memory:", isolation_level=None)
     connection.execute("PRAGMA foreign_keys = ON")
     if path:
@@ -44,8 +47,8 @@ def opened(path):
     return connection
 
 
-def do_all(connection, texts):
-    """Does statements in one transaction."""
+def do_all(connection: sqlite3.Connection, texts: Iterable[str]) -> None:
+    """Runs statements in one transaction."""
     connection.execute("BEGIN")
     for text in texts:
         connection.execute(text)
@@ -53,44 +56,44 @@ def do_all(connection, texts):
 
 
 class Given:
-    """What a command reads: the bytes of its file, and what an archive keeps of it."""
+    """The input of a command: the bytes of its file, and what an archive keeps of it."""
 
-    def __init__(self, path):
+    def __init__(self, path: str) -> None:
         with open(path, "rb") as file:
             self.file = file.read()
-        with open(path + ".rows", encoding="utf-8") as file:
-            self.rows = json.load(file)
+        with open(path + ".rows", encoding="utf-8") as file_of_rows:
+            self.rows = json.load(file_of_rows)
         self.spans = [tuple(span) for span in self.rows.get("spans", [])]
         self.of_driver = [(self.rows.get("driver"), *span) for span in self.spans]
         self.holder = bytes.fromhex(self.rows.get("holder", ""))
 
-    def range(self, driver):
-        """A driver, and the range of the spans."""
+    def range_of(self, driver: int) -> tuple[int, int, int]:
+        """The driver, the first minute of the spans, and the minute after their last."""
         return driver, self.spans[0][0], self.spans[-1][1]
 
 
-# The file at a path, which is read once.
+# The input at a path. Each file is read only once.
 given_at = functools.lru_cache(maxsize=None)(Given)
 
 
-def first(connection, text, *values):
-    """The first row of an answer, or None."""
+def first(connection: sqlite3.Connection, text: str, *values: Any) -> Any:
+    """The first row of a statement's result, or None."""
     return connection.execute(text, values).fetchone()
 
 
-def first_start(connection, table, driver, start, past):
-    """Where the first row near a range begins."""
+def first_start(connection: sqlite3.Connection, table: str, driver: int, start: int, past: int) -> int:
+    """The minute from which the rows near a range begin: the start of the row that holds `start`, else `start` itself."""
     before = first(connection, BEFORE.format(table), driver, start)
     return before[0] if before and before[0] < past and start < before[1] else start
 
 
-def rows_near(connection, table, driver, start, past):
-    """The rows near a range."""
+def rows_near(connection: sqlite3.Connection, table: str, driver: int, start: int, past: int) -> list[tuple[int, int, int]]:
+    """The rows that share a minute with a range: start, past and mark."""
     begin = first_start(connection, table, driver, start, past)
     return connection.execute(BEGUN.format(table), (driver, begin, past)).fetchall()
 
 
-def register(connection, given):
+def register(connection: sqlite3.Connection, given: Given) -> str:
     """Adds a driver."""
     driver, key = given.rows["driver"], given.rows["key"]
     connection.execute("BEGIN")
@@ -100,7 +103,7 @@ def register(connection, given):
         first(connection, "SELECT driver FROM drivers WHERE holder = ?1", given.holder),
     ]
     if any(taken):
-        raise ValueError("the driver is there")
+        raise ValueError("the driver, their key or their holder is already in the archive")
     connection.execute(
         "INSERT INTO drivers (driver, holder, secret, base, name, downloads, entries) VALUES (?1, ?2, ?3, ?4, ?5, 0, 0)",
         (driver, given.holder, key, BASE, "Anna Berg"),
@@ -109,13 +112,14 @@ def register(connection, given):
     return f"registered {driver}"
 
 
-def import_card(connection, given, _):
+def import_card(connection: sqlite3.Connection, given: Given, _: str) -> str:
     """Adds a download and its spans."""
     connection.execute("BEGIN")
     (driver,) = first(connection, "SELECT driver FROM drivers WHERE holder = ?1", given.holder)
     number = first(connection, DRIVER, driver)[4] + 1
-    if any([rows_near(connection, table, *given.range(driver)) for table in ("card_spans", "held")]):
-        raise ValueError("spans near those of the card are there")
+    # Both tables are read, as by the archive, even if the first has rows.
+    if any([rows_near(connection, table, *given.range_of(driver)) for table in ("card_spans", "held")]):
+        raise ValueError("the archive already has spans near those of the card")
     connection.execute("UPDATE drivers SET downloads = ?2 WHERE driver = ?1", (driver, number))
     connection.execute("INSERT INTO downloads (driver, number, part, file) VALUES (?1, ?2, ?3, ?4)", (driver, number, 0, given.file))
     connection.executemany(ADD.format("card_spans"), given.of_driver)
@@ -124,13 +128,13 @@ def import_card(connection, given, _):
     return f"added driver {driver} number {number}"
 
 
-def enter(connection, given, word):
+def enter(connection: sqlite3.Connection, given: Given, argument: str) -> str:
     """Adds entries and their spans."""
-    driver = int(word)
+    driver = int(argument)
     connection.execute("BEGIN")
     number = first(connection, DRIVER, driver)[5] + 1
-    if rows_near(connection, "held", *given.range(driver)):
-        raise ValueError("spans near the hours are there")
+    if rows_near(connection, "held", *given.range_of(driver)):
+        raise ValueError("the archive already has spans near the hours")
     last = number - 1 + len(given.spans)
     connection.execute("UPDATE drivers SET entries = ?2 WHERE driver = ?1", (driver, last))
     connection.executemany(
@@ -142,9 +146,9 @@ def enter(connection, given, word):
     return f"entered {number} to {last}"
 
 
-def withdraw(connection, _, *words):
-    """Marks an entry as withdrawn, and removes its span, which nothing else gives."""
-    driver, number = key = tuple(map(int, words))
+def withdraw(connection: sqlite3.Connection, _: None, *arguments: str) -> str:
+    """Marks an entry as withdrawn, and removes its span, which no card and no other entry gives."""
+    driver, number = key = tuple(map(int, arguments))
     connection.execute("BEGIN")
     first(connection, DRIVER, driver)
     text = "SELECT number, start, past, mark, withdrawn, author, note FROM entry_rows WHERE driver = ?1 AND number = ?2"
@@ -153,44 +157,47 @@ def withdraw(connection, _, *words):
     cards = rows_near(connection, "card_spans", driver, start, past)
     others = connection.execute(KEPT_NEAR, (driver, start, past)).fetchall()
     if cards or others or rows_near(connection, "held", driver, start, past) != [(start, past, mark)]:
-        raise ValueError("other spans near the entry are there")
+        raise ValueError("the archive has other spans near the entry")
     begin = first_start(connection, "held", driver, start, past)
     connection.execute("DELETE FROM held WHERE driver = ?1 AND ?2 <= start AND start < ?3", (driver, begin, past))
     connection.execute("COMMIT")
     return f"withdrawn {number}"
 
 
-def migrate(connection, _):
-    """Carries an archive of schema 1 over, and takes the log into the file."""
-    do_all(connection, CARRY)
+def migrate(connection: sqlite3.Connection, _: None) -> str:
+    """Migrates an archive of schema 1, and writes the log into the file."""
+    do_all(connection, MIGRATE)
     connection.execute("PRAGMA wal_checkpoint(TRUNCATE)").fetchone()
     return "migrated"
 
 
-def settings(connection):
-    """The settings that matter, as SQLite names them."""
+def settings(connection: sqlite3.Connection) -> str:
+    """The settings that matter for the measurements, with SQLite's names."""
     names = ["journal_mode", "synchronous", "locking_mode", "cache_size", "page_size", "foreign_keys", "wal_autocheckpoint"]
     return ", ".join(f"{name} {first(connection, f'PRAGMA {name}')[0]}" for name in names)
 
 
-COMMANDS = {"register": register, "import": import_card, "enter": enter, "withdraw": withdraw, "migrate": migrate}
+COMMANDS: dict[str, Callable[..., str]] = {
+    "register": register, "import": import_card, "enter": enter, "withdraw": withdraw, "migrate": migrate,
+}
 
 
-def answer(connection, line):
-    """The answer to a line: a text, and its status."""
-    words, _, path = line.partition(" < ")
-    name, *words = words.split()
+def answer(connection: sqlite3.Connection, line: str) -> str:
+    """Runs the command of a line. Returns its answer: a text, and the line with its status."""
+    command, _, path = line.partition(" < ")
+    name, *arguments = command.split()
     given = given_at(path) if path else None
     if name == "settings":
         return f"{settings(connection)}\nstatus 0"
-    if not words:
+    if not arguments:
         return "status 2"
-    if words[1:] == ["0"]:
+    if arguments[1:] == ["0"]:
         return "N1 bad number\nstatus 1"
-    return f"{COMMANDS[name](connection, given, *words[1:])}\nstatus 0"
+    return f"{COMMANDS[name](connection, given, *arguments[1:])}\nstatus 0"
 
 
-def main(_, path=None):
+def main(_: str, path: str | None = None) -> None:
+    """Answers the lines of standard input. Arguments: `archive` and the path of a file, or `memory` alone."""
     connection = opened(path)
     print("status 0", flush=True)
     for line in iter(sys.stdin.readline, ""):

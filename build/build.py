@@ -1,11 +1,11 @@
 #!/usr/bin/env python3
-"""Builds the program `tacho`: proves the crates that it stands on by the lines of crates.txt, those that don't wait for one another
-side by side, and then the program's own, which is compiled with them. It reports its progress on standard error. The status is 0
-where the program was built, 3 where it could not be; a signal ends it and all that it has started.
+"""Builds the program `tacho`. It proves the crates that the program depends on (crates.txt lists them), in parallel if they don't depend on
+one another, and then proves and compiles the program's own crate. It reports its progress on standard error. The status is 0 if the program
+was built, and 3 if it could not be built. A signal ends this script and all that it has started.
 
-Libraries hold their statements and not their proofs, as the gate builds them, so that a crate above loads no proof of one below. `rt`
-has no command that builds them so; this script calls the prover as `rt` does. A crate is built again where its files have changed, or
-those of a crate below it, or where the kit is another one."""
+A library is built with its statements but without its proofs, so that the crates that use it load no proofs. `rt` has no command for
+this, so this script calls the prover as `rt` does. A crate is rebuilt if its files, or those of a crate that it depends on, have changed,
+or if the kit is another one."""
 import fcntl
 import hashlib
 import math
@@ -17,21 +17,24 @@ import subprocess
 import sys
 import tempfile
 import time
+from collections.abc import Collection, Mapping, Sequence
+
+Below = Mapping[str, list[str]]  # for each crate the libraries that it uses
 
 TOP = os.path.dirname(os.path.dirname(os.path.realpath(__file__)))
 PROGRAM = "tacho"
 
-# What a crate is built from.
+# The folders of a crate from which it is built.
 PARTS = ("src", "specs", "proofs")
 
-# What one process of a proof takes, with room to spare.
+# The memory that one process of a proof takes, in bytes, with room to spare.
 MEMORY_OF_A_JOB = 3 << 29
 
-# A proof is divided among at most this many processes.
+# The proof of a crate is divided among at most this many processes.
 MOST_JOBS = 4
 
-# Seconds of processor time that each crate took in one process, by which the longest chain of crates is found. A wrong number changes the
-# order of the work and nothing else.
+# The seconds of processor time that each crate took in one process. They serve to find the longest chain of crates: a wrong number changes
+# the order of the work, and nothing else.
 SECONDS = {
     "tacho_time": 105, "tacho_card": 103, "tacho_line": 98, "tacho_law": 32, "tacho_pass": 40, "tacho_driving": 42, "tacho_days": 51,
     "tacho_choice": 24, "tacho_rests": 75, "tacho_rules": 45, "tacho_stretches": 40, "tacho_state": 75, "tacho_sheet": 300,
@@ -39,45 +42,46 @@ SECONDS = {
     "tacho_serve": 42, "tacho_cli": 125, "tacho": 340,
 }
 
-# What a crate without a line there counts.
+# The seconds that are assumed for a crate without an entry in SECONDS.
 USUAL_SECONDS = 100
 
-# How much a crate gives way to each that goes before it, as `nice` counts.
+# The amount added to a crate's `nice` value for each crate at work that is more urgent.
 GIVES_WAY = 5
 
-# After this many seconds without another line it reports what it is working on.
+# The seconds without other output after which the script reports what it is working on.
 SILENCE = 30
 
 
 class Stop(Exception):
-    """Why nothing can be built."""
+    """The reason why the program can't be built."""
 
 
 class Signal(Exception):
     """A signal that ends the building."""
 
 
-# The signals that came.
-received = []
+# The signals received so far. A signal may come at any moment, so its handler only records it here.
+received: list[int] = []
 
 
-def stop_on_signal():
-    """Stops where a signal came. It comes at any moment, and is looked at only where all that was started is known."""
+def stop_on_signal() -> None:
+    """Raises `Signal` if a signal was received. It is called only when every process that was started is known and can be ended."""
     if received:
         raise Signal(received[0])
 
 
-def say(text):
+def say(text: object) -> None:
+    """Prints a line on standard error."""
     print(f"tacho: {text}", file=sys.stderr, flush=True)
 
 
-def spoken(seconds):
-    """A time in words."""
-    minutes, seconds = divmod(int(seconds), 60)
-    return f"{minutes} min {seconds} s" if minutes else f"{seconds} s"
+def duration_text(seconds: float) -> str:
+    """A duration as text, in minutes and seconds."""
+    minutes, rest = divmod(int(seconds), 60)
+    return f"{minutes} min {rest} s" if minutes else f"{rest} s"
 
 
-def lines_of_crates():
+def lines_of_crates() -> dict[str, list[str]]:
     """The crates of crates.txt, each with the libraries that it uses."""
     below = {}
     with open(os.path.join(TOP, "crates.txt"), encoding="utf-8") as file:
@@ -88,8 +92,9 @@ def lines_of_crates():
     return below
 
 
-def needed(below, name, found=None):
-    """A crate and those of the repository that it stands on, each after the crates below it."""
+def needed(below: Below, name: str, found: list[str] | None = None) -> list[str]:
+    """A crate, and the crates of the repository that it depends on. Each comes after those that it depends on. They are appended to `found`
+    if it is given."""
     found = [] if found is None else found
     for library in below[name]:
         if library in below and library not in found:
@@ -99,38 +104,41 @@ def needed(below, name, found=None):
     return found
 
 
-def folder_of(name):
+def folder_of(name: str) -> str:
+    """The path of a crate's folder."""
     return os.path.join(TOP, "crates", name)
 
 
-def files_of(name):
-    """The files that a crate is built from, in order."""
+def files_of(name: str) -> list[str]:
+    """The paths of the files that a crate is built from, sorted."""
     return sorted(os.path.join(folder, file) for part in PARTS
                   for folder, _, files in os.walk(os.path.join(folder_of(name), part)) for file in files)
 
 
-def weights(below, crates):
-    """The work of a crate with the longest chain of crates that wait for it, in seconds."""
-    weight = {}
+def weights(below: Below, crates: Sequence[str]) -> dict[str, int]:
+    """For each crate the seconds of its work and of the longest chain of crates that wait for it."""
+    weight: dict[str, int] = {}
     for name in reversed(crates):
         above = [weight[other] for other in crates if name in below[other]]
         weight[name] = SECONDS.get(name, USUAL_SECONDS) + max(above, default=0)
     return weight
 
 
-def available_memory():
-    """How many bytes are free to be used."""
+def available_memory() -> int:
+    """The memory that is available, in bytes."""
     with open("/proc/meminfo", encoding="utf-8") as file:
-        return int(re.search(r"^MemAvailable:\s*(\d+) kB", file.read(), re.MULTILINE).group(1)) << 10
+        available = re.search(r"^MemAvailable:\s*(\d+) kB", file.read(), re.MULTILINE)
+    assert available is not None
+    return int(available[1]) << 10
 
 
-def room():
-    """How many processes work at a time, by the processors and the memory that there are."""
+def room() -> int:
+    """The number of processes that may work at a time, given the processors and the memory of the machine."""
     return max(1, min(len(os.sched_getaffinity(0)), available_memory() // MEMORY_OF_A_JOB))
 
 
-def try_to_write(crates):
-    """Stops at the first folder that can't be written, before any proof."""
+def try_to_write(crates: Sequence[str]) -> None:
+    """Raises `Stop` if a crate's output folder can't be written. Called before any proof, which would be in vain."""
     for name in crates:
         out = os.path.join(folder_of(name), "out")
         folder = out if os.path.isdir(out) else os.path.dirname(out)
@@ -140,9 +148,10 @@ def try_to_write(crates):
             raise Stop(f"{folder} can't be written ({error.strerror}), and the program is built there") from error
 
 
-def sums(below, crates, kit):
-    """For each crate a sum of all that it is built from: the kit, its line and its files, and the sums of the crates below it."""
-    found = {}
+def sums(below: Below, crates: Sequence[str], kit: str) -> dict[str, str]:
+    """For each crate a checksum of all that it is built from: the kit's name, its line of crates.txt, its files, and the checksums of the
+    crates that it depends on."""
+    found: dict[str, str] = {}
     for name in crates:
         whole = hashlib.sha256(repr((kit, below[name], [found[other] for other in below[name] if other in found])).encode())
         for path in files_of(name):
@@ -153,9 +162,9 @@ def sums(below, crates, kit):
 
 
 class Kit:
-    """The prover and its libraries."""
+    """The Rattle kit: the prover and its libraries."""
 
-    def __init__(self):
+    def __init__(self) -> None:
         if shutil.which("rt") is None:
             raise Stop("the command rt, which says where the kit is, isn't on the path")
         page = subprocess.run(["rt", "doc"], stdin=subprocess.DEVNULL, capture_output=True, text=True, check=False).stdout.strip()
@@ -166,11 +175,12 @@ class Kit:
         except OSError as error:
             raise Stop(f"the kit of the command rt can't be read ({error.strerror})") from error
 
-    def path(self, *parts):
+    def path(self, *parts: str) -> str:
+        """The path of a file in the kit's folder."""
         return os.path.join(self.folder, *parts)
 
-    def words(self, name, below):
-        """What the prover is told of a crate: its root, the libraries that it uses, and where theirs are."""
+    def words(self, name: str, below: Below) -> list[str]:
+        """The arguments by which the prover finds a crate's root, the libraries that it uses, and the libraries that those use."""
         words = ["--crate-name", name, "src/main.rt" if name == PROGRAM else "src/lib.rt"]
         for library in ["std", *below[name]]:
             place = library_of(library) if library in below else self.path("rlibs", f"{library}.rlib")
@@ -180,82 +190,84 @@ class Kit:
         return [*words, "--antt-project", self.path("rattle", "logic", "antt-project.json"), "--logic-built", self.path("logic_built")]
 
 
-def library_of(name):
-    """Where a crate's library is built, apart from those that `rt` builds in that crate."""
+def library_of(name: str) -> str:
+    """The path at which a crate's library is built. It isn't where `rt` builds libraries."""
     return os.path.join(folder_of(name), "out", "statements", f"{name}.rlib")
 
 
-def kept_sum(name):
-    """Where the sum stands that a crate was built from last."""
+def kept_sum(name: str) -> str:
+    """The path of the file with the checksum of what a crate's library was built from."""
     return os.path.join(folder_of(name), "out", "statements", "sum")
 
 
-def is_built(name, wanted):
-    """Whether a crate's library is built from what has this sum."""
+def is_built(name: str, checksum: str) -> bool:
+    """Whether a crate's library was built from sources with this checksum."""
     try:
         with open(kept_sum(name), encoding="utf-8") as file:
-            return file.read() == wanted
+            return file.read() == checksum
     except OSError:
         return False
 
 
-def note(name, made_from):
-    """Notes what a crate's library was built from."""
+def note(name: str, checksum: str) -> None:
+    """Writes down the checksum of what a crate's library was built from."""
     with open(kept_sum(name), "w", encoding="utf-8") as file:
-        file.write(made_from)
+        file.write(checksum)
 
 
-def take_from_gate():
-    """Takes the libraries that `rt ci` has built, whole and from these sources, as if they were built here."""
+def take_from_gate() -> None:
+    """Reuses the libraries that `rt ci` has built from the present sources, as if this script had built them."""
     kit = Kit()
     below = lines_of_crates()
-    wanted = sums(below, needed(below, PROGRAM), kit.name)
-    for name in wanted:
+    checksums = sums(below, needed(below, PROGRAM), kit.name)
+    for name in checksums:
         made = os.path.join(folder_of(name), "out", "rlib", f"{name}.rlib")
-        if name != PROGRAM and os.path.isdir(made) and not is_built(name, wanted[name]):
+        if name != PROGRAM and os.path.isdir(made) and not is_built(name, checksums[name]):
             shutil.rmtree(os.path.dirname(library_of(name)), ignore_errors=True)
             shutil.copytree(made, library_of(name), copy_function=os.link)
-            note(name, wanted[name])
+            note(name, checksums[name])
 
 
 class Work:
-    """A crate that is proved, or the program that is built, at its place."""
+    """A running process that proves a crate, or builds the program."""
 
-    def __init__(self, name, kit, below, wanted, jobs, before):
-        """Begins with a crate, in some processes. It gives way to those crates at work that go before it, so that these have what they can
-        use and it has what they leave."""
+    def __init__(self, name: str, kit: Kit, below: Below, checksum: str, jobs: int, before: int) -> None:
+        """Begins the work on a crate with `jobs` processes. `before` is the number of crates at work that are more urgent: the more there
+        are, the lower is its priority, so that it gets only the processor time that they leave."""
         self.name = name
-        self.wanted = wanted
+        self.checksum = checksum
         self.began = time.monotonic()
         os.makedirs(os.path.dirname(library_of(name)), exist_ok=True)
         if os.path.exists(kept_sum(name)):
             os.remove(kept_sum(name))
         self.log = os.path.join(folder_of(name), "out", "statements", "log")
-        words = ["nice", "-n", str(min(GIVES_WAY * before, 19)), kit.path("bin", "rattle"), "build", *kit.words(name, below)]
-        words += ["--jobs", str(jobs)]
+        command = ["nice", "-n", str(min(GIVES_WAY * before, 19)), kit.path("bin", "rattle"), "build", *kit.words(name, below)]
+        command += ["--jobs", str(jobs)]
         if name == PROGRAM:
-            words += ["--toolchain", kit.path("toolchain"), "--backend", "llvm", "-o", "out/tacho.o"]
+            command += ["--toolchain", kit.path("toolchain"), "--backend", "llvm", "-o", "out/tacho.o"]
         else:
-            words += ["--statements", "-o", library_of(name)]
+            command += ["--statements", "-o", library_of(name)]
         with open(self.log, "wb") as log:
-            # A group of its own, so that a signal ends all of it; and not a session, among which the system would share the processors
-            # first.
-            self.process = subprocess.Popen(words, cwd=folder_of(name), stdin=subprocess.DEVNULL, stdout=log, stderr=log,
+            # A process group of its own, so that a signal ends all its processes. Not a session of its own: the system divides the
+            # processors among sessions first, so `nice` would have no effect between two of them.
+            self.process = subprocess.Popen(command, cwd=folder_of(name), stdin=subprocess.DEVNULL, stdout=log, stderr=log,
                                             preexec_fn=os.setpgrp)
 
-    def ended(self):
+    def ended(self) -> bool:
+        """Whether the process has ended."""
         return self.process.poll() is not None
 
-    def finish(self):
-        """Notes what the crate was built from; or stops where that failed, with the end of what was printed."""
+    def finish(self) -> None:
+        """Writes down what the crate was built from. If the build failed, prints the last lines of its output and raises `Stop`."""
         if self.process.returncode != 0:
             with open(self.log, encoding="utf-8", errors="replace") as log:
                 print("".join(log.readlines()[-20:]), end="", file=sys.stderr)
             raise Stop(f"crates/{self.name} could not be built, for the reason above")
         if self.name != PROGRAM:
-            note(self.name, self.wanted)
+            note(self.name, self.checksum)
 
-    def kill(self):
+    def kill(self) -> None:
+        """Ends the process and all that it has started."""
         try:
             os.killpg(self.process.pid, signal.SIGTERM)
         except ProcessLookupError:
@@ -263,33 +275,35 @@ class Work:
         self.process.wait()
 
 
-def link(kit):
+def link(kit: Kit) -> None:
     """Links the program."""
-    words = [kit.path("bin", "rattle-link"), "--target", "x86_64-unknown-linux-gnu", "--toolchain", kit.path("toolchain"),
-             "-o", "out/tacho", "out/tacho.o", kit.path("c", "libos_c.a"), kit.path("c", "liblibc_c.a")]
-    run = subprocess.run(words, cwd=folder_of(PROGRAM), stdin=subprocess.DEVNULL, stdout=sys.stderr, check=False)
+    command = [kit.path("bin", "rattle-link"), "--target", "x86_64-unknown-linux-gnu", "--toolchain", kit.path("toolchain"),
+               "-o", "out/tacho", "out/tacho.o", kit.path("c", "libos_c.a"), kit.path("c", "liblibc_c.a")]
+    run = subprocess.run(command, cwd=folder_of(PROGRAM), stdin=subprocess.DEVNULL, stdout=sys.stderr, check=False)
     if run.returncode != 0:
         raise Stop("the program could not be linked, for the reason above")
 
 
-def tell(done, crates, at_work):
-    """Reports how far it is."""
-    what = ", ".join(f"{work.name} ({spoken(time.monotonic() - work.began)} so far)" for work in at_work)
+def report_progress(done: Collection[str], crates: Sequence[str], at_work: Sequence[Work]) -> None:
+    """Reports how many crates are proved, and which are at work."""
+    what = ", ".join(f"{work.name} ({duration_text(time.monotonic() - work.began)} so far)" for work in at_work)
     say(f"{len(done)} of {len(crates)} crates proved, now {what}")
 
 
-def jobs_among(crates):
-    """In how many processes a crate is proved where so many can be worked on. Each further process makes the work a quarter more. So there
-    is one where there are as many crates as processors; where there are fewer, one more than its share, for when others end."""
+def jobs_among(crates: int) -> int:
+    """The number of processes for a crate if `crates` crates can be worked on. Each further process adds a quarter to the work. So a crate
+    gets one process if there are at least as many crates as processes may work. Otherwise it gets its share and one more, which is of use
+    when other crates end."""
     processes = room()
     return 1 if crates >= processes else min(MOST_JOBS, math.ceil(processes / crates) + 1)
 
 
-def build(kit, below, crates, at_work):
-    """Works on the crates, as many at a time as there are processors: first those with the longest chain of crates after them."""
+def build(kit: Kit, below: Below, crates: Sequence[str], at_work: list[Work]) -> None:
+    """Builds the crates, as many at a time as `room` allows, and links the program. The crates with the longest chain of crates that wait
+    for them come first. `at_work` always contains the processes that are running."""
     weight = weights(below, crates)
-    wanted = sums(below, crates, kit.name)
-    done = {name for name in crates if name != PROGRAM and is_built(name, wanted[name])}
+    checksums = sums(below, crates, kit.name)
+    done = {name for name in crates if name != PROGRAM and is_built(name, checksums[name])}
     waiting = sorted((name for name in crates if name not in done), key=lambda name: -weight[name])
     spoke = time.monotonic()
     while waiting or at_work:
@@ -300,7 +314,7 @@ def build(kit, below, crates, at_work):
             name = ready.pop(0)
             waiting.remove(name)
             before = sum(weight[work.name] > weight[name] for work in at_work)
-            at_work.append(Work(name, kit, below, wanted[name], jobs, before))
+            at_work.append(Work(name, kit, below, checksums[name], jobs, before))
             begun = True
         ended = [work for work in at_work if work.ended()]
         for work in ended:
@@ -308,7 +322,7 @@ def build(kit, below, crates, at_work):
             work.finish()
             done.add(work.name)
         if at_work and (begun or time.monotonic() - spoke >= SILENCE):
-            tell(done, crates, at_work)
+            report_progress(done, crates, at_work)
             spoke = time.monotonic()
         if not ended:
             time.sleep(0.2)
@@ -316,8 +330,9 @@ def build(kit, below, crates, at_work):
     link(kit)
 
 
-def locked(crates):
-    """Keeps other commands out of the crates' folders, as `rt` itself does, until the files are closed."""
+def locked(crates: Sequence[str]) -> list[int]:
+    """Locks the crates' folders against other commands, as `rt` itself does. Returns the file descriptors. Closing them releases the
+    locks."""
     folders = [os.open(folder_of(name), os.O_RDONLY) for name in sorted(crates)]
     for number, folder in enumerate(folders):
         said = False
@@ -327,14 +342,15 @@ def locked(crates):
                 break
             except BlockingIOError:
                 if not said:
-                    say(f"waiting for another command that works on {sorted(crates)[number]} to end")
+                    say(f"waiting for another command to finish with {sorted(crates)[number]}")
                 said = True
                 time.sleep(0.2)
                 stop_on_signal()
     return folders
 
 
-def run():
+def run() -> None:
+    """Builds the program. Raises `Stop` if that isn't possible."""
     if not os.path.exists(os.path.join(TOP, "crates.txt")):
         raise Stop(f"crates.txt isn't beside the script, in {TOP}")
     kit = Kit()
@@ -342,7 +358,7 @@ def run():
     crates = needed(below, PROGRAM)
     try_to_write(crates)
     folders = locked(crates)
-    at_work = []
+    at_work: list[Work] = []
     began = time.monotonic()
     try:
         build(kit, below, crates, at_work)
@@ -351,10 +367,11 @@ def run():
             work.kill()
         for folder in folders:
             os.close(folder)
-    say(f"built in {spoken(time.monotonic() - began)}")
+    say(f"built in {duration_text(time.monotonic() - began)}")
 
 
-def main():
+def main() -> int:
+    """Builds the program, and returns the status of this script."""
     for number in (signal.SIGHUP, signal.SIGINT, signal.SIGTERM):
         signal.signal(number, lambda number, _: received.append(number))
     try:

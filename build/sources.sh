@@ -1,24 +1,24 @@
-# What the program `tacho` is built from, for scripts at the repository's top.
+# Finds what the program `tacho` is built from. Scripts source this file, and call its functions in the root of the repository.
 
-# The crates that the program stands on and its own, by the lines of crates.txt.
+# Prints the folders of the program's crate and of the crates that it depends on, as crates.txt lists them.
 crates() {
     awk '
-        function tell(name, words, count, i) {
-            if (!(name in below) || name in told)
+        function list(name, libraries, count, i) {
+            if (!(name in below) || name in listed)
                 return
-            told[name]
+            listed[name]
             print "crates/" name
-            count = split(below[name], words)
+            count = split(below[name], libraries)
             for (i = 1; i <= count; i++)
-                tell(words[i])
+                list(libraries[i])
         }
         { sub(/#.*/, "") }
         split($0, sides, ":") == 2 { split(sides[1], heads); below[heads[1]] = sides[2] }
-        END { tell("tacho") }
+        END { list("tacho") }
     ' crates.txt
 }
 
-# A sum of crates.txt and of all that the program is built from, with the files' names.
+# Prints a checksum of crates.txt and of all files that the program is built from, including their names.
 sum_of_sources() {
     # shellcheck disable=SC2046
     set -- $(crates)

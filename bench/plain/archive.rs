@@ -1,5 +1,5 @@
-//! What an archive does with drivers, card files and hours, in plain Rust over stock SQLite: the statements of the program in the same
-//! transactions. What is refused gives nothing.
+//! Adds drivers, card files and hours to an archive, in plain Rust over stock SQLite. Runs the statements of the program, in the same
+//! transactions. A function returns `None` if its request is refused or SQLite fails.
 use crate::line::{self, Span};
 use crate::sqlite::{Database, Row, Value, Value::*};
 use crate::{dump, entries};
@@ -51,14 +51,14 @@ const DELETE_HELD: &str = "DELETE FROM held WHERE driver = ?1 AND ?2 <= start AN
 const AUTHOR: &str = "office";
 const BOTH: u32 = 0; // the part of a card file that is kept
 
-/// How many rows an INSERT adds: one; or eight spans, or four entries, while there are so many left.
+/// How many rows one INSERT adds: one (`One`); or eight spans or four entries, while at least that many remain (`Many`).
 #[derive(Clone, Copy)]
 pub enum Insert {
     One,
     Many,
 }
 
-/// The statements that add one row of a driver, and so many of them.
+/// The statements that add rows of a driver: `one` adds a single row, `many` adds `count` rows.
 struct Adding {
     one: &'static str,
     many: &'static str,
@@ -96,24 +96,24 @@ fn mark_number(span: &Span) -> u32 {
     u32::from(span.mark.0) + 4 * u32::from(span.mark.1)
 }
 
-/// The first minute and the one behind the last.
+/// The first minute of spans in order, and the minute after their last; two zeros if there are no spans.
 fn range_of(spans: &[Span]) -> (u32, u32) {
     spans.first().zip(spans.last()).map_or((0, 0), |(first, last)| (first.start, last.past))
 }
 
-/// Where the first span of a table near a range begins.
+/// The minute from which a table's spans near a range begin: the start of the span that holds `start`, else `start` itself.
 pub fn first_start(archive: &mut Database, last_before: &'static str, driver: u32, start: u32) -> Option<u32> {
     let before = archive.rows(last_before, &[Number(driver), Number(start)], span_of)?.pop();
     Some(before.filter(|span| start < span.past).map_or(start, |span| span.start))
 }
 
-/// The spans of a table near a range.
+/// The spans of a table that share a minute with a range, in order.
 fn near(archive: &mut Database, statements: [&'static str; 2], driver: u32, start: u32, past: u32) -> Option<Vec<Span>> {
     let begin = first_start(archive, statements[0], driver, start)?;
     archive.rows(statements[1], &[Number(driver), Number(begin), Number(past)], span_of)
 }
 
-/// Adds rows of a driver, each by its values after the driver's number.
+/// Adds rows of a driver. `values_of` returns the values of a row after the driver's number.
 fn add<T, const COUNT: usize>(
     archive: &mut Database,
     adding: Adding,
@@ -153,7 +153,7 @@ fn day_of(date: &str) -> Option<u32> {
     Some(entries::day_number(year, month, day))
 }
 
-/// Adds the driver of a text without quotes: its head, and one row.
+/// Adds the driver of a CSV text without quotes: a header line and one row.
 pub fn register(archive: &mut Database, text: &[u8]) -> Option<String> {
     let row = str::from_utf8(text).ok()?.strip_prefix("driver,holder,key,base,name\n")?.strip_suffix('\n')?;
     let fields: Vec<&str> = row.split(',').collect();
@@ -173,7 +173,7 @@ pub fn register(archive: &mut Database, text: &[u8]) -> Option<String> {
 
 // Card files
 
-/// The holder that a card file names, and the spans of its activity data.
+/// The holder of a card file, and the spans of its activity data.
 fn card_of(mut file: &[u8]) -> Option<(&[u8], Vec<Span>)> {
     let (mut holder, mut spans) = (None, Vec::new());
     while !file.is_empty() {
@@ -192,7 +192,7 @@ fn card_of(mut file: &[u8]) -> Option<(&[u8], Vec<Span>)> {
     Some((holder?, spans.collect()))
 }
 
-/// Adds a card file and what it tells, and says whether it tells anything new.
+/// Adds a card file and its spans. Returns whether the file gave any new span, and the text to print.
 pub fn import(archive: &mut Database, file: &[u8], insert: Insert) -> Option<(bool, String)> {
     let (holder, spans) = card_of(file)?;
     let (start, past) = range_of(&spans);
@@ -216,7 +216,7 @@ pub fn import(archive: &mut Database, file: &[u8], insert: Insert) -> Option<(bo
 
 // Hours
 
-/// Enters the hours of a text of CSV for a driver.
+/// Enters the hours of a CSV text for a driver.
 pub fn enter(archive: &mut Database, driver: u32, text: &[u8], insert: Insert) -> Option<String> {
     let lines = entries::lines_of(text).ok()?;
     let spans: Vec<_> = lines.iter().map(|line| Span { start: line.start, past: line.past, mark: (line.activity as u8, false) }).collect();
@@ -237,7 +237,8 @@ pub fn enter(archive: &mut Database, driver: u32, text: &[u8], insert: Insert) -
     })
 }
 
-/// The rows that come where an entry was: parts of what is held outside it, and inside it what cards and other entries give.
+/// The rows that replace those near a withdrawn entry. Outside the entry they keep what is held; inside it they are what cards and
+/// other entries give.
 fn rows_for(entry: &Span, given: &[Span], helds: &[Span]) -> Option<Vec<Span>> {
     let inside = |span: &Span| Span { start: span.start.max(entry.start), past: span.past.min(entry.past), ..*span };
     let mut rows = line::canonical(&given.iter().map(inside).collect::<Vec<_>>()).ok()?;

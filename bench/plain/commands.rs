@@ -1,6 +1,6 @@
-//! What `tool_script` does of four commands at an archive, in plain Rust over std and stock SQLite: it takes the same words and lines,
-//! and answers the same where a command is done. After the word `many` an INSERT adds eight spans or four entries, not one, while there are
-//! so many left.
+//! Runs four of `tool_script`'s commands on an archive, in plain Rust over std and stock SQLite. It takes the same arguments and lines,
+//! and answers a command that succeeds in the same way. If the first argument is `many`, an INSERT adds eight spans or four entries, not
+//! one, while at least that many remain.
 #![allow(dead_code)]
 use std::env;
 use std::fs;
@@ -30,7 +30,7 @@ const SETTINGS: [(&str, &str); 7] = [
     ("wal_autocheckpoint", "PRAGMA wal_autocheckpoint"),
 ];
 
-/// The archive of a file or, by SQLite's own name for it, of memory. It is made where it isn't there.
+/// Opens the archive in a file, or in memory if the path is `:memory:`. Creates the tables if there are none.
 fn opened(path: &str) -> Database {
     let mut archive = Database::open(path);
     if archive.rows("SELECT name FROM sqlite_schema", &[], |_| ()).unwrap().is_empty() {
@@ -41,16 +41,16 @@ fn opened(path: &str) -> Database {
 }
 
 fn settings(archive: &mut Database) -> String {
-    let told = SETTINGS.map(|(name, statement)| format!("{name} {}", archive.rows(statement, &[], |row| row.text(0)).unwrap()[0]));
-    told.join(", ") + "\n"
+    let values = SETTINGS.map(|(name, statement)| format!("{name} {}", archive.rows(statement, &[], |row| row.text(0)).unwrap()[0]));
+    values.join(", ") + "\n"
 }
 
-/// The text and the status that a line gives.
-fn told_of(archive: &mut Database, insert: Insert, line: &str) -> (String, u8) {
-    let (words, path) = line.split_once(" < ").unwrap_or((line, "/dev/null"));
-    let words: Vec<&str> = words.split(' ').collect();
+/// Runs the command of a line. Returns the text to print, and the status.
+fn answer_to(archive: &mut Database, insert: Insert, line: &str) -> (String, u8) {
+    let (arguments, path) = line.split_once(" < ").unwrap_or((line, "/dev/null"));
+    let arguments: Vec<&str> = arguments.split(' ').collect();
     let input = fs::read(path).unwrap();
-    match words[..] {
+    match arguments[..] {
         ["settings"] => (settings(archive), 0),
         ["register", _] => status_of(archive::register(archive, &input)),
         ["import", _, "both"] => status_of(archive::import(archive, &input, insert).map(|(_, text)| text)),
@@ -67,13 +67,13 @@ fn told_of(archive: &mut Database, insert: Insert, line: &str) -> (String, u8) {
 }
 
 fn main() {
-    let words: Vec<String> = env::args().skip(1).collect();
-    let words: Vec<&str> = words.iter().map(String::as_str).collect();
-    let (insert, words) = words.strip_prefix(&["many"]).map_or((Insert::One, &words[..]), |words| (Insert::Many, words));
-    let archive = match *words {
+    let arguments: Vec<String> = env::args().skip(1).collect();
+    let arguments: Vec<&str> = arguments.iter().map(String::as_str).collect();
+    let (insert, arguments) = arguments.strip_prefix(&["many"]).map_or((Insert::One, &arguments[..]), |rest| (Insert::Many, rest));
+    let archive = match *arguments {
         ["archive", path] => opened(path),
         ["memory"] => opened(":memory:"),
-        _ => panic!("the words are: archive FILE, or memory, after many or not"),
+        _ => panic!("the arguments are: [many] archive FILE, or [many] memory"),
     };
-    script::answer_lines(archive, |archive, line| told_of(archive, insert, line));
+    script::answer_lines(archive, |archive, line| answer_to(archive, insert, line));
 }

@@ -1,11 +1,11 @@
-//! What `tacho dump` does, in plain Rust over std alone and written for speed: digits are put by hand, a day's text is
-//! made once a day, and each buffer has its size from the start.
+//! Does what `tacho dump` does, in plain Rust over std alone. It is written for speed: it writes digits without `format!`, formats
+//! each date only once while the day stays the same, and allocates each buffer at its full size.
 use std::io::{self, Read, Write};
 use std::process::ExitCode;
 
 const LIMIT: usize = 65_535;
 
-/// The end of a line by the mark: twice the activity, and one more for crew.
+/// The end of a line, indexed by the mark: twice the activity, plus one for crew.
 const MARKS: [&str; 8] = [
     " rest single\n",
     " rest crew\n",
@@ -17,7 +17,7 @@ const MARKS: [&str; 8] = [
     " drive crew\n",
 ];
 
-/// The bytes of the longest line.
+/// The length of the longest line, in bytes.
 const LINE: usize = "2023-01-12 00:00 2023-01-12 04:59 available single\n".len();
 
 #[derive(Clone, Copy)]
@@ -76,7 +76,7 @@ fn mark_of(word: u16) -> Option<u8> {
     }
 }
 
-/// Appends a span, if it has a minute and a mark.
+/// Appends a span, unless it is empty or has no mark.
 fn push(spans: &mut Vec<Span>, start: u32, past: u32, mark: Option<u8>) {
     if let Some(mark) = mark {
         if start < past {
@@ -95,7 +95,8 @@ pub fn spans_of(value: &[u8]) -> Result<Vec<Span>, Fault> {
     if oldest >= size || newest >= size {
         return Err(Fault::Pointer);
     }
-    // The ring from the oldest record on, so that no record comes round, and its first bytes again for a length that does.
+    // The ring, rotated so that the oldest record comes first and no record wraps around. The first four bytes are repeated at the end,
+    // because a record's length field may still wrap.
     let mut bytes = Vec::with_capacity(size + 4);
     bytes.extend_from_slice(&ring[oldest..]);
     bytes.extend_from_slice(&ring[..oldest]);
@@ -141,7 +142,7 @@ pub fn spans_of(value: &[u8]) -> Result<Vec<Span>, Fault> {
     }
 }
 
-/// Puts the spans in order, and joins those that touch with one mark.
+/// Sorts the spans, and joins those that touch and have the same mark.
 pub fn put_in_order(spans: &mut Vec<Span>) -> Result<(), Fault> {
     spans.sort_unstable_by_key(|span| span.start);
     let mut conflict = None;
@@ -162,7 +163,7 @@ pub fn put_in_order(spans: &mut Vec<Span>) -> Result<(), Fault> {
     }
 }
 
-/// The date with a day number (Howard Hinnant's `civil_from_days`).
+/// The year, month and day of a day number (Howard Hinnant's `civil_from_days`).
 fn civil(day: u32) -> (u32, u32, u32) {
     let z = day + 719_468;
     let era = z / 146_097;
@@ -174,7 +175,7 @@ fn civil(day: u32) -> (u32, u32, u32) {
     (yoe + era * 400 + u32::from(month <= 2), month, doy - (153 * mp + 2) / 5 + 1)
 }
 
-/// The two digits of each number below 100.
+/// The two decimal digits of each number below 100.
 const PAIRS: [[u8; 2]; 100] = {
     let mut pairs = [[b'0'; 2]; 100];
     let mut number = 0;
@@ -189,7 +190,7 @@ fn pair(number: u32) -> [u8; 2] {
     PAIRS[number as usize]
 }
 
-/// The text of a day's first minute.
+/// The first minute of a day, as text.
 fn midnight_text(day: u32) -> [u8; 16] {
     let (year, month, day) = civil(day);
     let ([y1, y2], [y3, y4]) = (pair(year / 100), pair(year % 100));
@@ -197,7 +198,7 @@ fn midnight_text(day: u32) -> [u8; 16] {
     [y1, y2, y3, y4, b'-', m1, m2, b'-', d1, d2, b' ', b'0', b'0', b':', b'0', b'0']
 }
 
-/// Lines as they are put together. The text of a day is kept while the day is the same.
+/// Lines of output. The text of the last date is kept, because the next minute mostly has the same date.
 pub struct Lines {
     pub text: Vec<u8>,
     day: u32,
@@ -229,7 +230,7 @@ impl Lines {
     }
 }
 
-/// The lines of what a value's bytes give.
+/// The lines that `tacho dump` prints for activity data.
 fn lines_of(value: &[u8]) -> Result<Vec<u8>, Fault> {
     if value.len() > LIMIT {
         return Err(Fault::TooLarge);

@@ -1,18 +1,18 @@
-//! What the reader of entered hours does, in plain Rust over std alone and written for speed: a row of two times and a word
-//! without quotes is read where it stands; any other has its fields copied first.
+//! Reads entered hours from CSV, in plain Rust over std alone. It is written for speed: it reads a row of two times and an activity
+//! in place if the row has no quotes, and copies the fields of any other row first.
 use std::env;
 use std::io::{self, Read, Write};
 
-/// A mark that programs put before a text.
+/// The byte order mark, which some programs put before a text.
 const MARK: &[u8] = b"\xef\xbb\xbf";
 
-/// How many minutes a line has at the most.
+/// The most minutes that a line may have.
 const LONGEST: u32 = 527_040;
 
-/// The bytes of a time.
+/// The length of a time, in bytes.
 const TIME: usize = "2024-03-04 00:00".len();
 
-/// The bytes of a row before its word.
+/// The length of a row up to its activity, in bytes.
 const ROW: usize = 2 * TIME + 2;
 
 #[derive(Clone, Copy, PartialEq, Eq)]
@@ -53,7 +53,7 @@ impl Fault {
     }
 }
 
-/// The number of a date's day (Howard Hinnant's `days_from_civil`).
+/// The day number of a date (Howard Hinnant's `days_from_civil`).
 pub fn day_number(year: u32, month: u32, day: u32) -> u32 {
     let year = year - u32::from(month <= 2);
     let (era, yoe) = (year / 400, year % 400);
@@ -70,7 +70,7 @@ pub fn days_in_month(year: u32, month: u32) -> u32 {
     }
 }
 
-/// The minute of a time, from 2000-01-03 00:00 to 2099-12-31 23:59.
+/// The minute of a time from 2000-01-03 00:00 to 2099-12-31 23:59, or `None`.
 fn minute_of(text: &[u8]) -> Option<u32> {
     if text.len() != TIME || text[4] != b'-' || text[7] != b'-' || text[10] != b' ' || text[13] != b':' {
         return None;
@@ -96,7 +96,7 @@ fn minute_of(text: &[u8]) -> Option<u32> {
     (number >= 10_959).then_some(1440 * number + 60 * hour + minute)
 }
 
-/// A line of two minutes and a word, after a line that ends at `before`.
+/// Checks a line of two minutes and an activity. The line before it ends at `before`.
 fn line_of(before: u32, start: u32, past: u32, word: &[u8]) -> Result<Line, Fault> {
     if start >= past || start < before {
         return Err(Fault::Order);
@@ -115,7 +115,7 @@ fn line_of(before: u32, start: u32, past: u32, word: &[u8]) -> Result<Line, Faul
     Ok(Line { start, past, activity })
 }
 
-/// The fields of the record at a place, one behind the other, and where each ends.
+/// The fields of a record, one after the other, and where each ends.
 #[derive(Default)]
 struct Record {
     bytes: Vec<u8>,
@@ -123,7 +123,7 @@ struct Record {
 }
 
 impl Record {
-    /// Reads the record at a place, and gives the place behind it.
+    /// Reads the record at a place. Returns the place after it.
     fn read(&mut self, text: &[u8], mut place: usize) -> usize {
         self.bytes.clear();
         self.ends.clear();
@@ -143,7 +143,7 @@ impl Record {
         }
     }
 
-    /// Reads a field's quoted part behind its quote, and gives the place behind it.
+    /// Reads the quoted part of a field, from the place after its opening quote. Returns the place after its closing quote.
     fn read_quoted(&mut self, text: &[u8], mut place: usize) -> usize {
         while place < text.len() {
             if text[place] == b'"' {
@@ -166,7 +166,8 @@ impl Record {
     }
 }
 
-/// The minutes and the word of the row at a place and the place behind it, if it is two times and a word without quotes.
+/// The two minutes and the activity of the row at a place, and the place after the row. `None` if the row has quotes, or isn't two
+/// times and one more field.
 fn plain_row(text: &[u8], place: usize) -> Option<(u32, u32, &[u8], usize)> {
     let row = &text[place..];
     if row.len() < ROW || row[TIME] != b',' || row[ROW - 1] != b',' {
@@ -181,7 +182,7 @@ fn plain_row(text: &[u8], place: usize) -> Option<(u32, u32, &[u8], usize)> {
     }
 }
 
-/// The line of a record, after a line that ends at `before`.
+/// Checks the line of a record. The line before it ends at `before`.
 fn line_of_record(before: u32, record: &Record) -> Result<Line, Fault> {
     let [start, past, word] = record.three().ok_or(Fault::Fields)?;
     match (minute_of(start), minute_of(past)) {
@@ -190,12 +191,12 @@ fn line_of_record(before: u32, record: &Record) -> Result<Line, Fault> {
     }
 }
 
-/// The place of the next record, behind ends of lines.
+/// The place of the next record: skips line ends.
 fn next_record(text: &[u8], place: usize) -> usize {
     place + text[place..].iter().take_while(|byte| matches!(byte, b'\r' | b'\n')).count()
 }
 
-/// The lines of a text, or its first fault and the row.
+/// The lines of a CSV text, or its first fault and the number of its row.
 pub fn lines_of(text: &[u8]) -> Result<Vec<Line>, (Fault, u64)> {
     let text = text.strip_prefix(MARK).unwrap_or(text);
     let mut record = Record::default();
@@ -216,8 +217,8 @@ pub fn lines_of(text: &[u8]) -> Result<Vec<Line>, (Fault, u64)> {
         }
         row += 1;
         let line = match plain_row(text, place) {
-            Some((start, past, word, behind)) => {
-                place = behind;
+            Some((start, past, word, after)) => {
+                place = after;
                 line_of(before, start, past, word)
             }
             None => {

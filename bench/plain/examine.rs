@@ -1,12 +1,11 @@
-//! What `tool_bench examine` does, in plain Rust over std alone: it makes a line of working days, and examines it for
-//! breaches of the rules on driving and rest hours and for weekly rests that are owed, in one pass. docs/RULES.md has the
-//! rules.
+//! Does what `tool_bench examine` does, in plain Rust over std alone. It makes a timeline of working days, and examines it in one pass
+//! for breaches of the rules on driving and rest, and for debts. docs/RULES.md has the rules.
 use std::hint::black_box;
 use std::mem;
 
 const START: u32 = 15_780_960; // 2000-01-03 00:00
 const LAST: u32 = 68_374_080; // 2100-01-01 00:00
-const FAR: u32 = u32::MAX; // where the last rest ends
+const FAR: u32 = u32::MAX; // the end of the last rest, which has none
 const DAY: u32 = 1440;
 pub const WEEK: u32 = 7 * DAY;
 const FIRST_MONDAY: u32 = 4 * DAY;
@@ -26,7 +25,7 @@ pub enum Activity {
     Drive,
 }
 
-/// What is done from one minute to before another, alone or with a second driver.
+/// An activity from the minute `start` to before the minute `past`, alone or with a second driver.
 #[derive(Clone, Copy)]
 pub struct Span {
     pub start: u32,
@@ -84,7 +83,7 @@ pub fn week_start(week: u32) -> u32 {
     FIRST_MONDAY + WEEK * week
 }
 
-/// Driving minutes as they come, and the first above a limit.
+/// A sum of driving minutes, the first of them, and the first one above a limit.
 struct Driving {
     limit: u32,
     minutes: u32,
@@ -116,7 +115,7 @@ impl Driving {
     }
 }
 
-/// What is driven since the last complete break.
+/// The driving since the last complete break.
 struct Stretch {
     driving: Driving,
     has_first_part: bool,
@@ -137,7 +136,7 @@ impl Stretch {
     }
 }
 
-/// A duty day as it comes.
+/// The current duty day.
 struct Day {
     start: u32,
     driving: Driving,
@@ -151,7 +150,7 @@ impl Day {
     }
 }
 
-/// The duty day, and what is counted over the days before it.
+/// The current duty day, and what is counted over the days before it.
 struct Days {
     day: Day,
     week: u32,
@@ -166,7 +165,7 @@ impl Days {
         self.day.usual_driving.add(start, past);
     }
 
-    /// Begins a day, behind a daily rest.
+    /// Begins a day after a daily rest.
     fn begin(&mut self, rest: &Rest) {
         if rest.minutes() >= WEEKLY_REST {
             self.weekly_rest_end = rest.past;
@@ -204,7 +203,7 @@ impl Days {
     }
 }
 
-/// The driving of a week, of it and the week before, and of it and the next.
+/// The driving of a week, of that week and the week before, and of that week and the next.
 struct Weeks {
     week: u32,
     driving: Driving,
@@ -241,7 +240,8 @@ impl Weeks {
     }
 }
 
-/// A rest of nine hours or more, and what of it is kept or pays debts.
+/// A rest of nine hours or more. `used` counts the minutes that the rules need for the rest itself, and those that
+/// compensate for debts.
 #[derive(Clone, Copy)]
 struct Rest {
     start: u32,
@@ -259,7 +259,7 @@ impl Rest {
     }
 }
 
-/// The rules as they go along a line, and the rests of nine hours or more.
+/// The state of the rules that are checked along the line, and the rests of nine hours or more so far.
 struct Pass {
     stretch: Stretch,
     days: Days,
@@ -305,7 +305,7 @@ impl Pass {
     }
 }
 
-/// Adds the breaches of weekly rests that start more than six days after the last.
+/// Adds the breaches of weekly rests that start more than six days after the weekly rest before them.
 fn add_late_rests(weekly: &[Rest], breaches: &mut Vec<Breach>) {
     for pair in weekly.windows(2) {
         let (since, latest) = (pair[0].past, pair[0].past + SIX_DAYS);
@@ -315,30 +315,31 @@ fn add_late_rests(weekly: &[Rest], breaches: &mut Vec<Breach>) {
     }
 }
 
-/// A way to count the rests so far, each in one week, as a number below twelve: how many the last week has, two for more;
-/// whether one of them is regular; and whether the rest that goes on behind that week isn't counted yet.
+/// The code, below twelve, of a way to count the weekly rests so far, each in one week. It encodes how many rests are counted in the last
+/// week (two if there are more), whether one of them is regular, and whether the rest that continues after that week is still uncounted.
 fn way_of(rests: &[Rest], is_open: bool) -> u32 {
     let has_regular = rests.iter().any(|rest| rest.minutes() >= REGULAR_WEEKLY_REST);
     4 * rests.len().min(2) as u32 + 2 * u32::from(has_regular) + u32::from(is_open)
 }
 
-/// Some ways are a number with a bit for each of them. Here that is the one in which nothing is counted yet.
-const ANEW: u32 = 1 << 1;
+/// The set of ways at the start of the counting: only the way in which nothing is counted yet. A set of ways has bit n set if it has
+/// the way with code n.
+const NOTHING_COUNTED: u32 = 1 << 1;
 
-/// The ways on behind a week, by the weekly rests that have minutes in it, where it and the week before need two rests, one
-/// of them regular, or ask for nothing.
-fn ways_behind(mut ways: u32, near: &[Rest], week: u32, asks: bool) -> u32 {
+/// The set of ways after a week, given those before it. `near` are the weekly rests that have minutes in the week. If `is_required`, the
+/// week and the week before need two rests, one of them regular; otherwise every way is kept.
+fn ways_after(mut ways: u32, near: &[Rest], week: u32, is_required: bool) -> u32 {
     let enters = near.first().is_some_and(|rest| rest.start < week_start(week));
-    let mut behind = 0;
+    let mut after = 0;
     while ways != 0 {
         let way = ways.trailing_zeros();
         ways &= ways - 1;
         let is_counted = enters && way & 1 == 0;
         let free = &near[usize::from(is_counted)..];
         let mut add = |rests, is_open| {
-            let on = way_of(rests, is_open);
-            if !asks || way / 4 + on / 4 >= 2 && (way | on) & 2 != 0 {
-                behind |= 1 << on;
+            let next = way_of(rests, is_open);
+            if !is_required || way / 4 + next / 4 >= 2 && (way | next) & 2 != 0 {
+                after |= 1 << next;
             }
         };
         add(free, false);
@@ -348,13 +349,13 @@ fn ways_behind(mut ways: u32, near: &[Rest], week: u32, asks: bool) -> u32 {
             }
         }
     }
-    behind
+    after
 }
 
-/// Adds the breaches of weeks up to which the weekly rests, each counted in one week, aren't enough for each two
-/// neighbouring weeks: two rests, one of them regular. From each of these weeks on they are counted anew.
+/// Adds the breaches of the weeks at which no way to count the weekly rests is left. Each rest is counted in one week, and each two
+/// neighbouring weeks need two rests, one of them regular. The counting starts again with such a week.
 fn add_lacking_rests(weekly: &[Rest], base: u32, horizon: u32, breaches: &mut Vec<Breach>) {
-    let (mut first, mut ways, mut was_at_rest) = (0, ANEW, true);
+    let (mut first, mut ways, mut was_at_rest) = (0, NOTHING_COUNTED, true);
     for week in week_of(base).. {
         let (start, end) = (week_start(week), week_start(week + 1));
         if horizon < end {
@@ -366,17 +367,17 @@ fn add_lacking_rests(weekly: &[Rest], base: u32, horizon: u32, breaches: &mut Ve
         let count = weekly[first..].iter().take_while(|rest| rest.start < end).count();
         let near = &weekly[first..first + count];
         let is_at_rest = near.iter().any(|rest| rest.start <= start && end <= rest.past);
-        ways = ways_behind(ways, near, week, !was_at_rest && !is_at_rest);
+        ways = ways_after(ways, near, week, !was_at_rest && !is_at_rest);
         if ways == 0 {
             breaches.push(Breach { kind: Kind::B9, moment: end, since: week_start(week - 1), amount: 0 });
-            ways = ways_behind(ANEW, near, week, false);
+            ways = ways_after(NOTHING_COUNTED, near, week, false);
         }
         was_at_rest = is_at_rest;
     }
 }
 
-/// The places of the main rests of the weeks: of the rests that start in a week and have 24 hours before the horizon the
-/// longest there, and the first of equals.
+/// The indices of the main rests of the weeks. The main rest of a week is the one with the most minutes before the horizon, among those
+/// that start in the week and have at least 24 hours before the horizon. If several are equal, it is the first.
 fn main_rests(rests: &[Rest], horizon: u32) -> Vec<usize> {
     let mut mains: Vec<usize> = Vec::new();
     for (place, rest) in rests.iter().enumerate().skip(1) {
@@ -396,7 +397,8 @@ fn main_rests(rests: &[Rest], horizon: u32) -> Vec<usize> {
     mains
 }
 
-/// The debts of the weeks whose main rests are too short. Each is paid by the first later rest that has room for it.
+/// The debts of the weeks whose main rests are too short. Each is compensated by the first later rest that has enough
+/// unused minutes before the deadline and the horizon.
 fn debts_of(rests: &mut [Rest], horizon: u32) -> Vec<Debt> {
     let mains = main_rests(rests, horizon);
     for &main in &mains {
@@ -424,7 +426,7 @@ fn debts_of(rests: &mut [Rest], horizon: u32) -> Vec<Debt> {
     debts
 }
 
-/// Adds the breaches of debts that nothing pays and whose deadline has come.
+/// Adds the breaches of debts that no rest compensates, and whose deadline isn't after the horizon.
 fn add_overdue(debts: &[Debt], horizon: u32, breaches: &mut Vec<Breach>) {
     for debt in debts {
         if debt.paid_by.is_none() && debt.deadline <= horizon {
@@ -434,7 +436,7 @@ fn add_overdue(debts: &[Debt], horizon: u32, breaches: &mut Vec<Breach>) {
     }
 }
 
-/// The report of a line from a base, the first minute of a Monday.
+/// Examines a line from a base, which is the first minute of a Monday.
 pub fn examine(line: &[Span], base: u32) -> Report {
     let mut pass = Pass::from(base);
     let (mut horizon, mut cause, mut rest_from) = (base, Cause::Unknown, 0);
@@ -470,13 +472,13 @@ pub fn examine(line: &[Span], base: u32) -> Report {
     Report { horizon, cause, breaches, debts }
 }
 
-/// Adds what a driver who is alone does, in minutes after the start.
+/// Appends a span without a second driver. `start` and `past` are minutes after START.
 fn push(spans: &mut Vec<Span>, start: u32, past: u32, activity: Activity) {
     let minute = |number: u32| (START + number).min(LAST);
     spans.push(Span { start: minute(start), past: minute(past), activity, is_crew: false });
 }
 
-/// Adds a shift of six hours in so many pieces, of which half are driving.
+/// Appends a shift of six hours in `pieces` pieces, half of which are driving.
 fn push_shift(spans: &mut Vec<Span>, from: u32, pieces: u32) {
     let end = |number: u32| from + 360 * number / pieces;
     for i in 0..pieces {
@@ -489,7 +491,7 @@ fn push_shift(spans: &mut Vec<Span>, from: u32, pieces: u32) {
     }
 }
 
-/// Adds a day by its number from a Monday, with two shifts; or without, on Sundays and on each second Saturday.
+/// Appends a day with two shifts. Sundays and every second Saturday are rest. Day 0 is a Monday.
 fn push_day(spans: &mut Vec<Span>, day: u32, pieces: u32) {
     let midnight = DAY * day;
     if day % 7 == 6 || day % 14 == 5 {
@@ -508,7 +510,7 @@ fn push_day(spans: &mut Vec<Span>, day: u32, pieces: u32) {
     push(spans, midnight + second_shift + 360, midnight + DAY, Activity::Rest);
 }
 
-/// The line of so many days, with shifts of so many pieces, or the place of the first span that has no minute.
+/// The line of `days` days with shifts of `pieces` pieces, or the index of the first empty span.
 fn line_of(days: u32, pieces: u32) -> Result<Vec<Span>, usize> {
     let mut spans = Vec::new();
     for day in 0..days {
@@ -527,7 +529,7 @@ fn line_of(days: u32, pieces: u32) -> Result<Vec<Span>, usize> {
     Ok(spans)
 }
 
-/// What was found in a line, in all the times that it was examined; `sum` is made of each number of each report, in order.
+/// Totals over all examinations of a line. `sum` is a checksum of every number of every report, in order.
 #[derive(Default)]
 struct Found {
     breaches: usize,
@@ -555,8 +557,8 @@ impl Found {
 }
 
 fn main() {
-    let words: Vec<u32> = std::env::args().skip(2).map(|word| word.parse().unwrap()).collect();
-    let (days, pieces, times) = (words[0], words[1], words[2]);
+    let arguments: Vec<u32> = std::env::args().skip(2).map(|argument| argument.parse().unwrap()).collect();
+    let (days, pieces, times) = (arguments[0], arguments[1], arguments[2]);
     let line = match line_of(days, pieces) {
         Ok(line) => line,
         Err(place) => return println!("the span at {place} is empty"),

@@ -1,4 +1,4 @@
-//! What `tool_bench` does, in plain Rust over a sorted `Vec`.
+//! Does what `tool_bench` does with a timeline, in plain Rust over a sorted `Vec`.
 #[derive(Clone, Copy, PartialEq)]
 pub struct Span {
     pub start: u32,
@@ -13,7 +13,7 @@ fn hour(number: u32) -> Span {
     Span { start, past: start + 60, mark: (2 + (number % 2) as u8, false) }
 }
 
-/// The canonical list of spans in any order, or the least minute with two marks.
+/// The canonical list of spans in any order, or the first minute with two marks.
 pub fn canonical(spans: &[Span]) -> Result<Vec<Span>, u32> {
     let mut sorted: Vec<Span> = spans.iter().copied().filter(|s| s.start < s.past).collect();
     sorted.sort_unstable_by_key(|s| s.start);
@@ -28,7 +28,7 @@ pub fn canonical(spans: &[Span]) -> Result<Vec<Span>, u32> {
     Ok(runs)
 }
 
-/// What spans give and the line lacks.
+/// The parts of spans that the line doesn't hold, or the first minute with two marks.
 pub fn gains(line: &[Span], spans: &[Span]) -> Result<Vec<Span>, u32> {
     let (Some(start), Some(past)) = (spans.iter().map(|s| s.start).min(), spans.iter().map(|s| s.past).max()) else {
         return Ok(Vec::new());
@@ -59,7 +59,7 @@ pub fn gains(line: &[Span], spans: &[Span]) -> Result<Vec<Span>, u32> {
     Ok(gains)
 }
 
-/// Adds gains in their place, and joins those that touch with one mark.
+/// Inserts gains into the line in order, and joins spans that touch and have the same mark.
 fn add(line: &mut Vec<Span>, gains: &[Span]) {
     let Some(first) = gains.first() else { return };
     let past = gains[gains.len() - 1].past;
@@ -71,8 +71,8 @@ fn add(line: &mut Vec<Span>, gains: &[Span]) {
 }
 
 fn main() {
-    let words: Vec<u32> = std::env::args().skip(1).map(|word| word.parse().unwrap()).collect();
-    let (count, days) = (words[0], words[1]);
+    let arguments: Vec<u32> = std::env::args().skip(1).map(|argument| argument.parse().unwrap()).collect();
+    let (count, days) = (arguments[0], arguments[1]);
     let spans: Vec<Span> = (0..count).map(|i| hour(i / 24 * 48 + i % 24)).collect();
     let mut line = Vec::new();
     add(&mut line, &gains(&[], &spans).unwrap());

@@ -1,4 +1,4 @@
-//! What the plain programs read of a driver to examine it, and the texts of reports.
+//! Reads the spans of a driver that are to be examined, and writes the texts of reports.
 use crate::archive::{driver_with, first_start, HELD_NEAR};
 use crate::dump::Lines;
 use crate::entries;
@@ -20,19 +20,19 @@ fn span_of(row: Row) -> Span {
     Span { start: row.number(0), past: row.number(1), activity: ACTIVITIES[mark as usize % 4], is_crew: mark >= 4 }
 }
 
-/// What a driver holds from a minute on, with the whole span that has it. Each row is read once.
+/// The spans that a driver holds from a minute on; the span that holds the minute is included whole. Reads each row once.
 pub fn held_from(archive: &mut Database, driver: u32, minute: u32) -> Option<Vec<Span>> {
     let start = first_start(archive, HELD_NEAR[0], driver, minute)?;
     archive.rows(HELD_FROM, &[Number(driver), Number(start)], span_of)
 }
 
-/// The base of a driver, and what the driver holds from it on.
+/// The base of a driver as a minute, and the spans that the driver holds from it on.
 pub fn held_by(archive: &mut Database, driver: u32) -> Option<(u32, Vec<Span>)> {
     let base = DAY * driver_with(archive, driver)?.base;
     Some((base, held_from(archive, driver, base)?))
 }
 
-/// The first day of a month, and how many it has.
+/// The first day of a month, as a day number, and the number of days of the month.
 pub fn days_of(month: &str) -> Option<(u32, u32)> {
     let (year, month) = month.split_once('-')?;
     let (year, month) = (year.parse().ok()?, month.parse().ok()?);
@@ -40,7 +40,7 @@ pub fn days_of(month: &str) -> Option<(u32, u32)> {
     is_month.then(|| (entries::day_number(year, month, 1), entries::days_in_month(year, month)))
 }
 
-/// The minutes of a range with each activity alone, with a second driver, and not held.
+/// The minutes of a range, by kind: each of the four activities without a second driver, with a second driver, and not held.
 pub fn amounts_of(spans: &[Span], start: u32, past: u32) -> [u32; 6] {
     let mut amounts = [0, 0, 0, 0, 0, past - start];
     for span in spans[spans.partition_point(|span| span.past <= start)..].iter().take_while(|span| span.start < past) {

@@ -1,6 +1,6 @@
-//! What `tacho serve` does of three requests, in plain Rust over std and stock SQLite: a driver asks for his breaches, and the office for
-//! the sheet of a month, or it hands in a card file. The statements and their transactions are the program's, save that a sheet reads
-//! once what the driver holds. What isn't one of the three, or is refused, gets 400 and no text.
+//! Answers three of the requests that `tacho serve` answers, in plain Rust over std and stock SQLite: a driver asks for their breaches;
+//! the office asks for the sheet of a month; the office sends a card file. The statements and their transactions are the program's,
+//! except that a sheet reads the driver's held spans only once. Any other request, or a refused one, gets 400 and an empty body.
 #![allow(dead_code)]
 use std::env;
 use std::io::{self, BufRead, BufReader, Read, Write};
@@ -27,7 +27,7 @@ use sqlite::Database;
 const BODY_LIMIT: usize = 262_144;
 const WEEKDAYS: [&str; 7] = ["Mon", "Tue", "Wed", "Thu", "Fri", "Sat", "Sun"];
 
-// What is asked for
+// Answers to requests
 
 fn breaches(archive: &mut Database, driver: u32) -> Option<String> {
     let (base, spans) = archive.within("ROLLBACK", |archive| held_by(archive, driver))?;
@@ -68,7 +68,7 @@ fn sheet(archive: &mut Database, driver: u32, month: &str) -> Option<String> {
 
 // Requests and replies
 
-/// The first line of a request, its key and its body.
+/// Reads a request. Returns its first line, its key and its body.
 fn read_request(stream: &TcpStream) -> io::Result<(String, String, Vec<u8>)> {
     let (mut reader, mut first_line, mut key, mut length) = (BufReader::new(stream), String::new(), String::new(), 0);
     reader.read_line(&mut first_line)?;
@@ -87,8 +87,8 @@ fn read_request(stream: &TcpStream) -> io::Result<(String, String, Vec<u8>)> {
     Ok((first_line, key, body))
 }
 
-/// The status and the text that a request gives.
-fn told_of(archive: &mut Database, office_key: &str, first_line: &str, key: &str, body: &[u8]) -> Option<(&'static str, String)> {
+/// Carries out a request. Returns the status and the text of its reply, or `None` if it is refused or isn't one of the three.
+fn reply_to(archive: &mut Database, office_key: &str, first_line: &str, key: &str, body: &[u8]) -> Option<(&'static str, String)> {
     let words: Vec<&str> = first_line.split([' ', '/']).collect();
     if key == office_key {
         return match words[..] {
@@ -109,15 +109,15 @@ fn told_of(archive: &mut Database, office_key: &str, first_line: &str, key: &str
 
 fn answer(archive: &mut Database, office_key: &str, mut stream: TcpStream) -> io::Result<()> {
     let (first_line, key, body) = read_request(&stream)?;
-    let told = told_of(archive, office_key, &first_line, &key, &body);
-    let (status, text) = told.unwrap_or(("400 Bad Request", String::new()));
+    let reply = reply_to(archive, office_key, &first_line, &key, &body);
+    let (status, text) = reply.unwrap_or(("400 Bad Request", String::new()));
     let fields = format!("content-type: text/plain; charset=utf-8\r\ncontent-length: {}\r\nconnection: close", text.len());
     stream.write_all(format!("HTTP/1.1 {status}\r\n{fields}\r\n\r\n{text}").as_bytes())
 }
 
 fn main() {
-    let words: Vec<String> = env::args().skip(1).collect();
-    let [_, path, key, port, count] = &words[..] else { panic!("the words are: serve ARCHIVE KEY PORT COUNT") };
+    let arguments: Vec<String> = env::args().skip(1).collect();
+    let [_, path, key, port, count] = &arguments[..] else { panic!("the arguments are: serve ARCHIVE KEY PORT COUNT") };
     let mut archive = Database::open(path);
     let listener = TcpListener::bind(("127.0.0.1", port.parse().unwrap())).unwrap();
     for stream in listener.incoming().take(count.parse().unwrap()) {

@@ -1,4 +1,4 @@
-//! As much of SQLite's C interface as the plain programs need, with the settings of the program. Each statement is prepared once.
+//! The part of SQLite's C interface that the plain programs need, with the settings of the program. Each statement is prepared once.
 use std::collections::HashMap;
 use std::ffi::{c_char, c_int, c_void, CString};
 use std::ptr::{null, null_mut};
@@ -34,7 +34,7 @@ pub enum Value<'a> {
     Bytes(&'a [u8]),
 }
 
-/// The row at which a statement stands.
+/// The current row of a statement.
 pub struct Row(Handle);
 
 impl Row {
@@ -64,7 +64,7 @@ impl Database {
         database
     }
 
-    /// Closes the file, into which the log is taken.
+    /// Closes the database, which writes its log into the file.
     pub fn close(self) {
         for statement in self.statements.into_values() {
             unsafe { sqlite3_finalize(statement) };
@@ -72,7 +72,7 @@ impl Database {
         assert_eq!(unsafe { sqlite3_close(self.handle) }, 0, "an archive can't be closed");
     }
 
-    /// Runs statements once.
+    /// Runs statements without keeping them prepared.
     pub fn run_all(&self, statements: &str) {
         let text = CString::new(statements).unwrap();
         assert_eq!(unsafe { sqlite3_exec(self.handle, text.as_ptr(), null(), null(), null()) }, 0, "{statements} fails");
@@ -88,17 +88,17 @@ impl Database {
         })
     }
 
-    /// What a function makes of each row of an answer, or nothing where the statement fails.
+    /// Runs a statement, and returns what `row_of` makes of each row, or `None` if the statement fails.
     pub fn rows<T>(&mut self, sql: &'static str, values: &[Value], row_of: impl Fn(Row) -> T) -> Option<Vec<T>> {
         let (statement, mut rows) = (self.statement(sql), Vec::new());
         for (place, value) in (1..).zip(values) {
-            // No value is copied: it outlives the run, at whose end the statement is reset.
+            // SQLite needn't copy the values: they outlive the run, and the statement is reset at its end.
             let status = match value {
                 Value::Number(number) => unsafe { sqlite3_bind_int64(statement, place, i64::from(*number)) },
                 Value::Text(text) => unsafe { sqlite3_bind_text(statement, place, text.as_ptr(), text.len() as c_int, null()) },
                 Value::Bytes(bytes) => unsafe { sqlite3_bind_blob(statement, place, bytes.as_ptr(), bytes.len() as c_int, null()) },
             };
-            assert_eq!(status, 0, "{sql} takes no value {place}");
+            assert_eq!(status, 0, "value {place} can't be bound to {sql}");
         }
         let mut status = unsafe { sqlite3_step(statement) };
         while status == ROW {
@@ -113,7 +113,7 @@ impl Database {
         self.rows(sql, values, |_| ()).map(|_| ())
     }
 
-    /// Does its work in one transaction, which ends with this word where the work is done, and else is rolled back.
+    /// Does `work` in one transaction. Ends it with the statement `end` if the work succeeded, and rolls it back otherwise.
     pub fn within<T>(&mut self, end: &'static str, work: impl FnOnce(&mut Database) -> Option<T>) -> Option<T> {
         self.run("BEGIN", &[])?;
         let done = work(self);

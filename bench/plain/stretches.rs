@@ -1,6 +1,6 @@
-//! What `tool_script` does of two readings at an archive in a file, in plain Rust over std and stock SQLite: the stretches of a driver,
-//! and the overview of a month. It takes the same lines, and answers the same where a command is done. docs/RULES.md says what stretches
-//! are.
+//! Runs two of `tool_script`'s readings on an archive in a file, in plain Rust over std and stock SQLite: the stretches of a driver, and
+//! the overview of a month. It takes the same lines, and answers a command that succeeds in the same way. docs/RULES.md says what
+//! stretches are.
 #![allow(dead_code)]
 use std::env;
 use std::fmt::Write;
@@ -26,7 +26,7 @@ use sqlite::Database;
 const DRIVERS: &str = "SELECT driver, base, name FROM drivers ORDER BY driver";
 const HEAD: &str = "driver,name,rest,available,work,drive,crew,none,examined,B1,B2,B3,B4,B5,B6,B7,B8,B9,B10\n";
 
-/// What is examined from a Monday on.
+/// A stretch: the Monday from which it is examined, and its report.
 struct Stretch {
     monday: u32,
     report: Report,
@@ -51,7 +51,7 @@ fn stretches_of(spans: &[Span], base: u32) -> Vec<Stretch> {
     stretches
 }
 
-/// The stretches of a driver as a text.
+/// The stretches of a driver, as text.
 fn stretches(archive: &mut Database, driver: u32) -> Option<String> {
     let (base, spans) = archive.within("ROLLBACK", |archive| held_by(archive, driver))?;
     let stretches = stretches_of(&spans, base);
@@ -75,7 +75,8 @@ fn stretches(archive: &mut Database, driver: u32) -> Option<String> {
     String::from_utf8(lines.text).ok()
 }
 
-/// The numbers of a driver in an overview: the amounts of the month, how much of it is examined, and how many breaches each rule has.
+/// The numbers of a driver's row in an overview: the amounts of the month, the minutes of it that are examined, and the number of
+/// breaches of each rule.
 fn numbers_of(spans: &[Span], base: u32, start: u32, past: u32) -> [u32; 17] {
     let mut numbers = [0; 17];
     numbers[..6].copy_from_slice(&amounts_of(spans, start, past));
@@ -104,8 +105,8 @@ fn overview(archive: &mut Database, month: &str) -> Option<String> {
     })
 }
 
-/// The text and the status that a line gives.
-fn told_of(archive: &mut Database, line: &str) -> (String, u8) {
+/// Runs the command of a line. Returns the text to print, and the status.
+fn answer_to(archive: &mut Database, line: &str) -> (String, u8) {
     match line.split(' ').collect::<Vec<_>>()[..] {
         ["stretches", _, driver] => match script::number(driver) {
             Some(driver) => script::status_of(stretches(archive, driver)),
@@ -117,7 +118,7 @@ fn told_of(archive: &mut Database, line: &str) -> (String, u8) {
 }
 
 fn main() {
-    let words: Vec<String> = env::args().skip(1).collect();
-    let [_, path] = &words[..] else { panic!("the words are: archive FILE") };
-    script::answer_lines(Database::open(path), told_of);
+    let arguments: Vec<String> = env::args().skip(1).collect();
+    let [_, path] = &arguments[..] else { panic!("the arguments are: archive FILE") };
+    script::answer_lines(Database::open(path), answer_to);
 }
