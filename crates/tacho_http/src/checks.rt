@@ -79,7 +79,15 @@ fn by_caller<K: Keeper, R: Source>(
     };
     let takes = asked.want.takes_input();
     match body_length_of(method, takes, request.buffer, request.fields) {
-        Ok(length) => run_task(alloc, keeper, caller, asked, length, reader, request.after_head),
+        Ok(length) => run_task(
+            alloc,
+            keeper,
+            caller,
+            asked,
+            length,
+            reader,
+            request.after_head,
+        ),
         Err(status) => Ok(fixed(status)),
     }
 }
