@@ -14,4 +14,5 @@ pub mod MonthLemmas
 pub mod ColumnLemmas
 pub mod FilledLemmas
 pub mod FilledTextLemmas
+pub mod ChartLemmas
 mod PageFacts

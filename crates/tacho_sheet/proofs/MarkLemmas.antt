@@ -26,7 +26,7 @@ gaps_same a b start past gaps e h = record {
   );
 }
 
-held_same : (a b : List Span) (start past : ℕ) (spans : List Span) → AgreeWithin start past a b → IsCanonicalOf (HoldsWithin a start past) spans
+pub held_same : (a b : List Span) (start past : ℕ) (spans : List Span) → AgreeWithin start past a b → IsCanonicalOf (HoldsWithin a start past) spans
     → IsCanonicalOf (HoldsWithin b start past) spans
 held_same a b start past spans e h = record {
   canonical = h.canonical;

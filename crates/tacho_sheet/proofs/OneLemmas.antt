@@ -13,7 +13,7 @@ use Rattle.tacho_sheet.specs.Months.{month_breaches, incident_row, numbers_of, o
 use Rattle.tacho_sheet.specs.Form.{form_row, AreRows, IsForm}
 use Rattle.tacho_sheet.proofs.FormLemmas.{one_rows}
 
-same_bounds : (month start past first end : ℕ) → AreBounds month start past → AreBounds month first end → (first ≡ start) × (end ≡ past)
+pub same_bounds : (month start past first end : ℕ) → AreBounds month start past → AreBounds month first end → (first ≡ start) × (end ≡ past)
 same_bounds month start past first end a b = ((let x = a.first in let y = b.first in cc), (let x = a.end in let y = b.end in cc))
 
 pub one_gap_text : ((line : List Span) (start past : ℕ) (gaps others : List Gap) → AreGaps line start past gaps → AreGaps line start past others → gaps ≡ others)
@@ -24,7 +24,7 @@ one_gap_text one line month a b x y =
     x.is ∙ (ap (flat_map gap_line) (one line x.start x.past x.gaps y.gaps x.lacking lacking) ∙ sym y.is)
 
 -- two canonical lists of the same pairs give the same marks
-give_same : (P : ℕ → Mark → Type 0) (xs ys : List Span) → IsCanonicalOf P xs → IsCanonicalOf P ys → GiveSame xs ys
+pub give_same : (P : ℕ → Mark → Type 0) (xs ys : List Span) → IsCanonicalOf P xs → IsCanonicalOf P ys → GiveSame xs ys
 give_same P xs ys x y m mark = (λ g. (y.same m mark).1 ((x.same m mark).0 g), λ g. (x.same m mark).1 ((y.same m mark).0 g))
 
 pub one_span_csv : ((xs ys : List Span) → IsCanonical xs → IsCanonical ys → GiveSame xs ys → xs ≡ ys)
@@ -36,7 +36,7 @@ one_span_csv one line month a b x y =
     let spans = one x.spans y.spans x.held.canonical held.canonical (give_same (HoldsWithin line x.start x.past) x.spans y.spans x.held held) in
     x.is ∙ (ap (λ (spans : List Span). csv_text spans) spans ∙ sym y.is)
 
-same_day : (day other days others : ℕ) → 1440 * other ≡ 1440 * day → 1440 * (other + others) ≡ 1440 * (day + days) → (day ≡ other) × (days ≡ others)
+pub same_day : (day other days others : ℕ) → 1440 * other ≡ 1440 * day → 1440 * (other + others) ≡ 1440 * (day + days) → (day ≡ other) × (days ≡ others)
 same_day day other days others first end = (omega arith, omega arith)
 
 pub one_sheet : (number : ℕ) (name : List ℕ) (line : List Span) (breaches : List Breach) (horizon : Horizon) (month : ℕ) (a b : List ℕ)

@@ -40,6 +40,22 @@ pub on_pushed : {A E Q : Type 0} (r : Result A E) {t : List ℕ} (pushed old : L
 on_pushed (Ok a) pushed old e f = f e
 on_pushed (Err x) pushed old e f = tt
 
+-- what follows from what was done, unless memory ran out
+pub on_done : {A E P Q : Type 0} (r : Result A E) → OnOk r P → (P → Q) → OnOk r Q
+on_done (Ok a) p f = f p
+on_done (Err x) p f = tt
+
+-- a text that was written piece by piece
+pub pieces2 : (a b t t1 t2 : List ℕ) → t1 ≡ t ++ a → t2 ≡ t1 ++ b → t2 ≡ t ++ (a ++ b)
+pieces2 a b t t1 t2 e1 e2 = e2 ∙ ap (λ (x : List ℕ). x ++ b) e1 ∙ append_assoc t a b
+
+pub pieces3 : (a b c t t1 t2 t3 : List ℕ) → t1 ≡ t ++ a → t2 ≡ t1 ++ b → t3 ≡ t2 ++ c → t3 ≡ t ++ (a ++ (b ++ c))
+pieces3 a b c t t1 t2 t3 e1 e2 e3 = pieces2 a (b ++ c) t t1 t3 e1 (pieces2 b c t1 t2 t3 e2 e3)
+
+pub pieces5 : (a b c d e t t1 t2 t3 t4 t5 : List ℕ) → t1 ≡ t ++ a → t2 ≡ t1 ++ b → t3 ≡ t2 ++ c → t4 ≡ t3 ++ d → t5 ≡ t4 ++ e
+    → t5 ≡ t ++ (a ++ (b ++ (c ++ (d ++ e))))
+pieces5 a b c d e t t1 t2 t3 t4 t5 e1 e2 e3 e4 e5 = pieces3 a b (c ++ (d ++ e)) t t1 t2 t5 e1 e2 (pieces3 c d e t2 t3 t4 t5 e3 e4 e5)
+
 -- the lines of the items that pass a test, and one more
 pub one_more_kept : {X : Type 0} (f : X → List ℕ) (p : X → Bool) (xs : List X) (i : ℕ) (d : X) (t before after : List ℕ) → i < length xs → p (get_or xs i d) ≡ true
     → before ≡ t ++ flat_map f (filter p (take i xs)) → after ≡ before ++ f (get_or xs i d) → after ≡ t ++ flat_map f (filter p (take (i + 1) xs))

@@ -11,3 +11,5 @@ pub mod Amounts
 pub mod Stretches
 pub mod Months
 pub mod Form
+pub mod Chart
+pub mod Seen

@@ -1,17 +1,19 @@
 //! Laws about texts. A law is a function that does nothing: what it ensures is proved, and holds for everything that it names. Some call
 //! the laws on which they depend.
 
-ghost use Rattle.std.specs.Prelude.{◌≡◌, ◌+◌, ◌<◌, ◌≤◌, ◌↔◌, ◌++◌, ℕ, List, [], Ok, codes, map, sum, true};
+ghost use Rattle.std.specs.Prelude.{◌≡◌, ◌+◌, ◌*◌, ◌<◌, ◌≤◌, ◌↔◌, ◌++◌, ℕ, List, [], Ok, codes, false, map, sum, true};
 ghost use Rattle.tacho_time.specs.declared.span.Span.{Span as SpanValue};
 ghost use Rattle.tacho_line.specs.declared.gap.Gap.{Gap};
 ghost use Rattle.tacho_line.specs.declared.horizon.Horizon.{Horizon as HorizonValue};
 ghost use Rattle.tacho_law.specs.declared.breach.Breach.{Breach as BreachValue};
 ghost use Rattle.tacho_law.specs.declared.breach.Kind.{Kind as KindValue};
-ghost use Rattle.tacho_line.specs.Line.{AgreeWithin, AreGaps, InGaps};
+ghost use Rattle.tacho_line.specs.Line.{mark_at, AgreeWithin, AreGaps, HoldsWithin, InGaps, IsWithin};
 ghost use Rattle.tacho_stretches.specs.Start.{IsEndOfHeld};
 ghost use Rattle.tacho_stretches.specs.Stretches.{Judged};
 ghost use Rattle.tacho_sheet.specs.Reports.{columns, count_from, kind_name, column_minutes, AgreeIn, IsGapText, IsMonthSheet, IsSpanCsv};
 ghost use Rattle.tacho_sheet.specs.Months.{article, is_examined, kind_code, AreIncidentRows, IsOverviewRow};
+ghost use Rattle.tacho_sheet.specs.Chart.{AreDayGroups, AreUnseen, HasDayGroup, IsMonthChart, ShowsMinute};
+ghost use Rattle.tacho_time.specs.Spans.{IsCanonicalOf};
 ghost use Rattle.tacho_sheet.specs.Form.{AreRows as AreFormRows, Fills, filled_form, IsForm};
 ghost use Rattle.tacho_state.specs.Batch.{Hours, batch_of};
 ghost use Rattle.tacho_state.specs.State.{Driver, held_spans};
@@ -116,6 +118,32 @@ pub fn a_filled_form_is_read()
     civil_dates();
     minute_is_read_back();
 }
+
+/// A driver has exactly one chart of a month, for a number, a name, a line and stretches.
+pub fn one_chart_of_a_month()
+    ensures { (number : ℕ) (name : List ℕ) (line : List SpanValue) (stretches : List Judged) (month : ℕ) (a b : List ℕ)
+        → IsMonthChart number name line stretches month a → IsMonthChart number name line stretches month b → a ≡ b }
+{
+    one_list_of_gaps();
+    one_canonical_list();
+}
+
+/// If two lines give each minute of a month the same mark, they have the same charts of it.
+pub fn month_chart_is_by_marks()
+    ensures { (number : ℕ) (name : List ℕ) (a b : List SpanValue) (stretches : List Judged) (month : ℕ) (text : List ℕ)
+        → AgreeIn month a b → IsMonthChart number name a stretches month text → IsMonthChart number name b stretches month text }
+{}
+
+/// A chart has a group for each day of the month. Over each minute of the day there is exactly one bar of its mark if the minute is held, and
+/// none if it isn't; and there is a shade exactly if the minute isn't within a stretch.
+pub fn a_chart_shows_each_minute()
+    ensures days { (line : List SpanValue) (stretches : List Judged) (day y n : ℕ) (text : List ℕ) → AreDayGroups line stretches day y n text
+        → (k : ℕ) → k < n → HasDayGroup line stretches day y k text }
+    ensures bars { (line spans : List SpanValue) (day : ℕ) → IsCanonicalOf (HoldsWithin line (1440 * day) (1440 * (day + 1))) spans
+        → (m : ℕ) → IsWithin (1440 * day) (1440 * (day + 1)) m → ShowsMinute spans m (mark_at line m) }
+    ensures shades { (stretches : List Judged) (gaps : List Gap) (start past : ℕ) → AreUnseen stretches start past gaps
+        → (m : ℕ) → IsWithin start past m → InGaps gaps m ↔ (is_examined stretches m ≡ false) }
+{}
 
 /// Once the hours that fill in each row of a form are entered, no gap remains.
 pub fn a_filled_form_leaves_no_gap()

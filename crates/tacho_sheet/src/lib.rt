@@ -2,6 +2,7 @@
 #![tactic(auto)]
 
 mod amounts;
+mod chart;
 mod done;
 mod driver;
 mod entries;
@@ -18,6 +19,7 @@ mod stretches;
 mod text;
 mod words;
 
+pub use chart::month_chart;
 pub use done::{DoneLine, base_line, entered_line, imported_line, registered_line, withdrawn_line};
 pub use driver::{read_driver, read_holder};
 pub use entries::read_entries;

@@ -83,7 +83,7 @@ fn examined_in(stretches: &[Stretch], start: Minute, past: Minute) -> u32
 }
 
 /// The breaches of all stretches whose moment is from `start` to before `past`.
-fn breaches_in(
+pub(crate) fn breaches_in(
     alloc: Global,
     stretches: &[Stretch],
     start: Minute,
@@ -99,7 +99,7 @@ fn breaches_in(
 }
 
 /// Adds the breaches whose moment is from `start` to before `past`.
-fn add_breaches(
+pub(crate) fn add_breaches(
     found: &mut Vec<Breach>,
     breaches: &[Breach],
     start: Minute,
@@ -210,7 +210,7 @@ fn push_incident(
 }
 
 /// The code of a rule.
-fn code_of_kind(kind: Kind) -> &'static str
+pub(crate) fn code_of_kind(kind: Kind) -> &'static str
     ensures { result.now ≡ kind_code kind }
 {
     match kind {

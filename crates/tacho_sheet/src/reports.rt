@@ -143,7 +143,7 @@ fn push_span(text: &mut String, span: &Span) -> Result<(), AllocError>
 }
 
 /// The name of a rule, and the Article that states it.
-fn name_of_kind(kind: Kind) -> &'static str
+pub(crate) fn name_of_kind(kind: Kind) -> &'static str
     ensures { result.now ≡ kind_name kind }
 {
     match kind {

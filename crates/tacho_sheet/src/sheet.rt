@@ -48,7 +48,7 @@ fn head(alloc: Global, number: u32, name: &str, month: Month) -> Result<String, 
 }
 
 /// Appends `YYYY-MM`.
-fn push_month(text: &mut String, month: Month) -> Result<(), AllocError>
+pub(crate) fn push_month(text: &mut String, month: Month) -> Result<(), AllocError>
     ensures { OnOk result (string_bytes text.new ≡ string_bytes text.old ++ month_text month) }
 {
     let year = month.year();
@@ -120,10 +120,18 @@ fn push_right(alloc: Global, text: &mut String, minutes: u32) -> Result<(), Allo
 fn text_of_amount(alloc: Global, minutes: u32) -> Result<String, AllocError>
     ensures { IfOk result (λ text. string_bytes text ≡ amount_text minutes) }
 {
-    let hours = minutes / 60;
-    let mut text = format!(in alloc; "{hours}:")?;
-    push_two_digits(&mut text, minutes % 60)?;
+    let mut text = String::new(alloc);
+    push_amount(&mut text, minutes)?;
     Ok(text)
+}
+
+/// Appends an amount in hours and minutes.
+pub(crate) fn push_amount(text: &mut String, minutes: u32) -> Result<(), AllocError>
+    ensures { OnOk result (string_bytes text.new ≡ string_bytes text.old ++ amount_text minutes) }
+{
+    let hours = minutes / 60;
+    write!(text, "{hours}:")?;
+    push_two_digits(text, minutes % 60)
 }
 
 /// Appends blanks.
@@ -156,7 +164,7 @@ fn digit_of(number: u32) -> char
 }
 
 /// The first three letters of a day of the week.
-fn name_of_weekday(weekday: Weekday) -> &'static str
+pub(crate) fn name_of_weekday(weekday: Weekday) -> &'static str
     ensures { result.now ≡ weekday_name (monday_zero weekday) }
 {
     match weekday {
