@@ -62,6 +62,9 @@ gaps = refl
 month_sheet : act_named (codes "sheet") subcommands ≡ Some (act.AtDesk (want.MonthReading month.Sheet))
 month_sheet = refl
 
+chart : act_named (codes "chart") subcommands ≡ Some (act.AtDesk (want.MonthReading month.Chart))
+chart = refl
+
 breaches : act_named (codes "breaches") subcommands ≡ Some (act.AtDesk (want.Reading reading.Breaches))
 breaches = refl
 
@@ -106,7 +109,7 @@ given row = row.0 ++ flat_map (λ word. codes " " ++ word) row.1
 all_given : map given subcommands
     ≡ codes "dump" ∷ codes "holder" ∷ codes "card part" ∷ codes "init archive" ∷ codes "migrate archive" ∷ codes "register archive"
     ∷ codes "import archive part" ∷ codes "enter archive driver" ∷ codes "withdraw archive driver number" ∷ codes "base archive driver date"
-    ∷ codes "spans archive driver month" ∷ codes "gaps archive driver month" ∷ codes "sheet archive driver month"
+    ∷ codes "spans archive driver month" ∷ codes "gaps archive driver month" ∷ codes "sheet archive driver month" ∷ codes "chart archive driver month"
     ∷ codes "breaches archive driver" ∷ codes "owed archive driver" ∷ codes "entries archive driver"
     ∷ codes "file archive driver number" ∷ codes "drivers archive" ∷ codes "stretches archive driver" ∷ codes "debts archive driver"
     ∷ codes "overview archive month" ∷ codes "incidents archive month" ∷ codes "form archive driver"

@@ -56,6 +56,7 @@ subcommands =
     ∷ (codes "spans", codes "archive" ∷ codes "driver" ∷ codes "month" ∷ [], act.AtDesk (want.MonthReading month.Spans))
     ∷ (codes "gaps", codes "archive" ∷ codes "driver" ∷ codes "month" ∷ [], act.AtDesk (want.MonthReading month.Gaps))
     ∷ (codes "sheet", codes "archive" ∷ codes "driver" ∷ codes "month" ∷ [], act.AtDesk (want.MonthReading month.Sheet))
+    ∷ (codes "chart", codes "archive" ∷ codes "driver" ∷ codes "month" ∷ [], act.AtDesk (want.MonthReading month.Chart))
     ∷ (codes "breaches", codes "archive" ∷ codes "driver" ∷ [], act.AtDesk (want.Reading reading.Breaches))
     ∷ (codes "owed", codes "archive" ∷ codes "driver" ∷ [], act.AtDesk (want.Reading reading.Owed))
     ∷ (codes "entries", codes "archive" ∷ codes "driver" ∷ [], act.AtDesk (want.Reading reading.Entries))

@@ -40,7 +40,7 @@ impl From<AllocError> for Usage {
 type Row = (&'static str, &'static str, &'static [&'static str], Act);
 
 /// The subcommands.
-static TABLE: [Row; 24] = [
+static TABLE: [Row; 25] = [
     (
         "dump",
         "Prints the spans of the value of an EF Driver_Activity_Data (0504), a line each: tacho dump < FILE",
@@ -118,6 +118,12 @@ static TABLE: [Row; 24] = [
         "Prints the sheet of a driver's month",
         &["archive", "driver", "month"],
         Act::AtDesk(Want::MonthReading(MonthReading::Sheet)),
+    ),
+    (
+        "chart",
+        "Draws a driver's month as SVG: a row for each day, with the breaches: tacho chart ARCHIVE DRIVER MONTH > month.svg",
+        &["archive", "driver", "month"],
+        Act::AtDesk(Want::MonthReading(MonthReading::Chart)),
     ),
     (
         "breaches",

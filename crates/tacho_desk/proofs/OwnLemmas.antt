@@ -22,6 +22,7 @@ use Rattle.tacho_state.specs.declared.fault.StoreFault.{StoreFault}
 use Rattle.tacho_sheet.specs.Entries.{Lines}
 use Rattle.tacho_sheet.specs.Form.{IsForm}
 use Rattle.tacho_sheet.specs.Stretches.{debt_text, stretch_text}
+use Rattle.tacho_sheet.specs.Chart.{IsMonthChart}
 use Rattle.tacho_sheet.specs.Reports.{IsGapText, IsMonthSheet, IsSpanCsv, breach_text, owed_text}
 use Rattle.tacho_sheet.specs.declared.fault.SheetFault.{SheetFault}
 use Rattle.tacho_desk.specs.Doing.{Doing, IsText, IsTextOf, Lists, Shows, Steps, in_words}
@@ -74,6 +75,7 @@ month_stays : (text : MonthReading) (month n : ℕ) (s : State) (answer : Answer
 month_stays month.Spans m n s answer after h = h.1
 month_stays month.Gaps m n s answer after h = h.1
 month_stays month.Sheet m n s answer after h = h.1
+month_stays month.Chart m n s answer after h = h.1
 
 -- nor does a reading of a month of all drivers
 all_stays : (text : MonthOfAll) (month : ℕ) (s : State) (answer : Answer) (after : State) → ShowsMonthOfAll text month s answer after
@@ -237,6 +239,7 @@ month_same : (text : MonthReading) (month n : ℕ) (s other : State) → driver_
 month_same month.Spans m n s other e answer after h = shows_same _ n s other e answer after h
 month_same month.Gaps m n s other e answer after h = shows_same _ n s other e answer after h
 month_same month.Sheet m n s other e answer after h = shows_same _ n s other e answer after h
+month_same month.Chart m n s other e answer after h = shows_same _ n s other e answer after h
 
 -- each of a driver's own tasks answers by the driver's rows alone
 pub same_answers : SameAnswers
@@ -313,7 +316,9 @@ module _ (one_content : (p : Part) (bytes : List ℕ) (a b : Result Content Card
     → IsMonthSheet number name line breaches horizon month a → IsMonthSheet number name line breaches horizon month b → a ≡ b)
     (one_stretches : (line : List Span) (base : ℕ) (stretches others : List Judged) → AreStretches line base stretches
     → AreStretches line base others → stretches ≡ others)
-    (one_form : (line : List Span) (base end : ℕ) (a b : List ℕ) → IsForm line base end a → IsForm line base end b → a ≡ b) where
+    (one_form : (line : List Span) (base end : ℕ) (a b : List ℕ) → IsForm line base end a → IsForm line base end b → a ≡ b)
+    (one_chart : (number : ℕ) (name : List ℕ) (line : List Span) (stretches : List Judged) (month : ℕ) (a b : List ℕ)
+    → IsMonthChart number name line stretches month a → IsMonthChart number name line stretches month b → a ≡ b) where
   -- a text of a report is unique, since the report is
   one_of_report : (Is : Driver → List Breach → List Debt → Horizon → List ℕ → Type 0)
       → ((d : Driver) (breaches : List Breach) (debts : List Debt) (horizon : Horizon) (a b : List ℕ) → Is d breaches debts horizon a → Is d breaches debts horizon b → a ≡ b)
@@ -326,11 +331,11 @@ module _ (one_content : (p : Part) (bytes : List ℕ) (a b : Result Content Card
       (subst (λ (horizon : Horizon). Is d k.1 k.2 horizon b) (sym same.0) k.4)))
 
   -- a text of stretches is unique, since the stretches are
-  one_of_stretches : (Is : List Judged → List ℕ → Type 0)
-      → ((stretches : List Judged) (a b : List ℕ) → Is stretches a → Is stretches b → a ≡ b) → IsOne (OfStretches Is)
+  one_of_stretches : (Is : Driver → List Judged → List ℕ → Type 0)
+      → ((d : Driver) (stretches : List Judged) (a b : List ℕ) → Is d stretches a → Is d stretches b → a ≡ b) → IsOne (λ d. OfStretches (Is d) d)
   one_of_stretches Is one d a b h k =
       let same = one_stretches (held_spans d) (1440 * d.base) k.0 h.0 k.1 h.1 in
-      one h.0 a b h.2 (subst (λ (stretches : List Judged). Is stretches b) same k.2)
+      one d h.0 a b h.2 (subst (λ (stretches : List Judged). Is d stretches b) same k.2)
 
   -- the form is unique, since the end of what is held is
   one_form_of : IsOne IsFormOf
@@ -347,10 +352,10 @@ module _ (one_content : (p : Part) (bytes : List ℕ) (a b : Result Content Card
       one_shown _ (one_of_report (λ d breaches debts horizon text. text ≡ owed_text debts horizon) (λ d breaches debts horizon x y i j. i ∙ sym j)) n s a b after left h k
   one_reading reading.Entries n s a b after left h k = one_listed _ s (entries_reading n s) a b after left h k
   one_reading reading.Stretches n s a b after left h k =
-      one_shown _ (one_of_stretches (λ stretches text. text ≡ stretch_text stretches) (λ stretches x y i j. i ∙ sym j))
+      one_shown _ (one_of_stretches (λ d stretches text. text ≡ stretch_text stretches) (λ d stretches x y i j. i ∙ sym j))
       n s a b after left h k
   one_reading reading.Debts n s a b after left h k =
-      one_shown _ (one_of_stretches (λ stretches text. text ≡ debt_text stretches) (λ stretches x y i j. i ∙ sym j))
+      one_shown _ (one_of_stretches (λ d stretches text. text ≡ debt_text stretches) (λ d stretches x y i j. i ∙ sym j))
       n s a b after left h k
   one_reading reading.Form n s a b after left h k = one_shown IsFormOf one_form_of n s a b after left h k
 
@@ -362,6 +367,9 @@ module _ (one_content : (p : Part) (bytes : List ℕ) (a b : Result Content Card
   one_month month.Sheet m n s a b after left h k =
       one_shown _ (one_of_report (λ d breaches debts horizon. IsMonthSheet n d.name (held_spans d) breaches horizon m)
       (λ d breaches debts horizon x y. one_sheet n d.name (held_spans d) breaches horizon m x y)) n s a b after left h k
+  one_month month.Chart m n s a b after left h k =
+      one_shown _ (one_of_stretches (λ d stretches. IsMonthChart n d.name (held_spans d) stretches m)
+      (λ d stretches x y. one_chart n d.name (held_spans d) stretches m x y)) n s a b after left h k
 
   -- each of a driver's own tasks has one answer
   pub one_answer : OneAnswer

@@ -10,8 +10,10 @@ use Rattle.tacho_stretches.specs.Stretches.{AreStretches, Judged}
 use Rattle.tacho_state.specs.Reported.{AreStretchesOf, IsHeldWithin, IsDriverReport}
 use Rattle.tacho_state.specs.State.{Driver, State, driver_of, held_spans}
 use Rattle.tacho_state.specs.Steps.{name_reading, report_reading, reading_of}
+use Rattle.tacho_sheet.specs.Chart.{IsMonthChart}
 use Rattle.tacho_sheet.specs.Form.{IsForm}
 use Rattle.tacho_sheet.specs.Reports.{AgreeIn, AreBounds, IsGapText, IsMonthSheet, IsSpanCsv}
+use Rattle.tacho_sheet.proofs.ChartLemmas.{chart_same}
 use Rattle.tacho_sheet.proofs.MarkLemmas.{form_same, gap_text_same, month_sheet_same, span_csv_same}
 use Rattle.tacho_desk.specs.Doing.{IsTextOf}
 use Rattle.tacho_desk.specs.Tasks.{IsFormOf, OfReport, OfStretches}
@@ -68,6 +70,28 @@ module _ (month start past : ℕ) (bounds : AreBounds month start past) where
       → IsMonthSheet n name line report.breaches.items report.horizon month text
       → IsTextOf (λ d. OfReport (λ breaches debts horizon. IsMonthSheet n d.name (held_spans d) breaches horizon month) d) (driver_of n s) (Ok (Long text))
   sheet_shown n s name line report text = sheet_of n (driver_of n s) name line report text
+
+  -- a chart of the driver's name, of the line and of the stretches is the driver's chart
+  chart_of : (n : ℕ) (o : Option Driver) (name : List ℕ) (line : List Span) (stretches : List Judged) (text : List ℕ)
+      → reading_of (λ d. Ok d.name) o ≡ Ok name → IfSome o (λ d. AgreeWithin start past line (held_spans d))
+      → IfSome o (λ d. AreStretches (held_spans d) (1440 * d.base) stretches) → IsMonthChart n name line stretches month text
+      → IsTextOf (λ d. OfStretches (λ stretches. IsMonthChart n d.name (held_spans d) stretches month) d) o (Ok (Long text))
+  chart_of n None name line stretches text is_name within are is = cc
+  chart_of n (Some d) name line stretches text is_name within are is =
+      let same : name ≡ d.name = cc in (
+        stretches,
+        are,
+        chart_same n d.name line (held_spans d) stretches month text
+            (agree_in month start past line (held_spans d) bounds within)
+            (subst (λ (name : List ℕ). IsMonthChart n name line stretches month text) same is),
+      )
+
+  -- the chart of the driver with a number
+  pub chart_shown : (n : ℕ) (s : State) (name : List ℕ) (line : List Span) (stretches : List Judged) (text : List ℕ)
+      → name_reading n s ≡ Ok name → IsHeldWithin n start past s line → AreStretchesOf n s stretches
+      → IsMonthChart n name line stretches month text
+      → IsTextOf (λ d. OfStretches (λ stretches. IsMonthChart n d.name (held_spans d) stretches month) d) (driver_of n s) (Ok (Long text))
+  chart_shown n s name line stretches text = chart_of n (driver_of n s) name line stretches text
 
 -- ---- stretches
 

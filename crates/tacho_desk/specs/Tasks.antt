@@ -28,6 +28,7 @@ use Rattle.tacho_sheet.specs.Entries.{IsRead, Lines}
 use Rattle.tacho_sheet.specs.Form.{IsForm}
 use Rattle.tacho_sheet.specs.Months.{overview_head, IsOverviewRow, incident_head, AreIncidentRows}
 use Rattle.tacho_sheet.specs.Stretches.{stretch_text, debt_text}
+use Rattle.tacho_sheet.specs.Chart.{IsMonthChart}
 use Rattle.tacho_sheet.specs.Reports.{breach_text, owed_text, IsGapText, IsMonthSheet, IsSpanCsv}
 use Rattle.tacho_sheet.specs.Text.{entry_line, summary_line}
 use Rattle.tacho_desk.specs.Doing.{Doing, IsText, Lists, Refuses, Shows, Steps}
@@ -118,6 +119,7 @@ abbrev pub ShowsMonth : MonthReading → ℕ → ℕ → State → Doing
 ShowsMonth month.Spans m n s = Shows (λ d. IsSpanCsv (held_spans d) m) n s
 ShowsMonth month.Gaps m n s = Shows (λ d. IsGapText (held_spans d) m) n s
 ShowsMonth month.Sheet m n s = Shows (λ d. OfReport (λ breaches debts horizon. IsMonthSheet n d.name (held_spans d) breaches horizon m) d) n s
+ShowsMonth month.Chart m n s = Shows (λ d. OfStretches (λ stretches. IsMonthChart n d.name (held_spans d) stretches m) d) n s
 
 abbrev pub ShowsFile : ℕ → ℕ → State → Doing
 ShowsFile n number s = Lists (λ file. File file) s (file_reading n number s)

@@ -12,8 +12,8 @@ use crate::text::Text;
 use crate::want::{MonthReading, Reading};
 use std::alloc::Global;
 use tacho_sheet::{
-    breach_text, debt_text, driver_text, entry_text, form_text, gap_text, month_sheet, owed_text,
-    span_csv, stretch_text,
+    breach_text, debt_text, driver_text, entry_text, form_text, gap_text, month_chart, month_sheet,
+    owed_text, span_csv, stretch_text,
 };
 use tacho_state::Keeper;
 use tacho_stretches::range_of;
@@ -56,6 +56,7 @@ pub(crate) fn show_month<K: Keeper>(
         MonthReading::Spans => spans(alloc, keeper, driver, month),
         MonthReading::Gaps => gaps(alloc, keeper, driver, month),
         MonthReading::Sheet => sheet(alloc, keeper, driver, month),
+        MonthReading::Chart => chart(alloc, keeper, driver, month),
     }
 }
 
@@ -92,6 +93,19 @@ fn sheet<K: Keeper>(alloc: Global, keeper: &mut K, driver: u32, month: Month) ->
     let line = keeper.line_within(alloc, driver, start, past)?;
     let report = keeper.report(alloc, driver)?;
     let text = month_sheet(alloc, driver, &name, &line, &report, month)?;
+    Ok(Text::Long(text))
+}
+
+/// Draws the chart of a driver's month.
+fn chart<K: Keeper>(alloc: Global, keeper: &mut K, driver: u32, month: Month) -> Result<Text, Fault>
+    ensures serves { Serves K.stands K.is_clean K.is_live K.leaves K.is_same keeper.old keeper.new false (answer_of result)
+        (ShowsMonth of_month.Chart month driver) }
+    ensures archive { IsOfArchive (answer_of result) }
+{
+    let (start, past) = month_range(month);
+    let name = keeper.name(alloc, driver)?;
+    let (line, stretches) = keeper.line_and_stretches(alloc, driver, start, past)?;
+    let text = month_chart(alloc, driver, &name, &line, &stretches, month)?;
     Ok(Text::Long(text))
 }
 

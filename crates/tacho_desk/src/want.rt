@@ -49,6 +49,8 @@ pub enum MonthReading {
     Gaps,
     /// The sheet of the month.
     Sheet,
+    /// The chart of the month, as SVG.
+    Chart,
 }
 
 /// A text about a month of all drivers, as CSV.
